@@ -1,0 +1,11 @@
+pub mod DigitTexts
+pub mod MonthLaws
+pub mod DayLaws
+pub mod DateLaws
+mod Samples
+mod WorkedNumbers
+mod WorkedBatches
+mod WorkedRates
+mod WorkedRows
+mod WorkedBallots
+mod WorkedPeriods

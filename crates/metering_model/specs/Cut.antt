@@ -1,0 +1,27 @@
+-- Cuts: how far each agent's batches are charged, and cuts that grow.
+use Rattle.std.specs.Prelude.{ℕ, zero, suc, ◌≤◌, List, [], ◌∷◌, replicate, slice_index}
+use Rattle.std.specs.List.{AllZip}
+
+-- one last sequence for each agent, agent 1 first; 0 means none
+abbrev pub Cut : Type 0
+Cut = List ℕ
+
+abbrev pub zero_cut : ℕ → Cut
+zero_cut agents = replicate agents 0
+
+-- agents are numbered from 1
+abbrev pub last_of : Cut → ℕ → ℕ
+last_of cut zero = 0
+last_of cut (suc a) = slice_index cut a
+
+-- the new cut is for each agent at least the old one
+abbrev pub IsAtLeast : Cut → Cut → Type 0
+IsAtLeast old new = AllZip (λ a b. a ≤ b) old new
+
+abbrev pub GrowsFrom : Cut → List Cut → Type 0
+GrowsFrom before [] = Unit {0}
+GrowsFrom before (cut ∷ cuts) = IsAtLeast before cut × GrowsFrom cut cuts
+
+-- the cuts of periods 0, 1 and so on, each at least the one before it, and the first at least the zero cut
+abbrev pub IsGrowing : ℕ → List Cut → Type 0
+IsGrowing agents cuts = GrowsFrom (zero_cut agents) cuts

@@ -1,0 +1,84 @@
+-- What a node does with a packet that is delivered to it.
+use Rattle.std.specs.Prelude.{ℕ, Bool, true, not, ◌&&◌, ◌==◌, if◌then◌else◌, [], ◌∷◌, ◌++◌, Option, Some, None, slice_get}
+use Rattle.metering_model.specs.Cut.{Cut}
+use Rattle.metering_model.specs.Holding.{put}
+use Rattle.metering_model.specs.Front.{front}
+use Rattle.metering_model.specs.Ballot.{Vote, Acceptor, Attempt, Tally, new_acceptor, is_above, is_not_below, after_prepare, after_accept, with_promise, has_majority, accepting_at, with_accepted}
+use Rattle.metering_model.specs.World.{Packet, CarriesBatch, Prepare, Promise, Accept, Accepted, Decided, Kept, Node, World, node_count, current_period, last_cut, wake, with_kept}
+
+-- the node afterwards, the packet that it sends, and the period that it learns
+pub record Handled : Type 0 where
+  pub node : Node
+  pub sends : Option Packet
+  pub learns : Option ℕ
+
+abbrev pub silent : Node → Handled
+silent n = record { node = n; sends = None; learns = None }
+
+abbrev pub sending : Packet → Node → Handled
+sending p n = record { node = n; sends = Some p; learns = None }
+
+-- To learn a cut is to keep it, and to forget promise, vote, attempt and tally, which were of its period.
+abbrev pub learned_kept : Cut → Kept → Kept
+learned_kept cut k = record k { learned = k.learned ++ cut ∷ []; acceptor = new_acceptor }
+
+abbrev pub learning : Cut → Node → Handled
+learning cut n = record { node = wake (learned_kept cut n.kept); sends = None; learns = Some (current_period n) }
+
+abbrev pub with_acceptor : Acceptor → Node → Node
+with_acceptor a n = with_kept (record n.kept { acceptor = a }) n
+
+-- The packet tells of a period that the node has learned: it sends the cut. Else the node goes on.
+abbrev pub unless_learned : ℕ → Node → Handled → Handled
+unless_learned period n goes_on = elim (slice_get n.kept.learned period) [ Some cut ↦ sending (Decided period cut) n | None ↦ goes_on ]
+
+abbrev pub on_prepare : ℕ → Node → ℕ → ℕ → Handled
+on_prepare i n period ballot =
+    if (period == current_period n) && is_above ballot n.kept.acceptor.promised
+    then sending (Promise i period ballot n.kept.acceptor.vote) (with_acceptor (after_prepare ballot n.kept.acceptor) n)
+    else silent n
+
+-- what a proposer with a majority sends: the cut of the vote told, or how far its own holding can be closed
+abbrev pub proposal : World → Node → Option Vote → Cut
+proposal w n (Some v) = v.cut
+proposal w n None = front w.sheet.base n.kept.holding (last_cut w.agents n.kept.learned) (current_period n)
+
+abbrev pub with_attempt : Attempt → Node → Node
+with_attempt a n = record n { attempt = Some a }
+
+abbrev pub after_promise : World → Node → ℕ → ℕ → Attempt → Handled
+after_promise w n period ballot a =
+    if has_majority (node_count w) a.promising
+    then sending (Accept period ballot (proposal w n a.told)) (with_attempt (record a { sent = true }) n)
+    else silent (with_attempt a n)
+
+-- the attempt waits for promises of this ballot
+abbrev pub is_waiting : ℕ → Attempt → Bool
+is_waiting ballot a = (a.ballot == ballot) && not a.sent
+
+abbrev pub on_promise : World → Node → ℕ → ℕ → ℕ → Option Vote → Handled
+on_promise w n from period ballot vote = elim n.attempt [
+  | None ↦ silent n
+  | Some a ↦
+      if (period == current_period n) && is_waiting ballot a then after_promise w n period ballot (with_promise from vote a) else silent n
+]
+
+abbrev pub on_accept : ℕ → Node → ℕ → ℕ → Cut → Handled
+on_accept i n period ballot cut =
+    if (period == current_period n) && is_not_below ballot n.kept.acceptor.promised
+    then sending (Accepted i period ballot cut) (with_acceptor (after_accept (record { ballot = ballot; cut = cut }) n.kept.acceptor) n)
+    else silent n
+
+abbrev pub after_accepted : World → Node → ℕ → Cut → Tally → Handled
+after_accepted w n ballot cut tally =
+    if has_majority (node_count w) (accepting_at (node_count w) ballot tally) then learning cut n else silent (record n { tally = tally })
+
+-- node i handles a packet
+abbrev pub handled : World → ℕ → Node → Packet → Handled
+handled w i n (CarriesBatch b) = silent (with_kept (record n.kept { holding = put n.kept.holding b }) n)
+handled w i n (Prepare period ballot) = unless_learned period n (on_prepare i n period ballot)
+handled w i n (Promise from period ballot vote) = on_promise w n from period ballot vote
+handled w i n (Accept period ballot cut) = unless_learned period n (on_accept i n period ballot cut)
+handled w i n (Accepted from period ballot cut) =
+    if period == current_period n then after_accepted w n ballot cut (with_accepted (node_count w) from ballot n.tally) else silent n
+handled w i n (Decided period cut) = if period == current_period n then learning cut n else silent n

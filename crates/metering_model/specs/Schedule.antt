@@ -1,0 +1,86 @@
+-- Schedules: which text is a schedule of which group and events.
+use Rattle.std.specs.Prelude.{◌≡◌, ℕ, ◌≤◌, List, ◌++◌, length, map, All, codes, IsTrue}
+use Rattle.std.specs.List.{flat_map, list_all}
+use Rattle.metering_model.specs.Batch.{lacks}
+use Rattle.metering_model.specs.Sheet.{Sheet, Issuer}
+use Rattle.metering_model.specs.World.{Good, Event, Journal, Deliver, Start, Restart, Export, opening}
+use Rattle.metering_model.specs.Step.{play}
+use Rattle.metering_model.specs.Transcript.{line, with_number, transcript}
+
+-- lines without their line feeds
+abbrev pub TextLines : Type 0
+TextLines = List (List ℕ)
+
+abbrev pub lines_text : TextLines → List ℕ
+lines_text ls = flat_map line ls
+
+-- an event as it stands in a schedule: a journal has its lines
+pub data Planned : Type 0 where
+  PlansJournal : (lines : TextLines) → Planned
+  PlansDelivery : (packet node : ℕ) → Planned
+  PlansStart : (node : ℕ) → Planned
+  PlansRestart : (node : ℕ) → Planned
+  PlansExport : (node period : ℕ) → Planned
+
+pub record Schedule : Type 0 where
+  pub nodes : ℕ
+  pub agents : ℕ
+  pub sheet : TextLines
+  pub issuer : TextLines
+  pub events : List Planned
+
+-- ---- the text, joined from its parts
+
+-- a line that says how many lines follow, and these lines
+abbrev pub section_text : List ℕ → TextLines → List ℕ
+section_text word ls = line (with_number word (length ls)) ++ lines_text ls
+
+abbrev pub planned_text : Planned → List ℕ
+planned_text (PlansJournal ls) = section_text (codes "journal ") ls
+planned_text (PlansDelivery k i) = line (with_number (codes "deliver ") k ++ with_number (codes " ") i)
+planned_text (PlansStart i) = line (with_number (codes "start ") i)
+planned_text (PlansRestart i) = line (with_number (codes "restart ") i)
+planned_text (PlansExport i p) = line (with_number (codes "export ") i ++ with_number (codes " ") p)
+
+abbrev pub schedule_text : Schedule → List ℕ
+schedule_text s =
+    line (codes "SCHEDULE 1") ++ line (with_number (codes "nodes ") s.nodes) ++ line (with_number (codes "agents ") s.agents)
+    ++ section_text (codes "sheet ") s.sheet ++ section_text (codes "issuer ") s.issuer ++ flat_map planned_text s.events
+
+-- ---- the limits
+
+-- so many lines, of which none holds a line feed
+pub record AreLines (most : ℕ) (ls : TextLines) : Type 0 where
+  pub some : 1 ≤ length ls
+  pub at_most : length ls ≤ most
+  pub whole : IsTrue (list_all (lacks 10) ls)
+
+abbrev pub IsPlanned : Planned → Type 0
+IsPlanned (PlansJournal ls) = AreLines 1_001 ls
+IsPlanned (PlansDelivery k i) = (k ≤ 999_999) × (i ≤ 98)
+IsPlanned (PlansStart i) = i ≤ 98
+IsPlanned (PlansRestart i) = i ≤ 98
+IsPlanned (PlansExport i p) = (i ≤ 98) × (p ≤ 1_199)
+
+-- The text is that of the schedule, and each of its parts is within its limits.
+pub record IsSchedule (text : List ℕ) (s : Schedule) : Type 0 where
+  pub joined : text ≡ schedule_text s
+  pub short : length text ≤ 16_777_216
+  pub nodes : (1 ≤ s.nodes) × (s.nodes ≤ 99)
+  pub agents : (1 ≤ s.agents) × (s.agents ≤ 64)
+  pub sheet : AreLines 200_000 s.sheet
+  pub issuer : AreLines 100 s.issuer
+  pub events : All IsPlanned s.events
+
+-- ---- what it plays
+
+abbrev pub event_of : Planned → Event
+event_of (PlansJournal ls) = Journal (Good (lines_text ls))
+event_of (PlansDelivery k i) = Deliver k i
+event_of (PlansStart i) = Start i
+event_of (PlansRestart i) = Restart i
+event_of (PlansExport i p) = Export i p
+
+-- the transcript of a schedule, under the sheet and the issuer that its sections are read as
+abbrev pub transcript_of : Sheet → Issuer → Schedule → List ℕ
+transcript_of sheet issuer s = transcript (play (opening s.nodes s.agents sheet issuer) (map event_of s.events)).0

@@ -1,0 +1,110 @@
+-- The group as plain data: what nodes keep, what was sent, what may happen and what is answered.
+use Rattle.std.specs.Prelude.{ℕ, List, [], ◌∷◌, ◌++◌, length, replicate, Option, None, Result, Ok, Err, unwrap_or, nat_lt, if◌then◌else◌, slice_set}
+use Rattle.std.specs.List.{last_or}
+pub use Rattle.metering_model.specs.declared.Refusal.{Refusal}
+pub use Rattle.metering_model.specs.declared.Refusal.TheVariants.{BadBatch, WrongSeq, BadTarget, Unpriced, NoPacket, NoNode, NotClosed, Missing, AllClosed, NoBallot, WorldFull, NoAgent}
+use Rattle.metering_model.specs.Batch.{Batch}
+use Rattle.metering_model.specs.BatchReading.{BatchFault}
+use Rattle.metering_model.specs.Sheet.{Sheet, Issuer}
+use Rattle.metering_model.specs.Cut.{Cut, zero_cut}
+use Rattle.metering_model.specs.Holding.{Holding}
+use Rattle.metering_model.specs.Ballot.{Vote, Acceptor, Attempt, Tally, new_acceptor}
+
+pub data Packet : Type 0 where
+  CarriesBatch : Batch → Packet
+  Prepare : (period ballot : ℕ) → Packet
+  Promise : (from period ballot : ℕ) (vote : Option Vote) → Packet
+  Accept : (period ballot : ℕ) (cut : Cut) → Packet
+  Accepted : (from period ballot : ℕ) (cut : Cut) → Packet
+  Decided : (period : ℕ) (cut : Cut) → Packet
+
+-- what a node keeps over a restart; promise and vote are of its current period, the first that it has not learned
+pub record Kept : Type 0 where
+  pub round : ℕ
+  pub learned : List Cut
+  pub acceptor : Acceptor
+  pub holding : Holding
+
+pub record Node : Type 0 where
+  pub kept : Kept
+  pub attempt : Option Attempt
+  pub tally : Tally
+
+pub record World : Type 0 where
+  pub sheet : Sheet
+  pub issuer : Issuer
+  pub agents : ℕ
+  pub journals : Holding
+  pub packets : List Packet
+  pub nodes : List Node
+
+-- what is handed in to be journaled: bytes, or the fault of bytes that were no batch
+pub data Offer : Type 0 where
+  Good : (text : List ℕ) → Offer
+  Bad : BatchFault → Offer
+
+-- A packet that is never delivered is lost; one may be delivered to any node, at any time and any number of times.
+pub data Event : Type 0 where
+  Journal : Offer → Event
+  Deliver : (packet node : ℕ) → Event
+  Start : (node : ℕ) → Event
+  Restart : (node : ℕ) → Event
+  Export : (node period : ℕ) → Event
+
+-- what an export is made of: the batches up to the period's cut
+pub record Snapshot : Type 0 where
+  pub period : ℕ
+  pub from : Cut
+  pub to : Cut
+  pub batches : Holding
+  pub sheet : Sheet
+  pub issuer : Issuer
+
+pub data Reply : Type 0 where
+  Journaled : (packet : ℕ) → Reply
+  Delivered : (sent learned : Option ℕ) → Reply
+  Started : (ballot packet : ℕ) → Reply
+  Restarted : Reply
+  Exported : Snapshot → Reply
+  Refused : Refusal → Reply
+
+abbrev pub node_count : World → ℕ
+node_count w = length w.nodes
+
+-- the period that a node works on: the first that it has not learned
+abbrev pub current_period : Node → ℕ
+current_period n = length n.kept.learned
+
+-- the cut that a period stands on: that of the period before, or the zero cut
+abbrev pub last_cut : ℕ → List Cut → Cut
+last_cut agents cuts = unwrap_or (last_or None cuts) (zero_cut agents)
+
+-- a node that wakes with what it kept has no attempt and an empty tally
+abbrev pub wake : Kept → Node
+wake kept = record { kept = kept; attempt = None; tally = [] }
+
+abbrev pub new_kept : Kept
+new_kept = record { round = 0; learned = []; acceptor = new_acceptor; holding = [] }
+
+abbrev pub opening : ℕ → ℕ → Sheet → Issuer → World
+opening nodes agents sheet issuer = record {
+  sheet = sheet;
+  issuer = issuer;
+  agents = agents;
+  journals = [];
+  packets = [];
+  nodes = replicate nodes (wake new_kept);
+}
+
+abbrev pub with_kept : Kept → Node → Node
+with_kept kept n = record n { kept = kept }
+
+abbrev pub with_node_at : ℕ → Node → World → World
+with_node_at i n w = record w { nodes = slice_set w.nodes i n }
+
+abbrev pub with_packet : Packet → World → World
+with_packet p w = record w { packets = w.packets ++ p ∷ [] }
+
+-- the number of the next packet, where the world has room for one
+abbrev pub next_packet : World → Result ℕ Refusal
+next_packet w = if nat_lt (length w.packets) 1_000_000 then Ok (length w.packets) else Err WorldFull

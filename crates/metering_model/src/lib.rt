@@ -1,0 +1,139 @@
+//! The model of focusd: what a batch is, what it costs, and what a group of nodes may do.
+//!
+//! The definitions stand in `specs/`, one module a subject. Here are the plain types that code and
+//! definitions share, and in `laws` what ties the definitions to one another.
+#![tactic(auto)]
+
+use thiserror::Error;
+
+pub mod laws;
+
+/// What a reading charges for.
+#[derive(Clone, Copy, Debug, PartialEq, Eq, Drop)]
+pub enum Kind {
+    Usage,
+    Purchase,
+    Credit,
+    Tax,
+    Adjustment,
+}
+
+/// A kind that is charged by a price.
+#[derive(Clone, Copy, Debug, PartialEq, Eq, Drop)]
+pub enum PricedKind {
+    Usage,
+    Purchase,
+}
+
+/// FOCUS's ServiceCategory, as far as a price sheet may name it.
+#[derive(Clone, Copy, Debug, PartialEq, Eq, Drop)]
+pub enum ServiceCategory {
+    Compute,
+    Storage,
+    Networking,
+    Databases,
+    Other,
+}
+
+/// FOCUS's CommitmentDiscountCategory.
+#[derive(Clone, Copy, Debug, PartialEq, Eq, Drop)]
+pub enum CommitmentCategory {
+    Spend,
+    Usage,
+}
+
+/// What is wrong with the text of a number.
+#[derive(Clone, Copy, Debug, PartialEq, Eq, Drop, Error)]
+pub enum NumberFault {
+    /// F1: it is no decimal of the wanted form.
+    #[error("F1")]
+    Shape,
+    /// F2: it is a decimal beyond the limits of its type.
+    #[error("F2")]
+    Range,
+}
+
+/// Which rule of the batch format a text breaks.
+#[derive(Clone, Copy, Debug, PartialEq, Eq, Drop, Error)]
+pub enum BatchCode {
+    /// V1: no head line within the limits.
+    #[error("V1")]
+    Head,
+    /// V2: fewer or more lines than the head counts, or a line without its line feed.
+    #[error("V2")]
+    Count,
+    /// V3: no such kind of record, or another number of fields than it has.
+    #[error("V3")]
+    Fields,
+    /// V4: no valid moment of UTC, or an end that is not after its start.
+    #[error("V4")]
+    Time,
+    /// V5: no number within the limits of its field.
+    #[error("V5")]
+    Number,
+    /// V6: a byte that is no text, or a text that is empty or not empty against its rule.
+    #[error("V6")]
+    Text,
+    /// V7: tags of another form, or whose keys do not rise.
+    #[error("V7")]
+    Tags,
+    /// V8: more than 65,536 bytes.
+    #[error("V8")]
+    TooLong,
+}
+
+/// The first fault of a text that is no batch, and its line, counted from 1.
+#[derive(Clone, Copy, Debug, PartialEq, Eq, Drop, Error)]
+#[error("{code} line {line}")]
+pub struct BatchFault {
+    pub code: BatchCode,
+    pub line: u32,
+}
+
+/// Why the group refuses an event. The world stays as it was.
+#[derive(Clone, Copy, Debug, PartialEq, Eq, Drop, Error)]
+pub enum Refusal {
+    /// G1: the journaled text is no batch.
+    #[error("G1 {0}")]
+    BadBatch(BatchFault),
+    /// G2: the sequence is not the agent's next, which is `wanted`.
+    #[error("G2 wanted {wanted}")]
+    WrongSeq { wanted: u32 },
+    /// G3: an amendment names no earlier reading, or makes a priced one negative.
+    #[error("G3")]
+    BadTarget,
+    /// G4: a priced reading has no price in force, or a commitment that does not fit it.
+    #[error("G4")]
+    Unpriced,
+    /// G5: no packet has that number.
+    #[error("G5")]
+    NoPacket,
+    /// G6: no node has that number.
+    #[error("G6")]
+    NoNode,
+    /// G7: the node has learned only the periods below `learned`.
+    #[error("G7 learned {learned}")]
+    NotClosed { learned: u16 },
+    /// G8: the node lacks a batch up to the cut, and this is the first.
+    #[error("G8 agent {agent} seq {seq}")]
+    Missing { agent: u8, seq: u32 },
+    /// G9: the node has learned every period there is.
+    #[error("G9")]
+    AllClosed,
+    /// G10: the node has used up its rounds.
+    #[error("G10")]
+    NoBallot,
+    /// G11: the event would send a packet, and the world is full of them.
+    #[error("G11")]
+    WorldFull,
+    /// G12: the batch's agent is none of the world's.
+    #[error("G12")]
+    NoAgent,
+}
+
+/// Who acts on the group: an agent, numbered from 1, or a node, numbered from 0.
+#[derive(Clone, Copy, Debug, PartialEq, Eq, Drop)]
+pub enum Worker {
+    Agent(u8),
+    Node(u8),
+}
