@@ -1,3 +1,6 @@
+pub mod NumberDigits
+pub mod NumberReading
+pub mod NumberLaws
 pub mod DigitTexts
 pub mod MonthLaws
 pub mod DayLaws
