@@ -5,6 +5,10 @@ pub mod DigitTexts
 pub mod MonthLaws
 pub mod DayLaws
 pub mod DateLaws
+pub mod RoundingLaws
+pub mod BatchOrder
+pub mod HoldingLaws
+pub mod AgreementLaws
 mod Samples
 mod WorkedNumbers
 mod WorkedBatches

@@ -1,18 +1,27 @@
 //! What ties the definitions to one another. Each law is a function with an empty body.
 
-ghost use Rattle.std.specs.Prelude.{◌≡◌, ℕ, ◌^◌, ◌<◌, ◌↔◌, List, Some, ℤ, unsigned_abs};
+ghost use Rattle.std.specs.Prelude.{◌≡◌, ℕ, ◌^◌, ◌<◌, ◌≤◌, ◌↔◌, false, List, Some, ℤ, unsigned_abs, unwrap_or};
 ghost use Rattle.metering_model.specs.NumberText.{Spells, number_in, spelling};
 ghost use Rattle.metering_model.specs.Dates.{IsMonthText, IsDayText, IsStampText, month_in, day_in, stamp_in};
+ghost use Rattle.metering_model.specs.Batch.{Batch};
+ghost use Rattle.metering_model.specs.Cut.{Cut, IsAtLeast, last_of};
+ghost use Rattle.metering_model.specs.Holding.{Holding, IsHolding, AgreeUpTo, Position, held, is_batch_at, put, up_to};
+ghost use Rattle.metering_model.specs.ValueAtSequence.{value_at};
+ghost use Rattle.metering_model.specs.Sheet.{Sheet, Issuer};
+ghost use Rattle.metering_model.specs.Rating.{IsRounded, pricing_quantity};
+ghost use Rattle.metering_model.specs.Rows.{placed_rows, rows};
 
 /// Reading a text as a number answers the number that the text spells, and nothing else.
 pub fn numbers_are_read_as_they_are_spelled()
-    ensures { (places : ℕ) (text : List ℕ) (n : ℤ) → (number_in places text ≡ Some n) ↔ Spells places text n }
+    ensures { (places : ℕ) (text : List ℕ) (n : ℤ) →
+        (number_in places text ≡ Some n) ↔ Spells places text n }
 {}
 
 /// Each number has one spelling, which is the computed one. A number is less than 10^64 units.
 pub fn numbers_have_one_spelling()
     ensures spelled { (places : ℕ) (n : ℤ) → unsigned_abs n < 10 ^ 64 → Spells places (spelling places n) n }
-    ensures unique { (places : ℕ) (text : List ℕ) (n : ℤ) → unsigned_abs n < 10 ^ 64 → Spells places text n → text ≡ spelling places n }
+    ensures unique { (places : ℕ) (text : List ℕ) (n : ℤ) → unsigned_abs n < 10 ^ 64 →
+        Spells places text n → text ≡ spelling places n }
 {}
 
 /// Reading a month, a day or a stamp answers the number that the calendar gives it.
@@ -20,4 +29,34 @@ pub fn dates_are_read_as_they_are_written()
     ensures months { (text : List ℕ) (m : ℕ) → (month_in text ≡ Some m) ↔ IsMonthText text m }
     ensures days { (text : List ℕ) (n : ℤ) → (day_in text ≡ Some n) ↔ IsDayText text n }
     ensures stamps { (text : List ℕ) (n : ℤ) → (stamp_in text ≡ Some n) ↔ IsStampText text n }
+{}
+
+/// A pricing quantity is the value divided by `per`, rounded half to even, and no other number is.
+pub fn pricing_quantities_are_rounded_half_to_even()
+    ensures { (per : ℕ) (v q : ℤ) → 0 < per → (IsRounded per v q) ↔ (q ≡ pricing_quantity per v) }
+{}
+
+/// A holding that is put into stays a holding, and has what was put, or what it had at that place before.
+pub fn holdings_are_maps()
+    ensures stays { (h : Holding) (b : Batch) → IsHolding h → IsHolding (put h b) }
+    ensures found { (h : Holding) (b : Batch) → IsHolding h →
+        held (put h b) b.agent b.seq ≡ Some (unwrap_or (held h b.agent b.seq) b) }
+    ensures others { (h : Holding) (b : Batch) (agent seq : ℕ) → IsHolding h →
+        is_batch_at agent seq b ≡ false → held (put h b) agent seq ≡ held h agent seq }
+    ensures cuts { (h : Holding) (cut : Cut) → IsHolding h → IsHolding (up_to cut h) }
+{}
+
+/// Holdings that agree up to a cut give the same values and the same rows up to it.
+pub fn what_agrees_up_to_a_cut_is_charged_alike()
+    ensures batches { (h k : Holding) (to : Cut) → IsHolding h → IsHolding k → AgreeUpTo to h k →
+        up_to to h ≡ up_to to k }
+    ensures values { (h k : Holding) (to : Cut) (at : Position) (upto : ℕ) →
+        IsHolding h → IsHolding k → AgreeUpTo to h k →
+        upto ≤ last_of to at.agent → value_at h at upto ≡ value_at k at upto }
+    ensures placed { (sheet : Sheet) (issuer : Issuer) (h k : Holding) (period : ℕ) (from to : Cut) →
+        IsHolding h → IsHolding k → AgreeUpTo to h k → IsAtLeast from to →
+        placed_rows sheet issuer h period from to ≡ placed_rows sheet issuer k period from to }
+    ensures rows { (sheet : Sheet) (issuer : Issuer) (h k : Holding) (period : ℕ) (from to : Cut) →
+        IsHolding h → IsHolding k → AgreeUpTo to h k → IsAtLeast from to →
+        rows sheet issuer h period from to ≡ rows sheet issuer k period from to }
 {}
