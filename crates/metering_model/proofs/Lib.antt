@@ -5,6 +5,16 @@ pub mod DigitTexts
 pub mod MonthLaws
 pub mod DayLaws
 pub mod DateLaws
+pub mod StepLaws
+pub mod Splitting
+pub mod FirstByte
+pub mod FieldLaws
+pub mod TagLaws
+pub mod FieldBytes
+pub mod ReadingLaws
+pub mod RecordLaws
+pub mod LineLaws
+pub mod BatchLaws
 pub mod RoundingLaws
 pub mod BatchOrder
 pub mod HoldingLaws

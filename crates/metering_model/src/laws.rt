@@ -1,9 +1,10 @@
 //! What ties the definitions to one another. Each law is a function with an empty body.
 
-ghost use Rattle.std.specs.Prelude.{◌≡◌, ℕ, ◌^◌, ◌<◌, ◌≤◌, ◌↔◌, false, List, Some, ℤ, unsigned_abs, unwrap_or};
+ghost use Rattle.std.specs.Prelude.{◌≡◌, ℕ, ◌^◌, ◌<◌, ◌≤◌, ◌↔◌, false, List, Some, Ok, ℤ, unsigned_abs, unwrap_or};
 ghost use Rattle.metering_model.specs.NumberText.{Spells, number_in, spelling};
 ghost use Rattle.metering_model.specs.Dates.{IsMonthText, IsDayText, IsStampText, month_in, day_in, stamp_in};
-ghost use Rattle.metering_model.specs.Batch.{Batch};
+ghost use Rattle.metering_model.specs.Batch.{Batch, IsBatch};
+ghost use Rattle.metering_model.specs.BatchReading.{batch_in};
 ghost use Rattle.metering_model.specs.Cut.{Cut, IsAtLeast, last_of};
 ghost use Rattle.metering_model.specs.Holding.{Holding, IsHolding, AgreeUpTo, Position, held, is_batch_at, put, up_to};
 ghost use Rattle.metering_model.specs.ValueAtSequence.{value_at};
@@ -29,6 +30,11 @@ pub fn dates_are_read_as_they_are_written()
     ensures months { (text : List ℕ) (m : ℕ) → (month_in text ≡ Some m) ↔ IsMonthText text m }
     ensures days { (text : List ℕ) (n : ℤ) → (day_in text ≡ Some n) ↔ IsDayText text n }
     ensures stamps { (text : List ℕ) (n : ℤ) → (stamp_in text ≡ Some n) ↔ IsStampText text n }
+{}
+
+/// A text is read as a batch exactly where it is the join of that batch's parts.
+pub fn a_batch_is_read_where_its_parts_are_joined()
+    ensures { (text : List ℕ) (b : Batch) → (batch_in text ≡ Ok b) ↔ IsBatch text b }
 {}
 
 /// A pricing quantity is the value divided by `per`, rounded half to even, and no other number is.
