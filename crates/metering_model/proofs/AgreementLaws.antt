@@ -8,7 +8,7 @@ use Rattle.std.proofs.lemmas.List.Elements.{filter-append}
 use Rattle.metering_model.specs.Batch.{Batch, Record, Reads, Amends, Reading}
 use Rattle.metering_model.specs.Cut.{Cut, IsAtLeast, last_of}
 use Rattle.metering_model.specs.Sheet.{Sheet, Issuer}
-use Rattle.metering_model.specs.Holding.{Holding, IsHolding, AgreeUpTo, Position, Placed, journal, placed, up_to}
+use Rattle.metering_model.specs.Holding.{Holding, IsHolding, AgreeUpTo, Position, Placed, records_in_order, placed, up_to}
 use Rattle.metering_model.specs.ValueAtSequence.{value_at, value_given_by, journal_until}
 use Rattle.metering_model.specs.Row.{Row, row, New, Correction}
 use Rattle.metering_model.specs.Rows.{differ, row_of, row_of_reading, placed_row, placed_rows, rows}
@@ -17,7 +17,7 @@ use Rattle.metering_model.proofs.HoldingLaws.{same_up_to, up_to_cases, up_to-up_
 -- ---- cuts
 
 -- the greater cut is greater at each index
-at_least_at : (old new : Cut) (i : ℕ) → IsAtLeast old new → slice_index old i ≤ slice_index new i
+at_least_at : (old new : Cut) (i : ℕ) → IsAtLeast new old → slice_index old i ≤ slice_index new i
 at_least_at [] [] i grows = omega arith
 at_least_at [] (y ∷ ys) i grows = absurd grows
 at_least_at (x ∷ xs) [] i grows = absurd grows
@@ -25,12 +25,12 @@ at_least_at (x ∷ xs) (y ∷ ys) zero grows = grows.0
 at_least_at (x ∷ xs) (y ∷ ys) (suc i) grows = at_least_at xs ys i grows.1
 
 -- each agent's last sequence grows with the cut
-pub last_of_grows : (old new : Cut) (agent : ℕ) → IsAtLeast old new → last_of old agent ≤ last_of new agent
+pub last_of_grows : (old new : Cut) (agent : ℕ) → IsAtLeast new old → last_of old agent ≤ last_of new agent
 last_of_grows old new zero grows = omega arith
 last_of_grows old new (suc a) grows = at_least_at old new a grows
 
 -- Two holdings that agree up to a cut agree up to an earlier one.
-pub AgreeUpTo-earlier : (old new : Cut) (h k : Holding) → IsAtLeast old new → AgreeUpTo new h k → AgreeUpTo old h k
+pub AgreeUpTo-earlier : (old new : Cut) (h k : Holding) → IsAtLeast new old → AgreeUpTo new h k → AgreeUpTo old h k
 AgreeUpTo-earlier old new h k grows agree = record {
   same = λ agent seq within. let grown = last_of_grows old new agent grows in agree.same agent seq (omega arith);
 }
@@ -64,7 +64,7 @@ journal_until-up_to cut [] agent upto within = refl
 journal_until-up_to cut (b ∷ h) agent upto within =
     let rest = journal_until-up_to cut h agent upto within in
     let p = is_until agent upto in
-    let joined = λ (k : Holding). filter-append p (placed b) (journal k) in
+    let joined = λ (k : Holding). filter-append p (placed b) (records_in_order k) in
     up_to_cases (λ k. journal_until k agent upto ≡ journal_until (b ∷ h) agent upto) cut b h
     (λ _. joined (up_to cut h) ∙ (ap (λ xs. filter p (placed b) ++ xs) rest ∙ sym (joined h)))
     (λ beyond. let none = none_until b agent upto (past_batch cut b agent upto beyond within) (enumerate_from 0 b.records) in
@@ -88,7 +88,7 @@ row_between sheet issuer period from at r was now =
     if nat_lt (last_of from at.agent) at.seq then Some (row sheet issuer r period New (pos 0) now)
     else (if differ was now then Some (row sheet issuer r period Correction was now) else None)
 
-module _ (sheet : Sheet) (issuer : Issuer) (h k : Holding) (period : ℕ) (from to : Cut) (same : (at : Position) (upto : ℕ) → upto ≤ last_of to at.agent → value_at h at upto ≡ value_at k at upto) (grows : IsAtLeast from to) where
+module _ (sheet : Sheet) (issuer : Issuer) (h k : Holding) (period : ℕ) (from to : Cut) (same : (at : Position) (upto : ℕ) → upto ≤ last_of to at.agent → value_at h at upto ≡ value_at k at upto) (grows : IsAtLeast to from) where
   -- where the values are the same, so are the rows
   same_row : (at : Position) (r : Reading) → row_of_reading sheet issuer h period from to at r ≡ row_of_reading sheet issuer k period from to at r
   same_row at r =
@@ -103,17 +103,17 @@ module _ (sheet : Sheet) (issuer : Issuer) (h k : Holding) (period : ℕ) (from 
   same_placed_row x = ap (option_map (λ (r : Row). record { place = x.place; row = r })) (same_row_of x.place x.what)
 
 -- The rows up to the cut `to` are those of the batches up to it.
-pub placed_rows-up_to : (sheet : Sheet) (issuer : Issuer) (h : Holding) (period : ℕ) (from to : Cut) → IsAtLeast from to → placed_rows sheet issuer (up_to to h) period from to ≡ placed_rows sheet issuer h period from to
+pub placed_rows-up_to : (sheet : Sheet) (issuer : Issuer) (h : Holding) (period : ℕ) (from to : Cut) → IsAtLeast to from → placed_rows sheet issuer (up_to to h) period from to ≡ placed_rows sheet issuer h period from to
 placed_rows-up_to sheet issuer h period from to grows =
-    ap (λ f. filter_map f (journal (up_to to (up_to to h)))) (fun_ext (same_placed_row sheet issuer (up_to to h) h period from to (value_at-up_to to h) grows))
-    ∙ ap (λ x. filter_map (placed_row sheet issuer h period from to) (journal x)) (up_to-up_to to h)
+    ap (λ f. filter_map f (records_in_order (up_to to (up_to to h)))) (fun_ext (same_placed_row sheet issuer (up_to to h) h period from to (value_at-up_to to h) grows))
+    ∙ ap (λ x. filter_map (placed_row sheet issuer h period from to) (records_in_order x)) (up_to-up_to to h)
 
 -- Holdings that agree up to the cut `to` have the same rows up to it.
-pub same_placed_rows : (sheet : Sheet) (issuer : Issuer) (h k : Holding) (period : ℕ) (from to : Cut) → IsHolding h → IsHolding k → AgreeUpTo to h k → IsAtLeast from to → placed_rows sheet issuer h period from to ≡ placed_rows sheet issuer k period from to
+pub same_placed_rows : (sheet : Sheet) (issuer : Issuer) (h k : Holding) (period : ℕ) (from to : Cut) → IsHolding h → IsHolding k → AgreeUpTo to h k → IsAtLeast to from → placed_rows sheet issuer h period from to ≡ placed_rows sheet issuer k period from to
 same_placed_rows sheet issuer h k period from to ok ok' agree grows =
-    ap (λ f. filter_map f (journal (up_to to h))) (fun_ext (same_placed_row sheet issuer h k period from to (λ at upto. same_value h k to at upto ok ok' agree) grows))
-    ∙ ap (λ x. filter_map (placed_row sheet issuer k period from to) (journal x)) (same_up_to to h k ok ok' agree)
+    ap (λ f. filter_map f (records_in_order (up_to to h))) (fun_ext (same_placed_row sheet issuer h k period from to (λ at upto. same_value h k to at upto ok ok' agree) grows))
+    ∙ ap (λ x. filter_map (placed_row sheet issuer k period from to) (records_in_order x)) (same_up_to to h k ok ok' agree)
 
 -- and so without the positions
-pub same_rows : (sheet : Sheet) (issuer : Issuer) (h k : Holding) (period : ℕ) (from to : Cut) → IsHolding h → IsHolding k → AgreeUpTo to h k → IsAtLeast from to → rows sheet issuer h period from to ≡ rows sheet issuer k period from to
+pub same_rows : (sheet : Sheet) (issuer : Issuer) (h k : Holding) (period : ℕ) (from to : Cut) → IsHolding h → IsHolding k → AgreeUpTo to h k → IsAtLeast to from → rows sheet issuer h period from to ≡ rows sheet issuer k period from to
 same_rows sheet issuer h k period from to ok ok' agree grows = ap (map (λ x. x.row)) (same_placed_rows sheet issuer h k period from to ok ok' agree grows)

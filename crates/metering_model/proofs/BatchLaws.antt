@@ -4,8 +4,8 @@ use Rattle.std.specs.Prelude.{◌==◌, nat_lt}
 use Rattle.std.proofs.lemmas.Bool.{and_parts, and_from, cond-false, false≢true}
 use Rattle.std.proofs.lemmas.List.{length-map}
 use Rattle.std.proofs.lemmas.List.Folds.{flat_map-map}
-use Rattle.metering_model.specs.Steps.{holds_or}
-use Rattle.metering_model.specs.Batch.{Record, IsRecord, Batch, IsBatch, batch_text, head_fields, line_of_fields, is_empty}
+use Rattle.metering_model.specs.FirstFailure.{holds_or}
+use Rattle.metering_model.specs.Batch.{Record, IsRecord, Batch, IsBatch, IsWellFormed, batch_text, head_fields, line_of_fields, is_empty}
 use Rattle.metering_model.specs.BatchReading.{Count, BatchFault, TooLong, HeadLine, head_in, records_in, fields_in, at_line, Lines, lines_in, batch_of_lines, batch_in}
 use Rattle.metering_model.proofs.StepLaws.{step_iff, ok_same}
 use Rattle.metering_model.proofs.Splitting.{ended, lines_give_back, lines_of_text}
@@ -122,3 +122,9 @@ batch_written text b h =
     cond-false (nat_lt 65_536 (length text)) (Err too_long) (batch_of_lines (lines_in text).lines (lines_in text).rest) (le-ltb 65_536 (length text) h.short)
     ∙ ap (λ (ls : Lines). batch_of_lines ls.lines ls.rest) lines
     ∙ lines_written b limits h.records
+
+-- a batch that was read is one that a text may be
+pub IsWellFormed-read : (text : List ℕ) (b : Batch) → batch_in text ≡ Ok b → IsWellFormed b
+IsWellFormed-read text b e =
+    let is = batch_read text b e in
+    subst (λ t. IsBatch t b) is.joined is

@@ -3,7 +3,9 @@ use Rattle.std.proofs.Common.{◌≡◌, ℕ, ◌<◌, ◌≤◌, ◌⊎◌, tru
 use Rattle.std.specs.Prelude.{if◌then◌else◌}
 use Rattle.std.specs.List.{list_all}
 use Rattle.std.proofs.lemmas.Bool.{and_from, cond_both, cond-true, cond-false, cases_Bool, cases_lt, leb-true, leb-false, le-leb, false_from_ne_true}
-use Rattle.metering_model.specs.Batch.{Batch}
+use Rattle.std.specs.Prelude.{All}
+use Rattle.std.proofs.lemmas.List.Elements.{All-nil, All-cons, All-head, All-tail, All-filter}
+use Rattle.metering_model.specs.Batch.{Batch, IsWellFormed}
 use Rattle.metering_model.specs.Cut.{Cut, last_of}
 use Rattle.metering_model.specs.Holding.{Holding, IsHolding, AgreeUpTo, comes_before, is_in_order, is_batch_at, held, put, up_to}
 use Rattle.metering_model.proofs.BatchOrder.{found_passes, never_both, at_itself, not_at-before, put_cases, place_of_batch, in_order_parts, held_none-after, in_order-put, in_order-filter}
@@ -20,11 +22,20 @@ held_place h agent seq b found = place_of_batch agent seq b (found_passes (is_ba
 
 -- the empty holding
 pub IsHolding-nil : IsHolding []
-IsHolding-nil = record { in_order = refl }
+IsHolding-nil = record { in_order = refl; batches = All-nil IsWellFormed }
 
--- a holding that is put into stays one
-pub IsHolding-put : (h : Holding) (b : Batch) → IsHolding h → IsHolding (put h b)
-IsHolding-put h b ok = record { in_order = in_order-put h b ok.in_order }
+all_put : (h : Holding) (b : Batch) → IsWellFormed b → All IsWellFormed h → All IsWellFormed (put h b)
+all_put [] b new all = All-cons IsWellFormed b [] new all
+all_put (c ∷ h) b new all =
+    let rest = all_put h b new (All-tail IsWellFormed c h all) in
+    put_cases (All IsWellFormed) b c h
+    (λ _. All-cons IsWellFormed b (c ∷ h) new all)
+    (λ _. All-cons IsWellFormed c (put h b) (All-head IsWellFormed c h all) rest)
+    (λ _. all)
+
+-- a holding that a batch is put into stays one
+pub IsHolding-put : (h : Holding) (b : Batch) → IsHolding h → IsWellFormed b → IsHolding (put h b)
+IsHolding-put h b ok new = record { in_order = in_order-put h b ok.in_order; batches = all_put h b new ok.batches }
 
 -- a place that is not the batch's has what it had
 pub held-put_other : (h : Holding) (b : Batch) (agent seq : ℕ) → is_batch_at agent seq b ≡ false → held (put h b) agent seq ≡ held h agent seq
@@ -83,7 +94,10 @@ held-put_kept h b c agent seq ok found =
 
 -- the part of a holding up to a cut is a holding
 pub IsHolding-up_to : (h : Holding) (cut : Cut) → IsHolding h → IsHolding (up_to cut h)
-IsHolding-up_to h cut ok = record { in_order = in_order-filter _ h ok.in_order }
+IsHolding-up_to h cut ok = record {
+  in_order = in_order-filter _ h ok.in_order;
+  batches = All-filter (λ b. leb b.seq (last_of cut b.agent)) IsWellFormed h ok.batches;
+}
 
 -- what a cut leaves of a holding with a first batch
 pub up_to_cases : (P : Holding → Type 0) (cut : Cut) (b : Batch) (h : Holding)
@@ -193,7 +207,7 @@ same_holding h k ok ok' same = same_in_order h k ok.in_order ok'.in_order same
 
 -- A batch of a place that has one changes nothing.
 pub put_held : (h : Holding) (b c : Batch) → IsHolding h → held h b.agent b.seq ≡ Some c → put h b ≡ h
-put_held h b c ok found = same_holding (put h b) h (IsHolding-put h b ok) ok (λ agent seq.
+put_held h b c ok found = same_in_order (put h b) h (in_order-put h b ok.in_order) ok.in_order (λ agent seq.
     held-put h b agent seq ok
     ∙ cond_both (is_batch_at agent seq b) (Some (unwrap_or (held h agent seq) b)) (held h agent seq) (λ x. x ≡ held h agent seq)
     (λ at. let place = place_of_batch agent seq b at in

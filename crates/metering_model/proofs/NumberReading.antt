@@ -7,7 +7,7 @@ use Rattle.std.proofs.lemmas.List.{drop_all}
 use Rattle.std.proofs.lemmas.List.Sums.{split_at_first, passes_at_first}
 use Rattle.std.proofs.lemmas.Option.{cond_some, same_Some}
 use Rattle.metering_model.proofs.NumberDigits.{digit_bounds, whole_digits, decimal_digits, ends_past}
-use Rattle.metering_model.specs.NumberText.{is_digit, is_point, is_whole_part, is_decimal_part, is_unsigned, ends_in, units_of, sign_text, point_text, signed, magnitude_in, negated, positive, number_in, Spells}
+use Rattle.metering_model.specs.NumberText.{is_digit, is_point, is_whole_part, is_decimal_part, is_unsigned, ends_in, units_of, sign_text, point_text, signed, magnitude_in, negated, not_negated, number_in, Spells}
 
 -- ---- the parts of joined texts
 
@@ -67,7 +67,7 @@ negated_some (suc n) h = refl
 
 joined_is_read : (places : ℕ) (minus : Bool) (w ds : List ℕ) → is_whole_part w ≡ true → is_decimal_part places ds ≡ true → (minus ≡ true → 0 < units_of places w ds) → number_in places (sign_text minus ++ w ++ point_text ds) ≡ Some (signed minus (units_of places w ds))
 joined_is_read places true w ds h k some = ap negated (magnitude_of_joined places w ds h k) ∙ negated_some _ (some refl)
-joined_is_read places false w ds h k some = cond-false (slice_index (w ++ point_text ds) 0 == 45) _ _ (no_minus_first w (point_text ds) h) ∙ ap positive (magnitude_of_joined places w ds h k)
+joined_is_read places false w ds h k some = cond-false (slice_index (w ++ point_text ds) 0 == 45) _ _ (no_minus_first w (point_text ds) h) ∙ ap not_negated (magnitude_of_joined places w ds h k)
 
 pub spelled_number : (places : ℕ) (text : List ℕ) (n : ℤ) → Spells places text n → number_in places text ≡ Some n
 spelled_number places text n s =
@@ -118,7 +118,7 @@ spelled_negated places body None n read e = cc
 spelled_negated places body (Some zero) n read e = cc
 spelled_negated places body (Some (suc k)) n read e = subst (Spells places (45 ∷ body)) (same_Some _ _ e) (spelled_with places true body (suc k) read (λ _. omega arith))
 
-spelled_positive : (places : ℕ) (body : List ℕ) (o : Option ℕ) (n : ℤ) → magnitude_in places body ≡ o → positive o ≡ Some n → Spells places body n
+spelled_positive : (places : ℕ) (body : List ℕ) (o : Option ℕ) (n : ℤ) → magnitude_in places body ≡ o → not_negated o ≡ Some n → Spells places body n
 spelled_positive places body None n read e = cc
 spelled_positive places body (Some k) n read e = subst (Spells places body) (same_Some _ _ e) (spelled_with places false body k read (λ no. absurd (false≢true no)))
 
@@ -129,9 +129,9 @@ first_then_rest (c ∷ cs) is = ap (λ x. x ∷ cs) (sym is)
 pub number_spelled : (places : ℕ) (text : List ℕ) (n : ℤ) → number_in places text ≡ Some n → Spells places text n
 number_spelled places text n e = elim (cases_Bool (slice_index text 0 == 45)) [
   | inl minus ↦
-      let read = sym (cond-true (slice_index text 0 == 45) (negated (magnitude_in places (drop 1 text))) (positive (magnitude_in places text)) minus) ∙ e in
+      let read = sym (cond-true (slice_index text 0 == 45) (negated (magnitude_in places (drop 1 text))) (not_negated (magnitude_in places text)) minus) ∙ e in
       subst (λ t. Spells places t n) (first_then_rest text (eqb-true _ 45 minus)) (spelled_negated places (drop 1 text) _ n refl read)
   | inr plain ↦
-      let read = sym (cond-false (slice_index text 0 == 45) (negated (magnitude_in places (drop 1 text))) (positive (magnitude_in places text)) plain) ∙ e in
+      let read = sym (cond-false (slice_index text 0 == 45) (negated (magnitude_in places (drop 1 text))) (not_negated (magnitude_in places text)) plain) ∙ e in
       spelled_positive places text _ n refl read
 ]

@@ -1,7 +1,7 @@
 -- What a chain of steps that may fail tells of each step where it answers `Ok`, and the way back.
 use Rattle.std.proofs.Common.{◌↔◌, ◌≡◌, Bool, true, false, ◌&&◌, Option, Some, None, Result, Ok, Err, ok_or, refl, ap, ◌∙◌}
 use Rattle.std.proofs.lemmas.Bool.{and_parts, and_from}
-use Rattle.metering_model.specs.Steps.{◌>>=◌, holds_or}
+use Rattle.metering_model.specs.FirstFailure.{◌>>=◌, holds_or}
 
 -- the first step answered, and the rest answered with it
 pub step_ok : {A B E : Type 0} (r : Result A E) (f : A → Result B E) (y : B) → (r >>= f) ≡ Ok y → (x : A) × (r ≡ Ok x) × (f x ≡ Ok y)

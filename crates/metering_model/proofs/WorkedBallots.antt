@@ -4,7 +4,7 @@ use Rattle.std.specs.Prelude.{◌≡◌, [], ◌∷◌, ◌++◌, codes, refl}
 use Rattle.std.specs.Fmt.{digits}
 use Rattle.jiff_core.specs.Calendar.{days_from_civil, day_count, days_of_years, days_of_months}
 use Rattle.metering_model.specs.NumberText.{worth_of, decimals_of}
-use Rattle.metering_model.specs.File.{head}
+use Rattle.metering_model.specs.File.{header_line}
 use Rattle.metering_model.specs.Transcript.{line}
 use Rattle.metering_model.specs.Schedule.{Schedule, PlansJournal, PlansDelivery, PlansStart, PlansRestart, PlansExport, lines_text, schedule_text, transcript_of}
 use Rattle.metering_model.proofs.Samples.{sheet_0, sheet_0_lines, issuer_1, issuer_1_lines, reading_1, row_1}
@@ -37,8 +37,8 @@ whole_path_transcript : transcript_of sheet_0 issuer_1 whole_path ≡
     lines_text (codes "journaled packet 0" ∷ codes "delivered" ∷ codes "delivered" ∷ codes "started ballot 3 packet 1" ∷
     codes "delivered sent 2" ∷ codes "delivered sent 3" ∷ codes "delivered" ∷ codes "delivered sent 4" ∷
     codes "delivered sent 5" ∷ codes "delivered sent 6" ∷ codes "delivered" ∷ codes "delivered learned 0" ∷
-    codes "exported period 0 lines 2" ∷ head ∷ row_1 ∷ codes "delivered" ∷ codes "delivered learned 0" ∷
-    codes "exported period 0 lines 2" ∷ head ∷ row_1 ∷ [])
+    codes "exported period 0 lines 2" ∷ header_line ∷ row_1 ∷ codes "delivered" ∷ codes "delivered learned 0" ∷
+    codes "exported period 0 lines 2" ∷ header_line ∷ row_1 ∷ [])
 unfolding days_from_civil day_count days_of_years days_of_months worth_of decimals_of digits
 whole_path_transcript = refl
 
@@ -76,7 +76,7 @@ crossing_proposers_transcript : transcript_of sheet_0 issuer_1 crossing_proposer
     codes "delivered" ∷ codes "delivered sent 5" ∷ codes "delivered sent 6" ∷ codes "started ballot 5 packet 7" ∷
     codes "delivered sent 8" ∷ codes "delivered sent 9" ∷ codes "delivered" ∷ codes "delivered sent 10" ∷
     codes "delivered sent 11" ∷ codes "delivered sent 12" ∷ codes "delivered" ∷ codes "delivered learned 0" ∷
-    codes "exported period 0 lines 2" ∷ head ∷ row_1 ∷ [])
+    codes "exported period 0 lines 2" ∷ header_line ∷ row_1 ∷ [])
 unfolding days_from_civil day_count days_of_years days_of_months worth_of decimals_of digits
 crossing_proposers_transcript = refl
 
@@ -115,9 +115,9 @@ a_node_that_lacks_a_batch_transcript : transcript_of sheet_0 issuer_1 a_node_tha
     codes "delivered sent 4" ∷ codes "delivered" ∷ codes "delivered sent 5" ∷ codes "delivered sent 6" ∷
     codes "delivered sent 7" ∷ codes "delivered" ∷ codes "delivered learned 0" ∷ codes "delivered" ∷
     codes "started ballot 5 packet 8" ∷ codes "delivered sent 9" ∷ codes "delivered learned 0" ∷
-    codes "refused G8 agent 1 seq 2" ∷ codes "delivered" ∷ codes "exported period 0 lines 3" ∷ head ∷ row_1 ∷
+    codes "refused G8 agent 1 seq 2" ∷ codes "delivered" ∷ codes "exported period 0 lines 3" ∷ header_line ∷ row_1 ∷
     codes "0.08,A-100,Payer,USD,2025-02-01T00:00:00Z,2025-01-01T00:00:00Z,Usage,,Virtual CPU time,Usage-Based,2025-01-10T02:00:00Z,2025-01-10T00:00:00Z,,,,,3600,Seconds,0.08,0.08,0.08,Sample Cloud Ltd,0.1,0.1,Standard,1,Hours,Sample Cloud,Sample Cloud,vm-1,Compute,Sample Compute,cpu,cpu-od,acc-7,\"{\"\"env\"\":\"\"prod\"\"}\"" ∷
-    codes "exported period 0 lines 3" ∷ head ∷ row_1 ∷
+    codes "exported period 0 lines 3" ∷ header_line ∷ row_1 ∷
     codes "0.08,A-100,Payer,USD,2025-02-01T00:00:00Z,2025-01-01T00:00:00Z,Usage,,Virtual CPU time,Usage-Based,2025-01-10T02:00:00Z,2025-01-10T00:00:00Z,,,,,3600,Seconds,0.08,0.08,0.08,Sample Cloud Ltd,0.1,0.1,Standard,1,Hours,Sample Cloud,Sample Cloud,vm-1,Compute,Sample Compute,cpu,cpu-od,acc-7,\"{\"\"env\"\":\"\"prod\"\"}\"" ∷
     [])
 unfolding days_from_civil day_count days_of_years days_of_months worth_of decimals_of digits
@@ -261,7 +261,7 @@ one_node_text = refl
 
 one_node_transcript : transcript_of sheet_0 issuer_1 one_node ≡
     lines_text (codes "started ballot 1 packet 0" ∷ codes "delivered sent 1" ∷ codes "delivered sent 2" ∷
-    codes "delivered sent 3" ∷ codes "delivered learned 0" ∷ codes "exported period 0 lines 1" ∷ head ∷ [])
+    codes "delivered sent 3" ∷ codes "delivered learned 0" ∷ codes "exported period 0 lines 1" ∷ header_line ∷ [])
 unfolding days_from_civil day_count days_of_years days_of_months worth_of decimals_of digits
 one_node_transcript = refl
 

@@ -8,7 +8,7 @@ use Rattle.metering_model.specs.Sheet.{Sheet}
 use Rattle.metering_model.specs.Holding.{Holding, put}
 use Rattle.metering_model.specs.Row.{Row}
 use Rattle.metering_model.specs.Rows.{rows}
-use Rattle.metering_model.specs.File.{head, file}
+use Rattle.metering_model.specs.File.{header_line, file}
 use Rattle.metering_model.specs.Front.{front}
 use Rattle.metering_model.specs.Schedule.{TextLines, lines_text}
 use Rattle.metering_model.proofs.Samples.{january_2025, sheet_0, sheet_1, empty_sheet, issuer_1, reading_1, row_1}
@@ -29,7 +29,7 @@ flat_batch = codes "B1|1|1|3" ∷ codes "C|2025-01-31T00:00:00Z|2025-02-01T00:00
     codes "A|2025-01-31T00:00:00Z|2025-02-01T00:00:00Z|acc-7||Goodwill, May|-0.025||note=say \"hi\"" ∷ []
 
 first_run : file (rows_between empty_sheet (with_batch [] (lines_text flat_batch)) 0 0 1) ≡ lines_text (
-    head ∷
+    header_line ∷
     codes "-2.5,A-100,Payer,USD,2025-02-01T00:00:00Z,2025-01-01T00:00:00Z,Credit,,Launch credit,One-Time,2025-02-01T00:00:00Z,2025-01-31T00:00:00Z,,,,,,,-2.5,,-2.5,Sample Cloud Ltd,-2.5,,,,,Sample Cloud,Sample Cloud,,Other,Billing,,,acc-7,{}" ∷
     codes "0.475,A-100,Payer,USD,2025-02-01T00:00:00Z,2025-01-01T00:00:00Z,Tax,,VAT,One-Time,2025-02-01T00:00:00Z,2025-01-31T00:00:00Z,,,,,,,0.475,,0.475,Sample Cloud Ltd,0.475,,,,,Sample Cloud,Sample Cloud,,Other,Billing,,,acc-7,{}" ∷
     codes "-0.025,A-100,Payer,USD,2025-02-01T00:00:00Z,2025-01-01T00:00:00Z,Adjustment,,\"Goodwill, May\",One-Time,2025-02-01T00:00:00Z,2025-01-31T00:00:00Z,,,,,,,-0.025,,-0.025,Sample Cloud Ltd,-0.025,,,,,Sample Cloud,Sample Cloud,,Other,Billing,,,acc-7,\"{\"\"note\"\":\"\"say \\\"\"hi\\\"\"\"\"}\"" ∷
@@ -53,7 +53,7 @@ amended = with_batch batch_1 (lines_text (codes "B1|1|2|1" ∷ codes "X|1|0|7200
 abbrev amended_back : Holding
 amended_back = with_batch amended (lines_text (codes "B1|1|3|1" ∷ codes "X|1|0|5400" ∷ []))
 
-usage : file (rows_between sheet_0 batch_1 0 0 1) ≡ lines_text (head ∷ row_1 ∷ [])
+usage : file (rows_between sheet_0 batch_1 0 0 1) ≡ lines_text (header_line ∷ row_1 ∷ [])
 unfolding days_from_civil day_count days_of_years days_of_months worth_of decimals_of digits
 usage = refl
 
@@ -71,14 +71,14 @@ amendment_inside_one_period : map charges (rows_between sheet_0 amended 0 0 2)
 unfolding days_from_civil day_count days_of_years days_of_months worth_of decimals_of digits
 amendment_inside_one_period = refl
 
-there_and_back : file (rows_between sheet_0 amended_back 1 1 3) ≡ lines_text (head ∷ [])
+there_and_back : file (rows_between sheet_0 amended_back 1 1 3) ≡ lines_text (header_line ∷ [])
 unfolding days_from_civil day_count days_of_years days_of_months worth_of decimals_of digits
 there_and_back = refl
 
 -- ---- commitments
 
 under_a_commitment : file (rows_between sheet_1 (with_batch [] (lines_text (codes "B1|1|1|1" ∷ codes "U|2025-01-10T00:00:00Z|2025-01-10T02:00:00Z|acc-7|vm-1|cpu|5400|cm-1|env=prod" ∷ []))) 0 0 1) ≡ lines_text (
-    head ∷
+    header_line ∷
     codes "0,A-100,Payer,USD,2025-02-01T00:00:00Z,2025-01-01T00:00:00Z,Usage,,Virtual CPU time,Usage-Based,2025-01-10T02:00:00Z,2025-01-10T00:00:00Z,Usage,cm-1,Used,Reserved,5400,Seconds,0.12,0.08,0.075,Sample Cloud Ltd,0.15,0.1,Committed,1.5,Hours,Sample Cloud,Sample Cloud,vm-1,Compute,Sample Compute,cpu,cpu-od,acc-7,\"{\"\"env\"\":\"\"prod\"\"}\"" ∷
     [])
 unfolding days_from_civil day_count days_of_years days_of_months worth_of decimals_of digits

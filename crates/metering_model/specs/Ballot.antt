@@ -52,7 +52,7 @@ after_prepare ballot a = record a { promised = Some ballot }
 abbrev pub after_accept : Vote → Acceptor → Acceptor
 after_accept v a = record { promised = Some v.ballot; vote = Some v }
 
--- a proposer's attempt at one ballot: who promised, the vote of the greatest ballot told, whether its value is sent
+-- what a proposer knows at one ballot: who promised, the best vote told, whether its cut has gone out
 pub record Attempt : Type 0 where
   pub ballot : ℕ
   pub promising : Nodes

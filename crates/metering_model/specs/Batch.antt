@@ -44,8 +44,6 @@ is_priced Credit = false
 is_priced Tax = false
 is_priced Adjustment = false
 
--- ---- the text of a batch, joined from its parts
-
 abbrev pub kind_text : Kind → List ℕ
 kind_text Usage = codes "U"
 kind_text Purchase = codes "P"
@@ -72,10 +70,9 @@ head_fields b = codes "B1" ∷ decimal b.agent ∷ decimal b.seq ∷ decimal (le
 abbrev pub line_of_fields : List (List ℕ) → List ℕ
 line_of_fields fs = join_with_byte 124 fs ++ 10 ∷ []
 
+-- the text of a batch, joined from its parts
 abbrev pub batch_text : Batch → List ℕ
 batch_text b = line_of_fields (head_fields b) ++ flat_map (λ r. line_of_fields (record_fields r)) b.records
-
--- ---- the rule of each field
 
 -- bytes 0x20 to 0x7E
 abbrev pub is_text_byte : ℕ → Bool
@@ -137,3 +134,7 @@ pub record IsBatch (text : List ℕ) (b : Batch) : Type 0 where
   pub seq : (1 ≤ b.seq) × (b.seq ≤ 1_000_000)
   pub count : length b.records ≤ 1_000
   pub records : All IsRecord b.records
+
+-- some text is that of the batch
+abbrev pub IsWellFormed : Batch → Type 0
+IsWellFormed b = IsBatch (batch_text b) b

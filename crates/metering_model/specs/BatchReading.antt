@@ -5,7 +5,7 @@ use Rattle.std.specs.List.{list_any, slice_split, before_first, after_first}
 pub use Rattle.metering_model.specs.declared.BatchCode.{BatchCode}
 pub use Rattle.metering_model.specs.declared.BatchCode.TheVariants.{Head, Count, Fields, Time, Number, Text, Tags, TooLong}
 pub use Rattle.metering_model.specs.declared.BatchFault.{BatchFault}
-use Rattle.metering_model.specs.Steps.{◌>>=◌, holds_or}
+use Rattle.metering_model.specs.FirstFailure.{◌>>=◌, holds_or}
 use Rattle.metering_model.specs.NumberText.{is_whole_part, number_of, value_in}
 use Rattle.metering_model.specs.Dates.{stamp_in}
 use Rattle.metering_model.specs.Batch.{Kind, Usage, Purchase, Credit, Tax, Adjustment, Tag, Record, Reads, Amends, Batch, is_priced, is_text, is_empty, keys_rise}
@@ -28,8 +28,7 @@ kind_in t =
 abbrev pub whole_in : ℕ → ℕ → List ℕ → Option ℕ
 whole_in low high t = if is_whole_part t && nat_le low (number_of t) && nat_le (number_of t) high then Some (number_of t) else None
 
--- ---- tags
-
+-- tags
 abbrev pub is_equals_sign : ℕ → Bool
 is_equals_sign c = c == 61
 
@@ -58,8 +57,7 @@ abbrev pub tags_in : List ℕ → Option (List Tag)
 tags_in [] = Some []
 tags_in (c ∷ cs) = if_rising (all_some (map tag_in (slice_split (λ x. x == 59) (c ∷ cs))))
 
--- ---- one line
-
+-- one line
 abbrev pub fields_in : List ℕ → List (List ℕ)
 fields_in line = slice_split (λ c. c == 124) line
 
@@ -113,8 +111,7 @@ head_in (version ∷ agent ∷ seq ∷ count ∷ []) = do
   Ok (record { agent = a; seq = s; count = n })
 head_in _ = Err Head
 
--- ---- the whole text
-
+-- the whole text
 abbrev pub at_line : {A : Type 0} → ℕ → Result A BatchCode → Result A BatchFault
 at_line line (Ok x) = Ok x
 at_line line (Err c) = Err (record { code = c; line = line })

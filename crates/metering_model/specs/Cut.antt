@@ -1,5 +1,5 @@
 -- Cuts: how far each agent's batches are charged, and cuts that grow.
-use Rattle.std.specs.Prelude.{ℕ, zero, suc, ◌≤◌, List, [], ◌∷◌, replicate, slice_index}
+use Rattle.std.specs.Prelude.{◌≡◌, ℕ, zero, suc, ◌≤◌, List, [], ◌∷◌, length, All, replicate, slice_index}
 use Rattle.std.specs.List.{AllZip}
 
 -- one last sequence for each agent, agent 1 first; 0 means none
@@ -9,19 +9,24 @@ Cut = List ℕ
 abbrev pub zero_cut : ℕ → Cut
 zero_cut agents = replicate agents 0
 
--- agents are numbered from 1
+-- agents count from 1, so agent 0 has no entry
 abbrev pub last_of : Cut → ℕ → ℕ
 last_of cut zero = 0
 last_of cut (suc a) = slice_index cut a
 
--- the new cut is for each agent at least the old one
+-- a cut of so many agents, with sequences that there are
+pub record IsCut (agents : ℕ) (cut : Cut) : Type 0 where
+  pub entries : length cut ≡ agents
+  pub sequences : All (λ s. s ≤ 1_000_000) cut
+
+-- the cut is at or above the other for every agent
 abbrev pub IsAtLeast : Cut → Cut → Type 0
-IsAtLeast old new = AllZip (λ a b. a ≤ b) old new
+IsAtLeast cut other = AllZip (λ a b. a ≤ b) other cut
 
 abbrev pub GrowsFrom : Cut → List Cut → Type 0
 GrowsFrom before [] = Unit {0}
-GrowsFrom before (cut ∷ cuts) = IsAtLeast before cut × GrowsFrom cut cuts
+GrowsFrom before (cut ∷ cuts) = IsAtLeast cut before × GrowsFrom cut cuts
 
--- the cuts of periods 0, 1 and so on, each at least the one before it, and the first at least the zero cut
+-- the cuts of periods 0, 1 and so on: the first grows from zero, and each from the one before it
 abbrev pub IsGrowing : ℕ → List Cut → Type 0
 IsGrowing agents cuts = GrowsFrom (zero_cut agents) cuts

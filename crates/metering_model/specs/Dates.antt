@@ -7,8 +7,6 @@ use Rattle.std.specs.Int.{int_div_euclid}
 use Rattle.jiff_core.specs.Calendar.{days_from_civil, days_in_month}
 use Rattle.metering_model.specs.NumberText.{is_digit, number_of}
 
--- ---- texts joined from their parts
-
 -- a number below 100 in two digits, and one below 10,000 in four
 abbrev pub two_digits : ℕ → List ℕ
 two_digits n = (48 + n / 10 % 10) ∷ (48 + n % 10) ∷ []
@@ -48,7 +46,7 @@ pub record IsDayText (text : List ℕ) (n : ℤ) : Type 0 where
   pub joined : text ≡ day_text year month day
   pub number : n ≡ days_from_civil (pos year) month day
 
--- A stamp is 86,400 times the day number of its date and the second of the day.
+-- The text is that of a moment, and n counts the seconds to it from the start of 1970-01-01.
 pub record IsStampText (text : List ℕ) (n : ℤ) : Type 0 where
   pub date : List ℕ
   pub day : ℤ
@@ -59,8 +57,6 @@ pub record IsStampText (text : List ℕ) (n : ℤ) : Type 0 where
   pub time_in : (hour < 24) × (minute < 60) × (second < 60)
   pub joined : text ≡ stamp_text date (time_text hour minute second)
   pub number : n ≡ (day *ℤ pos 86_400) +ℤ pos (3600 * hour + 60 * minute + second)
-
--- ---- the same, computed: the number that a text has, if it has one
 
 -- the number that so many digits write from a place on
 abbrev pub number_at : List ℕ → ℕ → ℕ → ℕ
@@ -123,7 +119,12 @@ stamp_of None second = None
 abbrev pub stamp_in : List ℕ → Option ℤ
 stamp_in t = if has_stamp_form t then stamp_of (day_in (take 10 t)) (second_in (slice_range t 11 19)) else None
 
--- ---- billing periods
+-- a base month lies from 2000-01 to 2100-12
+abbrev pub IsBaseMonth : ℕ → Type 0
+IsBaseMonth m = (24_000 ≤ m) × (m ≤ 25_211)
+
+abbrev pub IsPeriod : ℕ → Type 0
+IsPeriod p = p < 1_200
 
 -- the day of a stamp
 abbrev pub day_of : ℤ → ℤ
@@ -136,7 +137,7 @@ month_start m = days_from_civil (pos (year_of m)) (month_of_year m) 1 *ℤ pos 8
 abbrev pub month_start_text : ℕ → List ℕ
 month_start_text m = stamp_text (day_text (year_of m) (month_of_year m) 1) (time_text 0 0 0)
 
--- Billing period p is the calendar month p months after the base month. FOCUS: its start is in it, its end is not.
+-- Period p bills the month that comes p months after the base. FOCUS: the start is inclusive, the end exclusive.
 abbrev pub period_start : ℕ → ℕ → ℤ
 period_start base p = month_start (base + p)
 

@@ -1,5 +1,5 @@
 -- What a node does with a packet that is delivered to it.
-use Rattle.std.specs.Prelude.{ℕ, Bool, true, not, ◌&&◌, ◌==◌, if◌then◌else◌, [], ◌∷◌, ◌++◌, Option, Some, None, slice_get}
+use Rattle.std.specs.Prelude.{ℕ, true, not, ◌&&◌, ◌==◌, if◌then◌else◌, [], ◌∷◌, ◌++◌, Option, Some, None, slice_get}
 use Rattle.metering_model.specs.Cut.{Cut}
 use Rattle.metering_model.specs.Holding.{put}
 use Rattle.metering_model.specs.Front.{front}
@@ -43,24 +43,17 @@ abbrev pub proposal : World → Node → Option Vote → Cut
 proposal w n (Some v) = v.cut
 proposal w n None = front w.sheet.base n.kept.holding (last_cut w.agents n.kept.learned) (current_period n)
 
-abbrev pub with_attempt : Attempt → Node → Node
-with_attempt a n = record n { attempt = Some a }
-
 abbrev pub after_promise : World → Node → ℕ → ℕ → Attempt → Handled
 after_promise w n period ballot a =
     if has_majority (node_count w) a.promising
-    then sending (Accept period ballot (proposal w n a.told)) (with_attempt (record a { sent = true }) n)
-    else silent (with_attempt a n)
-
--- the attempt waits for promises of this ballot
-abbrev pub is_waiting : ℕ → Attempt → Bool
-is_waiting ballot a = (a.ballot == ballot) && not a.sent
+    then sending (Accept period ballot (proposal w n a.told)) (record n { attempt = Some (record a { sent = true }) })
+    else silent (record n { attempt = Some a })
 
 abbrev pub on_promise : World → Node → ℕ → ℕ → ℕ → Option Vote → Handled
 on_promise w n from period ballot vote = elim n.attempt [
   | None ↦ silent n
   | Some a ↦
-      if (period == current_period n) && is_waiting ballot a then after_promise w n period ballot (with_promise from vote a) else silent n
+      if (period == current_period n) && (a.ballot == ballot) && not a.sent then after_promise w n period ballot (with_promise from vote a) else silent n
 ]
 
 abbrev pub on_accept : ℕ → Node → ℕ → ℕ → Cut → Handled

@@ -1,11 +1,11 @@
 -- How far a holding can be closed for a billing period.
-use Rattle.std.specs.Prelude.{ℕ, ◌+◌, ◌-◌, Bool, true, false, ◌==◌, List, length, map, filter, fold, max, ℤ, int_lt}
+use Rattle.std.specs.Prelude.{ℕ, ◌+◌, ◌-◌, Bool, true, false, length, map, filter, fold, max, ℤ, int_lt}
 use Rattle.std.specs.List.{list_all, range_with_len}
 use Rattle.std.specs.Option.{option_map_or}
 use Rattle.metering_model.specs.Batch.{Batch, Record, Reads, Amends}
 use Rattle.metering_model.specs.Dates.{period_end}
 use Rattle.metering_model.specs.Cut.{Cut, last_of}
-use Rattle.metering_model.specs.Holding.{Holding, held}
+use Rattle.metering_model.specs.Holding.{Holding, held, sequences_of}
 
 abbrev pub starts_before : ℤ → Record → Bool
 starts_before moment (Reads r) = int_lt r.start moment
@@ -19,9 +19,6 @@ is_due base period b = list_all (starts_before (period_end base period)) b.recor
 abbrev pub can_close : ℕ → ℕ → Holding → ℕ → ℕ → ℕ → Bool
 can_close base period h agent after upto =
     list_all (λ s. option_map_or (is_due base period) (held h agent s) false) (range_with_len (after + 1) (upto - after))
-
-abbrev pub sequences_of : ℕ → Holding → List ℕ
-sequences_of agent h = map (λ b. b.seq) (filter (λ b. b.agent == agent) h)
 
 -- the greatest such sequence, or the cut's own where there is none above it
 abbrev pub front_of : ℕ → ℕ → Holding → ℕ → ℕ → ℕ

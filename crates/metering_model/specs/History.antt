@@ -9,7 +9,7 @@ pub record Entry : Type 0 where
   pub event : Event
   pub reply : Reply
 
--- the events, taken one after the other from the opening world, give just these replies, and reach this world
+-- playing the history's events from the opening world gives the history's replies, and leads to the world reached
 pub record IsLegal (opening : World) (history : List Entry) (reached : World) : Type 0 where
   pub replies : (play opening (map (λ e. e.event) history)).0 ≡ map (λ e. e.reply) history
   pub world : (play opening (map (λ e. e.event) history)).1 ≡ reached

@@ -1,11 +1,11 @@
 -- Holdings: which batches a node or the journals have, and the order of their records.
-use Rattle.std.specs.Prelude.{◌≡◌, ◌≤◌, ℕ, Bool, true, ◌&&◌, ◌||◌, ◌==◌, nat_lt, nat_le, if◌then◌else◌, List, [], ◌∷◌, map, find, filter, IsTrue, Option, Some, None, slice_get}
+use Rattle.std.specs.Prelude.{◌≡◌, ◌≤◌, ℕ, Bool, true, ◌&&◌, ◌||◌, ◌==◌, nat_lt, nat_le, if◌then◌else◌, List, [], ◌∷◌, map, find, filter, All, IsTrue, Option, Some, None, slice_get}
 use Rattle.std.specs.List.{flat_map, enumerate_from}
-use Rattle.std.specs.Option.{option_and_then, is_some}
-use Rattle.metering_model.specs.Batch.{Batch, Record, Reading, Reads, Amends}
+use Rattle.std.specs.Option.{option_and_then}
+use Rattle.metering_model.specs.Batch.{Batch, IsWellFormed, Record, Reading, Reads, Amends}
 use Rattle.metering_model.specs.Cut.{Cut, last_of}
 
--- A holding is a finite map from agent and sequence to batches: the batches that it has, in their order.
+-- A map from agent and sequence to batches, as the list of the batches that it has.
 abbrev pub Holding : Type 0
 Holding = List Batch
 
@@ -18,9 +18,10 @@ is_in_order [] = true
 is_in_order (b ∷ []) = true
 is_in_order (b ∷ c ∷ h) = comes_before b c && is_in_order (c ∷ h)
 
--- Each batch comes before the next, so no agent has two of one sequence.
+-- Each batch comes before the next, so no agent has two of one sequence; and each is one that a text may be.
 pub record IsHolding (h : Holding) : Type 0 where
   pub in_order : IsTrue (is_in_order h)
+  pub batches : All IsWellFormed h
 
 abbrev pub is_batch_at : ℕ → ℕ → Batch → Bool
 is_batch_at agent seq b = (b.agent == agent) && (b.seq == seq)
@@ -28,8 +29,8 @@ is_batch_at agent seq b = (b.agent == agent) && (b.seq == seq)
 abbrev pub held : Holding → ℕ → ℕ → Option Batch
 held h agent seq = find (is_batch_at agent seq) h
 
-abbrev pub is_held : Holding → ℕ → ℕ → Bool
-is_held h agent seq = is_some (held h agent seq)
+abbrev pub sequences_of : ℕ → Holding → List ℕ
+sequences_of agent h = map (λ b. b.seq) (filter (λ b. b.agent == agent) h)
 
 -- the holding with the batch too, or as it is where it has one of that agent and sequence
 abbrev pub put : Holding → Batch → Holding
@@ -44,8 +45,6 @@ up_to cut h = filter (λ b. nat_le b.seq (last_of cut b.agent)) h
 pub record AgreeUpTo (cut : Cut) (h k : Holding) : Type 0 where
   pub same : (agent seq : ℕ) → seq ≤ last_of cut agent → held h agent seq ≡ held k agent seq
 
--- ---- the order of records
-
 -- where a record stands; indexes count from 0, amendments too
 pub record Position : Type 0 where
   pub agent : ℕ
@@ -59,9 +58,9 @@ pub record Placed : Type 0 where
 abbrev pub placed : Batch → List Placed
 placed b = map (λ e. record { place = record { agent = b.agent; seq = b.seq; index = e.0 }; what = e.1 }) (enumerate_from 0 b.records)
 
--- the records in journal order: by agent, then sequence, then index
-abbrev pub journal : Holding → List Placed
-journal h = flat_map placed h
+-- the records by agent, then by sequence, then by index
+abbrev pub records_in_order : Holding → List Placed
+records_in_order h = flat_map placed h
 
 abbrev pub is_same_place : Position → Position → Bool
 is_same_place p q = (p.agent == q.agent) && (p.seq == q.seq) && (p.index == q.index)

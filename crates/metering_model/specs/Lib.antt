@@ -1,6 +1,6 @@
 pub mod NumberText
 pub mod Dates
-pub mod Steps
+pub mod FirstFailure
 pub mod Batch
 pub mod BatchReading
 pub mod Cut

@@ -12,7 +12,7 @@ is_digit c = nat_le 48 c && nat_le c 57
 abbrev pub is_point : ℕ → Bool
 is_point c = c == 46
 
--- `0`, or digits that do not begin with 0
+-- one digit, or several of which the first is not 0
 abbrev pub is_whole_part : List ℕ → Bool
 is_whole_part [] = false
 is_whole_part (c ∷ []) = is_digit c
@@ -50,7 +50,7 @@ abbrev pub signed : Bool → ℕ → ℤ
 signed true n = neg_ℤ (pos n)
 signed false n = pos n
 
--- The text is an optional minus, a whole part and optional decimals, and n is what they say.
+-- The text joins a sign, a whole part and decimals, each in its form, and n is the number that they say.
 pub record Spells (places : ℕ) (text : List ℕ) (n : ℤ) : Type 0 where
   pub minus : Bool
   pub whole : List ℕ
@@ -61,8 +61,7 @@ pub record Spells (places : ℕ) (text : List ℕ) (n : ℤ) : Type 0 where
   pub no_minus_zero : minus ≡ true → 0 < units_of places whole decimals
   pub number : n ≡ signed minus (units_of places whole decimals)
 
--- ---- the same, computed: the number that the text spells, if it spells one
-
+-- the same, computed: the number that the text spells, if it spells one
 abbrev pub is_unsigned : ℕ → List ℕ → Bool
 is_unsigned places body =
     is_whole_part (before_first is_point body) && is_decimal_part places (after_first is_point body) && not (ends_in 46 body)
@@ -77,14 +76,12 @@ negated None = None
 negated (Some zero) = None
 negated (Some (suc n)) = Some (negsuc n)
 
-abbrev pub positive : Option ℕ → Option ℤ
-positive None = None
-positive (Some n) = Some (pos n)
+abbrev pub not_negated : Option ℕ → Option ℤ
+not_negated None = None
+not_negated (Some n) = Some (pos n)
 
 abbrev pub number_in : ℕ → List ℕ → Option ℤ
-number_in places t = if slice_index t 0 == 45 then negated (magnitude_in places (drop 1 t)) else positive (magnitude_in places t)
-
--- ---- the other way: the text of a number
+number_in places t = if slice_index t 0 == 45 then negated (magnitude_in places (drop 1 t)) else not_negated (magnitude_in places t)
 
 -- the decimals of a rest below 10^places: as many as it takes
 unfoldable pub decimals_of : ℕ → ℕ → List ℕ
@@ -96,8 +93,6 @@ abbrev pub spelling : ℕ → ℤ → List ℕ
 spelling places n =
     sign_text (is_negative n) ++ decimal (unsigned_abs n / 10 ^ places)
     ++ point_text (decimals_of places (unsigned_abs n % 10 ^ places))
-
--- ---- what reading answers: a text of another form is told before a number beyond its limits
 
 -- the magnitude of a value, of a difference and of a cost, and a price, lies below its limit
 abbrev pub value_limit : ℕ

@@ -12,7 +12,7 @@ abbrev pub latest : List PriceRow → Option PriceRow
 latest [] = None
 latest (r ∷ rs) = later_of r (latest rs)
 
--- among the rows of the SKU whose `from` is not after the day, the one with the latest `from`
+-- of the SKU's prices that have begun on the day, the one that began last
 abbrev pub price_in_force : Sheet → List ℕ → ℤ → Option PriceRow
 price_in_force sheet sku day = latest (filter (λ r. is_same r.sku sku && int_le r.from day) sheet.prices)
 

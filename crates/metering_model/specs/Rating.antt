@@ -1,5 +1,5 @@
--- Quantities and costs of a charge. FOCUS: ListCost is ListUnitPrice times PricingQuantity, and ContractedCost is
--- ContractedUnitPrice times PricingQuantity. Quantities are in millionths, costs in units of 10^-12.
+-- Quantities and costs of a charge. By FOCUS, the list and the contracted cost are unit price times pricing quantity.
+-- Quantities are in millionths, costs in units of 10^-12.
 use Rattle.std.specs.Prelude.{◌≡◌, ℕ, suc, ◌+◌, ◌*◌, ◌/◌, ◌%◌, ◌≤◌, nat_lt, if◌then◌else◌, Option, Some, None, ℤ, pos, negsuc, neg_ℤ, ◌-ℤ◌, ◌*ℤ◌, unsigned_abs}
 use Rattle.std.specs.Option.{is_some}
 pub use Rattle.metering_model.specs.declared.PricedKind.{PricedKind}
@@ -39,33 +39,21 @@ pub record Rated : Type 0 where
 abbrev pub cost_at : ℕ → ℤ → ℤ
 cost_at price quantity = pos price *ℤ quantity
 
--- Usage under a commitment is billed by the commitment's purchase, and counts at the commitment's rate.
--- A purchase that buys a commitment counts where its usage does.
+-- Usage under a commitment is billed when the commitment is bought: its effective cost is at the commitment's rate.
+-- So the purchase that buys a commitment has no effective cost of its own.
 abbrev pub costs : PriceRow → Option Commitment → PricedKind → ℤ → ℤ → Rated
-costs row None Usage consumed quantity = record {
-  consumed = Some consumed;
-  priced = Some quantity;
-  list = cost_at row.list quantity;
-  contracted = cost_at row.contracted quantity;
-  billed = cost_at row.contracted quantity;
-  effective = cost_at row.contracted quantity;
-}
-costs row (Some c) Usage consumed quantity = record {
-  consumed = Some consumed;
-  priced = Some quantity;
-  list = cost_at row.list quantity;
-  contracted = cost_at row.contracted quantity;
-  billed = pos 0;
-  effective = cost_at c.rate quantity;
-}
-costs row c Purchase consumed quantity = record {
-  consumed = None;
-  priced = Some quantity;
-  list = cost_at row.list quantity;
-  contracted = cost_at row.contracted quantity;
-  billed = cost_at row.contracted quantity;
-  effective = if is_some c then pos 0 else cost_at row.contracted quantity;
-}
+costs row None Usage consumed quantity =
+    let list = cost_at row.list quantity in
+    let cost = cost_at row.contracted quantity in
+    record { consumed = Some consumed; priced = Some quantity; list = list; contracted = cost; billed = cost; effective = cost }
+costs row (Some c) Usage consumed quantity =
+    let list = cost_at row.list quantity in
+    let cost = cost_at row.contracted quantity in
+    record { consumed = Some consumed; priced = Some quantity; list = list; contracted = cost; billed = pos 0; effective = cost_at c.rate quantity }
+costs row c Purchase consumed quantity =
+    let list = cost_at row.list quantity in
+    let cost = cost_at row.contracted quantity in
+    record { consumed = None; priced = Some quantity; list = list; contracted = cost; billed = cost; effective = if is_some c then pos 0 else cost }
 
 -- what a charge by a price is, from an old value of its reading to a new one: the two are rounded, not their difference
 abbrev pub rated : PriceRow → Option Commitment → PricedKind → ℤ → ℤ → Rated

@@ -77,7 +77,7 @@ or_null (c ∷ cs) = Some (c ∷ cs)
 abbrev pub priced_kind : Kind → Option PricedKind
 priced_kind kind = by_kind kind (Some PricedUsage) (Some PricedPurchase) None
 
--- the price in force for a reading on the day of its start, and the commitment that it names; both of a priced kind alone
+-- The price in force on the day that a reading starts, and the commitment that it names. Only a priced kind has either.
 abbrev pub price_of : Sheet → Reading → Option PriceRow
 price_of sheet r = if is_priced r.kind then price_in_force sheet r.key (day_of r.start) else None
 

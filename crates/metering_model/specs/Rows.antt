@@ -4,7 +4,7 @@ use Rattle.std.specs.List.{filter_map}
 use Rattle.metering_model.specs.Batch.{Reading, Record, Reads, Amends}
 use Rattle.metering_model.specs.Sheet.{Sheet, Issuer}
 use Rattle.metering_model.specs.Cut.{Cut, last_of}
-use Rattle.metering_model.specs.Holding.{Holding, Position, Placed, journal, up_to}
+use Rattle.metering_model.specs.Holding.{Holding, Position, Placed, records_in_order, up_to}
 use Rattle.metering_model.specs.ValueAtSequence.{value_at}
 use Rattle.metering_model.specs.Row.{Row, row, New, Correction}
 
@@ -34,7 +34,7 @@ placed_row sheet issuer h period from to x =
 
 -- a filter over all records up to the cut `to`, in journal order
 abbrev pub placed_rows : Sheet → Issuer → Holding → ℕ → Cut → Cut → List PlacedRow
-placed_rows sheet issuer h period from to = filter_map (placed_row sheet issuer h period from to) (journal (up_to to h))
+placed_rows sheet issuer h period from to = filter_map (placed_row sheet issuer h period from to) (records_in_order (up_to to h))
 
 abbrev pub rows : Sheet → Issuer → Holding → ℕ → Cut → Cut → List Row
 rows sheet issuer h period from to = map (λ x. x.row) (placed_rows sheet issuer h period from to)

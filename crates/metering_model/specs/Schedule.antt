@@ -1,9 +1,9 @@
--- Schedules: which text is a schedule of which group and events.
+-- Schedules as texts: a group, its sheet and its issuer as lines, and events.
 use Rattle.std.specs.Prelude.{◌≡◌, ℕ, ◌≤◌, List, ◌++◌, length, map, All, codes, IsTrue}
 use Rattle.std.specs.List.{flat_map, list_all}
 use Rattle.metering_model.specs.Batch.{lacks}
 use Rattle.metering_model.specs.Sheet.{Sheet, Issuer}
-use Rattle.metering_model.specs.World.{Good, Event, Journal, Deliver, Start, Restart, Export, opening}
+use Rattle.metering_model.specs.World.{offer_of, Event, Journal, Deliver, Start, Restart, Export, opening}
 use Rattle.metering_model.specs.Step.{play}
 use Rattle.metering_model.specs.Transcript.{line, with_number, transcript}
 
@@ -29,8 +29,6 @@ pub record Schedule : Type 0 where
   pub issuer : TextLines
   pub events : List Planned
 
--- ---- the text, joined from its parts
-
 -- a line that says how many lines follow, and these lines
 abbrev pub section_text : List ℕ → TextLines → List ℕ
 section_text word ls = line (with_number word (length ls)) ++ lines_text ls
@@ -47,8 +45,6 @@ schedule_text s =
     line (codes "SCHEDULE 1") ++ line (with_number (codes "nodes ") s.nodes) ++ line (with_number (codes "agents ") s.agents)
     ++ section_text (codes "sheet ") s.sheet ++ section_text (codes "issuer ") s.issuer ++ flat_map planned_text s.events
 
--- ---- the limits
-
 -- so many lines, of which none holds a line feed
 pub record AreLines (most : ℕ) (ls : TextLines) : Type 0 where
   pub some : 1 ≤ length ls
@@ -62,8 +58,8 @@ IsPlanned (PlansStart i) = i ≤ 98
 IsPlanned (PlansRestart i) = i ≤ 98
 IsPlanned (PlansExport i p) = (i ≤ 98) × (p ≤ 1_199)
 
--- The text is that of the schedule, and each of its parts is within its limits.
-pub record IsSchedule (text : List ℕ) (s : Schedule) : Type 0 where
+-- The text joins the parts of the schedule, each within its limits. Whether its sheet and issuer can be read is not said.
+pub record HasScheduleForm (text : List ℕ) (s : Schedule) : Type 0 where
   pub joined : text ≡ schedule_text s
   pub short : length text ≤ 16_777_216
   pub nodes : (1 ≤ s.nodes) × (s.nodes ≤ 99)
@@ -72,10 +68,9 @@ pub record IsSchedule (text : List ℕ) (s : Schedule) : Type 0 where
   pub issuer : AreLines 100 s.issuer
   pub events : All IsPlanned s.events
 
--- ---- what it plays
-
+-- what it plays
 abbrev pub event_of : Planned → Event
-event_of (PlansJournal ls) = Journal (Good (lines_text ls))
+event_of (PlansJournal ls) = Journal (offer_of (lines_text ls))
 event_of (PlansDelivery k i) = Deliver k i
 event_of (PlansStart i) = Start i
 event_of (PlansRestart i) = Restart i

@@ -19,7 +19,7 @@ pub record PriceRow : Type 0 where
   pub list : ℕ
   pub contracted : ℕ
 
--- A discount on the usage of a SKU, bought as another SKU.
+-- A discount on the usage of a SKU. It is bought as the SKU `buy`.
 pub record Commitment : Type 0 where
   pub id : List ℕ
   pub sku : List ℕ

@@ -1,12 +1,14 @@
 -- What one event does to the world, and what it is answered. A refused event changes nothing.
 use Rattle.std.specs.Prelude.{ℕ, zero, suc, ◌+◌, ◌==◌, nat_lt, nat_le, if◌then◌else◌, List, [], ◌∷◌, Option, Some, None, Result, Ok, Err, ok_or, unwrap_or, slice_get}
 use Rattle.std.specs.List.{range_with_len}
-use Rattle.metering_model.specs.Steps.{◌>>=◌, holds_or}
+use Rattle.std.specs.Option.{is_some}
+use Rattle.metering_model.specs.FirstFailure.{◌>>=◌, holds_or}
 use Rattle.metering_model.specs.Batch.{Batch}
 use Rattle.metering_model.specs.BatchReading.{BatchFault, batch_in}
 use Rattle.metering_model.specs.Cut.{Cut, zero_cut}
-use Rattle.metering_model.specs.Holding.{Holding, placed, is_held, put, up_to}
-use Rattle.metering_model.specs.JournalRules.{BrokenRule, NoTarget, NoPrice, next_seq, first_broken}
+use Rattle.metering_model.specs.Holding.{Holding, placed, held, put, up_to}
+use Rattle.metering_model.specs.JournalRules.{BrokenRule, next_seq, first_broken}
+use Rattle.metering_model.specs.declared.BrokenRule.TheVariants.{BadTarget as BreaksTarget, Unpriced as BreaksPrice}
 use Rattle.metering_model.specs.Ballot.{ballot_of, new_attempt}
 use Rattle.metering_model.specs.World.{CarriesBatch, Prepare, Node, World, Offer, Good, Bad, Event, Journal, Deliver, Start, Restart, Export, Snapshot, Reply, Journaled, Delivered, Started, Restarted, Exported, Refused, Refusal, BadBatch, WrongSeq, BadTarget, Unpriced, NoPacket, NoNode, NotClosed, Missing, AllClosed, NoBallot, NoAgent, node_count, current_period, wake, with_node_at, with_packet, next_packet}
 use Rattle.metering_model.specs.Deliveries.{Handled, handled}
@@ -18,8 +20,6 @@ Outcome = Reply × World
 abbrev pub node_at : World → ℕ → Result Node Refusal
 node_at w i = ok_or (slice_get w.nodes i) NoNode
 
--- ---- journals
-
 abbrev pub or_bad_batch : Result Batch BatchFault → Result Batch Refusal
 or_bad_batch (Ok b) = Ok b
 or_bad_batch (Err fault) = Err (BadBatch fault)
@@ -30,19 +30,19 @@ batch_of (Bad fault) = Err (BadBatch fault)
 
 abbrev pub unless_broken : Option BrokenRule → Result (Unit {0}) Refusal
 unless_broken None = Ok tt
-unless_broken (Some NoTarget) = Err BadTarget
-unless_broken (Some NoPrice) = Err Unpriced
+unless_broken (Some BreaksTarget) = Err BadTarget
+unless_broken (Some BreaksPrice) = Err Unpriced
 
-abbrev pub on_journal : World → Offer → Result Outcome Refusal
-on_journal w offer = do
-  b ← batch_of offer
+abbrev pub on_batch : World → Batch → Result Outcome Refusal
+on_batch w b = do
   _ ← holds_or (nat_le b.agent w.agents) NoAgent
   _ ← holds_or (b.seq == next_seq w.journals b.agent) (WrongSeq (next_seq w.journals b.agent))
   _ ← unless_broken (first_broken w.sheet (put w.journals b) (placed b))
   k ← next_packet w
   Ok (Journaled k, with_packet (CarriesBatch b) (record w { journals = put w.journals b }))
 
--- ---- deliveries
+abbrev pub on_journal : World → Offer → Result Outcome Refusal
+on_journal w offer = batch_of offer >>= on_batch w
 
 abbrev pub after_delivery : World → ℕ → Handled → Result Outcome Refusal
 after_delivery w i h = elim h.sends [
@@ -55,8 +55,6 @@ on_delivery w k i = do
   p ← ok_or (slice_get w.packets k) NoPacket
   n ← node_at w i
   after_delivery w i (handled w i n p)
-
--- ---- starts and restarts
 
 -- a start takes the next round, and so a new ballot
 abbrev pub started_node : ℕ → ℕ → Node → Node
@@ -76,12 +74,10 @@ on_restart w i = do
   n ← node_at w i
   Ok (Restarted, with_node_at i (wake n.kept) w)
 
--- ---- exports
-
 -- the first of these sequences of an agent that is absent
 abbrev pub first_absent : Holding → ℕ → List ℕ → Option (ℕ × ℕ)
 first_absent h agent [] = None
-first_absent h agent (s ∷ ss) = if is_held h agent s then first_absent h agent ss else Some (agent, s)
+first_absent h agent (s ∷ ss) = if is_some (held h agent s) then first_absent h agent ss else Some (agent, s)
 
 -- the least agent and sequence up to the cut that is absent; the cut's first entry is that of this agent
 abbrev pub missing_from : Holding → ℕ → Cut → Option (ℕ × ℕ)
@@ -105,19 +101,11 @@ snapshot w i p = do
   n ← node_at w i
   to ← ok_or (slice_get n.kept.learned p) (NotClosed (current_period n))
   _ ← unless_missing (first_missing n.kept.holding to)
-  Ok (record {
-    period = p;
-    from = cut_before w.agents n.kept.learned p;
-    to = to;
-    batches = up_to to n.kept.holding;
-    sheet = w.sheet;
-    issuer = w.issuer;
-  })
+  let from = cut_before w.agents n.kept.learned p
+  Ok (record { period = p; from = from; to = to; batches = up_to to n.kept.holding; sheet = w.sheet; issuer = w.issuer })
 
 abbrev pub on_export : World → ℕ → ℕ → Result Outcome Refusal
 on_export w i p = snapshot w i p >>= λ s. Ok (Exported s, w)
-
--- ---- one step, and a list of them
 
 abbrev pub outcome_of : World → Event → Result Outcome Refusal
 outcome_of w (Journal offer) = on_journal w offer

@@ -1,8 +1,9 @@
 -- What a reading is charged in all the files up to a period.
-use Rattle.std.specs.Prelude.{ℕ, ◌+◌, List, [], ◌∷◌, ◌++◌, filter, map, fold, Option, ℤ, pos, ◌+ℤ◌, unwrap_or}
+use Rattle.std.specs.Prelude.{ℕ, ◌+◌, List, [], ◌∷◌, ◌++◌, filter, map, fold, Option, Some, ℤ, pos, ◌+ℤ◌, unwrap_or}
 use Rattle.metering_model.specs.Sheet.{Sheet, Issuer}
 use Rattle.metering_model.specs.Cut.{Cut, zero_cut}
 use Rattle.metering_model.specs.Holding.{Holding, Position, is_same_place}
+use Rattle.metering_model.specs.Rating.{Rated}
 use Rattle.metering_model.specs.Row.{Row}
 use Rattle.metering_model.specs.Rows.{PlacedRow, placed_rows}
 
@@ -25,20 +26,12 @@ abbrev pub or_zero : (Row → Option ℤ) → Row → ℤ
 or_zero column r = unwrap_or (column r) (pos 0)
 
 -- the six columns that add up over periods
-pub record Totals : Type 0 where
-  pub billed : ℤ
-  pub contracted : ℤ
-  pub effective : ℤ
-  pub list : ℤ
-  pub consumed : ℤ
-  pub priced : ℤ
-
-abbrev pub totals : List Row → Totals
+abbrev pub totals : List Row → Rated
 totals rows = record {
-  billed = total (λ r. r.billed_cost) rows;
-  contracted = total (λ r. r.contracted_cost) rows;
-  effective = total (λ r. r.effective_cost) rows;
+  consumed = Some (total (or_zero (λ r. r.consumed_quantity)) rows);
+  priced = Some (total (or_zero (λ r. r.pricing_quantity)) rows);
   list = total (λ r. r.list_cost) rows;
-  consumed = total (or_zero (λ r. r.consumed_quantity)) rows;
-  priced = total (or_zero (λ r. r.pricing_quantity)) rows;
+  contracted = total (λ r. r.contracted_cost) rows;
+  billed = total (λ r. r.billed_cost) rows;
+  effective = total (λ r. r.effective_cost) rows;
 }

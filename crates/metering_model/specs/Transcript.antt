@@ -51,15 +51,13 @@ file_of s = file (rows s.sheet s.issuer s.batches s.period s.from s.to)
 abbrev pub line_count : List ℕ → ℕ
 line_count t = count_by (λ c. c == 10) t
 
-abbrev pub exported_line : Snapshot → List ℕ
-exported_line s = line (with_number (codes "exported period ") s.period ++ with_number (codes " lines ") (line_count (file_of s)))
-
 abbrev pub reply_text : Reply → List ℕ
 reply_text (Journaled k) = line (with_number (codes "journaled packet ") k)
 reply_text (Delivered sent learned) = line (codes "delivered" ++ if_any (codes " sent ") sent ++ if_any (codes " learned ") learned)
 reply_text (Started b k) = line (with_number (codes "started ballot ") b ++ with_number (codes " packet ") k)
 reply_text Restarted = line (codes "restarted")
-reply_text (Exported s) = exported_line s ++ file_of s
+reply_text (Exported s) =
+    line (with_number (codes "exported period ") s.period ++ with_number (codes " lines ") (line_count (file_of s))) ++ file_of s
 reply_text (Refused refusal) = line (codes "refused " ++ refusal_text refusal)
 
 abbrev pub transcript : List Reply → List ℕ

@@ -2,7 +2,7 @@
 use Rattle.std.specs.Prelude.{ℕ, ◌&&◌, ◌==◌, nat_lt, nat_le, if◌then◌else◌, List, filter, Option, Some, None, ℤ, pos, unwrap_or}
 use Rattle.std.specs.List.{filter_map, last_or}
 use Rattle.metering_model.specs.Batch.{Record, Reads, Amends}
-use Rattle.metering_model.specs.Holding.{Holding, Position, Placed, journal, is_same_place}
+use Rattle.metering_model.specs.Holding.{Holding, Position, Placed, records_in_order, is_same_place}
 
 -- the value that a record gives to the reading at a place, where it is that reading or amends it
 abbrev pub value_given : Position → Position → Record → Option ℤ
@@ -14,7 +14,7 @@ value_given_by p x = value_given p x.place x.what
 
 -- the records of one agent up to a sequence
 abbrev pub journal_until : Holding → ℕ → ℕ → List Placed
-journal_until h agent upto = filter (λ x. (x.place.agent == agent) && nat_le x.place.seq upto) (journal h)
+journal_until h agent upto = filter (λ x. (x.place.agent == agent) && nat_le x.place.seq upto) (records_in_order h)
 
 -- the value that the last record up to the sequence gives it; 0 before the reading's own sequence
 abbrev pub value_at : Holding → Position → ℕ → ℤ

@@ -4,7 +4,7 @@ use Rattle.std.specs.List.{last_or}
 pub use Rattle.metering_model.specs.declared.Refusal.{Refusal}
 pub use Rattle.metering_model.specs.declared.Refusal.TheVariants.{BadBatch, WrongSeq, BadTarget, Unpriced, NoPacket, NoNode, NotClosed, Missing, AllClosed, NoBallot, WorldFull, NoAgent}
 use Rattle.metering_model.specs.Batch.{Batch}
-use Rattle.metering_model.specs.BatchReading.{BatchFault}
+use Rattle.metering_model.specs.BatchReading.{BatchFault, batch_in}
 use Rattle.metering_model.specs.Sheet.{Sheet, Issuer}
 use Rattle.metering_model.specs.Cut.{Cut, zero_cut}
 use Rattle.metering_model.specs.Holding.{Holding}
@@ -38,12 +38,17 @@ pub record World : Type 0 where
   pub packets : List Packet
   pub nodes : List Node
 
--- what is handed in to be journaled: bytes, or the fault of bytes that were no batch
+-- What is handed in to be journaled: bytes, or the fault of bytes that were read and are no batch. The step reads the
+-- bytes, so those that are no batch are refused in either form.
 pub data Offer : Type 0 where
   Good : (text : List ℕ) → Offer
   Bad : BatchFault → Offer
 
--- A packet that is never delivered is lost; one may be delivered to any node, at any time and any number of times.
+-- what reading bytes hands in
+abbrev pub offer_of : List ℕ → Offer
+offer_of text = elim (batch_in text) [ Ok b ↦ Good text | Err fault ↦ Bad fault ]
+
+-- Packets are delivered in any order, to whichever node, once, often or never.
 pub data Event : Type 0 where
   Journal : Offer → Event
   Deliver : (packet node : ℕ) → Event
@@ -79,7 +84,7 @@ current_period n = length n.kept.learned
 abbrev pub last_cut : ℕ → List Cut → Cut
 last_cut agents cuts = unwrap_or (last_or None cuts) (zero_cut agents)
 
--- a node that wakes with what it kept has no attempt and an empty tally
+-- waking forgets the attempt and the tally
 abbrev pub wake : Kept → Node
 wake kept = record { kept = kept; attempt = None; tally = [] }
 
@@ -87,14 +92,8 @@ abbrev pub new_kept : Kept
 new_kept = record { round = 0; learned = []; acceptor = new_acceptor; holding = [] }
 
 abbrev pub opening : ℕ → ℕ → Sheet → Issuer → World
-opening nodes agents sheet issuer = record {
-  sheet = sheet;
-  issuer = issuer;
-  agents = agents;
-  journals = [];
-  packets = [];
-  nodes = replicate nodes (wake new_kept);
-}
+opening nodes agents sheet issuer =
+    record { sheet = sheet; issuer = issuer; agents = agents; journals = []; packets = []; nodes = replicate nodes (wake new_kept) }
 
 abbrev pub with_kept : Kept → Node → Node
 with_kept kept n = record n { kept = kept }

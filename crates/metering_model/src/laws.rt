@@ -3,7 +3,7 @@
 ghost use Rattle.std.specs.Prelude.{◌≡◌, ℕ, ◌^◌, ◌<◌, ◌≤◌, ◌↔◌, false, List, Some, Ok, ℤ, unsigned_abs, unwrap_or};
 ghost use Rattle.metering_model.specs.NumberText.{Spells, number_in, spelling};
 ghost use Rattle.metering_model.specs.Dates.{IsMonthText, IsDayText, IsStampText, month_in, day_in, stamp_in};
-ghost use Rattle.metering_model.specs.Batch.{Batch, IsBatch};
+ghost use Rattle.metering_model.specs.Batch.{Batch, IsBatch, IsWellFormed};
 ghost use Rattle.metering_model.specs.BatchReading.{batch_in};
 ghost use Rattle.metering_model.specs.Cut.{Cut, IsAtLeast, last_of};
 ghost use Rattle.metering_model.specs.Holding.{Holding, IsHolding, AgreeUpTo, Position, held, is_batch_at, put, up_to};
@@ -11,6 +11,8 @@ ghost use Rattle.metering_model.specs.ValueAtSequence.{value_at};
 ghost use Rattle.metering_model.specs.Sheet.{Sheet, Issuer};
 ghost use Rattle.metering_model.specs.Rating.{IsRounded, pricing_quantity};
 ghost use Rattle.metering_model.specs.Rows.{placed_rows, rows};
+ghost use Rattle.metering_model.specs.World.{World, Good, Journal, offer_of};
+ghost use Rattle.metering_model.specs.Step.{step};
 
 /// Reading a text as a number answers the number that the text spells, and nothing else.
 pub fn numbers_are_read_as_they_are_spelled()
@@ -34,7 +36,8 @@ pub fn dates_are_read_as_they_are_written()
 
 /// A text is read as a batch exactly where it is the join of that batch's parts.
 pub fn a_batch_is_read_where_its_parts_are_joined()
-    ensures { (text : List ℕ) (b : Batch) → (batch_in text ≡ Ok b) ↔ IsBatch text b }
+    ensures joined { (text : List ℕ) (b : Batch) → (batch_in text ≡ Ok b) ↔ IsBatch text b }
+    ensures well_formed { (text : List ℕ) (b : Batch) → batch_in text ≡ Ok b → IsWellFormed b }
 {}
 
 /// A pricing quantity is the value divided by `per`, rounded half to even, and no other number is.
@@ -44,7 +47,7 @@ pub fn pricing_quantities_are_rounded_half_to_even()
 
 /// A holding that is put into stays a holding, and has what was put, or what it had at that place before.
 pub fn holdings_are_maps()
-    ensures stays { (h : Holding) (b : Batch) → IsHolding h → IsHolding (put h b) }
+    ensures stays { (h : Holding) (b : Batch) → IsHolding h → IsWellFormed b → IsHolding (put h b) }
     ensures found { (h : Holding) (b : Batch) → IsHolding h →
         held (put h b) b.agent b.seq ≡ Some (unwrap_or (held h b.agent b.seq) b) }
     ensures others { (h : Holding) (b : Batch) (agent seq : ℕ) → IsHolding h →
@@ -60,9 +63,15 @@ pub fn what_agrees_up_to_a_cut_is_charged_alike()
         IsHolding h → IsHolding k → AgreeUpTo to h k →
         upto ≤ last_of to at.agent → value_at h at upto ≡ value_at k at upto }
     ensures placed { (sheet : Sheet) (issuer : Issuer) (h k : Holding) (period : ℕ) (from to : Cut) →
-        IsHolding h → IsHolding k → AgreeUpTo to h k → IsAtLeast from to →
+        IsHolding h → IsHolding k → AgreeUpTo to h k → IsAtLeast to from →
         placed_rows sheet issuer h period from to ≡ placed_rows sheet issuer k period from to }
     ensures rows { (sheet : Sheet) (issuer : Issuer) (h k : Holding) (period : ℕ) (from to : Cut) →
-        IsHolding h → IsHolding k → AgreeUpTo to h k → IsAtLeast from to →
+        IsHolding h → IsHolding k → AgreeUpTo to h k → IsAtLeast to from →
         rows sheet issuer h period from to ≡ rows sheet issuer k period from to }
+{}
+
+/// Bytes are answered alike, whether they were read before they were handed in or not.
+pub fn bytes_and_their_offer_are_journaled_alike()
+    ensures { (w : World) (text : List ℕ) →
+        step w (Journal (Good text)) ≡ step w (Journal (offer_of text)) }
 {}

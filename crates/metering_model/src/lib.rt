@@ -90,40 +90,51 @@ pub struct BatchFault {
     pub line: u32,
 }
 
+/// Which rule of the journals a record breaks.
+#[derive(Clone, Copy, Debug, PartialEq, Eq, Drop, Error)]
+pub enum BrokenRule {
+    /// An amendment's target is no earlier reading of its agent, or a priced one and the value negative.
+    #[error("bad target")]
+    BadTarget,
+    /// A priced reading without a price in force, or with a commitment that does not fit it.
+    #[error("unpriced")]
+    Unpriced,
+}
+
 /// Why the group refuses an event. The world stays as it was.
 #[derive(Clone, Copy, Debug, PartialEq, Eq, Drop, Error)]
 pub enum Refusal {
     /// G1: the journaled text is no batch.
     #[error("G1 {0}")]
     BadBatch(BatchFault),
-    /// G2: the sequence is not the agent's next, which is `wanted`.
+    /// G2: the agent has to journal sequence `wanted` next.
     #[error("G2 wanted {wanted}")]
     WrongSeq { wanted: u32 },
-    /// G3: an amendment names no earlier reading, or makes a priced one negative.
+    /// G3: a record breaks the rule on targets.
     #[error("G3")]
     BadTarget,
-    /// G4: a priced reading has no price in force, or a commitment that does not fit it.
+    /// G4: a record breaks the rule on prices.
     #[error("G4")]
     Unpriced,
-    /// G5: no packet has that number.
+    /// G5: the packet was never sent.
     #[error("G5")]
     NoPacket,
-    /// G6: no node has that number.
+    /// G6: the group has fewer nodes.
     #[error("G6")]
     NoNode,
     /// G7: the node has learned only the periods below `learned`.
     #[error("G7 learned {learned}")]
     NotClosed { learned: u16 },
-    /// G8: the node lacks a batch up to the cut, and this is the first.
+    /// G8: this batch, and perhaps later ones up to the cut, has not reached the node.
     #[error("G8 agent {agent} seq {seq}")]
     Missing { agent: u8, seq: u32 },
-    /// G9: the node has learned every period there is.
+    /// G9: the node has learned the last period.
     #[error("G9")]
     AllClosed,
     /// G10: the node has used up its rounds.
     #[error("G10")]
     NoBallot,
-    /// G11: the event would send a packet, and the world is full of them.
+    /// G11: no packet can be sent any more.
     #[error("G11")]
     WorldFull,
     /// G12: the batch's agent is none of the world's.
