@@ -1,0 +1,4 @@
+pub mod Counts
+pub mod Counted
+pub mod Reading
+pub mod Writing

@@ -1,0 +1,83 @@
+//! The count of failed calls beside a writer or a reader of std.
+ghost use Rattle.std.specs.Prelude.{◌≡◌};
+ghost use Rattle.counted_io.specs.Counts.{next_count};
+ghost use Rattle.counted_io.specs.Counted.{failures_of, inner_of};
+
+use super::{Sink, Source};
+use std::io;
+use std::io::{Read, Write};
+
+/// A writer or a reader of std, with the count of its calls that failed.
+///
+/// A `Counted<Vec<u8>>` is a sink that keeps what it is given.
+#[derive(Debug, Drop)]
+pub struct Counted<T> {
+    inner: T,
+    failed: u64,
+}
+
+impl<T> Counted<T> {
+    /// Begins to count, with no failed call.
+    pub fn new(inner: T) -> Counted<T>
+        ensures inner { inner_of result ≡ inner }
+        ensures fresh { failures_of result ≡ 0 }
+    {
+        Counted { inner, failed: 0 }
+    }
+
+    /// The writer or reader inside.
+    pub fn inner(&self) -> &T
+        ensures { result.now ≡ inner_of self.now }
+    {
+        &self.inner
+    }
+
+    /// Gives the writer or reader back, and drops the count.
+    pub fn into_inner(self) -> T
+        ensures { result ≡ inner_of self }
+    {
+        self.inner
+    }
+
+    /// How many calls failed. It stays at the greatest u64.
+    pub fn failed_calls(&self) -> u64
+        ensures { result ≡ failures_of self.now }
+    {
+        self.failed
+    }
+
+    fn note_failed_call(&mut self)
+        ensures inner { inner_of self.new ≡ inner_of self.old }
+        ensures counted { failures_of self.new ≡ next_count (failures_of self.old) }
+    {
+        self.failed = self.failed.saturating_add(1);
+    }
+}
+
+impl<T: Write> Sink for Counted<T> {
+    ghost contents = { λ counted. T.contents (inner_of counted) };
+
+    ghost failed_calls = { failures_of };
+
+    fn write(&mut self, bytes: &[u8]) -> io::Result<usize> {
+        let result = self.inner.write(bytes);
+        if result.is_err() || (matches!(result, Ok(0)) && !bytes.is_empty()) {
+            self.note_failed_call();
+        }
+        result
+    }
+}
+
+impl<T: Read> Source for Counted<T> {
+    ghost remaining = { λ counted. T.remaining (inner_of counted) };
+
+    ghost failed_calls = { failures_of };
+
+    fn read(&mut self, room: &mut [u8]) -> io::Result<usize> {
+        let result = self.inner.read(room);
+        if result.is_err() {
+            self.note_failed_call();
+        }
+        result
+    }
+}

@@ -1,0 +1,118 @@
+//! Sources, and reading a whole input up to a limit.
+ghost use Rattle.std.specs.Prelude.{◌≡◌, ℕ, ◌+◌, ◌<◌, ◌≤◌, List, Option, None, length, take, drop, vec_len, OnOk, OnErr, IfOk, IfErr, IfSome, is_err};
+ghost use Rattle.std.specs.Io.{ReadsAtMost};
+ghost use Rattle.std.specs.Io.KnownBytes.{Consumes, IsAtEnd, Keeps, ReadConsumes};
+ghost use Rattle.counted_io.specs.Counts.{Rises, count_after};
+ghost use Rattle.counted_io.specs.Reading.{ConsumesAtMost, EndsWithin, IsAnswer, is_device_fault};
+
+use std::alloc::Global;
+use std::io;
+use thiserror::Error;
+
+/// What gives bytes, and counts the calls that failed.
+pub trait Source {
+    /// The bytes that it will give from here on, where they are known.
+    ghost remaining: { Self → Option (List ℕ) } = { λ _. None };
+
+    /// How many calls failed. It stays at the greatest u64.
+    ghost failed_calls: { Self → ℕ };
+
+    /// Puts the next bytes at the front of `room`, and answers how many they are.
+    ///
+    /// No byte where there is room is the end. An error took nothing, and it alone is a failure.
+    fn read(&mut self, room: &mut [u8]) -> io::Result<usize>
+        ensures bound { ReadsAtMost result room.new }
+        ensures consumed { ReadConsumes (remaining self.old) (remaining self.new) result room.new }
+        ensures count { failed_calls self.new
+            ≡ count_after (is_err result) (failed_calls self.old) };
+}
+
+/// What came of reading up to a limit.
+#[derive(Debug, PartialEq, Eq, Drop)]
+pub enum Input {
+    /// All the bytes that remained.
+    Whole(Vec<u8>),
+    /// More bytes remained than the limit.
+    TooLong,
+}
+
+/// Why reading ended early.
+#[derive(Clone, Copy, Debug, PartialEq, Eq, Drop, Error)]
+pub enum ReadFault {
+    /// A call of the source failed.
+    #[error("read failed")]
+    Failed,
+    /// No room could be made for the bytes.
+    #[error("out of memory")]
+    OutOfMemory,
+}
+
+/// The most bytes that one call asks for.
+const PIECE: usize = 64 * 1024;
+
+/// Reads until the source ends, or until one byte more than `limit` bytes has come.
+///
+/// The room that it takes grows with what is read. Where the answer is no whole input, what was read
+/// is lost.
+pub fn read_to_limit<S: Source>(
+    alloc: Global,
+    source: &mut S,
+    limit: u32,
+) -> Result<Input, ReadFault>
+    ensures answer { IfOk result
+        (λ input. IfSome (S.remaining source.old) (λ bytes. IsAnswer limit bytes input)) }
+    ensures end { IfOk result (EndsWithin limit (S.remaining source.new)) }
+    ensures taken { ConsumesAtMost (limit + 1) (S.remaining source.old) (S.remaining source.new) }
+
+    // `Failed` comes only from a failed call, and that is the only one.
+    ensures fault { result ≡ Err ReadFault.Failed
+        → Rises (S.failed_calls source.old) (S.failed_calls source.new) }
+    ensures count { S.failed_calls source.new
+        ≡ count_after (is_device_fault result) (S.failed_calls source.old) }
+{
+    let most = limit as usize + 1;
+    let mut bytes = Vec::new(alloc);
+    let mut filled = 0;
+    while filled < most {
+        let count = read_piece(source, &mut bytes, filled, most)?;
+        if count == 0 {
+            bytes.truncate(filled);
+            return Ok(Input::Whole(bytes));
+        }
+        filled += count;
+    }
+    Ok(Input::TooLong)
+}
+
+// One read behind the `filled` bytes. Room is made first, and only where none is left, so that each
+// byte of it is cleared once, however few bytes a read gives.
+fn read_piece<S: Source>(
+    source: &mut S,
+    bytes: &mut Vec<u8>,
+    filled: usize,
+    most: usize,
+) -> Result<usize, ReadFault>
+    requires within { filled ≤ vec_len bytes.old }
+    requires bounded { vec_len bytes.old ≤ most }
+    requires more { filled < most }
+    ensures bounded { vec_len bytes.new ≤ most }
+    ensures within { IfOk result (λ count. filled + count ≤ vec_len bytes.new) }
+    ensures front { take filled bytes.new.items ≡ take filled bytes.old.items }
+    ensures consumed { IfOk result (λ count. Consumes (S.remaining source.old)
+        (S.remaining source.new) (take count (drop filled bytes.new.items))) }
+    ensures end { IfOk result (λ count. count ≡ 0 → IsAtEnd (S.remaining source.new)) }
+    ensures err { OnErr result (Keeps (S.remaining source.old) (S.remaining source.new)) }
+    ensures count { S.failed_calls source.new
+        ≡ count_after (is_device_fault result) (S.failed_calls source.old) }
+{
+    if filled == bytes.len() {
+        let piece = PIECE.min(most - filled);
+        if bytes.resize(filled + piece, 0).is_err() {
+            return Err(ReadFault::OutOfMemory);
+        }
+    }
+    match source.read(&mut bytes[filled..]) {
+        Ok(count) => Ok(count),
+        Err(_) => Err(ReadFault::Failed),
+    }
+}

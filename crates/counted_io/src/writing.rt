@@ -1,0 +1,55 @@
+//! Sinks, and writing a whole text to one.
+ghost use Rattle.std.specs.Prelude.{◌≡◌, ℕ, List, Option, None, OnOk, OnErr, is_err};
+ghost use Rattle.std.specs.Io.{WritesAtMost};
+ghost use Rattle.std.specs.Io.KnownBytes.{Appends, WriteAppends};
+ghost use Rattle.counted_io.specs.Counts.{Rises, count_after};
+ghost use Rattle.counted_io.specs.Writing.{AppendsFront, is_failed_write};
+
+use std::io;
+use thiserror::Error;
+
+/// What takes bytes, and counts the calls that failed.
+pub trait Sink {
+    /// The bytes that it holds, where they are known.
+    ghost contents: { Self → Option (List ℕ) } = { λ _. None };
+
+    /// How many calls failed. It stays at the greatest u64.
+    ghost failed_calls: { Self → ℕ };
+
+    /// Takes a front of `bytes`, and answers how many it took.
+    ///
+    /// An error took nothing. A call fails at an error, and where it takes nothing of something.
+    fn write(&mut self, bytes: &[u8]) -> io::Result<usize>
+        ensures bound { WritesAtMost result bytes.now }
+        ensures appended { WriteAppends (contents self.old) (contents self.new) result bytes.now }
+        ensures count { failed_calls self.new
+            ≡ count_after (is_failed_write result bytes.now) (failed_calls self.old) };
+}
+
+/// A call of a sink failed.
+#[derive(Clone, Copy, Debug, PartialEq, Eq, Drop, Error)]
+#[error("write failed")]
+pub struct Failed;
+
+/// Writes all of `bytes`, in as many calls as the sink needs, and stops at the first that fails.
+///
+/// At an error a front of `bytes` was written, and never all of them.
+pub fn write_all<S: Sink>(sink: &mut S, bytes: &[u8]) -> Result<(), Failed>
+    ensures written { OnOk result (Appends (S.contents sink.old) (S.contents sink.new) bytes.now) }
+    ensures front { OnErr result
+        (AppendsFront (S.contents sink.old) (S.contents sink.new) bytes.now) }
+
+    // An error comes only from a failed call, and that is the only one.
+    ensures fault { OnErr result (Rises (S.failed_calls sink.old) (S.failed_calls sink.new)) }
+    ensures count { S.failed_calls sink.new ≡ count_after (is_err result) (S.failed_calls sink.old) }
+{
+    let mut sent = 0;
+    while sent < bytes.len() {
+        match sink.write(&bytes[sent..]) {
+            Ok(0) => return Err(Failed),
+            Ok(taken) => sent += taken,
+            Err(_) => return Err(Failed),
+        }
+    }
+    Ok(())
+}
