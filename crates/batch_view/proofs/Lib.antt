@@ -1,3 +1,15 @@
 pub mod DayRange
 pub mod DayTexts
 pub mod MonthOrder
+pub mod Cuts
+pub mod TagLaws
+pub mod WholeLaws
+pub mod KindLaws
+pub mod LentLaws
+pub mod RecordLaws
+pub mod LineLaws
+pub mod BatchLemmas
+pub mod LineLemmas
+pub mod RecordLemmas
+pub mod SplitLemmas
+pub mod WalkLemmas

@@ -28,7 +28,6 @@ kind_in t =
 abbrev pub whole_in : ℕ → ℕ → List ℕ → Option ℕ
 whole_in low high t = if is_whole_part t && nat_le low (number_of t) && nat_le (number_of t) high then Some (number_of t) else None
 
--- tags
 abbrev pub is_equals_sign : ℕ → Bool
 is_equals_sign c = c == 61
 
@@ -57,7 +56,6 @@ abbrev pub tags_in : List ℕ → Option (List Tag)
 tags_in [] = Some []
 tags_in (c ∷ cs) = if_rising (all_some (map tag_in (slice_split (λ x. x == 59) (c ∷ cs))))
 
--- one line
 abbrev pub fields_in : List ℕ → List (List ℕ)
 fields_in line = slice_split (λ c. c == 124) line
 
@@ -111,7 +109,6 @@ head_in (version ∷ agent ∷ seq ∷ count ∷ []) = do
   Ok (record { agent = a; seq = s; count = n })
 head_in _ = Err Head
 
--- the whole text
 abbrev pub at_line : {A : Type 0} → ℕ → Result A BatchCode → Result A BatchFault
 at_line line (Ok x) = Ok x
 at_line line (Err c) = Err (record { code = c; line = line })

@@ -68,7 +68,6 @@ pub record HasScheduleForm (text : List ℕ) (s : Schedule) : Type 0 where
   pub issuer : AreLines 100 s.issuer
   pub events : All IsPlanned s.events
 
--- what it plays
 abbrev pub event_of : Planned → Event
 event_of (PlansJournal ls) = Journal (offer_of (lines_text ls))
 event_of (PlansDelivery k i) = Deliver k i

@@ -1,0 +1,225 @@
+//! Batches, and their records in order.
+
+ghost use Rattle.std.specs.Prelude.{◌≡◌, ◌≤◌, ◌<◌, ◌+◌, length, drop, Some, None, Ok, Err, IsOk, IfOk, IfErr, MatchOption, MatchResult, IfSome, IsSome, ◌↔◌};
+ghost use Rattle.std.specs.List.{slice_get};
+ghost use Rattle.metering_model.specs.BatchReading.{batch_in, lines_in, records_in};
+ghost use Rattle.batch_view.specs.Lent.{record_of};
+ghost use Rattle.batch_view.specs.Batches.{batch_of, IsLentAt, RecordsLeft};
+ghost use Rattle.batch_view.specs.Lines.{lines_from, first_record, IsBehindLines, LendsRecord, IsHeadOf};
+
+use crate::head::{Head, read_head};
+use crate::lines::next_line;
+use crate::records::{Record, read_record};
+use metering_model::{BatchCode, BatchFault};
+use std::marker::Model;
+
+/// A batch has no more bytes than this.
+const MOST_BYTES: usize = 65_536;
+
+/// The record whose line begins at `from`, and where the next line begins.
+fn record_from(text: &[u8], from: u32) -> Result<(Record<'_>, u32), BatchCode>
+    requires within { from ≤ length text.now }
+    requires short { length text.now ≤ 65536 }
+    ensures { MatchResult result
+        (λ read. LendsRecord text.now from read.0 read.1)
+        (λ code. first_record (lines_from text.now from).lines ≡ Err code) }
+{
+    let Some(line) = next_line(text, from) else {
+        return Err(BatchCode::Count);
+    };
+    match read_record(text, line) {
+        Ok(record) => Ok((record, line.to + 1)),
+        Err(code) => Err(code),
+    }
+}
+
+/// Reads so many records, the first of them on line 2 and at `from`, and answers where they end.
+fn check_records(text: &[u8], from: u32, count: u16) -> Result<u32, BatchFault>
+    requires behind { IsBehindLines text.now 1 from }
+    requires short { length text.now ≤ 65536 }
+    ensures { MatchResult result
+        (λ end. IsOk (records_in 2 count (drop 1 (lines_in text.now).lines)) × IsBehindLines text.now (count + 1) end)
+        (λ fault. records_in 2 count (drop 1 (lines_in text.now).lines) ≡ Err fault) }
+{
+    let mut at = from;
+    for index in 0..count {
+        match record_from(text, at) {
+            Ok((_, next)) => at = next,
+            Err(code) => {
+                return Err(BatchFault {
+                    code,
+                    line: u32::from(index) + 2,
+                });
+            }
+        }
+    }
+    Ok(at)
+}
+
+/// The head of the batch that these bytes are, or their first fault.
+pub(crate) fn check_batch(bytes: &[u8]) -> Result<Head, BatchFault>
+    ensures { MatchResult result (IsHeadOf bytes.now) (λ fault. batch_in bytes.now ≡ Err fault) }
+{
+    if bytes.len() > MOST_BYTES {
+        return Err(BatchFault {
+            code: BatchCode::TooLong,
+            line: 1,
+        });
+    }
+    let head = read_head(bytes)?;
+    let end = check_records(bytes, head.records_from, head.count)?;
+    if (end as usize) < bytes.len() {
+        return Err(BatchFault {
+            code: BatchCode::Count,
+            line: u32::from(head.count) + 2,
+        });
+    }
+    Ok(head)
+}
+
+/// Bytes that are a batch, read in place.
+#[derive(Drop)]
+pub struct BatchView<'a> {
+    bytes: &'a [u8],
+    head: Head,
+}
+
+impl<'a> Model for BatchView<'a> {
+    ghost use Rattle.std.specs.Prelude.{ℕ, List};
+    ghost use Rattle.batch_view.specs.Lines.{IsHeadOf};
+
+    ghost Value = { List ℕ };
+
+    ghost view = { λ v. v.bytes.now };
+
+    ghost invariant = { λ v. IsHeadOf v.bytes.now v.head };
+}
+
+impl<'a> BatchView<'a> {
+    /// The batch that these bytes are, or their first fault: from the top, and in a line from the left.
+    pub fn parse(bytes: &'a [u8]) -> Result<BatchView<'a>, BatchFault>
+        ensures ok { IfOk result (λ view. (view ≡ bytes.now) × (batch_in bytes.now ≡ Ok (batch_of bytes.now))) }
+        ensures err { IfErr result (λ fault. batch_in bytes.now ≡ Err fault) }
+    {
+        let head = check_batch(bytes)?;
+        Ok(BatchView { bytes, head })
+    }
+
+    /// The view of a batch whose head was read before.
+    pub(crate) fn with_head(bytes: &'a [u8], head: Head) -> BatchView<'a>
+        requires { IsHeadOf bytes.now head }
+        ensures { result ≡ bytes.now }
+    {
+        BatchView { bytes, head }
+    }
+
+    /// The bytes of the batch, all of them.
+    pub fn bytes(&self) -> &'a [u8]
+        ensures bytes { result.now ≡ self.now }
+        ensures batch { batch_in self.now ≡ Ok (batch_of self.now) }
+    {
+        self.bytes
+    }
+
+    /// The agent that sent the batch, from 1 to 64.
+    pub fn agent(&self) -> u8
+        ensures { result ≡ (batch_of self.now).agent }
+    {
+        self.head.agent
+    }
+
+    /// The place of the batch among those of its agent, from 1 to 1,000,000.
+    pub fn seq(&self) -> u32
+        ensures { result ≡ (batch_of self.now).seq }
+    {
+        self.head.seq
+    }
+
+    /// The number of records, at most 1,000.
+    pub fn count(&self) -> u16
+        ensures { result ≡ length (batch_of self.now).records }
+    {
+        self.head.count
+    }
+
+    /// The records, in order. The walk goes once over the bytes.
+    pub fn records(&self) -> Records<'a>
+        ensures { result ≡ record { bytes = self.now; index = 0 } }
+    {
+        Records {
+            bytes: self.bytes,
+            at: self.head.records_from,
+            index: 0,
+            count: self.head.count,
+        }
+    }
+
+    /// The record at that index, counted from 0. It is looked for from the front.
+    pub fn record_at(&self, index: u16) -> Option<Record<'a>>
+        ensures there { IsSome result ↔ (index < length (batch_of self.now).records) }
+        ensures record { IfSome result (λ r. slice_get (batch_of self.now).records index ≡ Some (record_of r)) }
+        ensures lent { IfSome result (IsLentAt self.now index) }
+    {
+        if index >= self.head.count {
+            return None;
+        }
+        let mut at = self.head.records_from;
+        for _ in 0..index {
+            at = next_line(self.bytes, at)?.to + 1;
+        }
+        match record_from(self.bytes, at) {
+            Ok((record, _)) => Some(record),
+            Err(_) => None,
+        }
+    }
+}
+
+/// The records of a batch that are still to come.
+#[derive(Drop)]
+pub struct Records<'a> {
+    bytes: &'a [u8],
+    at: u32,
+    index: u16,
+    count: u16,
+}
+
+impl<'a> Model for Records<'a> {
+    ghost use Rattle.batch_view.specs.Batches.{RecordsLeft};
+    ghost use Rattle.batch_view.specs.Lines.{IsBeforeRecord};
+
+    ghost Value = { RecordsLeft };
+
+    ghost view = { λ r. record { bytes = r.bytes.now; index = r.index } };
+
+    ghost invariant = { λ r. IsBeforeRecord r.bytes.now r.index r.count r.at };
+}
+
+impl<'a> Iterator for Records<'a> {
+    ghost use Rattle.std.specs.Iterator.{item_count};
+    ghost use Rattle.batch_view.specs.Batches.{records_left, GivesNext};
+
+    type Item = Record<'a>;
+
+    ghost next_gives = { GivesNext };
+
+    ghost remaining = { item_count records_left };
+
+    fn next(&mut self) -> Option<Record<'a>> {
+        if self.index == self.count {
+            return None;
+        }
+        match record_from(self.bytes, self.at) {
+            Ok((record, next)) => {
+                self.at = next;
+                self.index += 1;
+                Some(record)
+            }
+            Err(_) => None,
+        }
+    }
+
+    fn size_hint(&self) -> (usize, Option<usize>) {
+        let left = usize::from(self.count - self.index);
+        (left, Some(left))
+    }
+}

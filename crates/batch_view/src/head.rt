@@ -1,0 +1,97 @@
+//! The head line of a batch.
+
+ghost use Rattle.std.specs.Prelude.{◌≡◌, ◌≤◌, ◌+◌, ◌∷◌, [], length, Ok, Err, MatchOption, MatchResult, slice_range};
+ghost use Rattle.std.specs.List.{slice_split};
+ghost use Rattle.metering_model.specs.BatchReading.{fields_in, head_in, batch_in};
+ghost use Rattle.batch_view.specs.Lines.{head_line, BeginsWithHead};
+
+use crate::fields::{Span, find_byte};
+use crate::lines::next_line;
+use crate::wholes::read_whole;
+use metering_model::{BatchCode, BatchFault};
+
+const BAR: u8 = b'|';
+
+/// The numbers of a head line, and where the records begin behind it.
+#[derive(Clone, Copy)]
+pub(crate) struct Head {
+    pub(crate) agent: u8,
+    pub(crate) seq: u32,
+    pub(crate) count: u16,
+    pub(crate) records_from: u32,
+}
+
+/// The four fields of a head line.
+#[derive(Clone, Copy)]
+struct HeadFields<'a> {
+    version: &'a [u8],
+    agent: &'a [u8],
+    seq: &'a [u8],
+    count: &'a [u8],
+}
+
+/// What stands before the first bar, and what stands behind it.
+fn split_at_bar(text: &[u8]) -> Option<(&[u8], &[u8])>
+    ensures { MatchOption result
+        (fields_in text.now ≡ text.now ∷ [])
+        (λ parts. fields_in text.now ≡ parts.0.now ∷ fields_in parts.1.now) }
+{
+    let bar = find_byte(text, BAR)?;
+    Some((&text[..bar], &text[bar + 1..]))
+}
+
+/// The fields, if there are just four.
+fn head_fields(line: &[u8]) -> Option<HeadFields<'_>>
+    ensures { MatchOption result
+        (head_in (fields_in line.now) ≡ Err BatchCode.Head)
+        (λ f. fields_in line.now ≡ f.version.now ∷ f.agent.now ∷ f.seq.now ∷ f.count.now ∷ []) }
+{
+    let (version, rest) = split_at_bar(line)?;
+    let (agent, rest) = split_at_bar(rest)?;
+    let (seq, count) = split_at_bar(rest)?;
+    if split_at_bar(count).is_some() {
+        return None;
+    }
+    Some(HeadFields {
+        version,
+        agent,
+        seq,
+        count,
+    })
+}
+
+/// The head that a line is, if it is one within the limits.
+fn head_of_line(text: &[u8], line: Span) -> Option<Head>
+    requires ordered { line.from ≤ line.to }
+    requires within { line.to ≤ length text.now }
+    requires short { length text.now ≤ 65536 }
+    ensures { MatchOption result
+        (head_in (fields_in (slice_range text.now line.from line.to)) ≡ Err BatchCode.Head)
+        (λ h. (head_in (fields_in (slice_range text.now line.from line.to)) ≡ Ok (head_line h)) × (h.records_from ≡ line.to + 1)) }
+{
+    let fields = head_fields(&text[line.from as usize..line.to as usize])?;
+    if fields.version != b"B1".as_slice() {
+        return None;
+    }
+    Some(Head {
+        agent: read_whole(fields.agent, 1, 64)? as u8,
+        seq: read_whole(fields.seq, 1, 1_000_000)?,
+        count: read_whole(fields.count, 0, 1_000)? as u16,
+        records_from: line.to + 1,
+    })
+}
+
+/// The head of a text that is not too long, or its first fault.
+pub(crate) fn read_head(text: &[u8]) -> Result<Head, BatchFault>
+    requires { length text.now ≤ 65536 }
+    ensures { MatchResult result (BeginsWithHead text.now) (λ fault. batch_in text.now ≡ Err fault) }
+{
+    let fault = BatchFault {
+        code: BatchCode::Head,
+        line: 1,
+    };
+    let Some(line) = next_line(text, 0) else {
+        return Err(fault);
+    };
+    head_of_line(text, line).ok_or(fault)
+}

@@ -1,0 +1,6 @@
+pub mod Ascii
+pub mod Decimals
+pub mod Digits
+pub mod Points
+pub mod Signs
+pub mod Whole

@@ -1,0 +1,78 @@
+//! What is to be paid.
+
+ghost use Rattle.std.specs.Prelude.{◌≡◌, ◌+◌, ◌<◌, ◌≤◌, ◌++◌, length, Some, None, unsigned_abs, string_bytes, string_len, string_capacity, IfOk, OnOk, OnErr};
+ghost use Rattle.metering_model.specs.NumberText.{cost_limit, spelling};
+
+use crate::writing::append;
+use std::alloc::{AllocError, Global};
+use std::marker::Model;
+
+/// A cost is the product of a quantity and a price: it has the places of both.
+const PLACES: usize = 12;
+
+/// The units of one whole.
+const UNITS: u128 = 1_000_000_000_000;
+
+const COST_LIMIT: u128 = 2_000_000_000_000_000_000_000_000_000_000;
+
+/// What is to be paid: whole units of 10^-12 of the currency, of a magnitude below 2 * 10^30.
+#[derive(Clone, Copy, Debug, PartialEq, Eq, PartialOrd, Ord)]
+pub struct Cost(i128);
+
+impl Model for Cost {
+    ghost use Rattle.std.specs.Prelude.{ℤ, ◌<◌, unsigned_abs};
+    ghost use Rattle.metering_model.specs.NumberText.{cost_limit};
+
+    ghost Value = { ℤ };
+
+    ghost view = { λ c. c.0 };
+
+    ghost invariant = { λ c. unsigned_abs c.0 < cost_limit };
+
+    ghost inverse = { λ n. record { 0 = n } };
+}
+
+impl Cost {
+    /// The cost of so many units of 10^-12, or None beyond the limit.
+    pub fn new(units: i128) -> Option<Cost>
+        ensures within { unsigned_abs units < cost_limit → result ≡ Some units }
+        ensures beyond { cost_limit ≤ unsigned_abs units → result ≡ None }
+    {
+        if units.unsigned_abs() < COST_LIMIT {
+            Some(Cost(units))
+        } else {
+            None
+        }
+    }
+
+    /// The cost in units of 10^-12.
+    pub fn units(self) -> i128
+        ensures value { result ≡ self }
+        ensures within { unsigned_abs result < cost_limit }
+    {
+        self.0
+    }
+
+    /// Appends the one spelling of the cost. Where memory is refused the text stays as it was.
+    pub fn write_to(&self, text: &mut String) -> Result<(), AllocError>
+        ensures ok { OnOk result (string_bytes text.new ≡ string_bytes text.old ++ spelling 12 self.now) }
+        ensures err { OnErr result (string_bytes text.new ≡ string_bytes text.old) }
+        ensures full { OnErr result
+            (string_capacity text.old < string_len text.old + length (spelling 12 self.now)) }
+        ensures capacity { string_capacity text.old ≤ string_capacity text.new }
+    {
+        let magnitude = self.0.unsigned_abs();
+        let whole = (magnitude / UNITS) as u64;
+        let decimals = (magnitude % UNITS) as u64;
+        append(text, self.0.is_negative(), whole, decimals, PLACES)
+    }
+
+    /// The one spelling of the cost, in a text of its own.
+    pub fn write(&self, alloc: Global) -> Result<String, AllocError>
+        ensures { IfOk result (λ text. string_bytes text ≡ spelling 12 self.now) }
+    {
+        let mut text = String::new(alloc);
+        self.write_to(&mut text)?;
+        Ok(text)
+    }
+}

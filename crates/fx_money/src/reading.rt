@@ -1,0 +1,157 @@
+//! Decimals of six places, read without taking memory: each text is looked at where it stands.
+
+ghost use Rattle.std.specs.Prelude.{◌≡◌, ◌<◌, ◌≤◌, ◌^◌, IsTrue, IfOk, Some, MatchOption, position};
+ghost use Rattle.std.specs.List.{list_all, before_first, after_first};
+ghost use Rattle.metering_model.specs.NumberText.{is_digit, is_point, is_whole_part, is_decimal_part, ends_in, number_of, worth_of, units_of, magnitude_in, negated, not_negated, value_limit, value_within, value_in};
+ghost use Rattle.fx_money.specs.Limits.{below_limit};
+
+use crate::{MILLION, PLACES, VALUE_LIMIT};
+use metering_model::NumberFault;
+
+/// No number with a whole part as great as this is within any limit.
+const WHOLE_LIMIT: u64 = 1_000_000_000_000;
+
+fn is_digit(byte: u8) -> bool
+    ensures { result ≡ is_digit byte }
+{
+    byte.is_ascii_digit()
+}
+
+fn are_digits(text: &[u8]) -> bool
+    ensures { result ≡ list_all is_digit text.now }
+{
+    text.iter().all(|byte| is_digit(*byte))
+}
+
+fn ends_in(text: &[u8], byte: u8) -> bool
+    requires { 0 < byte }
+    ensures { result ≡ ends_in byte text.now }
+{
+    matches!(text, [.., last] if *last == byte)
+}
+
+fn is_whole_part(text: &[u8]) -> bool
+    ensures { result ≡ is_whole_part text.now }
+{
+    match text {
+        [] => false,
+        [only] => is_digit(*only),
+        [first, others @ ..] => is_digit(*first) && *first != b'0' && are_digits(others),
+    }
+}
+
+fn is_decimal_part(text: &[u8]) -> bool
+    ensures { result ≡ is_decimal_part 6 text.now }
+{
+    are_digits(text) && text.len() <= PLACES && !ends_in(text, b'0')
+}
+
+fn first_point(body: &[u8]) -> Option<usize>
+    ensures { result ≡ position is_point body.now }
+{
+    body.iter().position(|byte| *byte == b'.')
+}
+
+/// What stands before the first point and behind it.
+fn parts(body: &[u8]) -> (&[u8], &[u8])
+    ensures whole { result.0.now ≡ before_first is_point body.now }
+    ensures decimals { result.1.now ≡ after_first is_point body.now }
+{
+    match first_point(body) {
+        Some(point) => (&body[..point], &body[point + 1..]),
+        None => (body, &[]),
+    }
+}
+
+/// The number that digits write, or None where it is as great as WHOLE_LIMIT, however long they are.
+fn number(digits: &[u8]) -> Option<u64>
+    requires { IsTrue (list_all is_digit digits.now) }
+    ensures { MatchOption result (WHOLE_LIMIT ≤ number_of digits.now)
+        (λ n. (n < WHOLE_LIMIT) × (n ≡ number_of digits.now)) }
+{
+    let mut number = 0;
+    for digit in digits {
+        number = 10 * number + u64::from(*digit - b'0');
+        if number >= WHOLE_LIMIT {
+            return None;
+        }
+    }
+    Some(number)
+}
+
+/// The millionths that the digits behind the point are worth.
+fn worth(digits: &[u8]) -> u64
+    requires { IsTrue (is_decimal_part 6 digits.now) }
+    ensures value { result ≡ worth_of 6 digits.now }
+    ensures small { result < 10 ^ 6 }
+{
+    let mut unit = MILLION;
+    let mut worth = 0;
+    for digit in digits {
+        unit /= 10;
+        worth += u64::from(*digit - b'0') * unit;
+    }
+    worth
+}
+
+/// The millionths of a number's parts, where they are below the limit.
+fn units(whole: &[u8], decimals: &[u8], limit: u64) -> Result<u64, NumberFault>
+    requires whole_part { IsTrue (is_whole_part whole.now) }
+    requires decimal_part { IsTrue (is_decimal_part 6 decimals.now) }
+    requires limited { limit ≤ value_limit }
+    ensures { result ≡ below_limit limit (Some (units_of 6 whole.now decimals.now)) }
+{
+    let Some(number) = number(whole) else {
+        return Err(NumberFault::Range);
+    };
+    let units = number * MILLION + worth(decimals);
+    if units < limit {
+        Ok(units)
+    } else {
+        Err(NumberFault::Range)
+    }
+}
+
+/// The millionths of a decimal without sign, where they are below the limit.
+pub(crate) fn magnitude(body: &[u8], limit: u64) -> Result<u64, NumberFault>
+    requires { limit ≤ value_limit }
+    ensures { result ≡ below_limit limit (magnitude_in 6 body.now) }
+{
+    let (whole, decimals) = parts(body);
+    if is_whole_part(whole) && is_decimal_part(decimals) && !ends_in(body, b'.') {
+        units(whole, decimals, limit)
+    } else {
+        Err(NumberFault::Shape)
+    }
+}
+
+/// The millionths of a value from the text behind its minus. Zero has no minus.
+fn negative(body: &[u8]) -> Result<i64, NumberFault>
+    ensures { result ≡ value_within (negated (magnitude_in 6 body.now)) }
+{
+    match magnitude(body, VALUE_LIMIT) {
+        Ok(0) => Err(NumberFault::Shape),
+        Ok(millionths) => Ok(-(millionths as i64)),
+        Err(fault) => Err(fault),
+    }
+}
+
+/// The millionths of a value from a text without minus.
+fn positive(body: &[u8]) -> Result<i64, NumberFault>
+    ensures { result ≡ value_within (not_negated (magnitude_in 6 body.now)) }
+{
+    match magnitude(body, VALUE_LIMIT) {
+        Ok(millionths) => Ok(millionths as i64),
+        Err(fault) => Err(fault),
+    }
+}
+
+/// The millionths of a value.
+pub(crate) fn signed(text: &[u8]) -> Result<i64, NumberFault>
+    ensures { result ≡ value_in text.now }
+{
+    match text {
+        [first, body @ ..] if *first == b'-' => negative(body),
+        _ => positive(text),
+    }
+}
