@@ -1,5 +1,5 @@
 -- Cuts: how far each agent's batches are charged, and cuts that grow.
-use Rattle.std.specs.Prelude.{◌≡◌, ℕ, zero, suc, ◌≤◌, List, [], ◌∷◌, length, All, replicate, slice_index}
+use Rattle.std.specs.Prelude.{ℕ, zero, suc, ◌≤◌, List, [], ◌∷◌, replicate, slice_index}
 use Rattle.std.specs.List.{AllZip}
 
 -- one last sequence for each agent, agent 1 first; 0 means none
@@ -13,11 +13,6 @@ zero_cut agents = replicate agents 0
 abbrev pub last_of : Cut → ℕ → ℕ
 last_of cut zero = 0
 last_of cut (suc a) = slice_index cut a
-
--- a cut of so many agents, with sequences that there are
-pub record IsCut (agents : ℕ) (cut : Cut) : Type 0 where
-  pub entries : length cut ≡ agents
-  pub sequences : All (λ s. s ≤ 1_000_000) cut
 
 -- the cut is at or above the other for every agent
 abbrev pub IsAtLeast : Cut → Cut → Type 0

@@ -1,0 +1,3 @@
+pub mod MonthTexts
+pub mod PeriodOrder
+mod PointwiseOrder

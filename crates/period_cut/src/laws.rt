@@ -1,0 +1,27 @@
+//! What the bounds of periods are to one another. Each law is a function with an empty body.
+
+ghost use Rattle.std.specs.Prelude.{◌≡◌, ℕ, ◌+◌, ◌<◌, ◌<ℤ◌, ◌≤ℤ◌, Some};
+ghost use Rattle.metering_model.specs.Dates.{month_start, period_start, period_end, period_start_text, period_end_text, stamp_in, IsBaseMonth, IsPeriod};
+
+/// Periods follow one another without a gap: each has its moments to itself.
+pub fn periods_follow_one_another()
+    ensures has_moments { (base p : ℕ) → period_start base p <ℤ period_end base p }
+    ensures meets_next { (base p : ℕ) → period_end base p ≡ period_start base (p + 1) }
+    ensures apart { (base p q : ℕ) → p < q → period_end base p ≤ℤ period_start base q }
+{}
+
+/// What comes later begins and ends later.
+pub fn later_periods_begin_later()
+    ensures months { (a b : ℕ) → a < b → month_start a <ℤ month_start b }
+    ensures starts { (base p q : ℕ) → p < q → period_start base p <ℤ period_start base q }
+    ensures ends { (base p q : ℕ) → p < q → period_end base p <ℤ period_end base q }
+    ensures bases { (a b p : ℕ) → a < b → period_start a p <ℤ period_start b p }
+{}
+
+/// The texts of a period's bounds are read as these bounds.
+pub fn period_texts_are_of_the_bounds()
+    ensures start { (base p : ℕ) → IsBaseMonth base → IsPeriod p →
+        stamp_in (period_start_text base p) ≡ Some (period_start base p) }
+    ensures end { (base p : ℕ) → IsBaseMonth base → IsPeriod p →
+        stamp_in (period_end_text base p) ≡ Some (period_end base p) }
+{}
