@@ -133,6 +133,107 @@ fn tells_bad_records(rt: HostRuntime) {
     }
 }
 
+/// A batch of one usage reading, with `more` behind the field at that place, from 0.
+fn batch_with(alloc: Global, place: usize, more: &[u8]) -> Result<Vec<u8>, AllocError> {
+    let mut bytes = Vec::new(alloc);
+    bytes.extend_from_slice(b"B1|1|1|1")?;
+    let mut separator = b'\n';
+    for (index, field) in [
+        b"U".as_slice(),
+        b"2025-01-10T00:00:00Z".as_slice(),
+        b"2025-01-10T02:00:00Z".as_slice(),
+        b"acc-7".as_slice(),
+        b"vm-1".as_slice(),
+        b"cpu".as_slice(),
+        b"5400".as_slice(),
+        b"cm-1".as_slice(),
+        b"env=prod".as_slice(),
+    ]
+    .iter()
+    .enumerate()
+    {
+        bytes.push(separator)?;
+        bytes.extend_from_slice(field)?;
+        if index == place {
+            bytes.extend_from_slice(more)?;
+        }
+        separator = b'|';
+    }
+    bytes.push(b'\n')?;
+    Ok(bytes)
+}
+
+#[test]
+fn tells_bytes_that_are_no_text(rt: HostRuntime) -> Result<(), Fail> {
+    assert!(rt; BatchView::parse(&batch_with(rt.alloc(), 0, b"")?).is_ok());
+    for (place, code) in [
+        (0, BatchCode::Fields),
+        (1, BatchCode::Time),
+        (2, BatchCode::Time),
+        (3, BatchCode::Text),
+        (4, BatchCode::Text),
+        (5, BatchCode::Text),
+        (6, BatchCode::Number),
+        (7, BatchCode::Text),
+        (8, BatchCode::Tags),
+    ] {
+        for byte in [b'\0', b'\t', b'\r', 0x1F, 0x7F, 0xC3] {
+            let bytes = batch_with(rt.alloc(), place, &[byte])?;
+            assert!(rt; is_fault(&bytes, code, 2), "byte {byte} in field {place}");
+        }
+    }
+    Ok(())
+}
+
+#[test]
+fn tells_values_that_are_no_numbers(rt: HostRuntime) -> Result<(), Fail> {
+    for value in [
+        b"1.50".as_slice(),
+        b"-0".as_slice(),
+        b"01".as_slice(),
+        b".5".as_slice(),
+        b"1.".as_slice(),
+        b"1.0000001".as_slice(),
+        b"".as_slice(),
+        b"1000000000000".as_slice(),
+        b"+1".as_slice(),
+    ] {
+        let mut bytes = Vec::new(rt.alloc());
+        bytes.extend_from_slice(b"B1|1|1|1\nX|1|0|")?;
+        bytes.extend_from_slice(value)?;
+        bytes.push(b'\n')?;
+        assert!(rt; is_fault(&bytes, BatchCode::Number, 2), "{value:?}");
+    }
+    assert!(rt; BatchView::parse(b"B1|1|1|1\nX|1|0|999999999999.999999\n").is_ok());
+    Ok(())
+}
+
+#[test]
+fn tells_tags_that_are_none(rt: HostRuntime) -> Result<(), Fail> {
+    for more in [
+        b";env=test".as_slice(),
+        b";".as_slice(),
+        b";zone".as_slice(),
+        b";=eu".as_slice(),
+        b";a=1".as_slice(),
+        b";;zone=eu".as_slice(),
+    ] {
+        let bytes = batch_with(rt.alloc(), 8, more)?;
+        assert!(rt; is_fault(&bytes, BatchCode::Tags, 2), "{more:?}");
+    }
+    for more in [
+        b"=1=2".as_slice(),
+        b";env2=".as_slice(),
+        b";zone==".as_slice(),
+    ] {
+        assert!(rt;
+            BatchView::parse(&batch_with(rt.alloc(), 8, more)?).is_ok(),
+            "{more:?}"
+        );
+    }
+    Ok(())
+}
+
 #[test]
 fn tells_the_first_bad_line(rt: HostRuntime) {
     for (bytes, code, line) in [

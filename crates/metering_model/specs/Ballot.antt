@@ -5,7 +5,6 @@ use Rattle.std.specs.Map.{lookup}
 use Rattle.std.specs.BTreeMap.{insert_entry}
 use Rattle.metering_model.specs.Cut.{Cut}
 
--- ballots of different nodes differ
 abbrev pub ballot_of : ℕ → ℕ → ℕ → ℕ
 ballot_of round node nodes = round * nodes + node
 

@@ -1,5 +1,4 @@
--- Days, moments and months of the Gregorian calendar in UTC, and the texts that FOCUS writes of them:
--- dates with times have the form YYYY-MM-DDTHH:mm:ssZ.
+-- Days, moments and months of the Gregorian calendar in UTC, and their texts: FOCUS writes YYYY-MM-DDTHH:mm:ssZ.
 use Rattle.std.specs.Prelude.{◌≡◌, ℕ, ◌+◌, ◌-◌, ◌*◌, ◌/◌, ◌%◌, ◌≤◌, ◌<◌, Bool, ◌&&◌, ◌==◌, nat_lt, nat_le, if◌then◌else◌, List, [], ◌∷◌, ◌++◌, length, take, Option, Some, None, ℤ, pos, ◌+ℤ◌, ◌*ℤ◌, slice_index, slice_range, codes}
 use Rattle.std.specs.List.{list_all}
 use Rattle.std.specs.Option.{option_and_then}
@@ -104,7 +103,6 @@ day_of_month day m =
 abbrev pub day_in : List ℕ → Option ℤ
 day_in t = if has_day_form t then option_and_then (day_of_month (number_at t 8 2)) (month_in (take 7 t)) else None
 
--- the second of the day
 abbrev pub second_in : List ℕ → Option ℕ
 second_in t =
     if has_time_form t && nat_lt (number_at t 0 2) 24 && nat_lt (number_at t 3 2) 60 && nat_lt (number_at t 6 2) 60

@@ -115,7 +115,6 @@ abbrev pub price_within : Option ℕ → Result ℕ NumberFault
 price_within None = Err Shape
 price_within (Some n) = if nat_lt n price_limit then Ok n else Err Range
 
--- a value, in millionths
 abbrev pub value_in : List ℕ → Result ℤ NumberFault
 value_in t = value_within (number_in 6 t)
 

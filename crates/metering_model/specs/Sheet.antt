@@ -43,8 +43,6 @@ pub record Issuer : Type 0 where
   pub currency : List ℕ
   pub other_service : List ℕ
 
--- FOCUS's words for the categories
-
 abbrev pub service_category_text : ServiceCategory → List ℕ
 service_category_text Compute = codes "Compute"
 service_category_text Storage = codes "Storage"

@@ -13,7 +13,6 @@ use Rattle.metering_model.specs.Ballot.{ballot_of, new_attempt}
 use Rattle.metering_model.specs.World.{CarriesBatch, Prepare, Node, World, Offer, Good, Bad, Event, Journal, Deliver, Start, Restart, Export, Snapshot, Reply, Journaled, Delivered, Started, Restarted, Exported, Refused, Refusal, BadBatch, WrongSeq, BadTarget, Unpriced, NoPacket, NoNode, NotClosed, Missing, AllClosed, NoBallot, NoAgent, node_count, current_period, wake, with_node_at, with_packet, next_packet}
 use Rattle.metering_model.specs.Deliveries.{Handled, handled}
 
--- a reply, and the world after it
 abbrev pub Outcome : Type 0
 Outcome = Reply × World
 

@@ -44,7 +44,6 @@ abbrev pub if_any : List ℕ → Option ℕ → List ℕ
 if_any word None = []
 if_any word (Some n) = with_number word n
 
--- the file of an export
 abbrev pub file_of : Snapshot → List ℕ
 file_of s = file (rows s.sheet s.issuer s.batches s.period s.from s.to)
 

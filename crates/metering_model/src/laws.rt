@@ -25,6 +25,7 @@ pub fn numbers_have_one_spelling()
     ensures spelled { (places : ℕ) (n : ℤ) → unsigned_abs n < 10 ^ 64 → Spells places (spelling places n) n }
     ensures unique { (places : ℕ) (text : List ℕ) (n : ℤ) → unsigned_abs n < 10 ^ 64 →
         Spells places text n → text ≡ spelling places n }
+    ensures one_number { (places : ℕ) (text : List ℕ) (m n : ℤ) → Spells places text m → Spells places text n → m ≡ n }
 {}
 
 /// Reading a month, a day or a stamp answers the number that the calendar gives it.
