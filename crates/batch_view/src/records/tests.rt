@@ -22,7 +22,9 @@ fn reading<'a>(rt: &impl Abort, line: &'a [u8]) -> Option<Reading<'a>> {
 
 #[test]
 fn usage(rt: HostRuntime) -> Result<(), Fail> {
-    let usage = reading(&rt, READ_1).ok_or("it is a reading")?;
+    let Some(usage) = reading(&rt, READ_1) else {
+        return Err(Fail::from("it is a reading"));
+    };
     assert_eq!(rt; usage.kind, Kind::Usage);
     assert_eq!(rt; usage.start.seconds(), 1_736_467_200);
     assert_eq!(rt; usage.end.seconds(), 1_736_474_400);
@@ -51,7 +53,9 @@ fn usage(rt: HostRuntime) -> Result<(), Fail> {
 #[test]
 fn tags(rt: HostRuntime) -> Result<(), Fail> {
     let line = b"T|2025-01-10T00:00:00Z|2025-01-10T02:00:00Z|||VAT|-0.5||a=x=y;b=".as_slice();
-    let tax = reading(&rt, line).ok_or("it is a reading")?;
+    let Some(tax) = reading(&rt, line) else {
+        return Err(Fail::from("it is a reading"));
+    };
     assert_eq!(rt; tax.kind, Kind::Tax);
     assert_eq!(rt; tax.value.millionths(), -500_000);
     let mut tags = tax.tags();
@@ -69,15 +73,19 @@ fn tags(rt: HostRuntime) -> Result<(), Fail> {
     Ok(())
 }
 
+fn amended(record: &Record<'_>) -> Option<(u32, u16, i64)> {
+    match record {
+        Record::Amend { seq, index, value } => Some((*seq, *index, value.millionths())),
+        Record::Reading(_) => None,
+    }
+}
+
 #[test]
 fn amendment(rt: HostRuntime) -> Result<(), Fail> {
-    let record = record(&rt, b"X|1|0|7200").ok().ok_or("it is a record")?;
-    let Record::Amend { seq, index, value } = record else {
-        return Err(Fail::from("it is an amendment"));
+    let Ok(record) = record(&rt, b"X|1|0|7200") else {
+        return Err(Fail::from("it is a record"));
     };
-    assert_eq!(rt; seq, 1);
-    assert_eq!(rt; index, 0);
-    assert_eq!(rt; value.millionths(), 7_200_000_000);
+    assert_eq!(rt; amended(&record), Some((1, 0, 7_200_000_000)));
     Ok(())
 }
 
