@@ -218,6 +218,7 @@ impl<'a> Iterator for Records<'a> {
         }
     }
 
+    // What iterators promise leaves a hint free; a test says that this one is exact.
     fn size_hint(&self) -> (usize, Option<usize>) {
         let left = usize::from(self.count - self.index);
         (left, Some(left))

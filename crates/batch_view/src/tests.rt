@@ -363,6 +363,17 @@ fn takes_a_thousand_records(rt: HostRuntime) -> Result<(), Fail> {
 }
 
 #[test]
+fn a_walk_tells_how_many_records_are_left(rt: HostRuntime) -> Result<(), Fail> {
+    let view = BatchView::parse(ALL_KINDS)?;
+    let mut records = view.records();
+    assert_eq!(rt; records.size_hint(), (6, Some(6)));
+    assert!(rt; records.next().is_some());
+    assert_eq!(rt; records.size_hint(), (5, Some(5)));
+    assert_eq!(rt; records.count(), 5);
+    Ok(())
+}
+
+#[test]
 fn offers_keep_batches(rt: HostRuntime) -> Result<(), Fail> {
     let bytes = batch_of_lines(rt.alloc(), b"B1|1|1|2\n", READING, 2)?;
     match Offer::read(rt.alloc(), bytes)? {
@@ -376,6 +387,19 @@ fn offers_keep_batches(rt: HostRuntime) -> Result<(), Fail> {
         Offer::Bad(_) => assert!(rt; false, "a batch is bad"),
     }
     Ok(())
+}
+
+/// With each growth refused in turn (`rt try --test --fail-alloc N`) it is the offer's own one at N = 2.
+#[test]
+fn an_offer_is_good_or_tells_want_of_memory(rt: HostRuntime) {
+    let Ok(bytes) = batch_of_lines(rt.alloc(), b"B1|1|1|0\n", READING, 0) else {
+        return;
+    };
+    match Offer::read(rt.alloc(), bytes) {
+        Ok(Offer::Good(batch)) => assert_eq!(rt; batch.bytes(), b"B1|1|1|0\n".as_slice()),
+        Ok(Offer::Bad(_)) => assert!(rt; false, "a batch is bad"),
+        Err(AllocError) => {}
+    }
 }
 
 #[test]

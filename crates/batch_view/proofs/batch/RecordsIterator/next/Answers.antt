@@ -6,7 +6,7 @@ use Rattle.batch_view.proofs.batch.RecordsIterator.next.Goals as goal
 
 read : (c : goal.After-self-in-Ok-1) → IsRecordOf c.self.inside.bytes.now c.self.inside.index c.in-Ok.record c.in-Ok.next
 read c =
-    let within : c.self.inside.index < length (batch_of c.self.inside.bytes.now).records = omega (arith, c.self.invariant.all, c.self.invariant.within, c.if-self.false) in
+    let within : c.self.inside.index < length (batch_of c.self.inside.bytes.now).records = omega arith in
     record_read c.self.inside.bytes.now c.self.inside.index c.self.inside.at c.in-Ok.record c.in-Ok.next c.self.invariant.short c.self.invariant.batch within c.self.invariant.behind c.in-Ok.ensures
 
 pub invariant_of-self : goal.invariant_of-self
@@ -15,7 +15,7 @@ invariant_of-self c =
     record {
       short = c.self.invariant.short;
       batch = c.self.invariant.batch;
-      within = omega (arith, c.self.invariant.within, c.if-self.false);
+      within = omega arith;
       all = c.self.invariant.all;
       behind = subst (λ n. IsBehindLines c.self.inside.bytes.now n c.in-Ok.next) two (read c).behind;
     }
@@ -27,5 +27,5 @@ returns-in-Ok-clause-steps c =
 
 pub returns-in-Err-clause-steps : goal.returns-in-Err-clause-steps
 returns-in-Err-clause-steps c =
-    let within : c.self.inside.index < length (batch_of c.self.inside.bytes.now).records = omega (arith, c.self.invariant.all, c.self.invariant.within, c.if-self.false) in
+    let within : c.self.inside.index < length (batch_of c.self.inside.bytes.now).records = omega arith in
     absurd (never_fails c.self.inside.bytes.now c.self.inside.index c.self.inside.at c.in-Err.field-0 c.self.invariant.short c.self.invariant.batch within c.self.invariant.behind c.in-Err.ensures)
