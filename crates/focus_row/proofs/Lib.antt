@@ -1,0 +1,3 @@
+pub mod OneBatchLaws
+pub mod JournalLaws
+pub mod RowLemmas
