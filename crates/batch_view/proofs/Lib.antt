@@ -13,3 +13,4 @@ pub mod LineLemmas
 pub mod RecordLemmas
 pub mod SplitLemmas
 pub mod WalkLemmas
+pub mod TagsHold

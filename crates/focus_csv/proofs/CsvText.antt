@@ -1,0 +1,58 @@
+-- What the writer of CSV writes with its usual setup, in the words of the file.
+use Rattle.std.proofs.Common.{◌≡◌, ℕ, ◌≤◌, ◌==◌, ◌||◌, Bool, true, false, List, [], ◌∷◌, ◌++◌, length, map, refl, ap, ap₂, ◌∙◌, arith}
+use Rattle.std.specs.Prelude.{if◌then◌else◌}
+use Rattle.std.specs.List.{list_any, join_with_byte}
+use Rattle.std.proofs.lemmas.List.{append-nil}
+use Rattle.csv.specs.Writing as csv
+use Rattle.metering_model.specs.File.{quoted, marked}
+use Rattle.focus_csv.specs.Lines.{line_of}
+
+-- ---- which fields are quoted
+
+-- a comma, a quotation mark, CR or LF
+abbrev calls : ℕ → Bool
+calls c = (c == 44) || (c == 34) || (c == 13) || (c == 10)
+
+regrouped : (comma mark cr lf : Bool) → ((((comma || mark) || (cr || lf)) || false) || false) ≡ (((comma || mark) || cr) || lf)
+regrouped true mark cr lf = refl
+regrouped false true cr lf = refl
+regrouped false false true lf = refl
+regrouped false false false true = refl
+regrouped false false false false = refl
+
+byte_calls : (c : ℕ) → csv.needs_byte csv.default_writer c ≡ calls c
+byte_calls c = regrouped (c == 44) (c == 34) (c == 13) (c == 10)
+
+field_calls : (t : List ℕ) → list_any (csv.needs_byte csv.default_writer) t ≡ list_any calls t
+field_calls [] = refl
+field_calls (c ∷ cs) = ap₂ ◌||◌ (byte_calls c) (field_calls cs)
+
+-- ---- what stands between the quotation marks
+
+byte_marked : (mark : Bool) (c : ℕ) (t : List ℕ) → (if mark then 34 ∷ c ∷ t else c ∷ t) ≡ (if mark then 34 ∷ c ∷ [] else c ∷ []) ++ t
+byte_marked true c t = refl
+byte_marked false c t = refl
+
+inner_is : (t : List ℕ) → csv.escaped csv.default_writer t ≡ marked (λ c. c == 34) 34 t
+unfolding csv.escaped
+inner_is [] = refl
+inner_is (c ∷ cs) = ap (λ t. if c == 34 then 34 ∷ c ∷ t else c ∷ t) (inner_is cs) ∙ byte_marked (c == 34) c _
+
+field_is : (t : List ℕ) → csv.field_text csv.default_writer t ≡ quoted t
+field_is t = ap₂ (λ b inner. if b then 34 ∷ inner ++ 34 ∷ [] else t) (field_calls t) (inner_is t)
+
+-- ---- lines
+
+fields_are : (f : List ℕ) (fs : List (List ℕ)) → quoted f ++ csv.fields_text csv.default_writer fs ≡ join_with_byte 44 (map quoted (f ∷ fs))
+unfolding csv.fields_text
+fields_are f [] = append-nil (quoted f)
+fields_are f (g ∷ fs) =
+    ap (λ t. quoted f ++ 44 ∷ (t ++ csv.fields_text csv.default_writer fs)) (field_is g) ∙ ap (λ t. quoted f ++ 44 ∷ t) (fields_are g fs)
+
+-- a line of one field could be blank, and would then be written with two quotation marks
+pub line_is : (fs : List (List ℕ)) → 2 ≤ length fs → csv.row_text csv.default_writer fs ≡ line_of fs
+unfolding csv.is_blank
+line_is [] wide = absurd (omega arith)
+line_is (f ∷ []) wide = absurd (omega arith)
+line_is (f ∷ g ∷ fs) wide =
+    ap (λ t. (t ++ csv.fields_text csv.default_writer (g ∷ fs)) ++ 10 ∷ []) (field_is f) ∙ ap (λ t. t ++ 10 ∷ []) (fields_are f (g ∷ fs))

@@ -1,0 +1,5 @@
+mod JsonText
+mod Members
+mod CsvText
+mod Texts
+mod Files

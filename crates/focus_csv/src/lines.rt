@@ -1,0 +1,185 @@
+//! The lines of the file.
+
+ghost use Rattle.std.specs.Prelude.{◌≡◌, ◌≤◌, ◌++◌, ◌∷◌, [], map, length, IfOk, OnOk, Some};
+ghost use Rattle.std.specs.List.{flat_map};
+ghost use Rattle.std.specs.Option.{option_copied};
+ghost use Rattle.std.specs.Io.KnownBytes.{Appends};
+ghost use Rattle.metering_model.specs.File.{file, fields_of_row, header_line, row_text, text_or_null};
+ghost use Rattle.focus_row.specs.FocusRows.{row_of};
+ghost use Rattle.focus_csv.specs.Made.{AreMadeOf};
+ghost use Rattle.focus_csv.specs.Lines.{IsAtLineStart, writer_text, line_of};
+
+use crate::made::MadeTexts;
+use csv::{Writer, WriterBuilder};
+use focus_row::FocusRow;
+use std::alloc::{AllocError, Global};
+
+/// How many columns a row has.
+const COLUMNS: usize = 36;
+
+/// The names of the columns, in order.
+fn column_names() -> [&'static [u8]; COLUMNS]
+    ensures { line_of (map (λ n. n.now) result) ≡ header_line ++ 10 ∷ [] }
+{
+    [
+        b"BilledCost",
+        b"BillingAccountId",
+        b"BillingAccountName",
+        b"BillingCurrency",
+        b"BillingPeriodEnd",
+        b"BillingPeriodStart",
+        b"ChargeCategory",
+        b"ChargeClass",
+        b"ChargeDescription",
+        b"ChargeFrequency",
+        b"ChargePeriodEnd",
+        b"ChargePeriodStart",
+        b"CommitmentDiscountCategory",
+        b"CommitmentDiscountId",
+        b"CommitmentDiscountStatus",
+        b"CommitmentDiscountType",
+        b"ConsumedQuantity",
+        b"ConsumedUnit",
+        b"ContractedCost",
+        b"ContractedUnitPrice",
+        b"EffectiveCost",
+        b"InvoiceIssuerName",
+        b"ListCost",
+        b"ListUnitPrice",
+        b"PricingCategory",
+        b"PricingQuantity",
+        b"PricingUnit",
+        b"ProviderName",
+        b"PublisherName",
+        b"ResourceId",
+        b"ServiceCategory",
+        b"ServiceName",
+        b"SkuId",
+        b"SkuPriceId",
+        b"SubAccountId",
+        b"Tags",
+    ]
+}
+
+/// The text, which is empty for null.
+fn text_or_null<'a>(text: Option<&'a [u8]>) -> &'a [u8]
+    ensures { result.now ≡ text_or_null (option_copied text.entry) }
+{
+    match text {
+        Some(text) => text,
+        None => &[],
+    }
+}
+
+/// The texts of a row, in the order of the columns.
+fn row_fields<'a>(row: &'a FocusRow<'a>, made: &'a MadeTexts) -> [&'a [u8]; COLUMNS]
+    requires { AreMadeOf made.now (row_of row.now) }
+    ensures { map (λ f. f.now) result ≡ fields_of_row (row_of row.now) }
+{
+    [
+        made.billed_cost.as_bytes(),
+        row.billing_account_id,
+        row.billing_account_name,
+        row.billing_currency,
+        &row.billing_period_end,
+        &row.billing_period_start,
+        row.charge_category,
+        text_or_null(row.charge_class),
+        row.charge_description,
+        row.charge_frequency,
+        row.charge_period_end,
+        row.charge_period_start,
+        text_or_null(row.commitment_discount_category),
+        text_or_null(row.commitment_discount_id),
+        text_or_null(row.commitment_discount_status),
+        text_or_null(row.commitment_discount_type),
+        made.consumed_quantity.as_bytes(),
+        text_or_null(row.consumed_unit),
+        made.contracted_cost.as_bytes(),
+        made.contracted_unit_price.as_bytes(),
+        made.effective_cost.as_bytes(),
+        row.invoice_issuer_name,
+        made.list_cost.as_bytes(),
+        made.list_unit_price.as_bytes(),
+        text_or_null(row.pricing_category),
+        made.pricing_quantity.as_bytes(),
+        text_or_null(row.pricing_unit),
+        row.provider_name,
+        row.publisher_name,
+        text_or_null(row.resource_id),
+        row.service_category,
+        row.service_name,
+        text_or_null(row.sku_id),
+        text_or_null(row.sku_price_id),
+        text_or_null(row.sub_account_id),
+        made.tags.as_bytes(),
+    ]
+}
+
+/// Writes one more line.
+fn put_line(writer: &mut Writer<Vec<u8>>, fields: &[&[u8]]) -> Result<(), AllocError>
+    requires start { IsAtLineStart writer.old }
+    requires wide { 2 ≤ length fields.now }
+    ensures text { OnOk result (Appends (writer_text writer.old) (writer_text writer.new) (line_of (map (λ f. f.now) fields.now))) }
+    ensures start { OnOk result (IsAtLineStart writer.new) }
+{
+    match writer.write_fields(fields) {
+        Ok(()) => Ok(()),
+        // A vector takes all that it finds room for.
+        Err(_) => Err(AllocError),
+    }
+}
+
+/// Writes the line of a row.
+fn put_row(
+    alloc: Global,
+    writer: &mut Writer<Vec<u8>>,
+    made: &mut MadeTexts,
+    row: &FocusRow<'_>,
+) -> Result<(), AllocError>
+    requires { IsAtLineStart writer.old }
+    ensures text { OnOk result (Appends (writer_text writer.old) (writer_text writer.new) (row_text (row_of row.now))) }
+    ensures start { OnOk result (IsAtLineStart writer.new) }
+{
+    made.set(alloc, row)?;
+    put_line(writer, &row_fields(row, made))
+}
+
+/// A writer into memory that has written the header line.
+fn begin(alloc: Global) -> Result<Writer<Vec<u8>>, AllocError>
+    ensures text { IfOk result (λ w. writer_text w ≡ Some (header_line ++ 10 ∷ [])) }
+    ensures start { IfOk result IsAtLineStart }
+{
+    let mut writer = WriterBuilder::new().from_writer(Vec::new(alloc));
+    put_line(&mut writer, &column_names())?;
+    Ok(writer)
+}
+
+/// Writes the lines of the rows, in order.
+fn put_rows(
+    alloc: Global,
+    writer: &mut Writer<Vec<u8>>,
+    rows: &[FocusRow<'_>],
+) -> Result<(), AllocError>
+    requires { IsAtLineStart writer.old }
+    ensures { OnOk result (Appends (writer_text writer.old) (writer_text writer.new)
+        (flat_map row_text (map row_of rows.now))) }
+{
+    let mut made = MadeTexts::new(alloc);
+    for row in rows {
+        put_row(alloc, writer, &mut made, row)?;
+    }
+    Ok(())
+}
+
+/// The bytes of the file of the rows.
+pub(crate) fn file_bytes(alloc: Global, rows: &[FocusRow<'_>]) -> Result<Vec<u8>, AllocError>
+    ensures { IfOk result (λ v. v.items ≡ file (map row_of rows.now)) }
+{
+    let mut writer = begin(alloc)?;
+    put_rows(alloc, &mut writer, rows)?;
+    match writer.into_inner() {
+        Ok(bytes) => Ok(bytes),
+        Err(_) => Err(AllocError),
+    }
+}
