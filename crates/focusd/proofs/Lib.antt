@@ -1,0 +1,5 @@
+pub mod Amounts
+pub mod FlatRows
+pub mod FeedLaws
+pub mod ChargesLaws
+pub mod LineLaws

@@ -1,0 +1,5 @@
+pub mod RateInput
+pub mod Charges
+pub mod Faults
+pub mod CommandLine
+pub mod Endings
