@@ -6,6 +6,7 @@ ghost use Rattle.counted_io.specs.Counts.{count_after};
 ghost use Rattle.metering_model.specs.Transcript.{code_text, refusal_text, with_number};
 
 use counted_io::{Failed, Sink, write_all};
+use itoa::Buffer;
 use metering_model::{BatchCode, BatchFault, Refusal};
 
 fn write_number<W: Sink>(number: u32, writer: &mut W) -> Result<(), Failed>
@@ -14,11 +15,7 @@ fn write_number<W: Sink>(number: u32, writer: &mut W) -> Result<(), Failed>
     ensures count { W.failed_calls writer.new
         ≡ count_after (is_err result) (W.failed_calls writer.old) }
 {
-    if number < 10 {
-        return write_all(writer, &[b'0' + number as u8]);
-    }
-    write_number(number / 10, writer)?;
-    write_all(writer, &[b'0' + (number % 10) as u8])
+    write_all(writer, Buffer::new().format(number).as_bytes())
 }
 
 // The word, and the number behind it

@@ -338,7 +338,12 @@ fn each_fault_has_its_line_and_its_status(rt: HostRuntime) {
             1,
             b"focusd: refused G8 agent 64 seq 1000000\n",
         ),
+        (refused(Refusal::NoPacket), 1, b"focusd: refused G5\n"),
+        (refused(Refusal::NoNode), 1, b"focusd: refused G6\n"),
+        (refused(Refusal::AllClosed), 1, b"focusd: refused G9\n"),
         (refused(Refusal::NoBallot), 1, b"focusd: refused G10\n"),
+        (refused(Refusal::WorldFull), 1, b"focusd: refused G11\n"),
+        (refused(Refusal::NoAgent), 1, b"focusd: refused G12\n"),
     ];
     for (fault, status, line) in cases {
         let mut sink = writer(1, 0);
