@@ -24,7 +24,7 @@ use thiserror::Error;
 /// Why no rows are given.
 #[derive(Clone, Copy, Debug, PartialEq, Eq, Drop, Error)]
 pub enum RowFault {
-    /// The rule that the first record breaks which breaks one.
+    /// The rule for which the first record that is refused is so.
     #[error("{0}")]
     Broken(BrokenRule),
     /// No room could be made for the rows.
@@ -105,7 +105,8 @@ fn rows_of_readings<'a>(
 /// The rows of an agent's first batch in a billing period, from the zero cut to its front: a row for
 /// each reading in order, and none where the batch is not due.
 ///
-/// There is no price sheet yet, so a usage or a purchase is unpriced, and no amendment has a target.
+/// There is no price sheet yet, so a usage or a purchase is unpriced. Each amendment is refused as one
+/// without a target for now, also where its target is there.
 pub fn one_batch_rows<'a>(
     alloc: Global,
     batch: &BatchView<'a>,

@@ -8,7 +8,7 @@ ghost use Rattle.metering_model.specs.Step.{unless_broken};
 ghost use Rattle.metering_model.specs.declared.BrokenRule.{BrokenRule};
 ghost use Rattle.metering_model.specs.declared.Refusal.{Refusal};
 ghost use Rattle.focusd.specs.RateInput.{rated_file};
-ghost use Rattle.focusd.specs.Charges.{BillsBatch};
+ghost use Rattle.focusd.specs.Charges.{IsFileOf};
 ghost use Rattle.focusd.specs.Faults.{is_read_fault, is_write_fault};
 
 use batch_view::BatchView;
@@ -48,10 +48,9 @@ pub fn rate_text<R: Source, W: Sink>(
     writer: &mut W,
 ) -> Result<(), PlayFault>
     // With Ok just the file of the input was written.
-    ensures file { OnOk result (IfSome (R.remaining reader.old) (λ input. (text : List ℕ)
-        × (rated_file period input ≡ Ok text)
-        × Appends (W.contents writer.old) (W.contents writer.new) text
-        × BillsBatch period input text)) }
+    ensures file { OnOk result ((input text : List ℕ)
+        × IsFileOf (R.remaining reader.old) period input text
+        × Appends (W.contents writer.old) (W.contents writer.new) text) }
     ensures refused { (refusal : Refusal) → result ≡ Err (PlayFault.Refused refusal)
         → IfSome (R.remaining reader.old) (λ input. rated_file period input ≡ Err refusal) }
     ensures read_fault { result ≡ Err PlayFault.Read
