@@ -56,6 +56,8 @@ fn grammar<'a>(alloc: Global) -> Result<clap::Command<'a>, LineFault>
 }
 
 /// Reads the words behind the program's name.
+///
+/// `Line` says that they ask for nothing, and `OutOfMemory` nothing of them.
 pub fn command(alloc: Global, words: &[String]) -> Result<Command, LineFault>
     ensures asked { IfOk result (Asks (map string_bytes words.now)) }
     ensures line { result ≡ Err LineFault.Line
