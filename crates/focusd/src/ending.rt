@@ -67,7 +67,7 @@ fn write_line<W: Sink>(fault: &Fault, writer: &mut W) -> Result<(), Failed>
 pub fn ending<W: Sink>(fault: &Fault, writer: &mut W) -> u8
     ensures status { result ≡ status_of fault.now }
 
-    // The line was written and no call failed, or one call did and was the last.
+    // The line was written and no call failed, or just one did.
     ensures line { (Appends (W.contents writer.old) (W.contents writer.new) (ending_line fault.now)
         × (W.failed_calls writer.new ≡ W.failed_calls writer.old))
         ⊎ (W.failed_calls writer.new ≡ next_count (W.failed_calls writer.old)) }
