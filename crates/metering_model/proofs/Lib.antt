@@ -26,3 +26,4 @@ mod WorkedRates
 mod WorkedRows
 mod WorkedBallots
 mod WorkedPeriods
+mod WorkedSheets

@@ -45,6 +45,14 @@ up_to cut h = filter (λ b. nat_le b.seq (last_of cut b.agent)) h
 pub record AgreeUpTo (cut : Cut) (h k : Holding) : Type 0 where
   pub same : (agent seq : ℕ) → seq ≤ last_of cut agent → held h agent seq ≡ held k agent seq
 
+-- The one has no batch that the other lacks.
+pub record IsPartOf (part whole : Holding) : Type 0 where
+  pub had : (agent seq : ℕ) (b : Batch) → held part agent seq ≡ Some b → held whole agent seq ≡ Some b
+
+-- The one has each batch of the other up to a cut.
+pub record LacksNothingUpTo (cut : Cut) (part whole : Holding) : Type 0 where
+  pub had : (agent seq : ℕ) (b : Batch) → seq ≤ last_of cut agent → held whole agent seq ≡ Some b → held part agent seq ≡ Some b
+
 -- where a record stands; indexes count from 0, amendments too
 pub record Position : Type 0 where
   pub agent : ℕ

@@ -7,6 +7,7 @@ pub mod Cut
 pub mod Holding
 pub mod ValueAtSequence
 pub mod Sheet
+pub mod SheetRules
 pub mod PriceInForce
 pub mod Rating
 pub mod JournalRules
