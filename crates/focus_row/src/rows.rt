@@ -8,8 +8,8 @@ ghost use Rattle.metering_model.specs.Sheet.{Sheet};
 ghost use Rattle.metering_model.specs.Front.{starts_before};
 ghost use Rattle.batch_view.specs.Batches.{batch_of};
 ghost use Rattle.batch_view.specs.Lent.{record_of};
-ghost use Rattle.focus_row.specs.FocusRows.{row_of};
-ghost use Rattle.focus_row.specs.Charging.{ArePeriodTexts, new_rows};
+ghost use Rattle.focus_row.specs.FocusRows.{model_row};
+ghost use Rattle.focus_row.specs.Inner.Charging.{ArePeriodTexts, new_rows};
 ghost use Rattle.focus_row.specs.OneBatch.{empty_sheet, rows_alone, refusal_of, first_refusal};
 
 use crate::charges::{Billing, new_row};
@@ -22,7 +22,7 @@ use std::alloc::{AllocError, Global};
 use thiserror::Error;
 
 /// Why no rows are given.
-#[derive(Clone, Copy, Debug, PartialEq, Eq, Drop, Error)]
+#[derive(Clone, Copy, Debug, Drop, Error)]
 pub enum RowFault {
     /// The rule for which the first record that is refused is so.
     #[error("{0}")]
@@ -88,7 +88,7 @@ fn rows_of_readings<'a>(
     requires flat { first_refusal (batch_of batch.now).records ≡ None }
     ensures { IfOk result (λ rows. (sheet : Sheet) (period : ℕ)
         → ArePeriodTexts sheet.base period billing.now.start_text billing.now.end_text
-        → map row_of rows.items
+        → map model_row rows.items
         ≡ new_rows sheet billing.now.issuer.now period (batch_of batch.now).records) }
 {
     let mut rows = Vec::with_capacity(alloc, usize::from(batch.count()))?;
@@ -105,6 +105,8 @@ fn rows_of_readings<'a>(
 /// The rows of an agent's first batch in a billing period, from the zero cut to its front: a row for
 /// each reading in order, and none where the batch is not due.
 ///
+/// A record that is refused is told before any room is asked for, so want of memory hides no refusal.
+///
 /// There is no price sheet yet, so a usage or a purchase is unpriced. Each amendment is refused as one
 /// without a target for now, also where its target is there.
 pub fn one_batch_rows<'a>(
@@ -117,8 +119,10 @@ pub fn one_batch_rows<'a>(
     requires base { IsBaseMonth base }
     requires first { (batch_of batch.now).seq ≡ 1 }
     ensures rows { IfOk result (λ rows.
-        map row_of rows.items ≡ rows_alone (empty_sheet base) issuer.now (batch_of batch.now) period) }
+        map model_row rows.items ≡ rows_alone (empty_sheet base) issuer.now (batch_of batch.now) period) }
     ensures taken { IfOk result (λ rows. first_refusal (batch_of batch.now).records ≡ None) }
+    ensures memory { result ≡ Err RowFault.OutOfMemory
+        → first_refusal (batch_of batch.now).records ≡ None }
     ensures broken { (rule : BrokenRule) → result ≡ Err (RowFault.Broken rule)
         → first_refusal (batch_of batch.now).records ≡ Some rule }
 {

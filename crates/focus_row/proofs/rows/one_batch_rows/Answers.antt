@@ -6,7 +6,7 @@ use Rattle.metering_model.specs.Sheet.{Issuer}
 use Rattle.metering_model.proofs.BatchLaws.{batch_read}
 use Rattle.batch_view.specs.Batches.{batch_of}
 use Rattle.focus_row.specs.OneBatch.{empty_sheet, rows_alone, first_refusal}
-use Rattle.focus_row.specs.Charging.{new_rows}
+use Rattle.focus_row.specs.Inner.Charging.{new_rows}
 use Rattle.focus_row.proofs.OneBatchLaws.{rows_alone_are}
 use Rattle.focus_row.proofs.rows.one_batch_rows.Goals as goal
 
