@@ -1,11 +1,11 @@
 //! The rows of a batch.
 
-ghost use Rattle.std.specs.Prelude.{◌≡◌, ℕ, map, Some, None, Err, IfOk};
+ghost use Rattle.std.specs.Prelude.{◌≡◌, ℕ, [], if◌then◌else◌, map, Some, None, Err, IfOk};
 ghost use Rattle.std.specs.List.{list_all};
 ghost use Rattle.metering_model.specs.declared.BrokenRule.{BrokenRule};
 ghost use Rattle.metering_model.specs.Dates.{IsBaseMonth};
 ghost use Rattle.metering_model.specs.Sheet.{Sheet};
-ghost use Rattle.metering_model.specs.Front.{starts_before};
+ghost use Rattle.metering_model.specs.Front.{starts_before, is_due};
 ghost use Rattle.batch_view.specs.Batches.{batch_of};
 ghost use Rattle.batch_view.specs.Lent.{record_of};
 ghost use Rattle.focus_row.specs.FocusRows.{model_row};
@@ -68,15 +68,23 @@ fn starts_before(record: &Record<'_>, moment: Stamp) -> bool
 }
 
 /// Whether each reading of the batch starts before that moment.
-fn is_due(batch: &BatchView<'_>, end: Stamp) -> bool
-    ensures { result ≡ list_all (starts_before end) (batch_of batch.now).records }
+fn all_start_before(batch: &BatchView<'_>, moment: Stamp) -> bool
+    ensures { result ≡ list_all (starts_before moment) (batch_of batch.now).records }
 {
     for record in batch.records() {
-        if !starts_before(&record, end) {
+        if !starts_before(&record, moment) {
             return false;
         }
     }
     true
+}
+
+/// Whether the batch may be charged in the period: no reading of it starts later than that.
+fn is_due(batch: &BatchView<'_>, base: Month, period: Period) -> bool
+    requires { IsBaseMonth base }
+    ensures { result ≡ is_due base period (batch_of batch.now) }
+{
+    all_start_before(batch, period.end(base))
 }
 
 /// A new row for each reading, in order.
@@ -100,6 +108,28 @@ fn rows_of_readings<'a>(
         }
     }
     Ok(rows)
+}
+
+/// A new row for each reading in order, and none where the batch is not due.
+fn due_rows<'a>(
+    alloc: Global,
+    batch: &BatchView<'a>,
+    issuer: &'a Issuer,
+    base: Month,
+    period: Period,
+) -> Result<Vec<FocusRow<'a>>, AllocError>
+    requires base { IsBaseMonth base }
+    requires flat { first_refusal (batch_of batch.now).records ≡ None }
+    ensures { IfOk result (λ rows. map model_row rows.items
+        ≡ (if is_due base period (batch_of batch.now)
+        then new_rows (empty_sheet base) issuer.now period (batch_of batch.now).records
+        else [])) }
+{
+    if !is_due(batch, base, period) {
+        return Ok(Vec::new(alloc));
+    }
+    let billing = Billing::new(issuer, base, period);
+    rows_of_readings(alloc, batch, &billing)
 }
 
 /// The rows of an agent's first batch in a billing period, from the zero cut to its front: a row for
@@ -131,11 +161,7 @@ pub fn one_batch_rows<'a>(
     if let Some(rule) = first_refusal(batch) {
         return Err(RowFault::Broken(rule));
     }
-    if !is_due(batch, period.end(base)) {
-        return Ok(Vec::new(alloc));
-    }
-    let billing = Billing::new(issuer, base, period);
-    match rows_of_readings(alloc, batch, &billing) {
+    match due_rows(alloc, batch, issuer, base, period) {
         Ok(rows) => Ok(rows),
         Err(_) => Err(RowFault::OutOfMemory),
     }
