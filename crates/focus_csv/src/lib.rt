@@ -4,6 +4,7 @@
 ghost use Rattle.std.specs.Prelude.{◌≡◌, ◌≢◌, map, Err, IfErr, OnOk};
 ghost use Rattle.std.specs.Io.KnownBytes.{Appends};
 ghost use Rattle.counted_io.specs.Counts.{Rises, count_after};
+ghost use Rattle.counted_io.specs.Writing.{AppendsFront};
 ghost use Rattle.metering_model.specs.File.{file};
 ghost use Rattle.focus_row.specs.FocusRows.{model_row};
 ghost use Rattle.focus_csv.specs.Faults.{is_sink_fault};
@@ -31,8 +32,8 @@ pub enum CsvFault {
 
 /// Writes the file of the rows: the header line, and a line for each row in order.
 ///
-/// `Write` comes only from a failed call of the sink, and that is the only one: of what went out
-/// before it nothing is said. At any other fault the sink is as it was.
+/// `Write` comes only from a failed call of the sink, and that is the only one: a front of the file
+/// that is not all of it went out. At any other fault the sink is as it was.
 pub fn write_file<W: Sink>(
     alloc: Global,
     rows: &[FocusRow<'_>],
@@ -40,6 +41,8 @@ pub fn write_file<W: Sink>(
 ) -> Result<(), CsvFault>
     ensures written { OnOk result
         (Appends (W.contents sink.old) (W.contents sink.new) (file (map model_row rows.now))) }
+    ensures front { result ≡ Err CsvFault.Write
+        → AppendsFront (W.contents sink.old) (W.contents sink.new) (file (map model_row rows.now)) }
     ensures fault { result ≡ Err CsvFault.Write
         → Rises (W.failed_calls sink.old) (W.failed_calls sink.new) }
     ensures count { W.failed_calls sink.new
