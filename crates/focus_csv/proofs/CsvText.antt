@@ -5,7 +5,7 @@ use Rattle.std.specs.List.{list_any, join_with_byte}
 use Rattle.std.proofs.lemmas.List.{append-nil}
 use Rattle.csv.specs.Writing as csv
 use Rattle.metering_model.specs.File.{quoted, marked}
-use Rattle.focus_csv.specs.Lines.{line_of}
+use Rattle.focus_csv.specs.Inner.Lines.{line_of}
 
 -- ---- which fields are quoted
 

@@ -5,14 +5,14 @@ use Rattle.std.proofs.lemmas.List.{append-nil, map-append, take_more}
 use Rattle.std.proofs.lemmas.Grind.{flat_map-append}
 use Rattle.metering_model.specs.File.{row_text}
 use Rattle.focus_row.specs.declared.row.FocusRow.{FocusRow}
-use Rattle.focus_row.specs.FocusRows.{row_of}
+use Rattle.focus_row.specs.FocusRows.{model_row}
 
 each_more : {X : Type 0} (f : X → List ℕ) (xs : List X) (x : X) → flat_map f xs ++ f x ≡ flat_map f (xs ++ x ∷ [])
 each_more f xs x = ap (λ t. flat_map f xs ++ t) (sym (append-nil (f x))) ∙ sym (flat_map-append f xs (x ∷ []))
 
 pub rows_more : (rows : List FocusRow) (i : ℕ) (row : FocusRow) → i < length rows → row ≡ get_or rows i row
-    → flat_map row_text (map row_of (take i rows)) ++ row_text (row_of row) ≡ flat_map row_text (map row_of (take (i + 1) rows))
+    → flat_map row_text (map model_row (take i rows)) ++ row_text (model_row row) ≡ flat_map row_text (map model_row (take (i + 1) rows))
 rows_more rows i row lt is =
-    each_more row_text (map row_of (take i rows)) (row_of row)
-    ∙ ap (flat_map row_text) (sym (map-append row_of (take i rows) (row ∷ []))
-    ∙ ap (map row_of) (ap (λ r. take i rows ++ r ∷ []) is ∙ sym (take_more rows i row lt)))
+    each_more row_text (map model_row (take i rows)) (model_row row)
+    ∙ ap (flat_map row_text) (sym (map-append model_row (take i rows) (row ∷ []))
+    ∙ ap (map model_row) (ap (λ r. take i rows ++ r ∷ []) is ∙ sym (take_more rows i row lt)))

@@ -3,7 +3,7 @@ use Rattle.std.specs.Prelude.{Bool, true, false, Result, Ok, Err}
 use Rattle.focus_csv.specs.declared.CsvFault.{CsvFault}
 use Rattle.focus_csv.specs.declared.CsvFault.TheVariants.{Write, OutOfMemory}
 
-abbrev pub is_write_fault : {A : Type 0} → Result A CsvFault → Bool
-is_write_fault (Ok x) = false
-is_write_fault (Err Write) = true
-is_write_fault (Err OutOfMemory) = false
+abbrev pub is_sink_fault : {A : Type 0} → Result A CsvFault → Bool
+is_sink_fault (Ok x) = false
+is_sink_fault (Err Write) = true
+is_sink_fault (Err OutOfMemory) = false

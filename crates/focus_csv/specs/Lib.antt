@@ -1,3 +1,2 @@
 pub mod Faults
-pub mod Made
-pub mod Lines
+pub mod Inner

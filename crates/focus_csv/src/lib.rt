@@ -1,12 +1,13 @@
 //! The CSV file of rows of charges.
 #![tactic(auto)]
 
-ghost use Rattle.std.specs.Prelude.{◌≡◌, map, Err, OnOk};
+ghost use Rattle.std.specs.Prelude.{◌≡◌, ◌≢◌, map, Err, IfErr, OnOk};
 ghost use Rattle.std.specs.Io.KnownBytes.{Appends};
 ghost use Rattle.counted_io.specs.Counts.{Rises, count_after};
+ghost use Rattle.counted_io.specs.Writing.{AppendsFront};
 ghost use Rattle.metering_model.specs.File.{file};
-ghost use Rattle.focus_row.specs.FocusRows.{row_of};
-ghost use Rattle.focus_csv.specs.Faults.{is_write_fault};
+ghost use Rattle.focus_row.specs.FocusRows.{model_row};
+ghost use Rattle.focus_csv.specs.Faults.{is_sink_fault};
 
 use counted_io::{Sink, write_all};
 use focus_row::FocusRow;
@@ -17,11 +18,9 @@ use thiserror::Error;
 mod lines;
 mod made;
 mod tags;
-#[cfg(test)]
-mod tests;
 
 /// Why a file was not written.
-#[derive(Clone, Copy, Debug, PartialEq, Eq, Drop, Error)]
+#[derive(Clone, Copy, Debug, Drop, Error)]
 pub enum CsvFault {
     /// C1: a call of the sink failed.
     #[error("write failed")]
@@ -33,19 +32,22 @@ pub enum CsvFault {
 
 /// Writes the file of the rows: the header line, and a line for each row in order.
 ///
-/// `Write` comes only from a failed call of the sink, and that is the only one. After a fault nothing
-/// is said of what went out.
+/// `Write` comes only from a failed call of the sink, and that is the only one: a front of the file
+/// that is not all of it went out. At any other fault the sink is as it was.
 pub fn write_file<W: Sink>(
     alloc: Global,
     rows: &[FocusRow<'_>],
     sink: &mut W,
 ) -> Result<(), CsvFault>
     ensures written { OnOk result
-        (Appends (W.contents sink.old) (W.contents sink.new) (file (map row_of rows.now))) }
+        (Appends (W.contents sink.old) (W.contents sink.new) (file (map model_row rows.now))) }
+    ensures front { result ≡ Err CsvFault.Write
+        → AppendsFront (W.contents sink.old) (W.contents sink.new) (file (map model_row rows.now)) }
     ensures fault { result ≡ Err CsvFault.Write
         → Rises (W.failed_calls sink.old) (W.failed_calls sink.new) }
     ensures count { W.failed_calls sink.new
-        ≡ count_after (is_write_fault result) (W.failed_calls sink.old) }
+        ≡ count_after (is_sink_fault result) (W.failed_calls sink.old) }
+    ensures kept { IfErr result (λ fault. fault ≢ CsvFault.Write → sink.new ≡ sink.old) }
 {
     let Ok(bytes) = file_bytes(alloc, rows) else {
         return Err(CsvFault::OutOfMemory);

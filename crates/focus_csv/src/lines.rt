@@ -5,9 +5,9 @@ ghost use Rattle.std.specs.List.{flat_map};
 ghost use Rattle.std.specs.Option.{option_copied};
 ghost use Rattle.std.specs.Io.KnownBytes.{Appends};
 ghost use Rattle.metering_model.specs.File.{file, fields_of_row, header_line, row_text, text_or_null};
-ghost use Rattle.focus_row.specs.FocusRows.{row_of};
-ghost use Rattle.focus_csv.specs.Made.{AreMadeOf};
-ghost use Rattle.focus_csv.specs.Lines.{IsAtLineStart, writer_text, line_of};
+ghost use Rattle.focus_row.specs.FocusRows.{model_row};
+ghost use Rattle.focus_csv.specs.Inner.Made.{AreMadeOf};
+ghost use Rattle.focus_csv.specs.Inner.Lines.{IsAtLineStart, writer_text, line_of};
 
 use crate::made::MadeTexts;
 use csv::{Writer, WriterBuilder};
@@ -73,8 +73,8 @@ fn text_or_null<'a>(text: Option<&'a [u8]>) -> &'a [u8]
 
 /// The texts of a row, in the order of the columns.
 fn row_fields<'a>(row: &'a FocusRow<'a>, made: &'a MadeTexts) -> [&'a [u8]; COLUMNS]
-    requires { AreMadeOf made.now (row_of row.now) }
-    ensures { map (λ f. f.now) result ≡ fields_of_row (row_of row.now) }
+    requires { AreMadeOf made.now (model_row row.now) }
+    ensures { map (λ f. f.now) result ≡ fields_of_row (model_row row.now) }
 {
     [
         made.billed_cost.as_bytes(),
@@ -138,7 +138,7 @@ fn put_row(
     row: &FocusRow<'_>,
 ) -> Result<(), AllocError>
     requires { IsAtLineStart writer.old }
-    ensures text { OnOk result (Appends (writer_text writer.old) (writer_text writer.new) (row_text (row_of row.now))) }
+    ensures text { OnOk result (Appends (writer_text writer.old) (writer_text writer.new) (row_text (model_row row.now))) }
     ensures start { OnOk result (IsAtLineStart writer.new) }
 {
     made.set(alloc, row)?;
@@ -163,7 +163,7 @@ fn put_rows(
 ) -> Result<(), AllocError>
     requires { IsAtLineStart writer.old }
     ensures { OnOk result (Appends (writer_text writer.old) (writer_text writer.new)
-        (flat_map row_text (map row_of rows.now))) }
+        (flat_map row_text (map model_row rows.now))) }
 {
     let mut made = MadeTexts::new(alloc);
     for row in rows {
@@ -174,7 +174,7 @@ fn put_rows(
 
 /// The bytes of the file of the rows.
 pub(crate) fn file_bytes(alloc: Global, rows: &[FocusRow<'_>]) -> Result<Vec<u8>, AllocError>
-    ensures { IfOk result (λ v. v.items ≡ file (map row_of rows.now)) }
+    ensures { IfOk result (λ v. v.items ≡ file (map model_row rows.now)) }
 {
     let mut writer = begin(alloc)?;
     put_rows(alloc, &mut writer, rows)?;

@@ -3,8 +3,8 @@
 ghost use Rattle.std.specs.Prelude.{◌≡◌, string_bytes, OnOk};
 ghost use Rattle.metering_model.specs.NumberText.{spelling};
 ghost use Rattle.metering_model.specs.File.{quantity_or_null, price_or_null};
-ghost use Rattle.focus_row.specs.FocusRows.{row_of};
-ghost use Rattle.focus_csv.specs.Made.{AreMadeOf};
+ghost use Rattle.focus_row.specs.FocusRows.{model_row};
+ghost use Rattle.focus_csv.specs.Inner.Made.{AreMadeOf};
 
 use crate::tags::tags_json;
 use focus_row::FocusRow;
@@ -74,7 +74,7 @@ impl MadeTexts {
 
     /// Makes the texts those of a row.
     pub(crate) fn set(&mut self, alloc: Global, row: &FocusRow<'_>) -> Result<(), AllocError>
-        ensures { OnOk result (AreMadeOf self.new (row_of row.now)) }
+        ensures { OnOk result (AreMadeOf self.new (model_row row.now)) }
     {
         set_cost(&mut self.billed_cost, row.billed_cost)?;
         set_quantity(&mut self.consumed_quantity, row.consumed_quantity)?;

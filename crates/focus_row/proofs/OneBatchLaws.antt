@@ -14,7 +14,8 @@ use Rattle.metering_model.specs.Sheet.{Sheet, Issuer}
 use Rattle.metering_model.specs.Holding.{Holding, Position, Placed, placed, held, is_same_place, records_in_order, reading_of, up_to}
 use Rattle.metering_model.specs.ValueAtSequence.{value_at, value_given_by, journal_until}
 use Rattle.metering_model.specs.Front.{is_due, can_close, front_of, front}
-use Rattle.metering_model.specs.Row.{Row, row, New}
+use Rattle.metering_model.specs.declared.ChargeClass.TheVariants.{New}
+use Rattle.metering_model.specs.Row.{Row, row}
 use Rattle.metering_model.specs.Rows.{placed_row}
 use Rattle.metering_model.proofs.HoldingLaws.{IsHolding-nil, held-put_same}
 use Rattle.metering_model.specs.declared.BrokenRule.{BrokenRule}

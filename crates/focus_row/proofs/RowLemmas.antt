@@ -4,24 +4,25 @@ use Rattle.std.proofs.lemmas.List.{map-append}
 use Rattle.metering_model.specs.Sheet.{Sheet, Issuer}
 use Rattle.metering_model.specs.Batch.{Reading, Record, Reads}
 use Rattle.metering_model.specs.declared.BrokenRule.{BrokenRule}
-use Rattle.metering_model.specs.Row.{Row, row, New}
+use Rattle.metering_model.specs.declared.ChargeClass.TheVariants.{New}
+use Rattle.metering_model.specs.Row.{Row, row}
 use Rattle.focus_row.specs.declared.row.FocusRow.{FocusRow}
-use Rattle.focus_row.specs.FocusRows.{row_of}
-use Rattle.focus_row.specs.Charging.{new_rows}
+use Rattle.focus_row.specs.FocusRows.{model_row}
+use Rattle.focus_row.specs.Inner.Charging.{new_rows}
 use Rattle.focus_row.specs.OneBatch.{refusal_of, first_refusal}
 
 -- One more row, and one reading less that is left.
 pub one_more_row : (sheet : Sheet) (issuer : Issuer) (period : ℕ) (had has : List FocusRow) (it : FocusRow) (r : Reading) (before after : List Record) (all : List Row)
-    → has ≡ had ++ it ∷ [] → row_of it ≡ row sheet issuer r period New (pos 0) r.value → before ≡ Reads r ∷ after
-    → map row_of had ++ new_rows sheet issuer period before ≡ all
-    → map row_of has ++ new_rows sheet issuer period after ≡ all
+    → has ≡ had ++ it ∷ [] → model_row it ≡ row sheet issuer r period New (pos 0) r.value → before ≡ Reads r ∷ after
+    → map model_row had ++ new_rows sheet issuer period before ≡ all
+    → map model_row has ++ new_rows sheet issuer period after ≡ all
 one_more_row sheet issuer period had has it r before after all pushed is_row first so_far =
     let left = new_rows sheet issuer period in
-    ap (λ xs. map row_of xs ++ left after) pushed
-    ∙ ap (λ xs. xs ++ left after) (map-append row_of had (it ∷ []))
-    ∙ append_assoc (map row_of had) (row_of it ∷ []) (left after)
-    ∙ ap (λ x. map row_of had ++ x ∷ left after) is_row
-    ∙ ap (λ rs. map row_of had ++ left rs) (sym first)
+    ap (λ xs. map model_row xs ++ left after) pushed
+    ∙ ap (λ xs. xs ++ left after) (map-append model_row had (it ∷ []))
+    ∙ append_assoc (map model_row had) (model_row it ∷ []) (left after)
+    ∙ ap (λ x. map model_row had ++ x ∷ left after) is_row
+    ∙ ap (λ rs. map model_row had ++ left rs) (sym first)
     ∙ so_far
 
 -- Where no record is refused, none of the later ones is.

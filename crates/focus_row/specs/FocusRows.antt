@@ -6,8 +6,8 @@ use Rattle.batch_view.specs.TagTexts.{tag_of}
 use Rattle.batch_view.specs.Lent.{lent_tags}
 use Rattle.focus_row.specs.declared.row.FocusRow.{FocusRow}
 
-abbrev pub row_of : FocusRow → Row
-row_of r = record {
+abbrev pub model_row : FocusRow → Row
+model_row r = record {
   billed_cost = r.billed_cost;
   billing_account_id = r.billing_account_id.now;
   billing_account_name = r.billing_account_name.now;

@@ -1,4 +1,4 @@
 pub mod Samples
 pub mod FocusRows
 pub mod OneBatch
-pub mod Charging
+pub mod Inner

@@ -6,26 +6,21 @@ ghost use Rattle.metering_model.specs.Sheet.{Sheet};
 ghost use Rattle.metering_model.specs.Dates.{IsBaseMonth};
 ghost use Rattle.metering_model.specs.Batch.{is_priced};
 ghost use Rattle.metering_model.specs.Rating.{cost_at};
-ghost use Rattle.metering_model.specs.Row.{row, or_null, category_text, class_text, New};
+ghost use Rattle.metering_model.specs.declared.ChargeClass.TheVariants.{New};
+ghost use Rattle.metering_model.specs.Row.{row, or_null, category_text, class_text};
 ghost use Rattle.batch_view.specs.Lent.{reading_of};
-ghost use Rattle.focus_row.specs.FocusRows.{row_of};
-ghost use Rattle.focus_row.specs.Charging.{class_of, ArePeriodTexts};
+ghost use Rattle.focus_row.specs.FocusRows.{model_row};
+ghost use Rattle.focus_row.specs.Inner.Charging.{ArePeriodTexts};
 
 use crate::issuer::Issuer;
 use crate::row::FocusRow;
 use batch_view::{Kind, Reading};
 use fx_money::{Cost, Value};
+use metering_model::ChargeClass;
 use period_cut::{Month, Period};
 
 /// A value counts millionths, and a cost units of 10^-12.
 const UNITS_PER_MILLIONTH: i128 = 1_000_000;
-
-/// Whether a charge is new, or corrects one of an earlier billing period.
-#[derive(Clone, Copy, Debug, PartialEq, Eq, Drop)]
-pub(crate) enum ChargeClass {
-    New,
-    Correction,
-}
 
 /// What all rows of a billing period share: who bills, and the period's start and end.
 #[derive(Clone, Copy)]
@@ -51,7 +46,7 @@ impl<'a> Billing<'a> {
 
 /// FOCUS's ChargeClass.
 fn class_text<'a>(class: ChargeClass) -> Option<&'a [u8]>
-    ensures { option_copied result ≡ class_text (class_of class) }
+    ensures { option_copied result ≡ class_text class }
 {
     match class {
         ChargeClass::New => None,
@@ -98,8 +93,8 @@ pub(crate) fn flat_row<'a>(
     requires flat { is_priced reading.now.kind ≡ false }
     ensures { (sheet : Sheet) (period : ℕ)
         → ArePeriodTexts sheet.base period billing.now.start_text billing.now.end_text
-        → row_of result
-        ≡ row sheet billing.now.issuer.now (reading_of reading.now) period (class_of class) was now }
+        → model_row result
+        ≡ row sheet billing.now.issuer.now (reading_of reading.now) period class was now }
 {
     let issuer = billing.issuer;
     let cost = amount(was, now);
@@ -148,7 +143,7 @@ pub(crate) fn new_row<'a>(billing: &Billing<'a>, reading: &Reading<'a>) -> Focus
     requires flat { is_priced reading.now.kind ≡ false }
     ensures { (sheet : Sheet) (period : ℕ)
         → ArePeriodTexts sheet.base period billing.now.start_text billing.now.end_text
-        → row_of result ≡ row sheet billing.now.issuer.now (reading_of reading.now) period New (pos 0) reading.now.value }
+        → model_row result ≡ row sheet billing.now.issuer.now (reading_of reading.now) period New (pos 0) reading.now.value }
 {
     let nothing = Value::new(0).unwrap();
     flat_row(billing, reading, ChargeClass::New, nothing, reading.value)

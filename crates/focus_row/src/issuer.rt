@@ -7,7 +7,7 @@ use std::alloc::{AllocError, Global};
 use std::marker::Model;
 
 /// Who provides, publishes and invoices the charges, who pays them, and in which currency.
-#[derive(Debug, Drop)]
+#[derive(Drop)]
 pub struct Issuer {
     pub(crate) provider: String,
     pub(crate) publisher: String,

@@ -10,6 +10,3 @@ mod rows;
 pub use issuer::Issuer;
 pub use row::FocusRow;
 pub use rows::{RowFault, one_batch_rows};
-
-#[cfg(test)]
-mod tests;

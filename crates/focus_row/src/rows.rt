@@ -1,15 +1,15 @@
 //! The rows of a batch.
 
-ghost use Rattle.std.specs.Prelude.{◌≡◌, ℕ, map, Some, None, Err, IfOk};
+ghost use Rattle.std.specs.Prelude.{◌≡◌, ℕ, [], if◌then◌else◌, map, Some, None, Err, IfOk};
 ghost use Rattle.std.specs.List.{list_all};
 ghost use Rattle.metering_model.specs.declared.BrokenRule.{BrokenRule};
 ghost use Rattle.metering_model.specs.Dates.{IsBaseMonth};
 ghost use Rattle.metering_model.specs.Sheet.{Sheet};
-ghost use Rattle.metering_model.specs.Front.{starts_before};
+ghost use Rattle.metering_model.specs.Front.{starts_before, is_due};
 ghost use Rattle.batch_view.specs.Batches.{batch_of};
 ghost use Rattle.batch_view.specs.Lent.{record_of};
-ghost use Rattle.focus_row.specs.FocusRows.{row_of};
-ghost use Rattle.focus_row.specs.Charging.{ArePeriodTexts, new_rows};
+ghost use Rattle.focus_row.specs.FocusRows.{model_row};
+ghost use Rattle.focus_row.specs.Inner.Charging.{ArePeriodTexts, new_rows};
 ghost use Rattle.focus_row.specs.OneBatch.{empty_sheet, rows_alone, refusal_of, first_refusal};
 
 use crate::charges::{Billing, new_row};
@@ -22,7 +22,7 @@ use std::alloc::{AllocError, Global};
 use thiserror::Error;
 
 /// Why no rows are given.
-#[derive(Clone, Copy, Debug, PartialEq, Eq, Drop, Error)]
+#[derive(Clone, Copy, Debug, Drop, Error)]
 pub enum RowFault {
     /// The rule for which the first record that is refused is so.
     #[error("{0}")]
@@ -68,15 +68,23 @@ fn starts_before(record: &Record<'_>, moment: Stamp) -> bool
 }
 
 /// Whether each reading of the batch starts before that moment.
-fn is_due(batch: &BatchView<'_>, end: Stamp) -> bool
-    ensures { result ≡ list_all (starts_before end) (batch_of batch.now).records }
+fn all_start_before(batch: &BatchView<'_>, moment: Stamp) -> bool
+    ensures { result ≡ list_all (starts_before moment) (batch_of batch.now).records }
 {
     for record in batch.records() {
-        if !starts_before(&record, end) {
+        if !starts_before(&record, moment) {
             return false;
         }
     }
     true
+}
+
+/// Whether the batch may be charged in the period: no reading of it starts later than that.
+fn is_due(batch: &BatchView<'_>, base: Month, period: Period) -> bool
+    requires { IsBaseMonth base }
+    ensures { result ≡ is_due base period (batch_of batch.now) }
+{
+    all_start_before(batch, period.end(base))
 }
 
 /// A new row for each reading, in order.
@@ -88,7 +96,7 @@ fn rows_of_readings<'a>(
     requires flat { first_refusal (batch_of batch.now).records ≡ None }
     ensures { IfOk result (λ rows. (sheet : Sheet) (period : ℕ)
         → ArePeriodTexts sheet.base period billing.now.start_text billing.now.end_text
-        → map row_of rows.items
+        → map model_row rows.items
         ≡ new_rows sheet billing.now.issuer.now period (batch_of batch.now).records) }
 {
     let mut rows = Vec::with_capacity(alloc, usize::from(batch.count()))?;
@@ -102,8 +110,32 @@ fn rows_of_readings<'a>(
     Ok(rows)
 }
 
+/// A new row for each reading in order, and none where the batch is not due.
+fn due_rows<'a>(
+    alloc: Global,
+    batch: &BatchView<'a>,
+    issuer: &'a Issuer,
+    base: Month,
+    period: Period,
+) -> Result<Vec<FocusRow<'a>>, AllocError>
+    requires base { IsBaseMonth base }
+    requires flat { first_refusal (batch_of batch.now).records ≡ None }
+    ensures { IfOk result (λ rows. map model_row rows.items
+        ≡ (if is_due base period (batch_of batch.now)
+        then new_rows (empty_sheet base) issuer.now period (batch_of batch.now).records
+        else [])) }
+{
+    if !is_due(batch, base, period) {
+        return Ok(Vec::new(alloc));
+    }
+    let billing = Billing::new(issuer, base, period);
+    rows_of_readings(alloc, batch, &billing)
+}
+
 /// The rows of an agent's first batch in a billing period, from the zero cut to its front: a row for
 /// each reading in order, and none where the batch is not due.
+///
+/// A record that is refused is told before any room is asked for, so want of memory hides no refusal.
 ///
 /// There is no price sheet yet, so a usage or a purchase is unpriced. Each amendment is refused as one
 /// without a target for now, also where its target is there.
@@ -117,8 +149,10 @@ pub fn one_batch_rows<'a>(
     requires base { IsBaseMonth base }
     requires first { (batch_of batch.now).seq ≡ 1 }
     ensures rows { IfOk result (λ rows.
-        map row_of rows.items ≡ rows_alone (empty_sheet base) issuer.now (batch_of batch.now) period) }
+        map model_row rows.items ≡ rows_alone (empty_sheet base) issuer.now (batch_of batch.now) period) }
     ensures taken { IfOk result (λ rows. first_refusal (batch_of batch.now).records ≡ None) }
+    ensures memory { result ≡ Err RowFault.OutOfMemory
+        → first_refusal (batch_of batch.now).records ≡ None }
     ensures broken { (rule : BrokenRule) → result ≡ Err (RowFault.Broken rule)
         → first_refusal (batch_of batch.now).records ≡ Some rule }
 {
@@ -127,11 +161,7 @@ pub fn one_batch_rows<'a>(
     if let Some(rule) = first_refusal(batch) {
         return Err(RowFault::Broken(rule));
     }
-    if !is_due(batch, period.end(base)) {
-        return Ok(Vec::new(alloc));
-    }
-    let billing = Billing::new(issuer, base, period);
-    match rows_of_readings(alloc, batch, &billing) {
+    match due_rows(alloc, batch, issuer, base, period) {
         Ok(rows) => Ok(rows),
         Err(_) => Err(RowFault::OutOfMemory),
     }

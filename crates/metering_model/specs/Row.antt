@@ -6,6 +6,8 @@ use Rattle.metering_model.specs.Batch.{Kind, Usage, Purchase, Credit, Tax, Adjus
 use Rattle.metering_model.specs.Sheet.{PriceRow, Commitment, Sheet, Issuer, service_category_text, commitment_category_text}
 use Rattle.metering_model.specs.PriceInForce.{price_in_force, commitment_with}
 use Rattle.metering_model.specs.Rating.{PricedKind, Rated, rated, flat}
+use Rattle.metering_model.specs.declared.ChargeClass.{ChargeClass}
+use Rattle.metering_model.specs.declared.ChargeClass.TheVariants.{New, Correction}
 use Rattle.metering_model.specs.declared.PricedKind.TheVariants.{Usage as PricedUsage, Purchase as PricedPurchase}
 
 -- Costs are in units of 10^-12, quantities and prices in millionths, and dates are the texts of stamps.
@@ -48,10 +50,7 @@ pub record Row : Type 0 where
   pub tags : List Tag
 
 -- FOCUS's ChargeClass: Correction where a row corrects charges of an earlier billing period, and else null
-pub data Class : Type 0 where
-  New Correction : Class
-
-abbrev pub class_text : Class → Option (List ℕ)
+abbrev pub class_text : ChargeClass → Option (List ℕ)
 class_text New = None
 class_text Correction = Some (codes "Correction")
 
@@ -91,7 +90,7 @@ charge (Some kind) None c was now = flat was now
 charge (Some kind) (Some price) c was now = rated price c kind was now
 
 -- the row of a reading in a billing period, from an old value to a new one
-abbrev pub row : Sheet → Issuer → Reading → ℕ → Class → ℤ → ℤ → Row
+abbrev pub row : Sheet → Issuer → Reading → ℕ → ChargeClass → ℤ → ℤ → Row
 row sheet issuer r period class was now =
     let price = price_of sheet r in
     let commitment = commitment_of sheet r in

@@ -6,7 +6,8 @@ use Rattle.metering_model.specs.Sheet.{Sheet, Issuer}
 use Rattle.metering_model.specs.Cut.{Cut, last_of}
 use Rattle.metering_model.specs.Holding.{Holding, Position, Placed, records_in_order, up_to}
 use Rattle.metering_model.specs.ValueAtSequence.{value_at}
-use Rattle.metering_model.specs.Row.{Row, row, New, Correction}
+use Rattle.metering_model.specs.declared.ChargeClass.TheVariants.{New, Correction}
+use Rattle.metering_model.specs.Row.{Row, row}
 
 abbrev pub differ : ℤ → ℤ → Bool
 differ a b = int_lt a b || int_lt b a

@@ -25,6 +25,14 @@ pub enum PricedKind {
     Purchase,
 }
 
+/// Whether a charge is new, or corrects charges of an earlier billing period. FOCUS's ChargeClass is null
+/// for a new one.
+#[derive(Clone, Copy)]
+pub enum ChargeClass {
+    New,
+    Correction,
+}
+
 /// FOCUS's ServiceCategory, as far as a price sheet may name it.
 #[derive(Clone, Copy, Debug, PartialEq, Eq, Drop)]
 pub enum ServiceCategory {

@@ -1,7 +1,7 @@
 -- One more line.
 use Rattle.std.proofs.Common.{◌<◌, ◌++◌, length, ap, ◌∙◌, append_assoc, rules, arith}
 use Rattle.metering_model.specs.File.{row_text}
-use Rattle.focus_row.specs.FocusRows.{row_of}
+use Rattle.focus_row.specs.FocusRows.{model_row}
 use Rattle.focus_csv.proofs.Files.{rows_more}
 use Rattle.focus_csv.proofs.lines.put_rows.Goals as goal
 
@@ -13,8 +13,8 @@ loop-row-preserved c =
     let within : c.loop-row.row-index < length rows = search (rules, arith) in
     record {
       text = c.in_ok-put_row.ensures.text
-          ∙ ap (λ t. t ++ row_text (row_of row)) c.loop-row.invariant.text
-          ∙ append_assoc before _ (row_text (row_of row))
+          ∙ ap (λ t. t ++ row_text (model_row row)) c.loop-row.invariant.text
+          ∙ append_assoc before _ (row_text (model_row row))
           ∙ ap (λ t. before ++ t) (rows_more rows c.loop-row.row-index row within c.row-item.is);
       start = c.in_ok-put_row.ensures.start;
     }

@@ -19,3 +19,6 @@ loop-record-preserved-else-is_err c =
       rows = λ sheet period texts. one_more_row sheet _ period _ _ c.new_row.result reading before after _ pushed
           (c.new_row.ensures sheet period texts) first (c.loop-record.invariant.rows sheet period texts);
     }
+
+pub returns : goal.returns
+returns c = search rules

@@ -1,8 +1,8 @@
 use Rattle.std.proofs.Common.{◌≡◌, ℕ, ◌++◌, None, map}
 use Rattle.metering_model.specs.Sheet.{Sheet}
 use Rattle.batch_view.specs.Batches.{batch_of, records_left}
-use Rattle.focus_row.specs.FocusRows.{row_of}
-use Rattle.focus_row.specs.Charging.{ArePeriodTexts, new_rows}
+use Rattle.focus_row.specs.FocusRows.{model_row}
+use Rattle.focus_row.specs.Inner.Charging.{ArePeriodTexts, new_rows}
 use Rattle.focus_row.specs.OneBatch.{first_refusal}
 use Rattle.focus_row.proofs.rows.rows_of_readings.Given as goal
 
@@ -13,6 +13,6 @@ invariant-loop-record l = record {
   is_finite : (goal.iterator-loop-record).is_finite l.record-iterator;
   flat : first_refusal (records_left l.record-iterator) ≡ None;
   rows : (sheet : Sheet) (period : ℕ) → ArePeriodTexts sheet.base period l.billing.start_text l.billing.end_text
-      → map row_of l.rows.items ++ new_rows sheet l.billing.issuer.now period (records_left l.record-iterator)
+      → map model_row l.rows.items ++ new_rows sheet l.billing.issuer.now period (records_left l.record-iterator)
       ≡ new_rows sheet l.billing.issuer.now period (batch_of l.batch).records;
 }

@@ -5,14 +5,8 @@ use Rattle.metering_model.specs.Dates.{period_start_text, period_end_text}
 use Rattle.metering_model.specs.Batch.{Record}
 use Rattle.metering_model.specs.Holding.{reading_of}
 use Rattle.metering_model.specs.Sheet.{Sheet, Issuer}
-use Rattle.metering_model.specs.Row.{Row, Class, New, Correction, row}
-use Rattle.focus_row.specs.declared.charges.ChargeClass.{ChargeClass}
-use Rattle.focus_row.specs.declared.charges.ChargeClass.TheVariants.{New as NewCharge, Correction as CorrectedCharge}
-
--- the model's class of a charge
-abbrev pub class_of : ChargeClass → Class
-class_of NewCharge = New
-class_of CorrectedCharge = Correction
+use Rattle.metering_model.specs.declared.ChargeClass.TheVariants.{New}
+use Rattle.metering_model.specs.Row.{Row, row}
 
 -- The texts are those of the period's first moment and of the first moment behind it.
 pub record ArePeriodTexts (base period : ℕ) (start end : List ℕ) : Type 0 where

@@ -1,0 +1,7 @@
+//! Tests of rows and of their files, by public calls alone.
+#![tactic(auto)]
+
+#[cfg(test)]
+mod files;
+#[cfg(test)]
+mod rows;
