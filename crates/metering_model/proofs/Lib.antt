@@ -19,6 +19,10 @@ pub mod RoundingLaws
 pub mod BatchOrder
 pub mod HoldingLaws
 pub mod AgreementLaws
+pub mod Journals
+pub mod Fronts
+pub mod NewRows
+pub mod Places
 mod Samples
 mod WorkedNumbers
 mod WorkedBatches

@@ -4,7 +4,7 @@ use Rattle.metering_model.specs.Cut.{Cut}
 use Rattle.metering_model.specs.Holding.{put}
 use Rattle.metering_model.specs.Front.{front}
 use Rattle.metering_model.specs.Ballot.{Vote, Acceptor, Attempt, Tally, new_acceptor, is_above, is_not_below, after_prepare, after_accept, with_promise, has_majority, accepting_at, with_accepted}
-use Rattle.metering_model.specs.World.{Packet, CarriesBatch, Prepare, Promise, Accept, Accepted, Decided, Kept, Node, World, node_count, current_period, last_cut, wake, with_kept}
+use Rattle.metering_model.specs.World.{Packet, CarriesBatch, Prepare, Promise, Accept, Accepted, Decided, Kept, Node, World, voter_count, current_period, last_cut, wake, with_kept}
 
 -- the node afterwards, the packet that it sends, and the period that it learns
 pub record Handled : Type 0 where
@@ -45,7 +45,7 @@ proposal w n None = front w.sheet.base n.kept.holding (last_cut w.agents n.kept.
 
 abbrev pub after_promise : World → Node → ℕ → ℕ → Attempt → Handled
 after_promise w n period ballot a =
-    if has_majority (node_count w) a.promising
+    if has_majority (voter_count w) a.promising
     then sending (Accept period ballot (proposal w n a.told)) (record n { attempt = Some (record a { sent = true }) })
     else silent (record n { attempt = Some a })
 
@@ -64,7 +64,7 @@ on_accept i n period ballot cut =
 
 abbrev pub after_accepted : World → Node → ℕ → Cut → Tally → Handled
 after_accepted w n ballot cut tally =
-    if has_majority (node_count w) (accepting_at (node_count w) ballot tally) then learning cut n else silent (record n { tally = tally })
+    if has_majority (voter_count w) (accepting_at (voter_count w) ballot tally) then learning cut n else silent (record n { tally = tally })
 
 -- node i handles a packet
 abbrev pub handled : World → ℕ → Node → Packet → Handled
@@ -73,5 +73,5 @@ handled w i n (Prepare period ballot) = unless_learned period n (on_prepare i n 
 handled w i n (Promise from period ballot vote) = on_promise w n from period ballot vote
 handled w i n (Accept period ballot cut) = unless_learned period n (on_accept i n period ballot cut)
 handled w i n (Accepted from period ballot cut) =
-    if period == current_period n then after_accepted w n ballot cut (with_accepted (node_count w) from ballot n.tally) else silent n
+    if period == current_period n then after_accepted w n ballot cut (with_accepted (voter_count w) from ballot n.tally) else silent n
 handled w i n (Decided period cut) = if period == current_period n then learning cut n else silent n

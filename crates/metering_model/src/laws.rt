@@ -1,16 +1,19 @@
 //! What ties the definitions to one another. Each law is a function with an empty body.
 
-ghost use Rattle.std.specs.Prelude.{◌≡◌, ℕ, ◌^◌, ◌<◌, ◌≤◌, ◌↔◌, false, List, Some, Ok, ℤ, unsigned_abs, unwrap_or};
+ghost use Rattle.std.specs.Prelude.{◌≡◌, ℕ, ◌^◌, ◌<◌, ◌≤◌, ◌↔◌, true, false, List, [], Some, None, Ok, ℤ, unsigned_abs, unwrap_or, slice_get};
+ghost use Rattle.std.specs.Option.{IsSomeAnd};
 ghost use Rattle.metering_model.specs.NumberText.{Spells, number_in, spelling};
 ghost use Rattle.metering_model.specs.Dates.{IsMonthText, IsDayText, IsStampText, month_in, day_in, stamp_in};
-ghost use Rattle.metering_model.specs.Batch.{Batch, IsBatch, IsWellFormed};
+ghost use Rattle.metering_model.specs.Batch.{Batch, Reading, IsBatch, IsWellFormed};
 ghost use Rattle.metering_model.specs.BatchReading.{batch_in};
 ghost use Rattle.metering_model.specs.Cut.{Cut, IsAtLeast, last_of};
-ghost use Rattle.metering_model.specs.Holding.{Holding, IsHolding, AgreeUpTo, Position, held, is_batch_at, put, up_to};
+ghost use Rattle.metering_model.specs.Holding.{Holding, IsHolding, AgreeUpTo, Position, held, is_batch_at, put, placed, reading_at, up_to};
 ghost use Rattle.metering_model.specs.ValueAtSequence.{value_at};
 ghost use Rattle.metering_model.specs.Sheet.{Sheet, Issuer};
 ghost use Rattle.metering_model.specs.Rating.{IsRounded, pricing_quantity};
-ghost use Rattle.metering_model.specs.Rows.{placed_rows, rows};
+ghost use Rattle.metering_model.specs.Rows.{PlacedRow, placed_rows, rows};
+ghost use Rattle.metering_model.specs.JournalRules.{MeetsJournalRules, next_seq, first_broken};
+ghost use Rattle.metering_model.specs.Front.{is_due, front};
 ghost use Rattle.metering_model.specs.World.{World, Good, Journal, offer_of};
 ghost use Rattle.metering_model.specs.Step.{step};
 
@@ -75,4 +78,36 @@ pub fn what_agrees_up_to_a_cut_is_charged_alike()
 pub fn bytes_and_their_offer_are_journaled_alike()
     ensures { (w : World) (text : List ℕ) →
         step w (Journal (Good text)) ≡ step w (Journal (offer_of text)) }
+{}
+
+/// The journals meet their rules after each batch that they take, and an agent's batches are those below its next.
+pub fn journals_keep_their_rules()
+    ensures none { (sheet : Sheet) → MeetsJournalRules sheet [] }
+    ensures taken { (sheet : Sheet) (h : Holding) (b : Batch) →
+        MeetsJournalRules sheet h → IsWellFormed b → b.seq ≡ next_seq h b.agent →
+        first_broken sheet (put h b) (placed b) ≡ None → MeetsJournalRules sheet (put h b) }
+    ensures below_next { (sheet : Sheet) (h : Holding) (agent seq : ℕ) (b : Batch) →
+        MeetsJournalRules sheet h → held h agent seq ≡ Some b → seq < next_seq h agent }
+{}
+
+/// A front is at least the cut that it is taken of, and each batch in between is held and due.
+pub fn a_front_goes_on_from_its_cut()
+    ensures grows { (base period : ℕ) (h : Holding) (cut : Cut) → IsAtLeast (front base h cut period) cut }
+    ensures due { (base period : ℕ) (h : Holding) (cut : Cut) (agent seq : ℕ) →
+        last_of cut agent < seq → seq ≤ last_of (front base h cut period) agent →
+        IsSomeAnd (held h agent seq) (λ b. is_due base period b ≡ true) }
+{}
+
+/// Each row between two cuts has a place of its own; those of null class are of the readings between the cuts, one of each.
+pub fn rows_between_two_cuts_have_their_places()
+    ensures apart { (sheet : Sheet) (issuer : Issuer) (h : Holding) (period : ℕ) (from to : Cut) (k l : ℕ) (x y : PlacedRow) →
+        IsHolding h → slice_get (placed_rows sheet issuer h period from to) k ≡ Some x →
+        slice_get (placed_rows sheet issuer h period from to) l ≡ Some y → x.place ≡ y.place → k ≡ l }
+    ensures new { (sheet : Sheet) (issuer : Issuer) (h : Holding) (period : ℕ) (from to : Cut) (k : ℕ) (x : PlacedRow) →
+        slice_get (placed_rows sheet issuer h period from to) k ≡ Some x → x.row.charge_class ≡ None →
+        (last_of from x.place.agent < x.place.seq) × (x.place.seq ≤ last_of to x.place.agent) }
+    ensures each { (sheet : Sheet) (issuer : Issuer) (h : Holding) (period : ℕ) (from to : Cut) (at : Position) (r : Reading) →
+        reading_at h at ≡ Some r → last_of from at.agent < at.seq → at.seq ≤ last_of to at.agent →
+        (k : ℕ) × (x : PlacedRow) × (slice_get (placed_rows sheet issuer h period from to) k ≡ Some x)
+        × (x.row.charge_class ≡ None) × (x.place ≡ at) }
 {}
