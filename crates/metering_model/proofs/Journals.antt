@@ -23,14 +23,14 @@ of_agent a h = filter (λ b. b.agent == a) h
 abbrev map_seq : Holding → List ℕ
 map_seq h = map (λ b. b.seq) h
 
-sequences-of_agent : (a : ℕ) (c : Batch) (h : Holding) → (c.agent == a) ≡ true → sequences_of a (c ∷ h) ≡ c.seq ∷ sequences_of a h
+pub sequences-of_agent : (a : ℕ) (c : Batch) (h : Holding) → (c.agent == a) ≡ true → sequences_of a (c ∷ h) ≡ c.seq ∷ sequences_of a h
 sequences-of_agent a c h e = by_test (c.agent == a) e
   where
     by_test : (t : Bool) → t ≡ true → map_seq (cond t (c ∷ of_agent a h) (of_agent a h)) ≡ c.seq ∷ sequences_of a h
     by_test true e = refl
     by_test false e = absurd (both_ways false refl e)
 
-sequences-of_another : (a : ℕ) (c : Batch) (h : Holding) → (c.agent == a) ≡ false → sequences_of a (c ∷ h) ≡ sequences_of a h
+pub sequences-of_another : (a : ℕ) (c : Batch) (h : Holding) → (c.agent == a) ≡ false → sequences_of a (c ∷ h) ≡ sequences_of a h
 sequences-of_another a c h e = by_test (c.agent == a) e
   where
     by_test : (t : Bool) → t ≡ false → map_seq (cond t (c ∷ of_agent a h) (of_agent a h)) ≡ sequences_of a h
@@ -146,22 +146,22 @@ no_gap_put h b o no_gap next a = elim (cases_Bool (b.agent == a)) [
 abbrev or_next : Option BrokenRule → Option BrokenRule → Option BrokenRule
 or_next now later = elim now [ Some rule ↦ Some rule | None ↦ later ]
 
-or_next_parts : (x y : Option BrokenRule) → or_next x y ≡ None → (x ≡ None) × (y ≡ None)
+pub or_next_parts : (x y : Option BrokenRule) → or_next x y ≡ None → (x ≡ None) × (y ≡ None)
 or_next_parts None y h = (refl, h)
 or_next_parts (Some r) y h = absurd (cc)
 
-or_next_from : (x y : Option BrokenRule) → x ≡ None → y ≡ None → or_next x y ≡ None
+pub or_next_from : (x y : Option BrokenRule) → x ≡ None → y ≡ None → or_next x y ≡ None
 or_next_from None y h k = k
 or_next_from (Some r) y h k = h
 
 module _ (sheet : Sheet) where
-  none_append : (h : Holding) (xs ys : List Placed) → first_broken sheet h xs ≡ None → first_broken sheet h ys ≡ None → first_broken sheet h (xs ++ ys) ≡ None
+  pub none_append : (h : Holding) (xs ys : List Placed) → first_broken sheet h xs ≡ None → first_broken sheet h ys ≡ None → first_broken sheet h (xs ++ ys) ≡ None
   none_append h [] ys e f = f
   none_append h (x ∷ xs) ys e f =
       let parts = or_next_parts (broken_by sheet h x.place x.what) (first_broken sheet h xs) e in
       or_next_from (broken_by sheet h x.place x.what) (first_broken sheet h (xs ++ ys)) parts.0 (none_append h xs ys parts.1 f)
 
-  none_parts : (h : Holding) (xs ys : List Placed) → first_broken sheet h (xs ++ ys) ≡ None → (first_broken sheet h xs ≡ None) × (first_broken sheet h ys ≡ None)
+  pub none_parts : (h : Holding) (xs ys : List Placed) → first_broken sheet h (xs ++ ys) ≡ None → (first_broken sheet h xs ≡ None) × (first_broken sheet h ys ≡ None)
   none_parts h [] ys e = (refl, e)
   none_parts h (x ∷ xs) ys e =
       let parts = or_next_parts (broken_by sheet h x.place x.what) (first_broken sheet h (xs ++ ys)) e in
