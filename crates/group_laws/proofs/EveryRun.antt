@@ -1,6 +1,8 @@
 -- What holds after every run, and what a longer run keeps.
-use Rattle.std.proofs.Common.{◌≡◌, ℕ, List, [], ◌∷◌, ◌++◌, map, refl, sym, subst, ◌∙◌, Option, Some, None}
+use Rattle.std.proofs.Common.{◌≡◌, ℕ, List, [], ◌∷◌, ◌++◌, ◌<◌, length, map, refl, sym, subst, ◌∙◌, Option, Some, None}
+use Rattle.std.specs.Prelude.{slice_get}
 use Rattle.std.specs.List.{Contains}
+use Rattle.std.proofs.lemmas.Option.{same_Some, slice_get-get_or, slice_get_within}
 use Rattle.metering_model.specs.Sheet.{Sheet, Issuer}
 use Rattle.metering_model.specs.Cut.{Cut}
 use Rattle.metering_model.specs.World.{World, Node, Packet, CarriesBatch, Event, Snapshot, Exported, node_count, wake, opening}
@@ -8,6 +10,7 @@ use Rattle.metering_model.specs.Deliveries.{handled}
 use Rattle.metering_model.specs.Step.{step, play}
 use Rattle.metering_model.specs.Chosen.{IsChosen}
 use Rattle.metering_model.specs.History.{Entry, IsLegal}
+use Rattle.metering_model.proofs.PlayLaws.{play-append}
 use Rattle.group_laws.specs.Headline.{IsPrefixOf, AreTheCuts, IsExport, HoldsAfter}
 use Rattle.group_laws.proofs.StepCases.{after, started, start_packet, IsKeptBySteps, play_kept}
 use Rattle.group_laws.proofs.Steps.{length-slice_set}
@@ -56,9 +59,15 @@ module _ (N p : ℕ) (c : Cut) where
     restarts = λ w i n h found. chosen_after w i (wake n.kept) None h;
   }
 
-play-append : (w : World) (es more : List Event) → (play w (es ++ more)).1 ≡ (play (play w es).1 more).1
-play-append w [] more = refl
-play-append w (e ∷ es) more = play-append (step w e).1 es more
+pub contains_at : {A : Type 0} (xs : List A) (k : ℕ) (x : A) → slice_get xs k ≡ Some x → Contains xs x
+contains_at xs k x e = (k, within, same_Some _ _ (sym (slice_get-get_or xs k x within) ∙ e))
+  where
+    within : k < length xs
+    within = slice_get_within xs k x e
+
+-- a node that is there has learned a prefix of the cuts
+pub prefix_of_cuts : (w : World) (cuts : List Cut) → AreTheCuts w cuts → (i : ℕ) (n : Node) → slice_get w.nodes i ≡ Some n → IsPrefixOf n.kept.learned cuts
+prefix_of_cuts w cuts are i n found = are.learned n (contains_at w.nodes i n found)
 
 -- ---- every run
 

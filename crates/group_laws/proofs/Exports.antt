@@ -13,14 +13,17 @@ use Rattle.metering_model.specs.BatchReading.{batch_in}
 use Rattle.metering_model.specs.Sheet.{Sheet, Issuer}
 use Rattle.metering_model.specs.Cut.{Cut, zero_cut, last_of, IsAtLeast}
 use Rattle.metering_model.specs.Holding.{Holding, IsHolding, AgreeUpTo, is_batch_at, held, put, placed, up_to}
-use Rattle.metering_model.specs.JournalRules.{next_seq, first_broken}
+use Rattle.metering_model.specs.JournalRules.{MeetsJournalRules, next_seq, first_broken}
 use Rattle.metering_model.specs.Rows.{rows}
 use Rattle.metering_model.specs.File.{file}
 use Rattle.metering_model.specs.World.{World, Node, Packet, CarriesBatch, Offer, Good, Bad, Event, Journal, Deliver, Start, Restart, Export, Snapshot, Exported, Delivered, node_count, current_period, wake, with_node_at, with_packet, next_packet}
 use Rattle.metering_model.specs.Deliveries.{Handled, handled}
 use Rattle.metering_model.specs.Step.{Outcome, on_batch, on_journal, on_delivery, on_start, on_restart, after_delivery, or_refused, or_bad_batch, unless_broken, first_absent, missing_from, first_missing, unless_missing, cut_before, snapshot, step, play}
 use Rattle.metering_model.proofs.StepLaws.{step_ok, some_step, ok_same}
-use Rattle.metering_model.proofs.HoldingLaws.{IsHolding-up_to, held-put_kept, held_place, AgreeUpTo-up_to, same_up_to}
+use Rattle.metering_model.proofs.RulesUpToCut.{MeetsJournalRules-up_to}
+use Rattle.metering_model.proofs.MissingLaws.{held-up_to_where}
+use Rattle.metering_model.proofs.PartLaws.{agree_where_held, IsPartOf-grown}
+use Rattle.metering_model.proofs.HoldingLaws.{IsHolding-up_to, AgreeUpTo-up_to, same_up_to}
 use Rattle.metering_model.proofs.AgreementLaws.{same_rows}
 use Rattle.group_laws.specs.Headline.{IsExport}
 use Rattle.group_laws.proofs.StepCases.{after, started, start_packet, journaling, IsKeptBySteps, step_kept, play_kept}
@@ -40,51 +43,10 @@ pub record IsTaken (N : ℕ) (w : World) (s : Snapshot) : Type 0 where
   pub issuer : s.issuer ≡ w.issuer
   pub holding : Holding
   pub of : IsOf w.journals holding
-  pub whole : (agent seq : ℕ) → 0 < seq → seq ≤ last_of s.to agent → (b : Batch) × (held holding agent seq ≡ Some b)
+  pub whole : (agent seq : ℕ) → 0 < seq → seq ≤ last_of s.to agent → is_some (held holding agent seq) ≡ true
   pub batches : s.batches ≡ up_to s.to holding
 
 -- ---- nothing is missing
-
-some_of : (o : Option Batch) → is_some o ≡ true → (b : Batch) × (o ≡ Some b)
-some_of None e = absurd (cc)
-some_of (Some b) e = (b, refl)
-
-none_absent : (h : Holding) (agent k n s : ℕ) → first_absent h agent (range_with_len k n) ≡ None → k ≤ s → s < k + n → is_some (held h agent s) ≡ true
-none_absent h agent k zero s e low high = absurd (omega arith)
-none_absent h agent k (suc n) s e low high = by_test (is_some (held h agent k)) refl e (none_absent h agent (k + 1) n s)
-  where
-    by_test : (t : Bool) → is_some (held h agent k) ≡ t → cond t (first_absent h agent (range_with_len (k + 1) n)) (Some (agent, k)) ≡ None
-        → (first_absent h agent (range_with_len (k + 1) n) ≡ None → k + 1 ≤ s → s < k + 1 + n → is_some (held h agent s) ≡ true) → is_some (held h agent s) ≡ true
-    by_test false is f rest = absurd (cc)
-    by_test true is f rest = elim (cases_lt k s) [
-      | inl above ↦ rest f (omega arith) (omega arith)
-      | inr here ↦ let same : k ≡ s = omega arith in subst (λ x. is_some (held h agent x) ≡ true) same is
-    ]
-
-none_missing : (h : Holding) (cut : Cut) (k i seq : ℕ) → missing_from h k cut ≡ None → 0 < seq → seq ≤ slice_index cut i → (b : Batch) × (held h (k + i) seq ≡ Some b)
-none_missing h [] k i seq e some within = absurd (empty i within)
-  where
-    empty : (i : ℕ) → seq ≤ slice_index [] i → ⊥
-    empty i within = omega arith
-none_missing h (s ∷ cut) k i seq e some within = by_first (first_absent h k (range_with_len 1 s)) refl e i within (λ j. none_missing h cut (k + 1) j seq)
-  where
-    by_first : (o : Option (ℕ × ℕ)) → first_absent h k (range_with_len 1 s) ≡ o → ◌≡◌ {A = Option (ℕ × ℕ)} (elim o [ Some absent ↦ Some absent | None ↦ missing_from h (k + 1) cut ]) None
-        → (i : ℕ) → seq ≤ slice_index (s ∷ cut) i
-        → ((j : ℕ) → missing_from h (k + 1) cut ≡ None → 0 < seq → seq ≤ slice_index cut j → (b : Batch) × (held h (k + 1 + j) seq ≡ Some b))
-        → (b : Batch) × (held h (k + i) seq ≡ Some b)
-    by_first (Some absent) is f i within rest = absurd (cc)
-    by_first None is f zero within rest =
-        let same : k ≡ k + 0 = omega arith in
-        some_of (held h (k + 0) seq) (subst (λ a. is_some (held h a seq) ≡ true) same (none_absent h k 1 s seq is (omega arith) (omega arith)))
-    by_first None is f (suc j) within rest =
-        let same : k + 1 + j ≡ k + suc j = omega arith in
-        subst (λ a. (b : Batch) × (held h a seq ≡ Some b)) same (rest j f some within)
-
-nothing_missing : (h : Holding) (cut : Cut) → first_missing h cut ≡ None → (agent seq : ℕ) → 0 < seq → seq ≤ last_of cut agent → (b : Batch) × (held h agent seq ≡ Some b)
-nothing_missing h cut e zero seq some within = absurd (omega arith)
-nothing_missing h cut e (suc a) seq some within =
-    let same : 1 + a ≡ suc a = omega arith in
-    subst (λ a. (b : Batch) × (held h a seq ≡ Some b)) same (none_missing h cut 1 a seq e some within)
 
 none_from_ok : (o : Option (ℕ × ℕ)) (u : Unit {0}) → unless_missing o ≡ Ok u → o ≡ None
 none_from_ok None u e = refl
@@ -109,7 +71,7 @@ taken N w h i p s e =
       issuer = refl;
       holding = n.kept.holding;
       of = (h.holdings i n one.1).of;
-      whole = nothing_missing n.kept.holding to (none_from_ok (first_missing n.kept.holding to) three.0 three.1);
+      whole = held-up_to_where n.kept.holding to (none_from_ok (first_missing n.kept.holding to) three.0 three.1);
       batches = refl;
     })
   where
@@ -150,7 +112,7 @@ module _ (N : ℕ) (s : Snapshot) where
     sheet = t.sheet;
     issuer = t.issuer;
     holding = t.holding;
-    of = IsOf-more w.journals (put w.journals b) t.holding (record { had = λ agent seq c. held-put_kept w.journals b c agent seq h.rules.is_holding }) t.of;
+    of = IsOf-more w.journals (put w.journals b) t.holding (IsPartOf-grown w.journals b h.rules.is_holding) t.of;
     whole = t.whole;
     batches = t.batches;
   }
@@ -234,24 +196,6 @@ all_taken N (e ∷ es) w h (suc k) s is = all_taken N es (step w e).1 (step_kept
 
 -- ---- so it is an export of the journals
 
-held_well : (h : Holding) (agent seq : ℕ) (b : Batch) → All IsWellFormed h → held h agent seq ≡ Some b → IsWellFormed b
-held_well [] agent seq b all e = absurd (none-some b e)
-held_well (c ∷ h) agent seq b all e = elim (cases_Bool (is_batch_at agent seq c)) [
-  | inl at ↦ let same : c ≡ b = same_Some c b (sym (cond-true (is_batch_at agent seq c) (Some c) (held h agent seq) at) ∙ e) in subst IsWellFormed same (All-head IsWellFormed c h all)
-  | inr past ↦ held_well h agent seq b (All-tail IsWellFormed c h all) (sym (cond-false (is_batch_at agent seq c) (Some c) (held h agent seq) past) ∙ e)
-]
-
-pub none_at_zero : (h : Holding) (agent : ℕ) → IsHolding h → held h agent 0 ≡ None
-none_at_zero h agent is = either (held h agent 0) refl
-  where
-    either : (o : Option Batch) → held h agent 0 ≡ o → o ≡ None
-    either None e = refl
-    either (Some b) e =
-        let well = held_well h agent 0 b is.batches e in
-        let place = held_place h agent 0 b e in
-        let low = well.seq.0 in
-        absurd (omega (arith, place.1))
-
 module _ (w : World) (h : IsFitting (node_count w) w) (s : Snapshot) (t : IsTaken (node_count w) w s) where
   cut : slice_get (the_cuts w h) s.period ≡ Some s.to
   cut = chosen_cut w h s.period s.to t.to
@@ -267,14 +211,13 @@ module _ (w : World) (h : IsFitting (node_count w) w) (s : Snapshot) (t : IsTake
   grows = subst (λ from. IsAtLeast s.to from) (sym from_is) (cut_goes_on w h s.period s.to cut).grows
 
   same_held : AgreeUpTo s.to t.holding w.journals
-  same_held = record { same = same }
-    where
-      same : (agent seq : ℕ) → seq ≤ last_of s.to agent → held t.holding agent seq ≡ held w.journals agent seq
-      same agent zero within = none_at_zero t.holding agent t.of.is_holding ∙ sym (none_at_zero w.journals agent h.rules.is_holding)
-      same agent (suc q) within = let has = t.whole agent (suc q) (omega arith) within in has.1 ∙ sym (t.of.part.had agent (suc q) has.0 has.1)
+  same_held = agree_where_held t.holding w.journals s.to t.of.is_holding h.rules.is_holding t.of.part t.whole
 
   same_batches : s.batches ≡ up_to s.to w.journals
   same_batches = t.batches ∙ same_up_to s.to t.holding w.journals t.of.is_holding h.rules.is_holding same_held
+
+  same_rules : MeetsJournalRules s.sheet s.batches
+  same_rules = subst (λ (x : Sheet). MeetsJournalRules x s.batches) (sym t.sheet) (subst (MeetsJournalRules w.sheet) (sym same_batches) (MeetsJournalRules-up_to w.sheet s.to w.journals h.rules))
 
   same_file : file (rows s.sheet s.issuer s.batches s.period s.from s.to) ≡ file (rows w.sheet w.issuer w.journals s.period s.from s.to)
   same_file =
@@ -284,7 +227,7 @@ module _ (w : World) (h : IsFitting (node_count w) w) (s : Snapshot) (t : IsTake
       ∙ ap file (same_rows w.sheet w.issuer (up_to s.to w.journals) w.journals s.period s.from s.to (IsHolding-up_to w.journals s.to h.rules.is_holding) h.rules.is_holding (AgreeUpTo-up_to s.to w.journals) grows)))
 
   pub is_export : IsExport w (the_cuts w h) s
-  is_export = record { from = from_is; to = cut; sheet = t.sheet; issuer = t.issuer; batches = same_batches; file = same_file }
+  is_export = record { from = from_is; to = cut; sheet = t.sheet; issuer = t.issuer; batches = same_batches; rules = same_rules; file = same_file }
 
 -- snapshots of the same parts are one
 same_snapshot : (s t : Snapshot) → s.period ≡ t.period → s.from ≡ t.from → s.to ≡ t.to → s.batches ≡ t.batches → s.sheet ≡ t.sheet → s.issuer ≡ t.issuer → s ≡ t

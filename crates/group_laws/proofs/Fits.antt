@@ -11,7 +11,8 @@ use Rattle.metering_model.specs.Ballot.{Vote, Attempt, has_majority, with_promis
 use Rattle.metering_model.specs.World.{World, Node, Packet, CarriesBatch, Prepare, Promise, Accept, Accepted, Decided, node_count, current_period, last_cut, wake, new_kept, opening}
 use Rattle.metering_model.specs.Deliveries.{learning, Handled, silent, sending, on_prepare, on_accept, unless_learned, after_promise, proposal, handled}
 use Rattle.metering_model.proofs.BatchOrder.{place_of_batch}
-use Rattle.metering_model.proofs.HoldingLaws.{IsHolding-nil, IsHolding-put, held-put, held-put_same, held-put_kept}
+use Rattle.metering_model.proofs.HoldingLaws.{IsHolding-nil, IsHolding-put, held-put_same}
+use Rattle.metering_model.proofs.PartLaws.{part_of_itself, IsPartOf-trans, IsPartOf-put, IsPartOf-grown}
 use Rattle.group_laws.proofs.Quorum.{In}
 use Rattle.group_laws.proofs.Kept.{sent_split}
 use Rattle.group_laws.proofs.Nodes.{AttemptIsKept, one_promise_more}
@@ -44,24 +45,10 @@ pub record IsOf (J h : Holding) : Type 0 where
   pub part : IsPartOf h J
 
 pub IsOf-more : (J K h : Holding) → IsPartOf J K → IsOf J h → IsOf K h
-IsOf-more J K h more is = record { is_holding = is.is_holding; part = record { had = λ agent seq b e. more.had agent seq b (is.part.had agent seq b e) } }
+IsOf-more J K h more is = record { is_holding = is.is_holding; part = IsPartOf-trans h J K is.part more }
 
 IsOf-put : (J h : Holding) (b : Batch) → IsOf J h → IsWellFormed b → held J b.agent b.seq ≡ Some b → IsOf J (put h b)
-IsOf-put J h b is well found = record {
-  is_holding = IsHolding-put h b is.is_holding well;
-  part = record { had = λ agent seq c e. by_place agent seq c (sym (held-put h b agent seq is.is_holding) ∙ e) };
-}
-  where
-    here : (o : Option Batch) (agent seq : ℕ) (c : Batch) → (b.agent ≡ agent) × (b.seq ≡ seq) → held h agent seq ≡ o → Some (unwrap_or o b) ≡ Some c → held J agent seq ≡ Some c
-    here None agent seq c place e f = subst (λ a. held J a seq ≡ Some c) place.0 (subst (λ s. held J b.agent s ≡ Some c) place.1 (found ∙ f))
-    here (Some d) agent seq c place e f = is.part.had agent seq c (e ∙ f)
-
-    by_place : (agent seq : ℕ) (c : Batch) → (if is_batch_at agent seq b then Some (unwrap_or (held h agent seq) b) else held h agent seq) ≡ Some c → held J agent seq ≡ Some c
-    by_place agent seq c = by_test (is_batch_at agent seq b) refl
-      where
-        by_test : (t : Bool) → is_batch_at agent seq b ≡ t → (if t then Some (unwrap_or (held h agent seq) b) else held h agent seq) ≡ Some c → held J agent seq ≡ Some c
-        by_test true at e = here (held h agent seq) agent seq c (place_of_batch agent seq b at) refl e
-        by_test false past e = is.part.had agent seq c e
+IsOf-put J h b is well found = record { is_holding = IsHolding-put h b is.is_holding well; part = IsPartOf-put h J b is.is_holding is.part found }
 
 -- an attempt is at a period that there is
 abbrev pub IsOpen : ℕ → Option Attempt → Type 0
@@ -101,9 +88,6 @@ MaySend w N (Some q) = SendsFit w N q
 
 abbrev Does : World → ℕ → Handled → Type 0
 Does w N h = Fits w.journals h.node × MaySend w N h.sends
-
-part_of_itself : (h : Holding) → IsPartOf h h
-part_of_itself h = record { had = λ agent seq b e. e }
 
 fitting_after : (N : ℕ) (w : World) (i : ℕ) (n : Node) (o : Option Packet) → IsFitting N w → IsTold N (after w i n o) → Fits w.journals n → MaySend w N o → IsFitting N (after w i n o)
 fitting_after N w i n None h told of fit = record {
@@ -219,7 +203,7 @@ journaled N w b h next told = record {
 }
   where
     more : IsPartOf w.journals (put w.journals b)
-    more = record { had = λ agent seq c. held-put_kept w.journals b c agent seq h.rules.is_holding }
+    more = IsPartOf-grown w.journals b h.rules.is_holding
 
     carried_by : Packet → Batch
     carried_by (CarriesBatch c) = c

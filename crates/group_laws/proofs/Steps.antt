@@ -237,7 +237,7 @@ get-replicate zero i x y e = absurd (cc)
 get-replicate (suc n) zero x y e = sym (same_Some _ _ e)
 get-replicate (suc n) (suc i) x y e = get-replicate n i x y e
 
-length-replicate : {A : Type 0} (n : ℕ) (x : A) → length (replicate n x) ≡ n
+pub length-replicate : {A : Type 0} (n : ℕ) (x : A) → length (replicate n x) ≡ n
 length-replicate zero x = refl
 length-replicate (suc n) x = ap (λ k. suc k) (length-replicate n x)
 

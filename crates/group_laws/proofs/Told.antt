@@ -109,7 +109,7 @@ Tells-more P q N now learned tally h = record {
 IsCounted-nobody : (P : List Packet) (N p b : ℕ) → IsCounted P N p b (nobody N)
 IsCounted-nobody P N p b = record { size = length-nobody N; each = λ j e. absurd (both_ways _ (nobody_here N j) e) }
 
-accepting_counted : (P : List Packet) (N now b : ℕ) (learned : List Cut) (tally : Tally) → Tells P N now learned tally → IsCounted P N now b (accepting_at N b tally)
+pub accepting_counted : (P : List Packet) (N now b : ℕ) (learned : List Cut) (tally : Tally) → Tells P N now learned tally → IsCounted P N now b (accepting_at N b tally)
 accepting_counted P N now b learned tally h = either (lookup (λ x. x == b) tally) refl
   where
     either : (o : Option Nodes) → lookup (λ x. x == b) tally ≡ o → IsCounted P N now b (unwrap_or o (nobody N))

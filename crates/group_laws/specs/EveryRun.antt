@@ -1,12 +1,11 @@
 -- What every run keeps, which the bodies of a group rest on: lengths, limits, and batches that are the journals'.
-use Rattle.std.specs.Prelude.{◌≡◌, ℕ, ◌+◌, ◌*◌, ◌<◌, ◌≤◌, true, List, length, Some, None, Option, slice_get}
-use Rattle.std.specs.List.{Contains}
-use Rattle.std.specs.Option.{IsSomeAnd, is_some}
-use Rattle.metering_model.specs.Batch.{Batch, IsWellFormed}
+use Rattle.std.specs.Prelude.{◌≡◌, ℕ, ◌+◌, ◌*◌, ◌<◌, ◌≤◌, true, length, All, Some, None, Option, slice_get}
+use Rattle.std.specs.Option.{is_some}
+use Rattle.metering_model.specs.Batch.{IsWellFormed}
 use Rattle.metering_model.specs.Cut.{Cut, IsGrowing, last_of}
 use Rattle.metering_model.specs.Holding.{Holding, IsHolding, IsPartOf, AgreeUpTo, held}
 use Rattle.metering_model.specs.JournalRules.{MeetsJournalRules}
-use Rattle.metering_model.specs.Ballot.{Vote, Attempt, Tally, Nodes, ballot_of}
+use Rattle.metering_model.specs.Ballot.{Vote, Attempt, Nodes, ballot_of}
 use Rattle.metering_model.specs.World.{World, Node, Packet, CarriesBatch, Prepare, Promise, Accept, Accepted, Decided, node_count, voter_count}
 use Rattle.metering_model.specs.Step.{first_missing}
 
@@ -49,6 +48,10 @@ IsPacket voters agents journals (Decided period cut) = (period < 1_200) × IsCut
 abbrev pub IsSet : ℕ → Nodes → Type 0
 IsSet voters set = length set ≡ voters
 
+-- who accepted at a ballot
+abbrev pub IsEntry : ℕ → ℕ × Nodes → Type 0
+IsEntry voters e = IsBallot voters e.0 × IsSet voters e.1
+
 pub record IsAttempt (voters agents : ℕ) (journals : Holding) (a : Attempt) : Type 0 where
   pub ballot : IsBallot voters a.ballot
   pub promising : IsSet voters a.promising
@@ -58,14 +61,14 @@ pub record IsAttempt (voters agents : ℕ) (journals : Holding) (a : Attempt) : 
 pub record IsNode (voters agents : ℕ) (journals : Holding) (n : Node) : Type 0 where
   pub round : n.kept.round ≤ 10_000
   pub periods : length n.kept.learned ≤ 1_200
-  pub learned : (period : ℕ) (cut : Cut) → slice_get n.kept.learned period ≡ Some cut → IsCut agents journals cut
+  pub learned : All (IsCut agents journals) n.kept.learned
   pub growing : IsGrowing agents n.kept.learned
   pub promised : (ballot : ℕ) → n.kept.acceptor.promised ≡ Some ballot → IsBallot voters ballot
   pub vote : MayBeVote voters agents journals n.kept.acceptor.vote
   pub is_holding : IsHolding n.kept.holding
   pub part : IsPartOf n.kept.holding journals
   pub attempt : (a : Attempt) → n.attempt ≡ Some a → IsAttempt voters agents journals a
-  pub tally : (e : ℕ × Nodes) → Contains n.tally e → IsBallot voters e.0 × IsSet voters e.1
+  pub tally : All (IsEntry voters) n.tally
   pub whole : (period : ℕ) (cut : Cut) → slice_get n.kept.learned period ≡ Some cut → first_missing n.kept.holding cut ≡ None → AgreeUpTo cut n.kept.holding journals
 
 -- What holds of the world after every run.
@@ -74,5 +77,5 @@ pub record KeepsLimits (nodes agents : ℕ) (w : World) : Type 0 where
   pub agents_kept : w.agents ≡ agents
   pub rules : MeetsJournalRules w.sheet w.journals
   pub room : length w.packets ≤ 1_000_000
-  pub packets : (p : Packet) → Contains w.packets p → IsPacket (voter_count w) w.agents w.journals p
-  pub each : (n : Node) → Contains w.nodes n → IsNode (voter_count w) w.agents w.journals n
+  pub each_packet : All (IsPacket (voter_count w) w.agents w.journals) w.packets
+  pub each_node : All (IsNode (voter_count w) w.agents w.journals) w.nodes

@@ -39,6 +39,7 @@ pub record IsExport (w : World) (cuts : List Cut) (s : Snapshot) : Type 0 where
   pub sheet : s.sheet ≡ w.sheet
   pub issuer : s.issuer ≡ w.issuer
   pub batches : s.batches ≡ up_to s.to w.journals
+  pub rules : MeetsJournalRules s.sheet s.batches
   pub file : file (rows s.sheet s.issuer s.batches s.period s.from s.to) ≡ file (rows w.sheet w.issuer w.journals s.period s.from s.to)
 
 -- the period's row at this index has no ChargeClass: it charges its reading as new
