@@ -5,14 +5,16 @@ use Rattle.std.specs.List.{Contains}
 use Rattle.std.proofs.lemmas.Bool.{leb-true, both_ways}
 use Rattle.std.proofs.lemmas.Option.{same_Some, none-some}
 use Rattle.jiff_core.specs.Calendar.{days_from_civil, day_count, days_of_years, days_of_months}
-use Rattle.metering_model.specs.Batch.{Batch, Reading, Reads, Credit}
+use Rattle.metering_model.specs.Batch.{Batch, Reading, Reads}
+use Rattle.metering_model.specs.declared.Kind.TheVariants.{Credit}
 use Rattle.metering_model.specs.Row.{row, New}
 use Rattle.metering_model.specs.Rows.{PlacedRow}
 use Rattle.metering_model.specs.Cut.{Cut, IsAtLeast, IsGrowing}
-use Rattle.metering_model.specs.World.{World, Node, Reply, Snapshot, Exported, CarriesBatch, Prepare, Promise, Accept, Accepted, wake, new_kept, opening}
+use Rattle.metering_model.specs.World.{World, Node, Reply, Snapshot, Exported, CarriesBatch, Prepare, Promise, Accept, Accepted, Decided, wake, new_kept, opening}
 use Rattle.metering_model.specs.Chosen.{IsChosen}
 use Rattle.metering_model.proofs.Samples.{sheet_0, issuer_1}
 use Rattle.group_laws.specs.Headline.{IsNewIn, AreChargedOnce, HoldsAfter}
+use Rattle.group_laws.specs.EveryRun.{KeepsLimits}
 
 abbrev low : Cut
 low = 1 ∷ []
@@ -52,6 +54,28 @@ after_two_promises = record (opening 3 1 sheet_0 issuer_1) {
 
 an_older_ballot_is_not_promised : IsFalseOf 3 [] after_two_promises
 an_older_ballot_is_not_promised = two_chosen 3 [] after_two_promises (record { ballot = 3; by_majority = leb-true _ _ refl }) (record { ballot = 5; by_majority = leb-true _ _ refl })
+
+-- Node 1 accepts ballot 5 without having seen its Prepare. It takes that for no promise, and accepts ballot 3 afterwards.
+abbrev after_a_vote_that_promised_nothing : World
+after_a_vote_that_promised_nothing = record (opening 3 1 sheet_0 issuer_1) {
+  packets =
+      Prepare 0 3 ∷ Promise 0 0 3 None ∷ Promise 1 0 3 None ∷ Prepare 0 5 ∷ Promise 2 0 5 None ∷ Promise 0 0 5 None ∷
+      Accept 0 5 high ∷ Accepted 1 0 5 high ∷ Accepted 2 0 5 high ∷ Accept 0 3 low ∷ Accepted 1 0 3 low ∷ Accepted 0 0 3 low ∷ [];
+}
+
+a_vote_is_a_promise : IsFalseOf 3 [] after_a_vote_that_promised_nothing
+a_vote_is_a_promise = two_chosen 3 [] after_a_vote_that_promised_nothing (record { ballot = 3; by_majority = leb-true _ _ refl }) (record { ballot = 5; by_majority = leb-true _ _ refl })
+
+-- Two cuts go out at one ballot: it is of two nodes, or its proposer took one more promise after it had sent.
+abbrev after_a_shared_ballot : World
+after_a_shared_ballot = record (opening 3 1 sheet_0 issuer_1) {
+  packets =
+      Prepare 0 3 ∷ Promise 0 0 3 None ∷ Promise 1 0 3 None ∷ Accept 0 3 low ∷ Accept 0 3 high ∷
+      Accepted 0 0 3 low ∷ Accepted 1 0 3 low ∷ Accepted 1 0 3 high ∷ Accepted 2 0 3 high ∷ [];
+}
+
+a_ballot_has_one_cut : IsFalseOf 3 [] after_a_shared_ballot
+a_ballot_has_one_cut = two_chosen 3 [] after_a_shared_ballot (record { ballot = 3; by_majority = leb-true _ _ refl }) (record { ballot = 3; by_majority = leb-true _ _ refl })
 
 -- ---- half of the nodes taken for a majority
 
@@ -196,3 +220,22 @@ exports_of_a_period_are_equal : IsFalseOf 1 (Exported too_much ∷ Exported too_
 exports_of_a_period_are_equal h =
     let sizes : 2 ≡ 0 = ap (λ (s : Snapshot). length s.batches) (h.one_export too_much too_little (0, omega arith, refl) (1, omega arith, refl) refl) in
     omega (arith, sizes)
+
+-- ---- beyond the limits
+
+abbrev IsBeyondLimits : World → Type 0
+IsBeyondLimits w = KeepsLimits 3 1 w → ⊥
+
+-- a promise of a node that is not there
+abbrev after_a_strangers_promise : World
+after_a_strangers_promise = record (opening 3 1 sheet_0 issuer_1) { packets = Promise 3 0 3 None ∷ [] }
+
+senders_are_nodes : IsBeyondLimits after_a_strangers_promise
+senders_are_nodes h = let low = (h.each_packet 0 (Promise 3 0 3 None) (omega arith)).0 in omega (arith, low)
+
+-- a cut without an entry for the agent
+abbrev after_a_short_cut : World
+after_a_short_cut = record (opening 3 1 sheet_0 issuer_1) { packets = Decided 0 [] ∷ [] }
+
+cuts_have_an_entry_for_each_agent : IsBeyondLimits after_a_short_cut
+cuts_have_an_entry_for_each_agent h = let size = (h.each_packet 0 (Decided 0 []) (omega arith)).1.size in absurd (omega (arith, size))

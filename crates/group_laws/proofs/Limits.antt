@@ -344,8 +344,7 @@ module _ (N : ℕ) where
   start_bounded w i n h may =
       let is = at_entry (IsBounded N w.agents w.journals) w.nodes i n h.nodes may.found in
       let inside = subst (λ k. i < k) h.fitting.told.kept.count (slice_get_within w.nodes i n may.found) in
-      let ballot : IsBallot N (fresh_ballot w i n) = subst (λ k. IsBallot N (ballot_of (n.kept.round + 1) i k)) (sym h.fitting.told.kept.count) (fresh_is_ballot N n.kept.round i inside may.round) in
-      (
+      let ballot : IsBallot N (fresh_ballot w i n) = subst (λ k. IsBallot N (ballot_of (n.kept.round + 1) i k)) (sym h.fitting.told.kept.count) (fresh_is_ballot N n.kept.round i inside may.round) in (
         record {
           round_in = let round = may.round in omega arith;
           cuts = is.cuts;

@@ -1,7 +1,6 @@
 -- The rows between two cuts are those of the batches up to the later one, one batch after the other.
 use Rattle.std.proofs.Common.{◌≡◌, ℕ, List, [], ◌∷◌, ◌++◌, refl, ap, ◌∙◌, Option, Some, None}
 use Rattle.std.specs.List.{flat_map, filter_map, cons_option}
-use Rattle.metering_model.specs.Batch.{Batch}
 use Rattle.metering_model.specs.Sheet.{Sheet, Issuer}
 use Rattle.metering_model.specs.Cut.{Cut}
 use Rattle.metering_model.specs.Holding.{Holding, Placed, placed, up_to}

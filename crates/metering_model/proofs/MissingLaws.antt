@@ -1,7 +1,7 @@
 -- What is missing in a holding up to a cut: nothing, or the least absent batch.
-use Rattle.std.proofs.Common.{◌≡◌, ℕ, zero, suc, ◌+◌, ◌<◌, ◌≤◌, Bool, true, false, cond, List, [], ◌∷◌, slice_index, refl, sym, ap, subst, ◌∙◌, arith, Option, Some, None, inl, inr, is_some}
+use Rattle.std.proofs.Common.{◌≡◌, ℕ, zero, suc, ◌+◌, ◌<◌, ◌≤◌, Bool, true, false, cond, [], ◌∷◌, slice_index, refl, sym, ap, subst, ◌∙◌, arith, Option, Some, None, inl, inr, is_some}
 use Rattle.std.specs.List.{range_with_len}
-use Rattle.std.proofs.lemmas.Bool.{cases_lt, both_ways}
+use Rattle.std.proofs.lemmas.Bool.{cases_lt}
 use Rattle.std.proofs.lemmas.Option.{same_Some}
 use Rattle.metering_model.specs.Batch.{Batch}
 use Rattle.metering_model.specs.Cut.{Cut, last_of}

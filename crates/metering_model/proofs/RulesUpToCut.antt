@@ -1,14 +1,14 @@
 -- What journals have up to a cut meets their rules too.
-use Rattle.std.proofs.Common.{◌≡◌, ℕ, zero, suc, ◌+◌, ◌<◌, ◌≤◌, Bool, true, false, ◌&&◌, leb, List, [], ◌∷◌, length, map, filter, refl, sym, ap, subst, ◌∙◌, arith, Option, Some, None, inl, inr, nat_le, nat_lt}
-use Rattle.std.specs.Prelude.{slice_get, ◌==◌, ◌||◌, if◌then◌else◌}
+use Rattle.std.proofs.Common.{◌≡◌, ℕ, zero, suc, ◌+◌, ◌<◌, ◌≤◌, Bool, true, false, ◌&&◌, List, [], ◌∷◌, length, map, filter, refl, sym, ap, subst, ◌∙◌, arith, Some, None, inl, inr, nat_le, nat_lt}
+use Rattle.std.specs.Prelude.{slice_get, ◌==◌, if◌then◌else◌}
 use Rattle.std.specs.List.{range_with_len, enumerate_from}
 use Rattle.std.specs.Option.{option_and_then}
 use Rattle.std.proofs.lemmas.Bool.{and_parts, or_cases, cases_Bool, cond-true, cond-false, eqb-true, ltb-true, le-leb, leb-true, leb-false, false_from_ne_true}
-use Rattle.metering_model.specs.Batch.{Batch, Record, Reading, Reads, Amends}
+use Rattle.metering_model.specs.Batch.{Batch, Record, Reads, Amends}
 use Rattle.metering_model.specs.Sheet.{Sheet}
 use Rattle.metering_model.specs.Cut.{Cut, last_of}
-use Rattle.metering_model.specs.Holding.{Holding, IsHolding, Position, Placed, sequences_of, up_to, placed, records_in_order, reading_of, reading_at}
-use Rattle.metering_model.specs.JournalRules.{MeetsJournalRules, BrokenRule, BadTarget, broken_by, first_broken, comes_earlier, is_fit_target}
+use Rattle.metering_model.specs.Holding.{Holding, Position, Placed, sequences_of, up_to, placed, records_in_order, reading_of, reading_at}
+use Rattle.metering_model.specs.JournalRules.{MeetsJournalRules, BadTarget, broken_by, first_broken, comes_earlier, is_fit_target}
 use Rattle.metering_model.proofs.HoldingLaws.{IsHolding-up_to, held-up_to, up_to_cases}
 use Rattle.metering_model.proofs.Journals.{sequences-of_agent, sequences-of_another, none_append, none_parts, or_next_parts, or_next_from}
 
