@@ -6,6 +6,7 @@ pub mod MonthLaws
 pub mod DayLaws
 pub mod DateLaws
 pub mod StepLaws
+pub mod PlayLaws
 pub mod Splitting
 pub mod FirstByte
 pub mod FieldLaws
@@ -19,11 +20,20 @@ pub mod RoundingLaws
 pub mod BatchOrder
 pub mod HoldingLaws
 pub mod AgreementLaws
-mod Samples
+pub mod Journals
+pub mod CutLaws
+pub mod MissingLaws
+pub mod PartLaws
+pub mod Fronts
+pub mod NewRows
+pub mod Places
+pub mod BatchRows
+pub mod RulesUpToCut
+pub mod Samples
 mod WorkedNumbers
 mod WorkedBatches
 mod WorkedRates
 mod WorkedRows
-mod WorkedBallots
-mod WorkedPeriods
+pub mod WorkedBallots
+pub mod WorkedPeriods
 mod WorkedSheets

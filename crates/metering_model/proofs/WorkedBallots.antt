@@ -10,7 +10,7 @@ use Rattle.metering_model.specs.Schedule.{Schedule, PlansJournal, PlansDelivery,
 use Rattle.metering_model.proofs.Samples.{sheet_0, sheet_0_lines, issuer_1, issuer_1_lines, reading_1, row_1}
 
 -- one batch from its bytes to two equal files
-abbrev whole_path : Schedule
+abbrev pub whole_path : Schedule
 whole_path = record {
   nodes = 3;
   agents = 1;
@@ -43,7 +43,7 @@ unfolding days_from_civil day_count days_of_years days_of_months worth_of decima
 whole_path_transcript = refl
 
 -- a proposer that is told a vote sends its cut, and not its own front
-abbrev crossing_proposers : Schedule
+abbrev pub crossing_proposers : Schedule
 crossing_proposers = record {
   nodes = 3;
   agents = 1;

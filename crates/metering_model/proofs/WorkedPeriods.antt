@@ -50,7 +50,7 @@ unfolding days_from_civil day_count days_of_years days_of_months worth_of decima
 empty_period_transcript = refl
 
 -- an amendment in a later period gives the difference
-abbrev correction : Schedule
+abbrev pub correction : Schedule
 correction = record {
   nodes = 1;
   agents = 1;

@@ -6,23 +6,23 @@ use Rattle.std.specs.BTreeMap.{insert_entry}
 use Rattle.metering_model.specs.Cut.{Cut}
 
 abbrev pub ballot_of : ℕ → ℕ → ℕ → ℕ
-ballot_of round node nodes = round * nodes + node
+ballot_of round node voters = round * voters + node
 
 abbrev pub majority : ℕ → ℕ
-majority nodes = nodes / 2 + 1
+majority voters = voters / 2 + 1
 
--- a set of nodes: a mark for each node
+-- a set of nodes that vote: a mark for each
 abbrev pub Nodes : Type 0
 Nodes = List Bool
 
 abbrev pub nobody : ℕ → Nodes
-nobody nodes = replicate nodes false
+nobody voters = replicate voters false
 
 abbrev pub with_node : ℕ → Nodes → Nodes
 with_node i set = slice_set set i true
 
 abbrev pub has_majority : ℕ → Nodes → Bool
-has_majority nodes set = nat_le (majority nodes) (count_by (λ marked. marked) set)
+has_majority voters set = nat_le (majority voters) (count_by (λ marked. marked) set)
 
 pub record Vote : Type 0 where
   pub ballot : ℕ
@@ -59,7 +59,7 @@ pub record Attempt : Type 0 where
   pub sent : Bool
 
 abbrev pub new_attempt : ℕ → ℕ → Attempt
-new_attempt nodes ballot = record { ballot = ballot; promising = nobody nodes; told = None; sent = false }
+new_attempt voters ballot = record { ballot = ballot; promising = nobody voters; told = None; sent = false }
 
 abbrev pub greater_vote : Option Vote → Option Vote → Option Vote
 greater_vote None w = w
@@ -75,7 +75,7 @@ abbrev pub Tally : Type 0
 Tally = List (ℕ × Nodes)
 
 abbrev pub accepting_at : ℕ → ℕ → Tally → Nodes
-accepting_at nodes ballot tally = unwrap_or (lookup (λ b. b == ballot) tally) (nobody nodes)
+accepting_at voters ballot tally = unwrap_or (lookup (λ b. b == ballot) tally) (nobody voters)
 
 abbrev pub with_accepted : ℕ → ℕ → ℕ → Tally → Tally
-with_accepted nodes from ballot tally = insert_entry nat_cmp tally ballot (with_node from (accepting_at nodes ballot tally))
+with_accepted voters from ballot tally = insert_entry nat_cmp tally ballot (with_node from (accepting_at voters ballot tally))

@@ -10,7 +10,7 @@ use Rattle.metering_model.specs.Holding.{Holding, placed, held, put, up_to}
 use Rattle.metering_model.specs.JournalRules.{BrokenRule, next_seq, first_broken}
 use Rattle.metering_model.specs.declared.BrokenRule.TheVariants.{BadTarget as BreaksTarget, Unpriced as BreaksPrice}
 use Rattle.metering_model.specs.Ballot.{ballot_of, new_attempt}
-use Rattle.metering_model.specs.World.{CarriesBatch, Prepare, Node, World, Offer, Good, Bad, Event, Journal, Deliver, Start, Restart, Export, Snapshot, Reply, Journaled, Delivered, Started, Restarted, Exported, Refused, Refusal, BadBatch, WrongSeq, BadTarget, Unpriced, NoPacket, NoNode, NotClosed, Missing, AllClosed, NoBallot, NoAgent, node_count, current_period, wake, with_node_at, with_packet, next_packet}
+use Rattle.metering_model.specs.World.{CarriesBatch, Prepare, Node, World, Offer, Good, Bad, Event, Journal, Deliver, Start, Restart, Export, Snapshot, Reply, Journaled, Delivered, Started, Restarted, Exported, Refused, Refusal, BadBatch, WrongSeq, BadTarget, Unpriced, NoPacket, NoNode, NotClosed, Missing, AllClosed, NoBallot, NoAgent, voter_count, current_period, wake, with_node_at, with_packet, next_packet}
 use Rattle.metering_model.specs.Deliveries.{Handled, handled}
 
 abbrev pub Outcome : Type 0
@@ -57,7 +57,7 @@ on_delivery w k i = do
 
 -- a start takes the next round, and so a new ballot
 abbrev pub started_node : ℕ → ℕ → Node → Node
-started_node nodes ballot n = record n { kept = record n.kept { round = n.kept.round + 1 }; attempt = Some (new_attempt nodes ballot) }
+started_node voters ballot n = record n { kept = record n.kept { round = n.kept.round + 1 }; attempt = Some (new_attempt voters ballot) }
 
 abbrev pub on_start : World → ℕ → Result Outcome Refusal
 on_start w i = do
@@ -65,8 +65,8 @@ on_start w i = do
   _ ← holds_or (nat_lt (current_period n) 1_200) AllClosed
   _ ← holds_or (nat_lt n.kept.round 10_000) NoBallot
   k ← next_packet w
-  let ballot = ballot_of (n.kept.round + 1) i (node_count w)
-  Ok (Started ballot k, with_packet (Prepare (current_period n) ballot) (with_node_at i (started_node (node_count w) ballot n) w))
+  let ballot = ballot_of (n.kept.round + 1) i (voter_count w)
+  Ok (Started ballot k, with_packet (Prepare (current_period n) ballot) (with_node_at i (started_node (voter_count w) ballot n) w))
 
 abbrev pub on_restart : World → ℕ → Result Outcome Refusal
 on_restart w i = do

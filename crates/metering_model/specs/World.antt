@@ -76,6 +76,10 @@ pub data Reply : Type 0 where
 abbrev pub node_count : World → ℕ
 node_count w = length w.nodes
 
+-- how many of the nodes vote: each does. Ballots, sets of nodes and majorities are of the voters.
+abbrev pub voter_count : World → ℕ
+voter_count w = node_count w
+
 -- the period that a node works on: the first that it has not learned
 abbrev pub current_period : Node → ℕ
 current_period n = length n.kept.learned

@@ -1,18 +1,22 @@
 //! What ties the definitions to one another. Each law is a function with an empty body.
 
-ghost use Rattle.std.specs.Prelude.{◌≡◌, ℕ, ◌^◌, ◌<◌, ◌≤◌, ◌↔◌, false, List, Some, Ok, ℤ, unsigned_abs, unwrap_or};
+ghost use Rattle.std.specs.Prelude.{◌≡◌, ℕ, ◌+◌, ◌^◌, ◌<◌, ◌≤◌, ◌↔◌, ◌⊎◌, true, false, List, [], ◌∷◌, ◌++◌, length, slice_set, Some, None, Ok, ℤ, unsigned_abs, unwrap_or, slice_get};
+ghost use Rattle.std.specs.Option.{is_some};
+ghost use Rattle.std.specs.List.{flat_map, filter_map};
 ghost use Rattle.metering_model.specs.NumberText.{Spells, number_in, spelling};
 ghost use Rattle.metering_model.specs.Dates.{IsMonthText, IsDayText, IsStampText, month_in, day_in, stamp_in};
-ghost use Rattle.metering_model.specs.Batch.{Batch, IsBatch, IsWellFormed};
+ghost use Rattle.metering_model.specs.Batch.{Batch, Reading, IsBatch, IsWellFormed};
 ghost use Rattle.metering_model.specs.BatchReading.{batch_in};
-ghost use Rattle.metering_model.specs.Cut.{Cut, IsAtLeast, last_of};
-ghost use Rattle.metering_model.specs.Holding.{Holding, IsHolding, AgreeUpTo, Position, held, is_batch_at, put, up_to};
+ghost use Rattle.metering_model.specs.Cut.{Cut, IsAtLeast, zero_cut, last_of};
+ghost use Rattle.metering_model.specs.Holding.{Holding, IsHolding, IsPartOf, LacksNothingUpTo, AgreeUpTo, Position, held, is_batch_at, put, placed, reading_at, up_to};
 ghost use Rattle.metering_model.specs.ValueAtSequence.{value_at};
 ghost use Rattle.metering_model.specs.Sheet.{Sheet, Issuer};
 ghost use Rattle.metering_model.specs.Rating.{IsRounded, pricing_quantity};
-ghost use Rattle.metering_model.specs.Rows.{placed_rows, rows};
-ghost use Rattle.metering_model.specs.World.{World, Good, Journal, offer_of};
-ghost use Rattle.metering_model.specs.Step.{step};
+ghost use Rattle.metering_model.specs.Rows.{PlacedRow, placed_row, placed_rows, rows};
+ghost use Rattle.metering_model.specs.JournalRules.{MeetsJournalRules, next_seq, first_broken};
+ghost use Rattle.metering_model.specs.Front.{IsDueAt, AreDueBetween, front};
+ghost use Rattle.metering_model.specs.World.{World, Event, Good, Journal, offer_of};
+ghost use Rattle.metering_model.specs.Step.{first_missing, step, play};
 
 /// Reading a text as a number answers the number that the text spells, and nothing else.
 pub fn numbers_are_read_as_they_are_spelled()
@@ -53,7 +57,45 @@ pub fn holdings_are_maps()
         held (put h b) b.agent b.seq ≡ Some (unwrap_or (held h b.agent b.seq) b) }
     ensures others { (h : Holding) (b : Batch) (agent seq : ℕ) → IsHolding h →
         is_batch_at agent seq b ≡ false → held (put h b) agent seq ≡ held h agent seq }
+    ensures there { (h : Holding) (b c : Batch) → IsHolding h → held h b.agent b.seq ≡ Some c → put h b ≡ h }
     ensures cuts { (h : Holding) (cut : Cut) → IsHolding h → IsHolding (up_to cut h) }
+{}
+
+/// A part of a holding stays one while the whole has what is put into it. Where it lacks nothing up to a cut, the two agree
+/// up to that cut; what a holding has up to a cut is such a part.
+pub fn parts_of_holdings_agree_where_they_lack_nothing()
+    ensures itself { (h : Holding) → IsPartOf h h }
+    ensures onward { (h k l : Holding) → IsPartOf h k → IsPartOf k l → IsPartOf h l }
+    ensures grown { (h : Holding) (b : Batch) → IsHolding h → IsPartOf h (put h b) }
+    ensures stays { (h k : Holding) (b : Batch) → IsHolding h → IsPartOf h k →
+        held k b.agent b.seq ≡ Some b → IsPartOf (put h b) k }
+    ensures agree { (h k : Holding) (cut : Cut) → IsPartOf h k → LacksNothingUpTo cut h k → AgreeUpTo cut h k }
+    ensures part { (h : Holding) (cut : Cut) → IsPartOf (up_to cut h) h }
+    ensures lacks_nothing { (h : Holding) (cut : Cut) → LacksNothingUpTo cut (up_to cut h) h }
+{}
+
+/// A holding misses nothing up to a cut exactly where it has each batch up to it. What it misses is the absent batch of the
+/// least agent, and of that agent's the one of the least sequence. A part that misses nothing agrees with the whole.
+pub fn what_is_missing_up_to_a_cut_is_the_least_absent()
+    ensures nothing { (h : Holding) (cut : Cut) → (first_missing h cut ≡ None)
+        ↔ ((agent seq : ℕ) → 0 < seq → seq ≤ last_of cut agent → is_some (held h agent seq) ≡ true) }
+    ensures absent { (h : Holding) (cut : Cut) (agent seq : ℕ) → first_missing h cut ≡ Some (agent, seq) →
+        (0 < seq) × (seq ≤ last_of cut agent) × (held h agent seq ≡ None) }
+    ensures least { (h : Holding) (cut : Cut) (agent seq : ℕ) → first_missing h cut ≡ Some (agent, seq) →
+        (a s : ℕ) → (a < agent) ⊎ ((a ≡ agent) × (s < seq)) → 0 < s → s ≤ last_of cut a → is_some (held h a s) ≡ true }
+    ensures agree { (h k : Holding) (cut : Cut) → IsHolding h → IsHolding k → IsPartOf h k →
+        first_missing h cut ≡ None → AgreeUpTo cut h k }
+{}
+
+/// Cuts of one length are ordered agent by agent, with zero below all; an entry that is put changes no other.
+pub fn cuts_are_ordered()
+    ensures itself { (cut : Cut) → IsAtLeast cut cut }
+    ensures onward { (a b c : Cut) → IsAtLeast b a → IsAtLeast c b → IsAtLeast c a }
+    ensures above_zero { (cut : Cut) → IsAtLeast cut (zero_cut (length cut)) }
+    ensures each { (a b : Cut) (agent : ℕ) → IsAtLeast b a → last_of a agent ≤ last_of b agent }
+    ensures was_put { (cut : Cut) (i seq : ℕ) → i < length cut → last_of (slice_set cut i seq) (i + 1) ≡ seq }
+    ensures others { (cut : Cut) (i seq agent : ℕ) → (agent ≡ i + 1 → ⊥) →
+        last_of (slice_set cut i seq) agent ≡ last_of cut agent }
 {}
 
 /// Holdings that agree up to a cut give the same values and the same rows up to it.
@@ -75,4 +117,57 @@ pub fn what_agrees_up_to_a_cut_is_charged_alike()
 pub fn bytes_and_their_offer_are_journaled_alike()
     ensures { (w : World) (text : List ℕ) →
         step w (Journal (Good text)) ≡ step w (Journal (offer_of text)) }
+{}
+
+/// The journals meet their rules after each batch that they take, an agent's batches are those below its next, and what they
+/// have up to a cut meets the rules too.
+pub fn journals_keep_their_rules()
+    ensures none { (sheet : Sheet) → MeetsJournalRules sheet [] }
+    ensures taken { (sheet : Sheet) (h : Holding) (b : Batch) →
+        MeetsJournalRules sheet h → IsWellFormed b → b.seq ≡ next_seq h b.agent →
+        first_broken sheet (put h b) (placed b) ≡ None → MeetsJournalRules sheet (put h b) }
+    ensures below_next { (sheet : Sheet) (h : Holding) (agent seq : ℕ) (b : Batch) →
+        MeetsJournalRules sheet h → held h agent seq ≡ Some b → seq < next_seq h agent }
+    ensures cuts { (sheet : Sheet) (h : Holding) (cut : Cut) → MeetsJournalRules sheet h → MeetsJournalRules sheet (up_to cut h) }
+{}
+
+/// A front is at least the cut that it is taken of, each batch in between is held and due, and no greater cut has that. A
+/// part of a holding has no greater front than the whole.
+pub fn a_front_goes_on_from_its_cut()
+    ensures grows { (base period : ℕ) (h : Holding) (cut : Cut) → IsAtLeast (front base h cut period) cut }
+    ensures due { (base period : ℕ) (h : Holding) (cut : Cut) → AreDueBetween base period h cut (front base h cut period) }
+    ensures greatest { (base period : ℕ) (h : Holding) (cut : Cut) (agent seq : ℕ) → 1 ≤ agent → agent ≤ length cut →
+        ((s : ℕ) → last_of cut agent < s → s ≤ seq → IsDueAt base period h agent s) →
+        seq ≤ last_of (front base h cut period) agent }
+    ensures size { (base period : ℕ) (h : Holding) (cut : Cut) → length (front base h cut period) ≡ length cut }
+    ensures parts { (base period : ℕ) (h k : Holding) (cut : Cut) → IsPartOf h k →
+        IsAtLeast (front base k cut period) (front base h cut period) }
+{}
+
+/// Each row between two cuts has a place of its own; those of null class are of the readings between the cuts, one of each.
+/// They are the rows of the batches up to the later cut, one batch after the other.
+pub fn rows_between_two_cuts_have_their_places()
+    ensures apart { (sheet : Sheet) (issuer : Issuer) (h : Holding) (period : ℕ) (from to : Cut) (k l : ℕ) (x y : PlacedRow) →
+        IsHolding h → slice_get (placed_rows sheet issuer h period from to) k ≡ Some x →
+        slice_get (placed_rows sheet issuer h period from to) l ≡ Some y → x.place ≡ y.place → k ≡ l }
+    ensures new { (sheet : Sheet) (issuer : Issuer) (h : Holding) (period : ℕ) (from to : Cut) (k : ℕ) (x : PlacedRow) →
+        slice_get (placed_rows sheet issuer h period from to) k ≡ Some x → x.row.charge_class ≡ None →
+        (last_of from x.place.agent < x.place.seq) × (x.place.seq ≤ last_of to x.place.agent) }
+    ensures each { (sheet : Sheet) (issuer : Issuer) (h : Holding) (period : ℕ) (from to : Cut) (at : Position) (r : Reading) →
+        reading_at h at ≡ Some r → last_of from at.agent < at.seq → at.seq ≤ last_of to at.agent →
+        (k : ℕ) × (x : PlacedRow) × (slice_get (placed_rows sheet issuer h period from to) k ≡ Some x)
+        × (x.row.charge_class ≡ None) × (x.place ≡ at) }
+    ensures batches { (sheet : Sheet) (issuer : Issuer) (h : Holding) (period : ℕ) (from to : Cut) →
+        placed_rows sheet issuer h period from to
+        ≡ flat_map (λ b. filter_map (placed_row sheet issuer h period from to) (placed b)) (up_to to h) }
+{}
+
+/// A run with one more event at the end is the run, and one more step.
+pub fn one_more_event_is_one_more_step()
+    ensures world { (w : World) (events : List Event) (e : Event) →
+        (play w (events ++ e ∷ [])).1 ≡ (step (play w events).1 e).1 }
+    ensures replies { (w : World) (events : List Event) (e : Event) →
+        (play w (events ++ e ∷ [])).0 ≡ (play w events).0 ++ (step (play w events).1 e).0 ∷ [] }
+    ensures more { (w : World) (events more : List Event) →
+        (play w (events ++ more)).1 ≡ (play (play w events).1 more).1 }
 {}

@@ -1,0 +1,241 @@
+-- Worlds that a faulty node would leave: of each the headline is false.
+use Rattle.std.proofs.Common.{◌≡◌, ℕ, zero, suc, List, [], ◌∷◌, length, refl, sym, ap, subst, ◌∙◌, arith, Some, None}
+use Rattle.std.specs.Prelude.{slice_get, pos, false}
+use Rattle.std.specs.List.{Contains}
+use Rattle.std.proofs.lemmas.Bool.{leb-true, both_ways}
+use Rattle.std.proofs.lemmas.Option.{same_Some, none-some}
+use Rattle.jiff_core.specs.Calendar.{days_from_civil, day_count, days_of_years, days_of_months}
+use Rattle.metering_model.specs.Batch.{Batch, Reading, Reads}
+use Rattle.metering_model.specs.declared.Kind.TheVariants.{Credit}
+use Rattle.metering_model.specs.Row.{row, New}
+use Rattle.metering_model.specs.Rows.{PlacedRow}
+use Rattle.metering_model.specs.Cut.{Cut, IsAtLeast, IsGrowing}
+use Rattle.metering_model.specs.World.{World, Node, Reply, Snapshot, Exported, CarriesBatch, Prepare, Promise, Accept, Accepted, Decided, wake, new_kept, opening}
+use Rattle.metering_model.specs.Chosen.{IsChosen}
+use Rattle.metering_model.proofs.Samples.{sheet_0, issuer_1}
+use Rattle.group_laws.specs.Headline.{IsNewIn, AreChargedOnce, HoldsAfter}
+use Rattle.group_laws.specs.EveryRun.{KeepsLimits}
+
+abbrev low : Cut
+low = 1 ∷ []
+
+abbrev high : Cut
+high = 2 ∷ []
+
+abbrev IsFalseOf : ℕ → List Reply → World → Type 0
+IsFalseOf nodes replies w = HoldsAfter nodes 1 sheet_0 issuer_1 replies w → ⊥
+
+-- ---- two cuts that are chosen for one period
+
+two_chosen : (nodes : ℕ) (replies : List Reply) (w : World) → IsChosen w 0 low → IsChosen w 0 high → IsFalseOf nodes replies w
+two_chosen nodes replies w one other h = differ (h.one 0 low high one other)
+  where
+    differ : low ≡ high → ⊥
+    differ e = cc
+
+-- Node 1 accepts `low` at ballot 3, which so is chosen. It forgets its vote, and promises ballot 5 without a word of it.
+abbrev after_a_forgotten_vote : World
+after_a_forgotten_vote = record (opening 3 1 sheet_0 issuer_1) {
+  packets =
+      Prepare 0 3 ∷ Promise 0 0 3 None ∷ Promise 1 0 3 None ∷ Accept 0 3 low ∷ Accepted 0 0 3 low ∷ Accepted 1 0 3 low ∷
+      Prepare 0 5 ∷ Promise 1 0 5 None ∷ Promise 2 0 5 None ∷ Accept 0 5 high ∷ Accepted 1 0 5 high ∷ Accepted 2 0 5 high ∷ [];
+}
+
+a_vote_is_not_forgotten : IsFalseOf 3 [] after_a_forgotten_vote
+a_vote_is_not_forgotten = two_chosen 3 [] after_a_forgotten_vote (record { ballot = 3; by_majority = leb-true _ _ refl }) (record { ballot = 5; by_majority = leb-true _ _ refl })
+
+-- Node 1 has promised ballot 5, and then promises ballot 3, and accepts at both.
+abbrev after_two_promises : World
+after_two_promises = record (opening 3 1 sheet_0 issuer_1) {
+  packets =
+      Prepare 0 3 ∷ Prepare 0 5 ∷ Promise 1 0 5 None ∷ Promise 2 0 5 None ∷ Promise 1 0 3 None ∷ Promise 0 0 3 None ∷
+      Accept 0 3 low ∷ Accepted 0 0 3 low ∷ Accepted 1 0 3 low ∷ Accept 0 5 high ∷ Accepted 1 0 5 high ∷ Accepted 2 0 5 high ∷ [];
+}
+
+an_older_ballot_is_not_promised : IsFalseOf 3 [] after_two_promises
+an_older_ballot_is_not_promised = two_chosen 3 [] after_two_promises (record { ballot = 3; by_majority = leb-true _ _ refl }) (record { ballot = 5; by_majority = leb-true _ _ refl })
+
+-- Node 1 accepts ballot 5 without having seen its Prepare. It takes that for no promise, and accepts ballot 3 afterwards.
+abbrev after_a_vote_that_promised_nothing : World
+after_a_vote_that_promised_nothing = record (opening 3 1 sheet_0 issuer_1) {
+  packets =
+      Prepare 0 3 ∷ Promise 0 0 3 None ∷ Promise 1 0 3 None ∷ Prepare 0 5 ∷ Promise 2 0 5 None ∷ Promise 0 0 5 None ∷
+      Accept 0 5 high ∷ Accepted 1 0 5 high ∷ Accepted 2 0 5 high ∷ Accept 0 3 low ∷ Accepted 1 0 3 low ∷ Accepted 0 0 3 low ∷ [];
+}
+
+a_vote_is_a_promise : IsFalseOf 3 [] after_a_vote_that_promised_nothing
+a_vote_is_a_promise = two_chosen 3 [] after_a_vote_that_promised_nothing (record { ballot = 3; by_majority = leb-true _ _ refl }) (record { ballot = 5; by_majority = leb-true _ _ refl })
+
+-- Two cuts go out at one ballot: it is of two nodes, or its proposer took one more promise after it had sent.
+abbrev after_a_shared_ballot : World
+after_a_shared_ballot = record (opening 3 1 sheet_0 issuer_1) {
+  packets =
+      Prepare 0 3 ∷ Promise 0 0 3 None ∷ Promise 1 0 3 None ∷ Accept 0 3 low ∷ Accept 0 3 high ∷
+      Accepted 0 0 3 low ∷ Accepted 1 0 3 low ∷ Accepted 1 0 3 high ∷ Accepted 2 0 3 high ∷ [];
+}
+
+a_ballot_has_one_cut : IsFalseOf 3 [] after_a_shared_ballot
+a_ballot_has_one_cut = two_chosen 3 [] after_a_shared_ballot (record { ballot = 3; by_majority = leb-true _ _ refl }) (record { ballot = 3; by_majority = leb-true _ _ refl })
+
+-- ---- half of the nodes taken for a majority
+
+abbrev has_learned : Cut → Node
+has_learned cut = wake (record new_kept { learned = cut ∷ [] })
+
+-- Each of two nodes has accepted at its own ballot, counted one vote, and learned.
+abbrev after_half : World
+after_half = record (opening 2 1 sheet_0 issuer_1) {
+  packets = Accepted 0 0 2 low ∷ Accepted 1 0 3 high ∷ [];
+  nodes = has_learned low ∷ has_learned high ∷ [];
+}
+
+half_is_no_majority : IsFalseOf 2 [] after_half
+half_is_no_majority h = differ (first.1 ∙ sym second.1)
+  where
+    first : (rest : List Cut) × (low ∷ rest ≡ h.cuts)
+    first = h.are_the_cuts.learned (has_learned low) (0, omega arith, refl)
+
+    second : (rest : List Cut) × (high ∷ rest ≡ h.cuts)
+    second = h.are_the_cuts.learned (has_learned high) (1, omega arith, refl)
+
+    differ : low ∷ first.0 ≡ high ∷ second.0 → ⊥
+    differ e = cc
+
+-- a cut that a node learned of nobody
+abbrev after_a_guess : World
+after_a_guess = record (opening 1 1 sheet_0 issuer_1) { nodes = has_learned low ∷ [] }
+
+a_cut_is_not_guessed : IsFalseOf 1 [] after_a_guess
+a_cut_is_not_guessed h = never ((h.are_the_cuts.chosen 0 low).0 first)
+  where
+    prefix : (rest : List Cut) × (low ∷ rest ≡ h.cuts)
+    prefix = h.are_the_cuts.learned (has_learned low) (0, omega arith, refl)
+
+    first : slice_get h.cuts 0 ≡ Some low
+    first = ap (λ cuts. slice_get cuts 0) (sym prefix.1)
+
+    never : IsChosen after_a_guess 0 low → ⊥
+    never chosen = let many = chosen.by_majority in omega (arith, many)
+
+-- ---- cuts that go back, or beyond the journals
+
+abbrev batch_of : ℕ → Batch
+batch_of seq = record { agent = 1; seq = seq; records = [] }
+
+-- one node, which chooses the second batch for period 0, and only the first for period 1
+abbrev after_a_step_back : World
+after_a_step_back = record (opening 1 1 sheet_0 issuer_1) {
+  journals = batch_of 1 ∷ batch_of 2 ∷ [];
+  packets = Accepted 0 0 1 high ∷ Accepted 0 1 2 low ∷ [];
+}
+
+cuts_do_not_go_back : IsFalseOf 1 [] after_a_step_back
+cuts_do_not_go_back h = back h.cuts
+    ((h.are_the_cuts.chosen 0 high).1 (record { ballot = 1; by_majority = leb-true _ _ refl }))
+    ((h.are_the_cuts.chosen 1 low).1 (record { ballot = 2; by_majority = leb-true _ _ refl })) h.are_the_cuts.growing
+  where
+    back : (cuts : List Cut) → slice_get cuts 0 ≡ Some high → slice_get cuts 1 ≡ Some low → IsGrowing 1 cuts → ⊥
+    back [] e f grows = none-some high e
+    back (c ∷ []) e f grows = none-some low f
+    back (c ∷ d ∷ cuts) e f grows =
+        let under = subst (λ (x : Cut). IsAtLeast x high) (same_Some d low f) (subst (λ (x : Cut). IsAtLeast d x) (same_Some c high e) grows.1.0) in
+        omega (arith, under.0)
+
+-- one node, which chooses a batch that was never journaled
+abbrev after_a_promise_of_more : World
+after_a_promise_of_more = record (opening 1 1 sheet_0 issuer_1) { packets = Accepted 0 0 1 low ∷ [] }
+
+a_cut_stays_within_the_journals : IsFalseOf 1 [] after_a_promise_of_more
+a_cut_stays_within_the_journals h = let less = h.are_the_cuts.journaled 0 low first 1 in omega (arith, less)
+  where
+    first : slice_get h.cuts 0 ≡ Some low
+    first = (h.are_the_cuts.chosen 0 low).1 (record { ballot = 1; by_majority = leb-true _ _ refl })
+
+-- a credit of February 2025
+abbrev credit : Reading
+credit = record {
+  kind = Credit;
+  start = pos 1_738_368_000;
+  end = pos 1_738_371_600;
+  start_text = [];
+  end_text = [];
+  account = [];
+  resource = [];
+  key = [];
+  value = pos 5;
+  commitment = [];
+  tags = [];
+}
+
+abbrev credited : World
+credited = record (opening 1 1 sheet_0 issuer_1) { journals = record { agent = 1; seq = 1; records = Reads credit ∷ [] } ∷ [] }
+
+-- one node, which chooses February's batch for January, period 0
+abbrev after_an_early_cut : World
+after_an_early_cut = record credited { packets = Accepted 0 0 1 low ∷ [] }
+
+a_cut_adds_what_is_due : IsFalseOf 1 [] after_an_early_cut
+unfolding days_from_civil day_count days_of_years days_of_months
+a_cut_adds_what_is_due h = both_ways false refl (h.are_the_cuts.due 0 low first 1 1 (omega arith) (omega arith))
+  where
+    first : slice_get h.cuts 0 ≡ Some low
+    first = (h.are_the_cuts.chosen 0 low).1 (record { ballot = 1; by_majority = leb-true _ _ refl })
+
+-- cuts that go back and come again charge a reading in two periods
+abbrev back_and_again : List Cut
+back_and_again = low ∷ (0 ∷ []) ∷ low ∷ []
+
+abbrev charge_in : ℕ → PlacedRow
+charge_in period = record { place = record { agent = 1; seq = 1; index = 0 }; row = row sheet_0 issuer_1 credit period New (pos 0) (pos 5) }
+
+going_back_charges_twice : AreChargedOnce credited back_and_again → ⊥
+going_back_charges_twice once =
+    let first : IsNewIn credited back_and_again 0 0 (charge_in 0) = record { to = low; cut = refl; row = refl; new = refl } in
+    let again : IsNewIn credited back_and_again 2 0 (charge_in 2) = record { to = low; cut = refl; row = refl; new = refl } in
+    let same = (once.at_most 0 2 0 0 (charge_in 0) (charge_in 2) first again refl).0 in
+    omega (arith, same)
+
+-- ---- an export beyond its cut
+
+abbrev whole_holding : List Batch
+whole_holding = batch_of 1 ∷ batch_of 2 ∷ []
+
+abbrev too_much : Snapshot
+too_much = record { period = 0; from = 0 ∷ []; to = low; batches = whole_holding; sheet = sheet_0; issuer = issuer_1 }
+
+abbrev after_an_export_of_all : World
+after_an_export_of_all = record (opening 1 1 sheet_0 issuer_1) {
+  journals = whole_holding;
+  packets = Accepted 0 0 1 low ∷ [];
+}
+
+an_export_ends_at_its_cut : IsFalseOf 1 (Exported too_much ∷ []) after_an_export_of_all
+an_export_ends_at_its_cut h = let sizes : 2 ≡ 1 = ap (λ (b : List Batch). length b) (h.exports too_much (0, omega arith, refl)).batches in omega (arith, sizes)
+
+-- two exports of one period that differ
+abbrev too_little : Snapshot
+too_little = record too_much { batches = [] }
+
+exports_of_a_period_are_equal : IsFalseOf 1 (Exported too_much ∷ Exported too_little ∷ []) after_an_export_of_all
+exports_of_a_period_are_equal h =
+    let sizes : 2 ≡ 0 = ap (λ (s : Snapshot). length s.batches) (h.one_export too_much too_little (0, omega arith, refl) (1, omega arith, refl) refl) in
+    omega (arith, sizes)
+
+-- ---- beyond the limits
+
+abbrev IsBeyondLimits : World → Type 0
+IsBeyondLimits w = KeepsLimits 3 1 w → ⊥
+
+-- a promise of a node that is not there
+abbrev after_a_strangers_promise : World
+after_a_strangers_promise = record (opening 3 1 sheet_0 issuer_1) { packets = Promise 3 0 3 None ∷ [] }
+
+senders_are_nodes : IsBeyondLimits after_a_strangers_promise
+senders_are_nodes h = let low = (h.each_packet 0 (Promise 3 0 3 None) (omega arith)).0 in omega (arith, low)
+
+-- a cut without an entry for the agent
+abbrev after_a_short_cut : World
+after_a_short_cut = record (opening 3 1 sheet_0 issuer_1) { packets = Decided 0 [] ∷ [] }
+
+cuts_have_an_entry_for_each_agent : IsBeyondLimits after_a_short_cut
+cuts_have_an_entry_for_each_agent h = let size = (h.each_packet 0 (Decided 0 []) (omega arith)).1.size in absurd (omega (arith, size))

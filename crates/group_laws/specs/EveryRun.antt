@@ -1,0 +1,81 @@
+-- What every run keeps, which the bodies of a group rest on: lengths, limits, and batches that are the journals'.
+use Rattle.std.specs.Prelude.{◌≡◌, ℕ, ◌+◌, ◌*◌, ◌<◌, ◌≤◌, true, length, All, Some, None, Option, slice_get}
+use Rattle.std.specs.Option.{is_some}
+use Rattle.metering_model.specs.Batch.{IsWellFormed}
+use Rattle.metering_model.specs.Cut.{Cut, IsGrowing, last_of}
+use Rattle.metering_model.specs.Holding.{Holding, IsHolding, IsPartOf, AgreeUpTo, held}
+use Rattle.metering_model.specs.JournalRules.{MeetsJournalRules}
+use Rattle.metering_model.specs.Ballot.{Vote, Attempt, Nodes, ballot_of}
+use Rattle.metering_model.specs.World.{World, Node, Packet, CarriesBatch, Prepare, Promise, Accept, Accepted, Decided, node_count, voter_count}
+use Rattle.metering_model.specs.Step.{first_missing}
+
+-- the ballot of one of the voters in one of its rounds
+pub record IsBallot (voters ballot : ℕ) : Type 0 where
+  pub round : ℕ
+  pub node : ℕ
+  pub round_in : (1 ≤ round) × (round ≤ 10_000)
+  pub votes : node < voters
+  pub is : ballot ≡ ballot_of round node voters
+  pub low : ballot < 10_001 * voters
+
+-- A sequence for each agent, up to which the journals have every batch.
+pub record IsCut (agents : ℕ) (journals : Holding) (cut : Cut) : Type 0 where
+  pub size : length cut ≡ agents
+  pub journaled : (agent seq : ℕ) → 0 < seq → seq ≤ last_of cut agent → is_some (held journals agent seq) ≡ true
+  pub low : (agent : ℕ) → last_of cut agent ≤ 1_000_000
+
+pub record IsVote (voters agents : ℕ) (journals : Holding) (v : Vote) : Type 0 where
+  pub ballot : IsBallot voters v.ballot
+  pub cut : IsCut agents journals v.cut
+
+-- no vote, or one
+abbrev pub MayBeVote : ℕ → ℕ → Holding → Option Vote → Type 0
+MayBeVote voters agents journals None = Unit {0}
+MayBeVote voters agents journals (Some v) = IsVote voters agents journals v
+
+-- A packet carries a batch of the journals, or speaks of a period, and where they stand in it of a voter, a ballot and a cut.
+abbrev pub IsPacket : ℕ → ℕ → Holding → Packet → Type 0
+IsPacket voters agents journals (CarriesBatch b) = IsWellFormed b × (held journals b.agent b.seq ≡ Some b)
+IsPacket voters agents journals (Prepare period ballot) = (period < 1_200) × IsBallot voters ballot
+IsPacket voters agents journals (Promise from period ballot vote) =
+    (from < voters) × (period < 1_200) × IsBallot voters ballot × MayBeVote voters agents journals vote
+IsPacket voters agents journals (Accept period ballot cut) = (period < 1_200) × IsBallot voters ballot × IsCut agents journals cut
+IsPacket voters agents journals (Accepted from period ballot cut) =
+    (from < voters) × (period < 1_200) × IsBallot voters ballot × IsCut agents journals cut
+IsPacket voters agents journals (Decided period cut) = (period < 1_200) × IsCut agents journals cut
+
+-- a mark for each voter
+abbrev pub IsSet : ℕ → Nodes → Type 0
+IsSet voters set = length set ≡ voters
+
+-- who accepted at a ballot
+abbrev pub IsEntry : ℕ → ℕ × Nodes → Type 0
+IsEntry voters e = IsBallot voters e.0 × IsSet voters e.1
+
+pub record IsAttempt (voters agents : ℕ) (journals : Holding) (a : Attempt) : Type 0 where
+  pub ballot : IsBallot voters a.ballot
+  pub promising : IsSet voters a.promising
+  pub told : MayBeVote voters agents journals a.told
+
+-- What a node has. Where no batch up to a learned cut is missing, it has the journals' batches up to that cut.
+pub record IsNode (voters agents : ℕ) (journals : Holding) (n : Node) : Type 0 where
+  pub round : n.kept.round ≤ 10_000
+  pub periods : length n.kept.learned ≤ 1_200
+  pub learned : All (IsCut agents journals) n.kept.learned
+  pub growing : IsGrowing agents n.kept.learned
+  pub promised : (ballot : ℕ) → n.kept.acceptor.promised ≡ Some ballot → IsBallot voters ballot
+  pub vote : MayBeVote voters agents journals n.kept.acceptor.vote
+  pub is_holding : IsHolding n.kept.holding
+  pub part : IsPartOf n.kept.holding journals
+  pub attempt : (a : Attempt) → n.attempt ≡ Some a → IsAttempt voters agents journals a
+  pub tally : All (IsEntry voters) n.tally
+  pub whole : (period : ℕ) (cut : Cut) → slice_get n.kept.learned period ≡ Some cut → first_missing n.kept.holding cut ≡ None → AgreeUpTo cut n.kept.holding journals
+
+-- What holds of the world after every run.
+pub record KeepsLimits (nodes agents : ℕ) (w : World) : Type 0 where
+  pub nodes_kept : node_count w ≡ nodes
+  pub agents_kept : w.agents ≡ agents
+  pub rules : MeetsJournalRules w.sheet w.journals
+  pub room : length w.packets ≤ 1_000_000
+  pub each_packet : All (IsPacket (voter_count w) w.agents w.journals) w.packets
+  pub each_node : All (IsNode (voter_count w) w.agents w.journals) w.nodes

@@ -1,0 +1,21 @@
+use Rattle.metering_model.proofs.CutLaws.{at_least_itself, at_least-trans, at_least_zero, last_of-set, last_of-set_other}
+use Rattle.metering_model.proofs.AgreementLaws.{last_of_grows}
+use Rattle.metering_model.proofs.laws.cuts_are_ordered.Goals as goal
+
+pub returns-clause-itself : goal.returns-clause-itself
+returns-clause-itself c = at_least_itself
+
+pub returns-clause-onward : goal.returns-clause-onward
+returns-clause-onward c = at_least-trans
+
+pub returns-clause-above_zero : goal.returns-clause-above_zero
+returns-clause-above_zero c = at_least_zero
+
+pub returns-clause-each : goal.returns-clause-each
+returns-clause-each c = last_of_grows
+
+pub returns-clause-was_put : goal.returns-clause-was_put
+returns-clause-was_put c = last_of-set
+
+pub returns-clause-others : goal.returns-clause-others
+returns-clause-others c = last_of-set_other
