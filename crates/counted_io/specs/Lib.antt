@@ -1,4 +1,5 @@
 pub mod Counts
 pub mod Counted
+pub mod Devices
 pub mod Reading
 pub mod Writing

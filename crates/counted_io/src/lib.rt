@@ -3,11 +3,13 @@
 #![tactic(auto)]
 
 mod counting;
+mod devices;
 mod reading;
 #[cfg(test)]
 mod tests;
 mod writing;
 
 pub use counting::Counted;
+pub use devices::{FakeReader, FakeWriter};
 pub use reading::{Input, ReadFault, Source, read_to_limit};
 pub use writing::{Failed, Sink, write_all};
