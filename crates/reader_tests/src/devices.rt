@@ -1,13 +1,22 @@
 //! Sinks and sources over devices that go wrong at a given call.
 
-use counted_io::{Counted, Failed, FakeReader, FakeWriter, Input, ReadFault, Sink, Source};
-use counted_io::{read_to_limit, write_all};
+use counted_io::{
+    Counted, Failed, FakeReader, FakeWriter, Input, ReadFault, Sink, Source, read_to_limit,
+    write_all,
+};
 use fx_money::NumberFault;
 use std::io::Write;
 use std::test::Fail;
 
 fn writer(rt: &HostRuntime) -> FakeWriter {
     FakeWriter::new(Vec::new(rt.alloc()))
+}
+
+fn is_whole(input: &Input, bytes: &[u8]) -> bool {
+    match input {
+        Input::Whole(whole) => whole.as_slice() == bytes,
+        Input::TooLong => false,
+    }
 }
 
 #[test]
@@ -17,7 +26,10 @@ fn all_bytes_are_written_in_no_more_calls_than_it_takes(rt: HostRuntime) -> Resu
         write_all(&mut sink, b"meter")?;
         assert_eq!(rt; sink.failed_calls(), 0);
         let device = sink.into_inner();
-        assert_eq!(rt; (device.taken.as_slice(), device.calls), (b"meter".as_slice(), calls));
+        assert_eq!(rt;
+            (device.taken.as_slice(), device.calls),
+            (b"meter".as_slice(), calls)
+        );
     }
     Ok(())
 }
@@ -60,11 +72,11 @@ fn a_whole_input_is_read_up_to_the_limit(rt: HostRuntime) -> Result<(), Fail> {
     ] {
         let mut source = Counted::new(device);
         let input = read_to_limit(rt.alloc(), &mut source, 5)?;
-        assert!(rt; matches!(input, Input::Whole(bytes) if bytes.as_slice() == b"meter".as_slice()));
+        assert!(rt; is_whole(&input, b"meter"));
         assert_eq!(rt; source.failed_calls(), 0);
     }
     let input = read_to_limit(rt.alloc(), &mut Counted::new(b"meter".as_slice()), 4)?;
-    assert!(rt; matches!(input, Input::TooLong));
+    assert!(rt; matches!(&input, Input::TooLong));
     Ok(())
 }
 
@@ -84,7 +96,7 @@ fn a_call_that_gives_nothing_is_the_end(rt: HostRuntime) -> Result<(), Fail> {
     let mut source = Counted::new(FakeReader::new(b"meter").byte_by_byte().pausing_at(4));
     for piece in [b"met".as_slice(), b"er"] {
         let input = read_to_limit(rt.alloc(), &mut source, 9)?;
-        assert!(rt; matches!(input, Input::Whole(bytes) if bytes.as_slice() == piece));
+        assert!(rt; is_whole(&input, piece));
     }
     assert_eq!(rt; (source.inner().calls, source.failed_calls()), (7, 0));
     Ok(())
@@ -94,8 +106,14 @@ fn a_call_that_gives_nothing_is_the_end(rt: HostRuntime) -> Result<(), Fail> {
 fn faults_tell_their_texts(rt: HostRuntime) -> Result<(), Fail> {
     for (told, text) in [
         (format!(in rt.alloc(); "{Failed}")?, "write failed"),
-        (format!(in rt.alloc(); "{}", ReadFault::Failed)?, "read failed"),
-        (format!(in rt.alloc(); "{}", ReadFault::OutOfMemory)?, "out of memory"),
+        (
+            format!(in rt.alloc(); "{}", ReadFault::Failed)?,
+            "read failed",
+        ),
+        (
+            format!(in rt.alloc(); "{}", ReadFault::OutOfMemory)?,
+            "out of memory",
+        ),
         (format!(in rt.alloc(); "{}", NumberFault::Shape)?, "F1"),
         (format!(in rt.alloc(); "{}", NumberFault::Range)?, "F2"),
     ] {

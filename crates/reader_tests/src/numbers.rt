@@ -6,8 +6,16 @@ use std::test::Fail;
 #[test]
 fn worked_decimals_are_read(rt: HostRuntime) {
     for (text, value, price) in [
-        ("999999999999.999999", Ok(999_999_999_999_999_999), Err(NumberFault::Range)),
-        ("1000000000000", Err(NumberFault::Range), Err(NumberFault::Range)),
+        (
+            "999999999999.999999",
+            Ok(999_999_999_999_999_999),
+            Err(NumberFault::Range),
+        ),
+        (
+            "1000000000000",
+            Err(NumberFault::Range),
+            Err(NumberFault::Range),
+        ),
         ("999999.999999", Ok(999_999_999_999), Ok(999_999_999_999)),
         ("1000000", Ok(1_000_000_000_000), Err(NumberFault::Range)),
         ("-1", Ok(-1_000_000), Err(NumberFault::Shape)),
@@ -16,7 +24,11 @@ fn worked_decimals_are_read(rt: HostRuntime) {
         ("01", Err(NumberFault::Shape), Err(NumberFault::Shape)),
         (".5", Err(NumberFault::Shape), Err(NumberFault::Shape)),
         ("1.", Err(NumberFault::Shape), Err(NumberFault::Shape)),
-        ("1.0000001", Err(NumberFault::Shape), Err(NumberFault::Shape)),
+        (
+            "1.0000001",
+            Err(NumberFault::Shape),
+            Err(NumberFault::Shape),
+        ),
         ("", Err(NumberFault::Shape), Err(NumberFault::Shape)),
     ] {
         let read = (

@@ -18,3 +18,8 @@ loop-sent-preserved g c =
       written = rw (take-add c.loop-sent.sent c.in_ok-sent.field-0 c.args.bytes.now) (Appends-trans _ _ _ _ _ c.loop-sent.invariant.written appended);
       quiet = search rules;
     }
+
+pub returns-clause-written : goal.returns-clause-written
+returns-clause-written g c =
+    let all = take_all c.loop-sent.sent c.args.bytes.now (omega (arith, c.loop-sent-test.false)) in
+    rw all at c.loop-sent.invariant.written
