@@ -8,7 +8,7 @@ ghost use Rattle.counted_io.specs.Writing.{AppendsFront, is_failed_write};
 use std::io;
 use thiserror::Error;
 
-/// What takes bytes, and counts the calls that failed.
+/// What takes bytes, and counts the calls that failed. It is never flushed.
 pub trait Sink {
     /// The bytes that it holds, where they are known.
     ghost contents: { Self → Option (List ℕ) } = { λ _. None };
