@@ -17,7 +17,3 @@ count_after false old = old
 -- The count rose. At its greatest value it is said to rise at every call.
 abbrev pub Rises : ℕ → ℕ → Type 0
 Rises old new = (old < new) ⊎ ((old ≡ greatest) × (new ≡ greatest))
-
--- the count stays, or rises
-abbrev pub StaysOrRises : ℕ → ℕ → Type 0
-StaysOrRises old new = (new ≡ old) ⊎ Rises old new

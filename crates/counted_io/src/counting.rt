@@ -1,7 +1,8 @@
 //! The count of failed calls beside a writer or a reader of std.
 ghost use Rattle.std.specs.Prelude.{◌≡◌};
-ghost use Rattle.counted_io.specs.Counts.{next_count};
+ghost use Rattle.counted_io.specs.Counts.{count_after};
 ghost use Rattle.counted_io.specs.Counted.{failures_of, inner_of};
+ghost use Rattle.counted_io.specs.Writing.{is_failed_write};
 
 use super::{Sink, Source};
 use std::io;
@@ -10,7 +11,7 @@ use std::io::{Read, Write};
 /// A writer or a reader of std, with the count of its calls that failed.
 ///
 /// A `Counted<Vec<u8>>` is a sink that keeps what it is given.
-#[derive(Debug, Drop)]
+#[derive(Drop)]
 pub struct Counted<T> {
     inner: T,
     failed: u64,
@@ -46,11 +47,22 @@ impl<T> Counted<T> {
         self.failed
     }
 
-    fn note_failed_call(&mut self)
+    /// Counts the call that just came back, where it failed.
+    fn note(&mut self, has_failed: bool)
         ensures inner { inner_of self.new ≡ inner_of self.old }
-        ensures counted { failures_of self.new ≡ next_count (failures_of self.old) }
+        ensures count { failures_of self.new ≡ count_after has_failed (failures_of self.old) }
     {
-        self.failed = self.failed.saturating_add(1);
+        self.failed = self.failed.saturating_add(u64::from(has_failed));
+    }
+}
+
+/// Whether a write failed: at an error, and where it took nothing of something.
+fn is_failed_write(answer: &io::Result<usize>, bytes: &[u8]) -> bool
+    ensures { result ≡ is_failed_write answer.now bytes.now }
+{
+    match answer {
+        Ok(taken) => *taken == 0 && !bytes.is_empty(),
+        Err(_) => true,
     }
 }
 
@@ -60,11 +72,9 @@ impl<T: Write> Sink for Counted<T> {
     ghost failed_calls = { failures_of };
 
     fn write(&mut self, bytes: &[u8]) -> io::Result<usize> {
-        let result = self.inner.write(bytes);
-        if result.is_err() || (matches!(result, Ok(0)) && !bytes.is_empty()) {
-            self.note_failed_call();
-        }
-        result
+        let answer = self.inner.write(bytes);
+        self.note(is_failed_write(&answer, bytes));
+        answer
     }
 }
 
@@ -74,10 +84,8 @@ impl<T: Read> Source for Counted<T> {
     ghost failed_calls = { failures_of };
 
     fn read(&mut self, room: &mut [u8]) -> io::Result<usize> {
-        let result = self.inner.read(room);
-        if result.is_err() {
-            self.note_failed_call();
-        }
-        result
+        let answer = self.inner.read(room);
+        self.note(answer.is_err());
+        answer
     }
 }

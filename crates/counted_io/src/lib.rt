@@ -5,8 +5,6 @@
 mod counting;
 mod devices;
 mod reading;
-#[cfg(test)]
-mod tests;
 mod writing;
 
 pub use counting::Counted;

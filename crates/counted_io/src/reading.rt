@@ -5,7 +5,7 @@ ghost use Rattle.std.specs.Io.KnownBytes.{Consumes, IsAtEnd, Keeps, ReadConsumes
 ghost use Rattle.counted_io.specs.Counts.{Rises, count_after};
 ghost use Rattle.counted_io.specs.Reading.{ConsumesAtMost, EndsWithin, IsAnswer, is_device_fault};
 
-use std::alloc::Global;
+use std::alloc::{AllocError, Global};
 use std::io;
 use thiserror::Error;
 
@@ -28,7 +28,7 @@ pub trait Source {
 }
 
 /// What came of reading up to a limit.
-#[derive(Debug, PartialEq, Eq, Drop)]
+#[derive(Drop)]
 pub enum Input {
     /// All the bytes that remained.
     Whole(Vec<u8>),
@@ -37,7 +37,7 @@ pub enum Input {
 }
 
 /// Why reading ended early.
-#[derive(Clone, Copy, Debug, PartialEq, Eq, Drop, Error)]
+#[derive(Clone, Copy, Debug, Drop, Error)]
 pub enum ReadFault {
     /// A call of the source failed.
     #[error("read failed")]
@@ -84,8 +84,7 @@ pub fn read_to_limit<S: Source>(
     Ok(Input::TooLong)
 }
 
-// One read behind the `filled` bytes. Room is made first, and only where none is left, so that each
-// byte of it is cleared once, however few bytes a read gives.
+// One read behind the `filled` bytes.
 fn read_piece<S: Source>(
     source: &mut S,
     bytes: &mut Vec<u8>,
@@ -105,13 +104,41 @@ fn read_piece<S: Source>(
     ensures count { S.failed_calls source.new
         ≡ count_after (is_device_fault result) (S.failed_calls source.old) }
 {
+    if make_room(bytes, filled, most).is_err() {
+        return Err(ReadFault::OutOfMemory);
+    }
+    read_some(source, &mut bytes[filled..])
+}
+
+// Makes room behind the `filled` bytes, and only where none is left, so that each byte of it is
+// cleared once, however few bytes a read gives.
+fn make_room(bytes: &mut Vec<u8>, filled: usize, most: usize) -> Result<(), AllocError>
+    requires within { filled ≤ vec_len bytes.old }
+    requires bounded { vec_len bytes.old ≤ most }
+    requires more { filled < most }
+    ensures bounded { vec_len bytes.new ≤ most }
+    ensures room { OnOk result (filled < vec_len bytes.new) }
+    ensures front { take filled bytes.new.items ≡ take filled bytes.old.items }
+{
     if filled == bytes.len() {
         let piece = PIECE.min(most - filled);
-        if bytes.resize(filled + piece, 0).is_err() {
-            return Err(ReadFault::OutOfMemory);
-        }
+        bytes.resize(filled + piece, 0)?;
     }
-    match source.read(&mut bytes[filled..]) {
+    Ok(())
+}
+
+// One read into room, which gives no byte only at the end.
+fn read_some<S: Source>(source: &mut S, room: &mut [u8]) -> Result<usize, ReadFault>
+    requires { 0 < length room.old }
+    ensures bound { IfOk result (λ count. count ≤ length room.new) }
+    ensures consumed { IfOk result (λ count. Consumes (S.remaining source.old)
+        (S.remaining source.new) (take count room.new)) }
+    ensures end { IfOk result (λ count. count ≡ 0 → IsAtEnd (S.remaining source.new)) }
+    ensures kept { OnErr result (Keeps (S.remaining source.old) (S.remaining source.new)) }
+    ensures count { S.failed_calls source.new
+        ≡ count_after (is_device_fault result) (S.failed_calls source.old) }
+{
+    match source.read(room) {
         Ok(count) => Ok(count),
         Err(_) => Err(ReadFault::Failed),
     }

@@ -1,14 +1,14 @@
 //! Sinks, and writing a whole text to one.
-ghost use Rattle.std.specs.Prelude.{◌≡◌, ℕ, List, Option, None, OnOk, OnErr, is_err};
+ghost use Rattle.std.specs.Prelude.{◌≡◌, ℕ, ◌<◌, ◌≤◌, List, Option, None, length, take, OnOk, OnErr, IfOk, is_err};
 ghost use Rattle.std.specs.Io.{WritesAtMost};
-ghost use Rattle.std.specs.Io.KnownBytes.{Appends, WriteAppends};
+ghost use Rattle.std.specs.Io.KnownBytes.{Appends, Keeps, WriteAppends};
 ghost use Rattle.counted_io.specs.Counts.{Rises, count_after};
 ghost use Rattle.counted_io.specs.Writing.{AppendsFront, is_failed_write};
 
 use std::io;
 use thiserror::Error;
 
-/// What takes bytes, and counts the calls that failed.
+/// What takes bytes, and counts the calls that failed. It is never flushed.
 pub trait Sink {
     /// The bytes that it holds, where they are known.
     ghost contents: { Self → Option (List ℕ) } = { λ _. None };
@@ -27,7 +27,7 @@ pub trait Sink {
 }
 
 /// A call of a sink failed.
-#[derive(Clone, Copy, Debug, PartialEq, Eq, Drop, Error)]
+#[derive(Clone, Copy, Debug, Drop, Error)]
 #[error("write failed")]
 pub struct Failed;
 
@@ -45,11 +45,23 @@ pub fn write_all<S: Sink>(sink: &mut S, bytes: &[u8]) -> Result<(), Failed>
 {
     let mut sent = 0;
     while sent < bytes.len() {
-        match sink.write(&bytes[sent..]) {
-            Ok(0) => return Err(Failed),
-            Ok(taken) => sent += taken,
-            Err(_) => return Err(Failed),
-        }
+        sent += write_some(sink, &bytes[sent..])?;
     }
     Ok(())
+}
+
+// One write, which takes some of the bytes or fails.
+fn write_some<S: Sink>(sink: &mut S, bytes: &[u8]) -> Result<usize, Failed>
+    requires { 0 < length bytes.now }
+    ensures some { IfOk result (λ taken. (0 < taken) × (taken ≤ length bytes.now)) }
+    ensures appended { IfOk result
+        (λ taken. Appends (S.contents sink.old) (S.contents sink.new) (take taken bytes.now)) }
+    ensures kept { OnErr result (Keeps (S.contents sink.old) (S.contents sink.new)) }
+    ensures count { S.failed_calls sink.new ≡ count_after (is_err result) (S.failed_calls sink.old) }
+{
+    match sink.write(bytes) {
+        Ok(0) => Err(Failed),
+        Ok(taken) => Ok(taken),
+        Err(_) => Err(Failed),
+    }
 }

@@ -1,3 +1,1 @@
-pub use Rattle.metering_model.specs.NumberText
-pub mod Limits
-pub mod Parts
+pub mod Inner

@@ -16,7 +16,7 @@ const UNITS: u128 = 1_000_000_000_000;
 const COST_LIMIT: u128 = 2_000_000_000_000_000_000_000_000_000_000;
 
 /// What is to be paid: whole units of 10^-12 of the currency, of a magnitude below 2 * 10^30.
-#[derive(Clone, Copy, Debug, PartialEq, Eq, PartialOrd, Ord)]
+#[derive(Clone, Copy, Debug, PartialEq, Eq)]
 pub struct Cost(i128);
 
 impl Model for Cost {
@@ -25,11 +25,11 @@ impl Model for Cost {
 
     ghost Value = { ℤ };
 
-    ghost view = { λ c. c.0 };
+    ghost view = { λ cost. cost.0 };
 
-    ghost invariant = { λ c. unsigned_abs c.0 < cost_limit };
+    ghost invariant = { λ cost. unsigned_abs cost.0 < cost_limit };
 
-    ghost inverse = { λ n. record { 0 = n } };
+    ghost inverse = { λ units. record { 0 = units } };
 }
 
 impl Cost {

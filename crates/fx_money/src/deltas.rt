@@ -11,7 +11,7 @@ const DELTA_LIMIT: u64 = 2_000_000_000_000_000_000;
 
 /// The difference of two values or of two quantities: whole millionths, of a magnitude below
 /// 2 * 10^18.
-#[derive(Clone, Copy, Debug, PartialEq, Eq, PartialOrd, Ord)]
+#[derive(Clone, Copy, Debug, PartialEq, Eq)]
 pub struct Delta(i64);
 
 impl Model for Delta {
@@ -20,11 +20,11 @@ impl Model for Delta {
 
     ghost Value = { ℤ };
 
-    ghost view = { λ d. d.0 };
+    ghost view = { λ delta. delta.0 };
 
-    ghost invariant = { λ d. unsigned_abs d.0 < delta_limit };
+    ghost invariant = { λ delta. unsigned_abs delta.0 < delta_limit };
 
-    ghost inverse = { λ n. record { 0 = n } };
+    ghost inverse = { λ millionths. record { 0 = millionths } };
 }
 
 impl Delta {

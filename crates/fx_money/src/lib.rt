@@ -4,10 +4,9 @@
 
 mod costs;
 mod deltas;
+pub mod laws;
 mod prices;
 mod reading;
-#[cfg(test)]
-mod tests;
 mod values;
 mod writing;
 

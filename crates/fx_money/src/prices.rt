@@ -12,7 +12,7 @@ use std::marker::Model;
 const PRICE_LIMIT: u64 = 1_000_000_000_000;
 
 /// A price of one unit: whole millionths, from 0 to below 10^12.
-#[derive(Clone, Copy, Debug, PartialEq, Eq, PartialOrd, Ord)]
+#[derive(Clone, Copy, Debug, PartialEq, Eq)]
 pub struct Price(u64);
 
 impl Model for Price {
@@ -21,11 +21,11 @@ impl Model for Price {
 
     ghost Value = { ℕ };
 
-    ghost view = { λ p. p.0 };
+    ghost view = { λ price. price.0 };
 
-    ghost invariant = { λ p. p.0 < price_limit };
+    ghost invariant = { λ price. price.0 < price_limit };
 
-    ghost inverse = { λ n. record { 0 = n } };
+    ghost inverse = { λ millionths. record { 0 = millionths } };
 }
 
 impl Price {

@@ -3,7 +3,7 @@
 ghost use Rattle.std.specs.Prelude.{◌≡◌, ◌<◌, ◌≤◌, ◌^◌, IsTrue, IfOk, Some, MatchOption, position};
 ghost use Rattle.std.specs.List.{list_all, before_first, after_first};
 ghost use Rattle.metering_model.specs.NumberText.{is_digit, is_point, is_whole_part, is_decimal_part, ends_in, number_of, worth_of, units_of, magnitude_in, negated, not_negated, value_limit, value_within, value_in};
-ghost use Rattle.fx_money.specs.Limits.{below_limit};
+ghost use Rattle.fx_money.specs.Inner.Limits.{below_limit};
 
 use crate::{MILLION, PLACES, VALUE_LIMIT};
 use metering_model::NumberFault;

@@ -11,7 +11,7 @@ use std::alloc::{AllocError, Global};
 use std::marker::Model;
 
 /// A quantity or an amount: whole millionths, of a magnitude below 10^18.
-#[derive(Clone, Copy, Debug, PartialEq, Eq, PartialOrd, Ord)]
+#[derive(Clone, Copy, Debug, PartialEq, Eq)]
 pub struct Value(i64);
 
 impl Model for Value {
@@ -20,11 +20,11 @@ impl Model for Value {
 
     ghost Value = { ℤ };
 
-    ghost view = { λ v. v.0 };
+    ghost view = { λ value. value.0 };
 
-    ghost invariant = { λ v. unsigned_abs v.0 < value_limit };
+    ghost invariant = { λ value. unsigned_abs value.0 < value_limit };
 
-    ghost inverse = { λ n. record { 0 = n } };
+    ghost inverse = { λ millionths. record { 0 = millionths } };
 }
 
 impl Value {

@@ -2,7 +2,7 @@
 
 ghost use Rattle.std.specs.Prelude.{◌≡◌, ◌+◌, ◌/◌, ◌%◌, ◌^◌, ◌<◌, ◌≤◌, [], ◌∷◌, ◌++◌, length, decimal, string_bytes, string_len, string_capacity, OnOk, OnErr};
 ghost use Rattle.metering_model.specs.NumberText.{point_text, decimals_of};
-ghost use Rattle.fx_money.specs.Parts.{text_of_parts};
+ghost use Rattle.fx_money.specs.Inner.Parts.{text_of_parts};
 
 use crate::{MILLION, PLACES};
 use std::alloc::AllocError;

@@ -13,3 +13,12 @@ loop-filled-preserved g c =
           (Consumes-trans _ _ _ _ _ c.loop-filled.invariant.consumed came.consumed);
       quiet = search rules;
     }
+
+pub returns-then-count-eq0-clause-answer : goal.returns-then-count-eq0-clause-answer
+returns-then-count-eq0-clause-answer g c = search rules
+
+pub returns-then-count-eq0-clause-end : goal.returns-then-count-eq0-clause-end
+returns-then-count-eq0-clause-end g c = search rules
+
+pub returns-clause-taken : goal.returns-clause-taken
+returns-clause-taken g c = search rules

@@ -1,4 +1,4 @@
-use Rattle.std.proofs.Common.{arith, ap, length, length-append, decimal}
+use Rattle.std.proofs.Common.{arith, ap, length, length-append, decimal, rules}
 use Rattle.metering_model.specs.NumberText.{point_text, decimals_of}
 use Rattle.fx_money.proofs.Decimals.{length-fraction_le}
 use Rattle.fx_money.proofs.Whole.{length-whole_le}
@@ -28,3 +28,9 @@ prepend-requires-clause-room c =
       ap length c.new-number.ensures,
       length-fraction_le c.args.places c.args.decimals,
     )
+
+pub returns-clause-ok : goal.returns-clause-ok
+returns-clause-ok c = search rules
+
+pub returns-clause-err : goal.returns-clause-err
+returns-clause-err c = search rules

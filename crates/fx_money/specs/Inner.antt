@@ -1,0 +1,3 @@
+-- What only the readers and writers inside the crate cite: its public clauses take their words from the model.
+pub mod Limits
+pub mod Parts
