@@ -4,7 +4,7 @@ use Rattle.std.proofs.lemmas.Bool.{false≢true, and_parts, eqb-true}
 use Rattle.metering_model.specs.FirstFailure.{◌>>=◌, holds_or}
 use Rattle.metering_model.specs.declared.BatchCode.TheVariants.{Fields}
 use Rattle.metering_model.specs.BatchReading.{is_same, kind_in, record_in}
-use Rattle.batch_view.specs.RecordSteps.{kind_step, stamp_step, order_step, text_step, key_step, value_step, sign_step, commitment_step, tags_step, whole_step, reading_in, amendment_in}
+use Rattle.batch_view.specs.Inner.RecordSteps.{kind_step, stamp_step, order_step, text_step, key_step, value_step, sign_step, commitment_step, tags_step, whole_step, reading_in, amendment_in}
 
 pub nine_fields : (letter start end account resource key value commitment tags : List ℕ)
     → record_in (letter ∷ start ∷ end ∷ account ∷ resource ∷ key ∷ value ∷ commitment ∷ tags ∷ [])

@@ -1,6 +1,6 @@
 use Rattle.std.proofs.Common.{◌≡◌, ◌+◌, ◌<◌, length, refl, subst, arith}
 use Rattle.batch_view.specs.Batches.{batch_of}
-use Rattle.batch_view.specs.Lines.{IsBehindLines}
+use Rattle.batch_view.specs.Inner.Lines.{IsBehindLines}
 use Rattle.batch_view.proofs.BatchLemmas.{IsRecordOf, never_fails, record_read}
 use Rattle.batch_view.proofs.batch.RecordsIterator.next.Goals as goal
 

@@ -1,9 +1,9 @@
--- The position that was found is the first such byte's, and there the text is cut.
+-- The position that was found is the first such byte's, and there the text is split.
 use Rattle.std.proofs.Common.{◌≡◌, ◌==◌, ◌∙◌, sym, ap, false, is_some}
 use Rattle.std.specs.List.{list_any}
 use Rattle.batch_view.specs.Parts.{lent}
-use Rattle.batch_view.proofs.Cuts.{found_any, parts_whole, parts_found, tail_whole}
-use Rattle.batch_view.proofs.fields.cut.Goals as goal
+use Rattle.batch_view.proofs.PartLaws.{found_any, parts_whole, parts_found, tail_whole}
+use Rattle.batch_view.proofs.fields.split_at_byte.Goals as goal
 
 pub returns-in_err-position-clause-found : goal.returns-in_err-position-clause-found
 returns-in_err-position-clause-found c =

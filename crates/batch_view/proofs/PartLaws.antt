@@ -1,4 +1,4 @@
--- A text is cut at the first byte of a kind: its parts are what stands before it, and the parts of the rest.
+-- A text is split at the first byte of a kind: its parts are what stands before it, and the parts of the rest.
 use Rattle.std.proofs.Common.{◌≡◌, ℕ, ◌+◌, ◌-◌, ◌<◌, ◌==◌, ◌||◌, Bool, true, false, not, cond, nat_lt, Some, None, is_some, List, [], ◌∷◌, length, take, drop, refl, sym, ap, subst, ◌∙◌, arith, length-drop}
 use Rattle.std.specs.List.{list_any, position, position_or_len, before_first, after_first, slice_split, onto_first, count_by}
 use Rattle.std.proofs.lemmas.Bool.{or_parts, ltb-true}
@@ -6,7 +6,8 @@ use Rattle.std.proofs.lemmas.Bool.Decides.{nat_tests}
 use Rattle.std.proofs.lemmas.Option.{cond_some}
 use Rattle.std.proofs.lemmas.List.{length-take-le, take_all}
 use Rattle.std.proofs.lemmas.List.Splits.{slice_split_first, slice_split-cons_no, length-slice_split}
-use Rattle.batch_view.specs.Parts.{LentText, IsPlaced, part_before, part_after, placed_from, parts_at}
+use Rattle.batch_view.specs.Parts.{LentText, part_before, part_after, placed_from, parts_at}
+use Rattle.batch_view.specs.Inner.Placed.{IsPlaced}
 
 module _ {X : Type 0} (p : X → Bool) where
   -- the first such element stands within a list that has one
@@ -46,10 +47,10 @@ parts_whole byte t placed none =
     ap (placed_from t.from) (one_part (λ c. c == byte) t.text none)
     ∙ ap (λ to. record { text = t.text; from = t.from; to = to } ∷ []) (sym placed.fits)
 
--- a text with one is cut there
-pub parts_cut : (byte : ℕ) (t : LentText) → position_or_len (λ c. c == byte) t.text < length t.text → parts_at byte t ≡ part_before byte t ∷ parts_at byte (part_after byte t)
+-- a text with one is split there
+pub parts_split : (byte : ℕ) (t : LentText) → position_or_len (λ c. c == byte) t.text < length t.text → parts_at byte t ≡ part_before byte t ∷ parts_at byte (part_after byte t)
 unfolding parts_at
-parts_cut byte t within =
+parts_split byte t within =
     let front = length-take-le (position_or_len (λ c. c == byte) t.text) t.text (omega arith) in
     ap (placed_from t.from) (slice_split_first (λ c. c == byte) t.text 0 within)
     ∙ ap (λ n. record { text = before_first (λ c. c == byte) t.text; from = t.from; to = t.from + n }
@@ -62,7 +63,7 @@ pub parts_found : (byte i : ℕ) (t : LentText) → position (λ c. c == byte) t
 parts_found byte i t h =
     let found = found_at (λ c. c == byte) t.text i h in
     let within : position_or_len (λ c. c == byte) t.text < length t.text = omega arith in
-    parts_cut byte t within
+    parts_split byte t within
     ∙ ap (λ n. record { text = take n t.text; from = t.from; to = t.from + n }
     ∷ parts_at byte (record { text = drop (n + 1) t.text; from = t.from + n + 1; to = t.to })) found.0
 

@@ -14,12 +14,12 @@ use Rattle.batch_view.specs.declared.records.Record.{Record as LentRecord}
 abbrev pub lines_from : List ℕ → ℕ → Lines
 lines_from text from = lines_in (drop from text)
 
--- The span is the first line of what is left from there on.
-pub record IsFirstLine (text : List ℕ) (from : ℕ) (line : Span) : Type 0 where
-  pub begins : line.from ≡ from
-  pub ordered : line.from ≤ line.to
-  pub within : line.to < length text
-  pub lines : lines_from text from ≡ with_line (slice_range text line.from line.to) (lines_from text (line.to + 1))
+-- At the span stands the first line of what is left from there on.
+pub record IsFirstLine (text : List ℕ) (from : ℕ) (span : Span) : Type 0 where
+  pub begins : span.from ≡ from
+  pub ordered : span.from ≤ span.to
+  pub within : span.to < length text
+  pub lines : lines_from text from ≡ with_line (slice_range text span.from span.to) (lines_from text (span.to + 1))
 
 -- no line feed is left
 abbrev pub HasNoLine : List ℕ → ℕ → Type 0
@@ -39,20 +39,20 @@ first_record (l ∷ ls) = record_in (fields_in l)
 
 -- What stands there is a line, and a record is lent from it. The next line begins at `next`.
 pub record LendsRecord (text : List ℕ) (from : ℕ) (r : LentRecord) (next : ℕ) : Type 0 where
-  pub line : Span
-  pub is_line : IsFirstLine text from line
-  pub behind : next ≡ line.to + 1
-  pub record_is : record_in (fields_in (slice_range text line.from line.to)) ≡ Ok (record_of r)
-  pub lent : IsLentRecord text line r
+  pub span : Span
+  pub is_line : IsFirstLine text from span
+  pub behind : next ≡ span.to + 1
+  pub record_is : record_in (fields_in (slice_range text span.from span.to)) ≡ Ok (record_of r)
+  pub lent : IsLentRecord text span r
 
 abbrev pub head_line : Head → HeadLine
 head_line h = record { agent = h.agent; seq = h.seq; count = h.count }
 
 -- The first line of the text is this head.
 pub record BeginsWithHead (text : List ℕ) (h : Head) : Type 0 where
-  pub line : List ℕ
-  pub first : (lines_in text).lines ≡ line ∷ drop 1 (lines_in text).lines
-  pub head : head_in (fields_in line) ≡ Ok (head_line h)
+  pub head_text : List ℕ
+  pub first : (lines_in text).lines ≡ head_text ∷ drop 1 (lines_in text).lines
+  pub head : head_in (fields_in head_text) ≡ Ok (head_line h)
   pub behind : IsBehindLines text 1 h.records_from
 
 -- The bytes are a batch, and these are the numbers of its head.
