@@ -109,7 +109,7 @@ fn the_worked_bad_batches_have_their_faults(rt: HostRuntime) -> Result<(), Fail>
     ] {
         match BatchView::parse(bytes) {
             Ok(_) => assert!(rt; false, "{told} is not told"),
-            Err(fault) => assert_eq!(rt; format!(in rt.alloc(); "{fault}")?, told),
+            Err(fault) => assert_eq!(rt; format!(in rt.alloc(); "{fault}")?.as_str(), told),
         }
     }
     Ok(())
@@ -128,7 +128,7 @@ fn faults_are_printed_by_code_and_line(rt: HostRuntime) -> Result<(), Fail> {
         (BatchCode::TooLong, 1, "V8 line 1"),
     ] {
         let fault = BatchFault { code, line };
-        assert_eq!(rt; format!(in rt.alloc(); "{fault}")?, text);
+        assert_eq!(rt; format!(in rt.alloc(); "{fault}")?.as_str(), text);
     }
     Ok(())
 }

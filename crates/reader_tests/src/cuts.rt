@@ -36,8 +36,8 @@ fn periods_are_calendar_months(rt: HostRuntime) -> Result<(), Fail> {
         assert_eq!(rt; period.number(), number);
         assert_eq!(rt; Some(period.start(base)), Stamp::read(start.as_bytes()));
         assert_eq!(rt; Some(period.end(base)), Stamp::read(end.as_bytes()));
-        assert_eq!(rt; &period.start_text(base), start.as_bytes());
-        assert_eq!(rt; &period.end_text(base), end.as_bytes());
+        assert_eq!(rt; period.start_text(base).as_slice(), start.as_bytes());
+        assert_eq!(rt; period.end_text(base).as_slice(), end.as_bytes());
     }
     Ok(())
 }
