@@ -67,6 +67,20 @@ parts_found byte i t h =
     ∙ ap (λ n. record { text = take n t.text; from = t.from; to = t.from + n }
     ∷ parts_at byte (record { text = drop (n + 1) t.text; from = t.from + n + 1; to = t.to })) found.0
 
+-- what stands before and behind the byte that was found
+pub texts_found : (byte i : ℕ) (t : LentText) → position (λ c. c == byte) t.text ≡ Some i
+    → (record { text = take i t.text; from = t.from; to = t.from + i } ≡ part_before byte t)
+    × (record { text = drop (i + 1) t.text; from = t.from + i + 1; to = t.to } ≡ part_after byte t)
+texts_found byte i t h =
+    let same = sym (found_at (λ c. c == byte) t.text i h).0 in
+    (ap (λ n. record { text = take n t.text; from = t.from; to = t.from + n }) same, ap (λ n. record { text = drop (n + 1) t.text; from = t.from + n + 1; to = t.to }) same)
+
+pub placed_found : (byte i : ℕ) (t : LentText) → IsPlaced t → position (λ c. c == byte) t.text ≡ Some i
+    → IsPlaced (record { text = take i t.text; from = t.from; to = t.from + i }) × IsPlaced (record { text = drop (i + 1) t.text; from = t.from + i + 1; to = t.to })
+placed_found byte i t placed h =
+    let within = (found_at (λ c. c == byte) t.text i h).1 in
+    (record { fits = omega (arith, length-take-le i t.text (omega arith)) }, record { fits = omega (arith, placed.fits, length-drop (i + 1) t.text) })
+
 -- a list from an index to its end
 pub tail_whole : (xs : List ℕ) (i : ℕ) → take (length xs - i) (drop i xs) ≡ drop i xs
 tail_whole xs i = take_all (length xs - i) (drop i xs) (omega (arith, length-drop i xs))

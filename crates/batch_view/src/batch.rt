@@ -208,7 +208,8 @@ impl<'a> Iterator for Records<'a> {
     ghost remaining = { item_count records_left };
 
     fn next(&mut self) -> Option<Record<'a>> {
-        if self.index == self.count {
+        let end = self.count;
+        if self.index == end {
             return None;
         }
         match record_from(self.bytes, self.at) {

@@ -1,7 +1,9 @@
 //! The worked batches, and what is told of texts that are none.
 
-use batch_view::{BatchCode, BatchFault, BatchView, Day, Kind, Offer, Reading, Record, Span, Stamp};
 use batch_view::dates::month_number;
+use batch_view::{
+    BatchCode, BatchFault, BatchView, Day, Kind, Offer, Reading, Record, Span, Stamp,
+};
 use std::alloc::{AllocError, Global};
 use std::test::Fail;
 
@@ -52,8 +54,14 @@ fn records_of_all_kinds_come_in_order(rt: HostRuntime) -> Result<(), Fail> {
         (4, Some(Kind::Adjustment), -25_000),
         (5, None, 7_200_000_000),
     ] {
-        assert!(rt; is_record(&records.next(), kind, millionths), "walked to {index}");
-        assert!(rt; is_record(&view.record_at(index), kind, millionths), "found at {index}");
+        assert!(rt;
+            is_record(&records.next(), kind, millionths),
+            "walked to {index}"
+        );
+        assert!(rt;
+            is_record(&view.record_at(index), kind, millionths),
+            "found at {index}"
+        );
     }
     assert!(rt; records.next().is_none());
     assert!(rt; view.record_at(6).is_none());
@@ -80,7 +88,12 @@ fn fields_and_tags_are_lent_at_their_places(rt: HostRuntime) -> Result<(), Fail>
     let (key, value) = tags.next().ok_or("it has a tag")?;
     assert!(rt; tags.next().is_none());
     for (field, text, from, to) in [
-        (reading.start_text, b"2025-01-10T00:00:00Z".as_slice(), 11, 31),
+        (
+            reading.start_text,
+            b"2025-01-10T00:00:00Z".as_slice(),
+            11,
+            31,
+        ),
         (reading.end_text, b"2025-01-10T02:00:00Z".as_slice(), 32, 52),
         (reading.account, b"acc-7".as_slice(), 53, 58),
         (reading.resource, b"vm-1".as_slice(), 59, 63),
@@ -99,13 +112,34 @@ fn fields_and_tags_are_lent_at_their_places(rt: HostRuntime) -> Result<(), Fail>
 fn the_worked_bad_batches_have_their_faults(rt: HostRuntime) -> Result<(), Fail> {
     for (bytes, told) in [
         (b"".as_slice(), "V1 line 1"),
-        (b"B1|1|1|1\nU|2025-01-10T00:00:00Z|2025-01-10T02:00:00Z|acc-7|vm-1|cpu|5400||env=prod".as_slice(), "V2 line 2"),
-        (b"B1|1|1|2\nU|2025-01-10T00:00:00Z|2025-01-10T02:00:00Z|acc-7|vm-1|cpu|5400||env=prod\n".as_slice(), "V2 line 3"),
-        (b"B1|1|1|0\nU|2025-01-10T00:00:00Z|2025-01-10T02:00:00Z|acc-7|vm-1|cpu|5400||env=prod\n".as_slice(), "V2 line 2"),
-        (b"B1|1|1|1\nU|2025-01-10T00:00:00Z|2025-01-10T02:00:00Z|acc-7|vm-1|cpu|5400||b=1;a=2\n".as_slice(), "V7 line 2"),
-        (b"B1|1|1|1\nU|2025-01-10T00:00:00Z|2025-01-10T02:00:00Z|acc-7|vm-1|cpu|1.50||env=prod\n".as_slice(), "V5 line 2"),
-        (b"B1|1|1|1\nU|2025-02-30T00:00:00Z|2025-01-10T02:00:00Z|acc-7|vm-1|cpu|5400||env=prod\n".as_slice(), "V4 line 2"),
-        (b"B1|1|1|1\nU|2025-01-10T00:00:00Z|2025-01-10T02:00:00Z|acc-7|vm-1|cpu|5400||env=prod|\n".as_slice(), "V3 line 2"),
+        (
+            b"B1|1|1|1\nU|2025-01-10T00:00:00Z|2025-01-10T02:00:00Z|acc-7|vm-1|cpu|5400||env=prod".as_slice(),
+            "V2 line 2",
+        ),
+        (
+            b"B1|1|1|2\nU|2025-01-10T00:00:00Z|2025-01-10T02:00:00Z|acc-7|vm-1|cpu|5400||env=prod\n".as_slice(),
+            "V2 line 3",
+        ),
+        (
+            b"B1|1|1|0\nU|2025-01-10T00:00:00Z|2025-01-10T02:00:00Z|acc-7|vm-1|cpu|5400||env=prod\n".as_slice(),
+            "V2 line 2",
+        ),
+        (
+            b"B1|1|1|1\nU|2025-01-10T00:00:00Z|2025-01-10T02:00:00Z|acc-7|vm-1|cpu|5400||b=1;a=2\n".as_slice(),
+            "V7 line 2",
+        ),
+        (
+            b"B1|1|1|1\nU|2025-01-10T00:00:00Z|2025-01-10T02:00:00Z|acc-7|vm-1|cpu|1.50||env=prod\n".as_slice(),
+            "V5 line 2",
+        ),
+        (
+            b"B1|1|1|1\nU|2025-02-30T00:00:00Z|2025-01-10T02:00:00Z|acc-7|vm-1|cpu|5400||env=prod\n".as_slice(),
+            "V4 line 2",
+        ),
+        (
+            b"B1|1|1|1\nU|2025-01-10T00:00:00Z|2025-01-10T02:00:00Z|acc-7|vm-1|cpu|5400||env=prod|\n".as_slice(),
+            "V3 line 2",
+        ),
     ] {
         match BatchView::parse(bytes) {
             Ok(_) => assert!(rt; false, "{told} is not told"),
@@ -146,7 +180,13 @@ fn an_offer_keeps_a_batch_or_tells_its_fault(rt: HostRuntime) -> Result<(), Fail
     }
     match Offer::read(rt.alloc(), joined(rt.alloc(), HEAD, b"")?)? {
         Offer::Good(_) => assert!(rt; false, "no batch is good"),
-        Offer::Bad(fault) => assert_eq!(rt; fault, BatchFault { code: BatchCode::Count, line: 2 }),
+        Offer::Bad(fault) => assert_eq!(rt;
+            fault,
+            BatchFault {
+                code: BatchCode::Count,
+                line: 2
+            }
+        ),
     }
     Ok(())
 }

@@ -2,7 +2,7 @@
 use Rattle.std.proofs.Common.{◌≡◌, ◌==◌, ◌∙◌, sym, ap, false, is_some}
 use Rattle.std.specs.List.{list_any}
 use Rattle.batch_view.specs.Parts.{lent}
-use Rattle.batch_view.proofs.PartLaws.{found_any, parts_whole, parts_found, tail_whole}
+use Rattle.batch_view.proofs.PartLaws.{found_any, parts_whole, parts_found, texts_found, placed_found, tail_whole}
 use Rattle.batch_view.proofs.fields.split_at_byte.Goals as goal
 
 pub returns-in_err-position-clause-found : goal.returns-in_err-position-clause-found
@@ -23,3 +23,11 @@ returns-clause-found c =
 pub returns-clause-parts : goal.returns-clause-parts
 returns-clause-parts c =
     rw tail_whole (parts_found c.args.byte c.in_ok-position.position (lent c.args.whole) (sym c.in_ok-position.ensures))
+
+pub returns-clause-texts : goal.returns-clause-texts
+returns-clause-texts c =
+    rw tail_whole (texts_found c.args.byte c.in_ok-position.position (lent c.args.whole) (sym c.in_ok-position.ensures))
+
+pub returns-clause-placed : goal.returns-clause-placed
+returns-clause-placed c =
+    rw tail_whole (placed_found c.args.byte c.in_ok-position.position (lent c.args.whole) c.requires (sym c.in_ok-position.ensures))
