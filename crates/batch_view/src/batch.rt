@@ -1,6 +1,6 @@
 //! Batches, and their records in order.
 
-ghost use Rattle.std.specs.Prelude.{◌≡◌, ◌≤◌, ◌<◌, ◌+◌, length, drop, Some, None, Ok, Err, IsOk, IfOk, IfErr, MatchOption, MatchResult, IfSome, IsSome, ◌↔◌};
+ghost use Rattle.std.specs.Prelude.{◌≡◌, ◌≤◌, ◌<◌, ◌+◌, length, drop, Some, None, Ok, Err, IsOk, IfOk, IfErr, MatchResult, IfSome, IsSome, ◌↔◌};
 ghost use Rattle.std.specs.List.{slice_get};
 ghost use Rattle.metering_model.specs.BatchReading.{batch_in, lines_in, records_in};
 ghost use Rattle.batch_view.specs.Lent.{record_of};

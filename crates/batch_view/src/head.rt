@@ -1,7 +1,6 @@
 //! The head line of a batch.
 
 ghost use Rattle.std.specs.Prelude.{◌≡◌, ◌≤◌, ◌+◌, ◌∷◌, [], length, Ok, Err, MatchOption, MatchResult, slice_range};
-ghost use Rattle.std.specs.List.{slice_split};
 ghost use Rattle.metering_model.specs.BatchReading.{fields_in, head_in, batch_in};
 ghost use Rattle.batch_view.specs.Inner.Lines.{head_line, BeginsWithHead};
 

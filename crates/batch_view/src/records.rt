@@ -9,7 +9,7 @@ ghost use Rattle.batch_view.specs.Inner.Placed.{IsPlaced, texts_of};
 ghost use Rattle.batch_view.specs.TagTexts.{tag_of, tags_at};
 ghost use Rattle.batch_view.specs.Inner.TagPieces.{are_tags};
 ghost use Rattle.batch_view.specs.Inner.RecordSteps.{kind_step, stamp_step, order_step, text_step, key_step, value_step, sign_step, commitment_step, tags_step, whole_step};
-ghost use Rattle.batch_view.specs.Lent.{lent_tags, reading_tags, record_of, record_texts, lent_fields, text_at, IsLentRecord};
+ghost use Rattle.batch_view.specs.Lent.{lent_tags, reading_tags, record_of, record_texts, lent_fields, IsLentRecord};
 ghost use Rattle.batch_view.specs.Inner.LineFields.{reading_parts, amendment_parts, field_texts, record_of_reading, record_of_amendment};
 
 use crate::dates::Stamp;

@@ -142,7 +142,7 @@ fn the_worked_bad_batches_have_their_faults(rt: HostRuntime) -> Result<(), Fail>
         ),
     ] {
         match BatchView::parse(bytes) {
-            Ok(_) => assert!(rt; false, "{told} is not told"),
+            Ok(_) => assert!(rt; false, "no fault is told"),
             Err(fault) => assert_eq!(rt; format!(in rt.alloc(); "{fault}")?.as_str(), told),
         }
     }
