@@ -8,10 +8,11 @@ use Rattle.metering_model.specs.declared.BatchCode.{BatchCode}
 use Rattle.metering_model.specs.declared.BatchCode.TheVariants.{Head as HeadCode, Count, TooLong}
 use Rattle.metering_model.specs.declared.BatchFault.{BatchFault}
 use Rattle.metering_model.specs.BatchReading.{at_line, records_in, fields_in, head_in, lines_in, batch_in, batch_below, batch_of_lines}
+use Rattle.metering_model.proofs.BatchLaws.{batch_read}
 use Rattle.metering_model.specs.FirstFailure.{◌>>=◌, holds_or}
 use Rattle.batch_view.specs.Lent.{record_of}
 use Rattle.batch_view.specs.Batches.{batch_of, IsLentAt}
-use Rattle.batch_view.specs.Lines.{lines_from, first_record, head_line, HasNoLine, IsBehindLines, LendsRecord, BeginsWithHead, IsHeadOf}
+use Rattle.batch_view.specs.Inner.Lines.{lines_from, first_record, head_line, HasNoLine, IsBehindLines, LendsRecord, BeginsWithHead, IsHeadOf}
 use Rattle.batch_view.specs.declared.head.Head.{Head}
 use Rattle.batch_view.specs.declared.records.Record.{Record as LentRecord}
 use Rattle.batch_view.proofs.LineLemmas.{lines_at_feed, lines_without_feed, one_more_line}
@@ -41,7 +42,7 @@ head_fault bytes line short first fault =
 
 by_records : (bytes : List ℕ) (h : Head) → length bytes ≤ 65_536 → BeginsWithHead bytes h → batch_in bytes ≡ batch_below (drop 1 (lines_in bytes).lines) (lines_in bytes).rest (head_line h)
 by_records bytes h short begins =
-    by_head bytes begins.line short begins.first
+    by_head bytes begins.head_text short begins.first
     ∙ ap (λ x. at_line 1 x >>= batch_below (drop 1 (lines_in bytes).lines) (lines_in bytes).rest) begins.head
 
 abbrev all_read : List (List ℕ) → List ℕ → ℕ → Bool
@@ -166,13 +167,30 @@ pub record IsRecordOf (bytes : List ℕ) (index : ℕ) (r : LentRecord) (next : 
 pub record_read : (bytes : List ℕ) (index at : ℕ) (r : LentRecord) (next : ℕ) → length bytes ≤ 65_536 → batch_in bytes ≡ Ok (batch_of bytes) → index < length (batch_of bytes).records → IsBehindLines bytes (index + 1) at → LendsRecord bytes at r next → IsRecordOf bytes index r next
 record_read bytes index at r next short batch within behind lends =
     let stands = there bytes index short batch within in
-    let line = one_more_line bytes (index + 1) at lends.line behind lends.is_line in
+    let line = one_more_line bytes (index + 1) at lends.span behind lends.is_line in
     let read : first_record (drop (index + 1) (lines_in bytes).lines) ≡ Ok (record_of r) = ap first_record line.left ∙ lends.record_is in
     let same : stands.one ≡ record_of r = let good = stands.read in cc in
     let two : index + 1 + 1 ≡ index + 2 = omega arith in
     record {
       got = stands.got ∙ ap Some same;
       left = stands.left ∙ ap (λ x. x ∷ drop (index + 1) (batch_of bytes).records) same;
-      lent = record { line = lends.line; is_line = line.spot; lent = lends.lent };
+      lent = record { span = lends.span; is_line = line.spot; lent = lends.lent };
       behind = subst (λ n. IsBehindLines bytes n next) two (subst (IsBehindLines bytes (index + 1 + 1)) (sym lends.behind) line.behind);
+    }
+
+-- ---- the head
+
+-- What the limits of the format say of a head.
+pub record HeadLimits (h : Head) : Type 0 where
+  pub agent : (1 ≤ h.agent) × (h.agent ≤ 64)
+  pub seq : (1 ≤ h.seq) × (h.seq ≤ 1_000_000)
+  pub count : h.count ≤ 1_000
+
+pub head_limits : (bytes : List ℕ) (h : Head) → IsHeadOf bytes h → HeadLimits h
+head_limits bytes h is =
+    let b = batch_read bytes (batch_of bytes) is.batch in
+    record {
+      agent = (omega (arith, is.agent, b.agent.0), omega (arith, is.agent, b.agent.1));
+      seq = (omega (arith, is.seq, b.seq.0), omega (arith, is.seq, b.seq.1));
+      count = omega (arith, is.count, b.count);
     }

@@ -1,14 +1,17 @@
--- What is cut from a text that the source lends is lent too, in order and apart.
+-- What is taken from a text that the source lends is lent too, in order and apart.
 use Rattle.std.proofs.Common.{◌≡◌, ℕ, zero, suc, ◌+◌, ◌-◌, ◌<◌, ◌≤◌, ◌==◌, Bool, true, false, List, [], ◌∷◌, length, take, drop, map, refl, sym, ap, subst, ◌∙◌, arith, length-drop, slice_range}
 use Rattle.std.specs.List.{list_any, position_or_len, flat_map}
 use Rattle.std.proofs.lemmas.Bool.{ltb-true}
 use Rattle.std.proofs.lemmas.List.{take-take, drop-drop, drop-take, length-take-le}
-use Rattle.batch_view.specs.Parts.{LentText, lent, IsPlaced, IsLent, AreLentApart, part_before, part_after, parts_at}
-use Rattle.batch_view.specs.TagTexts.{lent_tag, tags_at, are_tags}
+use Rattle.batch_view.specs.Parts.{LentText, lent, IsLent, AreLentApart, part_before, part_after, parts_at}
+use Rattle.batch_view.specs.Inner.Placed.{IsPlaced}
+use Rattle.batch_view.specs.TagTexts.{lent_tag, tags_at}
+use Rattle.batch_view.specs.Inner.TagPieces.{are_tags}
 use Rattle.batch_view.specs.declared.records.ReadingFields.{ReadingFields}
-use Rattle.batch_view.specs.Lent.{tag_texts, reading_parts, field_texts}
-use Rattle.batch_view.proofs.Cuts.{within_any, parts_whole, parts_cut}
-use Rattle.batch_view.proofs.TagLaws.{AllCut, all_cut, tags_rise, tags_of_empty, tags_of_pieces_at}
+use Rattle.batch_view.specs.Lent.{tag_texts}
+use Rattle.batch_view.specs.Inner.LineFields.{reading_parts, field_texts}
+use Rattle.batch_view.proofs.PartLaws.{within_any, parts_whole, parts_split}
+use Rattle.batch_view.proofs.TagLaws.{AllHaveEquals, all_have_equals, tags_rise, tags_of_empty, tags_of_pieces_at}
 
 -- ---- parts of a lent text
 
@@ -43,14 +46,14 @@ lent_back source t n h short =
           ∙ ap (take (t.to - (t.from + n))) (drop-drop n t.from source);
     }
 
--- where the byte stands, the text is cut into two lent ones
-pub record IsLentCut (source : List ℕ) (byte : ℕ) (t : LentText) : Type 0 where
+-- where the byte stands, the text is split into two lent ones
+pub record IsLentSplit (source : List ℕ) (byte : ℕ) (t : LentText) : Type 0 where
   pub before : IsLent source (part_before byte t)
   pub after : IsLent source (part_after byte t)
   pub apart : (part_before byte t).to < (part_after byte t).from
 
-pub lent_cut : (source : List ℕ) (byte : ℕ) (t : LentText) → IsLent source t → position_or_len (λ c. c == byte) t.text < length t.text → IsLentCut source byte t
-lent_cut source byte t h within =
+pub lent_split : (source : List ℕ) (byte : ℕ) (t : LentText) → IsLent source t → position_or_len (λ c. c == byte) t.text < length t.text → IsLentSplit source byte t
+lent_split source byte t h within =
     let n = position_or_len (λ c. c == byte) t.text in
     let placed = lent_placed source t h in
     let fits : t.from + n + 1 ≤ t.to = omega (arith, placed.fits) in
@@ -80,15 +83,15 @@ lent_one source t h = (h, omega arith, omega arith, tt)
 found_within : (byte : ℕ) (t : LentText) → list_any (λ c. c == byte) t.text ≡ true → position_or_len (λ c. c == byte) t.text < length t.text
 found_within byte t e = ltb-true _ _ (within_any (λ c. c == byte) t.text ∙ e)
 
--- what is cut off, and the parts of the rest
+-- what stands before the byte, and the parts of the rest
 lent_more : (source : List ℕ) (byte : ℕ) (t : LentText) → IsLent source t → list_any (λ c. c == byte) t.text ≡ true
     → AreLentApart source (part_after byte t).from (part_after byte t).to (parts_at byte (part_after byte t)) → AreLentApart source t.from t.to (parts_at byte t)
 lent_more source byte t h found rest =
     let within = found_within byte t found in
-    let cut = lent_cut source byte t h within in
+    let split = lent_split source byte t h within in
     let both : AreLentApart source t.from t.to (part_before byte t ∷ parts_at byte (part_after byte t)) =
-    (cut.before, omega arith, omega (arith, cut.apart, cut.after.ordered), rest) in
-    subst (AreLentApart source t.from t.to) (sym (parts_cut byte t within)) both
+    (split.before, omega arith, omega (arith, split.apart, split.after.ordered), rest) in
+    subst (AreLentApart source t.from t.to) (sym (parts_split byte t within)) both
 
 -- the parts of a lent text, which has at most n bytes
 parts_up_to : (source : List ℕ) (byte n : ℕ) (t : LentText) → length t.text ≤ n → IsLent source t → AreLentApart source t.from t.to (parts_at byte t)
@@ -108,7 +111,7 @@ parts_up_to source byte (suc n) t short h =
         → AreLentApart source t.from t.to (parts_at byte t)
     by_found true e more =
         let within = found_within byte t e in
-        lent_more source byte t h e (more (part_after byte t) (shorter within) (lent_cut source byte t h within).after)
+        lent_more source byte t h e (more (part_after byte t) (shorter within) (lent_split source byte t h within).after)
     by_found false e more = subst (AreLentApart source t.from t.to) (sym (parts_whole byte t (lent_placed source t h) e)) (lent_one source t h)
 
 -- the parts of a lent text are lent, apart, and in its place
@@ -123,14 +126,14 @@ lent_to source from a b [] le h = h
 lent_to source from a b (t ∷ ts) le h = (h.0, h.1, omega (arith, h.2), lent_to source (t.to + 1) a b ts le h.3)
 
 -- each lent piece gives a lent key and a lent value
-lent_pairs : (source : List ℕ) (from to : ℕ) (ps : List LentText) → AllCut ps → AreLentApart source from to ps
+lent_pairs : (source : List ℕ) (from to : ℕ) (ps : List LentText) → AllHaveEquals ps → AreLentApart source from to ps
     → AreLentApart source from to (flat_map tag_texts (map lent_tag ps))
-lent_pairs source from to [] cuts h = tt
-lent_pairs source from to (p ∷ ps) cuts h =
-    let cut = lent_cut source 61 p h.0 (found_within 61 p cuts.0) in
-    let key_ends : (part_before 61 p).to ≤ to = omega (arith, cut.apart, cut.after.ordered, h.2) in
-    let value_behind : (part_before 61 p).to + 1 ≤ (part_after 61 p).from = omega (arith, cut.apart) in
-    (cut.before, h.1, key_ends, (cut.after, value_behind, h.2, lent_pairs source (p.to + 1) to ps cuts.1 h.3))
+lent_pairs source from to [] pairs h = tt
+lent_pairs source from to (p ∷ ps) pairs h =
+    let split = lent_split source 61 p h.0 (found_within 61 p pairs.0) in
+    let key_ends : (part_before 61 p).to ≤ to = omega (arith, split.apart, split.after.ordered, h.2) in
+    let value_behind : (part_before 61 p).to + 1 ≤ (part_after 61 p).from = omega (arith, split.apart) in
+    (split.before, h.1, key_ends, (split.after, value_behind, h.2, lent_pairs source (p.to + 1) to ps pairs.1 h.3))
 
 pub tags_lent : (source : List ℕ) (from to : ℕ) (t : LentText) → IsLent source t → are_tags t.text ≡ true → from ≤ t.from → t.to ≤ to
     → AreLentApart source from to (flat_map tag_texts (tags_at t))
@@ -140,9 +143,9 @@ tags_lent source from to t h ok begins ends = by_length (length t.text) refl
     by_length zero e = subst (λ ts. AreLentApart source from to (flat_map tag_texts ts)) (sym (tags_of_empty t e)) tt
     by_length (suc n) e =
         let some : 0 < length t.text = omega arith in
-        let cuts = all_cut [] (parts_at 59 t) (sym (tags_rise t some) ∙ ok) in
+        let pairs = all_have_equals [] (parts_at 59 t) (sym (tags_rise t some) ∙ ok) in
         let pieces = lent_to source from t.to to (parts_at 59 t) ends (lent_from source from t.from t.to (parts_at 59 t) begins (parts_lent source 59 t h)) in
-        subst (λ ts. AreLentApart source from to (flat_map tag_texts ts)) (sym (tags_of_pieces_at t some)) (lent_pairs source from to (parts_at 59 t) cuts pieces)
+        subst (λ ts. AreLentApart source from to (flat_map tag_texts ts)) (sym (tags_of_pieces_at t some)) (lent_pairs source from to (parts_at 59 t) pairs pieces)
 
 -- ---- the fields of a reading
 

@@ -1,7 +1,7 @@
 pub mod DayRange
 pub mod DayTexts
 pub mod MonthOrder
-pub mod Cuts
+pub mod PartLaws
 pub mod TagLaws
 pub mod WholeLaws
 pub mod KindLaws

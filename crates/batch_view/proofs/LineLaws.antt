@@ -10,9 +10,11 @@ use Rattle.batch_view.specs.declared.records.AmendmentFields.{AmendmentFields}
 use Rattle.batch_view.specs.declared.records.Record.{Record}
 use Rattle.batch_view.specs.declared.fields.Field.{Field}
 use Rattle.batch_view.specs.declared.fields.Span.{Span}
-use Rattle.batch_view.specs.Parts.{LentText, lent, IsLent, AreLentApart, parts_at, texts_of}
-use Rattle.batch_view.specs.TagTexts.{are_tags}
-use Rattle.batch_view.specs.Lent.{record_of, record_texts, IsLentRecord, line_text, texts_lent, reading_parts, amendment_parts, field_texts, record_of_reading, record_of_amendment}
+use Rattle.batch_view.specs.Parts.{LentText, lent, IsLent, AreLentApart, parts_at}
+use Rattle.batch_view.specs.Inner.Placed.{texts_of}
+use Rattle.batch_view.specs.Inner.TagPieces.{are_tags}
+use Rattle.batch_view.specs.Lent.{record_of, record_texts, IsLentRecord, fields_at, lent_fields}
+use Rattle.batch_view.specs.Inner.LineFields.{reading_parts, amendment_parts, field_texts, record_of_reading, record_of_amendment}
 use Rattle.batch_view.proofs.TagLaws.{texts_of_parts}
 use Rattle.batch_view.proofs.LentLaws.{parts_lent, lent_rest, fields_lent}
 use Rattle.batch_view.proofs.RecordLaws.{nine_fields, four_fields, no_amendment, no_reading}
@@ -73,39 +75,53 @@ behind_letter source whole letter rest h e =
     lent_rest source whole.from whole.to letter (parts_at 124 rest) (subst (AreLentApart source whole.from whole.to) e (parts_lent source 124 whole h))
 
 -- the field of a line is lent
-pub line_lent : (source : List ℕ) (line : Span) (whole : Field) → line.from ≤ line.to → line.to ≤ length source
-    → whole.text.now ≡ slice_range source line.from line.to → whole.span ≡ line → IsLent source (lent whole)
-line_lent source line whole ordered within text place =
+pub line_lent : (source : List ℕ) (span : Span) (whole : Field) → span.from ≤ span.to → span.to ≤ length source
+    → whole.text.now ≡ slice_range source span.from span.to → whole.span ≡ span → IsLent source (lent whole)
+line_lent source span whole ordered within text place =
     subst (λ s. IsLent source (record { text = whole.text.now; from = s.from; to = s.to })) (sym place) (record { ordered = ordered; within = within; text = text })
 
+-- each text of the record is lent, in order and apart
+abbrev IsApart : List ℕ → Span → Record → Type 0
+IsApart source span r = AreLentApart source span.from span.to (record_texts r)
+
 -- what stands behind the letter of a line lends what the record lends
-pub record_lent : (source : List ℕ) (line : Span) (whole : Field) (letter rest : LentText) (r : Result Record BatchCode) → whole.span ≡ line
-    → IsLent source (lent whole) → parts_at 124 (lent whole) ≡ letter ∷ parts_at 124 rest → IfOk r (LendsOn rest) → IfOk r (IsLentRecord source line)
-record_lent source line whole letter rest (Ok x) place h e lends =
-    subst (λ s. IsLentRecord source s x) place (lends source whole.span.from whole.span.to (behind_letter source (lent whole) letter rest h e))
-record_lent source line whole letter rest (Err code) place h e lends = tt
+pub record_apart : (source : List ℕ) (span : Span) (whole : Field) (letter rest : LentText) (r : Result Record BatchCode) → whole.span ≡ span
+    → IsLent source (lent whole) → parts_at 124 (lent whole) ≡ letter ∷ parts_at 124 rest → IfOk r (LendsOn rest) → IfOk r (IsApart source span)
+record_apart source span whole letter rest (Ok x) place h e lends =
+    subst (λ s. IsApart source s x) place (lends source whole.span.from whole.span.to (behind_letter source (lent whole) letter rest h e))
+record_apart source span whole letter rest (Err code) place h e lends = tt
+
+pub none_apart : (source : List ℕ) (span : Span) (r : Result Record BatchCode) → IfOk r (λ x. record_texts x ≡ []) → IfOk r (IsApart source span)
+none_apart source span (Ok x) none = subst (AreLentApart source span.from span.to) (sym none) tt
+none_apart source span (Err code) none = tt
 
 -- ---- which parts it lends
 
 -- whatever the letter is
 abbrev pub LendsParts : LentText → Record → Type 0
-LendsParts rest r = (letter : LentText) → record_texts r ≡ texts_lent (letter ∷ parts_at 124 rest)
+LendsParts rest r = (letter : LentText) → record_texts r ≡ lent_fields (letter ∷ parts_at 124 rest)
 
 pub reading_parts_lent : (rest : LentText) (f : ReadingFields) (r : Result Record BatchCode) → parts_at 124 rest ≡ reading_parts f
     → IfOk r (λ x. record_texts x ≡ field_texts f) → IfOk r (LendsParts rest)
-reading_parts_lent rest f (Ok x) e h = λ letter. h ∙ ap (λ ps. texts_lent (letter ∷ ps)) (sym e)
+reading_parts_lent rest f (Ok x) e h = λ letter. h ∙ ap (λ ps. lent_fields (letter ∷ ps)) (sym e)
 reading_parts_lent rest f (Err code) e h = tt
 
 pub amendment_parts_lent : (rest : LentText) (f : AmendmentFields) (r : Result Record BatchCode) → parts_at 124 rest ≡ amendment_parts f
     → IfOk r (λ x. record_texts x ≡ []) → IfOk r (LendsParts rest)
-amendment_parts_lent rest f (Ok x) e h = λ letter. h ∙ ap (λ ps. texts_lent (letter ∷ ps)) (sym e)
+amendment_parts_lent rest f (Ok x) e h = λ letter. h ∙ ap (λ ps. lent_fields (letter ∷ ps)) (sym e)
 amendment_parts_lent rest f (Err code) e h = tt
 
-pub line_parts_lent : (source : List ℕ) (line : Span) (whole : Field) (letter rest : LentText) (r : Result Record BatchCode)
-    → whole.text.now ≡ slice_range source line.from line.to → whole.span ≡ line → parts_at 124 (lent whole) ≡ letter ∷ parts_at 124 rest
-    → IfOk r (LendsParts rest) → IfOk r (λ x. record_texts x ≡ texts_lent (parts_at 124 (line_text source line)))
-line_parts_lent source line whole letter rest (Ok x) text place e h =
-    h letter ∙ ap texts_lent (sym e)
-    ∙ ap (λ t. texts_lent (parts_at 124 (record { text = t; from = whole.span.from; to = whole.span.to }))) text
-    ∙ ap (λ s. texts_lent (parts_at 124 (record { text = slice_range source line.from line.to; from = s.from; to = s.to }))) place
-line_parts_lent source line whole letter rest (Err code) text place e h = tt
+-- the line's fields are its letter and those behind it
+pub record_placed : (source : List ℕ) (span : Span) (whole : Field) (letter rest : LentText) (r : Result Record BatchCode)
+    → whole.text.now ≡ slice_range source span.from span.to → whole.span ≡ span → parts_at 124 (lent whole) ≡ letter ∷ parts_at 124 rest
+    → IfOk r (LendsParts rest) → IfOk r (λ x. record_texts x ≡ lent_fields (fields_at source span))
+record_placed source span whole letter rest (Ok x) text place e h =
+    h letter ∙ ap lent_fields (sym e)
+    ∙ ap (λ t. lent_fields (parts_at 124 (record { text = t; from = whole.span.from; to = whole.span.to }))) text
+    ∙ ap (λ s. lent_fields (parts_at 124 (record { text = slice_range source span.from span.to; from = s.from; to = s.to }))) place
+record_placed source span whole letter rest (Err code) text place e h = tt
+
+pub record_lent : (source : List ℕ) (span : Span) (r : Result Record BatchCode) → IfOk r (IsApart source span)
+    → IfOk r (λ x. record_texts x ≡ lent_fields (fields_at source span)) → IfOk r (IsLentRecord source span)
+record_lent source span (Ok x) apart places = record { apart = apart; places = places }
+record_lent source span (Err code) apart places = tt

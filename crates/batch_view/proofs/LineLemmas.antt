@@ -6,7 +6,7 @@ use Rattle.std.proofs.lemmas.List.{drop-drop}
 use Rattle.std.proofs.lemmas.List.Splits.{length-slice_split}
 use Rattle.metering_model.specs.BatchReading.{lines_in, lines_of_parts, with_line}
 use Rattle.batch_view.specs.Batches.{line_spans}
-use Rattle.batch_view.specs.Lines.{IsFirstLine, IsBehindLines, lines_from}
+use Rattle.batch_view.specs.Inner.Lines.{IsFirstLine, IsBehindLines, lines_from}
 use Rattle.batch_view.specs.declared.fields.Span.{Span}
 use Rattle.batch_view.proofs.SplitLemmas.{split_at, split_nowhere}
 
@@ -45,12 +45,12 @@ pub behind_none : (text : List ℕ) → IsBehindLines text 0 0
 behind_none text = record { within = omega arith; lines = refl; rest = refl; spans = refl }
 
 -- the first line of a list of lines, and where the others begin
-cut : {A : Type 0} (n : ℕ) (xs : List A) (y : A) (ys : List A) → drop n xs ≡ y ∷ ys → (slice_get xs n ≡ Some y) × (drop (n + 1) xs ≡ ys)
-cut zero [] y ys e = absurd (omega (arith, ap length e))
-cut zero (x ∷ xs) y ys e = (ap (λ l. slice_get l 0) e, ap (drop 1) e)
-cut (suc n) [] y ys e = absurd (omega (arith, ap length e))
-cut (suc n) (x ∷ xs) y ys e =
-    let rest = cut n xs y ys e in
+at_drop : {A : Type 0} (n : ℕ) (xs : List A) (y : A) (ys : List A) → drop n xs ≡ y ∷ ys → (slice_get xs n ≡ Some y) × (drop (n + 1) xs ≡ ys)
+at_drop zero [] y ys e = absurd (omega (arith, ap length e))
+at_drop zero (x ∷ xs) y ys e = (ap (λ l. slice_get l 0) e, ap (drop 1) e)
+at_drop (suc n) [] y ys e = absurd (omega (arith, ap length e))
+at_drop (suc n) (x ∷ xs) y ys e =
+    let rest = at_drop n xs y ys e in
     let next : suc n + 1 ≡ suc (n + 1) = omega arith in
     (rest.0, ap (λ m. drop m (x ∷ xs)) next ∙ rest.1)
 
@@ -69,10 +69,10 @@ one_more_line text count at line here first =
     let l = slice_range text line.from line.to in
     let all = (lines_in text).lines in
     let now : drop count all ≡ l ∷ (lines_from text (line.to + 1)).lines = sym here.lines ∙ ap (λ ls. ls.lines) first.lines in
-    let next = cut count all l (lines_from text (line.to + 1)).lines now in
+    let next = at_drop count all l (lines_from text (line.to + 1)).lines now in
     let long = line_length text line.from line.to first.ordered first.within in
     let spans : drop count (line_spans 0 all) ≡ record { from = at; to = at + length l } ∷ line_spans (at + length l + 1) (lines_from text (line.to + 1)).lines = sym here.spans ∙ ap (line_spans at) now in
-    let spot = cut count (line_spans 0 all) _ _ spans in
+    let spot = at_drop count (line_spans 0 all) _ _ spans in
     let end : at + length l ≡ line.to = omega (arith, long, first.begins, first.ordered) in
     record {
       is_line = next.0;

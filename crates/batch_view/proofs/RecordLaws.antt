@@ -1,10 +1,12 @@
 -- Which record a line's fields give, by their number and their letter.
-use Rattle.std.proofs.Common.{◌≡◌, ◌≢◌, ℕ, ◌==◌, true, false, List, [], ◌∷◌, length, Err, None, refl, ap, ◌∙◌, codes, ok_or}
+use Rattle.std.proofs.Common.{◌≡◌, ◌≢◌, ℕ, ◌==◌, true, false, List, [], ◌∷◌, length, Ok, Err, None, ℤ, refl, ap, ◌∙◌, codes, ok_or}
 use Rattle.std.proofs.lemmas.Bool.{false≢true, and_parts, eqb-true}
 use Rattle.metering_model.specs.FirstFailure.{◌>>=◌, holds_or}
 use Rattle.metering_model.specs.declared.BatchCode.TheVariants.{Fields}
+use Rattle.metering_model.specs.declared.Kind.{Kind}
+use Rattle.metering_model.specs.Batch.{Tag, Reads}
 use Rattle.metering_model.specs.BatchReading.{is_same, kind_in, record_in}
-use Rattle.batch_view.specs.RecordSteps.{kind_step, stamp_step, order_step, text_step, key_step, value_step, sign_step, commitment_step, tags_step, whole_step, reading_in, amendment_in}
+use Rattle.batch_view.specs.Inner.RecordSteps.{kind_step, stamp_step, order_step, text_step, key_step, value_step, sign_step, commitment_step, tags_step, whole_step, reading_in, amendment_in}
 
 pub nine_fields : (letter start end account resource key value commitment tags : List ℕ)
     → record_in (letter ∷ start ∷ end ∷ account ∷ resource ∷ key ∷ value ∷ commitment ∷ tags ∷ [])
@@ -20,6 +22,28 @@ four_fields letter seq index value h = ap (λ b. holds_or b Fields >>= (λ _. am
 pub four_others : (letter seq index value : List ℕ) → is_same letter (codes "X") ≡ false → record_in (letter ∷ seq ∷ index ∷ value ∷ []) ≡ Err Fields
 unfolding amendment_in whole_step value_step
 four_others letter seq index value h = ap (λ b. holds_or b Fields >>= (λ _. amendment_in seq index value)) h
+
+-- a reading whose fields all meet their rules
+pub all_steps : (letter start end account resource key value commitment tags : List ℕ) (k : Kind) (s e : ℤ) (v : ℤ) (ts : List Tag)
+    → kind_step letter ≡ Ok k → stamp_step start ≡ Ok s → stamp_step end ≡ Ok e → order_step s e ≡ Ok tt → text_step account ≡ Ok tt
+    → text_step resource ≡ Ok tt → key_step key ≡ Ok tt → value_step value ≡ Ok v → sign_step k v ≡ Ok tt
+    → commitment_step k commitment ≡ Ok tt → tags_step tags ≡ Ok ts
+    → reading_in letter start end account resource key value commitment tags ≡ Ok (Reads (record {
+      kind = k;
+      start = s;
+      end = e;
+      start_text = start;
+      end_text = end;
+      account = account;
+      resource = resource;
+      key = key;
+      value = v;
+      commitment = commitment;
+      tags = ts;
+    }))
+unfolding reading_in
+all_steps letter start end account resource key value commitment tags k s e v ts h1 h2 h3 h4 h5 h6 h7 h8 h9 h10 h11 =
+    rw h1 (rw h2 (rw h3 (rw h4 (rw h5 (rw h6 (rw h7 (rw h8 (rw h9 (rw h10 (rw h11 refl))))))))))
 
 -- the letter of an amendment is that of no kind
 amendment_letter : (letter : List ℕ) → is_same letter (codes "X") ≡ true → kind_in letter ≡ None

@@ -7,7 +7,7 @@ use Rattle.metering_model.specs.declared.BatchCode.{BatchCode}
 use Rattle.metering_model.specs.declared.BatchFault.{BatchFault}
 use Rattle.metering_model.specs.BatchReading.{at_line, records_in}
 use Rattle.metering_model.specs.FirstFailure.{◌>>=◌}
-use Rattle.batch_view.specs.Lines.{first_record}
+use Rattle.batch_view.specs.Inner.Lines.{first_record}
 
 -- one record more, before the others
 abbrev onto : Record → Result (List Record) BatchFault → Result (List Record) BatchFault

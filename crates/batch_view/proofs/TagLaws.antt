@@ -6,8 +6,10 @@ use Rattle.std.proofs.lemmas.Bool.{and_parts, false≢true}
 use Rattle.std.proofs.lemmas.Option.{cond_some}
 use Rattle.metering_model.specs.Batch.{Tag, is_text, is_empty, is_below, keys_rise}
 use Rattle.metering_model.specs.BatchReading.{is_equals_sign, tag_in, tags_in, with_first, all_some, if_rising}
-use Rattle.batch_view.specs.Parts.{LentText, placed_from, parts_at, texts_of}
-use Rattle.batch_view.specs.TagTexts.{tag_of, lent_tag, unless_empty, tags_at, are_tags, key_in, if_above, rise_from, IsFirstPiece}
+use Rattle.batch_view.specs.Parts.{LentText, placed_from, parts_at}
+use Rattle.batch_view.specs.Inner.Placed.{texts_of}
+use Rattle.batch_view.specs.TagTexts.{tag_of, lent_tag, unless_empty, tags_at}
+use Rattle.batch_view.specs.Inner.TagPieces.{are_tags, key_in, if_above, rise_from, IsFirstPiece}
 
 -- ---- one tag
 
@@ -20,7 +22,7 @@ is_tag_text t = is_text t && list_any is_equals_sign t && not (is_empty (before_
 
 -- what a tag is
 pub record IsTagAt (t : List ℕ) (tag : Tag) : Type 0 where
-  pub cut : list_any is_equals_sign t ≡ true
+  pub has_equals : list_any is_equals_sign t ≡ true
   pub some : not (is_empty tag.key) ≡ true
   pub is : tag ≡ tag_at t
 
@@ -29,7 +31,7 @@ tag_parts t tag h =
     let found = cond_some (is_tag_text t) (tag_at t) tag h in
     let tests = and_parts _ _ found.0 in
     record {
-      cut = (and_parts (is_text t) (list_any is_equals_sign t) tests.0).1;
+      has_equals = (and_parts (is_text t) (list_any is_equals_sign t) tests.0).1;
       some = subst (λ g. not (is_empty g.key) ≡ true) found.1 tests.1;
       is = sym found.1;
     }
@@ -225,7 +227,7 @@ first_piece t piece rest some h e =
     by_test tag is true rises =
         let others = behind tag.key rises in
         record {
-          cut = (tag_parts piece.text tag is).cut;
+          has_equals = (tag_parts piece.text tag is).has_equals;
           others = others.0;
           tags = tags_of_pieces_at t some ∙ ap (map lent_tag) e ∙ ap (λ ts. lent_tag piece ∷ ts) (sym others.1);
         }
@@ -243,27 +245,27 @@ last_piece t rest some h e empty =
     by_tag : (o : Option Tag) → tag_in t.text ≡ o → rise_from (if_above [] (option_map (λ t. t.key) o)) [] ≡ true → IsFirstPiece t t rest
     by_tag None is rises = absurd (false≢true rises)
     by_tag (Some tag) is rises = record {
-      cut = (tag_parts t.text tag is).cut;
+      has_equals = (tag_parts t.text tag is).has_equals;
       others = no_tags rest.text empty;
       tags = tags_of_pieces_at t some ∙ ap (map lent_tag) e ∙ ap (λ ts. lent_tag t ∷ ts) (sym (tags_of_empty rest empty));
     }
 
--- ---- each piece of tags is cut
+-- ---- each piece of tags has its `=`
 
-abbrev pub AllCut : List LentText → Type 0
-AllCut [] = Unit {0}
-AllCut (p ∷ ps) = (list_any (λ c. c == 61) p.text ≡ true) × AllCut ps
+abbrev pub AllHaveEquals : List LentText → Type 0
+AllHaveEquals [] = Unit {0}
+AllHaveEquals (p ∷ ps) = (list_any (λ c. c == 61) p.text ≡ true) × AllHaveEquals ps
 
-pub all_cut : (last : List ℕ) (ps : List LentText) → rise_from (Some last) ps ≡ true → AllCut ps
-all_cut last [] h = tt
-all_cut last (p ∷ ps) h = by_tag (tag_in p.text) refl (λ key. all_cut key ps) h
+pub all_have_equals : (last : List ℕ) (ps : List LentText) → rise_from (Some last) ps ≡ true → AllHaveEquals ps
+all_have_equals last [] h = tt
+all_have_equals last (p ∷ ps) h = by_tag (tag_in p.text) refl (λ key. all_have_equals key ps) h
   where
-    by_test : (tag : Tag) → tag_in p.text ≡ Some tag → ((key : List ℕ) → rise_from (Some key) ps ≡ true → AllCut ps)
-        → (b : Bool) → rise_from (cond b (Some tag.key) None) ps ≡ true → AllCut (p ∷ ps)
-    by_test tag is others true rises = ((tag_parts p.text tag is).cut, others tag.key rises)
+    by_test : (tag : Tag) → tag_in p.text ≡ Some tag → ((key : List ℕ) → rise_from (Some key) ps ≡ true → AllHaveEquals ps)
+        → (b : Bool) → rise_from (cond b (Some tag.key) None) ps ≡ true → AllHaveEquals (p ∷ ps)
+    by_test tag is others true rises = ((tag_parts p.text tag is).has_equals, others tag.key rises)
     by_test tag is others false rises = absurd (false≢true rises)
 
-    by_tag : (o : Option Tag) → tag_in p.text ≡ o → ((key : List ℕ) → rise_from (Some key) ps ≡ true → AllCut ps)
-        → rise_from (if_above last (option_map (λ t. t.key) o)) ps ≡ true → AllCut (p ∷ ps)
+    by_tag : (o : Option Tag) → tag_in p.text ≡ o → ((key : List ℕ) → rise_from (Some key) ps ≡ true → AllHaveEquals ps)
+        → rise_from (if_above last (option_map (λ t. t.key) o)) ps ≡ true → AllHaveEquals (p ∷ ps)
     by_tag None is others rises = absurd (false≢true rises)
     by_tag (Some tag) is others rises = by_test tag is others (is_below last tag.key) rises

@@ -22,10 +22,10 @@ halves t = record { key = before_first is_equals_sign t; value = after_first is_
 
 -- the halves of a text are texts
 halves_are_texts : (t : List ℕ) → is_text t ≡ true → list_any is_equals_sign t ≡ true → has_texts (halves t) ≡ true
-halves_are_texts t text cut =
+halves_are_texts t text found =
     let key = before_first is_equals_sign t in
     let value = after_first is_equals_sign t in
-    let joined : list_all is_text_byte (key ++ 61 ∷ value) ≡ true = sym (ap (list_all is_text_byte) (split_back 61 t cut)) ∙ text in
+    let joined : list_all is_text_byte (key ++ 61 ∷ value) ≡ true = sym (ap (list_all is_text_byte) (split_back 61 t found)) ∙ text in
     and_from _ _ (list_all_left is_text_byte key (61 ∷ value) joined)
     (and_parts (is_text_byte 61) (is_text value) (list_all_right is_text_byte key (61 ∷ value) joined)).1
 

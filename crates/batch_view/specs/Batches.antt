@@ -23,11 +23,11 @@ abbrev pub line_spans : ℕ → List (List ℕ) → List Span
 line_spans from [] = []
 line_spans from (l ∷ ls) = record { from = from; to = from + length l } ∷ line_spans (from + length l + 1) ls
 
--- The record is lent from its line: that of the record at `index`, behind the head line.
+-- The record is lent from its line, at the line's span: that of the record at `index`, behind the head line.
 pub record IsLentAt (bytes : List ℕ) (index : ℕ) (r : LentRecord) : Type 0 where
-  pub line : Span
-  pub is_line : slice_get (line_spans 0 (lines_in bytes).lines) (index + 1) ≡ Some line
-  pub lent : IsLentRecord bytes line r
+  pub span : Span
+  pub is_line : slice_get (line_spans 0 (lines_in bytes).lines) (index + 1) ≡ Some span
+  pub lent : IsLentRecord bytes span r
 
 -- a walk over the records of a batch: the bytes, and the index of the record that comes next
 pub record RecordsLeft : Type 0 where

@@ -1,8 +1,7 @@
 pub mod Years
 pub mod Parts
 pub mod TagTexts
-pub mod RecordSteps
 pub mod Lent
 pub mod Batches
-pub mod Lines
 pub mod Offers
+pub mod Inner

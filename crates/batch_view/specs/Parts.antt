@@ -1,9 +1,9 @@
--- Texts that a batch lends, each with its place, and the parts into which a byte cuts one.
-use Rattle.std.specs.Prelude.{◌≡◌, ℕ, ◌+◌, ◌≤◌, ◌==◌, List, [], ◌∷◌, length, map, slice_range}
+-- Texts that a batch lends, each with its place, and the parts into which a byte splits one.
+use Rattle.std.specs.Prelude.{◌≡◌, ℕ, ◌+◌, ◌≤◌, ◌==◌, List, [], ◌∷◌, length, slice_range}
 use Rattle.std.specs.List.{slice_split, position_or_len, before_first, after_first}
 use Rattle.batch_view.specs.declared.fields.Field.{Field}
 
--- a text, and where it stands in the bytes that it was cut from
+-- a text, and where it stands in the bytes that it was taken from
 pub record LentText : Type 0 where
   pub text : List ℕ
   pub from : ℕ
@@ -12,10 +12,6 @@ pub record LentText : Type 0 where
 -- a field without where it lies in memory
 abbrev pub lent : Field → LentText
 lent f = record { text = f.text.now; from = f.span.from; to = f.span.to }
-
--- The text is as long as its place.
-pub record IsPlaced (t : LentText) : Type 0 where
-  pub fits : t.to ≡ t.from + length t.text
 
 -- The text is the source at its span.
 pub record IsLent (source : List ℕ) (t : LentText) : Type 0 where
@@ -29,7 +25,7 @@ AreLentApart source from to [] = Unit {0}
 AreLentApart source from to (t ∷ ts) =
     IsLent source t × (from ≤ t.from) × (t.to ≤ to) × AreLentApart source (t.to + 1) to ts
 
--- ---- parts
+-- ---- the first part, and the rest
 
 -- what stands before the first such byte
 abbrev pub part_before : ℕ → LentText → LentText
@@ -47,15 +43,13 @@ part_after byte t = record {
   to = t.to;
 }
 
--- the texts in their places, of which each ends one byte before the next
+-- ---- all parts
+
+-- The texts in their places: each begins where those before it end, and one byte behind each of them.
 abbrev pub placed_from : ℕ → List (List ℕ) → List LentText
 placed_from from [] = []
 placed_from from (t ∷ ts) = record { text = t; from = from; to = from + length t } ∷ placed_from (from + length t + 1) ts
 
--- the parts between such bytes
+-- the parts between such bytes, from left to right
 unfoldable pub parts_at : ℕ → LentText → List LentText
 parts_at byte t = placed_from t.from (slice_split (λ c. c == byte) t.text)
-
--- the texts without their places
-abbrev pub texts_of : List LentText → List (List ℕ)
-texts_of ts = map (λ t. t.text) ts

@@ -1,9 +1,6 @@
 -- The tags that a text holds, each with its place.
-use Rattle.std.specs.Prelude.{◌≡◌, ℕ, ◌==◌, Bool, true, false, List, [], ◌∷◌, map, Option, Some, None, is_some, if◌then◌else◌}
-use Rattle.std.specs.List.{list_any}
-use Rattle.std.specs.Option.{option_map}
-use Rattle.metering_model.specs.Batch.{Tag, is_below}
-use Rattle.metering_model.specs.BatchReading.{tag_in, tags_in}
+use Rattle.std.specs.Prelude.{ℕ, List, [], ◌∷◌, map}
+use Rattle.metering_model.specs.Batch.{Tag}
 use Rattle.batch_view.specs.Parts.{LentText, part_before, part_after, parts_at}
 
 pub record LentTag : Type 0 where
@@ -14,7 +11,7 @@ pub record LentTag : Type 0 where
 abbrev pub tag_of : LentTag → Tag
 tag_of t = record { key = t.key.text; value = t.value.text }
 
--- a key and a value, cut at the first `=`
+-- a key and a value: what stands before the first `=`, and what stands behind it
 abbrev pub lent_tag : LentText → LentTag
 lent_tag t = record { key = part_before 61 t; value = part_after 61 t }
 
@@ -25,29 +22,3 @@ unless_empty (c ∷ cs) ts = ts
 -- none in the empty text, or those between `;`
 unfoldable pub tags_at : LentText → List LentTag
 tags_at t = unless_empty t.text (map lent_tag (parts_at 59 t))
-
--- whether the text is tags
-unfoldable pub are_tags : List ℕ → Bool
-are_tags t = is_some (tags_in t)
-
--- ---- the same, piece by piece
-
-abbrev pub key_in : List ℕ → Option (List ℕ)
-key_in t = option_map (λ tag. tag.key) (tag_in t)
-
--- a key, if there is one and it is above the last one
-abbrev pub if_above : List ℕ → Option (List ℕ) → Option (List ℕ)
-if_above last None = None
-if_above last (Some key) = if is_below last key then Some key else None
-
--- whether each text is a tag, and their keys rise from above the last one
-abbrev pub rise_from : Option (List ℕ) → List LentText → Bool
-rise_from None ts = false
-rise_from (Some last) [] = true
-rise_from (Some last) (t ∷ ts) = rise_from (if_above last (key_in t.text)) ts
-
--- what the first piece of tags is, and what stands behind it
-pub record IsFirstPiece (t piece rest : LentText) : Type 0 where
-  pub cut : list_any (λ c. c == 61) piece.text ≡ true
-  pub others : are_tags rest.text ≡ true
-  pub tags : tags_at t ≡ lent_tag piece ∷ tags_at rest

@@ -1,11 +1,11 @@
 //! Batches, and their records in order.
 
-ghost use Rattle.std.specs.Prelude.{◌≡◌, ◌≤◌, ◌<◌, ◌+◌, length, drop, Some, None, Ok, Err, IsOk, IfOk, IfErr, MatchOption, MatchResult, IfSome, IsSome, ◌↔◌};
+ghost use Rattle.std.specs.Prelude.{◌≡◌, ◌≤◌, ◌<◌, ◌+◌, length, drop, Some, None, Ok, Err, IsOk, IfOk, IfErr, MatchResult, IfSome, IsSome, ◌↔◌};
 ghost use Rattle.std.specs.List.{slice_get};
 ghost use Rattle.metering_model.specs.BatchReading.{batch_in, lines_in, records_in};
 ghost use Rattle.batch_view.specs.Lent.{record_of};
 ghost use Rattle.batch_view.specs.Batches.{batch_of, IsLentAt, RecordsLeft};
-ghost use Rattle.batch_view.specs.Lines.{lines_from, first_record, IsBehindLines, LendsRecord, IsHeadOf};
+ghost use Rattle.batch_view.specs.Inner.Lines.{lines_from, first_record, IsBehindLines, LendsRecord, IsHeadOf};
 
 use crate::head::{Head, read_head};
 use crate::lines::next_line;
@@ -24,11 +24,11 @@ fn record_from(text: &[u8], from: u32) -> Result<(Record<'_>, u32), BatchCode>
         (λ read. LendsRecord text.now from read.0 read.1)
         (λ code. first_record (lines_from text.now from).lines ≡ Err code) }
 {
-    let Some(line) = next_line(text, from) else {
+    let Some(span) = next_line(text, from) else {
         return Err(BatchCode::Count);
     };
-    match read_record(text, line) {
-        Ok(record) => Ok((record, line.to + 1)),
+    match read_record(text, span) {
+        Ok(record) => Ok((record, span.to + 1)),
         Err(code) => Err(code),
     }
 }
@@ -86,7 +86,7 @@ pub struct BatchView<'a> {
 
 impl<'a> Model for BatchView<'a> {
     ghost use Rattle.std.specs.Prelude.{ℕ, List};
-    ghost use Rattle.batch_view.specs.Lines.{IsHeadOf};
+    ghost use Rattle.batch_view.specs.Inner.Lines.{IsHeadOf};
 
     ghost Value = { List ℕ };
 
@@ -123,21 +123,24 @@ impl<'a> BatchView<'a> {
 
     /// The agent that sent the batch, from 1 to 64.
     pub fn agent(&self) -> u8
-        ensures { result ≡ (batch_of self.now).agent }
+        ensures value { result ≡ (batch_of self.now).agent }
+        ensures range { (1 ≤ result) × (result ≤ 64) }
     {
         self.head.agent
     }
 
     /// The place of the batch among those of its agent, from 1 to 1,000,000.
     pub fn seq(&self) -> u32
-        ensures { result ≡ (batch_of self.now).seq }
+        ensures value { result ≡ (batch_of self.now).seq }
+        ensures range { (1 ≤ result) × (result ≤ 1_000_000) }
     {
         self.head.seq
     }
 
-    /// The number of records, at most 1,000.
+    /// The number of records, from 0 to 1,000.
     pub fn count(&self) -> u16
-        ensures { result ≡ length (batch_of self.now).records }
+        ensures value { result ≡ length (batch_of self.now).records }
+        ensures range { result ≤ 1_000 }
     {
         self.head.count
     }
@@ -185,7 +188,7 @@ pub struct Records<'a> {
 
 impl<'a> Model for Records<'a> {
     ghost use Rattle.batch_view.specs.Batches.{RecordsLeft};
-    ghost use Rattle.batch_view.specs.Lines.{IsBeforeRecord};
+    ghost use Rattle.batch_view.specs.Inner.Lines.{IsBeforeRecord};
 
     ghost Value = { RecordsLeft };
 
@@ -205,7 +208,8 @@ impl<'a> Iterator for Records<'a> {
     ghost remaining = { item_count records_left };
 
     fn next(&mut self) -> Option<Record<'a>> {
-        if self.index == self.count {
+        let end = self.count;
+        if self.index == end {
             return None;
         }
         match record_from(self.bytes, self.at) {
@@ -216,11 +220,5 @@ impl<'a> Iterator for Records<'a> {
             }
             Err(_) => None,
         }
-    }
-
-    // What iterators promise leaves a hint free; a test says that this one is exact.
-    fn size_hint(&self) -> (usize, Option<usize>) {
-        let left = usize::from(self.count - self.index);
-        (left, Some(left))
     }
 }

@@ -14,7 +14,7 @@ use std::marker::Model;
 const SECONDS_PER_DAY: i64 = 86_400;
 
 /// A day of UTC.
-#[derive(Clone, Copy, Debug, PartialEq, Eq, PartialOrd, Ord, Hash)]
+#[derive(Clone, Copy, Debug, PartialEq, Eq, PartialOrd, Ord)]
 pub struct Day {
     number: i32,
 }
@@ -93,7 +93,7 @@ impl Day {
 }
 
 /// A moment of UTC, to the second.
-#[derive(Clone, Copy, Debug, PartialEq, Eq, PartialOrd, Ord, Hash)]
+#[derive(Clone, Copy, Debug, PartialEq, Eq, PartialOrd, Ord)]
 pub struct Stamp {
     seconds: i64,
 }
@@ -175,6 +175,3 @@ fn second_of_day(text: &[u8]) -> Option<u32>
     }
     Some(3600 * u32::from(hour) + 60 * u32::from(minute) + u32::from(second))
 }
-
-#[cfg(test)]
-mod tests;

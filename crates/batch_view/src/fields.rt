@@ -3,7 +3,8 @@
 ghost use Rattle.std.specs.Prelude.{◌≡◌, ◌+◌, ◌≤◌, ◌==◌, ◌∷◌, [], length, slice_range, position, is_some, MatchOption, IfSome};
 ghost use Rattle.std.specs.List.{list_any};
 ghost use Rattle.metering_model.specs.Batch.{is_text};
-ghost use Rattle.batch_view.specs.Parts.{IsPlaced, lent, part_before, part_after, parts_at};
+ghost use Rattle.batch_view.specs.Parts.{lent, part_before, part_after, parts_at};
+ghost use Rattle.batch_view.specs.Inner.Placed.{IsPlaced};
 
 /// A place in the bytes of a batch, from `from` (included) to `to` (not included).
 #[derive(Clone, Copy, PartialEq, Eq, Debug)]
@@ -13,7 +14,7 @@ pub struct Span {
 }
 
 /// A text that a batch lends, and its place there.
-#[derive(Clone, Copy, Debug)]
+#[derive(Clone, Copy)]
 pub struct Field<'a> {
     pub text: &'a [u8],
     pub span: Span,
@@ -41,7 +42,7 @@ pub(crate) fn find_byte(text: &[u8], byte: u8) -> Option<usize>
 }
 
 /// What stands before and behind the first such byte of a text, if it has one.
-pub(crate) fn cut<'a>(whole: Field<'a>, byte: u8) -> Option<(Field<'a>, Field<'a>)>
+pub(crate) fn split_at_byte<'a>(whole: Field<'a>, byte: u8) -> Option<(Field<'a>, Field<'a>)>
     requires { IsPlaced (lent whole) }
     ensures found { is_some result ≡ list_any (λ c. c == byte) whole.entry.text.now }
     ensures texts { IfSome result (λ p. (lent p.0 ≡ part_before byte (lent whole.entry))

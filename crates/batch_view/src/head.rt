@@ -1,9 +1,8 @@
 //! The head line of a batch.
 
 ghost use Rattle.std.specs.Prelude.{◌≡◌, ◌≤◌, ◌+◌, ◌∷◌, [], length, Ok, Err, MatchOption, MatchResult, slice_range};
-ghost use Rattle.std.specs.List.{slice_split};
 ghost use Rattle.metering_model.specs.BatchReading.{fields_in, head_in, batch_in};
-ghost use Rattle.batch_view.specs.Lines.{head_line, BeginsWithHead};
+ghost use Rattle.batch_view.specs.Inner.Lines.{head_line, BeginsWithHead};
 
 use crate::fields::{Span, find_byte};
 use crate::lines::next_line;
@@ -61,15 +60,15 @@ fn head_fields(line: &[u8]) -> Option<HeadFields<'_>>
 }
 
 /// The head that a line is, if it is one within the limits.
-fn head_of_line(text: &[u8], line: Span) -> Option<Head>
-    requires ordered { line.from ≤ line.to }
-    requires within { line.to ≤ length text.now }
+fn head_of_line(text: &[u8], span: Span) -> Option<Head>
+    requires ordered { span.from ≤ span.to }
+    requires within { span.to ≤ length text.now }
     requires short { length text.now ≤ 65536 }
     ensures { MatchOption result
-        (head_in (fields_in (slice_range text.now line.from line.to)) ≡ Err BatchCode.Head)
-        (λ h. (head_in (fields_in (slice_range text.now line.from line.to)) ≡ Ok (head_line h)) × (h.records_from ≡ line.to + 1)) }
+        (head_in (fields_in (slice_range text.now span.from span.to)) ≡ Err BatchCode.Head)
+        (λ h. (head_in (fields_in (slice_range text.now span.from span.to)) ≡ Ok (head_line h)) × (h.records_from ≡ span.to + 1)) }
 {
-    let fields = head_fields(&text[line.from as usize..line.to as usize])?;
+    let fields = head_fields(&text[span.from as usize..span.to as usize])?;
     if fields.version != b"B1".as_slice() {
         return None;
     }
@@ -77,7 +76,7 @@ fn head_of_line(text: &[u8], line: Span) -> Option<Head>
         agent: read_whole(fields.agent, 1, 64)? as u8,
         seq: read_whole(fields.seq, 1, 1_000_000)?,
         count: read_whole(fields.count, 0, 1_000)? as u16,
-        records_from: line.to + 1,
+        records_from: span.to + 1,
     })
 }
 
@@ -90,8 +89,8 @@ pub(crate) fn read_head(text: &[u8]) -> Result<Head, BatchFault>
         code: BatchCode::Head,
         line: 1,
     };
-    let Some(line) = next_line(text, 0) else {
+    let Some(span) = next_line(text, 0) else {
         return Err(fault);
     };
-    head_of_line(text, line).ok_or(fault)
+    head_of_line(text, span).ok_or(fault)
 }

@@ -12,14 +12,13 @@ pub use tags::Tags;
 mod batch;
 pub mod calendar;
 pub mod dates;
-pub mod digits;
+mod digits;
 mod fields;
 mod head;
+pub mod laws;
 mod lines;
 mod numbers;
 mod owned;
 mod records;
 mod tags;
-#[cfg(test)]
-mod tests;
 mod wholes;

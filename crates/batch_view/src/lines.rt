@@ -1,7 +1,7 @@
 //! Where the lines of a text stand.
 
 ghost use Rattle.std.specs.Prelude.{◌≡◌, ◌==◌, ◌≤◌, length, MatchOption};
-ghost use Rattle.batch_view.specs.Lines.{IsFirstLine, HasNoLine};
+ghost use Rattle.batch_view.specs.Inner.Lines.{IsFirstLine, HasNoLine};
 
 use crate::fields::{Span, find_byte};
 

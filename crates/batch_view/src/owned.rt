@@ -1,6 +1,6 @@
 //! Batches that keep their bytes.
 
-ghost use Rattle.std.specs.Prelude.{◌≡◌, Ok, IfOk};
+ghost use Rattle.std.specs.Prelude.{◌≡◌, Ok, IfOk, IfErr};
 ghost use Rattle.metering_model.specs.BatchReading.{batch_in};
 ghost use Rattle.batch_view.specs.Batches.{batch_of};
 ghost use Rattle.batch_view.specs.Offers.{IsOfferOf};
@@ -21,7 +21,7 @@ pub struct OwnedBatch {
 
 impl Model for OwnedBatch {
     ghost use Rattle.std.specs.Prelude.{ℕ, List};
-    ghost use Rattle.batch_view.specs.Lines.{IsHeadOf};
+    ghost use Rattle.batch_view.specs.Inner.Lines.{IsHeadOf};
 
     ghost Value = { List ℕ };
 
@@ -58,9 +58,11 @@ pub enum Offer {
 
 impl Offer {
     /// Keeps just these bytes where they are a batch, and else tells their first fault.
-    /// An error says that there was no memory to share the batch; the bytes are lost then.
+    /// An error says that there was no memory to share the batch; the bytes are lost then. It comes
+    /// for a batch alone: what is none is refused before any memory is taken.
     pub fn read(alloc: Global, bytes: Vec<u8>) -> Result<Offer, AllocError>
-        ensures { IfOk result (IsOfferOf bytes.items) }
+        ensures answer { IfOk result (IsOfferOf bytes.items) }
+        ensures want { IfErr result (λ _. batch_in bytes.items ≡ Ok (batch_of bytes.items)) }
     {
         match check_batch(&bytes) {
             Ok(head) => {

@@ -4,13 +4,16 @@ ghost use Rattle.std.specs.Prelude.{◌≡◌, ◌≢◌, ◌≤◌, ◌∷◌, 
 ghost use Rattle.metering_model.specs.FirstFailure.{holds_or};
 ghost use Rattle.metering_model.specs.Batch.{is_priced};
 ghost use Rattle.metering_model.specs.BatchReading.{is_same, kind_in, record_in, fields_in};
-ghost use Rattle.batch_view.specs.Parts.{LentText, IsPlaced, AreLentApart, lent, parts_at, texts_of};
-ghost use Rattle.batch_view.specs.TagTexts.{tag_of, tags_at, are_tags};
-ghost use Rattle.batch_view.specs.RecordSteps.{kind_step, stamp_step, order_step, text_step, key_step, value_step, sign_step, commitment_step, tags_step, whole_step};
-ghost use Rattle.batch_view.specs.Lent.{lent_tags, reading_tags, record_of, record_texts, texts_lent, line_text, IsLentRecord, reading_parts, amendment_parts, field_texts, record_of_reading, record_of_amendment};
+ghost use Rattle.batch_view.specs.Parts.{LentText, AreLentApart, lent, parts_at};
+ghost use Rattle.batch_view.specs.Inner.Placed.{IsPlaced, texts_of};
+ghost use Rattle.batch_view.specs.TagTexts.{tag_of, tags_at};
+ghost use Rattle.batch_view.specs.Inner.TagPieces.{are_tags};
+ghost use Rattle.batch_view.specs.Inner.RecordSteps.{kind_step, stamp_step, order_step, text_step, key_step, value_step, sign_step, commitment_step, tags_step, whole_step};
+ghost use Rattle.batch_view.specs.Lent.{lent_tags, reading_tags, record_of, record_texts, lent_fields, IsLentRecord};
+ghost use Rattle.batch_view.specs.Inner.LineFields.{reading_parts, amendment_parts, field_texts, record_of_reading, record_of_amendment};
 
 use crate::dates::Stamp;
-use crate::fields::{Field, Span, cut, field_at, is_text};
+use crate::fields::{Field, Span, field_at, is_text, split_at_byte};
 use crate::numbers::read_value;
 use crate::tags::Tags;
 use crate::wholes::read_whole;
@@ -18,7 +21,7 @@ use fx_money::Value;
 use metering_model::{BatchCode, Kind};
 
 /// What an agent metered. The value is in millionths.
-#[derive(Clone, Copy, Debug)]
+#[derive(Clone, Copy)]
 pub struct Reading<'a> {
     pub kind: Kind,
     pub start: Stamp,
@@ -43,7 +46,7 @@ impl<'a> Reading<'a> {
 }
 
 /// A record of a batch.
-#[derive(Clone, Copy, Debug)]
+#[derive(Clone, Copy)]
 pub enum Record<'a> {
     Reading(Reading<'a>),
     /// Gives the reading at that sequence and index of its agent another value.
@@ -81,49 +84,49 @@ fn is_priced(kind: Kind) -> bool
     }
 }
 
-#[tactic(auto, unfolding(crate::specs::RecordSteps::kind_step))]
+#[tactic(auto, unfolding(crate::specs::Inner::RecordSteps::kind_step))]
 fn read_kind(letter: &[u8]) -> Result<Kind, BatchCode>
     ensures { result ≡ kind_step letter.now }
 {
     kind_of(letter).ok_or(BatchCode::Fields)
 }
 
-#[tactic(auto, unfolding(crate::specs::RecordSteps::stamp_step))]
+#[tactic(auto, unfolding(crate::specs::Inner::RecordSteps::stamp_step))]
 fn read_stamp(text: &[u8]) -> Result<Stamp, BatchCode>
     ensures { result ≡ stamp_step text.now }
 {
     Stamp::read(text).ok_or(BatchCode::Time)
 }
 
-#[tactic(auto, unfolding(crate::specs::RecordSteps::order_step))]
+#[tactic(auto, unfolding(crate::specs::Inner::RecordSteps::order_step))]
 fn check_order(start: Stamp, end: Stamp) -> Result<(), BatchCode>
     ensures { result ≡ order_step start end }
 {
-    holds_or(start.seconds() < end.seconds(), BatchCode::Time)
+    holds_or(start < end, BatchCode::Time)
 }
 
-#[tactic(auto, unfolding(crate::specs::RecordSteps::text_step))]
+#[tactic(auto, unfolding(crate::specs::Inner::RecordSteps::text_step))]
 fn check_text(text: &[u8]) -> Result<(), BatchCode>
     ensures { result ≡ text_step text.now }
 {
     holds_or(is_text(text), BatchCode::Text)
 }
 
-#[tactic(auto, unfolding(crate::specs::RecordSteps::key_step))]
+#[tactic(auto, unfolding(crate::specs::Inner::RecordSteps::key_step))]
 fn check_key(text: &[u8]) -> Result<(), BatchCode>
     ensures { result ≡ key_step text.now }
 {
     holds_or(is_text(text) && !text.is_empty(), BatchCode::Text)
 }
 
-#[tactic(auto, unfolding(crate::specs::RecordSteps::value_step))]
+#[tactic(auto, unfolding(crate::specs::Inner::RecordSteps::value_step))]
 fn read_number(text: &[u8]) -> Result<Value, BatchCode>
     ensures { result ≡ value_step text.now }
 {
     read_value(text).ok_or(BatchCode::Number)
 }
 
-#[tactic(auto, unfolding(crate::specs::RecordSteps::sign_step))]
+#[tactic(auto, unfolding(crate::specs::Inner::RecordSteps::sign_step))]
 fn check_sign(kind: Kind, value: Value) -> Result<(), BatchCode>
     ensures { result ≡ sign_step kind value }
 {
@@ -133,7 +136,7 @@ fn check_sign(kind: Kind, value: Value) -> Result<(), BatchCode>
     )
 }
 
-#[tactic(auto, unfolding(crate::specs::RecordSteps::commitment_step))]
+#[tactic(auto, unfolding(crate::specs::Inner::RecordSteps::commitment_step))]
 fn check_commitment(kind: Kind, text: &[u8]) -> Result<(), BatchCode>
     ensures { result ≡ commitment_step kind text.now }
 {
@@ -143,7 +146,7 @@ fn check_commitment(kind: Kind, text: &[u8]) -> Result<(), BatchCode>
     )
 }
 
-#[tactic(auto, unfolding(crate::specs::RecordSteps::tags_step))]
+#[tactic(auto, unfolding(crate::specs::Inner::RecordSteps::tags_step))]
 fn read_tags<'a>(text: Field<'a>) -> Result<Tags<'a>, BatchCode>
     requires { IsPlaced (lent text) }
     ensures read { MatchResult result
@@ -155,7 +158,7 @@ fn read_tags<'a>(text: Field<'a>) -> Result<Tags<'a>, BatchCode>
     Tags::read(text).ok_or(BatchCode::Tags)
 }
 
-#[tactic(auto, unfolding(crate::specs::RecordSteps::whole_step))]
+#[tactic(auto, unfolding(crate::specs::Inner::RecordSteps::whole_step))]
 fn read_count(text: &[u8], low: u32, high: u32) -> Result<u32, BatchCode>
     requires { high ≤ 1_000_000 }
     ensures value { result ≡ whole_step low high text.now }
@@ -188,21 +191,21 @@ struct AmendmentFields<'a> {
 }
 
 /// The fields of a reading, if there are as many.
-#[tactic(auto, using(crate::proofs::Cuts::some_part))]
+#[tactic(auto, using(crate::proofs::PartLaws::some_part))]
 fn reading_fields<'a>(rest: Field<'a>) -> Option<ReadingFields<'a>>
     requires { IsPlaced (lent rest) }
     ensures none { IfNone result (length (parts_at 124 (lent rest.entry)) ≢ 8) }
     ensures some { IfSome result (λ f. parts_at 124 (lent rest.entry) ≡ reading_parts f) }
     ensures placed { IfSome result (λ f. IsPlaced (lent f.tags)) }
 {
-    let (start, rest) = cut(rest, b'|')?;
-    let (end, rest) = cut(rest, b'|')?;
-    let (account, rest) = cut(rest, b'|')?;
-    let (resource, rest) = cut(rest, b'|')?;
-    let (key, rest) = cut(rest, b'|')?;
-    let (value, rest) = cut(rest, b'|')?;
-    let (commitment, tags) = cut(rest, b'|')?;
-    match cut(tags, b'|') {
+    let (start, rest) = split_at_byte(rest, b'|')?;
+    let (end, rest) = split_at_byte(rest, b'|')?;
+    let (account, rest) = split_at_byte(rest, b'|')?;
+    let (resource, rest) = split_at_byte(rest, b'|')?;
+    let (key, rest) = split_at_byte(rest, b'|')?;
+    let (value, rest) = split_at_byte(rest, b'|')?;
+    let (commitment, tags) = split_at_byte(rest, b'|')?;
+    match split_at_byte(tags, b'|') {
         Some(_) => None,
         None => Some(ReadingFields {
             start,
@@ -218,22 +221,22 @@ fn reading_fields<'a>(rest: Field<'a>) -> Option<ReadingFields<'a>>
 }
 
 /// The fields of an amendment, if there are as many.
-#[tactic(auto, using(crate::proofs::Cuts::some_part))]
+#[tactic(auto, using(crate::proofs::PartLaws::some_part))]
 fn amendment_fields<'a>(rest: Field<'a>) -> Option<AmendmentFields<'a>>
     requires { IsPlaced (lent rest) }
     ensures none { IfNone result (length (parts_at 124 (lent rest.entry)) ≢ 3) }
     ensures some { IfSome result (λ f. parts_at 124 (lent rest.entry) ≡ amendment_parts f) }
 {
-    let (seq, rest) = cut(rest, b'|')?;
-    let (index, value) = cut(rest, b'|')?;
-    match cut(value, b'|') {
+    let (seq, rest) = split_at_byte(rest, b'|')?;
+    let (index, value) = split_at_byte(rest, b'|')?;
+    match split_at_byte(value, b'|') {
         Some(_) => None,
         None => Some(AmendmentFields { seq, index, value }),
     }
 }
 
 /// The reading of its fields, or the rule that the first bad one breaks.
-#[tactic(auto, unfolding(crate::specs::RecordSteps::reading_in))]
+#[tactic(auto, unfolding(crate::specs::Inner::RecordSteps::reading_in))]
 fn read_reading<'a>(letter: &[u8], fields: &ReadingFields<'a>) -> Result<Record<'a>, BatchCode>
     requires { IsPlaced (lent fields.now.tags) }
     ensures ok { IfOk result (λ r. record_of_reading letter.now fields.now ≡ Ok (record_of r)) }
@@ -268,7 +271,7 @@ fn read_reading<'a>(letter: &[u8], fields: &ReadingFields<'a>) -> Result<Record<
 }
 
 /// The amendment of its fields, or the rule that the first bad one breaks.
-#[tactic(auto, unfolding(crate::specs::RecordSteps::amendment_in))]
+#[tactic(auto, unfolding(crate::specs::Inner::RecordSteps::amendment_in))]
 fn read_amendment<'a>(fields: &AmendmentFields<'_>) -> Result<Record<'a>, BatchCode>
     ensures ok { IfOk result (λ r. record_of_amendment fields.now ≡ Ok (record_of r)) }
     ensures err { IfErr result (λ e. record_of_amendment fields.now ≡ Err e) }
@@ -296,7 +299,7 @@ fn amendment_behind<'a>(letter: &[u8], rest: Field<'_>) -> Result<Record<'a>, Ba
     ensures err { IfErr result (λ e.
         record_in (letter.now ∷ texts_of (parts_at 124 (lent rest.entry))) ≡ Err e) }
     ensures places { IfOk result (λ r. (letter : LentText) →
-        record_texts r ≡ texts_lent (letter ∷ parts_at 124 (lent rest.entry))) }
+        record_texts r ≡ lent_fields (letter ∷ parts_at 124 (lent rest.entry))) }
     ensures lent { IfOk result (λ r. record_texts r ≡ []) }
 {
     match amendment_fields(rest) {
@@ -314,7 +317,7 @@ fn reading_behind<'a>(letter: &[u8], rest: Field<'a>) -> Result<Record<'a>, Batc
     ensures err { IfErr result (λ e.
         record_in (letter.now ∷ texts_of (parts_at 124 (lent rest.entry))) ≡ Err e) }
     ensures places { IfOk result (λ r. (letter : LentText) →
-        record_texts r ≡ texts_lent (letter ∷ parts_at 124 (lent rest.entry))) }
+        record_texts r ≡ lent_fields (letter ∷ parts_at 124 (lent rest.entry))) }
     // What it lends is lent by the parts.
     ensures lent { IfOk result (λ r. (source : List ℕ) (from to : ℕ) →
         AreLentApart source from to (parts_at 124 (lent rest.entry))
@@ -326,21 +329,18 @@ fn reading_behind<'a>(letter: &[u8], rest: Field<'a>) -> Result<Record<'a>, Batc
     }
 }
 
-/// The record that a line of a batch is, or the rule that its first bad field breaks.
-pub(crate) fn read_record<'a>(source: &'a [u8], line: Span) -> Result<Record<'a>, BatchCode>
-    requires ordered { line.from ≤ line.to }
-    requires within { line.to ≤ length source.now }
+/// The record that the line at this span is, or the rule that its first bad field breaks.
+pub(crate) fn read_record<'a>(source: &'a [u8], span: Span) -> Result<Record<'a>, BatchCode>
+    requires ordered { span.from ≤ span.to }
+    requires within { span.to ≤ length source.now }
     requires short { length source.now ≤ 65536 }
     ensures ok { IfOk result (λ r.
-        record_in (fields_in (slice_range source.now line.from line.to)) ≡ Ok (record_of r)) }
-    ensures lent { IfOk result (IsLentRecord source.now line) }
+        record_in (fields_in (slice_range source.now span.from span.to)) ≡ Ok (record_of r)) }
     ensures err { IfErr result (λ e.
-        record_in (fields_in (slice_range source.now line.from line.to)) ≡ Err e) }
-    // Which parts of the line it lends, also where they are empty.
-    ensures places { IfOk result (λ r.
-        record_texts r ≡ texts_lent (parts_at 124 (line_text source.now line))) }
+        record_in (fields_in (slice_range source.now span.from span.to)) ≡ Err e) }
+    ensures lent { IfOk result (IsLentRecord source.now span) }
 {
-    match cut(field_at(source, line), b'|') {
+    match split_at_byte(field_at(source, span), b'|') {
         Some((letter, rest)) => {
             if is_amendment(letter.text) {
                 amendment_behind(letter.text, rest)
@@ -351,6 +351,3 @@ pub(crate) fn read_record<'a>(source: &'a [u8], line: Span) -> Result<Record<'a>
         None => Err(BatchCode::Fields),
     }
 }
-
-#[cfg(test)]
-mod tests;

@@ -4,13 +4,15 @@ ghost use Rattle.std.specs.Prelude.{◌≡◌, ◌∷◌, [], map, IsTrue, OnSom
 ghost use Rattle.std.specs.Option.{option_copied, option_map};
 ghost use Rattle.metering_model.specs.Batch.{is_below};
 ghost use Rattle.metering_model.specs.BatchReading.{tags_in};
-ghost use Rattle.batch_view.specs.Parts.{IsPlaced, lent, parts_at};
-ghost use Rattle.batch_view.specs.TagTexts.{tag_of, are_tags, key_in, if_above, rise_from, tags_at, IsFirstPiece};
+ghost use Rattle.batch_view.specs.Parts.{lent, parts_at};
+ghost use Rattle.batch_view.specs.Inner.Placed.{IsPlaced};
+ghost use Rattle.batch_view.specs.TagTexts.{tag_of, tags_at};
+ghost use Rattle.batch_view.specs.Inner.TagPieces.{are_tags, key_in, if_above, rise_from, IsFirstPiece};
 
-use crate::fields::{Field, Span, cut, is_text};
+use crate::fields::{Field, Span, is_text, split_at_byte};
 
 /// The tags of a reading, by rising keys: pairs of key and value.
-#[derive(Clone, Copy, Debug)]
+#[derive(Clone, Copy)]
 pub struct Tags<'a> {
     rest: Field<'a>,
     ghost placed: { IsPlaced (lent rest) },
@@ -22,7 +24,7 @@ fn tag_key<'a>(piece: Field<'a>) -> Option<&'a [u8]>
     requires { IsPlaced (lent piece) }
     ensures { option_copied result ≡ key_in piece.entry.text.now }
 {
-    let (key, _) = cut(piece, b'=')?;
+    let (key, _) = split_at_byte(piece, b'=')?;
     if is_text(piece.text) && !key.text.is_empty() {
         Some(key.text)
     } else {
@@ -53,7 +55,7 @@ fn keys_rise(text: Field<'_>) -> bool
 {
     let mut last: &[u8] = &[];
     let mut rest = text;
-    while let Some((piece, after)) = cut(rest, b';') {
+    while let Some((piece, after)) = split_at_byte(rest, b';') {
         match key_above(last, piece) {
             Some(key) => last = key,
             None => return false,
@@ -94,7 +96,7 @@ fn first_piece<'a>(text: Field<'a>) -> (Field<'a>, Field<'a>)
     ensures placed { IsPlaced (lent result.0) × IsPlaced (lent result.1) }
     ensures first { IsFirstPiece (lent text.entry) (lent result.0) (lent result.1) }
 {
-    match cut(text, b';') {
+    match split_at_byte(text, b';') {
         Some(parts) => parts,
         None => (text, end_of(text)),
     }
@@ -126,7 +128,7 @@ impl<'a> Tags<'a> {
             return None;
         }
         let (piece, rest) = first_piece(self.rest);
-        let pair = cut(piece, b'=')?;
+        let pair = split_at_byte(piece, b'=')?;
         Some((pair, Tags { rest }))
     }
 }

@@ -7,9 +7,7 @@ use std::alloc::{AllocError, Global};
 use std::marker::Model;
 
 /// One last sequence for each agent, of 1 to 64 agents; 0 where none of the agent's batches is charged.
-///
-/// A cut keeps the room that it was made with, so that only making one takes memory.
-#[derive(Debug, Drop)]
+#[derive(Drop)]
 pub struct Cut {
     entries: Vec<u32>,
 }
@@ -37,7 +35,7 @@ impl Cut {
         })
     }
 
-    /// An equal cut of its own.
+    /// An equal cut in room of its own.
     pub fn copy(&self, alloc: Global) -> Result<Cut, AllocError>
         ensures { IfOk result (λ cut. cut ≡ self.now) }
     {
@@ -46,7 +44,7 @@ impl Cut {
         })
     }
 
-    /// How many agents the cut has; they are numbered from 1.
+    /// How many agents the cut has, from 1 to 64; they are numbered from 1.
     pub fn agents(&self) -> u8
         ensures value { result ≡ length self.now }
         ensures within { IsCut self.now }
@@ -54,7 +52,7 @@ impl Cut {
         self.entries.len() as u8
     }
 
-    /// The last sequence of an agent.
+    /// The last sequence of an agent, at most 1,000,000; 0 where none is charged.
     pub fn get(&self, agent: u8) -> u32
         requires from { 1 ≤ agent }
         requires to { agent ≤ length self.now }

@@ -1,7 +1,13 @@
-//! What the bounds of periods are to one another. Each law is a function with an empty body.
+//! What the bounds of periods are to one another, and what comparisons say. Each law is a function
+//! with an empty body.
 
-ghost use Rattle.std.specs.Prelude.{◌≡◌, ℕ, ◌+◌, ◌<◌, ◌<ℤ◌, ◌≤ℤ◌, Some};
+ghost use Rattle.std.specs.Prelude.{◌≡◌, ◌↔◌, ℕ, ◌+◌, ◌<◌, ◌<ℤ◌, ◌≤ℤ◌, IsTrue, Some};
+ghost use Rattle.std.specs.Ordering.{nat_cmp};
+ghost use Rattle.metering_model.specs.Cut.{Cut as ModelCut, IsAtLeast};
 ghost use Rattle.metering_model.specs.Dates.{month_start, period_start, period_end, period_start_text, period_end_text, stamp_in, IsBaseMonth, IsPeriod};
+
+use crate::months::Month;
+use crate::periods::Period;
 
 /// Periods follow one another without a gap: each has its moments to itself.
 pub fn periods_follow_one_another()
@@ -24,4 +30,24 @@ pub fn period_texts_are_of_the_bounds()
         stamp_in (period_start_text base p) ≡ Some (period_start base p) }
     ensures end { (base p : ℕ) → IsBaseMonth base → IsPeriod p →
         stamp_in (period_end_text base p) ≡ Some (period_end base p) }
+{}
+
+/// Months are equal where they are the same month, and ordered as they come.
+pub fn months_are_compared_by_number(a: Month, b: Month)
+    ensures equality { IsTrue (⟦<Month as PartialEq>⟧.eq a b) ↔ (a ≡ b) }
+    ensures order { ⟦<Month as PartialOrd>⟧.partial_cmp a b ≡ Some (nat_cmp a b) }
+{}
+
+/// Periods are equal where their numbers are, and ordered as they come.
+pub fn periods_are_compared_by_number(a: Period, b: Period)
+    ensures equality { IsTrue (⟦<Period as PartialEq>⟧.eq a b) ↔ (a ≡ b) }
+    ensures order { ⟦<Period as PartialOrd>⟧.partial_cmp a b ≡ Some (nat_cmp a b) }
+{}
+
+/// Cuts are ordered by all agents at once: a cut is at least itself, what is at least a cut is at
+/// least all that the cut is at least, and cuts that are at least each other are equal.
+pub fn cuts_are_ordered_by_all_agents()
+    ensures itself { (cut : ModelCut) → IsAtLeast cut cut }
+    ensures onward { (a b c : ModelCut) → IsAtLeast a b → IsAtLeast b c → IsAtLeast a c }
+    ensures both { (a b : ModelCut) → IsAtLeast a b → IsAtLeast b a → a ≡ b }
 {}

@@ -5,8 +5,6 @@ mod cuts;
 pub mod laws;
 mod months;
 mod periods;
-#[cfg(test)]
-mod tests;
 
 pub use cuts::Cut;
 pub use months::Month;

@@ -14,7 +14,7 @@ const FIRST_BASE_MONTH: u32 = MONTHS_PER_YEAR * 2000;
 const LAST_BASE_MONTH: u32 = MONTHS_PER_YEAR * 2100 + 11;
 
 /// A month of the years 0001 to 9999, in UTC.
-#[derive(Clone, Copy, Debug, PartialEq, Eq, PartialOrd, Ord, Hash)]
+#[derive(Clone, Copy, Debug, PartialEq, Eq, PartialOrd, Ord)]
 pub struct Month {
     number: u32,
 }

@@ -11,7 +11,7 @@ const PERIODS: u16 = 1_200;
 /// A billing period; period 0 is the base month.
 ///
 /// A base month that is handed in is one by [`Month::is_base`]. No call takes memory.
-#[derive(Clone, Copy, Debug, PartialEq, Eq, PartialOrd, Ord, Hash)]
+#[derive(Clone, Copy, Debug, PartialEq, Eq, PartialOrd, Ord)]
 pub struct Period {
     number: u16,
 }

@@ -1,7 +1,7 @@
 use Rattle.std.proofs.Common.{◌≡◌, suc, ◌+◌, drop, Err, sym, ap, subst, ◌∙◌, arith}
 use Rattle.std.proofs.lemmas.List.{drop-drop}
 use Rattle.metering_model.specs.BatchReading.{lines_in}
-use Rattle.batch_view.specs.Lines.{IsBehindLines, first_record}
+use Rattle.batch_view.specs.Inner.Lines.{IsBehindLines, first_record}
 use Rattle.batch_view.proofs.LineLemmas.{one_more_line}
 use Rattle.batch_view.proofs.RecordLemmas.{fault_at, one_more_record}
 use Rattle.batch_view.proofs.batch.check_records.Goals as goal
@@ -21,7 +21,7 @@ loop-index-preserved c =
     let lines = (lines_in c.args.text.now).lines in
     let index = c.loop-index.index in
     let lends = c.in-Ok.ensures in
-    let line = one_more_line c.args.text.now (index + 1) c.loop-index.at lends.line c.loop-index.invariant.behind lends.is_line in
+    let line = one_more_line c.args.text.now (index + 1) c.loop-index.at lends.span c.loop-index.invariant.behind lends.is_line in
     let next : 1 + index ≡ index + 1 = omega arith in
     let read = ap first_record (drop-drop index 1 lines ∙ ap (λ n. drop n lines) next ∙ line.left) ∙ lends.record_is in
     let more : suc index ≡ index + 1 = omega arith in

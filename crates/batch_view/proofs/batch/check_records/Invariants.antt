@@ -1,6 +1,6 @@
 use Rattle.std.proofs.Common.{◌+◌, drop, IsOk}
 use Rattle.metering_model.specs.BatchReading.{lines_in, records_in}
-use Rattle.batch_view.specs.Lines.{IsBehindLines}
+use Rattle.batch_view.specs.Inner.Lines.{IsBehindLines}
 use Rattle.batch_view.proofs.batch.check_records.Given as goal
 
 -- The records so far are well, and `at` stands behind them.

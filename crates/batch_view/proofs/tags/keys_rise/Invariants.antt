@@ -1,7 +1,8 @@
 -- The pieces that are left rise from above the last key just if all of them rise.
 use Rattle.std.proofs.Common.{◌≡◌, [], Some, length}
-use Rattle.batch_view.specs.Parts.{IsPlaced, lent, parts_at}
-use Rattle.batch_view.specs.TagTexts.{rise_from}
+use Rattle.batch_view.specs.Parts.{lent, parts_at}
+use Rattle.batch_view.specs.Inner.Placed.{IsPlaced}
+use Rattle.batch_view.specs.Inner.TagPieces.{rise_from}
 use Rattle.batch_view.proofs.tags.keys_rise.Given as goal
 
 abbrev pub invariant-loop-piece : goal.invariant-loop-piece

@@ -1,6 +1,6 @@
 use Rattle.std.proofs.Common.{◌≡◌, ◌+◌, ◌<◌, length, subst, arith}
 use Rattle.batch_view.specs.Batches.{batch_of}
-use Rattle.batch_view.specs.Lines.{IsBehindLines}
+use Rattle.batch_view.specs.Inner.Lines.{IsBehindLines}
 use Rattle.batch_view.proofs.LineLemmas.{one_more_line}
 use Rattle.batch_view.proofs.BatchLemmas.{IsRecordOf, never_fails, never_lacks, record_read}
 use Rattle.batch_view.proofs.batch.BatchView.record_at.Goals as goal

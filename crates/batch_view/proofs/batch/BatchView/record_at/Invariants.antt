@@ -1,5 +1,5 @@
 use Rattle.std.proofs.Common.{◌+◌}
-use Rattle.batch_view.specs.Lines.{IsBehindLines}
+use Rattle.batch_view.specs.Inner.Lines.{IsBehindLines}
 use Rattle.batch_view.proofs.batch.BatchView.record_at.Given as goal
 
 -- as many records lie before `at` as were passed over

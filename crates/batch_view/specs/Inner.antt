@@ -1,0 +1,5 @@
+pub mod Placed
+pub mod TagPieces
+pub mod RecordSteps
+pub mod LineFields
+pub mod Lines
