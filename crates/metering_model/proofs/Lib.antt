@@ -19,7 +19,18 @@ pub mod RoundingLaws
 pub mod BatchOrder
 pub mod HoldingLaws
 pub mod AgreementLaws
-mod Samples
+pub mod MonthOrder
+pub mod MonthTexts
+pub mod LineFeeds
+pub mod Places
+pub mod QuantityBounds
+pub mod ValueBounds
+pub mod EachRow
+pub mod SheetLaws
+pub mod ChargeBounds
+pub mod PriceTexts
+pub mod PriceLaws
+pub mod Samples
 mod WorkedNumbers
 mod WorkedBatches
 mod WorkedRates
