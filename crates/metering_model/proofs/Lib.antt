@@ -37,4 +37,5 @@ mod WorkedRates
 mod WorkedRows
 mod WorkedBallots
 mod WorkedPeriods
-mod WorkedSheets
+pub mod WorkedSheets
+mod WorkedLimits
