@@ -1,13 +1,15 @@
--- The price in force is a row of the SKU that has begun, and none that has begun is later.
-use Rattle.std.proofs.Common.{◌≡◌, ℕ, Bool, true, false, ◌&&◌, List, [], ◌∷◌, ◌++◌, filter, Option, Some, None, ℤ, ◌≤ℤ◌, ◌<ℤ◌, refl, sym, ap, subst, ◌∙◌, inl, inr, eq-eqb, arith}
+-- The price in force is a row of the SKU that has begun, none that has begun is later, and no other begins on its day.
+use Rattle.std.proofs.Common.{◌≡◌, ℕ, zero, suc, ◌<◌, Bool, true, false, not, ◌&&◌, List, [], ◌∷◌, ◌++◌, length, get_or, filter, Option, Some, None, ℤ, ◌≤ℤ◌, ◌<ℤ◌, refl, sym, ap, subst, ◌∙◌, inl, inr, eq-eqb, arith}
 use Rattle.std.specs.Prelude.{All, int_le, int_lt, ◌==◌}
-use Rattle.std.specs.List.{Contains}
-use Rattle.std.proofs.lemmas.Bool.{and_parts, and_from, and_right, cond-true, cond-false, cases_Bool}
+use Rattle.std.specs.List.{Contains, list_any}
+use Rattle.std.specs.Ordering.{int_eq}
+use Rattle.std.proofs.lemmas.Bool.{and_parts, and_from, and_right, or_parts, not-true, false≢true, cond-true, cond-false, cases_Bool}
 use Rattle.std.proofs.lemmas.Int.{ints}
 use Rattle.std.proofs.lemmas.Option.{same_Some, none-some}
 use Rattle.std.proofs.lemmas.List.Elements.{All-nil, All-cons, All-head, All-tail, All-weaker, All-contains_itself, filter-append}
 use Rattle.metering_model.specs.BatchReading.{is_same}
 use Rattle.metering_model.specs.Sheet.{Sheet, PriceRow}
+use Rattle.metering_model.specs.SheetRules.{are_apart, has_same_key, IsSheet}
 use Rattle.metering_model.specs.PriceInForce.{later_of, latest, price_in_force}
 use Rattle.metering_model.proofs.FieldLaws.{same_read}
 use Rattle.metering_model.proofs.SheetLaws.{latest_has}
@@ -144,3 +146,52 @@ module _ (sku : List ℕ) (day : ℤ) where
       (filter-append has_begun before (q ∷ after)
       ∙ (ap (λ rs. filter has_begun before ++ rs) (cond-false (has_begun q) (q ∷ filter has_begun after) (filter has_begun after) (fails q (λ _. later)))
       ∙ sym (filter-append has_begun before after)))
+
+-- ---- of a sheet that keeps its rules, no other row of the SKU begins on that day
+
+none_passes : {A : Type 0} (p : A → Bool) (xs : List A) → list_any p xs ≡ false → All (λ x. p x ≡ false) xs
+none_passes p [] e = All-nil (λ x. p x ≡ false)
+none_passes p (x ∷ xs) e =
+    let parts = or_parts (p x) (list_any p xs) e in
+    All-cons (λ y. p y ≡ false) x xs parts.0 (none_passes p xs parts.1)
+
+-- of elements that are apart, none but an element itself is like it
+apart_only : {A : Type 0} (alike : A → A → Bool) → ((x y : A) → alike x y ≡ true → alike y x ≡ true) → (xs : List A) → are_apart alike xs ≡ true →
+    (k : ℕ) (d : A) → k < length xs → All (λ q. alike (get_or xs k d) q ≡ true → q ≡ get_or xs k d) xs
+apart_only alike turned [] apart k d inside = absurd (omega arith)
+apart_only alike turned (x ∷ xs) apart zero d inside =
+    let parts = and_parts (not (list_any (alike x) xs)) (are_apart alike xs) apart in
+    let others = none_passes (alike x) xs (not-true _ parts.0) in
+    All-cons (λ q. alike x q ≡ true → q ≡ x) x xs (λ _. refl)
+    (All-weaker (λ q. alike x q ≡ false) (λ q. alike x q ≡ true → q ≡ x) (λ q no yes. absurd (false≢true (sym no ∙ yes))) xs others)
+apart_only alike turned (x ∷ xs) apart (suc k) d inside =
+    let parts = and_parts (not (list_any (alike x) xs)) (are_apart alike xs) apart in
+    let others = none_passes (alike x) xs (not-true _ parts.0) in
+    let p = get_or xs k d in
+    All-cons (λ q. alike p q ≡ true → q ≡ p) x xs
+    (λ yes. absurd (false≢true (sym (others k d (omega arith)) ∙ turned p x yes)))
+    (apart_only alike turned xs parts.1 k d (omega arith))
+
+same_from : (a b : ℤ) → a ≡ b → int_eq a b ≡ true
+same_from a b e = grind (arith, ints)
+
+from_same : (a b : ℤ) → int_eq a b ≡ true → a ≡ b
+from_same a b h = grind (arith, ints)
+
+alike_rows : (p q : PriceRow) → p.sku ≡ q.sku → p.from ≡ q.from → has_same_key p q ≡ true
+alike_rows p q sku from = and_from _ _ (ap (λ t. is_same t q.sku) sku ∙ same_text q.sku) (same_from p.from q.from from)
+
+turned_rows : (p q : PriceRow) → has_same_key p q ≡ true → has_same_key q p ≡ true
+turned_rows p q h =
+    let parts = and_parts (is_same p.sku q.sku) (int_eq p.from q.from) h in
+    alike_rows q p (sym (same_read p.sku q.sku parts.0)) (sym (from_same p.from q.from parts.1))
+
+pub in_force_alone : (sheet : Sheet) (sku : List ℕ) (day : ℤ) (p : PriceRow) → IsSheet sheet → price_in_force sheet sku day ≡ Some p →
+    All (λ q. q.sku ≡ sku → q.from ≡ p.from → q ≡ p) sheet.prices
+in_force_alone sheet sku day p ok e =
+    let begun = in_force_begun sku day sheet p e in
+    let there = begun.0 in
+    let only = apart_only has_same_key turned_rows sheet.prices ok.one_price there.0 p there.1 in
+    let only_p = subst (λ x. All (λ q. has_same_key x q ≡ true → q ≡ x) sheet.prices) there.2 only in
+    All-weaker (λ q. has_same_key p q ≡ true → q ≡ p) (λ q. q.sku ≡ sku → q.from ≡ p.from → q ≡ p)
+    (λ q h same from. h (alike_rows p q (begun.1 ∙ sym same) (sym from))) sheet.prices only_p

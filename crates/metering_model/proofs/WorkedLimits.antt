@@ -1,11 +1,11 @@
 -- How near amounts come to their limits, and what passes them where a sheet or an amendment breaks its rule.
-use Rattle.std.specs.Prelude.{◌≡◌, ◌<◌, ℕ, [], ◌∷◌, Some, None, ℤ, pos, negsuc, ◌≤ℤ◌, unsigned_abs, codes}
+use Rattle.std.specs.Prelude.{◌≡◌, ◌<◌, [], ◌∷◌, Some, None, pos, negsuc, ◌≤ℤ◌, codes}
 use Rattle.std.proofs.Common.{refl, arith}
 use Rattle.std.proofs.lemmas.Int.{ints}
 use Rattle.metering_model.specs.NumberText.{cost_limit}
-use Rattle.metering_model.specs.Batch.{Reading, Reads, Amends, Batch}
+use Rattle.metering_model.specs.Batch.{Reading, Reads, Amends}
 use Rattle.metering_model.specs.declared.Kind.TheVariants.{Usage}
-use Rattle.metering_model.specs.Sheet.{PriceRow, Sheet}
+use Rattle.metering_model.specs.Sheet.{PriceRow}
 use Rattle.metering_model.specs.Holding.{Holding, records_in_order}
 use Rattle.metering_model.specs.ValueAtSequence.{value_at}
 use Rattle.metering_model.specs.Rating.{cost_at, rated, Usage as PricedUsage}

@@ -102,14 +102,18 @@ pub fn values_and_prices_are_read_back()
     ensures prices { (n : ℕ) → n < price_limit → price_in (spelling 6 (pos n)) ≡ Ok n }
 {}
 
-/// The price in force on a day is a row of the SKU that has begun, and of those that have begun none is later.
-/// There is none exactly where no row of the SKU has begun, and a row that begins after the day changes nothing.
+/// The price in force on a day is a row of the SKU that has begun, and of those that have begun none is later; on a
+/// sheet that keeps its rules no other begins on the same day. There is none exactly where no row of the SKU has
+/// begun, and a row that begins after the day changes nothing.
 pub fn the_price_in_force_is_the_latest_that_has_begun()
     ensures has_begun { (sheet : Sheet) (sku : List ℕ) (day : ℤ) (p : PriceRow) →
         price_in_force sheet sku day ≡ Some p → Contains sheet.prices p × (p.sku ≡ sku) × (p.from ≤ℤ day) }
     ensures latest { (sheet : Sheet) (sku : List ℕ) (day : ℤ) (p : PriceRow) →
         price_in_force sheet sku day ≡ Some p →
         All (λ q. q.sku ≡ sku → q.from ≤ℤ day → q.from ≤ℤ p.from) sheet.prices }
+    ensures alone { (sheet : Sheet) (sku : List ℕ) (day : ℤ) (p : PriceRow) →
+        IsSheet sheet → price_in_force sheet sku day ≡ Some p →
+        All (λ q. q.sku ≡ sku → q.from ≡ p.from → q ≡ p) sheet.prices }
     ensures none { (sheet : Sheet) (sku : List ℕ) (day : ℤ) →
         (price_in_force sheet sku day ≡ None) ↔ All (λ q. q.sku ≡ sku → day <ℤ q.from) sheet.prices }
     ensures later { (sheet : Sheet) (before after : List PriceRow) (q : PriceRow) (sku : List ℕ) (day : ℤ) →
