@@ -9,6 +9,7 @@ use Rattle.std.proofs.lemmas.List.Elements.{All-head}
 use Rattle.metering_model.specs.NumberText.{worth_of, decimals_of}
 use Rattle.metering_model.specs.Dates.{stamp_in, period_end_text}
 use Rattle.metering_model.specs.Batch.{Batch, Reads}
+use Rattle.metering_model.specs.BatchReading.{Lines, lines_in}
 use Rattle.metering_model.specs.Cut.{Cut, last_of}
 use Rattle.metering_model.specs.Sheet.{PriceRow, Sheet, Issuer}
 use Rattle.metering_model.specs.SheetRules.{is_label}
@@ -18,12 +19,12 @@ use Rattle.metering_model.specs.declared.PricedKind.TheVariants.{Usage}
 use Rattle.metering_model.specs.Rating.{costs, rated, pricing_quantity}
 use Rattle.metering_model.specs.Row.{Row, row, New}
 use Rattle.metering_model.specs.Rows.{placed_rows, rows}
-use Rattle.metering_model.specs.File.{file}
+use Rattle.metering_model.specs.File.{header_line, file}
 use Rattle.metering_model.specs.Totals.{Amounts, amounts_of, added_up, sum_of, at_place, rows_of_place, totals}
 use Rattle.metering_model.proofs.DateLaws.{stamp_written}
 use Rattle.metering_model.proofs.Samples.{january_2025, cpu, ops, sheet_0, sheet_1, issuer_1}
 use Rattle.row_laws.specs.Charged.{last_cut, files, is_new, charged_at_once, charges_up_to}
-use Rattle.row_laws.specs.Columns.{sum_of_first_column}
+use Rattle.row_laws.specs.Columns.{line_of_row, sum_of_first_column}
 use Rattle.row_laws.specs.Due.{StartsBeforeItsPeriodEnds}
 use Rattle.row_laws.proofs.WorkedJournals.{corrected, credit, january, journals, place}
 
@@ -96,6 +97,17 @@ a_line_feed_breaks_the_sum : sum_of_first_column (map file (files fed_sheet issu
 a_line_feed_breaks_the_sum e =
     let billed : pos 100_120_000_000_000 ≡ pos 120_000_000_000 = same_Some (pos 100_120_000_000_000) (pos 120_000_000_000) (sym read_with_line_feed ∙ e) in
     omega (arith, ints)
+
+-- two lines more than the header's, of one row
+read_as_three_lines : length (lines_in (file (rows fed_sheet issuer_1 first_batch 0 (0 ∷ []) (1 ∷ [])))).lines ≡ 3
+unfolding days_from_civil day_count days_of_years days_of_months worth_of decimals_of digits
+read_as_three_lines = refl
+
+a_line_feed_breaks_the_row : lines_in (file (rows fed_sheet issuer_1 first_batch 0 (0 ∷ []) (1 ∷ [])))
+    ≡ record { lines = header_line ∷ map line_of_row (rows fed_sheet issuer_1 first_batch 0 (0 ∷ []) (1 ∷ [])); rest = [] } → ⊥
+a_line_feed_breaks_the_row e =
+    let lines : ◌≡◌ {A = ℕ} 3 2 = sym read_as_three_lines ∙ ap (λ (ls : Lines). length ls.lines) e in
+    omega arith
 
 -- so does one in a text of the issuer
 abbrev fed_issuer : Issuer

@@ -8,7 +8,7 @@ use Rattle.std.proofs.lemmas.List.Folds.{flat_map-map}
 use Rattle.std.proofs.lemmas.List.Elements.{All-nil, All-cons, All-head, All-tail, All-append, All-weaker}
 use Rattle.metering_model.specs.NumberText.{number_in, spelling, value_limit, cost_limit}
 use Rattle.metering_model.specs.Batch.{Reading, IsRecord, IsReading, lacks}
-use Rattle.metering_model.specs.BatchReading.{Lines, all_some, with_first}
+use Rattle.metering_model.specs.BatchReading.{Lines, lines_in, all_some, with_first}
 use Rattle.metering_model.specs.Cut.{Cut, IsGrowing, zero_cut, last_of}
 use Rattle.metering_model.specs.Sheet.{Sheet, Issuer}
 use Rattle.metering_model.specs.Holding.{Holding, IsHolding, Placed}
@@ -22,7 +22,7 @@ use Rattle.metering_model.proofs.Splitting.{ended, lines_of_text}
 use Rattle.metering_model.specs.SheetRules.{IsSheet, IsIssuer}
 use Rattle.metering_model.specs.Totals.{amounts_of, amounts_in, sum_of}
 use Rattle.row_laws.specs.Charged.{last_cut, charges_up_to, files_over, files, all_rows}
-use Rattle.row_laws.specs.Columns.{data_lines, is_comma, first_number, sum_of_first_column}
+use Rattle.row_laws.specs.Columns.{line_of_row, data_lines, is_comma, first_number, sum_of_first_column}
 use Rattle.row_laws.proofs.Sums.{sum_of_is, sum-map}
 use Rattle.metering_model.proofs.ValueBounds.{value_small}
 use Rattle.metering_model.proofs.ChargeBounds.{charge_within_limits}
@@ -30,10 +30,6 @@ use Rattle.metering_model.proofs.EachRow.{records_have, rows_have}
 use Rattle.metering_model.proofs.LineFeeds.{line_lacks_feed, spelling_quoted, spelling_lacks_comma}
 use Rattle.row_laws.proofs.FieldFeeds.{fields_one_line}
 use Rattle.row_laws.proofs.TotalLaws.{totals_of_files}
-
--- a row's line, without its line feed
-abbrev line_of_row : Row → List ℕ
-line_of_row x = join_with_byte 44 (map quoted (fields_of_row x))
 
 -- Its line has no line feed, and its billed cost has a spelling.
 pub record HasLine (x : Row) : Type 0 where
@@ -52,11 +48,12 @@ lines_lack_feeds : (xs : List Row) → All HasLine xs → list_all (lacks 10) (m
 lines_lack_feeds [] all = refl
 lines_lack_feeds (x ∷ xs) all = and_from _ _ (All-head HasLine x xs all).one (lines_lack_feeds xs (All-tail HasLine x xs all))
 
--- so its data lines are its rows' lines
+-- so these are its lines, with nothing behind the last line feed
+lines_of_file : (xs : List Row) → All HasLine xs → lines_in (file xs) ≡ record { lines = header_line ∷ map line_of_row xs; rest = [] }
+lines_of_file xs all = ap lines_in (file_of_lines xs) ∙ lines_of_text (header_line ∷ map line_of_row xs) (and_from _ _ refl (lines_lack_feeds xs all))
+
 data_lines_of_file : (xs : List Row) → All HasLine xs → data_lines (file xs) ≡ map line_of_row xs
-data_lines_of_file xs all =
-    ap data_lines (file_of_lines xs)
-    ∙ ap (λ (ls : Lines). drop 1 ls.lines) (lines_of_text (header_line ∷ map line_of_row xs) (and_from _ _ refl (lines_lack_feeds xs all)))
+data_lines_of_file xs all = ap (λ (ls : Lines). drop 1 ls.lines) (lines_of_file xs all)
 
 -- the number that a row's line begins with is the billed cost
 first_number_of_line : (x : Row) → HasLine x → first_number (line_of_row x) ≡ Some x.billed_cost
@@ -115,6 +112,10 @@ module _ (sheet : Sheet) (issuer : Issuer) (h : Holding) (ok : IsHolding h) (lim
       (records_have (λ (x : Placed). IsRecord x.what) to h (λ k d inside _.
       let b = get_or h k d in
       All-weaker IsRecord (λ r. (i : ℕ) → IsRecord r) (λ r rule i. rule) b.records (ok.batches k d inside).records))
+
+  pub one_line_each : (period : ℕ) (from to : Cut) →
+      lines_in (file (rows sheet issuer h period from to)) ≡ record { lines = header_line ∷ map line_of_row (rows sheet issuer h period from to); rest = [] }
+  one_line_each period from to = lines_of_file (rows sheet issuer h period from to) (rows_have_lines period from to)
 
   files_have_lines : (period : ℕ) (before : Cut) (cuts : List Cut) → All HasLine (all_rows (files_over sheet issuer h period before cuts))
   files_have_lines period before [] = All-nil HasLine

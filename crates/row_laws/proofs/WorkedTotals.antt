@@ -7,23 +7,24 @@ use Rattle.std.proofs.lemmas.Bool.{cases_Bool, cond-true, cond-false}
 use Rattle.std.proofs.lemmas.Option.{none-some}
 use Rattle.metering_model.specs.NumberText.{worth_of, decimals_of}
 use Rattle.metering_model.specs.Batch.{Batch}
+use Rattle.metering_model.specs.BatchReading.{lines_in}
 use Rattle.metering_model.specs.Cut.{last_of}
 use Rattle.metering_model.specs.Holding.{held, is_batch_at}
 use Rattle.metering_model.specs.ValueAtSequence.{value_at}
 use Rattle.metering_model.specs.Front.{IsDueAt, AreDueBetween}
 use Rattle.metering_model.specs.Rows.{placed_rows, rows}
-use Rattle.metering_model.specs.File.{file}
+use Rattle.metering_model.specs.File.{header_line, file}
 use Rattle.metering_model.specs.Totals.{amounts_of, added_up, sum_of, at_place, rows_of_place, totals}
 use Rattle.metering_model.proofs.BatchOrder.{place_of_batch}
 use Rattle.metering_model.proofs.Samples.{january_2025, sheet_1, issuer_1}
 use Rattle.metering_model.proofs.WorkedSheets.{sheet_1_is_a_sheet, issuer_1_is_an_issuer}
 use Rattle.row_laws.specs.Charged.{last_cut, files, all_rows, is_new, charged_at_once, charges_up_to}
-use Rattle.row_laws.specs.Columns.{sum_of_first_column}
+use Rattle.row_laws.specs.Columns.{line_of_row, sum_of_first_column}
 use Rattle.row_laws.specs.Due.{StartsBeforeItsPeriodEnds}
 use Rattle.row_laws.proofs.TotalLaws.{totals_of_place, totals_of_files}
 use Rattle.row_laws.proofs.PartLaws.{rows_stay}
 use Rattle.row_laws.proofs.DueLaws.{files_start_before}
-use Rattle.row_laws.proofs.FileLaws.{texts_add_up}
+use Rattle.row_laws.proofs.FileLaws.{one_line_each, texts_add_up}
 use Rattle.row_laws.proofs.WorkedJournals.{corrected, committed, halved, credit, january, february, journals, two_cuts, place, january_alone_is_a_holding, journals_are_a_holding, two_cuts_grow}
 
 -- ---- totals of one reading
@@ -164,6 +165,9 @@ read_back = refl
 
 texts_are_billed : sum_of_first_column (map file (files sheet_1 issuer_1 journals 1 two_cuts)) ≡ Some (sum_of (λ x. x.billed) (charges_up_to sheet_1 journals (last_cut 1 two_cuts)))
 texts_are_billed = texts_add_up sheet_1 issuer_1 journals journals_are_a_holding sheet_1_is_a_sheet issuer_1_is_an_issuer 1 two_cuts two_cuts_grow
+
+lines_of_january : lines_in (file (rows sheet_1 issuer_1 journals 0 (0 ∷ []) (1 ∷ []))) ≡ record { lines = header_line ∷ map line_of_row (rows sheet_1 issuer_1 journals 0 (0 ∷ []) (1 ∷ [])); rest = [] }
+lines_of_january = one_line_each sheet_1 issuer_1 journals journals_are_a_holding sheet_1_is_a_sheet issuer_1_is_an_issuer 0 (0 ∷ []) (1 ∷ [])
 
 -- ---- rows stay
 

@@ -1,9 +1,15 @@
--- What the bytes of files say in their first column, which is BilledCost.
+-- The lines of files, and what their bytes say in the first column, which is BilledCost.
 use Rattle.std.specs.Prelude.{ℕ, Bool, ◌==◌, List, map, drop, Option, ℤ, option_map}
-use Rattle.std.specs.List.{before_first, flat_map}
+use Rattle.std.specs.List.{before_first, flat_map, join_with_byte}
 use Rattle.metering_model.specs.NumberText.{number_in}
 use Rattle.metering_model.specs.BatchReading.{lines_in, all_some}
+use Rattle.metering_model.specs.Row.{Row}
+use Rattle.metering_model.specs.File.{quoted, fields_of_row}
 use Rattle.metering_model.specs.Totals.{sum_of}
+
+-- a row's line, without its line feed
+abbrev pub line_of_row : Row → List ℕ
+line_of_row r = join_with_byte 44 (map quoted (fields_of_row r))
 
 -- the lines of a file behind its header line
 abbrev pub data_lines : List ℕ → List (List ℕ)

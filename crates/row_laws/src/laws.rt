@@ -1,9 +1,10 @@
 //! What the files of all periods say together. Each law is a function with an empty body.
 
-ghost use Rattle.std.specs.Prelude.{◌≡◌, ℕ, ◌≤◌, ◌<◌, ◌&&◌, nat_le, nat_lt, if◌then◌else◌, List, [], length, map, filter, All, Option, Some, None};
+ghost use Rattle.std.specs.Prelude.{◌≡◌, ℕ, ◌≤◌, ◌<◌, ◌&&◌, nat_le, nat_lt, if◌then◌else◌, List, [], ◌∷◌, length, map, filter, All, Option, Some, None};
 ghost use Rattle.std.specs.Option.{option_to_list};
 ghost use Rattle.metering_model.specs.Dates.{IsBaseMonth, IsPeriod};
 ghost use Rattle.metering_model.specs.Batch.{Reading};
+ghost use Rattle.metering_model.specs.BatchReading.{lines_in};
 ghost use Rattle.metering_model.specs.Cut.{Cut, IsAtLeast, IsGrowing, last_of};
 ghost use Rattle.metering_model.specs.Sheet.{Sheet, Issuer};
 ghost use Rattle.metering_model.specs.SheetRules.{IsSheet, IsIssuer};
@@ -11,11 +12,11 @@ ghost use Rattle.metering_model.specs.Holding.{Holding, IsHolding, IsPartOf, Lac
 ghost use Rattle.metering_model.specs.ValueAtSequence.{value_at};
 ghost use Rattle.metering_model.specs.Front.{AreDueBetween};
 ghost use Rattle.metering_model.specs.Rows.{placed_rows, row_of_reading, rows};
-ghost use Rattle.metering_model.specs.File.{file};
+ghost use Rattle.metering_model.specs.File.{header_line, file};
 ghost use Rattle.metering_model.specs.Totals.{amounts_of, added_up, sum_of, at_place, rows_of_place};
 ghost use Rattle.metering_model.specs.Totals as model;
 ghost use Rattle.row_laws.specs.Charged.{last_cut, files, all_rows, is_new, charged_at_once, charges_up_to};
-ghost use Rattle.row_laws.specs.Columns.{sum_of_first_column};
+ghost use Rattle.row_laws.specs.Columns.{line_of_row, sum_of_first_column};
 ghost use Rattle.row_laws.specs.Due.{WereDueBefore, AreDueOver, StartsBeforeItsPeriodEnds};
 
 /// Over growing cuts, the rows of a reading add up to what it would be charged once, at its value as of the last cut:
@@ -68,6 +69,14 @@ pub fn files_add_up_to_their_readings()
         IsHolding h → IsGrowing agents cuts →
         model.totals (all_rows (files sheet issuer h agents cuts))
         ≡ added_up (map amounts_of (charges_up_to sheet h (last_cut agents cuts))) }
+{}
+
+/// The lines of a file are its header line and one line for each row, and nothing stands behind the last line feed.
+pub fn a_file_has_one_line_for_each_row()
+    ensures { (sheet : Sheet) (issuer : Issuer) (h : Holding) (period : ℕ) (from to : Cut) →
+        IsHolding h → IsSheet sheet → IsIssuer issuer →
+        lines_in (file (rows sheet issuer h period from to))
+        ≡ record { lines = header_line ∷ map line_of_row (rows sheet issuer h period from to); rest = [] } }
 {}
 
 /// Read back from the bytes of all files, the numbers of the first column add up to what the readings would be billed once.
