@@ -1,6 +1,6 @@
 //! What the files of all periods say together. Each law is a function with an empty body.
 
-ghost use Rattle.std.specs.Prelude.{◌≡◌, ℕ, ◌≤◌, ◌<◌, ◌&&◌, nat_le, nat_lt, if◌then◌else◌, List, [], ◌∷◌, length, map, filter, All, Option, Some, None};
+ghost use Rattle.std.specs.Prelude.{◌≡◌, ℕ, ◌≤◌, ◌&&◌, nat_le, nat_lt, if◌then◌else◌, List, [], ◌∷◌, length, map, filter, All, Some, None};
 ghost use Rattle.std.specs.Option.{option_to_list};
 ghost use Rattle.metering_model.specs.Dates.{IsBaseMonth, IsPeriod};
 ghost use Rattle.metering_model.specs.Batch.{Reading};
