@@ -13,7 +13,7 @@ use Rattle.metering_model.specs.ValueAtSequence.{value_at}
 use Rattle.metering_model.specs.Row.{Row, row, New, Correction}
 use Rattle.metering_model.specs.Rows.{PlacedRow, differ, row_of, row_of_reading, placed_row, placed_rows, rows}
 use Rattle.metering_model.proofs.HoldingLaws.{up_to_cases}
-use Rattle.metering_model.proofs.Places.{place_in}
+use Rattle.metering_model.proofs.RecordPlaces.{place_in}
 use Rattle.metering_model.proofs.ValueBounds.{all_filter_map}
 
 -- ---- records

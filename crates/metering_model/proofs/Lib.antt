@@ -22,7 +22,7 @@ pub mod AgreementLaws
 pub mod MonthOrder
 pub mod MonthTexts
 pub mod LineFeeds
-pub mod Places
+pub mod RecordPlaces
 pub mod QuantityBounds
 pub mod ValueBounds
 pub mod EachRow

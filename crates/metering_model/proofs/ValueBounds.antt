@@ -15,7 +15,7 @@ use Rattle.metering_model.specs.ValueAtSequence.{value_at, value_given, value_gi
 use Rattle.metering_model.specs.JournalRules.{MeetsJournalRules, first_broken, broken_by, is_fit_target, comes_earlier}
 use Rattle.metering_model.specs.declared.BrokenRule.{BrokenRule}
 use Rattle.metering_model.specs.declared.BrokenRule.TheVariants.{BadTarget}
-use Rattle.metering_model.proofs.Places.{place_in, stands_at, same_position, reading_there}
+use Rattle.metering_model.proofs.RecordPlaces.{place_in, stands_at, same_position, reading_there}
 
 -- ---- what every value given to a reading is
 

@@ -19,7 +19,7 @@ use Rattle.row_laws.specs.Charged.{last_cut, is_new}
 use Rattle.row_laws.proofs.Sums.{sum_over, sum_same, sum-map, sum-filter}
 use Rattle.row_laws.proofs.Telescoping.{gain, sum_of_period, sum_of_periods, last_of_zero_cut}
 use Rattle.row_laws.proofs.ColumnGains.{GrowsBy, record_worth, kept, kept_worth, adds_gains}
-use Rattle.metering_model.proofs.Places.{stands_at, place_record, record_at, records_at, record_found}
+use Rattle.metering_model.proofs.RecordPlaces.{stands_at, place_record, record_at, records_at, record_found}
 
 -- a length is a sum of ones
 counted : {A : Type 0} (p : A → Bool) (xs : List A) → pos (length (filter p xs)) ≡ sum_over (λ x. cond (p x) (pos 1) (pos 0)) xs

@@ -18,7 +18,7 @@ use Rattle.metering_model.proofs.BatchOrder.{at_itself, not_at-before, in_order_
 use Rattle.metering_model.proofs.Splitting.{list_all_weaker}
 use Rattle.metering_model.proofs.MonthOrder.{month_start-le}
 use Rattle.metering_model.proofs.MonthTexts.{IsStampText-month_start}
-use Rattle.metering_model.proofs.Places.{place_in}
+use Rattle.metering_model.proofs.RecordPlaces.{place_in}
 use Rattle.metering_model.proofs.EachRow.{records_have, rows_have}
 use Rattle.row_laws.specs.Charged.{files_over, files, all_rows}
 use Rattle.row_laws.specs.Due.{WereDueBefore, AreDueFrom, AreDueOver, StartsBeforeItsPeriodEnds}

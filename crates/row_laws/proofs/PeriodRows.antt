@@ -14,7 +14,7 @@ use Rattle.metering_model.specs.Row.{Row}
 use Rattle.metering_model.specs.Totals.{at_place}
 use Rattle.metering_model.specs.Rows.{PlacedRow, row_of, row_of_reading, placed_row, placed_rows}
 use Rattle.metering_model.proofs.HoldingLaws.{IsHolding-up_to, held-up_to, held-up_to_beyond}
-use Rattle.metering_model.proofs.Places.{stands_at, place_record, record_at, records_at, record_found}
+use Rattle.metering_model.proofs.RecordPlaces.{stands_at, place_record, record_at, records_at, record_found}
 
 -- a filter of what a map keeps is a map of what a filter keeps
 filter-filter_map : {A B : Type 0} (g : A → Option B) (p : A → Bool) (q : B → Bool) → ((x : A) (y : B) → g x ≡ Some y → q y ≡ p x) → (xs : List A) → filter q (filter_map g xs) ≡ filter_map g (filter p xs)

@@ -11,7 +11,7 @@ use Rattle.metering_model.specs.Rows.{PlacedRow, placed_row, placed_rows}
 use Rattle.metering_model.specs.Totals.{rows_over}
 use Rattle.metering_model.proofs.AgreementLaws.{last_of_grows}
 use Rattle.metering_model.proofs.HoldingLaws.{up_to_cases}
-use Rattle.metering_model.proofs.Places.{place_in}
+use Rattle.metering_model.proofs.RecordPlaces.{place_in}
 use Rattle.row_laws.specs.Charged.{cut_after}
 use Rattle.row_laws.proofs.Sums.{sum_over, sum-append, sum_same, sum_plus, sum_nothing, sum-filter_map, of_option}
 

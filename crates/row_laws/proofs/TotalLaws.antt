@@ -17,11 +17,11 @@ use Rattle.metering_model.specs.Rows.{PlacedRow, placed_rows, rows}
 use Rattle.metering_model.specs.Totals.{Amounts, amounts_of, amounts_in, added_up, sum_of, rows_over, rows_of_place, totals}
 use Rattle.row_laws.specs.Charged.{last_cut, charged_at_once, charge_at, charges_up_to, files_over, files, all_rows}
 use Rattle.row_laws.proofs.Sums.{sum_over, sum_of_is, sum_same, sum-map, sum-filter, sum-filter_map, of_option}
-use Rattle.metering_model.proofs.Places.{place_in}
+use Rattle.metering_model.proofs.RecordPlaces.{place_in}
 use Rattle.row_laws.proofs.Telescoping.{within, gain, sum-up_to, sum_of_periods, last_of_zero_cut}
 use Rattle.row_laws.proofs.ColumnGains.{record_worth, kept, kept_worth, adds_gains}
 use Rattle.row_laws.proofs.AmountGains.{difference_of, grows_by_value, value_before}
-use Rattle.metering_model.proofs.Places.{stands_at, reading_there}
+use Rattle.metering_model.proofs.RecordPlaces.{stands_at, reading_there}
 
 -- ---- at sequence 0 a reading is worth nothing, since no batch has that sequence
 
