@@ -29,6 +29,17 @@ pub mod NewRows
 pub mod Places
 pub mod BatchRows
 pub mod RulesUpToCut
+pub mod MonthOrder
+pub mod MonthTexts
+pub mod LineFeeds
+pub mod RecordPlaces
+pub mod QuantityBounds
+pub mod ValueBounds
+pub mod EachRow
+pub mod SheetLaws
+pub mod ChargeBounds
+pub mod PriceTexts
+pub mod PriceLaws
 pub mod Samples
 mod WorkedNumbers
 mod WorkedBatches
@@ -36,4 +47,5 @@ mod WorkedRates
 mod WorkedRows
 pub mod WorkedBallots
 pub mod WorkedPeriods
-mod WorkedSheets
+pub mod WorkedSheets
+mod WorkedLimits

@@ -3,6 +3,7 @@ use Rattle.std.proofs.Common.{◌≡◌, ℕ, zero, suc, ◌+◌, ◌<◌, Bool,
 use Rattle.std.specs.List.{list_all, position_or_len, before_first, after_first}
 use Rattle.std.proofs.Math.Seq.{take-append_seam, drop-append-add}
 use Rattle.std.proofs.lemmas.Bool.{false≢true, and_parts, and_from, cond-true, cond-false, cases_lt, cases_Bool, both_ways, not-true, eqb-true, ne_eqb}
+use Rattle.std.proofs.lemmas.Int.{ints}
 use Rattle.std.proofs.lemmas.List.{drop_all}
 use Rattle.std.proofs.lemmas.List.Sums.{split_at_first, passes_at_first}
 use Rattle.std.proofs.lemmas.Option.{cond_some, same_Some}
@@ -135,3 +136,22 @@ number_spelled places text n e = elim (cases_Bool (slice_index text 0 == 45)) [
       let read = sym (cond-false (slice_index text 0 == 45) (negated (magnitude_in places (drop 1 text))) (not_negated (magnitude_in places text)) plain) ∙ e in
       spelled_positive places text _ n refl read
 ]
+
+-- ---- prices, which have no minus
+
+pub magnitude_spelled : (places : ℕ) (text : List ℕ) (n : ℕ) → magnitude_in places text ≡ Some n → Spells places text (pos n)
+magnitude_spelled places text n read = spelled_with places false text n read (λ no. absurd (false≢true no))
+
+joined_magnitude : (places : ℕ) (text : List ℕ) (n : ℕ) (minus : Bool) (w ds : List ℕ) → text ≡ sign_text minus ++ w ++ point_text ds → is_whole_part w ≡ true → is_decimal_part places ds ≡ true →
+    (minus ≡ true → 0 < units_of places w ds) → pos n ≡ signed minus (units_of places w ds) → magnitude_in places text ≡ Some n
+joined_magnitude places text n true w ds joined h k some e = absurd (below_zero (units_of places w ds) (some refl) e)
+  where
+    below_zero : (m : ℕ) → 0 < m → pos n ≡ neg_ℤ (pos m) → ⊥
+    below_zero m positive same = omega (arith, ints)
+joined_magnitude places text n false w ds joined h k some e = ap (magnitude_in places) joined ∙ magnitude_of_joined places w ds h k ∙ ap Some (alike (units_of places w ds) e)
+  where
+    alike : (m : ℕ) → pos n ≡ pos m → m ≡ n
+    alike m same = omega (arith, ints)
+
+pub spelled_magnitude : (places : ℕ) (text : List ℕ) (n : ℕ) → Spells places text (pos n) → magnitude_in places text ≡ Some n
+spelled_magnitude places text n s = joined_magnitude places text n s.minus s.whole s.decimals s.joined s.whole_part s.decimal_part s.no_minus_zero s.number

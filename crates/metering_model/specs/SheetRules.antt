@@ -9,6 +9,7 @@ use Rattle.metering_model.specs.BatchReading.{is_same}
 use Rattle.metering_model.specs.Sheet.{PriceRow, Commitment, Sheet, Issuer}
 
 -- Of UTF-8 each byte of a character above U+007F is 128 or more: so no character is below U+0020, and none is U+007F.
+-- That the bytes are UTF-8 is not said here, since no law rests on it: the type of a reader's texts keeps it.
 abbrev pub is_printable : ℕ → Bool
 is_printable byte = nat_le 32 byte && not (byte == 127)
 

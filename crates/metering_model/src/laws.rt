@@ -1,22 +1,26 @@
 //! What ties the definitions to one another. Each law is a function with an empty body.
 
-ghost use Rattle.std.specs.Prelude.{◌≡◌, ℕ, ◌+◌, ◌^◌, ◌<◌, ◌≤◌, ◌↔◌, ◌⊎◌, true, false, List, [], ◌∷◌, ◌++◌, length, slice_set, Some, None, Ok, ℤ, unsigned_abs, unwrap_or, slice_get};
+ghost use Rattle.std.specs.Prelude.{◌≡◌, ℕ, ◌+◌, ◌^◌, ◌<◌, ◌≤◌, ◌↔◌, ◌⊎◌, true, false, List, [], ◌∷◌, ◌++◌, length, slice_set, Some, None, Ok, ℤ, unsigned_abs, unwrap_or, slice_get, All, Err, pos, ◌≤ℤ◌, ◌<ℤ◌};
 ghost use Rattle.std.specs.Option.{is_some};
-ghost use Rattle.std.specs.List.{flat_map, filter_map};
-ghost use Rattle.metering_model.specs.NumberText.{Spells, number_in, spelling};
+ghost use Rattle.std.specs.List.{flat_map, filter_map, Contains};
+ghost use Rattle.metering_model.specs.NumberText.{Spells, number_in, spelling, Range, value_in, value_limit, price_in, price_limit};
 ghost use Rattle.metering_model.specs.Dates.{IsMonthText, IsDayText, IsStampText, month_in, day_in, stamp_in};
-ghost use Rattle.metering_model.specs.Batch.{Batch, Reading, IsBatch, IsWellFormed};
+ghost use Rattle.metering_model.specs.Batch.{Batch, Reading, IsBatch, IsWellFormed, is_priced};
 ghost use Rattle.metering_model.specs.BatchReading.{batch_in};
 ghost use Rattle.metering_model.specs.Cut.{Cut, IsAtLeast, zero_cut, last_of};
 ghost use Rattle.metering_model.specs.Holding.{Holding, IsHolding, IsPartOf, LacksNothingUpTo, AgreeUpTo, Position, held, is_batch_at, put, placed, reading_at, up_to};
 ghost use Rattle.metering_model.specs.ValueAtSequence.{value_at};
-ghost use Rattle.metering_model.specs.Sheet.{Sheet, Issuer};
+ghost use Rattle.metering_model.specs.Sheet.{Sheet, Issuer, PriceRow};
+ghost use Rattle.metering_model.specs.SheetRules.{IsSheet};
+ghost use Rattle.metering_model.specs.PriceInForce.{price_in_force};
 ghost use Rattle.metering_model.specs.Rating.{IsRounded, pricing_quantity};
 ghost use Rattle.metering_model.specs.Rows.{PlacedRow, placed_row, placed_rows, rows};
 ghost use Rattle.metering_model.specs.JournalRules.{MeetsJournalRules, next_seq, first_broken};
 ghost use Rattle.metering_model.specs.Front.{IsDueAt, AreDueBetween, front};
 ghost use Rattle.metering_model.specs.World.{World, Event, Good, Journal, offer_of};
 ghost use Rattle.metering_model.specs.Step.{first_missing, step, play};
+ghost use Rattle.metering_model.specs.Row.{charge, priced_kind, price_of, commitment_of};
+ghost use Rattle.metering_model.specs.Totals.{amounts_of, amounts_in, AreWithinLimits};
 
 /// Reading a text as a number answers the number that the text spells, and nothing else.
 pub fn numbers_are_read_as_they_are_spelled()
@@ -170,4 +174,67 @@ pub fn one_more_event_is_one_more_step()
         (play w (events ++ e ∷ [])).0 ≡ (play w events).0 ++ (step (play w events).1 e).0 ∷ [] }
     ensures more { (w : World) (events more : List Event) →
         (play w (events ++ more)).1 ≡ (play (play w events).1 more).1 }
+{}
+
+/// Reading a text as a value or as a price answers the number that the text spells, where it is within its limit.
+/// Where the text spells one beyond the limit, the fault is its range, and where it spells none, its form.
+pub fn values_and_prices_are_read_as_they_are_spelled()
+    ensures values { (text : List ℕ) (n : ℤ) →
+        (value_in text ≡ Ok n) ↔ (Spells 6 text n × (unsigned_abs n < value_limit)) }
+    ensures values_beyond { (text : List ℕ) →
+        (value_in text ≡ Err Range) ↔ ((n : ℤ) × Spells 6 text n × (value_limit ≤ unsigned_abs n)) }
+    ensures prices { (text : List ℕ) (n : ℕ) →
+        (price_in text ≡ Ok n) ↔ (Spells 6 text (pos n) × (n < price_limit)) }
+    ensures prices_beyond { (text : List ℕ) →
+        (price_in text ≡ Err Range) ↔ ((n : ℕ) × Spells 6 text (pos n) × (price_limit ≤ n)) }
+{}
+
+/// The spelling of a value or of a price within its limit is read back as that number.
+pub fn values_and_prices_are_read_back()
+    ensures values { (n : ℤ) → unsigned_abs n < value_limit → value_in (spelling 6 n) ≡ Ok n }
+    ensures prices { (n : ℕ) → n < price_limit → price_in (spelling 6 (pos n)) ≡ Ok n }
+{}
+
+/// The price in force on a day is a row of the SKU that has begun, and of those that have begun none is later; on a
+/// sheet that keeps its rules no other begins on the same day. There is none exactly where no row of the SKU has
+/// begun, and a row that begins after the day changes nothing.
+pub fn the_price_in_force_is_the_latest_that_has_begun()
+    ensures has_begun { (sheet : Sheet) (sku : List ℕ) (day : ℤ) (p : PriceRow) →
+        price_in_force sheet sku day ≡ Some p → Contains sheet.prices p × (p.sku ≡ sku) × (p.from ≤ℤ day) }
+    ensures latest { (sheet : Sheet) (sku : List ℕ) (day : ℤ) (p : PriceRow) →
+        price_in_force sheet sku day ≡ Some p →
+        All (λ q. q.sku ≡ sku → q.from ≤ℤ day → q.from ≤ℤ p.from) sheet.prices }
+    ensures alone { (sheet : Sheet) (sku : List ℕ) (day : ℤ) (p : PriceRow) →
+        IsSheet sheet → price_in_force sheet sku day ≡ Some p →
+        All (λ q. q.sku ≡ sku → q.from ≡ p.from → q ≡ p) sheet.prices }
+    ensures none { (sheet : Sheet) (sku : List ℕ) (day : ℤ) →
+        (price_in_force sheet sku day ≡ None) ↔ All (λ q. q.sku ≡ sku → day <ℤ q.from) sheet.prices }
+    ensures later { (sheet : Sheet) (before after : List PriceRow) (q : PriceRow) (sku : List ℕ) (day : ℤ) →
+        day <ℤ q.from →
+        price_in_force (record sheet { prices = before ++ q ∷ after }) sku day
+        ≡ price_in_force (record sheet { prices = before ++ after }) sku day }
+{}
+
+/// A pricing quantity lies between 0 and its value.
+pub fn pricing_quantities_lie_between_0_and_their_values()
+    ensures between { (per : ℕ) (v : ℤ) → pos 0 ≤ℤ v →
+        (pos 0 ≤ℤ pricing_quantity per v) × (pricing_quantity per v ≤ℤ v) }
+    ensures magnitude { (per : ℕ) (v : ℤ) → unsigned_abs (pricing_quantity per v) ≤ unsigned_abs v }
+{}
+
+/// The value of a reading at a sequence is below its limit, and that of a priced reading is not negative.
+pub fn values_keep_their_limits()
+    ensures limit { (h : Holding) (at : Position) (upto : ℕ) → IsHolding h → unsigned_abs (value_at h at upto) < value_limit }
+    ensures not_negative { (sheet : Sheet) (h : Holding) (at : Position) (r : Reading) (upto : ℕ) →
+        MeetsJournalRules sheet h → reading_at h at ≡ Some r → is_priced r.kind ≡ true →
+        pos 0 ≤ℤ value_at h at upto }
+{}
+
+/// Quantities and costs keep their limits: those of a charge between two values, and those of each row.
+pub fn amounts_keep_their_limits()
+    ensures charges { (sheet : Sheet) (r : Reading) (was now : ℤ) →
+        IsSheet sheet → unsigned_abs was < value_limit → unsigned_abs now < value_limit →
+        AreWithinLimits (amounts_of (charge (priced_kind r.kind) (price_of sheet r) (commitment_of sheet r) was now)) }
+    ensures rows { (sheet : Sheet) (issuer : Issuer) (h : Holding) (period : ℕ) (from to : Cut) →
+        IsHolding h → IsSheet sheet → All (λ x. AreWithinLimits (amounts_in x)) (rows sheet issuer h period from to) }
 {}

@@ -1,0 +1,56 @@
+-- How near amounts come to their limits, and what passes them where a sheet or an amendment breaks its rule.
+use Rattle.std.specs.Prelude.{◌≡◌, ◌<◌, [], ◌∷◌, Some, None, pos, negsuc, ◌≤ℤ◌, codes}
+use Rattle.std.proofs.Common.{refl, arith}
+use Rattle.std.proofs.lemmas.Int.{ints}
+use Rattle.metering_model.specs.NumberText.{cost_limit}
+use Rattle.metering_model.specs.Batch.{Reading, Reads, Amends}
+use Rattle.metering_model.specs.declared.Kind.TheVariants.{Usage}
+use Rattle.metering_model.specs.Sheet.{PriceRow}
+use Rattle.metering_model.specs.Holding.{Holding, records_in_order}
+use Rattle.metering_model.specs.ValueAtSequence.{value_at}
+use Rattle.metering_model.specs.Rating.{cost_at, rated, Usage as PricedUsage}
+use Rattle.metering_model.specs.JournalRules.{first_broken, BadTarget}
+use Rattle.metering_model.specs.Totals.{amounts_of, AreWithinLimits}
+use Rattle.metering_model.proofs.Samples.{cpu_plan, sheet_1}
+
+-- the greatest price, from the least value to the greatest
+greatest_cost : cost_at 999_999_999_999 (pos 1_999_999_999_999_999_998) ≡ pos 1_999_999_999_997_999_998_000_000_000_002
+greatest_cost = refl
+
+greatest_cost_is_within : 1_999_999_999_997_999_998_000_000_000_002 < cost_limit
+greatest_cost_is_within = omega arith
+
+-- a price of a million units more than the limit is too much
+abbrev dear : PriceRow
+dear = record cpu_plan { list = 1_000_001_000_000 }
+
+a_price_past_its_limit_breaks_that_of_costs :
+    AreWithinLimits (amounts_of (rated dear None PricedUsage (negsuc 999_999_999_999_999_998) (pos 999_999_999_999_999_999))) → ⊥
+a_price_past_its_limit_breaks_that_of_costs within =
+    let list : 2_000_001_999_999_999_997_999_998_000_000 < cost_limit = within.list in
+    omega arith
+
+-- a negative amendment of usage, which the journal rules refuse, gives it a negative value
+abbrev metered : Reading
+metered = record {
+  kind = Usage;
+  start = pos 1_736_467_200;
+  end = pos 1_736_474_400;
+  start_text = codes "2025-01-10T00:00:00Z";
+  end_text = codes "2025-01-10T02:00:00Z";
+  account = [];
+  resource = [];
+  key = codes "cpu";
+  value = pos 5_400_000_000;
+  commitment = [];
+  tags = [];
+}
+
+abbrev unfit : Holding
+unfit = record { agent = 1; seq = 1; records = Reads metered ∷ Amends 1 0 (negsuc 0) ∷ [] } ∷ []
+
+unfit_is_refused : first_broken sheet_1 unfit (records_in_order unfit) ≡ Some BadTarget
+unfit_is_refused = refl
+
+unfit_value_is_negative : pos 0 ≤ℤ value_at unfit (record { agent = 1; seq = 1; index = 0 }) 1 → ⊥
+unfit_value_is_negative h = let least : pos 0 ≤ℤ negsuc 0 = h in omega (arith, ints)

@@ -1,0 +1,3 @@
+pub mod Charged
+pub mod Columns
+pub mod Due

@@ -1,0 +1,100 @@
+//! What the files of all periods say together. Each law is a function with an empty body.
+
+ghost use Rattle.std.specs.Prelude.{◌≡◌, ℕ, ◌≤◌, ◌&&◌, nat_le, nat_lt, if◌then◌else◌, List, [], ◌∷◌, length, map, filter, All, Some, None};
+ghost use Rattle.std.specs.Option.{option_to_list};
+ghost use Rattle.metering_model.specs.Dates.{IsBaseMonth, IsPeriod};
+ghost use Rattle.metering_model.specs.Batch.{Reading};
+ghost use Rattle.metering_model.specs.BatchReading.{lines_in};
+ghost use Rattle.metering_model.specs.Cut.{Cut, IsAtLeast, IsGrowing, last_of};
+ghost use Rattle.metering_model.specs.Sheet.{Sheet, Issuer};
+ghost use Rattle.metering_model.specs.SheetRules.{IsSheet, IsIssuer};
+ghost use Rattle.metering_model.specs.Holding.{Holding, IsHolding, IsPartOf, LacksNothingUpTo, Position, reading_at};
+ghost use Rattle.metering_model.specs.ValueAtSequence.{value_at};
+ghost use Rattle.metering_model.specs.Front.{AreDueBetween};
+ghost use Rattle.metering_model.specs.Rows.{placed_rows, row_of_reading, rows};
+ghost use Rattle.metering_model.specs.File.{header_line, file};
+ghost use Rattle.metering_model.specs.Totals.{amounts_of, added_up, sum_of, at_place, rows_of_place};
+ghost use Rattle.metering_model.specs.Totals as model;
+ghost use Rattle.row_laws.specs.Charged.{last_cut, files, all_rows, is_new, charged_at_once, charges_up_to};
+ghost use Rattle.row_laws.specs.Columns.{line_of_row, sum_of_first_column};
+ghost use Rattle.row_laws.specs.Due.{WereDueBefore, AreDueOver, StartsBeforeItsPeriodEnds};
+
+/// Over growing cuts, the rows of a reading add up to what it would be charged once, at its value as of the last cut:
+/// in both quantities and all four costs.
+pub fn totals()
+    ensures { (sheet : Sheet) (issuer : Issuer) (h : Holding) (agents : ℕ) (cuts : List Cut) (at : Position) (r : Reading) →
+        IsHolding h → IsGrowing agents cuts → reading_at h at ≡ Some r →
+        model.totals (rows_of_place sheet issuer h agents cuts at)
+        ≡ amounts_of (charged_at_once sheet r (value_at h at (last_of (last_cut agents cuts) at.agent))) }
+{}
+
+/// A smaller holding has the rows of a larger one, where it lacks nothing up to the later cut.
+pub fn rows_stay()
+    ensures { (sheet : Sheet) (issuer : Issuer) (part whole : Holding) (period : ℕ) (from to : Cut) →
+        IsHolding part → IsHolding whole → IsPartOf part whole → LacksNothingUpTo to part whole → IsAtLeast to from →
+        rows sheet issuer part period from to ≡ rows sheet issuer whole period from to }
+{}
+
+/// In one period a place has at most one row: where the later cut reaches it, that of the reading there.
+pub fn a_place_has_at_most_one_row_a_period()
+    ensures at_most { (sheet : Sheet) (issuer : Issuer) (h : Holding) (period : ℕ) (from to : Cut) (at : Position) →
+        IsHolding h → length (at_place at (placed_rows sheet issuer h period from to)) ≤ 1 }
+    ensures which { (sheet : Sheet) (issuer : Issuer) (h : Holding) (period : ℕ) (from to : Cut) (at : Position) (r : Reading) →
+        IsHolding h → reading_at h at ≡ Some r →
+        at_place at (placed_rows sheet issuer h period from to)
+        ≡ (if nat_le at.seq (last_of to at.agent) then option_to_list (row_of_reading sheet issuer h period from to at r) else []) }
+    ensures no_reading { (sheet : Sheet) (issuer : Issuer) (h : Holding) (period : ℕ) (from to : Cut) (at : Position) →
+        IsHolding h → reading_at h at ≡ None → at_place at (placed_rows sheet issuer h period from to) ≡ [] }
+{}
+
+/// Over growing cuts, a reading that the last cut reaches is charged for the first time exactly once:
+/// in the period whose cut is the first to reach it.
+pub fn each_reading_is_new_once()
+    ensures at_most_once { (sheet : Sheet) (issuer : Issuer) (h : Holding) (agents : ℕ) (cuts : List Cut) (at : Position) →
+        IsHolding h → IsGrowing agents cuts →
+        length (filter is_new (rows_of_place sheet issuer h agents cuts at)) ≤ 1 }
+    ensures if_reached { (sheet : Sheet) (issuer : Issuer) (h : Holding) (agents : ℕ) (cuts : List Cut) (at : Position) (r : Reading) →
+        IsHolding h → IsGrowing agents cuts → reading_at h at ≡ Some r →
+        length (filter is_new (rows_of_place sheet issuer h agents cuts at))
+        ≡ (if nat_le at.seq (last_of (last_cut agents cuts) at.agent) then 1 else 0) }
+    ensures when { (sheet : Sheet) (issuer : Issuer) (h : Holding) (period : ℕ) (from to : Cut) (at : Position) (r : Reading) →
+        IsHolding h → IsAtLeast to from → reading_at h at ≡ Some r →
+        length (filter is_new (at_place at (placed_rows sheet issuer h period from to)))
+        ≡ (if nat_lt (last_of from at.agent) at.seq && nat_le at.seq (last_of to at.agent) then 1 else 0) }
+{}
+
+/// The rows of all files together add up to what each reading up to the last cut would be charged once.
+pub fn files_add_up_to_their_readings()
+    ensures { (sheet : Sheet) (issuer : Issuer) (h : Holding) (agents : ℕ) (cuts : List Cut) →
+        IsHolding h → IsGrowing agents cuts →
+        model.totals (all_rows (files sheet issuer h agents cuts))
+        ≡ added_up (map amounts_of (charges_up_to sheet h (last_cut agents cuts))) }
+{}
+
+/// The lines of a file are its header line and one line for each row, and nothing stands behind the last line feed.
+pub fn a_file_has_one_line_for_each_row()
+    ensures { (sheet : Sheet) (issuer : Issuer) (h : Holding) (period : ℕ) (from to : Cut) →
+        IsHolding h → IsSheet sheet → IsIssuer issuer →
+        lines_in (file (rows sheet issuer h period from to))
+        ≡ record { lines = header_line ∷ map line_of_row (rows sheet issuer h period from to); rest = [] } }
+{}
+
+/// Read back from the bytes of all files, the numbers of the first column add up to what the readings would be billed once.
+pub fn texts_add_up_to_their_readings()
+    ensures { (sheet : Sheet) (issuer : Issuer) (h : Holding) (agents : ℕ) (cuts : List Cut) →
+        IsHolding h → IsGrowing agents cuts → IsSheet sheet → IsIssuer issuer →
+        sum_of_first_column (map file (files sheet issuer h agents cuts))
+        ≡ Some (sum_of (λ x. x.billed) (charges_up_to sheet h (last_cut agents cuts))) }
+{}
+
+/// A row's charge starts before its billing period ends, where the batches between the cuts are due for that period
+/// and those before for an earlier one.
+pub fn charges_start_before_their_periods_end()
+    ensures period { (sheet : Sheet) (issuer : Issuer) (h : Holding) (period : ℕ) (from to : Cut) →
+        IsHolding h → IsBaseMonth sheet.base → IsPeriod period →
+        AreDueBetween sheet.base period h from to → WereDueBefore sheet.base period h from →
+        All StartsBeforeItsPeriodEnds (rows sheet issuer h period from to) }
+    ensures periods { (sheet : Sheet) (issuer : Issuer) (h : Holding) (agents : ℕ) (cuts : List Cut) →
+        IsHolding h → IsBaseMonth sheet.base → length cuts ≤ 1_200 → AreDueOver sheet.base h agents cuts →
+        All StartsBeforeItsPeriodEnds (all_rows (files sheet issuer h agents cuts)) }
+{}
