@@ -9,7 +9,8 @@ use Rattle.metering_model.specs.Batch.{Reading, IsReading, is_priced, lacks}
 use Rattle.metering_model.specs.Dates.{period_start_text, period_end_text}
 use Rattle.metering_model.specs.Sheet.{Issuer}
 use Rattle.metering_model.specs.Rating.{cost_at}
-use Rattle.metering_model.specs.Row.{Row, row, New, category_text, or_null}
+use Rattle.metering_model.specs.declared.ChargeClass.TheVariants.{New}
+use Rattle.metering_model.specs.Row.{Row, row, category_text, or_null}
 use Rattle.metering_model.specs.File.{quoted, text_or_null, json_object, fields_of_row}
 use Rattle.focus_row.specs.OneBatch.{empty_sheet}
 use Rattle.focusd.proofs.Amounts.{cost_spelling}

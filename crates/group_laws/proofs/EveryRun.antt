@@ -1,5 +1,5 @@
 -- What holds after every run, and what a longer run keeps.
-use Rattle.std.proofs.Common.{◌≡◌, ℕ, List, [], ◌∷◌, ◌++◌, ◌<◌, length, map, refl, sym, subst, ◌∙◌, Option, Some, None}
+use Rattle.std.proofs.Common.{◌≡◌, ℕ, List, ◌++◌, ◌<◌, length, map, refl, sym, subst, ◌∙◌, Option, Some, None}
 use Rattle.std.specs.Prelude.{slice_get}
 use Rattle.std.specs.List.{Contains}
 use Rattle.std.proofs.lemmas.Option.{same_Some, slice_get-get_or, slice_get_within}
@@ -7,7 +7,7 @@ use Rattle.metering_model.specs.Sheet.{Sheet, Issuer}
 use Rattle.metering_model.specs.Cut.{Cut}
 use Rattle.metering_model.specs.World.{World, Node, Packet, CarriesBatch, Event, Snapshot, Exported, node_count, wake, opening}
 use Rattle.metering_model.specs.Deliveries.{handled}
-use Rattle.metering_model.specs.Step.{step, play}
+use Rattle.metering_model.specs.Step.{play}
 use Rattle.metering_model.specs.Chosen.{IsChosen}
 use Rattle.metering_model.specs.History.{Entry, IsLegal}
 use Rattle.metering_model.proofs.PlayLaws.{play-append}

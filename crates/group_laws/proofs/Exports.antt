@@ -1,24 +1,21 @@
 -- What is exported is of two neighbouring cuts, and of the journals between them.
-use Rattle.std.proofs.Common.{◌≡◌, ℕ, zero, suc, ◌+◌, ◌<◌, ◌≤◌, Bool, true, false, cond, List, [], ◌∷◌, ◌++◌, slice_index, refl, sym, ap, subst, ◌∙◌, arith, Option, Some, None, inl, inr, unwrap_or, Result, Ok, Err, ok_or, nat_lt, nat_le, is_some, All}
+use Rattle.std.proofs.Common.{◌≡◌, ℕ, zero, suc, ◌<◌, ◌≤◌, true, List, [], ◌∷◌, ◌++◌, refl, sym, ap, subst, ◌∙◌, Option, Some, None, unwrap_or, Result, Ok, Err, ok_or, nat_lt, nat_le, is_some}
 use Rattle.std.specs.Prelude.{slice_get, ◌==◌}
-use Rattle.std.specs.List.{range_with_len}
-use Rattle.std.proofs.lemmas.Bool.{cases_lt, cases_Bool, cond-true, cond-false}
 use Rattle.std.proofs.lemmas.Option.{same_Some, none-some}
-use Rattle.std.proofs.lemmas.List.Elements.{All-head, All-tail}
 use Rattle.metering_model.specs.FirstFailure.{◌>>=◌, holds_or}
 use Rattle.metering_model.specs.declared.Refusal.{Refusal}
 use Rattle.metering_model.specs.declared.Refusal.TheVariants.{NoNode, NoPacket, NotClosed, NoAgent, WrongSeq, AllClosed, NoBallot}
-use Rattle.metering_model.specs.Batch.{Batch, IsWellFormed}
+use Rattle.metering_model.specs.Batch.{Batch}
 use Rattle.metering_model.specs.BatchReading.{batch_in}
 use Rattle.metering_model.specs.Sheet.{Sheet, Issuer}
 use Rattle.metering_model.specs.Cut.{Cut, zero_cut, last_of, IsAtLeast}
-use Rattle.metering_model.specs.Holding.{Holding, IsHolding, AgreeUpTo, is_batch_at, held, put, placed, up_to}
+use Rattle.metering_model.specs.Holding.{Holding, AgreeUpTo, held, put, placed, up_to}
 use Rattle.metering_model.specs.JournalRules.{MeetsJournalRules, next_seq, first_broken}
 use Rattle.metering_model.specs.Rows.{rows}
 use Rattle.metering_model.specs.File.{file}
 use Rattle.metering_model.specs.World.{World, Node, Packet, CarriesBatch, Offer, Good, Bad, Event, Journal, Deliver, Start, Restart, Export, Snapshot, Exported, Delivered, node_count, current_period, wake, with_node_at, with_packet, next_packet}
 use Rattle.metering_model.specs.Deliveries.{Handled, handled}
-use Rattle.metering_model.specs.Step.{Outcome, on_batch, on_journal, on_delivery, on_start, on_restart, after_delivery, or_refused, or_bad_batch, unless_broken, first_absent, missing_from, first_missing, unless_missing, cut_before, snapshot, step, play}
+use Rattle.metering_model.specs.Step.{Outcome, on_batch, on_journal, on_delivery, on_start, on_restart, after_delivery, or_refused, or_bad_batch, unless_broken, first_missing, unless_missing, cut_before, snapshot, step, play}
 use Rattle.metering_model.proofs.StepLaws.{step_ok, some_step, ok_same}
 use Rattle.metering_model.proofs.RulesUpToCut.{MeetsJournalRules-up_to}
 use Rattle.metering_model.proofs.MissingLaws.{held-up_to_where}

@@ -1,16 +1,16 @@
 -- Worlds that a faulty node would leave: of each the headline is false.
-use Rattle.std.proofs.Common.{◌≡◌, ℕ, zero, suc, List, [], ◌∷◌, length, refl, sym, ap, subst, ◌∙◌, arith, Some, None}
+use Rattle.std.proofs.Common.{◌≡◌, ℕ, List, [], ◌∷◌, length, refl, sym, ap, subst, ◌∙◌, arith, Some, None}
 use Rattle.std.specs.Prelude.{slice_get, pos, false}
-use Rattle.std.specs.List.{Contains}
 use Rattle.std.proofs.lemmas.Bool.{leb-true, both_ways}
 use Rattle.std.proofs.lemmas.Option.{same_Some, none-some}
 use Rattle.jiff_core.specs.Calendar.{days_from_civil, day_count, days_of_years, days_of_months}
 use Rattle.metering_model.specs.Batch.{Batch, Reading, Reads}
 use Rattle.metering_model.specs.declared.Kind.TheVariants.{Credit}
-use Rattle.metering_model.specs.Row.{row, New}
+use Rattle.metering_model.specs.declared.ChargeClass.TheVariants.{New}
+use Rattle.metering_model.specs.Row.{row}
 use Rattle.metering_model.specs.Rows.{PlacedRow}
 use Rattle.metering_model.specs.Cut.{Cut, IsAtLeast, IsGrowing}
-use Rattle.metering_model.specs.World.{World, Node, Reply, Snapshot, Exported, CarriesBatch, Prepare, Promise, Accept, Accepted, Decided, wake, new_kept, opening}
+use Rattle.metering_model.specs.World.{World, Node, Reply, Snapshot, Exported, Prepare, Promise, Accept, Accepted, Decided, wake, new_kept, opening}
 use Rattle.metering_model.specs.Chosen.{IsChosen}
 use Rattle.metering_model.proofs.Samples.{sheet_0, issuer_1}
 use Rattle.group_laws.specs.Headline.{IsNewIn, AreChargedOnce, HoldsAfter}

@@ -1,16 +1,15 @@
 -- Each cut that is asked for goes on from chosen ones, within the journals.
 use Rattle.std.proofs.Common.{◌<◌, ◌≡◌, ℕ, Bool, true, false, ◌&&◌, not, cond, List, [], ◌∷◌, ◌++◌, length, refl, sym, ap, subst, ◌∙◌, Option, Some, None, inl, inr, unwrap_or}
-use Rattle.std.specs.Prelude.{slice_get, ◌==◌, if◌then◌else◌}
+use Rattle.std.specs.Prelude.{slice_get, ◌==◌}
 use Rattle.std.proofs.lemmas.Bool.{and_parts, eqb-true}
 use Rattle.metering_model.specs.Batch.{Batch, IsWellFormed}
 use Rattle.metering_model.specs.Cut.{Cut}
-use Rattle.metering_model.specs.Holding.{Holding, IsHolding, IsPartOf, is_batch_at, held, put}
+use Rattle.metering_model.specs.Holding.{Holding, IsHolding, IsPartOf, held, put}
 use Rattle.metering_model.specs.JournalRules.{MeetsJournalRules}
 use Rattle.metering_model.specs.Sheet.{Sheet, Issuer}
 use Rattle.metering_model.specs.Ballot.{Vote, Attempt, has_majority, with_promise}
 use Rattle.metering_model.specs.World.{World, Node, Packet, CarriesBatch, Prepare, Promise, Accept, Accepted, Decided, node_count, current_period, last_cut, wake, new_kept, opening}
 use Rattle.metering_model.specs.Deliveries.{learning, Handled, silent, sending, on_prepare, on_accept, unless_learned, after_promise, proposal, handled}
-use Rattle.metering_model.proofs.BatchOrder.{place_of_batch}
 use Rattle.metering_model.proofs.HoldingLaws.{IsHolding-nil, IsHolding-put, held-put_same}
 use Rattle.metering_model.proofs.PartLaws.{part_of_itself, IsPartOf-trans, IsPartOf-put, IsPartOf-grown}
 use Rattle.group_laws.proofs.Quorum.{In}

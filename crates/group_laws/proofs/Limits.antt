@@ -1,33 +1,32 @@
 -- Every run keeps its limits.
-use Rattle.std.proofs.Common.{◌≡◌, ℕ, zero, suc, ◌+◌, ◌*◌, ◌<◌, ◌≤◌, Bool, true, false, ◌&&◌, not, cond, List, [], ◌∷◌, ◌++◌, length, refl, sym, ap, subst, ◌∙◌, arith, Option, Some, None, inl, inr, length-set, length-append, unwrap_or, Ordering, Less, Equal, Greater, nat_lt, All, is_some}
+use Rattle.std.proofs.Common.{◌≡◌, ℕ, zero, suc, ◌+◌, ◌<◌, ◌≤◌, Bool, true, false, ◌&&◌, not, cond, List, [], ◌∷◌, ◌++◌, length, refl, sym, ap, subst, ◌∙◌, arith, Option, Some, None, inl, inr, length-set, length-append, unwrap_or, Ordering, Less, Equal, Greater, nat_lt, All, is_some}
 use Rattle.std.specs.Prelude.{slice_get, ◌==◌}
 use Rattle.std.specs.List.{last_or}
 use Rattle.std.specs.Option.{IsSomeAnd}
 use Rattle.std.specs.BTreeMap.{insert_entry}
 use Rattle.std.specs.Ordering.{nat_cmp, match_ordering}
 use Rattle.std.proofs.Math.Nat.{mul-le-mul_right}
-use Rattle.std.proofs.lemmas.Bool.{and_parts, eqb-true, cases_lt}
+use Rattle.std.proofs.lemmas.Bool.{cases_lt}
 use Rattle.std.proofs.lemmas.Option.{same_Some, none-some, slice_get_within}
 use Rattle.std.proofs.lemmas.List.Elements.{All-nil, All-cons, All-head, All-tail, All-set, All-push, All-replicate, All-weaker}
 use Rattle.metering_model.specs.Batch.{Batch}
 use Rattle.metering_model.specs.Cut.{Cut, GrowsFrom, IsGrowing, zero_cut, last_of}
-use Rattle.metering_model.specs.Holding.{Holding, IsHolding, IsPartOf, AgreeUpTo, held, put}
+use Rattle.metering_model.specs.Holding.{Holding, IsHolding, IsPartOf, held, put}
 use Rattle.metering_model.specs.Front.{is_due, front}
 use Rattle.metering_model.specs.Sheet.{Sheet, Issuer}
-use Rattle.metering_model.specs.Ballot.{Vote, Acceptor, Attempt, Nodes, Tally, ballot_of, nobody, greater_vote, with_promise, has_majority, new_attempt, accepting_at, with_accepted, with_node, after_prepare, after_accept}
-use Rattle.metering_model.specs.World.{World, Node, Packet, CarriesBatch, Prepare, Promise, Accept, Accepted, Decided, node_count, voter_count, current_period, last_cut, wake, new_kept, opening, Event}
-use Rattle.metering_model.specs.Deliveries.{Handled, silent, sending, learning, with_acceptor, on_prepare, on_accept, unless_learned, after_promise, after_accepted, proposal, handled}
-use Rattle.metering_model.specs.Step.{first_missing, play}
+use Rattle.metering_model.specs.Ballot.{Vote, Acceptor, Attempt, Nodes, Tally, ballot_of, greater_vote, with_promise, has_majority, accepting_at, with_accepted, with_node}
+use Rattle.metering_model.specs.World.{World, Node, Packet, CarriesBatch, Prepare, Promise, Accept, Accepted, Decided, voter_count, current_period, last_cut, wake, new_kept, opening, Event}
+use Rattle.metering_model.specs.Deliveries.{Handled, silent, sending, learning, on_prepare, on_accept, unless_learned, after_promise, after_accepted, proposal, handled}
+use Rattle.metering_model.specs.Step.{play}
 use Rattle.metering_model.proofs.HoldingLaws.{held_place}
 use Rattle.metering_model.proofs.MissingLaws.{some_of}
 use Rattle.metering_model.proofs.PartLaws.{IsPartOf-grown, held_well, agree_where_none_missing}
 use Rattle.metering_model.proofs.Fronts.{front_goes_on, length-front}
 use Rattle.group_laws.specs.Headline.{IsPrefixOf, HoldsAfter}
-use Rattle.group_laws.specs.EveryRun.{IsNode, KeepsLimits, IsBallot, IsCut, IsVote, MayBeVote, IsPacket, IsSet, IsEntry, IsAttempt}
-use Rattle.group_laws.proofs.Quorum.{In}
+use Rattle.group_laws.specs.EveryRun.{IsNode, KeepsLimits, IsBallot, IsCut, MayBeVote, IsPacket, IsEntry, IsAttempt}
 use Rattle.group_laws.proofs.Kept.{sent_now}
 use Rattle.group_laws.proofs.Nodes.{length-nobody}
-use Rattle.group_laws.proofs.StepCases.{play_kept, after, started, start_packet, fresh_ballot, journaling, IsNext, MayHandle, MayStart, IsKeptBySteps, HasRoomFor}
+use Rattle.group_laws.proofs.StepCases.{play_kept, after, started, start_packet, fresh_ballot, journaling, IsNext, MayStart, IsKeptBySteps, HasRoomFor}
 use Rattle.group_laws.proofs.Steps.{length-push, length-replicate}
 use Rattle.group_laws.proofs.Told.{accepting_counted}
 use Rattle.group_laws.proofs.Fits.{IsOf, IsFitting, IsFitting-steps, IsFitting-opening}

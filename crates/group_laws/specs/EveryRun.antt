@@ -1,5 +1,5 @@
 -- What every run keeps, which the bodies of a group rest on: lengths, limits, and batches that are the journals'.
-use Rattle.std.specs.Prelude.{◌≡◌, ℕ, ◌+◌, ◌*◌, ◌<◌, ◌≤◌, true, length, All, Some, None, Option, slice_get}
+use Rattle.std.specs.Prelude.{◌≡◌, ℕ, ◌*◌, ◌<◌, ◌≤◌, true, length, All, Some, None, Option, slice_get}
 use Rattle.std.specs.Option.{is_some}
 use Rattle.metering_model.specs.Batch.{IsWellFormed}
 use Rattle.metering_model.specs.Cut.{Cut, IsGrowing, last_of}

@@ -14,7 +14,9 @@ use Rattle.metering_model.specs.declared.PricedKind.TheVariants.{Usage, Purchase
 use Rattle.metering_model.specs.Rating.{rated, flat, cost_at, pricing_quantity}
 use Rattle.metering_model.specs.Holding.{Holding, IsHolding, Placed}
 use Rattle.metering_model.specs.ValueAtSequence.{value_at}
-use Rattle.metering_model.specs.Row.{Class, New, Correction, row, charge, priced_kind, price_of, commitment_of}
+use Rattle.metering_model.specs.declared.ChargeClass.{ChargeClass}
+use Rattle.metering_model.specs.declared.ChargeClass.TheVariants.{New, Correction}
+use Rattle.metering_model.specs.Row.{row, charge, priced_kind, price_of, commitment_of}
 use Rattle.metering_model.specs.Rows.{rows}
 use Rattle.metering_model.specs.Totals.{amounts_of, amounts_in, AreWithinLimits}
 use Rattle.metering_model.proofs.SheetLaws.{price_has, commitment_has}
@@ -74,7 +76,7 @@ charge_within_limits sheet r was now ok h k =
 
 -- ---- rows
 
-row_within_limits : (sheet : Sheet) (issuer : Issuer) (r : Reading) (period : ℕ) (class : Class) (was now : ℤ) → IsSheet sheet → unsigned_abs was < value_limit → unsigned_abs now < value_limit →
+row_within_limits : (sheet : Sheet) (issuer : Issuer) (r : Reading) (period : ℕ) (class : ChargeClass) (was now : ℤ) → IsSheet sheet → unsigned_abs was < value_limit → unsigned_abs now < value_limit →
     AreWithinLimits (amounts_in (row sheet issuer r period class was now))
 row_within_limits sheet issuer r period class was now ok h k = charge_within_limits sheet r was now ok h k
 

@@ -10,7 +10,8 @@ use Rattle.metering_model.specs.Cut.{Cut, last_of}
 use Rattle.metering_model.specs.Sheet.{Sheet, Issuer}
 use Rattle.metering_model.specs.Holding.{Holding, Position, Placed, records_in_order, placed, up_to}
 use Rattle.metering_model.specs.ValueAtSequence.{value_at}
-use Rattle.metering_model.specs.Row.{Row, row, New, Correction}
+use Rattle.metering_model.specs.declared.ChargeClass.TheVariants.{New, Correction}
+use Rattle.metering_model.specs.Row.{Row, row}
 use Rattle.metering_model.specs.Rows.{PlacedRow, differ, row_of, row_of_reading, placed_row, placed_rows, rows}
 use Rattle.metering_model.proofs.HoldingLaws.{up_to_cases}
 use Rattle.metering_model.proofs.RecordPlaces.{place_in}

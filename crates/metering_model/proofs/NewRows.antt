@@ -9,7 +9,8 @@ use Rattle.metering_model.specs.Sheet.{Sheet, Issuer}
 use Rattle.metering_model.specs.Cut.{Cut, last_of}
 use Rattle.metering_model.specs.Holding.{Holding, Position, Placed, placed, records_in_order, up_to}
 use Rattle.metering_model.specs.ValueAtSequence.{value_at}
-use Rattle.metering_model.specs.Row.{Row, row, New, Correction}
+use Rattle.metering_model.specs.declared.ChargeClass.TheVariants.{New, Correction}
+use Rattle.metering_model.specs.Row.{Row, row}
 use Rattle.metering_model.specs.Rows.{differ, row_of, PlacedRow, placed_row, placed_rows}
 
 -- ---- where a row comes from

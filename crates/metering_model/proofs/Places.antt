@@ -11,7 +11,8 @@ use Rattle.metering_model.specs.Sheet.{Sheet, Issuer}
 use Rattle.metering_model.specs.Cut.{Cut, last_of}
 use Rattle.metering_model.specs.Holding.{Holding, IsHolding, comes_before, is_in_order, is_batch_at, held, Position, Placed, placed, records_in_order, is_same_place, reading_of, reading_at, up_to}
 use Rattle.metering_model.specs.ValueAtSequence.{value_at}
-use Rattle.metering_model.specs.Row.{Row, row, New}
+use Rattle.metering_model.specs.declared.ChargeClass.TheVariants.{New}
+use Rattle.metering_model.specs.Row.{Row, row}
 use Rattle.metering_model.specs.Rows.{row_of, PlacedRow, placed_row, placed_rows}
 use Rattle.metering_model.proofs.BatchOrder.{in_order_parts, place_of_batch}
 use Rattle.metering_model.proofs.HoldingLaws.{IsHolding-up_to, held-up_to}

@@ -9,7 +9,9 @@ use Rattle.metering_model.specs.declared.PricedKind.TheVariants.{Usage, Purchase
 use Rattle.metering_model.specs.Rating.{rated, flat, cost_at, pricing_quantity}
 use Rattle.metering_model.specs.Holding.{Holding, Position}
 use Rattle.metering_model.specs.ValueAtSequence.{value_at}
-use Rattle.metering_model.specs.Row.{Row, Class, row, charge, priced_kind, price_of, commitment_of, New, Correction}
+use Rattle.metering_model.specs.declared.ChargeClass.{ChargeClass}
+use Rattle.metering_model.specs.declared.ChargeClass.TheVariants.{New, Correction}
+use Rattle.metering_model.specs.Row.{Row, row, charge, priced_kind, price_of, commitment_of}
 use Rattle.metering_model.specs.Totals.{Amounts, amounts_of}
 use Rattle.row_laws.specs.Charged.{charged_at_once}
 use Rattle.row_laws.proofs.Sums.{times_minus}
@@ -68,7 +70,7 @@ value_before h at upto before = cond-true (ltb upto at.seq) (pos 0) _ (lt-ltb up
 
 -- a column that is the difference of an amount at the two values
 pub grows_by_value : (sheet : Sheet) (issuer : Issuer) (h : Holding) (column : Row → ℤ) (amount : Reading → ℤ → ℤ) →
-    ((r : Reading) (period : ℕ) (class : Class) (was now : ℤ) → column (row sheet issuer r period class was now) ≡ amount r now -ℤ amount r was) →
+    ((r : Reading) (period : ℕ) (class : ChargeClass) (was now : ℤ) → column (row sheet issuer r period class was now) ≡ amount r now -ℤ amount r was) →
     GrowsBy sheet issuer h column (λ at r upto. amount r (value_at h at upto))
 grows_by_value sheet issuer h column amount e = record {
   charged = λ period at r from to before in_to.

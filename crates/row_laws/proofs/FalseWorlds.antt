@@ -17,7 +17,8 @@ use Rattle.metering_model.specs.Holding.{Holding, Position}
 use Rattle.metering_model.specs.ValueAtSequence.{value_at}
 use Rattle.metering_model.specs.declared.PricedKind.TheVariants.{Usage}
 use Rattle.metering_model.specs.Rating.{costs, rated, pricing_quantity}
-use Rattle.metering_model.specs.Row.{Row, row, New}
+use Rattle.metering_model.specs.declared.ChargeClass.TheVariants.{New}
+use Rattle.metering_model.specs.Row.{Row, row}
 use Rattle.metering_model.specs.Rows.{placed_rows, rows}
 use Rattle.metering_model.specs.File.{header_line, file}
 use Rattle.metering_model.specs.Totals.{Amounts, amounts_of, added_up, sum_of, at_place, rows_of_place, totals}

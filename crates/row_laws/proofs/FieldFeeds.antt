@@ -14,7 +14,9 @@ use Rattle.metering_model.specs.declared.CommitmentCategory.{CommitmentCategory}
 use Rattle.metering_model.specs.declared.CommitmentCategory.TheVariants as commitment
 use Rattle.metering_model.specs.Batch.{Reading, IsReading, lacks}
 use Rattle.metering_model.specs.Sheet.{Sheet, Issuer, PriceRow, Commitment, service_category_text, commitment_category_text}
-use Rattle.metering_model.specs.Row.{Class, New, Correction, row, class_text, category_text, by_kind, or_null, price_of, commitment_of}
+use Rattle.metering_model.specs.declared.ChargeClass.{ChargeClass}
+use Rattle.metering_model.specs.declared.ChargeClass.TheVariants.{New, Correction}
+use Rattle.metering_model.specs.Row.{row, class_text, category_text, by_kind, or_null, price_of, commitment_of}
 use Rattle.metering_model.specs.File.{text_or_null, quantity_or_null, price_or_null, fields_of_row}
 use Rattle.metering_model.specs.SheetRules.{is_printable, is_label, is_capital, IsPriceRow, IsCommitment, IsSheet, IsIssuer}
 use Rattle.metering_model.proofs.LineFeeds.{is_no_feed, field_lacks_feed, stamp_lacks_feed, month_lacks_feed, json_lacks_feed, spelling_lacks_feed}
@@ -45,7 +47,7 @@ category_one_line Credit = refl
 category_one_line Tax = refl
 category_one_line Adjustment = refl
 
-class_one_line : (class : Class) → lacks 10 (text_or_null (class_text class)) ≡ true
+class_one_line : (class : ChargeClass) → lacks 10 (text_or_null (class_text class)) ≡ true
 class_one_line New = refl
 class_one_line Correction = refl
 
@@ -107,7 +109,7 @@ price_one_line f (Some a) h = let small = h a refl in spelling_lacks_feed 6 (pos
 cost_one_line : (n : ℤ) → unsigned_abs n < cost_limit → lacks 10 (spelling 12 n) ≡ true
 cost_one_line n h = spelling_lacks_feed 12 n (omega arith)
 
-pub fields_one_line : (sheet : Sheet) (issuer : Issuer) (r : Reading) (period : ℕ) (class : Class) (was now : ℤ) →
+pub fields_one_line : (sheet : Sheet) (issuer : Issuer) (r : Reading) (period : ℕ) (class : ChargeClass) (was now : ℤ) →
     IsSheet sheet → IsIssuer issuer → IsReading r → unsigned_abs was < value_limit → unsigned_abs now < value_limit →
     list_all (lacks 10) (fields_of_row (row sheet issuer r period class was now)) ≡ true
 fields_one_line sheet issuer r period class was now ok i rule small_was small_now =

@@ -13,7 +13,9 @@ use Rattle.metering_model.specs.Cut.{Cut, IsGrowing, zero_cut, last_of}
 use Rattle.metering_model.specs.Sheet.{Sheet, Issuer}
 use Rattle.metering_model.specs.Holding.{Holding, IsHolding, Placed}
 use Rattle.metering_model.specs.ValueAtSequence.{value_at}
-use Rattle.metering_model.specs.Row.{Row, Class, New, Correction, row}
+use Rattle.metering_model.specs.declared.ChargeClass.{ChargeClass}
+use Rattle.metering_model.specs.declared.ChargeClass.TheVariants.{New, Correction}
+use Rattle.metering_model.specs.Row.{Row, row}
 use Rattle.metering_model.specs.Rows.{rows}
 use Rattle.metering_model.specs.File.{quoted, header_line, fields_of_row, file}
 use Rattle.metering_model.proofs.NumberLaws.{spelling_spells, spelled_number}
@@ -98,7 +100,7 @@ sum_of_texts fs all =
 -- ---- the files of a group
 
 module _ (sheet : Sheet) (issuer : Issuer) (h : Holding) (ok : IsHolding h) (limits : IsSheet sheet) (names : IsIssuer issuer) where
-  row_has_line : (r : Reading) (period : ℕ) (class : Class) (was now : ℤ) → IsReading r → unsigned_abs was < value_limit → unsigned_abs now < value_limit → HasLine (row sheet issuer r period class was now)
+  row_has_line : (r : Reading) (period : ℕ) (class : ChargeClass) (was now : ℤ) → IsReading r → unsigned_abs was < value_limit → unsigned_abs now < value_limit → HasLine (row sheet issuer r period class was now)
   row_has_line r period class was now rule small_was small_now = record {
     one = line_lacks_feed (fields_of_row (row sheet issuer r period class was now)) (fields_one_line sheet issuer r period class was now limits names rule small_was small_now);
     small = (charge_within_limits sheet r was now limits small_was small_now).billed;

@@ -12,7 +12,8 @@ use Rattle.metering_model.specs.Sheet.{Sheet, Issuer}
 use Rattle.metering_model.specs.Rating.{Rated}
 use Rattle.metering_model.specs.Holding.{Holding, IsHolding, Position, Placed, records_in_order, placed, is_same_place, reading_at, up_to}
 use Rattle.metering_model.specs.ValueAtSequence.{value_at, value_given_by, journal_until}
-use Rattle.metering_model.specs.Row.{Row, Class, row}
+use Rattle.metering_model.specs.declared.ChargeClass.{ChargeClass}
+use Rattle.metering_model.specs.Row.{Row, row}
 use Rattle.metering_model.specs.Rows.{PlacedRow, placed_rows, rows}
 use Rattle.metering_model.specs.Totals.{Amounts, amounts_of, amounts_in, added_up, sum_of, rows_over, rows_of_place, totals}
 use Rattle.row_laws.specs.Charged.{last_cut, charged_at_once, charge_at, charges_up_to, files_over, files, all_rows}
@@ -51,7 +52,7 @@ value_at_zero h at ok =
 
 module _ (sheet : Sheet) (issuer : Issuer) (h : Holding) (ok : IsHolding h) (agents : ℕ) (cuts : List Cut) (grows : IsGrowing agents cuts)
     (column : Row → ℤ) (amount : Reading → ℤ → ℤ)
-    (differs : (r : Reading) (period : ℕ) (class : Class) (was now : ℤ) → column (row sheet issuer r period class was now) ≡ amount r now -ℤ amount r was)
+    (differs : (r : Reading) (period : ℕ) (class : ChargeClass) (was now : ℤ) → column (row sheet issuer r period class was now) ≡ amount r now -ℤ amount r was)
     (nothing : (r : Reading) → amount r (pos 0) ≡ pos 0)
   where
     abbrev worth : Position → Reading → ℕ → ℤ
@@ -137,7 +138,7 @@ same_amounts a b consumed priced list contracted billed effective =
 
 -- One of the six amounts is, in each row, what its reading is charged at the new value less what it is at the old one.
 pub record AddsUp (sheet : Sheet) (issuer : Issuer) (field : Amounts → ℤ) : Type 0 where
-  pub differs : (r : Reading) (period : ℕ) (class : Class) (was now : ℤ) →
+  pub differs : (r : Reading) (period : ℕ) (class : ChargeClass) (was now : ℤ) →
       field (amounts_in (row sheet issuer r period class was now)) ≡ field (amounts_of (charged_at_once sheet r now)) -ℤ field (amounts_of (charged_at_once sheet r was))
   pub nothing : (r : Reading) → field (amounts_of (charged_at_once sheet r (pos 0))) ≡ pos 0
 
