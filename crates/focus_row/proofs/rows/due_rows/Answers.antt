@@ -17,6 +17,6 @@ pub returns : goal.returns
 returns c =
     let due : is_due c.args.base c.args.period (batch_of c.args.batch.now) ≡ true = search rules in
     IfOk-weaker c.rows_of_readings.result _ _ (λ rows made.
-        made (empty_sheet c.args.base) c.args.period c.new-billing.ensures.texts
-        ∙ ap (λ issuer. new_rows (empty_sheet c.args.base) issuer c.args.period (batch_of c.args.batch.now).records) c.new-billing.ensures.issuer
-        ∙ sym (ap (λ due. if due then new_rows (empty_sheet c.args.base) c.args.issuer.now c.args.period (batch_of c.args.batch.now).records else []) due)) c.rows_of_readings.ensures
+    made (empty_sheet c.args.base) c.args.period c.new-billing.ensures.texts
+    ∙ ap (λ issuer. new_rows (empty_sheet c.args.base) issuer c.args.period (batch_of c.args.batch.now).records) c.new-billing.ensures.issuer
+    ∙ sym (ap (λ due. if due then new_rows (empty_sheet c.args.base) c.args.issuer.now c.args.period (batch_of c.args.batch.now).records else []) due)) c.rows_of_readings.ensures
