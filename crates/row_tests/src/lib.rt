@@ -1,0 +1,5 @@
+//! Tests by public calls alone.
+#![tactic(auto)]
+
+#[cfg(test)]
+mod rates;
