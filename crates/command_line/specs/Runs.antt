@@ -14,7 +14,7 @@ use Rattle.command_line.specs.declared.commands.Command.TheVariants.{Rate}
 
 -- the words behind the program's name, which is the first
 abbrev pub words_behind_name : {A B : Type 0} → IntoIter (String A) B → List Text
-words_behind_name args = drop 1 (map string_bytes (into_iter_items args))
+words_behind_name args = map string_bytes (drop 1 (into_iter_items args))
 
 -- What the process gave asks for the command: where it gave no words, nothing is asked for.
 abbrev pub AsksFor : {A B : Type 0} → Result (IntoIter (String A) B) Error → Command → Type 0
