@@ -65,3 +65,4 @@ static long moved(long number, int file, const void *bytes, size count) {
 
 long read(int file, void *bytes, size count) { return moved(NUMBER_OF_READ, file, bytes, count); }
 long write(int file, const void *bytes, size count) { return moved(NUMBER_OF_WRITE, file, bytes, count); }
+long __write(int file, const void *bytes, size count) { return moved(NUMBER_OF_WRITE, file, bytes, count); }
