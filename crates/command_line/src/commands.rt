@@ -3,7 +3,7 @@
 use period_cut::Period;
 
 /// What the program is asked for.
-#[derive(Clone, Copy, Debug, PartialEq, Eq)]
+#[derive(Clone, Copy, Debug, PartialEq)]
 pub enum Command {
     /// `rate --period P`: the file of one batch in that billing period.
     Rate { period: Period },

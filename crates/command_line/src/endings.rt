@@ -11,7 +11,7 @@ use crate::refusals::write_refusal;
 use counted_io::{Failed, Sink, write_all};
 
 /// Why the program did not do what it is asked for.
-#[derive(Clone, Copy, Debug, PartialEq, Eq, Drop)]
+#[derive(Clone, Copy, Drop)]
 pub enum Fault {
     /// The command line.
     Line(LineFault),

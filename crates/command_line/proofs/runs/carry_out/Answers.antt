@@ -1,4 +1,4 @@
-use Rattle.std.proofs.Common.{◌≡◌, ℕ, List, Option, Err, IfSome, refl, rules}
+use Rattle.std.proofs.Common.{◌≡◌, ℕ, List, Option, Err, IfSome, rules}
 use Rattle.metering_model.specs.declared.Refusal.{Refusal}
 use Rattle.schedule_player.specs.RateInput.{rated_file}
 use Rattle.command_line.specs.declared.commands.Command.{Command}
