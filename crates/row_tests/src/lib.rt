@@ -1,7 +1,9 @@
-//! Tests of rows and of their files, by public calls alone.
+//! Tests of rows, of their files and of the command line, by public calls alone.
 #![tactic(auto)]
 
 #[cfg(test)]
 mod files;
+#[cfg(test)]
+mod rates;
 #[cfg(test)]
 mod rows;

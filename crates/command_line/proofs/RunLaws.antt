@@ -1,0 +1,46 @@
+-- What the status of a fault tells of the fault.
+use Rattle.std.proofs.Common.{◌≡◌, ◌≢◌, ◌⊎◌, ℕ, Result, Err, inl, inr, refl}
+use Rattle.counted_io.specs.Counts.{count_after, next_count}
+use Rattle.metering_model.specs.declared.Refusal.{Refusal}
+use Rattle.schedule_player.specs.declared.rate.PlayFault.{PlayFault}
+use Rattle.schedule_player.specs.declared.rate.PlayFault.TheVariants as play
+use Rattle.schedule_player.specs.Faults.{tells_of_reader, tells_of_writer}
+use Rattle.command_line.specs.declared.words.LineFault.{LineFault}
+use Rattle.command_line.specs.declared.words.LineFault.TheVariants as on_line
+use Rattle.command_line.specs.declared.endings.Fault.{Fault}
+use Rattle.command_line.specs.declared.endings.Fault.TheVariants.{Line, Play}
+use Rattle.command_line.specs.Endings.{status_of}
+
+abbrev pub failed : PlayFault → Result (Unit {0}) PlayFault
+failed fault = Err fault
+
+pub is_refusal : (Q : Fault → Type 0) (fault : PlayFault) (status : ℕ) → status ≡ status_of (Play fault) → status ≡ 1 → Q (Play fault)
+    → (refusal : Refusal) × (fault ≡ play.Refused refusal) × Q (Play (play.Refused refusal))
+is_refusal Q play.Read status is one q = absurd (cc)
+is_refusal Q play.Write status is one q = absurd (cc)
+is_refusal Q play.OutOfMemory status is one q = absurd (cc)
+is_refusal Q (play.Refused refusal) status is one q = (refusal, refl, q)
+
+pub is_device : (Q : Fault → Type 0) (Kept : Type 0) (fault : PlayFault) (status reads_old reads writes_old writes : ℕ) → status ≡ status_of (Play fault) → status ≡ 3
+    → reads ≡ count_after (tells_of_reader (failed fault)) reads_old → writes ≡ count_after (tells_of_writer (failed fault)) writes_old
+    → (fault ≢ play.Write → Kept) → Q (Play fault)
+    → ((reads ≡ next_count reads_old) × (writes ≡ writes_old) × Kept × Q (Play play.Read)) ⊎ ((writes ≡ next_count writes_old) × (reads ≡ reads_old) × Q (Play play.Write))
+is_device Q Kept play.Read status reads_old reads writes_old writes is three read wrote kept q = inl (read, wrote, kept (λ same. absurd (cc)), q)
+is_device Q Kept play.Write status reads_old reads writes_old writes is three read wrote kept q = inr (wrote, read, q)
+is_device Q Kept play.OutOfMemory status reads_old reads writes_old writes is three read wrote kept q = absurd (cc)
+is_device Q Kept (play.Refused refusal) status reads_old reads writes_old writes is three read wrote kept q = absurd (cc)
+
+pub is_memory : (Q : Fault → Type 0) (fault : PlayFault) (status : ℕ) → status ≡ status_of (Play fault) → status ≡ 4 → Q (Play fault) → Q (Play play.OutOfMemory)
+is_memory Q play.Read status is four q = absurd (cc)
+is_memory Q play.Write status is four q = absurd (cc)
+is_memory Q play.OutOfMemory status is four q = q
+is_memory Q (play.Refused refusal) status is four q = absurd (cc)
+
+pub is_bad_line : (Q : Fault → Type 0) (fault : LineFault) (status : ℕ) → status ≡ status_of (Line fault) → status ≡ 2 → Q (Line fault)
+    → (fault ≡ on_line.Line) × Q (Line on_line.Line)
+is_bad_line Q on_line.Line status is two q = (refl, q)
+is_bad_line Q on_line.OutOfMemory status is two q = absurd (cc)
+
+pub is_memory_for_words : (Q : Fault → Type 0) (fault : LineFault) (status : ℕ) → status ≡ status_of (Line fault) → status ≡ 4 → Q (Line fault) → Q (Line on_line.OutOfMemory)
+is_memory_for_words Q on_line.Line status is four q = absurd (cc)
+is_memory_for_words Q on_line.OutOfMemory status is four q = q

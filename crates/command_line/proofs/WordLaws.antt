@@ -1,0 +1,85 @@
+-- What a parse that succeeds, or fails, says of what the words ask for.
+use Rattle.std.proofs.Common.{◌≡◌, ◌∙◌, sym, ap, ℕ, ◌<◌, ◌^◌, List, [], ◌∷◌, codes, Option, Some, None, option_map, true, refl, inl, inr, arith}
+use Rattle.std.specs.Str.Parse.{ParsesUnsigned, ExplainsUnsignedError, HasUnsignedDigitsIfOk}
+use Rattle.clap.specs.Words.{ReadsOne, Row, Text, found_of, is_simple, kind_of, one_of, one_text, rows_of, subcommand_of, subcommand_rows_of}
+use Rattle.clap.specs.Matches.{subcommand_name_of}
+use Rattle.clap.specs.Kinds.{Kinds, HasKind}
+use Rattle.clap.specs.Faults.{fault_of, is_simple_and_free}
+use Rattle.clap.specs.declared.parser.matches.ArgMatches.{ArgMatches}
+use Rattle.clap.specs.declared.parser.matches.ArgMatches.TheViews.{out-ArgMatches, out-SubCommand}
+use Rattle.clap.specs.declared.parser.matches.Found.{Found}
+use Rattle.clap.specs.declared.error.Error.{Error}
+use Rattle.clap.specs.declared.error.kind.ErrorKind.TheVariants.{OutOfMemory}
+use Rattle.clap.proofs.WalkLemmas.{one_text-rows}
+use Rattle.clap.proofs.OnLiterals.{clap_on_literals}
+use Rattle.std.specs.Box.{box_value}
+use Rattle.metering_model.specs.Dates.{IsPeriod}
+use Rattle.command_line.specs.declared.commands.Command.{Command}
+use Rattle.command_line.specs.declared.commands.Command.TheVariants.{Rate}
+use Rattle.command_line.specs.CommandLine.{grammar_of_focusd, Asks, SpellsNumber}
+
+pub grammar_is_simple : is_simple grammar_of_focusd ≡ true
+unfolding clap_on_literals
+grammar_is_simple = refl
+
+pub grammar_is_free : is_simple_and_free grammar_of_focusd ≡ true
+unfolding clap_on_literals
+grammar_is_free = refl
+
+-- what has no fault fails for want of memory alone
+pub only_memory : (kinds : Kinds) (e : Error) → kinds ≡ [] → HasKind kinds e → kind_of e ≡ OutOfMemory
+only_memory [] e none (inl memory) = memory
+only_memory [] e none (inr among) = absurd among
+only_memory (k ∷ ks) e none fault = absurd (cc)
+
+pub taken_of : (words : List Text) (command : Command) → Asks words command → fault_of grammar_of_focusd words ≡ []
+taken_of words (Rate period) asked = asked.taken
+
+abbrev entered_of : {A : Type 0} → Option A → (A → Text) → (A → List Row) → Option (Text × List Row)
+entered_of {A} o name_of rows = let both : A → Text × List Row = λ a. (name_of a, rows a) in option_map both o
+
+both_parts : {A : Type 0} (o : Option A) (name_of : A → Text) (rows : A → List Row) (name : Text) (rs : List Row)
+    → option_map name_of o ≡ Some name → option_map (λ (p : Text × List Row). p.1) (entered_of o name_of rows) ≡ Some rs
+    → entered_of o name_of rows ≡ Some (name, rs)
+both_parts None name_of rows name rs named has_rows = absurd (cc)
+both_parts (Some a) name_of rows name rs named has_rows = cc
+
+-- a subcommand is met with its name and its rows
+pub met : (m : ArgMatches) (name : Text) (rs : List Row) → subcommand_name_of m ≡ Some name → option_map (λ (p : Text × List Row). p.1) (subcommand_rows_of m) ≡ Some rs
+    → subcommand_rows_of m ≡ Some (name, rs)
+met m name rs named has_rows =
+    both_parts (out-ArgMatches m).subcommand (λ b. (out-SubCommand (box_value b)).name.now) (λ b. rows_of (found_of (out-SubCommand (box_value b)).matches)) name rs named has_rows
+
+-- what `get_one` says of a number
+abbrev pub Reads : Text → Option ℕ → Type 0
+Reads = ReadsOne (λ t r. ParsesUnsigned 16 10 t r × ExplainsUnsignedError 10 t r × HasUnsignedDigitsIfOk t r)
+
+-- a number that is read is spelled by a text of the option
+pub spelled_number : (f : Found) (o : Option Text) (r : Option ℕ) (n : ℕ) → one_text f (codes "period") ≡ o → r ≡ Some n
+    → (o ≡ None → r ≡ None) → ((t : Text) → o ≡ Some t → Reads t r)
+    → (t : Text) × (one_of (codes "period") (rows_of f) ≡ Some t) × SpellsNumber t n
+spelled_number f None r n is is_read none value = let gone = none refl in absurd (cc)
+spelled_number f (Some t) r n is is_read none value =
+    let read = rw is_read at (value t refl) in
+    (t, sym (one_text-rows f (codes "period")) ∙ is, (read.0.0.0, sym read.0.1))
+
+-- a text that spells a number below 2^16 is read as it
+pub no_number : (f : Found) (t : Text) (r : Option ℕ) (n : ℕ) → one_of (codes "period") (rows_of f) ≡ Some t → SpellsNumber t n → n < 2 ^ 16
+    → ((u : Text) → one_text f (codes "period") ≡ Some u → Reads u r) → r ≡ Some n
+no_number f t None n given spelled small value =
+    let failed = value t (one_text-rows f (codes "period") ∙ given) in
+    absurd (failed.1.0 (spelled.0, rw spelled.1 small))
+no_number f t (Some m) n given spelled small value =
+    let read = value t (one_text-rows f (codes "period") ∙ given) in
+    ap Some (read.0.1 ∙ spelled.1)
+
+-- Words that ask for the subcommand whose rows were found ask for the number that is read there.
+pub is_read : (words : List Text) (f : Found) (r : Option ℕ) (command : Command) → Asks words command
+    → subcommand_of grammar_of_focusd words ≡ Some (codes "rate", rows_of f) → ((u : Text) → one_text f (codes "period") ≡ Some u → Reads u r)
+    → (n : ℕ) × (r ≡ Some n) × IsPeriod n
+is_read words f r (Rate period) asked named value =
+    let both = ap (option_map (λ (p : Text × List Row). p.1)) (sym asked.named ∙ named) in
+    let same : asked.rows ≡ rows_of f = cc in
+    let given = rw same at asked.given in
+    let small : period < 2 ^ 16 = omega (arith, asked.within) in
+    (period, no_number f asked.text r period given asked.spelled small value, asked.within)

@@ -1,0 +1,35 @@
+use Rattle.std.proofs.Common.{ap, Err}
+use Rattle.std.specs.Io.KnownBytes.{Keeps}
+use Rattle.command_line.specs.declared.endings.Fault.{Fault}
+use Rattle.command_line.specs.Endings.{Tells}
+use Rattle.command_line.proofs.RunLaws.{is_refusal, is_device, is_memory, is_bad_line, is_memory_for_words}
+use Rattle.command_line.proofs.runs.run.Goals as goal
+
+pub returns-in-Err-carry_out-clause-refused : goal.returns-in-Err-carry_out-clause-refused
+returns-in-Err-carry_out-clause-refused g c one =
+    let told : Fault → Type 0 = λ f. Tells f (g.E.Sink.contents c.args.errors.now) (g.E.Sink.contents c.ending.new.writer) (g.E.Sink.failed_calls c.args.errors.now) (g.E.Sink.failed_calls c.ending.new.writer) in
+    let is = is_refusal told c.in-Err-carry_out.fault c.ending.result c.ending.ensures.status one c.ending.ensures.told in
+    (c.in-Ok.command, is.0, c.in-Ok.ensures.asked, c.in-Err-carry_out.ensures.refused is.0 (ap Err is.1), is.2)
+
+pub returns-in-Err-carry_out-clause-device : goal.returns-in-Err-carry_out-clause-device
+returns-in-Err-carry_out-clause-device g c three =
+    let told : Fault → Type 0 = λ f. Tells f (g.E.Sink.contents c.args.errors.now) (g.E.Sink.contents c.ending.new.writer) (g.E.Sink.failed_calls c.args.errors.now) (g.E.Sink.failed_calls c.ending.new.writer) in
+    let kept = Keeps (g.W.Sink.contents c.args.writer.now) (g.W.Sink.contents c.carry_out.new.writer) in
+    let e = c.in-Err-carry_out.ensures in
+    (c.in-Ok.command, c.in-Ok.ensures.asked, is_device told kept c.in-Err-carry_out.fault c.ending.result _ _ _ _ c.ending.ensures.status three e.reads e.writes e.kept c.ending.ensures.told)
+
+pub returns-in-Err-carry_out-clause-memory : goal.returns-in-Err-carry_out-clause-memory
+returns-in-Err-carry_out-clause-memory g c four =
+    let told : Fault → Type 0 = λ f. Tells f (g.E.Sink.contents c.args.errors.now) (g.E.Sink.contents c.ending.new.writer) (g.E.Sink.failed_calls c.args.errors.now) (g.E.Sink.failed_calls c.ending.new.writer) in
+    is_memory told c.in-Err-carry_out.fault c.ending.result c.ending.ensures.status four c.ending.ensures.told
+
+pub returns-in-Err-clause-not_asked : goal.returns-in-Err-clause-not_asked
+returns-in-Err-clause-not_asked g c two =
+    let told : Fault → Type 0 = λ f. Tells f (g.E.Sink.contents c.args.errors.now) (g.E.Sink.contents c.ending-in-Err.new.writer) (g.E.Sink.failed_calls c.args.errors.now) (g.E.Sink.failed_calls c.ending-in-Err.new.writer) in
+    let is = is_bad_line told c.in-Err.fault c.ending-in-Err.result c.ending-in-Err.ensures.status two c.ending-in-Err.ensures.told in
+    (c.in-Err.ensures.not_asked (ap Err is.0), is.1)
+
+pub returns-in-Err-clause-memory : goal.returns-in-Err-clause-memory
+returns-in-Err-clause-memory g c four =
+    let told : Fault → Type 0 = λ f. Tells f (g.E.Sink.contents c.args.errors.now) (g.E.Sink.contents c.ending-in-Err.new.writer) (g.E.Sink.failed_calls c.args.errors.now) (g.E.Sink.failed_calls c.ending-in-Err.new.writer) in
+    is_memory_for_words told c.in-Err.fault c.ending-in-Err.result c.ending-in-Err.ensures.status four c.ending-in-Err.ensures.told

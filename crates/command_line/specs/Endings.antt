@@ -1,0 +1,34 @@
+-- How the program ends at a fault.
+use Rattle.std.specs.Prelude.{◌≡◌, ◌⊎◌, ℕ, List, ◌++◌, Option, codes}
+use Rattle.std.specs.Io.KnownBytes.{Appends}
+use Rattle.counted_io.specs.Counts.{next_count}
+use Rattle.metering_model.specs.Transcript.{line, refusal_text}
+use Rattle.command_line.specs.declared.words.LineFault.TheVariants as on_line
+use Rattle.schedule_player.specs.declared.rate.PlayFault.TheVariants as play
+use Rattle.command_line.specs.declared.endings.Fault.{Fault}
+use Rattle.command_line.specs.declared.endings.Fault.TheVariants.{Line, Play}
+
+-- 1 refused input, 2 the command line, 3 a failed read or write, 4 want of memory
+abbrev pub status_of : Fault → ℕ
+status_of (Line on_line.Line) = 2
+status_of (Line on_line.OutOfMemory) = 4
+status_of (Play (play.Refused refusal)) = 1
+status_of (Play play.Read) = 3
+status_of (Play play.Write) = 3
+status_of (Play play.OutOfMemory) = 4
+
+abbrev pub message_of : Fault → List ℕ
+message_of (Line on_line.Line) = codes "bad command line"
+message_of (Line on_line.OutOfMemory) = codes "out of memory"
+message_of (Play (play.Refused refusal)) = codes "refused " ++ refusal_text refusal
+message_of (Play play.Read) = codes "read failed"
+message_of (Play play.Write) = codes "write failed"
+message_of (Play play.OutOfMemory) = codes "out of memory"
+
+-- the line on standard error
+abbrev pub ending_line : Fault → List ℕ
+ending_line fault = line (codes "focusd: " ++ message_of fault)
+
+-- The line of the fault was written and no call failed, or one call did.
+abbrev pub Tells : Fault → Option (List ℕ) → Option (List ℕ) → ℕ → ℕ → Type 0
+Tells fault old new failed_old failed_new = (Appends old new (ending_line fault) × (failed_new ≡ failed_old)) ⊎ (failed_new ≡ next_count failed_old)

@@ -1,0 +1,30 @@
+-- What a run of the program takes and leaves.
+use Rattle.std.specs.Prelude.{◌≡◌, ℕ, List, String, Option, Result, Ok, Err, IfSome, map, drop, string_bytes}
+use Rattle.std.specs.Io.KnownBytes.{Appends}
+use Rattle.std.specs.Vec.Iter.{into_iter_items}
+use Rattle.std.specs.declared.vec.IntoIter.{IntoIter}
+use Rattle.std.specs.declared.io.Error.{Error}
+use Rattle.clap.specs.Words.{Text}
+use Rattle.metering_model.specs.declared.Refusal.{Refusal}
+use Rattle.schedule_player.specs.RateInput.{rated_file}
+use Rattle.schedule_player.specs.Charges.{IsFileOf}
+use Rattle.command_line.specs.CommandLine.{Asks}
+use Rattle.command_line.specs.declared.commands.Command.{Command}
+use Rattle.command_line.specs.declared.commands.Command.TheVariants.{Rate}
+
+-- the words behind the program's name, which is the first
+abbrev pub words_behind_name : {A B : Type 0} → IntoIter (String A) B → List Text
+words_behind_name args = map string_bytes (drop 1 (into_iter_items args))
+
+-- What the process gave asks for the command: where it gave no words, nothing is asked for.
+abbrev pub AsksFor : {A B : Type 0} → Result (IntoIter (String A) B) Error → Command → Type 0
+AsksFor (Ok args) command = Asks (words_behind_name args) command
+AsksFor (Err error) command = ⊥
+
+-- What was asked for was done: the file of the input was written, and nothing else.
+abbrev pub IsDone : Command → Option (List ℕ) → Option (List ℕ) → Option (List ℕ) → Type 0
+IsDone (Rate period) known old new = (input text : List ℕ) × IsFileOf known period input text × Appends old new text
+
+-- The command refuses the input so, where its bytes are known.
+abbrev pub Refuses : Command → Option (List ℕ) → Refusal → Type 0
+Refuses (Rate period) known refusal = IfSome known (λ input. rated_file period input ≡ Err refusal)

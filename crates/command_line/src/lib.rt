@@ -1,0 +1,14 @@
+//! What stands behind `main`: the words that the program is given, what it does at them, and how it
+//! ends.
+#![tactic(auto)]
+
+mod commands;
+mod endings;
+mod refusals;
+mod runs;
+mod words;
+
+pub use commands::Command;
+pub use endings::{Fault, ending};
+pub use runs::run;
+pub use words::{LineFault, command};

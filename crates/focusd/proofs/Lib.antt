@@ -1,5 +1,0 @@
-pub mod Amounts
-pub mod FlatRows
-pub mod FeedLaws
-pub mod ChargesLaws
-pub mod LineLaws

@@ -1,5 +1,0 @@
-pub mod RateInput
-pub mod Charges
-pub mod Faults
-pub mod CommandLine
-pub mod Endings

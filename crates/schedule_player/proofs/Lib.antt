@@ -1,0 +1,4 @@
+pub mod Amounts
+pub mod FlatRows
+pub mod FeedLaws
+pub mod ChargesLaws

@@ -1,0 +1,44 @@
+use Rattle.std.proofs.Common.{◌≡◌, List, ℕ, None, Ok, Err, ap, rules, refl}
+use Rattle.metering_model.specs.Batch.{Batch}
+use Rattle.metering_model.specs.BatchReading.{batch_in}
+use Rattle.metering_model.specs.File.{file}
+use Rattle.metering_model.specs.Sheet.{Issuer}
+use Rattle.focus_row.specs.declared.rows.RowFault.TheVariants.{OutOfMemory}
+use Rattle.focus_row.specs.OneBatch.{empty_sheet, rows_alone, first_refusal}
+use Rattle.batch_view.specs.Batches.{batch_of}
+use Rattle.schedule_player.specs.RateInput.{base_month, file_by}
+use Rattle.schedule_player.proofs.rate.rate_batch.Goals as goal
+
+-- where each step answers, so does their chain
+rated : (issuer : Issuer) (period : ℕ) (input : List ℕ) (b : Batch) → batch_in input ≡ Ok b → b.seq ≡ 1 → first_refusal b.records ≡ None
+    → file_by issuer period input ≡ Ok (file (rows_alone (empty_sheet base_month) issuer b period))
+rated issuer period input b is_batch is_first is_taken = rw (is_batch, is_first, is_taken) refl
+
+pub returns-in-Err-one_batch_rows-clause-memory : goal.returns-in-Err-one_batch_rows-clause-memory
+returns-in-Err-one_batch_rows-clause-memory g c is =
+    let input = c.args.input.now in
+    let read = c.in-Ok.ensures.ok in
+    let first : (batch_of input).seq ≡ 1 = search rules in
+    let fault : c.in-Err-one_batch_rows.fault ≡ OutOfMemory = c.fault_of_rows.ensures.memory (search rules) in
+    let taken : first_refusal (batch_of input).records ≡ None = rw read.0 at (c.in-Err-one_batch_rows.ensures.memory (ap Err fault)) in
+    (_, rated c.args.issuer.now c.args.period input (batch_of input) read.1 first taken)
+
+pub returns-in-Ok-write_file-clause-file : goal.returns-in-Ok-write_file-clause-file
+returns-in-Ok-write_file-clause-file g c =
+    let input = c.args.input.now in
+    let read = c.in-Ok.ensures.ok in
+    let rows = c.in-Ok-one_batch_rows.ensures in
+    let first : (batch_of input).seq ≡ 1 = search rules in
+    let taken : first_refusal (batch_of input).records ≡ None = rw read.0 at rows.taken in
+    let month : c.of.result ≡ base_month = search rules in
+    let is_file = rw (read.0, month) at rows.rows in
+    let written = rw (c.deref.ensures.value, is_file) at c.in-Ok-write_file.ensures.written in
+    (_, rated c.args.issuer.now c.args.period input (batch_of input) read.1 first taken, written)
+
+pub returns-clause-memory : goal.returns-clause-memory
+returns-clause-memory g c is =
+    let input = c.args.input.now in
+    let read = c.in-Ok.ensures.ok in
+    let first : (batch_of input).seq ≡ 1 = search rules in
+    let taken : first_refusal (batch_of input).records ≡ None = rw read.0 at c.in-Ok-one_batch_rows.ensures.taken in
+    (_, rated c.args.issuer.now c.args.period input (batch_of input) read.1 first taken)

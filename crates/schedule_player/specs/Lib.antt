@@ -1,0 +1,3 @@
+pub mod RateInput
+pub mod Charges
+pub mod Faults
