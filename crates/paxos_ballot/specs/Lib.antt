@@ -1,0 +1,4 @@
+pub mod Inner
+pub mod Promises
+pub mod Proposals
+pub mod TallyAmong
