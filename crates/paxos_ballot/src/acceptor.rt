@@ -33,6 +33,8 @@ pub enum PrepareStep {
 }
 
 impl Acceptor {
+    ghost use Rattle.paxos_ballot.specs.declared.acceptor.PrepareStep.TheVariants.{Promise, Silent};
+
     /// Nothing is promised, and nothing accepted.
     pub fn new() -> Acceptor
         ensures { result ≡ new_acceptor }

@@ -1,5 +1,5 @@
 //! A proposer's attempt at one ballot.
-ghost use Rattle.std.specs.Prelude.{◌≡◌, ◌<◌, ◌≤◌, length, IsTrue, IsFalse, if◌then◌else◌, Some, None};
+ghost use Rattle.std.specs.Prelude.{◌≡◌, ◌<◌, ◌≤◌, length, if◌then◌else◌, Some, None};
 ghost use Rattle.std.specs.Option.{option_copied};
 ghost use Rattle.metering_model.specs.Ballot.{new_attempt, greater_vote};
 ghost use Rattle.paxos_ballot.specs.Promises.{proposes, after_promise};
@@ -39,6 +39,9 @@ pub enum PromiseStep<'a> {
 }
 
 impl Attempt {
+    ghost use Rattle.std.specs.Borrow.{sem};
+    ghost use Rattle.paxos_ballot.specs.Lending.{ends_as};
+
     /// Nobody has promised.
     pub fn new(ballot: Ballot, nodes: u8) -> Attempt
         requires { nodes ≤ 99 }
@@ -70,7 +73,7 @@ impl Attempt {
     /// The vote of the greatest ballot among the one told so far and this one. Of two votes of one ballot it is
     /// the one told before.
     pub fn greatest_told<'a>(&'a self, vote: Option<&'a Vote>) -> Option<&'a Vote>
-        ensures { option_copied result ≡ greater_vote self.now.told (option_copied vote) }
+        ensures { option_copied result ≡ greater_vote self.now.told (option_copied vote.entry) }
     {
         let Some(told) = &self.told else {
             return vote;
@@ -89,8 +92,7 @@ impl Attempt {
     /// once, as the nodes that promised become a majority; nothing is marked from then on.
     pub fn on_promise(&mut self, from: u8, vote: Option<Vote>) -> PromiseStep<'_>
         requires { from < length self.old.promising }
-        ensures sent { IsTrue self.old.sent → self.new ≡ self.old }
-        ensures marked { IsFalse self.old.sent → self.new ≡ after_promise from vote self.old }
+        ensures* state { sem 𝓛 (ends_as self.entry (after_promise from vote self.old)) }
         ensures answer { proposal_in result ≡ (if proposes from self.old then Some (greater_vote self.old.told vote) else None) }
     {
         if self.sent {
