@@ -1,7 +1,7 @@
 //! A learner's tally.
 ghost use Rattle.std.specs.Prelude.{◌≡◌, ◌<◌, ◌≤◌, [], OnOk, OnErr, IfOk, if◌then◌else◌, Some, None, option_map};
 ghost use Rattle.std.specs.Arc.{arc_value};
-ghost use Rattle.metering_model.specs.Ballot.{accepting_at, with_accepted, has_majority};
+ghost use Rattle.metering_model.specs.Ballot.{with_node, accepting_at, with_accepted, has_majority};
 
 use crate::ballots::Vote;
 use crate::node_set::NodeSet;
@@ -52,15 +52,23 @@ impl Tally {
         ensures unchanged { OnErr result (self.new ≡ self.old) }
     {
         let ballot = vote.ballot.number();
-        let accepting = match self.sets.get(&ballot) {
-            Some(accepting) => accepting.with(from),
-            None => NodeSet::nobody(self.nodes).with(from),
-        };
+        let accepting = self.accepting_with(ballot, from);
         let is_chosen = accepting.has_majority();
         match self.sets.insert(ballot, accepting) {
             Ok(_) => {}
             Err(_) => return Err(AllocError),
         }
-        if is_chosen { Ok(Some(vote.cut)) } else { Ok(None) }
+        Ok(if is_chosen { Some(vote.cut) } else { None })
+    }
+
+    // Which nodes accepted at the ballot, with one more.
+    fn accepting_with(&self, ballot: u32, from: u8) -> NodeSet
+        requires { from < self.now.nodes }
+        ensures { result ≡ with_node from (accepting_at self.now.nodes ballot self.now.accepting) }
+    {
+        match self.sets.get(&ballot) {
+            Some(accepting) => accepting.with(from),
+            None => NodeSet::nobody(self.nodes).with(from),
+        }
     }
 }
