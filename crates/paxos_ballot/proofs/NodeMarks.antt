@@ -1,10 +1,9 @@
 -- The bits of a number as marks of nodes.
-use Rattle.std.proofs.Common.{◌≡◌, ℕ, zero, suc, ◌+◌, ◌*◌, ◌/◌, ◌%◌, ◌^◌, ◌<◌, ◌≤◌, Bool, true, false, cond, ◌==◌, List, [], ◌∷◌, length, set, refl, bit_or, count_ones, count_by, arith, eqb}
+use Rattle.std.proofs.Common.{◌≡◌, ℕ, zero, suc, ◌/◌, ◌%◌, ◌^◌, ◌<◌, true, false, cond, ◌==◌, ◌∷◌, length, set, refl, bit_or, count_ones, count_by, arith}
 use Rattle.std.proofs.lemmas.Nat.{or_shr, or_mod}
-use mathlib.Core.Path.{ap, ap₂, sym, ◌∙◌, subst}
+use mathlib.Core.Path.{ap, ap₂, ◌∙◌}
 use lib.Bits.{or_step, or_zero_r}
 use lib.Count.{ones_step, ones-le}
-use lib.Pow as pow
 use native.Mathlib.Nat.{pow-suc}
 use Rattle.std.proofs.lemmas.List.Sums.{sum_by-cons}
 use Rattle.metering_model.specs.Ballot.{nobody}

@@ -104,12 +104,12 @@ fn an_acceptor_keeps_to_the_greatest_ballot(rt: HostRuntime) -> Result<(), Fail>
 #[test]
 fn an_acceptance_counts_once(rt: HostRuntime) -> Result<(), Fail> {
     let mut tally = Tally::new(rt.alloc(), 2);
-    for _ in 0..2 {
-        let accepted = vote(rt.alloc(), 1, 10)?;
-        assert!(rt; tally.on_accepted(1, accepted)?.is_none());
-    }
-    let accepted = vote(rt.alloc(), 1, 10)?;
-    let cut = tally.on_accepted(0, accepted)?;
+    let first = vote(rt.alloc(), 1, 10)?;
+    assert!(rt; tally.on_accepted(1, first)?.is_none());
+    let again = vote(rt.alloc(), 1, 10)?;
+    assert!(rt; tally.on_accepted(1, again)?.is_none());
+    let other = vote(rt.alloc(), 1, 10)?;
+    let cut = tally.on_accepted(0, other)?;
     assert_eq!(rt; cut.map(|cut| cut.agents()), Some(10));
     Ok(())
 }

@@ -1,5 +1,5 @@
 -- A set of nodes as the bits of one number.
-use Rattle.std.specs.Prelude.{ℕ, zero, suc, ◌/◌, ◌%◌, ◌^◌, ◌<◌, ◌≤◌, ◌==◌, List, [], ◌∷◌}
+use Rattle.std.specs.Prelude.{ℕ, zero, suc, ◌/◌, ◌%◌, ◌^◌, ◌<◌, ◌≤◌, ◌==◌, [], ◌∷◌}
 use Rattle.metering_model.specs.Ballot.{Nodes}
 
 -- the marks of so many nodes: bit i stands for node i

@@ -1,7 +1,7 @@
 -- What a tally keeps in its type.
-use Rattle.std.specs.Prelude.{◌≡◌, ℕ, ◌≤◌, List, length, All}
+use Rattle.std.specs.Prelude.{◌≡◌, ℕ, ◌≤◌, length, All}
 use Rattle.std.specs.Map.{values_of}
-use Rattle.metering_model.specs.Ballot.{Nodes, Tally}
+use Rattle.metering_model.specs.Ballot.{Tally}
 
 -- each set of a tally has a mark for each node
 pub record IsTally (nodes : ℕ) (tally : Tally) : Type 0 where

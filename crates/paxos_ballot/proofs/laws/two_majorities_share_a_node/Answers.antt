@@ -1,6 +1,6 @@
 -- Two majorities have more marks than there are nodes.
-use Rattle.std.proofs.Common.{◌≡◌, ℕ, ◌+◌, ◌/◌, ◌<◌, ◌≤◌, length, IsTrue, arith, nat_le}
-use Rattle.metering_model.specs.Ballot.{Nodes, majority, has_majority}
+use Rattle.std.proofs.Common.{ℕ, ◌+◌, ◌/◌, ◌≤◌, IsTrue, arith}
+use Rattle.metering_model.specs.Ballot.{Nodes, has_majority}
 use Rattle.paxos_ballot.proofs.SharedNode.{marked, shared_node}
 use Rattle.paxos_ballot.proofs.laws.two_majorities_share_a_node.Goals as goal
 

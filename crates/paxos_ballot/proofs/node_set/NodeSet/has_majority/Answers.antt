@@ -1,5 +1,5 @@
 -- As many bits as marks are set.
-use Rattle.std.proofs.Common.{rules, arith}
+use Rattle.std.proofs.Common.{rules}
 use Rattle.paxos_ballot.proofs.NodeMarks.{length-marks_of, ones-marks_of}
 use Rattle.paxos_ballot.proofs.node_set.NodeSet.has_majority.Goals as goal
 

@@ -1,8 +1,7 @@
 -- The node's bit is set, and the others stay.
-use Rattle.std.proofs.Common.{◌≡◌, ◌<◌, ◌≤◌, ◌*◌, ◌%◌, ◌^◌, arith, length}
+use Rattle.std.proofs.Common.{◌<◌, arith, length}
 use mathlib.Core.Path.{ap}
 use Rattle.std.proofs.lemmas.Nat.{one_shl, or_lt, pow_below}
-use Rattle.paxos_ballot.specs.Inner.NodeMarks.{marks_of, IsNodeSet}
 use Rattle.paxos_ballot.proofs.NodeMarks.{length-marks_of, marks_of-or}
 use Rattle.paxos_ballot.proofs.node_set.NodeSet.with.Goals as goal
 
