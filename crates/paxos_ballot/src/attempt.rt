@@ -88,8 +88,11 @@ impl Attempt {
         }
     }
 
-    /// Takes the promise of a node at this attempt's ballot, with the vote that it tells. A proposal is answered
+    /// Takes the promise of a node for this attempt's ballot, with the vote that it tells. A proposal is answered
     /// once, as the nodes that promised become a majority; nothing is marked from then on.
+    ///
+    /// The vote is lent. Who is to send its cut takes a share of it before, by [`Attempt::proposes`] and
+    /// [`Attempt::greatest_told`], so that want of memory leaves the attempt as it was.
     pub fn on_promise(&mut self, from: u8, vote: Option<Vote>) -> PromiseStep<'_>
         requires { from < length self.old.promising }
         ensures* state { sem 𝓛 (ends_as self.entry (after_promise from vote self.old)) }

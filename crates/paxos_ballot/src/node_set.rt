@@ -36,9 +36,11 @@ impl NodeSet {
         requires { node < length self.now }
         ensures { result ≡ with_node node self.now }
     {
+        let nodes = self.nodes;
+        let mark = 1 << u32::from(node);
         NodeSet {
-            nodes: self.nodes,
-            bits: self.bits | (1 << u32::from(node)),
+            nodes,
+            bits: self.bits | mark,
         }
     }
 

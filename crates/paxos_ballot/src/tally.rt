@@ -58,7 +58,7 @@ impl Tally {
             Ok(_) => {}
             Err(_) => return Err(AllocError),
         }
-        Ok(if is_chosen { Some(vote.cut) } else { None })
+        Ok(is_chosen.then_some(vote.cut))
     }
 
     // Which nodes accepted at the ballot, with one more.

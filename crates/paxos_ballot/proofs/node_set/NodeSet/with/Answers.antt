@@ -10,8 +10,8 @@ below c =
     let size = length-marks_of c.self.inside.nodes c.self.inside.bits in
     omega (arith, size, ap length c.self.view_is)
 
-pub overflow_shl-result : goal.overflow_shl-result
-overflow_shl-result c = omega (arith, below c, c.self.invariant.few)
+pub overflow_shl-mark : goal.overflow_shl-mark
+overflow_shl-mark c = omega (arith, below c, c.self.invariant.few)
 
 pub invariant_of-result : goal.invariant_of-result
 invariant_of-result c =

@@ -6,7 +6,6 @@ use Rattle.std.proofs.lemmas.Map.Views.{All-values-insert_entry}
 use Rattle.metering_model.specs.Ballot.{accepting_at, has_majority}
 use Rattle.paxos_ballot.proofs.Tallies.{accepting_at-found, length-with_accepted}
 use Rattle.paxos_ballot.proofs.tally.Tally.on_accepted.Goals as goal
-use Rattle.paxos_ballot.proofs.tally.Tally.on_accepted.Goals.{then-is_chosen, else-is_chosen}
 
 pub invariant_of-self-2 : goal.invariant_of-self-2
 invariant_of-self-2 c =
@@ -16,7 +15,7 @@ invariant_of-self-2 c =
     (record { few = c.self.invariant.few; whole = All-values-insert_entry nat_cmp _ _ (λ set. length set ≡ c.self.inside.nodes) _ c.self.invariant.whole size })
 
 -- the answer asks of the set that was put what the clause asks of the set that is there
-chosen : (c : goal.Joined-is_chosen) → has_majority c.args.self.now.nodes (accepting_at c.args.self.now.nodes c.args.vote.ballot c.insert.new.self.entries) ≡ c.has_majority-is_chosen.result
+chosen : (c : goal.After-then_some) → has_majority c.args.self.now.nodes (accepting_at c.args.self.now.nodes c.args.vote.ballot c.insert.new.self.entries) ≡ c.has_majority-is_chosen.result
 chosen c =
     let nodes = c.self.inside.nodes in
     let put = c.accepting_with-accepting.result in
@@ -29,5 +28,7 @@ chosen c =
     ∙ ap (λ set. has_majority nodes set) found ∙ ap (λ n. has_majority n put) (sym size) ∙ sym c.has_majority-is_chosen.ensures
 
 pub returns-clause-cut : goal.returns-clause-cut
-returns-clause-cut c =
-    rw (chosen c) (elim c.if-is_chosen.branch [ then-is_chosen w ↦ search rules | else-is_chosen w ↦ search rules ])
+returns-clause-cut c = rw (chosen c) (search rules)
+
+pub returns-clause-accepting : goal.returns-clause-accepting
+returns-clause-accepting c = search rules
