@@ -1,0 +1,3 @@
+mod NodeMarks
+mod SharedNode
+mod Tallies

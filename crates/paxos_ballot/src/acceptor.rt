@@ -1,0 +1,91 @@
+//! Acceptors.
+ghost use Rattle.std.specs.Prelude.{◌≡◌, if◌then◌else◌};
+ghost use Rattle.std.specs.Option.{option_copied};
+ghost use Rattle.metering_model.specs.Ballot.{new_acceptor, is_above, is_not_below, after_prepare, after_accept};
+
+use crate::ballots::{Ballot, Vote};
+use std::marker::Model;
+
+/// What a node has promised and accepted in one period.
+///
+/// No call takes memory.
+#[derive(Drop)]
+pub struct Acceptor {
+    promised: Option<Ballot>,
+    vote: Option<Vote>,
+}
+
+impl Model for Acceptor {
+    ghost use Rattle.metering_model.specs.Ballot as model;
+
+    ghost Value = { model.Acceptor };
+
+    ghost view = { λ a. record { promised = a.promised; vote = a.vote } };
+}
+
+/// What a node answers to a proposer that prepares a ballot.
+#[derive(Clone, Copy, Debug, PartialEq, Eq)]
+pub enum PrepareStep {
+    /// A promise, which tells the vote that [`Acceptor::vote`] lends.
+    Promise,
+    /// Nothing.
+    Silent,
+}
+
+impl Acceptor {
+    ghost use Rattle.paxos_ballot.specs.declared.acceptor.PrepareStep.TheVariants.{Promise, Silent};
+
+    /// Nothing is promised, and nothing accepted.
+    pub fn new() -> Acceptor
+        ensures { result ≡ new_acceptor }
+    {
+        Acceptor {
+            promised: None,
+            vote: None,
+        }
+    }
+
+    /// Promises a ballot above the one promised, and stays silent to any other.
+    pub fn on_prepare(&mut self, ballot: Ballot) -> PrepareStep
+        ensures answer { result ≡ (if is_above ballot self.old.promised then Promise else Silent) }
+        ensures state { self.new ≡ (if is_above ballot self.old.promised then after_prepare ballot self.old else self.old) }
+    {
+        if let Some(promised) = self.promised {
+            if ballot.number() <= promised.number() {
+                return PrepareStep::Silent;
+            }
+        }
+        self.promised = Some(ballot);
+        PrepareStep::Promise
+    }
+
+    /// Accepts a vote whose ballot is not below the one promised, and then promises that ballot too.
+    /// True where it accepts; else nothing changes.
+    pub fn on_accept(&mut self, vote: Vote) -> bool
+        ensures answer { result ≡ is_not_below vote.ballot self.old.promised }
+        ensures state { self.new ≡ (if is_not_below vote.ballot self.old.promised then after_accept vote self.old else self.old) }
+    {
+        if let Some(promised) = self.promised {
+            if vote.ballot.number() < promised.number() {
+                return false;
+            }
+        }
+        self.promised = Some(vote.ballot);
+        self.vote = Some(vote);
+        true
+    }
+
+    /// The greatest ballot promised.
+    pub fn promised(&self) -> Option<Ballot>
+        ensures { result ≡ self.now.promised }
+    {
+        self.promised
+    }
+
+    /// The vote accepted last.
+    pub fn vote(&self) -> Option<&Vote>
+        ensures { option_copied result ≡ self.now.vote }
+    {
+        self.vote.as_ref()
+    }
+}

@@ -1,0 +1,70 @@
+//! Ballots, votes and majorities.
+ghost use Rattle.std.specs.Prelude.{◌≡◌, ◌<◌, ◌≤◌};
+ghost use Rattle.metering_model.specs.Ballot.{ballot_of, majority};
+
+use period_cut::Cut;
+use std::marker::Model;
+use std::sync::Arc;
+
+/// The number of one try of one node to have a cut chosen.
+#[derive(Clone, Copy, Debug, PartialEq, Eq)]
+pub struct Ballot {
+    number: u32,
+}
+
+impl Model for Ballot {
+    ghost use Rattle.std.specs.Prelude.{ℕ};
+
+    ghost Value = { ℕ };
+
+    ghost view = { λ ballot. ballot.number };
+
+    ghost inverse = { λ number. record { number = number } };
+}
+
+impl Ballot {
+    /// The ballot of a node in one of its rounds, of which it has at most 10,000.
+    /// Nodes are numbered from 0, and are at most 99.
+    pub fn of(round: u16, node: u8, nodes: u8) -> Ballot
+        requires round { round ≤ 10_000 }
+        requires node { node < nodes }
+        requires nodes { nodes ≤ 99 }
+        ensures { result ≡ ballot_of round node nodes }
+    {
+        Ballot {
+            number: u32::from(round) * u32::from(nodes) + u32::from(node),
+        }
+    }
+
+    /// The number itself.
+    pub fn number(self) -> u32
+        ensures { result ≡ self }
+    {
+        self.number
+    }
+}
+
+/// How many nodes are a majority of so many.
+pub fn majority(nodes: u8) -> u8
+    ensures { result ≡ majority nodes }
+{
+    nodes / 2 + 1
+}
+
+/// A cut that was accepted at a ballot.
+#[derive(Drop)]
+pub struct Vote {
+    /// The ballot at which it was accepted.
+    pub ballot: Ballot,
+    /// The cut, shared and never copied.
+    pub cut: Arc<Cut>,
+}
+
+impl Model for Vote {
+    ghost use Rattle.std.specs.Arc.{arc_value};
+    ghost use Rattle.metering_model.specs.Ballot as model;
+
+    ghost Value = { model.Vote };
+
+    ghost view = { λ vote. record { ballot = vote.ballot; cut = arc_value vote.cut } };
+}
