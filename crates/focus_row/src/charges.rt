@@ -8,7 +8,7 @@ ghost use Rattle.metering_model.specs.Batch.{is_priced};
 ghost use Rattle.metering_model.specs.Rating.{cost_at};
 ghost use Rattle.metering_model.specs.declared.ChargeClass.TheVariants.{New};
 ghost use Rattle.metering_model.specs.Row.{row, or_null, category_text, class_text};
-ghost use Rattle.batch_view.specs.Lent.{reading_of};
+ghost use Rattle.batch_view.specs.Lent.{model_reading};
 ghost use Rattle.focus_row.specs.FocusRows.{model_row};
 ghost use Rattle.focus_row.specs.Inner.Charging.{ArePeriodTexts};
 
@@ -94,7 +94,7 @@ pub(crate) fn flat_row<'a>(
     ensures { (sheet : Sheet) (period : ℕ)
         → ArePeriodTexts sheet.base period billing.now.start_text billing.now.end_text
         → model_row result
-        ≡ row sheet billing.now.issuer.now (reading_of reading.now) period class was now }
+        ≡ row sheet billing.now.issuer.now (model_reading reading.now) period class was now }
 {
     let issuer = billing.issuer;
     let cost = amount(was, now);
@@ -143,7 +143,7 @@ pub(crate) fn new_row<'a>(billing: &Billing<'a>, reading: &Reading<'a>) -> Focus
     requires flat { is_priced reading.now.kind ≡ false }
     ensures { (sheet : Sheet) (period : ℕ)
         → ArePeriodTexts sheet.base period billing.now.start_text billing.now.end_text
-        → model_row result ≡ row sheet billing.now.issuer.now (reading_of reading.now) period New (pos 0) reading.now.value }
+        → model_row result ≡ row sheet billing.now.issuer.now (model_reading reading.now) period New (pos 0) reading.now.value }
 {
     let nothing = Value::new(0).unwrap();
     flat_row(billing, reading, ChargeClass::New, nothing, reading.value)

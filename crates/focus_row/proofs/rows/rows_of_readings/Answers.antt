@@ -1,7 +1,7 @@
 use Rattle.std.proofs.Common.{◌≡◌, [], ◌∷◌, ◌++◌, ap, ◌∙◌, rules}
 use Rattle.metering_model.specs.Batch.{Reads}
 use Rattle.batch_view.specs.Batches.{records_left}
-use Rattle.batch_view.specs.Lent.{record_of, reading_of}
+use Rattle.batch_view.specs.Lent.{record_of, model_reading}
 use Rattle.focus_row.proofs.RowLemmas.{one_more_row, none_refused_behind}
 use Rattle.focus_row.proofs.rows.rows_of_readings.Goals as goal
 
@@ -9,7 +9,7 @@ pub loop-record-preserved-else-is_err : goal.loop-record-preserved-else-is_err
 loop-record-preserved-else-is_err c =
     let before = records_left c.loop-record.record-iterator in
     let after = records_left c.next.new.self in
-    let reading = reading_of c.in-Reading.reading in
+    let reading = model_reading c.in-Reading.reading in
     let first : before ≡ Reads reading ∷ after = c.in-Some.ensures.steps.first ∙ ap (λ r. record_of r ∷ after) c.in-Reading.is in
     let pushed : c.push.new.self.items ≡ c.loop-record.rows.items ++ c.new_row.result ∷ [] = search rules in
     record {
