@@ -5,10 +5,10 @@ ghost use Rattle.std.specs.Io.KnownBytes.{Appends};
 ghost use Rattle.counted_io.specs.Counts.{count_after};
 ghost use Rattle.command_line.specs.Endings.{Tells, ending_line, message_of, status_of};
 
-use crate::words::LineFault;
-use schedule_player::PlayFault;
 use crate::refusals::write_refusal;
+use crate::words::LineFault;
 use counted_io::{Failed, Sink, write_all};
+use schedule_player::PlayFault;
 
 /// Why the program did not do what it is asked for.
 #[derive(Clone, Copy, Drop)]

@@ -65,7 +65,8 @@ fn the_first_run_gives_its_file(rt: HostRuntime) -> Result<(), Fail> {
         rate_text(rt.alloc(), january()?, &mut source, &mut sink)?;
         assert_eq!(rt; sink.inner().taken.as_slice(), FIRST_FILE);
         assert_eq!(rt; source.inner().rest.len(), 0);
-        assert_eq!(rt; source.failed_calls() + sink.failed_calls(), 0);
+        assert_eq!(rt; source.failed_calls(), 0);
+        assert_eq!(rt; sink.failed_calls(), 0);
     }
     Ok(())
 }
@@ -163,7 +164,7 @@ fn a_writer_may_fail_at_each_call(rt: HostRuntime) -> Result<(), Fail> {
             assert_eq!(rt; answer, Err(PlayFault::Write), "call {failing}");
             assert_eq!(rt; sink.inner().calls, call);
             assert_eq!(rt; sink.failed_calls(), 1);
-            let front = FIRST_FILE.get(..failing - 1);
+            let front = FIRST_FILE.get(..failing.saturating_sub(1));
             assert_eq!(rt; Some(sink.inner().taken.as_slice()), front);
         }
     }
