@@ -65,19 +65,25 @@ per_under key table = do
 abbrev pub service_categories : List ServiceCategory
 service_categories = Compute ∷ Storage ∷ Networking ∷ Databases ∷ Other ∷ []
 
--- the category of which the string is the text
+-- the category of which it is the text
+abbrev pub service_category_in : List ℕ → Option ServiceCategory
+service_category_in text = find (λ c. is_same text (service_category_text c)) service_categories
+
 unfoldable pub service_category_under : List ℕ → Members → Result ServiceCategory KeyFault
 service_category_under key table = do
   text ← text_under key table
-  ok_or (find (λ c. is_same text (service_category_text c)) service_categories) BadValue
+  ok_or (service_category_in text) BadValue
 
 abbrev pub commitment_categories : List CommitmentCategory
 commitment_categories = Spend ∷ Usage ∷ []
 
+abbrev pub commitment_category_in : List ℕ → Option CommitmentCategory
+commitment_category_in text = find (λ c. is_same text (commitment_category_text c)) commitment_categories
+
 unfoldable pub commitment_category_under : List ℕ → Members → Result CommitmentCategory KeyFault
 commitment_category_under key table = do
   text ← text_under key table
-  ok_or (find (λ c. is_same text (commitment_category_text c)) commitment_categories) BadValue
+  ok_or (commitment_category_in text) BadValue
 
 -- the tables of an array that has nothing but tables
 abbrev pub tables_in : Items → Option (List Members)

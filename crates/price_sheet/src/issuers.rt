@@ -3,7 +3,7 @@
 ghost use Rattle.std.specs.Prelude.{◌≡◌, ◌≢◌, Ok, Err, IfOk, IfErr, IsTrue, ◌↔◌, string_bytes, IsOkUnless};
 ghost use Rattle.toml.specs.View.{table_view};
 ghost use Rattle.metering_model.specs.SheetRules.{IsIssuer};
-ghost use Rattle.price_sheet.specs.IssuerReading.{is_currency, currency_under, issuer_in, issuer_of_text};
+ghost use Rattle.price_sheet.specs.IssuerReading.{is_currency, currency_under, issuer_fault, issuer_in, issuer_of_text};
 ghost use Rattle.price_sheet.specs.Inner.Gives.{Gives};
 ghost use Rattle.price_sheet.specs.Samples.{sample_issuer};
 
@@ -45,6 +45,7 @@ impl Model for Issuer {
 impl Issuer {
     /// Reads an issuer from TOML, or tells the text's first fault. The table that `toml` makes of the
     /// text and the texts that are kept take memory.
+    #[tactic(auto, unfolding(crate::specs::IssuerReading::issuer_of_text))]
     pub fn read(alloc: Global, text: &str) -> Result<Issuer, IssuerFault>
         ensures taken { IfOk result (λ issuer. issuer_of_text text.now ≡ Ok issuer) }
         ensures refused { IfErr result (λ fault. fault ≢ IssuerFault.OutOfMemory → issuer_of_text text.now ≡ Err fault) }
@@ -61,9 +62,7 @@ impl Issuer {
         };
         match Issuer::of_table(alloc, &table) {
             Ok(issuer) => Ok(issuer),
-            Err(KeyFault::Missing) => Err(IssuerFault::Missing),
-            Err(KeyFault::BadValue) => Err(IssuerFault::BadValue),
-            Err(KeyFault::OutOfMemory) => Err(IssuerFault::OutOfMemory),
+            Err(fault) => Err(issuer_fault(fault)),
         }
     }
 
@@ -165,6 +164,17 @@ impl Issuer {
         ensures { result.now ≡ self.now.other_service }
     {
         self.other_service.as_str()
+    }
+}
+
+/// The fault of a key, told of an issuer.
+fn issuer_fault(fault: KeyFault) -> IssuerFault
+    ensures { result ≡ issuer_fault fault }
+{
+    match fault {
+        KeyFault::Missing => IssuerFault::Missing,
+        KeyFault::BadValue => IssuerFault::BadValue,
+        KeyFault::OutOfMemory => IssuerFault::OutOfMemory,
     }
 }
 

@@ -6,7 +6,7 @@ ghost use Rattle.toml.specs.View.{view, table_view, array_view};
 ghost use Rattle.metering_model.specs.Dates.{IsBaseMonth};
 ghost use Rattle.metering_model.specs.SheetRules.{is_printable, is_label};
 ghost use Rattle.metering_model.specs.BatchReading.{is_same};
-ghost use Rattle.price_sheet.specs.Keys.{value_under, text_under, label_under, day_under, base_under, price_under, per_under, service_category_under, commitment_category_under, tables_in, rows_in, rows_under};
+ghost use Rattle.price_sheet.specs.Keys.{value_under, text_under, label_under, day_under, base_under, price_under, per_under, service_category_in, service_category_under, commitment_category_in, commitment_category_under, tables_in, rows_in, rows_under};
 ghost use Rattle.price_sheet.specs.Inner.Gives.{Gives};
 
 use batch_view::Day;
@@ -157,18 +157,47 @@ pub(crate) fn per_under(table: &Table, key: &str) -> Result<u32, KeyFault>
     Ok(number as u32)
 }
 
+/// The category of which it is the text.
+fn service_category_in(text: &[u8]) -> Option<ServiceCategory>
+    ensures { result ≡ service_category_in text.now }
+{
+    if is_same(text, b"Compute") {
+        Some(ServiceCategory::Compute)
+    } else if is_same(text, b"Storage") {
+        Some(ServiceCategory::Storage)
+    } else if is_same(text, b"Networking") {
+        Some(ServiceCategory::Networking)
+    } else if is_same(text, b"Databases") {
+        Some(ServiceCategory::Databases)
+    } else if is_same(text, b"Other") {
+        Some(ServiceCategory::Other)
+    } else {
+        None
+    }
+}
+
 /// The service category under a key.
 #[tactic(auto, unfolding(crate::specs::Keys::service_category_under))]
 pub(crate) fn service_category_under(table: &Table, key: &str) -> Result<ServiceCategory, KeyFault>
     ensures { Gives (λ c. c) result (service_category_under key.now (table_view table.now)) }
 {
-    match text_under(table, key)?.as_bytes() {
-        b"Compute" => Ok(ServiceCategory::Compute),
-        b"Storage" => Ok(ServiceCategory::Storage),
-        b"Networking" => Ok(ServiceCategory::Networking),
-        b"Databases" => Ok(ServiceCategory::Databases),
-        b"Other" => Ok(ServiceCategory::Other),
-        _ => Err(KeyFault::BadValue),
+    let text = text_under(table, key)?;
+    match service_category_in(text.as_bytes()) {
+        Some(category) => Ok(category),
+        None => Err(KeyFault::BadValue),
+    }
+}
+
+/// The category of which it is the text.
+fn commitment_category_in(text: &[u8]) -> Option<CommitmentCategory>
+    ensures { result ≡ commitment_category_in text.now }
+{
+    if is_same(text, b"Spend") {
+        Some(CommitmentCategory::Spend)
+    } else if is_same(text, b"Usage") {
+        Some(CommitmentCategory::Usage)
+    } else {
+        None
     }
 }
 
@@ -180,10 +209,10 @@ pub(crate) fn commitment_category_under(
 ) -> Result<CommitmentCategory, KeyFault>
     ensures { Gives (λ c. c) result (commitment_category_under key.now (table_view table.now)) }
 {
-    match text_under(table, key)?.as_bytes() {
-        b"Spend" => Ok(CommitmentCategory::Spend),
-        b"Usage" => Ok(CommitmentCategory::Usage),
-        _ => Err(KeyFault::BadValue),
+    let text = text_under(table, key)?;
+    match commitment_category_in(text.as_bytes()) {
+        Some(category) => Ok(category),
+        None => Err(KeyFault::BadValue),
     }
 }
 

@@ -49,7 +49,7 @@ fn is_priced_before(rows: &[PriceRow], row: &PriceRow) -> bool
 }
 
 /// The row of one more table.
-#[tactic(auto, unfolding(crate::specs::SheetReading::next_price))]
+#[tactic(auto, using(crate::proofs::Chains::placed_fails), unfolding(crate::specs::SheetReading::next_price))]
 fn next_price(alloc: Global, rows: &[PriceRow], table: &Table) -> Result<PriceRow, SheetFault>
     requires { length rows.now < 10_000 }
     ensures taken { IfOk result (λ row. next_price rows.now (table_view table.now) ≡ Ok row) }
@@ -109,7 +109,7 @@ fn is_named_before(rows: &[Commitment], row: &Commitment) -> bool
 }
 
 /// The commitment of one more table.
-#[tactic(auto, unfolding(crate::specs::SheetReading::next_commitment))]
+#[tactic(auto, using(crate::proofs::Chains::placed_fails), unfolding(crate::specs::SheetReading::next_commitment))]
 fn next_commitment(
     alloc: Global,
     prices: &[PriceRow],
@@ -158,7 +158,7 @@ pub(crate) fn commitments_in(
 
 /// Of two rows the one that begins later; the first, where they begin together.
 fn later<'a>(found: Option<&'a PriceRow>, row: &'a PriceRow) -> &'a PriceRow
-    ensures { result.now ≡ later_row (option_copied found) row.now }
+    ensures { result.now ≡ later_row (option_copied found.entry) row.now }
 {
     match found {
         Some(best) => {
@@ -173,6 +173,7 @@ fn later<'a>(found: Option<&'a PriceRow>, row: &'a PriceRow) -> &'a PriceRow
 }
 
 /// Of the rows of a SKU that have begun on a day, the one that began last.
+#[tactic(auto, using(crate::proofs::Latest::one_more_row))]
 pub(crate) fn latest<'a>(rows: &'a [PriceRow], sku: &[u8], day: Day) -> Option<&'a PriceRow>
     ensures { option_copied result
         ≡ latest (filter (λ r. is_same r.sku sku.now && int_le r.from day) rows.now) }

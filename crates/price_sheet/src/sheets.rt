@@ -44,6 +44,7 @@ impl Model for Sheet {
 
 impl Sheet {
     /// Reads a sheet from TOML, or tells the text's first fault.
+    #[tactic(auto, unfolding(crate::specs::SheetReading::sheet_of_text))]
     pub fn read(alloc: Global, text: &str) -> Result<Sheet, SheetFault>
         ensures taken { IfOk result (λ sheet. sheet_of_text text.now ≡ Ok sheet) }
         ensures refused { IfErr result (λ fault. fault ≢ SheetFault.OutOfMemory → sheet_of_text text.now ≡ Err fault) }
@@ -74,7 +75,7 @@ impl Sheet {
     }
 
     /// Reads a sheet from a table.
-    #[tactic(auto, unfolding(crate::specs::SheetReading::sheet_in))]
+    #[tactic(auto, using(crate::proofs::Chains::placed_fails), unfolding(crate::specs::SheetReading::sheet_in))]
     fn of_table(alloc: Global, table: &Table) -> Result<Sheet, SheetFault>
         ensures taken { IfOk result (λ sheet. sheet_in (table_view table.now) ≡ Ok sheet) }
         ensures refused { IfErr result (λ fault. fault ≢ SheetFault.OutOfMemory → sheet_in (table_view table.now) ≡ Err fault) }
