@@ -1,40 +1,47 @@
 -- What is read of a table of the sheet, and of an issuer, meets the rules.
-use Rattle.std.proofs.Common.{◌≡◌, ℕ, true, List, Ok, codes, subst}
+use Rattle.std.proofs.Common.{◌≡◌, ℕ, true, List, Result, Ok, codes, subst}
 use Rattle.toml.specs.Data.{Members}
 use Rattle.metering_model.specs.Sheet.{PriceRow, Commitment, Issuer}
 use Rattle.metering_model.specs.SheetRules.{IsPriceRow, IsCommitment, IsIssuer}
-use Rattle.metering_model.proofs.StepLaws.{step_iff, ok_same}
-use Rattle.price_sheet.specs.Keys.{KeyFault}
+use Rattle.metering_model.specs.FirstFailure.{◌>>=◌}
+use Rattle.metering_model.proofs.StepLaws.{step_ok, step_iff, ok_same}
+use Rattle.price_sheet.specs.Keys.{KeyFault, service_category_under}
 use Rattle.price_sheet.specs.SheetReading.{price_row_in, commitment_in}
 use Rattle.price_sheet.specs.IssuerReading.{currency_under, is_currency, issuer_in}
 use Rattle.price_sheet.proofs.KeyLaws.{holds_true, label_read, day_is_read, price_is_read, per_is_read}
 
+-- a chain that answered, taken apart with its first step's answer as a variable
+through : (P : Type 0) {A B E : Type 0} (r : Result A E) (f : A → Result B E) (y : B) → (r >>= f) ≡ Ok y → ((x : A) → r ≡ Ok x → f x ≡ Ok y → P) → P
+through P r f y h next =
+    let step = step_ok r f y h in
+    next step.0 step.1 step.2
+
 pub price_row_read : (table : Members) (row : PriceRow) → price_row_in table ≡ Ok row → IsPriceRow row
 unfolding price_row_in
 price_row_read table row h =
-    let sku = simp step_iff at h in
-    let price_id = sku.2 in
-    let from = price_id.2 in
-    let description = from.2 in
-    let service = description.2 in
-    let category = service.2 in
-    let consumed_unit = category.2 in
-    let pricing_unit = consumed_unit.2 in
-    let per = pricing_unit.2 in
-    let list = per.2 in
-    let contracted = list.2 in
-    subst IsPriceRow (ok_same _ row contracted.2) (record {
-      sku = label_read (codes "sku") table sku.0 sku.1;
-      price_id = label_read (codes "price_id") table price_id.0 price_id.1;
-      from = day_is_read (codes "from") table from.0 from.1;
-      description = label_read (codes "description") table description.0 description.1;
-      service = label_read (codes "service") table service.0 service.1;
-      consumed_unit = label_read (codes "consumed_unit") table consumed_unit.0 consumed_unit.1;
-      pricing_unit = label_read (codes "pricing_unit") table pricing_unit.0 pricing_unit.1;
-      per = per_is_read (codes "per") table per.0 per.1;
-      list = price_is_read (codes "list") table list.0 list.1;
-      contracted = price_is_read (codes "contracted") table contracted.0 contracted.1;
-    })
+    through (IsPriceRow row) _ _ row h (λ sku sku_is behind_sku.
+    through (IsPriceRow row) _ _ row behind_sku (λ price_id price_id_is behind_price_id.
+    through (IsPriceRow row) _ _ row behind_price_id (λ from from_is behind_from.
+    through (IsPriceRow row) _ _ row behind_from (λ description description_is behind_description.
+    through (IsPriceRow row) _ _ row behind_description (λ service service_is behind_service.
+    through (IsPriceRow row) (service_category_under (codes "category") table) _ row behind_service (λ category category_is behind_category.
+    through (IsPriceRow row) _ _ row behind_category (λ consumed_unit consumed_unit_is behind_consumed_unit.
+    through (IsPriceRow row) _ _ row behind_consumed_unit (λ pricing_unit pricing_unit_is behind_pricing_unit.
+    through (IsPriceRow row) _ _ row behind_pricing_unit (λ per per_is behind_per.
+    through (IsPriceRow row) _ _ row behind_per (λ list list_is behind_list.
+    through (IsPriceRow row) _ _ row behind_list (λ contracted contracted_is behind_contracted.
+    subst IsPriceRow (ok_same _ row behind_contracted) (record {
+      sku = label_read (codes "sku") table sku sku_is;
+      price_id = label_read (codes "price_id") table price_id price_id_is;
+      from = day_is_read (codes "from") table from from_is;
+      description = label_read (codes "description") table description description_is;
+      service = label_read (codes "service") table service service_is;
+      consumed_unit = label_read (codes "consumed_unit") table consumed_unit consumed_unit_is;
+      pricing_unit = label_read (codes "pricing_unit") table pricing_unit pricing_unit_is;
+      per = per_is_read (codes "per") table per per_is;
+      list = price_is_read (codes "list") table list list_is;
+      contracted = price_is_read (codes "contracted") table contracted contracted_is;
+    }))))))))))))
 
 pub commitment_read : (table : Members) (row : Commitment) → commitment_in table ≡ Ok row → IsCommitment row
 unfolding commitment_in
