@@ -125,8 +125,8 @@ sheet_read table sheet h =
     let commitment_tables = price_tables.2 in
     let prices = commitment_tables.2 in
     let commitments = prices.2 in
-    let rows = prices_read [] price_tables.0 prices.0 (record { rows = All-nil IsPriceRow; apart = refl; }) prices.1 in
-    let bought = commitments_read prices.0 [] commitment_tables.0 commitments.0 (record { rows = All-nil IsCommitment; apart = refl; priced = All-nil (λ c. (prices_sku prices.0 c.sku && prices_sku prices.0 c.buy) ≡ true); }) commitments.1 in
+    let rows = prices_read [] price_tables.0 prices.0 (record { rows = All-nil IsPriceRow; apart = refl }) prices.1 in
+    let bought = commitments_read prices.0 [] commitment_tables.0 commitments.0 (record { rows = All-nil IsCommitment; apart = refl; priced = All-nil (λ c. (prices_sku prices.0 c.sku && prices_sku prices.0 c.buy) ≡ true) }) commitments.1 in
     let few_prices = few_under (codes "price") table price_tables.0 (placed_ok _ _ _ price_tables.1) in
     let few_commitments = few_under (codes "commitment") table commitment_tables.0 (placed_ok _ _ _ commitment_tables.1) in
     subst IsSheet (ok_same _ sheet commitments.2) (record {

@@ -184,9 +184,7 @@ fn is_currency(text: &[u8]) -> bool
 {
     match text {
         [first, second, third] => {
-            first.is_ascii_uppercase()
-                && second.is_ascii_uppercase()
-                && third.is_ascii_uppercase()
+            first.is_ascii_uppercase() && second.is_ascii_uppercase() && third.is_ascii_uppercase()
         }
         _ => false,
     }

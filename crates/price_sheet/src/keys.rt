@@ -14,8 +14,8 @@ use fx_money::Price;
 use metering_model::{CommitmentCategory, ServiceCategory};
 use period_cut::Month;
 use std::alloc::{AllocError, Global};
-use toml::{Table, Value};
 use toml::value::Array;
+use toml::{Table, Value};
 
 /// The rows that a table of a sheet may have.
 pub(crate) const MOST_ROWS: usize = 10_000;

@@ -6,7 +6,9 @@ ghost use Rattle.metering_model.specs.SheetRules.{IsPriceRow};
 ghost use Rattle.price_sheet.specs.SheetReading.{price_row_in};
 ghost use Rattle.price_sheet.specs.Inner.Gives.{Gives};
 
-use crate::keys::{KeyFault, day_under, label_under, per_under, price_under, service_category_under};
+use crate::keys::{
+    KeyFault, day_under, label_under, per_under, price_under, service_category_under,
+};
 use batch_view::Day;
 use fx_money::Price;
 use metering_model::ServiceCategory;

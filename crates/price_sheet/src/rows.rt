@@ -161,13 +161,7 @@ fn later<'a>(found: Option<&'a PriceRow>, row: &'a PriceRow) -> &'a PriceRow
     ensures { result.now ≡ later_row (option_copied found.entry) row.now }
 {
     match found {
-        Some(best) => {
-            if best.from() < row.from() {
-                row
-            } else {
-                best
-            }
-        }
+        Some(best) => { if best.from() < row.from() { row } else { best } }
         None => row,
     }
 }

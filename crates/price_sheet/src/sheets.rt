@@ -12,7 +12,9 @@ use crate::commitments::Commitment;
 use crate::faults::{Place, SheetFault};
 use crate::keys::{base_under, rows_under};
 use crate::prices::PriceRow;
-use crate::rows::{commitments_in, fault_at, find_commitment, latest, prices_in, same_commitments, same_prices};
+use crate::rows::{
+    commitments_in, fault_at, find_commitment, latest, prices_in, same_commitments, same_prices,
+};
 use batch_view::Day;
 use period_cut::Month;
 use std::alloc::{AllocError, Global};
