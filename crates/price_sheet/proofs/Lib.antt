@@ -1,0 +1,7 @@
+pub mod Texts
+pub mod Tables
+pub mod KeyLaws
+pub mod RowLaws
+pub mod SheetLaws
+pub mod Chains
+pub mod Latest

@@ -1,0 +1,141 @@
+-- What is read of the tables of a sheet is a sheet.
+use Rattle.std.proofs.Common.{◌≡◌, ℕ, ◌+◌, ◌≤◌, Bool, true, false, not, ◌&&◌, ◌||◌, ◌==◌, List, [], ◌∷◌, ◌++◌, length, All, Option, Some, None, Result, Ok, Err, int_eq, codes, refl, sym, ap, subst, ◌∙◌, length-append, rules, arith}
+use Rattle.std.specs.List.{list_any}
+use Rattle.std.specs.Cmp.{nat_eq_equiv, int_eq_equiv}
+use Rattle.std.proofs.lemmas.Bool.{and_parts, and_from, leb-true}
+use Rattle.std.proofs.lemmas.List.Elements.{All-nil, All-push}
+use Rattle.std.proofs.lemmas.List.Folds.{list_any-append}
+use Rattle.toml.specs.Data.{Data, Members, get_member}
+use Rattle.metering_model.specs.BatchReading.{is_same}
+use Rattle.metering_model.specs.Sheet.{PriceRow, Commitment, Sheet}
+use Rattle.metering_model.specs.SheetRules.{IsPriceRow, IsCommitment, IsSheet, are_apart, has_same_key, has_same_id}
+use Rattle.metering_model.proofs.StepLaws.{step_ok, step_iff, ok_same}
+use Rattle.price_sheet.specs.Keys.{KeyFault, rows_in, rows_or_none, rows_under}
+use Rattle.price_sheet.specs.SheetReading.{at_place, next_price, next_commitment, prices_in, commitments_in, prices_sku, sheet_in}
+use Rattle.price_sheet.specs.declared.faults.Place.{Place}
+use Rattle.price_sheet.proofs.KeyLaws.{holds_true, base_is_read}
+use Rattle.price_sheet.proofs.RowLaws.{price_row_read, commitment_read}
+
+placed_ok : {A : Type 0} (place : Place) (r : Result A KeyFault) (x : A) → at_place place r ≡ Ok x → r ≡ Ok x
+placed_ok place (Ok y) x h = cc
+placed_ok place (Err e) x h = absurd (cc)
+
+-- ---- rows that are apart
+
+neither : (a b : Bool) → (a || b) ≡ false → (a ≡ false) × (b ≡ false)
+neither true b h = absurd (cc)
+neither false b h = (refl, h)
+
+not_false : (b : Bool) → not b ≡ true → b ≡ false
+not_false true h = absurd (cc)
+not_false false h = refl
+
+same_comm : (xs ys : List ℕ) → is_same xs ys ≡ is_same ys xs
+same_comm [] [] = refl
+same_comm [] (y ∷ ys) = refl
+same_comm (x ∷ xs) [] = refl
+same_comm (x ∷ xs) (y ∷ ys) = ap (λ b. b && is_same xs ys) (nat_eq_equiv.symm x y) ∙ ap (λ b. (y == x) && b) (same_comm xs ys)
+
+key_comm : (p q : PriceRow) → has_same_key p q ≡ has_same_key q p
+key_comm p q = ap (λ b. b && int_eq p.from q.from) (same_comm p.sku q.sku) ∙ ap (λ b. is_same q.sku p.sku && b) (int_eq_equiv.symm p.from q.from)
+
+apart_push : {A : Type 0} (alike : A → A → Bool) (comm : (x y : A) → alike x y ≡ alike y x) (xs : List A) (x : A) → are_apart alike xs ≡ true → list_any (alike x) xs ≡ false → are_apart alike (xs ++ x ∷ []) ≡ true
+apart_push alike comm [] x h none = refl
+apart_push alike comm (y ∷ xs) x h none =
+    let parts = and_parts _ _ h in
+    let others = neither (alike x y) _ none in
+    let here : list_any (alike y) (xs ++ x ∷ []) ≡ false = list_any-append (alike y) xs (x ∷ []) ∙ rw (not_false (list_any (alike y) xs) parts.0, comm y x, others.0) refl in
+    and_from _ _ (ap not here) (apart_push alike comm xs x parts.1 others.1)
+
+-- ---- the prices
+
+record ArePrices (prices : List PriceRow) : Type 0 where
+  pub rows : All IsPriceRow prices
+  pub apart : are_apart has_same_key prices ≡ true
+
+one_more_price : (rows : List PriceRow) (table : Members) (row : PriceRow) → ArePrices rows → next_price rows table ≡ Ok row → ArePrices (rows ++ row ∷ [])
+unfolding next_price
+one_more_price rows table row are h =
+    let read = simp step_iff at h in
+    let same = ok_same read.0 row read.2.2 in
+    let new = not_false (list_any (has_same_key read.0) rows) (holds_true _ _ _ read.2.1) in
+    subst (λ r. ArePrices (rows ++ r ∷ [])) same (record {
+      rows = All-push IsPriceRow rows read.0 are.rows (price_row_read table read.0 (placed_ok _ _ read.0 read.1));
+      apart = apart_push has_same_key key_comm rows read.0 are.apart new;
+    })
+
+one_behind : {A : Type 0} (xs : List A) (x : A) → length (xs ++ x ∷ []) ≡ length xs + 1
+one_behind xs x = length-append xs (x ∷ [])
+
+prices_read : (rows : List PriceRow) (tables : List Members) (all : List PriceRow) → ArePrices rows → prices_in rows tables ≡ Ok all → ArePrices all × (length all ≡ length rows + length tables)
+prices_read rows [] all are h = subst (λ r. ArePrices r × (length r ≡ length rows + 0)) (ok_same rows all h) (are, omega arith)
+prices_read rows (table ∷ tables) all are h =
+    let step = step_ok (next_price rows table) _ all h in
+    let rest = prices_read (rows ++ step.0 ∷ []) tables all (one_more_price rows table step.0 are step.1) step.2 in
+    (rest.0, omega (arith, rest.1, one_behind rows step.0))
+
+-- ---- the commitments
+
+record AreCommitments (prices : List PriceRow) (commitments : List Commitment) : Type 0 where
+  pub rows : All IsCommitment commitments
+  pub apart : are_apart has_same_id commitments ≡ true
+  pub priced : All (λ c. (prices_sku prices c.sku && prices_sku prices c.buy) ≡ true) commitments
+
+one_more_commitment : (prices : List PriceRow) (rows : List Commitment) (table : Members) (row : Commitment) → AreCommitments prices rows → next_commitment prices rows table ≡ Ok row → AreCommitments prices (rows ++ row ∷ [])
+unfolding next_commitment
+one_more_commitment prices rows table row are h =
+    let read = simp step_iff at h in
+    let same = ok_same read.0 row read.2.2.2 in
+    let new = not_false (list_any (has_same_id read.0) rows) (holds_true _ _ _ read.2.1) in
+    subst (λ r. AreCommitments prices (rows ++ r ∷ [])) same (record {
+      rows = All-push IsCommitment rows read.0 are.rows (commitment_read table read.0 (placed_ok _ _ read.0 read.1));
+      apart = apart_push has_same_id (λ c d. same_comm c.id d.id) rows read.0 are.apart new;
+      priced = All-push (λ c. (prices_sku prices c.sku && prices_sku prices c.buy) ≡ true) rows read.0 are.priced (holds_true _ _ _ read.2.2.1);
+    })
+
+commitments_read : (prices : List PriceRow) (rows : List Commitment) (tables : List Members) (all : List Commitment) → AreCommitments prices rows → commitments_in prices rows tables ≡ Ok all → AreCommitments prices all × (length all ≡ length rows + length tables)
+commitments_read prices rows [] all are h = subst (λ r. AreCommitments prices r × (length r ≡ length rows + 0)) (ok_same rows all h) (are, omega arith)
+commitments_read prices rows (table ∷ tables) all are h =
+    let step = step_ok (next_commitment prices rows table) _ all h in
+    let rest = commitments_read prices (rows ++ step.0 ∷ []) tables all (one_more_commitment prices rows table step.0 are step.1) step.2 in
+    (rest.0, omega (arith, rest.1, one_behind rows step.0))
+
+-- ---- the sheet
+
+few_rows : (value : Data) (tables : List Members) → rows_in value ≡ Ok tables → length tables ≤ 10_000
+unfolding rows_in
+few_rows value tables h =
+    let items = simp step_iff at h in
+    let read = items.2 in
+    subst (λ t. length t ≤ 10_000) (ok_same read.0 tables read.2.2) (leb-true (length read.0) 10_000 (holds_true _ _ _ read.2.1))
+
+few_or_none : (found : Option Data) (tables : List Members) → rows_or_none found ≡ Ok tables → length tables ≤ 10_000
+few_or_none None tables h = subst (λ t. length t ≤ 10_000) (ok_same [] tables h) (omega arith)
+few_or_none (Some value) tables h = few_rows value tables h
+
+few_under : (key : List ℕ) (table : Members) (tables : List Members) → rows_under key table ≡ Ok tables → length tables ≤ 10_000
+unfolding rows_under
+few_under key table tables h = few_or_none (get_member key table) tables h
+
+pub sheet_read : (table : Members) (sheet : Sheet) → sheet_in table ≡ Ok sheet → IsSheet sheet
+unfolding sheet_in
+sheet_read table sheet h =
+    let base = simp step_iff at h in
+    let price_tables = base.2 in
+    let commitment_tables = price_tables.2 in
+    let prices = commitment_tables.2 in
+    let commitments = prices.2 in
+    let rows = prices_read [] price_tables.0 prices.0 (record { rows = All-nil IsPriceRow; apart = refl }) prices.1 in
+    let bought = commitments_read prices.0 [] commitment_tables.0 commitments.0 (record { rows = All-nil IsCommitment; apart = refl; priced = All-nil (λ c. (prices_sku prices.0 c.sku && prices_sku prices.0 c.buy) ≡ true) }) commitments.1 in
+    let few_prices = few_under (codes "price") table price_tables.0 (placed_ok _ _ _ price_tables.1) in
+    let few_commitments = few_under (codes "commitment") table commitment_tables.0 (placed_ok _ _ _ commitment_tables.1) in
+    subst IsSheet (ok_same _ sheet commitments.2) (record {
+      base = base_is_read (codes "base") table base.0 (placed_ok _ _ _ base.1);
+      prices = rows.0.rows;
+      price_count = omega (arith, rows.1, few_prices);
+      one_price = rows.0.apart;
+      commitments = bought.0.rows;
+      commitment_count = omega (arith, bought.1, few_commitments);
+      one_id = bought.0.apart;
+      priced = bought.0.priced;
+    })

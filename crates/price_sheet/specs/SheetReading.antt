@@ -1,0 +1,123 @@
+-- Reading a price sheet: the sheet that a text is, or its first fault in the order in which it is read.
+use Rattle.std.specs.Prelude.{ℕ, ◌+◌, Bool, not, ◌&&◌, List, [], ◌∷◌, ◌++◌, length, Option, Some, None, Result, Ok, Err, codes}
+use Rattle.std.specs.List.{list_any}
+use Rattle.toml.specs.Data.{Members}
+use Rattle.toml.specs.Parse.{parse_document}
+use Rattle.metering_model.specs.FirstFailure.{◌>>=◌, holds_or}
+use Rattle.metering_model.specs.BatchReading.{is_same}
+use Rattle.metering_model.specs.Sheet.{PriceRow, Commitment, Sheet}
+use Rattle.metering_model.specs.SheetRules.{has_same_key, has_same_id}
+use Rattle.price_sheet.specs.declared.faults.Place.{Place}
+use Rattle.price_sheet.specs.declared.faults.Place.TheVariants as places
+use Rattle.price_sheet.specs.declared.faults.SheetFault.{SheetFault}
+use Rattle.price_sheet.specs.declared.faults.SheetFault.TheVariants as faults
+use Rattle.price_sheet.specs.declared.keys.KeyFault.TheVariants as key_faults
+use Rattle.price_sheet.specs.Keys.{KeyFault, label_under, day_under, base_under, price_under, per_under, service_category_under, commitment_category_under, rows_under}
+
+-- the fault of a key, told of the place of its table
+abbrev pub fault_at : Place → KeyFault → SheetFault
+fault_at place key_faults.Missing = faults.Missing place
+fault_at place key_faults.BadValue = faults.BadValue place
+fault_at place key_faults.OutOfMemory = faults.OutOfMemory
+
+abbrev pub at_place : {A : Type 0} → Place → Result A KeyFault → Result A SheetFault
+at_place place (Ok x) = Ok x
+at_place place (Err fault) = Err (fault_at place fault)
+
+-- a row of prices, key by key
+unfoldable pub price_row_in : Members → Result PriceRow KeyFault
+price_row_in table = do
+  sku ← label_under (codes "sku") table
+  price_id ← label_under (codes "price_id") table
+  from ← day_under (codes "from") table
+  description ← label_under (codes "description") table
+  service ← label_under (codes "service") table
+  category ← service_category_under (codes "category") table
+  consumed_unit ← label_under (codes "consumed_unit") table
+  pricing_unit ← label_under (codes "pricing_unit") table
+  per ← per_under (codes "per") table
+  list ← price_under (codes "list") table
+  contracted ← price_under (codes "contracted") table
+  Ok (record {
+    sku = sku;
+    price_id = price_id;
+    from = from;
+    description = description;
+    service = service;
+    category = category;
+    consumed_unit = consumed_unit;
+    pricing_unit = pricing_unit;
+    per = per;
+    list = list;
+    contracted = contracted;
+  })
+
+unfoldable pub commitment_in : Members → Result Commitment KeyFault
+commitment_in table = do
+  id ← label_under (codes "id") table
+  sku ← label_under (codes "sku") table
+  buy ← label_under (codes "buy") table
+  category ← commitment_category_under (codes "category") table
+  kind ← label_under (codes "type") table
+  rate ← price_under (codes "rate") table
+  Ok (record { id = id; sku = sku; buy = buy; category = category; kind = kind; rate = rate })
+
+-- Rows are counted from 1: the next one stands behind those that were read.
+abbrev pub price_place : List PriceRow → Place
+price_place rows = places.Price (length rows + 1)
+
+abbrev pub commitment_place : List Commitment → Place
+commitment_place rows = places.Commitment (length rows + 1)
+
+-- the row of one more table, which has not both SKU and day of an earlier row
+unfoldable pub next_price : List PriceRow → Members → Result PriceRow SheetFault
+next_price rows table = do
+  row ← at_place (price_place rows) (price_row_in table)
+  _ ← holds_or (not (list_any (has_same_key row) rows)) (faults.Duplicate (price_place rows))
+  Ok row
+
+-- whether some row prices the SKU
+abbrev pub prices_sku : List PriceRow → List ℕ → Bool
+prices_sku prices sku = list_any (λ p. is_same p.sku sku) prices
+
+-- the commitment of one more table, whose id no earlier one has, and whose two SKUs are priced
+unfoldable pub next_commitment : List PriceRow → List Commitment → Members → Result Commitment SheetFault
+next_commitment prices rows table = do
+  row ← at_place (commitment_place rows) (commitment_in table)
+  _ ← holds_or (not (list_any (has_same_id row) rows)) (faults.Duplicate (commitment_place rows))
+  _ ← holds_or (prices_sku prices row.sku && prices_sku prices row.buy) (faults.UnknownSku (commitment_place rows))
+  Ok row
+
+-- the rows that were read, and behind them those of the tables
+abbrev pub prices_in : List PriceRow → List Members → Result (List PriceRow) SheetFault
+prices_in rows [] = Ok rows
+prices_in rows (table ∷ tables) = do
+  row ← next_price rows table
+  prices_in (rows ++ row ∷ []) tables
+
+abbrev pub commitments_in : List PriceRow → List Commitment → List Members → Result (List Commitment) SheetFault
+commitments_in prices rows [] = Ok rows
+commitments_in prices rows (table ∷ tables) = do
+  row ← next_commitment prices rows table
+  commitments_in prices (rows ++ row ∷ []) tables
+
+abbrev pub empty_sheet : ℕ → Sheet
+empty_sheet base = record { base = base; prices = []; commitments = [] }
+
+-- the sheet that a table is: first what stands at the top, then the prices in order, then the commitments
+unfoldable pub sheet_in : Members → Result Sheet SheetFault
+sheet_in table = do
+  base ← at_place places.Top (base_under (codes "base") table)
+  price_tables ← at_place places.Top (rows_under (codes "price") table)
+  commitment_tables ← at_place places.Top (rows_under (codes "commitment") table)
+  prices ← prices_in [] price_tables
+  commitments ← commitments_in prices [] commitment_tables
+  Ok (record { base = base; prices = prices; commitments = commitments })
+
+abbrev pub sheet_of_document : Option Members → Result Sheet SheetFault
+sheet_of_document None = Err faults.NotToml
+sheet_of_document (Some table) = sheet_in table
+
+-- the sheet that a text is, in the TOML that `toml` reads
+unfoldable pub sheet_of_text : List ℕ → Result Sheet SheetFault
+sheet_of_text text = sheet_of_document (parse_document text)

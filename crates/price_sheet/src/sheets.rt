@@ -1,0 +1,136 @@
+//! The price sheet.
+
+ghost use Rattle.std.specs.Prelude.{◌≡◌, ◌≢◌, ◌↔◌, ◌≤◌, Ok, Err, IfOk, IfErr, IsTrue, [], length, map};
+ghost use Rattle.std.specs.Option.{option_copied};
+ghost use Rattle.toml.specs.View.{table_view};
+ghost use Rattle.metering_model.specs.Dates.{IsBaseMonth};
+ghost use Rattle.metering_model.specs.SheetRules.{IsSheet};
+ghost use Rattle.metering_model.specs.PriceInForce.{price_in_force, commitment_with};
+ghost use Rattle.price_sheet.specs.SheetReading.{prices_in, commitments_in, empty_sheet, sheet_in, sheet_of_text};
+
+use crate::commitments::Commitment;
+use crate::faults::{Place, SheetFault};
+use crate::keys::{base_under, rows_under};
+use crate::prices::PriceRow;
+use crate::rows::{
+    commitments_in, fault_at, find_commitment, latest, prices_in, same_commitments, same_prices,
+};
+use batch_view::Day;
+use period_cut::Month;
+use std::alloc::{AllocError, Global};
+use std::marker::Model;
+use toml::Table;
+
+/// Prices and commitments, in the order of the sheet, and the month that period 0 bills.
+#[derive(Debug, Drop)]
+pub struct Sheet {
+    base: Month,
+    prices: Vec<PriceRow>,
+    commitments: Vec<Commitment>,
+}
+
+impl Model for Sheet {
+    ghost use Rattle.metering_model.specs.Sheet as model;
+    ghost use Rattle.metering_model.specs.Dates.{IsBaseMonth};
+
+    ghost Value = { model.Sheet };
+
+    ghost view = { λ s. record {
+      base = s.base;
+      prices = s.prices.items;
+      commitments = s.commitments.items;
+    } };
+
+    ghost invariant = { λ s. IsBaseMonth s.base };
+}
+
+impl Sheet {
+    /// Reads a sheet from TOML, or tells the text's first fault.
+    #[tactic(auto, unfolding(crate::specs::SheetReading::sheet_of_text))]
+    pub fn read(alloc: Global, text: &str) -> Result<Sheet, SheetFault>
+        ensures taken { IfOk result (λ sheet. sheet_of_text text.now ≡ Ok sheet) }
+        ensures refused { IfErr result (λ fault. fault ≢ SheetFault.OutOfMemory → sheet_of_text text.now ≡ Err fault) }
+        ensures rules { IfOk result IsSheet }
+    {
+        match toml::table_from_str(alloc, text) {
+            Ok(table) => Sheet::of_table(alloc, &table),
+            Err(error) => {
+                if error.is_memory() {
+                    Err(SheetFault::OutOfMemory)
+                } else {
+                    Err(SheetFault::NotToml)
+                }
+            }
+        }
+    }
+
+    /// A sheet with this base month and no rows.
+    pub fn empty(alloc: Global, base: Month) -> Result<Sheet, AllocError>
+        requires { IsBaseMonth base }
+        ensures { IfOk result (λ sheet. sheet ≡ empty_sheet base) }
+    {
+        Ok(Sheet {
+            base,
+            prices: Vec::new(alloc),
+            commitments: Vec::new(alloc),
+        })
+    }
+
+    /// Reads a sheet from a table.
+    #[tactic(auto, using(crate::proofs::Chains::placed_fails), unfolding(crate::specs::SheetReading::sheet_in))]
+    fn of_table(alloc: Global, table: &Table) -> Result<Sheet, SheetFault>
+        ensures taken { IfOk result (λ sheet. sheet_in (table_view table.now) ≡ Ok sheet) }
+        ensures refused { IfErr result (λ fault. fault ≢ SheetFault.OutOfMemory → sheet_in (table_view table.now) ≡ Err fault) }
+    {
+        let base = match base_under(table, "base") {
+            Ok(base) => base,
+            Err(fault) => return Err(fault_at(Place::Top, fault)),
+        };
+        let price_tables = match rows_under(alloc, table, "price") {
+            Ok(tables) => tables,
+            Err(fault) => return Err(fault_at(Place::Top, fault)),
+        };
+        let commitment_tables = match rows_under(alloc, table, "commitment") {
+            Ok(tables) => tables,
+            Err(fault) => return Err(fault_at(Place::Top, fault)),
+        };
+        let prices = prices_in(alloc, &price_tables)?;
+        let commitments = commitments_in(alloc, &prices, &commitment_tables)?;
+        Ok(Sheet {
+            base,
+            prices,
+            commitments,
+        })
+    }
+
+    /// The price of a SKU that is in force on a day: the one that began last. No memory is taken.
+    pub fn price(&self, sku: &[u8], day: Day) -> Option<&PriceRow>
+        ensures { option_copied result ≡ price_in_force self.now sku.now day }
+    {
+        latest(&self.prices, sku, day)
+    }
+
+    /// The commitment with an id. No memory is taken.
+    pub fn commitment(&self, id: &[u8]) -> Option<&Commitment>
+        ensures { option_copied result ≡ commitment_with self.now id.now }
+    {
+        find_commitment(&self.commitments, id)
+    }
+
+    /// The month that period 0 bills, from 2000-01 to 2100-12.
+    pub fn base_month(&self) -> Month
+        ensures value { result ≡ self.now.base }
+        ensures range { IsBaseMonth result }
+    {
+        self.base
+    }
+
+    /// Whether the two have the same base month and the same rows in the same order.
+    pub fn same(&self, other: &Sheet) -> bool
+        ensures { IsTrue result ↔ (self.now ≡ other.now) }
+    {
+        self.base == other.base
+            && same_prices(&self.prices, &other.prices)
+            && same_commitments(&self.commitments, &other.commitments)
+    }
+}
