@@ -1,8 +1,8 @@
 -- What holds after every run, and what a longer run keeps.
-use Rattle.std.proofs.Common.{◌≡◌, ℕ, List, ◌++◌, ◌<◌, length, map, refl, sym, subst, ◌∙◌, Option, Some, None}
+use Rattle.std.proofs.Common.{◌≡◌, ℕ, List, ◌++◌, ◌<◌, length, map, refl, sym, subst, ◌∙◌, Option, Some, None, inl, inr}
 use Rattle.std.specs.Prelude.{slice_get}
 use Rattle.std.specs.List.{Contains}
-use Rattle.std.proofs.lemmas.Option.{same_Some, slice_get-get_or, slice_get_within}
+use Rattle.std.proofs.lemmas.Option.{same_Some, slice_get-get_or, slice_get_within, none-some}
 use Rattle.metering_model.specs.Sheet.{Sheet, Issuer}
 use Rattle.metering_model.specs.Cut.{Cut}
 use Rattle.metering_model.specs.World.{World, Node, Packet, CarriesBatch, Event, Snapshot, Exported, node_count, wake, opening}
@@ -11,7 +11,7 @@ use Rattle.metering_model.specs.Step.{play}
 use Rattle.metering_model.specs.Chosen.{IsChosen}
 use Rattle.metering_model.specs.History.{Entry, IsLegal}
 use Rattle.metering_model.proofs.PlayLaws.{play-append}
-use Rattle.group_laws.specs.Headline.{IsPrefixOf, AreTheCuts, IsExport, HoldsAfter}
+use Rattle.group_laws.specs.Headline.{IsPrefixOf, AreAnswers, AreTheCuts, IsExport, HoldsAfter}
 use Rattle.group_laws.proofs.StepCases.{after, started, start_packet, IsKeptBySteps, play_kept}
 use Rattle.group_laws.proofs.Steps.{length-slice_set}
 use Rattle.group_laws.proofs.Told.{ChosenIn, ChosenIn-more}
@@ -19,6 +19,8 @@ use Rattle.group_laws.proofs.Fits.{IsFitting, IsFitting-steps, IsFitting-opening
 use Rattle.group_laws.proofs.Agreed.{the_cuts, one_chosen, are_the_cuts, same_entries, element_of}
 use Rattle.group_laws.proofs.Exports.{IsTaken, all_taken, is_export, one_export}
 use Rattle.group_laws.proofs.ChargedOnce.{charged_once}
+use Rattle.group_laws.proofs.Asked.{one_each, asked}
+use Rattle.group_laws.proofs.Answered.{kept, only}
 
 -- ---- the sheet and the issuer
 
@@ -87,8 +89,20 @@ module _ (nodes agents : ℕ) (sheet : Sheet) (issuer : Issuer) (events : List E
       let taken = all_taken nodes events (opening nodes agents sheet issuer) (IsFitting-opening nodes agents sheet issuer) at.0 s at.1 in
       is_export (play (opening nodes agents sheet issuer) events).1 fitting_here s (subst (λ N. IsTaken N (play (opening nodes agents sheet issuer) events).1 s) (sym fitting.told.kept.count) taken)
 
-  pub holds_after : HoldsAfter nodes agents sheet issuer (play (opening nodes agents sheet issuer) events).0 (play (opening nodes agents sheet issuer) events).1
+  answers : AreAnswers events (play (opening nodes agents sheet issuer) events).0 (play (opening nodes agents sheet issuer) events).1
+  answers = record {
+    one_each = one_each events (opening nodes agents sheet issuer);
+    asked = asked events (opening nodes agents sheet issuer);
+    kept = kept nodes events (opening nodes agents sheet issuer) (IsFitting-opening nodes agents sheet issuer);
+    only = λ agent seq b has. elim (only nodes events (opening nodes agents sheet issuer) (IsFitting-opening nodes agents sheet issuer) agent seq b has) [
+      | inl before ↦ absurd (none-some b before)
+      | inr found ↦ found
+    ];
+  }
+
+  pub holds_after : HoldsAfter nodes agents sheet issuer events (play (opening nodes agents sheet issuer) events).0 (play (opening nodes agents sheet issuer) events).1
   holds_after = record {
+    answers = answers;
     nodes_kept = fitting.told.kept.count;
     agents_kept = of_issuer.agents_kept;
     sheet_kept = of_issuer.sheet_kept;
@@ -116,7 +130,7 @@ module _ (nodes agents : ℕ) (sheet : Sheet) (issuer : Issuer) (events : List E
       same_entries before after (λ p c e. (later.chosen p c).1 (still_chosen more p c ((h.chosen p c).0 e)))
 
 -- a legal history is a run, with its replies and its world
-pub legal_holds_after : (nodes agents : ℕ) (sheet : Sheet) (issuer : Issuer) (history : List Entry) (reached : World) → IsLegal (opening nodes agents sheet issuer) history reached → HoldsAfter nodes agents sheet issuer (map (λ e. e.reply) history) reached
+pub legal_holds_after : (nodes agents : ℕ) (sheet : Sheet) (issuer : Issuer) (history : List Entry) (reached : World) → IsLegal (opening nodes agents sheet issuer) history reached → HoldsAfter nodes agents sheet issuer (map (λ e. e.event) history) (map (λ e. e.reply) history) reached
 legal_holds_after nodes agents sheet issuer history reached legal =
-    subst (λ replies. HoldsAfter nodes agents sheet issuer replies reached) legal.replies
-    (subst (HoldsAfter nodes agents sheet issuer _) legal.world (holds_after nodes agents sheet issuer (map (λ e. e.event) history)))
+    subst (λ replies. HoldsAfter nodes agents sheet issuer (map (λ e. e.event) history) replies reached) legal.replies
+    (subst (HoldsAfter nodes agents sheet issuer _ _) legal.world (holds_after nodes agents sheet issuer (map (λ e. e.event) history)))

@@ -51,7 +51,7 @@ none_from_ok (Some absent) u e = absurd (cc)
 
 -- ---- a snapshot is taken
 
-abbrev snapshot_of : World → Node → ℕ → Cut → Snapshot
+abbrev pub snapshot_of : World → Node → ℕ → Cut → Snapshot
 snapshot_of w n p to = record { period = p; from = cut_before w.agents n.kept.learned p; to = to; batches = up_to to n.kept.holding; sheet = w.sheet; issuer = w.issuer }
 
 taken : (N : ℕ) (w : World) → IsFitting N w → (i p : ℕ) (s : Snapshot) → snapshot w i p ≡ Ok s → IsTaken N w s
@@ -127,7 +127,7 @@ module _ (N : ℕ) (s : Snapshot) where
 
 -- ---- only an export is answered with a snapshot
 
-record NeverExports (w : World) (r : Result Outcome Refusal) : Type 0 where
+pub record NeverExports (w : World) (r : Result Outcome Refusal) : Type 0 where
   pub never : (s : Snapshot) → (or_refused w r).0 ≡ Exported s → ⊥
 
 refused : (w : World) (e : Refusal) → NeverExports w (Err e)
@@ -145,7 +145,7 @@ module _ (w : World) where
       after_bind w (unless_broken (first_broken w.sheet (put w.journals b) (placed b))) _ (λ u.
       after_bind w (next_packet w) _ (λ k. record { never = λ s is. cc }))))
 
-  journal_never : (offer : Offer) → NeverExports w (on_journal w offer)
+  pub journal_never : (offer : Offer) → NeverExports w (on_journal w offer)
   journal_never (Good text) = after_bind w (or_bad_batch (batch_in text)) (on_batch w) batch_never
   journal_never (Bad fault) = refused w _
 
@@ -156,22 +156,22 @@ module _ (w : World) where
       by_sends None = record { never = λ s is. cc }
       by_sends (Some q) = after_bind w (next_packet w) _ (λ k. record { never = λ s is. cc })
 
-  delivery_never : (k i : ℕ) → NeverExports w (on_delivery w k i)
+  pub delivery_never : (k i : ℕ) → NeverExports w (on_delivery w k i)
   delivery_never k i =
       after_bind w (ok_or (slice_get w.packets k) NoPacket) _ (λ q.
       after_bind w (ok_or (slice_get w.nodes i) NoNode) _ (λ n. handled_never i (handled w i n q)))
 
-  start_never : (i : ℕ) → NeverExports w (on_start w i)
+  pub start_never : (i : ℕ) → NeverExports w (on_start w i)
   start_never i =
       after_bind w (ok_or (slice_get w.nodes i) NoNode) _ (λ n.
       after_bind w (holds_or (nat_lt (current_period n) 1_200) AllClosed) _ (λ u.
       after_bind w (holds_or (nat_lt n.kept.round 10_000) NoBallot) _ (λ u.
       after_bind w (next_packet w) _ (λ k. record { never = λ s is. cc }))))
 
-  restart_never : (i : ℕ) → NeverExports w (on_restart w i)
+  pub restart_never : (i : ℕ) → NeverExports w (on_restart w i)
   restart_never i = after_bind w (ok_or (slice_get w.nodes i) NoNode) _ (λ n. record { never = λ s is. cc })
 
-  snapshot_of_reply : (r : Result Snapshot Refusal) (s : Snapshot) → (or_refused w (r >>= λ x. Ok (Exported x, w))).0 ≡ Exported s → r ≡ Ok s
+  pub snapshot_of_reply : (r : Result Snapshot Refusal) (s : Snapshot) → (or_refused w (r >>= λ x. Ok (Exported x, w))).0 ≡ Exported s → r ≡ Ok s
   snapshot_of_reply (Ok x) s e = cc
   snapshot_of_reply (Err x) s e = absurd (cc)
 

@@ -1,6 +1,6 @@
 -- Worlds that a faulty node would leave: of each the headline is false.
 use Rattle.std.proofs.Common.{◌≡◌, ℕ, List, [], ◌∷◌, length, refl, sym, ap, subst, ◌∙◌, arith, Some, None}
-use Rattle.std.specs.Prelude.{slice_get, pos, false}
+use Rattle.std.specs.Prelude.{slice_get, pos, false, codes}
 use Rattle.std.proofs.lemmas.Bool.{leb-true, both_ways}
 use Rattle.std.proofs.lemmas.Option.{same_Some, none-some}
 use Rattle.jiff_core.specs.Calendar.{days_from_civil, day_count, days_of_years, days_of_months}
@@ -10,7 +10,7 @@ use Rattle.metering_model.specs.declared.ChargeClass.TheVariants.{New}
 use Rattle.metering_model.specs.Row.{row}
 use Rattle.metering_model.specs.Rows.{PlacedRow}
 use Rattle.metering_model.specs.Cut.{Cut, IsAtLeast, IsGrowing}
-use Rattle.metering_model.specs.World.{World, Node, Reply, Snapshot, Exported, Prepare, Promise, Accept, Accepted, Decided, wake, new_kept, opening}
+use Rattle.metering_model.specs.World.{World, Node, Event, Reply, Snapshot, Exported, Prepare, Promise, Accept, Accepted, Decided, wake, new_kept, opening}
 use Rattle.metering_model.specs.Chosen.{IsChosen}
 use Rattle.metering_model.proofs.Samples.{sheet_0, issuer_1}
 use Rattle.group_laws.specs.Headline.{IsNewIn, AreChargedOnce, HoldsAfter}
@@ -22,20 +22,30 @@ low = 1 ∷ []
 abbrev high : Cut
 high = 2 ∷ []
 
+abbrev batch_of : ℕ → Batch
+batch_of seq = record { agent = 1; seq = seq; records = [] }
+
+abbrev whole_holding : List Batch
+whole_holding = batch_of 1 ∷ batch_of 2 ∷ []
+
+-- a group with two batches in its journals, so that what is wrong is what the packets tell
+abbrev opened : ℕ → World
+opened nodes = record (opening nodes 1 sheet_0 issuer_1) { journals = whole_holding }
+
 abbrev IsFalseOf : ℕ → List Reply → World → Type 0
-IsFalseOf nodes replies w = HoldsAfter nodes 1 sheet_0 issuer_1 replies w → ⊥
+IsFalseOf nodes replies w = (events : List Event) → HoldsAfter nodes 1 sheet_0 issuer_1 events replies w → ⊥
 
 -- ---- two cuts that are chosen for one period
 
 two_chosen : (nodes : ℕ) (replies : List Reply) (w : World) → IsChosen w 0 low → IsChosen w 0 high → IsFalseOf nodes replies w
-two_chosen nodes replies w one other h = differ (h.one 0 low high one other)
+two_chosen nodes replies w one other events h = differ (h.one 0 low high one other)
   where
     differ : low ≡ high → ⊥
     differ e = cc
 
 -- Node 1 accepts `low` at ballot 3, which so is chosen. It forgets its vote, and promises ballot 5 without a word of it.
 abbrev after_a_forgotten_vote : World
-after_a_forgotten_vote = record (opening 3 1 sheet_0 issuer_1) {
+after_a_forgotten_vote = record (opened 3) {
   packets =
       Prepare 0 3 ∷ Promise 0 0 3 None ∷ Promise 1 0 3 None ∷ Accept 0 3 low ∷ Accepted 0 0 3 low ∷ Accepted 1 0 3 low ∷
       Prepare 0 5 ∷ Promise 1 0 5 None ∷ Promise 2 0 5 None ∷ Accept 0 5 high ∷ Accepted 1 0 5 high ∷ Accepted 2 0 5 high ∷ [];
@@ -46,7 +56,7 @@ a_vote_is_not_forgotten = two_chosen 3 [] after_a_forgotten_vote (record { ballo
 
 -- Node 1 has promised ballot 5, and then promises ballot 3, and accepts at both.
 abbrev after_two_promises : World
-after_two_promises = record (opening 3 1 sheet_0 issuer_1) {
+after_two_promises = record (opened 3) {
   packets =
       Prepare 0 3 ∷ Prepare 0 5 ∷ Promise 1 0 5 None ∷ Promise 2 0 5 None ∷ Promise 1 0 3 None ∷ Promise 0 0 3 None ∷
       Accept 0 3 low ∷ Accepted 0 0 3 low ∷ Accepted 1 0 3 low ∷ Accept 0 5 high ∷ Accepted 1 0 5 high ∷ Accepted 2 0 5 high ∷ [];
@@ -55,22 +65,25 @@ after_two_promises = record (opening 3 1 sheet_0 issuer_1) {
 an_older_ballot_is_not_promised : IsFalseOf 3 [] after_two_promises
 an_older_ballot_is_not_promised = two_chosen 3 [] after_two_promises (record { ballot = 3; by_majority = leb-true _ _ refl }) (record { ballot = 5; by_majority = leb-true _ _ refl })
 
--- Node 1 accepts ballot 5 without having seen its Prepare. It takes that for no promise, and accepts ballot 3 afterwards.
+-- Node 1 accepts ballot 5 without having seen its Prepare. It takes that for no promise, and accepts ballot 3 afterwards: so
+-- to ballot 6 it tells the vote of 3, and not that of 5, which is chosen. Nodes 0 and 2 do as they should.
 abbrev after_a_vote_that_promised_nothing : World
-after_a_vote_that_promised_nothing = record (opening 3 1 sheet_0 issuer_1) {
+after_a_vote_that_promised_nothing = record (opened 3) {
   packets =
-      Prepare 0 3 ∷ Promise 0 0 3 None ∷ Promise 1 0 3 None ∷ Prepare 0 5 ∷ Promise 2 0 5 None ∷ Promise 0 0 5 None ∷
-      Accept 0 5 high ∷ Accepted 1 0 5 high ∷ Accepted 2 0 5 high ∷ Accept 0 3 low ∷ Accepted 1 0 3 low ∷ Accepted 0 0 3 low ∷ [];
+      Prepare 0 3 ∷ Promise 0 0 3 None ∷ Promise 1 0 3 None ∷ Accept 0 3 low ∷ Prepare 0 5 ∷ Promise 2 0 5 None ∷
+      Promise 0 0 5 None ∷ Accept 0 5 high ∷ Accepted 1 0 5 high ∷ Accepted 2 0 5 high ∷ Accepted 1 0 3 low ∷
+      Prepare 0 6 ∷ Promise 0 0 6 None ∷ Promise 1 0 6 (Some (record { ballot = 3; cut = low })) ∷ Accept 0 6 low ∷
+      Accepted 0 0 6 low ∷ Accepted 1 0 6 low ∷ [];
 }
 
 a_vote_is_a_promise : IsFalseOf 3 [] after_a_vote_that_promised_nothing
-a_vote_is_a_promise = two_chosen 3 [] after_a_vote_that_promised_nothing (record { ballot = 3; by_majority = leb-true _ _ refl }) (record { ballot = 5; by_majority = leb-true _ _ refl })
+a_vote_is_a_promise = two_chosen 3 [] after_a_vote_that_promised_nothing (record { ballot = 6; by_majority = leb-true _ _ refl }) (record { ballot = 5; by_majority = leb-true _ _ refl })
 
 -- Two cuts go out at one ballot: it is of two nodes, or its proposer took one more promise after it had sent.
 abbrev after_a_shared_ballot : World
-after_a_shared_ballot = record (opening 3 1 sheet_0 issuer_1) {
+after_a_shared_ballot = record (opened 3) {
   packets =
-      Prepare 0 3 ∷ Promise 0 0 3 None ∷ Promise 1 0 3 None ∷ Accept 0 3 low ∷ Accept 0 3 high ∷
+      Prepare 0 3 ∷ Promise 0 0 3 None ∷ Promise 1 0 3 None ∷ Accept 0 3 low ∷ Promise 2 0 3 None ∷ Accept 0 3 high ∷
       Accepted 0 0 3 low ∷ Accepted 1 0 3 low ∷ Accepted 1 0 3 high ∷ Accepted 2 0 3 high ∷ [];
 }
 
@@ -84,13 +97,13 @@ has_learned cut = wake (record new_kept { learned = cut ∷ [] })
 
 -- Each of two nodes has accepted at its own ballot, counted one vote, and learned.
 abbrev after_half : World
-after_half = record (opening 2 1 sheet_0 issuer_1) {
+after_half = record (opened 2) {
   packets = Accepted 0 0 2 low ∷ Accepted 1 0 3 high ∷ [];
   nodes = has_learned low ∷ has_learned high ∷ [];
 }
 
 half_is_no_majority : IsFalseOf 2 [] after_half
-half_is_no_majority h = differ (first.1 ∙ sym second.1)
+half_is_no_majority events h = differ (first.1 ∙ sym second.1)
   where
     first : (rest : List Cut) × (low ∷ rest ≡ h.cuts)
     first = h.are_the_cuts.learned (has_learned low) (0, omega arith, refl)
@@ -103,10 +116,10 @@ half_is_no_majority h = differ (first.1 ∙ sym second.1)
 
 -- a cut that a node learned of nobody
 abbrev after_a_guess : World
-after_a_guess = record (opening 1 1 sheet_0 issuer_1) { nodes = has_learned low ∷ [] }
+after_a_guess = record (opened 1) { nodes = has_learned low ∷ [] }
 
 a_cut_is_not_guessed : IsFalseOf 1 [] after_a_guess
-a_cut_is_not_guessed h = never ((h.are_the_cuts.chosen 0 low).0 first)
+a_cut_is_not_guessed events h = never ((h.are_the_cuts.chosen 0 low).0 first)
   where
     prefix : (rest : List Cut) × (low ∷ rest ≡ h.cuts)
     prefix = h.are_the_cuts.learned (has_learned low) (0, omega arith, refl)
@@ -119,9 +132,6 @@ a_cut_is_not_guessed h = never ((h.are_the_cuts.chosen 0 low).0 first)
 
 -- ---- cuts that go back, or beyond the journals
 
-abbrev batch_of : ℕ → Batch
-batch_of seq = record { agent = 1; seq = seq; records = [] }
-
 -- one node, which chooses the second batch for period 0, and only the first for period 1
 abbrev after_a_step_back : World
 after_a_step_back = record (opening 1 1 sheet_0 issuer_1) {
@@ -130,7 +140,7 @@ after_a_step_back = record (opening 1 1 sheet_0 issuer_1) {
 }
 
 cuts_do_not_go_back : IsFalseOf 1 [] after_a_step_back
-cuts_do_not_go_back h = back h.cuts
+cuts_do_not_go_back events h = back h.cuts
     ((h.are_the_cuts.chosen 0 high).1 (record { ballot = 1; by_majority = leb-true _ _ refl }))
     ((h.are_the_cuts.chosen 1 low).1 (record { ballot = 2; by_majority = leb-true _ _ refl })) h.are_the_cuts.growing
   where
@@ -146,7 +156,7 @@ abbrev after_a_promise_of_more : World
 after_a_promise_of_more = record (opening 1 1 sheet_0 issuer_1) { packets = Accepted 0 0 1 low ∷ [] }
 
 a_cut_stays_within_the_journals : IsFalseOf 1 [] after_a_promise_of_more
-a_cut_stays_within_the_journals h = let less = h.are_the_cuts.journaled 0 low first 1 in omega (arith, less)
+a_cut_stays_within_the_journals events h = let less = h.are_the_cuts.journaled 0 low first 1 in omega (arith, less)
   where
     first : slice_get h.cuts 0 ≡ Some low
     first = (h.are_the_cuts.chosen 0 low).1 (record { ballot = 1; by_majority = leb-true _ _ refl })
@@ -157,11 +167,11 @@ credit = record {
   kind = Credit;
   start = pos 1_738_368_000;
   end = pos 1_738_371_600;
-  start_text = [];
-  end_text = [];
+  start_text = codes "2025-02-01T00:00:00Z";
+  end_text = codes "2025-02-01T01:00:00Z";
   account = [];
   resource = [];
-  key = [];
+  key = codes "Launch credit";
   value = pos 5;
   commitment = [];
   tags = [];
@@ -176,7 +186,7 @@ after_an_early_cut = record credited { packets = Accepted 0 0 1 low ∷ [] }
 
 a_cut_adds_what_is_due : IsFalseOf 1 [] after_an_early_cut
 unfolding days_from_civil day_count days_of_years days_of_months
-a_cut_adds_what_is_due h = both_ways false refl (h.are_the_cuts.due 0 low first 1 1 (omega arith) (omega arith))
+a_cut_adds_what_is_due events h = both_ways false refl (h.are_the_cuts.due 0 low first 1 1 (omega arith) (omega arith))
   where
     first : slice_get h.cuts 0 ≡ Some low
     first = (h.are_the_cuts.chosen 0 low).1 (record { ballot = 1; by_majority = leb-true _ _ refl })
@@ -197,9 +207,6 @@ going_back_charges_twice once =
 
 -- ---- an export beyond its cut
 
-abbrev whole_holding : List Batch
-whole_holding = batch_of 1 ∷ batch_of 2 ∷ []
-
 abbrev too_much : Snapshot
 too_much = record { period = 0; from = 0 ∷ []; to = low; batches = whole_holding; sheet = sheet_0; issuer = issuer_1 }
 
@@ -210,14 +217,14 @@ after_an_export_of_all = record (opening 1 1 sheet_0 issuer_1) {
 }
 
 an_export_ends_at_its_cut : IsFalseOf 1 (Exported too_much ∷ []) after_an_export_of_all
-an_export_ends_at_its_cut h = let sizes : 2 ≡ 1 = ap (λ (b : List Batch). length b) (h.exports too_much (0, omega arith, refl)).batches in omega (arith, sizes)
+an_export_ends_at_its_cut events h = let sizes : 2 ≡ 1 = ap (λ (b : List Batch). length b) (h.exports too_much (0, omega arith, refl)).batches in omega (arith, sizes)
 
 -- two exports of one period that differ
 abbrev too_little : Snapshot
 too_little = record too_much { batches = [] }
 
 exports_of_a_period_are_equal : IsFalseOf 1 (Exported too_much ∷ Exported too_little ∷ []) after_an_export_of_all
-exports_of_a_period_are_equal h =
+exports_of_a_period_are_equal events h =
     let sizes : 2 ≡ 0 = ap (λ (s : Snapshot). length s.batches) (h.one_export too_much too_little (0, omega arith, refl) (1, omega arith, refl) refl) in
     omega (arith, sizes)
 

@@ -24,6 +24,7 @@ use Rattle.metering_model.proofs.PartLaws.{IsPartOf-grown, held_well, agree_wher
 use Rattle.metering_model.proofs.Fronts.{front_goes_on, length-front}
 use Rattle.group_laws.specs.Headline.{IsPrefixOf, HoldsAfter}
 use Rattle.group_laws.specs.EveryRun.{IsNode, KeepsLimits, IsBallot, IsCut, MayBeVote, IsPacket, IsEntry, IsAttempt}
+use Rattle.group_laws.proofs.Agents.{has_agents}
 use Rattle.group_laws.proofs.Kept.{sent_now}
 use Rattle.group_laws.proofs.Nodes.{length-nobody}
 use Rattle.group_laws.proofs.StepCases.{play_kept, after, started, start_packet, fresh_ballot, journaling, IsNext, MayStart, IsKeptBySteps, HasRoomFor}
@@ -401,7 +402,7 @@ module _ (nodes agents : ℕ) (sheet : Sheet) (issuer : Issuer) (events : List E
   bounds : KeepsBounds nodes (play (opening nodes agents sheet issuer) events).1
   bounds = play_kept (KeepsBounds nodes) (KeepsBounds-steps nodes) events (opening nodes agents sheet issuer) (KeepsBounds-opening nodes agents sheet issuer)
 
-  headline : HoldsAfter nodes agents sheet issuer (play (opening nodes agents sheet issuer) events).0 (play (opening nodes agents sheet issuer) events).1
+  headline : HoldsAfter nodes agents sheet issuer events (play (opening nodes agents sheet issuer) events).0 (play (opening nodes agents sheet issuer) events).1
   headline = holds_after nodes agents sheet issuer events
 
   is_node : (i : ℕ) (n : Node) → slice_get (play (opening nodes agents sheet issuer) events).1.nodes i ≡ Some n → IsNode nodes agents (play (opening nodes agents sheet issuer) events).1.journals n
@@ -439,6 +440,7 @@ module _ (nodes agents : ℕ) (sheet : Sheet) (issuer : Issuer) (events : List E
     nodes_kept = headline.nodes_kept;
     agents_kept = headline.agents_kept;
     rules = headline.rules;
+    in_range = (has_agents nodes agents sheet issuer events).each;
     room = bounds.room;
     each_packet = subst (λ N. All (IsPacket N w.agents w.journals) w.packets) (sym headline.nodes_kept) bounds.packets;
     each_node = subst (λ N. All (IsNode N w.agents w.journals) w.nodes) (sym headline.nodes_kept)

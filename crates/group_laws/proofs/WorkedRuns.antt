@@ -26,7 +26,7 @@ events_of s = map event_of s.events
 abbrev run_of : Schedule → List Reply × World
 run_of s = play (opening s.nodes s.agents sheet_0 issuer_1) (events_of s)
 
-headline_of : (s : Schedule) → HoldsAfter s.nodes s.agents sheet_0 issuer_1 (run_of s).0 (run_of s).1
+headline_of : (s : Schedule) → HoldsAfter s.nodes s.agents sheet_0 issuer_1 (events_of s) (run_of s).0 (run_of s).1
 headline_of s = holds_after s.nodes s.agents sheet_0 issuer_1 (events_of s)
 
 limits_of : (s : Schedule) → KeepsLimits s.nodes s.agents (run_of s).1

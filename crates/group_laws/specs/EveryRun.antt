@@ -1,7 +1,7 @@
 -- What every run keeps, which the bodies of a group rest on: lengths, limits, and batches that are the journals'.
 use Rattle.std.specs.Prelude.{◌≡◌, ℕ, ◌*◌, ◌<◌, ◌≤◌, true, length, All, Some, None, Option, slice_get}
 use Rattle.std.specs.Option.{is_some}
-use Rattle.metering_model.specs.Batch.{IsWellFormed}
+use Rattle.metering_model.specs.Batch.{Batch, IsWellFormed}
 use Rattle.metering_model.specs.Cut.{Cut, IsGrowing, last_of}
 use Rattle.metering_model.specs.Holding.{Holding, IsHolding, IsPartOf, AgreeUpTo, held}
 use Rattle.metering_model.specs.JournalRules.{MeetsJournalRules}
@@ -76,6 +76,7 @@ pub record KeepsLimits (nodes agents : ℕ) (w : World) : Type 0 where
   pub nodes_kept : node_count w ≡ nodes
   pub agents_kept : w.agents ≡ agents
   pub rules : MeetsJournalRules w.sheet w.journals
+  pub in_range : (agent seq : ℕ) (b : Batch) → held w.journals agent seq ≡ Some b → agent ≤ w.agents
   pub room : length w.packets ≤ 1_000_000
   pub each_packet : All (IsPacket (voter_count w) w.agents w.journals) w.packets
   pub each_node : All (IsNode (voter_count w) w.agents w.journals) w.nodes

@@ -1,22 +1,33 @@
 -- What holds after every run of a group, whatever is lost, repeated, reordered or restarted: the chosen cuts are one growing
 -- list, each export is of two neighbouring cuts of it, and each reading is charged as new in one row of one period.
-use Rattle.std.specs.Prelude.{◌≡◌, ◌↔◌, ℕ, ◌<◌, ◌≤◌, List, ◌++◌, length, Some, None, slice_get}
+use Rattle.std.specs.Prelude.{◌≡◌, ◌↔◌, ℕ, ◌<◌, ◌≤◌, List, ◌++◌, length, Some, None, Ok, slice_get}
 use Rattle.std.specs.List.{Contains}
-use Rattle.metering_model.specs.Batch.{Reading}
+use Rattle.metering_model.specs.Batch.{Batch, Reading}
 use Rattle.metering_model.specs.Sheet.{Sheet, Issuer}
 use Rattle.metering_model.specs.Cut.{Cut, IsGrowing, last_of}
-use Rattle.metering_model.specs.Holding.{Position, up_to, reading_at}
+use Rattle.metering_model.specs.Holding.{Position, held, up_to, reading_at}
 use Rattle.metering_model.specs.JournalRules.{MeetsJournalRules, next_seq}
 use Rattle.metering_model.specs.Front.{AreDueBetween}
 use Rattle.metering_model.specs.Rows.{PlacedRow, placed_rows, rows}
 use Rattle.metering_model.specs.File.{file}
-use Rattle.metering_model.specs.World.{World, Node, Snapshot, Reply, Exported, node_count}
-use Rattle.metering_model.specs.Step.{cut_before}
+use Rattle.metering_model.specs.World.{World, Node, Offer, Event, Journal, Export, Snapshot, Reply, Journaled, Exported, node_count}
+use Rattle.metering_model.specs.Step.{batch_of, cut_before}
 use Rattle.metering_model.specs.Chosen.{IsChosen}
+use Rattle.metering_model.specs.Transcript.{file_of}
 
 -- the second list is the first one, and perhaps goes on
 abbrev pub IsPrefixOf : {A : Type 0} → List A → List A → Type 0
 IsPrefixOf {A} xs ys = (rest : List A) × (xs ++ rest ≡ ys)
+
+-- Each event has its own answer. An export is of the period that was asked for, and the journals have just the batches that
+-- were answered `Journaled`.
+pub record AreAnswers (events : List Event) (replies : List Reply) (w : World) : Type 0 where
+  pub one_each : length replies ≡ length events
+  pub asked : (k : ℕ) (s : Snapshot) → slice_get replies k ≡ Some (Exported s) → (node : ℕ) × (slice_get events k ≡ Some (Export node s.period))
+  pub kept : (k packet : ℕ) (offer : Offer) → slice_get events k ≡ Some (Journal offer) → slice_get replies k ≡ Some (Journaled packet) →
+      (b : Batch) × (batch_of offer ≡ Ok b) × (held w.journals b.agent b.seq ≡ Some b)
+  pub only : (agent seq : ℕ) (b : Batch) → held w.journals agent seq ≡ Some b →
+      (k : ℕ) × (packet : ℕ) × (offer : Offer) × (slice_get events k ≡ Some (Journal offer)) × (slice_get replies k ≡ Some (Journaled packet)) × (batch_of offer ≡ Ok b)
 
 -- what Paxos promises: no period has two chosen cuts
 abbrev pub AtMostOneIsChosen : World → Type 0
@@ -40,7 +51,7 @@ pub record IsExport (w : World) (cuts : List Cut) (s : Snapshot) : Type 0 where
   pub issuer : s.issuer ≡ w.issuer
   pub batches : s.batches ≡ up_to s.to w.journals
   pub rules : MeetsJournalRules s.sheet s.batches
-  pub file : file (rows s.sheet s.issuer s.batches s.period s.from s.to) ≡ file (rows w.sheet w.issuer w.journals s.period s.from s.to)
+  pub file : file_of s ≡ file (rows w.sheet w.issuer w.journals s.period s.from s.to)
 
 -- the period's row at this index has no ChargeClass: it charges its reading as new
 pub record IsNewIn (w : World) (cuts : List Cut) (period index : ℕ) (x : PlacedRow) : Type 0 where
@@ -49,14 +60,19 @@ pub record IsNewIn (w : World) (cuts : List Cut) (period index : ℕ) (x : Place
   pub row : slice_get (placed_rows w.sheet w.issuer w.journals period (cut_before w.agents cuts period) to) index ≡ Some x
   pub new : x.row.charge_class ≡ None
 
--- No reading is new in two rows, be they of one period or of two, and each reading up to a cut is new in one.
+-- No batch lies between the cuts of two periods. No reading is new in two rows, be they of one period or of two, and each
+-- reading up to a cut is new in one.
 pub record AreChargedOnce (w : World) (cuts : List Cut) : Type 0 where
+  pub apart : (p q : ℕ) (c d : Cut) (agent seq : ℕ) → slice_get cuts p ≡ Some c → slice_get cuts q ≡ Some d →
+      last_of (cut_before w.agents cuts p) agent < seq → seq ≤ last_of c agent →
+      last_of (cut_before w.agents cuts q) agent < seq → seq ≤ last_of d agent → p ≡ q
   pub at_most : (p q k l : ℕ) (x y : PlacedRow) → IsNewIn w cuts p k x → IsNewIn w cuts q l y → x.place ≡ y.place → (p ≡ q) × (k ≡ l)
   pub at_least : (period : ℕ) (cut : Cut) (at : Position) (r : Reading) → slice_get cuts period ≡ Some cut → at.seq ≤ last_of cut at.agent →
-      reading_at w.journals at ≡ Some r → (p : ℕ) × (k : ℕ) × (x : PlacedRow) × IsNewIn w cuts p k x × (x.place ≡ at)
+      reading_at w.journals at ≡ Some r → (p : ℕ) × (p ≤ period) × (k : ℕ) × (x : PlacedRow) × IsNewIn w cuts p k x × (x.place ≡ at)
 
 -- The headline: after a run that gave these replies, and led from the opening world to this one.
-pub record HoldsAfter (nodes agents : ℕ) (sheet : Sheet) (issuer : Issuer) (replies : List Reply) (w : World) : Type 0 where
+pub record HoldsAfter (nodes agents : ℕ) (sheet : Sheet) (issuer : Issuer) (events : List Event) (replies : List Reply) (w : World) : Type 0 where
+  pub answers : AreAnswers events replies w
   pub nodes_kept : node_count w ≡ nodes
   pub agents_kept : w.agents ≡ agents
   pub sheet_kept : w.sheet ≡ sheet

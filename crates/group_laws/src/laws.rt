@@ -13,10 +13,10 @@ ghost use Rattle.group_laws.specs.EveryRun.{KeepsLimits};
 /// holds of every list of events, and of every history that one thread could have made; more events only lengthen the list.
 pub fn runs()
     ensures holds { (nodes agents : ℕ) (sheet : Sheet) (issuer : Issuer) (events : List Event) →
-        HoldsAfter nodes agents sheet issuer (play (opening nodes agents sheet issuer) events).0 (play (opening nodes agents sheet issuer) events).1 }
+        HoldsAfter nodes agents sheet issuer events (play (opening nodes agents sheet issuer) events).0 (play (opening nodes agents sheet issuer) events).1 }
     ensures histories { (nodes agents : ℕ) (sheet : Sheet) (issuer : Issuer) (history : List Entry) (reached : World) →
         IsLegal (opening nodes agents sheet issuer) history reached →
-        HoldsAfter nodes agents sheet issuer (map (λ e. e.reply) history) reached }
+        HoldsAfter nodes agents sheet issuer (map (λ e. e.event) history) (map (λ e. e.reply) history) reached }
     ensures grows { (nodes agents : ℕ) (sheet : Sheet) (issuer : Issuer) (events more : List Event) (before after : List Cut) →
         AreTheCuts (play (opening nodes agents sheet issuer) events).1 before →
         AreTheCuts (play (opening nodes agents sheet issuer) (events ++ more)).1 after →

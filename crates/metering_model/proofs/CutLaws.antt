@@ -1,5 +1,5 @@
 -- The order of cuts, and a cut with one entry put.
-use Rattle.std.proofs.Common.{◌≡◌, ℕ, zero, suc, ◌+◌, ◌<◌, [], ◌∷◌, length, slice_index, refl, ap, subst, arith}
+use Rattle.std.proofs.Common.{◌≡◌, ℕ, zero, suc, ◌+◌, ◌<◌, ◌≤◌, [], ◌∷◌, length, slice_index, refl, ap, subst, arith}
 use Rattle.std.specs.Prelude.{slice_set}
 use Rattle.metering_model.specs.Cut.{Cut, IsAtLeast, zero_cut, last_of}
 
@@ -18,6 +18,17 @@ at_least-trans (x ∷ c) (y ∷ d) (z ∷ e) h k = (omega (arith, h.0, k.0), at_
 pub at_least_zero : (c : Cut) → IsAtLeast c (zero_cut (length c))
 at_least_zero [] = tt
 at_least_zero (x ∷ c) = (omega arith, at_least_zero c)
+
+-- entry by entry is the same as agent by agent
+pub at_least_each : (a b : Cut) → length a ≡ length b → ((agent : ℕ) → last_of a agent ≤ last_of b agent) → IsAtLeast b a
+at_least_each [] [] e each = tt
+at_least_each [] (y ∷ b) e each = absurd (omega (arith, e))
+at_least_each (x ∷ a) [] e each = absurd (omega (arith, e))
+at_least_each (x ∷ a) (y ∷ b) e each = (each 1, at_least_each a b (omega (arith, e)) rest)
+  where
+    rest : (agent : ℕ) → last_of a agent ≤ last_of b agent
+    rest zero = omega arith
+    rest (suc n) = each (suc (suc n))
 
 index-set : (c : Cut) (i s : ℕ) → i < length c → slice_index (slice_set c i s) i ≡ s
 index-set [] i s within = absurd (omega arith)

@@ -21,6 +21,7 @@ pub mod BatchOrder
 pub mod HoldingLaws
 pub mod AgreementLaws
 pub mod Journals
+pub mod NextLaws
 pub mod CutLaws
 pub mod MissingLaws
 pub mod PartLaws

@@ -97,6 +97,8 @@ pub fn cuts_are_ordered()
     ensures onward { (a b c : Cut) → IsAtLeast b a → IsAtLeast c b → IsAtLeast c a }
     ensures above_zero { (cut : Cut) → IsAtLeast cut (zero_cut (length cut)) }
     ensures each { (a b : Cut) (agent : ℕ) → IsAtLeast b a → last_of a agent ≤ last_of b agent }
+    ensures each_is_enough { (a b : Cut) → length a ≡ length b →
+        ((agent : ℕ) → last_of a agent ≤ last_of b agent) → IsAtLeast b a }
     ensures was_put { (cut : Cut) (i seq : ℕ) → i < length cut → last_of (slice_set cut i seq) (i + 1) ≡ seq }
     ensures others { (cut : Cut) (i seq agent : ℕ) → (agent ≡ i + 1 → ⊥) →
         last_of (slice_set cut i seq) agent ≡ last_of cut agent }
@@ -132,6 +134,8 @@ pub fn journals_keep_their_rules()
         first_broken sheet (put h b) (placed b) ≡ None → MeetsJournalRules sheet (put h b) }
     ensures below_next { (sheet : Sheet) (h : Holding) (agent seq : ℕ) (b : Batch) →
         MeetsJournalRules sheet h → held h agent seq ≡ Some b → seq < next_seq h agent }
+    ensures all_below_next { (sheet : Sheet) (h : Holding) (agent seq : ℕ) →
+        MeetsJournalRules sheet h → 0 < seq → seq < next_seq h agent → is_some (held h agent seq) ≡ true }
     ensures cuts { (sheet : Sheet) (h : Holding) (cut : Cut) → MeetsJournalRules sheet h → MeetsJournalRules sheet (up_to cut h) }
 {}
 
@@ -174,6 +178,8 @@ pub fn one_more_event_is_one_more_step()
         (play w (events ++ e ∷ [])).0 ≡ (play w events).0 ++ (step (play w events).1 e).0 ∷ [] }
     ensures more { (w : World) (events more : List Event) →
         (play w (events ++ more)).1 ≡ (play (play w events).1 more).1 }
+    ensures more_replies { (w : World) (events more : List Event) →
+        (play w (events ++ more)).0 ≡ (play w events).0 ++ (play (play w events).1 more).0 }
 {}
 
 /// Reading a text as a value or as a price answers the number that the text spells, where it is within its limit.

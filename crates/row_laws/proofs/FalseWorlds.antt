@@ -8,7 +8,7 @@ use Rattle.std.proofs.lemmas.Option.{same_Some, none-some}
 use Rattle.std.proofs.lemmas.List.Elements.{All-head}
 use Rattle.metering_model.specs.NumberText.{worth_of, decimals_of}
 use Rattle.metering_model.specs.Dates.{stamp_in, period_end_text}
-use Rattle.metering_model.specs.Batch.{Batch, Reads}
+use Rattle.metering_model.specs.Batch.{Batch, Reads, Amends}
 use Rattle.metering_model.specs.BatchReading.{Lines, lines_in}
 use Rattle.metering_model.specs.Cut.{Cut, last_of}
 use Rattle.metering_model.specs.Sheet.{PriceRow, Sheet, Issuer}
@@ -17,7 +17,7 @@ use Rattle.metering_model.specs.Holding.{Holding, Position}
 use Rattle.metering_model.specs.ValueAtSequence.{value_at}
 use Rattle.metering_model.specs.declared.PricedKind.TheVariants.{Usage}
 use Rattle.metering_model.specs.Rating.{costs, rated, pricing_quantity}
-use Rattle.metering_model.specs.declared.ChargeClass.TheVariants.{New}
+use Rattle.metering_model.specs.declared.ChargeClass.TheVariants.{New, Correction}
 use Rattle.metering_model.specs.Row.{Row, row}
 use Rattle.metering_model.specs.Rows.{placed_rows, rows}
 use Rattle.metering_model.specs.File.{header_line, file}
@@ -153,6 +153,20 @@ first_of_february = refl
 what_is_not_due_starts_too_late : All StartsBeforeItsPeriodEnds (rows sheet_1 issuer_1 ahead 0 (0 ∷ []) (1 ∷ [])) → ⊥
 what_is_not_due_starts_too_late all =
     let x = row sheet_1 issuer_1 credit 0 New (pos 0) credit.value in
+    let late = All-head StartsBeforeItsPeriodEnds x [] all in
+    let start : pos 1_738_540_800 ≡ late.start = same_Some _ _ (sym third_of_february ∙ stamp_written x.charge_period_start late.start late.start_is) in
+    let end : pos 1_738_368_000 ≡ late.end = same_Some _ _ (sym first_of_february ∙ stamp_written x.billing_period_end late.end late.end_is) in
+    let before = late.earlier in
+    omega (arith, ints)
+
+-- ---- a correction of what was not due for an earlier period may do so too, though what is added now is due
+
+abbrev amended_ahead : Holding
+amended_ahead = record { agent = 1; seq = 1; records = Reads credit ∷ [] } ∷ record { agent = 1; seq = 2; records = Amends 1 0 (pos 0) ∷ [] } ∷ []
+
+what_was_not_due_is_corrected_too_early : All StartsBeforeItsPeriodEnds (rows sheet_1 issuer_1 amended_ahead 0 (1 ∷ []) (2 ∷ [])) → ⊥
+what_was_not_due_is_corrected_too_early all =
+    let x = row sheet_1 issuer_1 credit 0 Correction credit.value (pos 0) in
     let late = All-head StartsBeforeItsPeriodEnds x [] all in
     let start : pos 1_738_540_800 ≡ late.start = same_Some _ _ (sym third_of_february ∙ stamp_written x.charge_period_start late.start late.start_is) in
     let end : pos 1_738_368_000 ≡ late.end = same_Some _ _ (sym first_of_february ∙ stamp_written x.billing_period_end late.end late.end_is) in

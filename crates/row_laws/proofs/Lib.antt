@@ -12,3 +12,5 @@ pub mod FileLaws
 mod WorkedJournals
 mod WorkedTotals
 mod FalseWorlds
+pub mod EachFile
+pub mod DueEach

@@ -1,6 +1,6 @@
 //! What the files of all periods say together. Each law is a function with an empty body.
 
-ghost use Rattle.std.specs.Prelude.{◌≡◌, ℕ, ◌≤◌, ◌&&◌, nat_le, nat_lt, if◌then◌else◌, List, [], ◌∷◌, length, map, filter, All, Some, None};
+ghost use Rattle.std.specs.Prelude.{◌≡◌, ℕ, ◌≤◌, ◌&&◌, nat_le, nat_lt, if◌then◌else◌, List, [], ◌∷◌, length, map, filter, All, Some, None, slice_get};
 ghost use Rattle.std.specs.Option.{option_to_list};
 ghost use Rattle.metering_model.specs.Dates.{IsBaseMonth, IsPeriod};
 ghost use Rattle.metering_model.specs.Batch.{Reading};
@@ -12,6 +12,7 @@ ghost use Rattle.metering_model.specs.Holding.{Holding, IsHolding, IsPartOf, Lac
 ghost use Rattle.metering_model.specs.ValueAtSequence.{value_at};
 ghost use Rattle.metering_model.specs.Front.{AreDueBetween};
 ghost use Rattle.metering_model.specs.Rows.{placed_rows, row_of_reading, rows};
+ghost use Rattle.metering_model.specs.Step.{cut_before};
 ghost use Rattle.metering_model.specs.File.{header_line, file};
 ghost use Rattle.metering_model.specs.Totals.{amounts_of, added_up, sum_of, at_place, rows_of_place};
 ghost use Rattle.metering_model.specs.Totals as model;
@@ -97,4 +98,20 @@ pub fn charges_start_before_their_periods_end()
     ensures periods { (sheet : Sheet) (issuer : Issuer) (h : Holding) (agents : ℕ) (cuts : List Cut) →
         IsHolding h → IsBaseMonth sheet.base → length cuts ≤ 1_200 → AreDueOver sheet.base h agents cuts →
         All StartsBeforeItsPeriodEnds (all_rows (files sheet issuer h agents cuts)) }
+{}
+
+/// The file of a period is of the rows between its cut and the one before it: so the files that a group exports are these.
+pub fn each_file_is_between_two_cuts()
+    ensures { (sheet : Sheet) (issuer : Issuer) (h : Holding) (agents : ℕ) (cuts : List Cut) (period : ℕ) (to : Cut) →
+        slice_get cuts period ≡ Some to →
+        slice_get (files sheet issuer h agents cuts) period
+        ≡ Some (rows sheet issuer h period (cut_before agents cuts period) to) }
+{}
+
+/// What is due between each cut and the one before it is due over all of them.
+pub fn what_is_due_in_each_period_is_due_over_all()
+    ensures { (base : ℕ) (h : Holding) (agents : ℕ) (cuts : List Cut) →
+        ((period : ℕ) (to : Cut) → slice_get cuts period ≡ Some to →
+        AreDueBetween base period h (cut_before agents cuts period) to) →
+        AreDueOver base h agents cuts }
 {}

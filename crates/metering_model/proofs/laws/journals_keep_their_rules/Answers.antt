@@ -1,5 +1,6 @@
 use Rattle.metering_model.proofs.RulesUpToCut.{MeetsJournalRules-up_to}
 use Rattle.metering_model.proofs.Journals.{MeetsJournalRules-nil, MeetsJournalRules-put, held_before_next}
+use Rattle.metering_model.proofs.NextLaws.{held_below_next}
 use Rattle.metering_model.proofs.laws.journals_keep_their_rules.Goals as goal
 
 pub returns-clause-none : goal.returns-clause-none
@@ -13,3 +14,6 @@ returns-clause-below_next c = held_before_next
 
 pub returns-clause-cuts : goal.returns-clause-cuts
 returns-clause-cuts c = λ sheet h cut. MeetsJournalRules-up_to sheet cut h
+
+pub returns-clause-all_below_next : goal.returns-clause-all_below_next
+returns-clause-all_below_next c = held_below_next
