@@ -72,6 +72,7 @@ fn carry_out<R: Source, W: Sink>(
         → Refuses command (R.remaining reader.old) refusal }
     ensures kept { IfErr result (λ fault. fault ≢ play.Write
         → Keeps (W.contents writer.old) (W.contents writer.new)) }
+    ensures untouched { IfErr result (λ fault. fault ≢ play.Write → writer.new ≡ writer.old) }
     ensures read { ConsumesAtMost 65_537 (R.remaining reader.old) (R.remaining reader.new) }
     ensures reads { R.failed_calls reader.new
         ≡ count_after (tells_of_reader result) (R.failed_calls reader.old) }
@@ -131,6 +132,7 @@ pub fn run<R: Source, W: Sink, E: Sink>(
         → Tells (Fault.Play play.OutOfMemory) (E.contents errors.old) (E.contents errors.new)
         (E.failed_calls errors.old) (E.failed_calls errors.new) }
     ensures kept { result ≢ 0 → result ≢ 3 → Keeps (W.contents writer.old) (W.contents writer.new) }
+    ensures unwritten { result ≢ 0 → result ≢ 3 → writer.new ≡ writer.old }
     ensures calm { result ≢ 3 → (R.failed_calls reader.new ≡ R.failed_calls reader.old)
         × (W.failed_calls writer.new ≡ W.failed_calls writer.old) }
     ensures read { ConsumesAtMost 65_537 (R.remaining reader.old) (R.remaining reader.new) }

@@ -61,6 +61,7 @@ pub fn rate_text<R: Source, W: Sink>(
     ensures kept { IfErr result (λ fault. fault ≢ PlayFault.Write
         → Keeps (W.contents writer.old) (W.contents writer.new)
         × (W.failed_calls writer.new ≡ W.failed_calls writer.old)) }
+    ensures untouched { IfErr result (λ fault. fault ≢ PlayFault.Write → writer.new ≡ writer.old) }
     ensures read { ConsumesAtMost 65_537 (R.remaining reader.old) (R.remaining reader.new) }
 
     // With Ok nothing is left to read.
