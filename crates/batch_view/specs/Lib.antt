@@ -3,5 +3,6 @@ pub mod Parts
 pub mod TagTexts
 pub mod Lent
 pub mod Batches
+pub mod Kept
 pub mod Offers
 pub mod Inner

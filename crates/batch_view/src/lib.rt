@@ -5,7 +5,7 @@ pub use batch::{BatchView, Records};
 pub use dates::{Day, Stamp};
 pub use fields::{Field, Span};
 pub use metering_model::{BatchCode, BatchFault, Kind};
-pub use owned::{Offer, OwnedBatch};
+pub use owned::{Amendment, Offer, OwnedBatch};
 pub use records::{Reading, Record};
 pub use tags::Tags;
 
