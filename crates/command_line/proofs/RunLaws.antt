@@ -44,3 +44,12 @@ is_bad_line Q on_line.OutOfMemory status is two q = absurd (cc)
 pub is_memory_for_words : (Q : Fault → Type 0) (fault : LineFault) (status : ℕ) → status ≡ status_of (Line fault) → status ≡ 4 → Q (Line fault) → Q (Line on_line.OutOfMemory)
 is_memory_for_words Q on_line.Line status is four q = absurd (cc)
 is_memory_for_words Q on_line.OutOfMemory status is four q = q
+
+-- no fault ends with 0
+pub never_zero : (fault : Fault) (status : ℕ) → status ≡ status_of fault → status ≡ 0 → ⊥
+never_zero (Line on_line.Line) status is zero = absurd (cc)
+never_zero (Line on_line.OutOfMemory) status is zero = absurd (cc)
+never_zero (Play play.Read) status is zero = absurd (cc)
+never_zero (Play play.Write) status is zero = absurd (cc)
+never_zero (Play play.OutOfMemory) status is zero = absurd (cc)
+never_zero (Play (play.Refused refusal)) status is zero = absurd (cc)

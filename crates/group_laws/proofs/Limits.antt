@@ -23,7 +23,7 @@ use Rattle.metering_model.proofs.MissingLaws.{some_of}
 use Rattle.metering_model.proofs.PartLaws.{IsPartOf-grown, held_well, agree_where_none_missing}
 use Rattle.metering_model.proofs.Fronts.{front_goes_on, length-front}
 use Rattle.group_laws.specs.Headline.{IsPrefixOf, HoldsAfter}
-use Rattle.group_laws.specs.EveryRun.{IsNode, KeepsLimits, IsBallot, IsCut, MayBeVote, IsPacket, IsEntry, IsAttempt}
+use Rattle.group_laws.specs.EveryRun.{IsNode, KeepsLimits, IsBallot, IsJournaledCut, MayBeVote, IsPacket, IsEntry, IsAttempt}
 use Rattle.group_laws.proofs.Agents.{has_agents}
 use Rattle.group_laws.proofs.Kept.{sent_now}
 use Rattle.group_laws.proofs.Nodes.{length-nobody}
@@ -49,20 +49,20 @@ module _ (N agents : ℕ) (J K : Holding) (more : IsPartOf J K) where
   held_more : (agent seq : ℕ) → is_some (held J agent seq) ≡ true → is_some (held K agent seq) ≡ true
   held_more agent seq e = let one = some_of (held J agent seq) e in ap is_some (more.had agent seq one.0 one.1)
 
-  IsCut-more : (c : Cut) → IsCut agents J c → IsCut agents K c
-  IsCut-more c h = record { size = h.size; journaled = λ agent seq some within. held_more agent seq (h.journaled agent seq some within); low = h.low }
+  IsJournaledCut-more : (c : Cut) → IsJournaledCut agents J c → IsJournaledCut agents K c
+  IsJournaledCut-more c h = record { size = h.size; journaled = λ agent seq some within. held_more agent seq (h.journaled agent seq some within); low = h.low }
 
   vote_more : (v : Option Vote) → MayBeVote N agents J v → MayBeVote N agents K v
   vote_more None h = tt
-  vote_more (Some v) h = record { ballot = h.ballot; cut = IsCut-more v.cut h.cut }
+  vote_more (Some v) h = record { ballot = h.ballot; cut = IsJournaledCut-more v.cut h.cut }
 
   IsPacket-more : (q : Packet) → IsPacket N agents J q → IsPacket N agents K q
   IsPacket-more (CarriesBatch b) h = (h.0, more.had b.agent b.seq b h.1)
   IsPacket-more (Prepare p b) h = h
   IsPacket-more (Promise i p b v) h = (h.0, h.1, h.2, vote_more v h.3)
-  IsPacket-more (Accept p b c) h = (h.0, h.1, IsCut-more c h.2)
-  IsPacket-more (Accepted i p b c) h = (h.0, h.1, h.2, IsCut-more c h.3)
-  IsPacket-more (Decided p c) h = (h.0, IsCut-more c h.1)
+  IsPacket-more (Accept p b c) h = (h.0, h.1, IsJournaledCut-more c h.2)
+  IsPacket-more (Accepted i p b c) h = (h.0, h.1, h.2, IsJournaledCut-more c h.3)
+  IsPacket-more (Decided p c) h = (h.0, IsJournaledCut-more c h.1)
 
   IsAttempt-more : (a : Attempt) → IsAttempt N agents J a → IsAttempt N agents K a
   IsAttempt-more a h = record { ballot = h.ballot; promising = h.promising; told = vote_more a.told h.told }
@@ -71,7 +71,7 @@ module _ (N agents : ℕ) (J K : Holding) (more : IsPartOf J K) where
 
 pub record NodeIsBounded (N agents : ℕ) (J : Holding) (round : ℕ) (learned : List Cut) (acc : Acceptor) (attempt : Option Attempt) (tally : Tally) : Type 0 where
   pub round_in : round ≤ 10_000
-  pub cuts : All (IsCut agents J) learned
+  pub cuts : All (IsJournaledCut agents J) learned
   pub promised : (ballot : ℕ) → acc.promised ≡ Some ballot → IsBallot N ballot
   pub vote : MayBeVote N agents J acc.vote
   pub attempts : (a : Attempt) → attempt ≡ Some a → IsAttempt N agents J a
@@ -83,7 +83,7 @@ IsBounded N agents J n = NodeIsBounded N agents J n.kept.round n.kept.learned n.
 IsBounded-more : (N agents : ℕ) (J K : Holding) → IsPartOf J K → (n : Node) → IsBounded N agents J n → IsBounded N agents K n
 IsBounded-more N agents J K more n h = record {
   round_in = h.round_in;
-  cuts = All-weaker (IsCut agents J) (IsCut agents K) (IsCut-more N agents J K more) n.kept.learned h.cuts;
+  cuts = All-weaker (IsJournaledCut agents J) (IsJournaledCut agents K) (IsJournaledCut-more N agents J K more) n.kept.learned h.cuts;
   promised = h.promised;
   vote = vote_more N agents J K more n.kept.acceptor.vote h.vote;
   attempts = λ a e. IsAttempt-more N agents J K more a (h.attempts a e);
@@ -120,19 +120,19 @@ low_cut J c is has agent = elim (cases_lt 0 (last_of c agent)) [
       omega (arith, well.seq.1, place.1)
 ]
 
-zero_is_cut : (agents : ℕ) (J : Holding) → IsCut agents J (zero_cut agents)
+zero_is_cut : (agents : ℕ) (J : Holding) → IsJournaledCut agents J (zero_cut agents)
 zero_is_cut agents J = record {
   size = length-replicate agents 0;
   journaled = λ agent seq some within. let none = last_of-zero agents agent in absurd (omega arith);
   low = λ agent. let none = last_of-zero agents agent in omega arith;
 }
 
-last_in : (agents : ℕ) (J : Holding) (o : Option Cut) (xs : List Cut) → ((c : Cut) → o ≡ Some c → IsCut agents J c) → All (IsCut agents J) xs → IsCut agents J (unwrap_or (last_or o xs) (zero_cut agents))
+last_in : (agents : ℕ) (J : Holding) (o : Option Cut) (xs : List Cut) → ((c : Cut) → o ≡ Some c → IsJournaledCut agents J c) → All (IsJournaledCut agents J) xs → IsJournaledCut agents J (unwrap_or (last_or o xs) (zero_cut agents))
 last_in agents J None [] f all = zero_is_cut agents J
 last_in agents J (Some c) [] f all = f c refl
-last_in agents J o (x ∷ xs) f all = last_in agents J (Some x) xs (λ c e. subst (IsCut agents J) (same_Some x c e) (All-head (IsCut agents J) x xs all)) (All-tail (IsCut agents J) x xs all)
+last_in agents J o (x ∷ xs) f all = last_in agents J (Some x) xs (λ c e. subst (IsJournaledCut agents J) (same_Some x c e) (All-head (IsJournaledCut agents J) x xs all)) (All-tail (IsJournaledCut agents J) x xs all)
 
-front_is_cut : (agents base p : ℕ) (h J : Holding) (c : Cut) → IsHolding J → IsPartOf h J → IsCut agents J c → IsCut agents J (front base h c p)
+front_is_cut : (agents base p : ℕ) (h J : Holding) (c : Cut) → IsHolding J → IsPartOf h J → IsJournaledCut agents J c → IsJournaledCut agents J (front base h c p)
 front_is_cut agents base p h J c is part was = record {
   size = length-front base p h c ∙ was.size;
   journaled = has;
@@ -205,14 +205,14 @@ module _ (N : ℕ) (w : World) (h : KeepsBounds N w) (i : ℕ) (n : Node) (found
   by_learned p x in_range d = either (slice_get n.kept.learned p) refl
     where
       either : (o : Option Cut) → slice_get n.kept.learned p ≡ o → Well (elim o [ Some cut ↦ sending (Decided p cut) n | None ↦ x ])
-      either (Some cut) e = (is, (in_range, at_entry (IsCut w.agents w.journals) n.kept.learned p cut is.cuts e))
+      either (Some cut) e = (is, (in_range, at_entry (IsJournaledCut w.agents w.journals) n.kept.learned p cut is.cuts e))
       either None e = d
 
-  learns : (c : Cut) → IsCut w.agents w.journals c → Well (learning c n)
+  learns : (c : Cut) → IsJournaledCut w.agents w.journals c → Well (learning c n)
   learns c cut = (
     record {
       round_in = is.round_in;
-      cuts = All-push (IsCut w.agents w.journals) n.kept.learned c is.cuts cut;
+      cuts = All-push (IsJournaledCut w.agents w.journals) n.kept.learned c is.cuts cut;
       promised = λ ballot e. absurd (none-some ballot e);
       vote = tt;
       attempts = λ a e. absurd (none-some a e);
@@ -244,7 +244,7 @@ module _ (N : ℕ) (w : World) (h : KeepsBounds N w) (i : ℕ) (n : Node) (found
     (within, was.0, was.1, is.vote),
   )) (is, tt))
 
-  proposed : (o : Option Vote) → MayBeVote N w.agents w.journals o → IsCut w.agents w.journals (proposal w n o)
+  proposed : (o : Option Vote) → MayBeVote N w.agents w.journals o → IsJournaledCut w.agents w.journals (proposal w n o)
   proposed None v = front_is_cut w.agents w.sheet.base (current_period n) n.kept.holding w.journals (last_cut w.agents n.kept.learned) h.fitting.rules.is_holding part
       (last_in w.agents w.journals None n.kept.learned (λ c e. absurd (none-some c e)) is.cuts)
   proposed (Some v) vote = vote.cut
@@ -384,7 +384,7 @@ KeepsBounds-opening nodes agents sheet issuer = record {
   packets = All-nil (IsPacket nodes agents []);
   nodes = All-replicate (IsBounded nodes agents []) nodes (wake new_kept) (record {
     round_in = omega arith;
-    cuts = All-nil (IsCut agents []);
+    cuts = All-nil (IsJournaledCut agents []);
     promised = λ ballot e. absurd (none-some ballot e);
     vote = tt;
     attempts = λ a e. absurd (none-some a e);

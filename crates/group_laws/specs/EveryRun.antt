@@ -19,14 +19,14 @@ pub record IsBallot (voters ballot : ℕ) : Type 0 where
   pub low : ballot < 10_001 * voters
 
 -- A sequence for each agent, up to which the journals have every batch.
-pub record IsCut (agents : ℕ) (journals : Holding) (cut : Cut) : Type 0 where
+pub record IsJournaledCut (agents : ℕ) (journals : Holding) (cut : Cut) : Type 0 where
   pub size : length cut ≡ agents
   pub journaled : (agent seq : ℕ) → 0 < seq → seq ≤ last_of cut agent → is_some (held journals agent seq) ≡ true
   pub low : (agent : ℕ) → last_of cut agent ≤ 1_000_000
 
 pub record IsVote (voters agents : ℕ) (journals : Holding) (v : Vote) : Type 0 where
   pub ballot : IsBallot voters v.ballot
-  pub cut : IsCut agents journals v.cut
+  pub cut : IsJournaledCut agents journals v.cut
 
 -- no vote, or one
 abbrev pub MayBeVote : ℕ → ℕ → Holding → Option Vote → Type 0
@@ -39,10 +39,10 @@ IsPacket voters agents journals (CarriesBatch b) = IsWellFormed b × (held journ
 IsPacket voters agents journals (Prepare period ballot) = (period < 1_200) × IsBallot voters ballot
 IsPacket voters agents journals (Promise from period ballot vote) =
     (from < voters) × (period < 1_200) × IsBallot voters ballot × MayBeVote voters agents journals vote
-IsPacket voters agents journals (Accept period ballot cut) = (period < 1_200) × IsBallot voters ballot × IsCut agents journals cut
+IsPacket voters agents journals (Accept period ballot cut) = (period < 1_200) × IsBallot voters ballot × IsJournaledCut agents journals cut
 IsPacket voters agents journals (Accepted from period ballot cut) =
-    (from < voters) × (period < 1_200) × IsBallot voters ballot × IsCut agents journals cut
-IsPacket voters agents journals (Decided period cut) = (period < 1_200) × IsCut agents journals cut
+    (from < voters) × (period < 1_200) × IsBallot voters ballot × IsJournaledCut agents journals cut
+IsPacket voters agents journals (Decided period cut) = (period < 1_200) × IsJournaledCut agents journals cut
 
 -- a mark for each voter
 abbrev pub IsSet : ℕ → Nodes → Type 0
@@ -61,7 +61,7 @@ pub record IsAttempt (voters agents : ℕ) (journals : Holding) (a : Attempt) : 
 pub record IsNode (voters agents : ℕ) (journals : Holding) (n : Node) : Type 0 where
   pub round : n.kept.round ≤ 10_000
   pub periods : length n.kept.learned ≤ 1_200
-  pub learned : All (IsCut agents journals) n.kept.learned
+  pub learned : All (IsJournaledCut agents journals) n.kept.learned
   pub growing : IsGrowing agents n.kept.learned
   pub promised : (ballot : ℕ) → n.kept.acceptor.promised ≡ Some ballot → IsBallot voters ballot
   pub vote : MayBeVote voters agents journals n.kept.acceptor.vote

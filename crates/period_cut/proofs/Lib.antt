@@ -1,3 +1,2 @@
-pub mod MonthTexts
 pub mod PeriodOrder
 mod PointwiseOrder

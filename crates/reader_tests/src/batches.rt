@@ -150,24 +150,6 @@ fn the_worked_bad_batches_have_their_faults(rt: HostRuntime) -> Result<(), Fail>
 }
 
 #[test]
-fn faults_are_printed_by_code_and_line(rt: HostRuntime) -> Result<(), Fail> {
-    for (code, line, text) in [
-        (BatchCode::Head, 1, "V1 line 1"),
-        (BatchCode::Count, 1_002, "V2 line 1002"),
-        (BatchCode::Fields, 2, "V3 line 2"),
-        (BatchCode::Time, 3, "V4 line 3"),
-        (BatchCode::Number, 4, "V5 line 4"),
-        (BatchCode::Text, 5, "V6 line 5"),
-        (BatchCode::Tags, 6, "V7 line 6"),
-        (BatchCode::TooLong, 1, "V8 line 1"),
-    ] {
-        let fault = BatchFault { code, line };
-        assert_eq!(rt; format!(in rt.alloc(); "{fault}")?.as_str(), text);
-    }
-    Ok(())
-}
-
-#[test]
 fn an_offer_keeps_a_batch_or_tells_its_fault(rt: HostRuntime) -> Result<(), Fail> {
     let bytes = joined(rt.alloc(), HEAD, READING)?;
     let again = joined(rt.alloc(), HEAD, READING)?;

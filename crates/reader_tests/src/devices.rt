@@ -1,10 +1,8 @@
 //! Sinks and sources over devices that go wrong at a given call.
 
 use counted_io::{
-    Counted, Failed, FakeReader, FakeWriter, Input, ReadFault, Sink, Source, read_to_limit,
-    write_all,
+    Counted, FakeReader, FakeWriter, Input, ReadFault, Sink, Source, read_to_limit, write_all,
 };
-use fx_money::NumberFault;
 use std::io::Write;
 use std::test::Fail;
 
@@ -99,25 +97,5 @@ fn a_call_that_gives_nothing_is_the_end(rt: HostRuntime) -> Result<(), Fail> {
         assert!(rt; is_whole(&input, piece));
     }
     assert_eq!(rt; (source.inner().calls, source.failed_calls()), (7, 0));
-    Ok(())
-}
-
-#[test]
-fn faults_tell_their_texts(rt: HostRuntime) -> Result<(), Fail> {
-    for (told, text) in [
-        (format!(in rt.alloc(); "{Failed}")?, "write failed"),
-        (
-            format!(in rt.alloc(); "{}", ReadFault::Failed)?,
-            "read failed",
-        ),
-        (
-            format!(in rt.alloc(); "{}", ReadFault::OutOfMemory)?,
-            "out of memory",
-        ),
-        (format!(in rt.alloc(); "{}", NumberFault::Shape)?, "F1"),
-        (format!(in rt.alloc(); "{}", NumberFault::Range)?, "F2"),
-    ] {
-        assert_eq!(rt; told.as_str(), text);
-    }
     Ok(())
 }

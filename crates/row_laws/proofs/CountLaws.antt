@@ -15,7 +15,8 @@ use Rattle.metering_model.specs.Holding.{Holding, IsHolding, is_in_order, is_bat
 use Rattle.metering_model.specs.Row.{Row}
 use Rattle.metering_model.specs.Rows.{PlacedRow, placed_rows}
 use Rattle.metering_model.specs.Totals.{rows_over, at_place, rows_of_place}
-use Rattle.row_laws.specs.Charged.{last_cut, is_new}
+use Rattle.metering_model.specs.World.{last_cut}
+use Rattle.row_laws.specs.Charged.{is_new}
 use Rattle.row_laws.proofs.Sums.{sum_over, sum_same, sum-map, sum-filter}
 use Rattle.row_laws.proofs.Telescoping.{gain, sum_of_period, sum_of_periods, last_of_zero_cut}
 use Rattle.row_laws.proofs.ColumnGains.{GrowsBy, record_worth, kept, kept_worth, adds_gains}

@@ -24,7 +24,8 @@ use Rattle.metering_model.specs.File.{header_line, file}
 use Rattle.metering_model.specs.Totals.{Amounts, amounts_of, added_up, sum_of, at_place, rows_of_place, totals}
 use Rattle.metering_model.proofs.DateLaws.{stamp_written}
 use Rattle.metering_model.proofs.Samples.{january_2025, cpu, ops, sheet_0, sheet_1, issuer_1}
-use Rattle.row_laws.specs.Charged.{last_cut, files, is_new, charged_at_once, charges_up_to}
+use Rattle.metering_model.specs.World.{last_cut}
+use Rattle.row_laws.specs.Charged.{files, is_new, charged_at_once, charges_up_to}
 use Rattle.row_laws.specs.Columns.{line_of_row, sum_of_first_column}
 use Rattle.row_laws.specs.Due.{StartsBeforeItsPeriodEnds}
 use Rattle.row_laws.proofs.WorkedJournals.{corrected, credit, january, journals, place}

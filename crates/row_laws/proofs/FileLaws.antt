@@ -23,7 +23,8 @@ use Rattle.metering_model.proofs.FirstByte.{before_join}
 use Rattle.metering_model.proofs.Splitting.{ended, lines_of_text}
 use Rattle.metering_model.specs.SheetRules.{IsSheet, IsIssuer}
 use Rattle.metering_model.specs.Totals.{amounts_of, amounts_in, sum_of}
-use Rattle.row_laws.specs.Charged.{last_cut, charges_up_to, files_over, files, all_rows}
+use Rattle.metering_model.specs.World.{last_cut}
+use Rattle.row_laws.specs.Charged.{charges_up_to, files_over, files, all_rows}
 use Rattle.row_laws.specs.Columns.{line_of_row, data_lines, is_comma, first_number, sum_of_first_column}
 use Rattle.row_laws.proofs.Sums.{sum_of_is, sum-map}
 use Rattle.metering_model.proofs.ValueBounds.{value_small}

@@ -1,6 +1,6 @@
 -- What a record adds to the rows of a period is what it is worth at the later cut, less what it is worth at the earlier one. So over growing cuts only the last one counts.
-use Rattle.std.proofs.Common.{◌≡◌, ℕ, zero, suc, ◌+◌, ◌<◌, ◌≤◌, cond, leb, List, [], ◌∷◌, map, slice_index, replicate, ℤ, pos, ◌+ℤ◌, ◌-ℤ◌, refl, sym, ap₂, ◌∙◌, arith}
-use Rattle.std.specs.List.{enumerate_from}
+use Rattle.std.proofs.Common.{◌≡◌, ℕ, zero, suc, ◌+◌, ◌<◌, ◌≤◌, cond, leb, List, [], ◌∷◌, map, slice_index, replicate, ℤ, pos, ◌+ℤ◌, ◌-ℤ◌, unwrap_or, Some, None, refl, sym, ap, ap₂, ◌∙◌, arith}
+use Rattle.std.specs.List.{enumerate_from, last_or}
 use Rattle.std.proofs.lemmas.Bool.{cond-true, cond-false, le-leb, lt-leb}
 use Rattle.std.proofs.lemmas.Int.{ints}
 use Rattle.metering_model.specs.Batch.{Batch, Record}
@@ -12,7 +12,6 @@ use Rattle.metering_model.specs.Totals.{rows_over}
 use Rattle.metering_model.proofs.AgreementLaws.{last_of_grows}
 use Rattle.metering_model.proofs.HoldingLaws.{up_to_cases}
 use Rattle.metering_model.proofs.RecordPlaces.{place_in}
-use Rattle.row_laws.specs.Charged.{cut_after}
 use Rattle.row_laws.proofs.Sums.{sum_over, sum-append, sum_same, sum_plus, sum_nothing, sum-filter_map, of_option}
 
 -- ---- cuts
@@ -25,6 +24,19 @@ index_zeros (suc n) (suc i) = index_zeros n i
 pub last_of_zero_cut : (agents agent : ℕ) → last_of (zero_cut agents) agent ≡ 0
 last_of_zero_cut agents zero = refl
 last_of_zero_cut agents (suc a) = index_zeros agents a
+
+-- the last of these cuts, or the one before them where there is none
+abbrev pub cut_after : Cut → List Cut → Cut
+cut_after before cuts = unwrap_or (last_or None cuts) before
+
+last_needs_none : (x a b : Cut) (cuts : List Cut) → unwrap_or (last_or (Some x) cuts) a ≡ unwrap_or (last_or (Some x) cuts) b
+last_needs_none x a b [] = refl
+last_needs_none x a b (y ∷ ys) = last_needs_none y a b ys
+
+-- behind a first cut the one before it counts no more
+cut_after_first : (before cut : Cut) (cuts : List Cut) → cut_after cut cuts ≡ cut_after before (cut ∷ cuts)
+cut_after_first before cut [] = refl
+cut_after_first before cut (x ∷ xs) = last_needs_none x cut before xs
 
 -- ---- sums over the records up to a cut
 
@@ -102,3 +114,4 @@ module _ (sheet : Sheet) (issuer : Issuer) (h : Holding) (amount : PlacedRow →
       let rest = sum_of_periods (period + 1) cut cuts grows.1 in
       sum-append amount (placed_rows sheet issuer h period before cut) (rows_over sheet issuer h (period + 1) cut cuts)
       ∙ (ap₂ ◌+ℤ◌ first rest ∙ gains_add before cut (cut_after cut cuts))
+      ∙ ap (λ c. sum_over (gain worth before c) (records_in_order h)) (cut_after_first before cut cuts)

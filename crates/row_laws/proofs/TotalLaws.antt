@@ -16,7 +16,8 @@ use Rattle.metering_model.specs.declared.ChargeClass.{ChargeClass}
 use Rattle.metering_model.specs.Row.{Row, row}
 use Rattle.metering_model.specs.Rows.{PlacedRow, placed_rows, rows}
 use Rattle.metering_model.specs.Totals.{Amounts, amounts_of, amounts_in, added_up, sum_of, rows_over, rows_of_place, totals}
-use Rattle.row_laws.specs.Charged.{last_cut, charged_at_once, charge_at, charges_up_to, files_over, files, all_rows}
+use Rattle.metering_model.specs.World.{last_cut}
+use Rattle.row_laws.specs.Charged.{charged_at_once, charge_at, charges_up_to, files_over, files, all_rows}
 use Rattle.row_laws.proofs.Sums.{sum_over, sum_of_is, sum_same, sum-map, sum-filter, sum-filter_map, of_option}
 use Rattle.metering_model.proofs.RecordPlaces.{place_in}
 use Rattle.row_laws.proofs.Telescoping.{within, gain, sum-up_to, sum_of_periods, last_of_zero_cut}

@@ -18,7 +18,8 @@ use Rattle.metering_model.specs.Totals.{amounts_of, added_up, sum_of, at_place, 
 use Rattle.metering_model.proofs.BatchOrder.{place_of_batch}
 use Rattle.metering_model.proofs.Samples.{january_2025, sheet_1, issuer_1}
 use Rattle.metering_model.proofs.WorkedSheets.{sheet_1_is_a_sheet, issuer_1_is_an_issuer}
-use Rattle.row_laws.specs.Charged.{last_cut, files, all_rows, is_new, charged_at_once, charges_up_to}
+use Rattle.metering_model.specs.World.{last_cut}
+use Rattle.row_laws.specs.Charged.{files, all_rows, is_new, charged_at_once, charges_up_to}
 use Rattle.row_laws.specs.Columns.{line_of_row, sum_of_first_column}
 use Rattle.row_laws.specs.Due.{StartsBeforeItsPeriodEnds}
 use Rattle.row_laws.proofs.TotalLaws.{totals_of_place, totals_of_files}

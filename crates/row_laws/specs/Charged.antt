@@ -11,14 +11,6 @@ use Rattle.metering_model.specs.Rating.{Rated}
 use Rattle.metering_model.specs.Row.{Row, charge, priced_kind, price_of, commitment_of}
 use Rattle.metering_model.specs.Rows.{rows}
 
--- the last of these cuts, or the one before them where there is none
-abbrev pub cut_after : Cut → List Cut → Cut
-cut_after before [] = before
-cut_after before (cut ∷ cuts) = cut_after cut cuts
-
-abbrev pub last_cut : ℕ → List Cut → Cut
-last_cut agents cuts = cut_after (zero_cut agents) cuts
-
 -- the rows of the file of this period, and of those after it
 abbrev pub files_over : Sheet → Issuer → Holding → ℕ → Cut → List Cut → List (List Row)
 files_over sheet issuer h period before [] = []

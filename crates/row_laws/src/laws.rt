@@ -16,7 +16,8 @@ ghost use Rattle.metering_model.specs.Step.{cut_before};
 ghost use Rattle.metering_model.specs.File.{header_line, file};
 ghost use Rattle.metering_model.specs.Totals.{amounts_of, added_up, sum_of, at_place, rows_of_place};
 ghost use Rattle.metering_model.specs.Totals as model;
-ghost use Rattle.row_laws.specs.Charged.{last_cut, files, all_rows, is_new, charged_at_once, charges_up_to};
+ghost use Rattle.metering_model.specs.World.{last_cut};
+ghost use Rattle.row_laws.specs.Charged.{files, all_rows, is_new, charged_at_once, charges_up_to};
 ghost use Rattle.row_laws.specs.Columns.{line_of_row, sum_of_first_column};
 ghost use Rattle.row_laws.specs.Due.{WereDueBefore, AreDueOver, StartsBeforeItsPeriodEnds};
 

@@ -1,6 +1,9 @@
-//! Tests of rows, of their files and of the command line, by public calls alone.
+//! Tests of rows, of their files, of the command line and of the texts of faults, by public calls
+//! alone.
 #![tactic(auto)]
 
+#[cfg(test)]
+mod faults;
 #[cfg(test)]
 mod files;
 #[cfg(test)]

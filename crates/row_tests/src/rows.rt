@@ -4,9 +4,7 @@ ghost use Rattle.std.specs.Prelude.{◌≡◌, IfOk};
 ghost use Rattle.batch_view.specs.Batches.{batch_of};
 
 use batch_view::BatchView;
-use focus_csv::CsvFault;
 use focus_row::{FocusRow, Issuer, RowFault, one_batch_rows};
-use metering_model::BrokenRule;
 use period_cut::{Month, Period};
 use std::test::Fail;
 
@@ -55,26 +53,6 @@ fn the_first_run_has_three_rows(rt: HostRuntime) -> Result<(), Fail> {
     for (row, (units, description)) in rows.iter().zip(wanted) {
         assert_eq!(rt; row.billed_cost.units(), units, "{description}");
         assert_eq!(rt; row.charge_description, description.as_bytes());
-    }
-    Ok(())
-}
-
-#[test]
-fn each_fault_is_told_in_its_words(rt: HostRuntime) -> Result<(), Fail> {
-    let rows = [
-        (RowFault::Broken(BrokenRule::BadTarget), "bad target"),
-        (RowFault::Broken(BrokenRule::Unpriced), "unpriced"),
-        (RowFault::OutOfMemory, "out of memory"),
-    ];
-    for (fault, words) in &rows {
-        assert_eq!(rt; format!(in rt.alloc(); "{fault}")?.as_str(), *words);
-    }
-    let files = [
-        (CsvFault::Write, "write failed"),
-        (CsvFault::OutOfMemory, "out of memory"),
-    ];
-    for (fault, words) in &files {
-        assert_eq!(rt; format!(in rt.alloc(); "{fault}")?.as_str(), *words);
     }
     Ok(())
 }

@@ -12,9 +12,10 @@ use Rattle.metering_model.specs.Rating.{cost_at}
 use Rattle.metering_model.specs.declared.ChargeClass.TheVariants.{New}
 use Rattle.metering_model.specs.Row.{Row, row, category_text, or_null}
 use Rattle.metering_model.specs.File.{quoted, text_or_null, json_object, fields_of_row}
+use Rattle.metering_model.proofs.FieldLaws.{value_fits}
+use Rattle.metering_model.proofs.LineFeeds.{field_lacks_feed, stamp_lacks_feed, value_lacks_feed, month_lacks_feed, json_lacks_feed, line_lacks_feed, spelling_quoted}
 use Rattle.focus_row.specs.OneBatch.{empty_sheet}
 use Rattle.schedule_player.proofs.Amounts.{cost_spelling}
-use Rattle.schedule_player.proofs.FeedLaws.{field_lacks_feed, stamp_lacks_feed, value_lacks_feed, month_lacks_feed, json_lacks_feed, line_lacks_feed, spelling_quoted}
 
 -- the fields of a row of a flat charge behind its billed cost
 abbrev later_fields : Issuer → Reading → (amount category from to : List ℕ) → List (List ℕ)
@@ -59,7 +60,7 @@ pub flat_line : (base : ℕ) (issuer : Issuer) (period : ℕ) (r : Reading) → 
 flat_line base issuer period r flat small =
     let rest = join_with_byte 44 (map quoted (later_fields issuer r (spelling 6 r.value) (category_text r.kind) (period_start_text base period) (period_end_text base period))) in
     let fields = flat_fields base issuer period r flat small in
-    (rest, ap (λ fs. join_with_byte 44 (map quoted fs)) fields ∙ ap (λ t. t ++ 44 ∷ rest) (spelling_quoted r.value small))
+    (rest, ap (λ fs. join_with_byte 44 (map quoted fs)) fields ∙ ap (λ t. t ++ 44 ∷ rest) (spelling_quoted 6 r.value (value_fits r.value small)))
 
 -- ---- no line feed in it
 

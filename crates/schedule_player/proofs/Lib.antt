@@ -1,4 +1,3 @@
 pub mod Amounts
 pub mod FlatRows
-pub mod FeedLaws
 pub mod ChargesLaws

@@ -1,9 +1,22 @@
-use Rattle.std.proofs.Common.{ap, Err}
+use Rattle.std.proofs.Common.{ap, Err, rules}
 use Rattle.std.specs.Io.KnownBytes.{Keeps}
 use Rattle.command_line.specs.declared.endings.Fault.{Fault}
+use Rattle.command_line.specs.declared.endings.Fault.TheVariants.{Play}
 use Rattle.command_line.specs.Endings.{Tells}
-use Rattle.command_line.proofs.RunLaws.{is_refusal, is_device, is_memory, is_bad_line, is_memory_for_words}
+use Rattle.command_line.proofs.RunLaws.{is_refusal, is_device, is_memory, is_bad_line, is_memory_for_words, never_zero}
 use Rattle.command_line.proofs.runs.run.Goals as goal
+
+pub returns-in-Err-carry_out-clause-done : goal.returns-in-Err-carry_out-clause-done
+returns-in-Err-carry_out-clause-done g c zero = absurd (never_zero (Play c.in-Err-carry_out.fault) c.ending.result c.ending.ensures.status zero)
+
+pub returns-in-Err-carry_out-clause-end : goal.returns-in-Err-carry_out-clause-end
+returns-in-Err-carry_out-clause-end g c zero = absurd (never_zero (Play c.in-Err-carry_out.fault) c.ending.result c.ending.ensures.status zero)
+
+pub returns-in-Err-carry_out-clause-silent : goal.returns-in-Err-carry_out-clause-silent
+returns-in-Err-carry_out-clause-silent g c zero = absurd (never_zero (Play c.in-Err-carry_out.fault) c.ending.result c.ending.ensures.status zero)
+
+pub returns-in-Err-carry_out-clause-calm : goal.returns-in-Err-carry_out-clause-calm
+returns-in-Err-carry_out-clause-calm g c = search rules
 
 pub returns-in-Err-carry_out-clause-refused : goal.returns-in-Err-carry_out-clause-refused
 returns-in-Err-carry_out-clause-refused g c one =
