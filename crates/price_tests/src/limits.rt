@@ -26,55 +26,72 @@ type = "t"
 rate = "0"
 "#;
 
-/// A sheet of prices of these numbers, and commitments of these numbers.
-fn sheet_of(alloc: Global, prices: &[u32], commitments: &[u32]) -> Result<String, AllocError> {
+/// A sheet of so many prices and so many commitments; in each table the row of that number, from 0, is
+/// named as the first.
+fn sheet_of(
+    alloc: Global,
+    prices: u32,
+    commitments: u32,
+    again: u32,
+) -> Result<String, AllocError> {
     let mut text = String::from_str(alloc, "base = \"2025-01\"\n")?;
-    for i in prices {
-        write!(text, "[[price]]\nsku = \"s{i}\"\n{PRICE}")?;
+    for i in 0..prices {
+        let number = if i == again { 0 } else { i };
+        write!(text, "[[price]]\nsku = \"s{number}\"\n{PRICE}")?;
     }
-    for i in commitments {
-        write!(text, "[[commitment]]\nid = \"c{i}\"\n{COMMITMENT}")?;
+    for i in 0..commitments {
+        let number = if i == again { 0 } else { i };
+        write!(text, "[[commitment]]\nid = \"c{number}\"\n{COMMITMENT}")?;
     }
     Ok(text)
 }
 
-/// So many numbers from 0 on, and then another.
-fn numbers(alloc: Global, count: u32, last: Option<u32>) -> Result<Vec<u32>, AllocError> {
-    let mut all = Vec::new(alloc);
-    for i in 0..count {
-        all.push(i)?;
-    }
-    if let Some(last) = last {
-        all.push(last)?;
-    }
-    Ok(all)
+/// The fault of such a sheet.
+fn fault_of(
+    alloc: Global,
+    prices: u32,
+    commitments: u32,
+    again: u32,
+) -> Result<Option<SheetFault>, AllocError> {
+    let text = sheet_of(alloc, prices, commitments, again)?;
+    Ok(Sheet::read(alloc, text.as_str()).err())
+}
+
+/// Whether a sheet of the most rows is read, and its last rows are found.
+fn are_last_rows_found(alloc: Global) -> Result<bool, Fail> {
+    let text = sheet_of(alloc, 10_000, 10_000, 10_000)?;
+    let sheet = Sheet::read(alloc, text.as_str())?;
+    let Some(row) = sheet.price(b"s9999", day("2025-01-01")?) else {
+        return Ok(false);
+    };
+    Ok(
+        row.sku() == "s9999"
+            && sheet.commitment(b"c9999").is_some()
+            && sheet.commitment(b"c10000").is_none(),
+    )
 }
 
 #[test]
 fn a_table_has_10_000_rows_at_most(rt: HostRuntime) -> Result<(), Fail> {
-    let most = numbers(rt.alloc(), 10_000, None)?;
-    let more = numbers(rt.alloc(), 10_001, None)?;
-    let again = numbers(rt.alloc(), 9_999, Some(0))?;
-    let one = numbers(rt.alloc(), 1, None)?;
-    let cases = [
-        (&more, &one, SheetFault::BadValue(Place::Top)),
-        (&one, &more, SheetFault::BadValue(Place::Top)),
-        (&again, &one, SheetFault::Duplicate(Place::Price(10_000))),
+    for (prices, commitments, again, expected) in [
+        (10_001, 1, 10_001, SheetFault::BadValue(Place::Top)),
+        (1, 10_001, 10_001, SheetFault::BadValue(Place::Top)),
         (
-            &one,
-            &again,
+            10_000,
+            1,
+            9_999,
+            SheetFault::Duplicate(Place::Price(10_000)),
+        ),
+        (
+            1,
+            10_000,
+            9_999,
             SheetFault::Duplicate(Place::Commitment(10_000)),
         ),
-    ];
-    for (prices, commitments, expected) in cases {
-        let text = sheet_of(rt.alloc(), prices, commitments)?;
-        let fault = Sheet::read(rt.alloc(), text.as_str()).err();
+    ] {
+        let fault = fault_of(rt.alloc(), prices, commitments, again)?;
         assert_eq!(rt; fault, Some(expected));
     }
-    let text = sheet_of(rt.alloc(), &most, &most)?;
-    let sheet = Sheet::read(rt.alloc(), text.as_str())?;
-    let last = sheet.price(b"s9999", day("2025-01-01")?).ok_or("no price")?;
-    assert_eq!(rt; last.sku(), "s9999");
-    assert!(rt; sheet.commitment(b"c9999").is_some() && sheet.commitment(b"c10000").is_none());
+    assert!(rt; are_last_rows_found(rt.alloc())?);
     Ok(())
 }

@@ -138,6 +138,8 @@ const DEAREST: [(usize, &str); 7] = [
 
 const GREATEST: &str = "999999999999.999999";
 
+const LEAST: &str = "-999999999999.999999";
+
 const EXTREME: [Charge; 8] = [
     (
         "cpu",
@@ -205,10 +207,16 @@ const EXTREME: [Charge; 8] = [
     ),
 ];
 
-/// The first charge that a sheet does not give its amounts, and what it gives.
-fn first_other(alloc: Global, sheet: &Sheet, charges: &[Charge]) -> Result<Option<String>, Fail> {
+/// The first amounts that are others than those of a charge by the sheet with these lines.
+fn first_other(
+    alloc: Global,
+    lines: &[(usize, &str)],
+    charges: &[Charge],
+) -> Result<Option<String>, Fail> {
+    let text = with_lines(alloc, SHEET, lines)?;
+    let sheet = Sheet::read(alloc, text.as_str())?;
     for charge in charges {
-        let amounts = amounts_of(alloc, sheet, charge)?;
+        let amounts = amounts_of(alloc, &sheet, charge)?;
         if amounts.as_str() != charge.5 {
             return Ok(Some(amounts));
         }
@@ -216,35 +224,38 @@ fn first_other(alloc: Global, sheet: &Sheet, charges: &[Charge]) -> Result<Optio
     Ok(None)
 }
 
-/// The amounts of a charge without a price.
-fn flat(alloc: Global, was: &str, now: &str) -> Result<String, Fail> {
-    let was = Value::read(was.as_bytes())?;
-    let now = Value::read(now.as_bytes())?;
-    amounts(alloc, &rate_flat(was, now))
+/// Charges without a price: the amount before and after, and the amounts that they come to.
+const FLAT: [(&str, &str, &str); 3] = [
+    ("1.5", "-2.5", "  -4 -4 -4 -4"),
+    (
+        LEAST,
+        GREATEST,
+        "  1999999999999.999998 1999999999999.999998 1999999999999.999998 1999999999999.999998",
+    ),
+    (
+        GREATEST,
+        LEAST,
+        "  -1999999999999.999998 -1999999999999.999998 -1999999999999.999998 -1999999999999.999998",
+    ),
+];
+
+/// The first amounts that are others than those of a charge without a price.
+fn first_other_flat(alloc: Global) -> Result<Option<String>, Fail> {
+    for (was, now, expected) in &FLAT {
+        let was = Value::read(was.as_bytes())?;
+        let now = Value::read(now.as_bytes())?;
+        let amounts = amounts(alloc, &rate_flat(was, now))?;
+        if amounts.as_str() != *expected {
+            return Ok(Some(amounts));
+        }
+    }
+    Ok(None)
 }
 
 #[test]
 fn charges_come_to_their_amounts(rt: HostRuntime) -> Result<(), Fail> {
-    let sheet = Sheet::read(rt.alloc(), SHEET)?;
-    assert_eq!(rt; first_other(rt.alloc(), &sheet, &WORKED)?, None);
-    let text = with_lines(rt.alloc(), SHEET, &DEAREST)?;
-    let sheet = Sheet::read(rt.alloc(), text.as_str())?;
-    assert_eq!(rt; first_other(rt.alloc(), &sheet, &EXTREME)?, None);
-    let least = "-999999999999.999999";
-    for (was, now, expected) in [
-        ("1.5", "-2.5", "  -4 -4 -4 -4"),
-        (
-            least,
-            GREATEST,
-            "  1999999999999.999998 1999999999999.999998 1999999999999.999998 1999999999999.999998",
-        ),
-        (
-            GREATEST,
-            least,
-            "  -1999999999999.999998 -1999999999999.999998 -1999999999999.999998 -1999999999999.999998",
-        ),
-    ] {
-        assert_eq!(rt; flat(rt.alloc(), was, now)?.as_str(), expected);
-    }
+    assert_eq!(rt; first_other(rt.alloc(), &[], &WORKED)?, None);
+    assert_eq!(rt; first_other(rt.alloc(), &DEAREST, &EXTREME)?, None);
+    assert_eq!(rt; first_other_flat(rt.alloc())?, None);
     Ok(())
 }
