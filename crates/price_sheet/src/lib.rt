@@ -8,8 +8,6 @@ mod keys;
 mod prices;
 mod rows;
 mod sheets;
-#[cfg(test)]
-mod tests;
 
 pub use commitments::Commitment;
 pub use faults::{IssuerFault, Place, SheetFault};
