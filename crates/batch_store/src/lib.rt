@@ -4,6 +4,7 @@
 mod amended;
 mod fronts;
 mod missing;
+mod shelf;
 mod stores;
 mod values;
 
