@@ -1,15 +1,17 @@
 -- The batches of one agent: those counted from the first on, and those filed ahead of a gap.
-use Rattle.std.proofs.Common.{◌≡◌, ℕ, zero, suc, ◌+◌, ◌<◌, ◌≤◌, ◌⊎◌, true, false, List, [], ◌∷◌, ◌++◌, length, Some, None, refl, sym, ap, subst, ◌∙◌, arith, inl, inr, get_or, ◌-◌, option_map, is_some}
-use Rattle.std.specs.Prelude.{◌==◌}
+use Rattle.std.proofs.Common.{Bor, Option, ◌≡◌, ℕ, zero, suc, ◌+◌, ◌<◌, ◌≤◌, ◌⊎◌, true, false, List, [], ◌∷◌, ◌++◌, length, Some, None, refl, sym, ap, subst, ◌∙◌, arith, inl, inr, get_or, ◌-◌, length-append, append_assoc, option_map, is_some}
+use Rattle.std.specs.Prelude.{slice_get, ◌==◌}
 use Rattle.std.specs.Ordering.{nat_cmp, match_ordering}
 use Rattle.std.specs.declared.cmp.Ordering.TheVariants.{Less, Equal, Greater}
 use Rattle.std.specs.Map.{lookup}
 use Rattle.std.specs.BTreeMap.{is_at, insert_entry}
 use Rattle.std.proofs.lemmas.Bool.{cases_Bool, cases_lt, cond-true, cond-false, eq-eqb, eqb-true, both_ways}
 use Rattle.std.proofs.lemmas.Bool.Decides.{nat_tests}
-use Rattle.std.proofs.lemmas.Option.{none-some}
-use Rattle.std.proofs.lemmas.List.{length-map}
+use Rattle.std.proofs.lemmas.Option.{same_Some, none-some}
+use Rattle.std.proofs.lemmas.List.{length-map, map-append}
+use Rattle.std.specs.Option.{option_copied}
 use Rattle.metering_model.specs.Batch.{Batch}
+use Rattle.batch_view.specs.Batches.{batch_of}
 use Rattle.metering_model.specs.Holding.{Holding, comes_before, put}
 use Rattle.batch_store.specs.Inner.Shelves.{Shared, Filed, batch_shared, batches_shared, batches_filed, at_seq, AreCounted, Rises, AreFiled, IsShelf, on_shelf, AreOf}
 
@@ -125,6 +127,10 @@ put_later : (b c : Batch) (h : Holding) → c.agent ≡ b.agent → c.seq < b.se
 put_later b c h e less =
     cond-false (comes_before b c) _ _ (not_before b c (sym e) (omega arith)) ∙ cond-true (comes_before c b) _ _ (before_less c b e less)
 
+of_rest : (agent : ℕ) (xs rest : Holding) → AreOf agent (xs ++ rest) → AreOf agent rest
+of_rest agent [] rest of = of
+of_rest agent (x ∷ xs) rest of = of_rest agent xs rest of.1
+
 -- behind those without a gap
 pub put_behind : (n : ℕ) (xs rest : Holding) (b : Batch) → AreOf b.agent (xs ++ rest) → AreCounted n xs → n + length xs ≤ b.seq → put (xs ++ rest) b ≡ xs ++ put rest b
 put_behind n [] rest b of c high = refl
@@ -187,3 +193,147 @@ is_at_ahead whole ahead s is out =
 pub none_at_zero : (whole : List Shared) (ahead : List Filed) → IsShelf whole ahead → at_seq (on_shelf whole ahead) 0 ≡ None
 none_at_zero whole ahead is =
     sym (is_at_ahead whole ahead 0 is (inl (omega arith))) ∙ (found_filed (length whole + 1) 0 ahead is.filed ∙ none_below (length whole + 1) 0 (batches_filed ahead) (filed_rises (length whole + 1) ahead is.filed) (omega arith))
+
+pub mapped_is_some : {X Y : Type 0} (f : X → Y) (o : Option X) → is_some (option_map f o) ≡ is_some o
+mapped_is_some f None = refl
+mapped_is_some f (Some x) = refl
+
+-- whether the map has it is whether it is there
+pub is_there_ahead : (whole : List Shared) (ahead : List Filed) (s : ℕ) → IsShelf whole ahead → length whole < s → is_some (at_seq (on_shelf whole ahead) s) ≡ is_some (lookup (is_at (nat_cmp s)) ahead)
+is_there_ahead whole ahead s is high = ap is_some (sym (is_at_ahead whole ahead s is (inr high))) ∙ mapped_is_some batch_shared (lookup (is_at (nat_cmp s)) ahead)
+
+pub none_where_false : (o : Option Batch) → is_some o ≡ false → o ≡ None
+none_where_false None e = refl
+none_where_false (Some b) e = absurd (cc)
+
+pub all_at_whole : (whole : List Shared) (ahead : List Filed) (s : ℕ) → IsShelf whole ahead → 1 ≤ s → s ≤ length whole → is_some (at_seq (on_shelf whole ahead) s) ≡ true
+all_at_whole whole ahead s is low high = counted_some 1 s (batches_shared whole) (batches_filed ahead) is.counted low (omega (arith, length-map whole batch_shared))
+
+-- no batch is above the greatest sequence
+pub none_beyond : (whole : List Shared) (ahead : List Filed) (s : ℕ) → IsShelf whole ahead → 1_000_000 < s → at_seq (on_shelf whole ahead) s ≡ None
+none_beyond whole ahead s is high =
+    let short = is.short in
+    sym (is_at_ahead whole ahead s is (inr (omega arith))) ∙ (found_filed (length whole + 1) s ahead is.filed ∙ filed_limit (length whole + 1) s ahead is.filed high)
+
+-- the first batch of the map, where it comes next, stands as well behind those without a gap
+pub moved : (whole : List Shared) (e : Filed) (es : List Filed) → IsShelf whole (e ∷ es) → e.0 ≡ length whole + 1 → IsShelf (whole ++ e.1 ∷ []) es
+moved whole e es is next = record {
+  counted = subst (AreCounted 1) (sym (map-append batch_shared whole (e.1 ∷ []))) (counted_push 1 (batches_shared whole) (batch_shared e.1) is.counted (omega (arith, is.filed.2, next, length-map whole batch_shared)));
+  short = let more = length-append whole (e.1 ∷ []) in omega (arith, more, next, is.filed.1);
+  filed = let more = length-append whole (e.1 ∷ []) in let same : e.0 + 1 ≡ length (whole ++ e.1 ∷ []) + 1 = omega (arith, more, next) in subst (λ n. AreFiled n es) same is.filed.3;
+}
+
+pub moved_same : (whole : List Shared) (e : Filed) (es : List Filed) → on_shelf (whole ++ e.1 ∷ []) es ≡ on_shelf whole (e ∷ es)
+moved_same whole e es =
+    ap (λ h. h ++ batches_filed es) (map-append batch_shared whole (e.1 ∷ [])) ∙ append_assoc (batches_shared whole) (batch_shared e.1 ∷ []) (batches_filed es)
+
+pub record IsMoved (whole : List Shared) (ahead : List Filed) (now : List Shared) (later : List Filed) : Type 0 where
+  pub is : IsShelf now later
+  pub same : on_shelf now later ≡ on_shelf whole ahead
+
+-- the same, of what was seen first and then taken
+pub moved_first : (whole : List Shared) (ahead : List Filed) (e : Filed) (es : List Filed) (k : ℕ) (a : Shared) → IsShelf whole ahead → slice_get ahead 0 ≡ Some (k, a) → k ≡ length whole + 1 → ahead ≡ e ∷ es → IsMoved whole ahead (whole ++ e.1 ∷ []) es
+moved_first whole ahead e es k a is seen next taken =
+    let first : Some e ≡ Some (k, a) = sym (ap (λ xs. slice_get xs 0) taken) ∙ seen in
+    let same : e.0 ≡ k = ap (λ (x : Filed). x.0) (same_Some e (k, a) first) in
+    record {
+      is = moved whole e es (subst (IsShelf whole) taken is) (same ∙ next);
+      same = moved_same whole e es ∙ ap (on_shelf whole) (sym taken);
+    }
+
+none_ahead : (whole : List Shared) (ahead : List Filed) (s : ℕ) → IsShelf whole ahead → length whole < s → at_seq (on_shelf whole ahead) s ≡ None → at_seq (batches_filed ahead) s ≡ None
+none_ahead whole ahead s is high none = sym (found_filed (length whole + 1) s ahead is.filed) ∙ (is_at_ahead whole ahead s is (inr high) ∙ none)
+
+above_next : (whole : List Shared) (ahead : List Filed) (s : ℕ) → IsShelf whole ahead → s ≡ length whole + 1 → at_seq (on_shelf whole ahead) s ≡ None → AreFiled (length whole + 2) ahead
+above_next whole ahead s is next none =
+    let more : length whole + 1 + 1 ≡ length whole + 2 = omega arith in
+    subst (λ n. AreFiled n ahead) more (filed_above (length whole + 1) ahead is.filed (subst (λ n. at_seq (batches_filed ahead) n ≡ None) next (none_ahead whole ahead s is (omega (arith, next)) none)))
+
+-- what a shelf is with a batch more
+pub record IsWith (whole : List Shared) (ahead : List Filed) (a : Shared) (now : List Shared) (later : List Filed) : Type 0 where
+  pub is : IsShelf now later
+  pub put : on_shelf now later ≡ put (on_shelf whole ahead) (batch_shared a)
+
+module _ (whole : List Shared) (ahead : List Filed) (a : Shared) (is : IsShelf whole ahead) (of : AreOf (batch_shared a).agent (on_shelf whole ahead)) (high : (batch_shared a).seq ≤ 1_000_000)
+    (none : at_seq (on_shelf whole ahead) (batch_shared a).seq ≡ None) where
+  put_ahead : length whole < (batch_shared a).seq → put (on_shelf whole ahead) (batch_shared a) ≡ batches_shared whole ++ put (batches_filed ahead) (batch_shared a)
+  put_ahead above = put_behind 1 (batches_shared whole) (batches_filed ahead) (batch_shared a) of is.counted (omega (arith, above, length-map whole batch_shared))
+
+  of_ahead : AreOf (batch_shared a).agent (batches_filed ahead)
+  of_ahead = of_rest (batch_shared a).agent (batches_shared whole) (batches_filed ahead) of
+
+  -- it comes next
+  pub pushed : (batch_shared a).seq ≡ length whole + 1 → IsWith whole ahead a (whole ++ a ∷ []) ahead
+  pushed next = record {
+    is = record {
+      counted = subst (AreCounted 1) (sym (map-append batch_shared whole (a ∷ []))) (counted_push 1 (batches_shared whole) (batch_shared a) is.counted (omega (arith, next, length-map whole batch_shared)));
+      short = let more = length-append whole (a ∷ []) in omega (arith, more, next, high);
+      filed = subst (λ n. AreFiled n ahead) longer later;
+    };
+    put = moved_same whole ((batch_shared a).seq, a) ahead
+        ∙ sym (put_ahead (omega (arith, next)) ∙ ap (λ h. batches_shared whole ++ h) (put_front (batch_shared a) (batches_filed ahead) of_ahead (subst (λ n. Rises n (batches_filed ahead)) after (filed_rises (length whole + 2) ahead later))));
+  }
+    where
+      later : AreFiled (length whole + 2) ahead
+      later = above_next whole ahead (batch_shared a).seq is next none
+
+      longer : length whole + 2 ≡ length (whole ++ a ∷ []) + 1
+      longer = let more = length-append whole (a ∷ []) in omega (arith, more)
+
+      after : length whole + 2 ≡ (batch_shared a).seq + 1
+      after = omega (arith, next)
+
+  -- it comes later
+  pub filed_later : length whole < (batch_shared a).seq → IsWith whole ahead a whole (insert_entry nat_cmp ahead (batch_shared a).seq a)
+  filed_later above =
+      let more = inserted (length whole + 1) ahead a of_ahead is.filed (omega (arith, above)) high (none_ahead whole ahead (batch_shared a).seq is above none) in
+      record {
+        is = record { counted = is.counted; short = is.short; filed = more.filed };
+        put = ap (λ h. batches_shared whole ++ h) more.put ∙ sym (put_ahead above);
+      }
+
+  -- it comes not before the next
+  pub is_later : 1 ≤ (batch_shared a).seq → length whole < (batch_shared a).seq
+  is_later low = elim (cases_lt (length whole) (batch_shared a).seq) [
+    | inl above ↦ above
+    | inr within ↦ absurd (both_ways _ (ap is_some none) (all_at_whole whole ahead (batch_shared a).seq is low within))
+  ]
+
+-- of a shelf whose batches are h
+module _ (whole : List Shared) (ahead : List Filed) (h : Holding) (a : Shared) (s : ℕ) (same : on_shelf whole ahead ≡ h) (is : IsShelf whole ahead) (seq : s ≡ (batch_shared a).seq) (range : (1 ≤ s) × (s ≤ 1_000_000))
+    (of : AreOf (batch_shared a).agent h) (none : at_seq h s ≡ None) where
+  is_of : AreOf (batch_shared a).agent (on_shelf whole ahead)
+  is_of = subst (AreOf (batch_shared a).agent) (sym same) of
+
+  is_none : at_seq (on_shelf whole ahead) (batch_shared a).seq ≡ None
+  is_none = subst (λ k. at_seq k (batch_shared a).seq ≡ None) (sym same) (subst (λ n. at_seq h n ≡ None) seq none)
+
+  pub add_next : (now : List Shared) → s ≡ length whole + 1 → now ≡ whole ++ a ∷ [] → IsShelf now ahead × (on_shelf now ahead ≡ put h (batch_shared a))
+  add_next now next e =
+      let with = pushed whole ahead a is is_of (omega (arith, seq, range.1)) is_none (sym seq ∙ next) in
+      (subst (λ xs. IsShelf xs ahead) (sym e) with.is, ap (λ xs. on_shelf xs ahead) e ∙ (with.put ∙ ap (λ k. put k (batch_shared a)) same))
+
+  pub add_later : (later : List Filed) → later ≡ insert_entry nat_cmp ahead s a → IsShelf whole later × (on_shelf whole later ≡ put h (batch_shared a))
+  add_later later e =
+      let high : (batch_shared a).seq ≤ 1_000_000 = omega (arith, seq, range.1) in
+      let above = is_later whole ahead a is is_of high is_none (omega (arith, seq, range.0)) in
+      let with = filed_later whole ahead a is is_of high is_none above in
+      let entries = e ∙ ap (λ n. insert_entry nat_cmp ahead n a) seq in
+      (subst (IsShelf whole) (sym entries) with.is, ap (on_shelf whole) entries ∙ (with.put ∙ ap (λ k. put k (batch_shared a)) same))
+
+-- the sequences of a shelf rise
+pub shelf_rises : (whole : List Shared) (ahead : List Filed) → IsShelf whole ahead → Rises 1 (on_shelf whole ahead)
+shelf_rises whole ahead is = counted_rises 1 (batches_shared whole) (batches_filed ahead) is.counted (subst (λ n. Rises n (batches_filed ahead)) after (filed_rises (length whole + 1) ahead is.filed))
+  where
+    after : length whole + 1 ≡ 1 + length (batches_shared whole)
+    after = omega (arith, length-map whole batch_shared)
+
+found_is_some : (o : Option (Bor (List ℕ))) → is_some (option_map batch_of (option_copied o)) ≡ is_some o
+found_is_some None = refl
+found_is_some (Some x) = refl
+
+-- where a look-up found one, a batch of its sequence stays
+pub put_found : (h : Holding) (b : Batch) (s : ℕ) (o : Option (Bor (List ℕ))) → Rises 1 h → AreOf b.agent h → s ≡ b.seq → option_map batch_of (option_copied o) ≡ at_seq h s → is_some o ≡ true → h ≡ put h b
+put_found h b s o rises of seq found some =
+    let there : is_some (at_seq h b.seq) ≡ true = ap (λ n. is_some (at_seq h n)) (sym seq) ∙ (ap is_some (sym found) ∙ (found_is_some o ∙ some)) in
+    sym (put_there 1 h b of rises there)

@@ -1,11 +1,11 @@
 //! The batches of one agent.
 
-ghost use Rattle.std.specs.Prelude.{◌≡◌, ℕ, true, ◌≤◌, ◌<◌, ◌↔◌, [], None, IfOk, IfErr, IsTrue};
+ghost use Rattle.std.specs.Prelude.{◌≡◌, ℕ, true, ◌≤◌, ◌<◌, ◌↔◌, [], None, IfOk, IfErr, OnOk, OnErr, IsTrue};
 ghost use Rattle.std.specs.Option.{option_copied, option_map, is_some};
 ghost use Rattle.std.specs.Arc.{arc_value};
 ghost use Rattle.metering_model.specs.Holding.{put};
 ghost use Rattle.batch_view.specs.Batches.{batch_of};
-ghost use Rattle.batch_store.specs.Inner.Shelves.{AreOf, at_seq, up_to_seq};
+ghost use Rattle.batch_store.specs.Inner.Shelves.{AreOf, Rises, at_seq, up_to_seq};
 
 use batch_view::OwnedBatch;
 use std::alloc::{AllocError, Global};
@@ -48,7 +48,8 @@ impl Shelf {
 
     /// The batch at a sequence.
     pub(crate) fn get(&self, seq: u32) -> Option<&OwnedBatch>
-        ensures { option_map batch_of (option_copied result) ≡ at_seq self.now seq }
+        ensures batch { option_map batch_of (option_copied result) ≡ at_seq self.now seq }
+        ensures rises { Rises 1 self.now }
     {
         if seq as usize > self.whole.len() {
             return match self.ahead.get(&seq) {
@@ -105,6 +106,23 @@ impl Shelf {
         }
     }
 
+    /// Adds a batch whose sequence has none, behind those without a gap where it comes next, and else in the map.
+    fn add(&mut self, seq: u32, batch: Arc<OwnedBatch>) -> Result<(), AllocError>
+        requires seq { seq ≡ (batch_of (arc_value batch)).seq }
+        requires range { (1 ≤ seq) × (seq ≤ 1_000_000) }
+        requires of_agent { AreOf (batch_of (arc_value batch)).agent self.old }
+        requires absent { at_seq self.old seq ≡ None }
+        ensures ok { OnOk result (self.new ≡ put self.old (batch_of (arc_value batch))) }
+        ensures err { OnErr result (self.new ≡ self.old) }
+    {
+        if seq as usize == self.whole.len() + 1 {
+            self.whole.push(batch)?;
+            return Ok(());
+        }
+        self.ahead.insert(seq, batch)?;
+        Ok(())
+    }
+
     /// Adds a batch and answers true; a batch of its sequence stays, and the answer is false. After an error all is as
     /// it was.
     pub(crate) fn put(&mut self, batch: Arc<OwnedBatch>) -> Result<bool, AllocError>
@@ -117,11 +135,7 @@ impl Shelf {
         if self.get(seq).is_some() {
             return Ok(false);
         }
-        if seq as usize == self.whole.len() + 1 {
-            self.whole.push(batch)?;
-        } else {
-            self.ahead.insert(seq, batch)?;
-        }
+        self.add(seq, batch)?;
         self.settle();
         Ok(true)
     }
