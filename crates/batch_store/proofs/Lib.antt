@@ -1,1 +1,2 @@
+mod ShareLemmas
 mod ShelfLemmas

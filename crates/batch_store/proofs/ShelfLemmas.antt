@@ -81,7 +81,7 @@ filed_rises n (e ∷ es) f =
 cmp_less : (x y : ℕ) → x < y → nat_cmp x y ≡ Less
 cmp_less x y less = grind (arith, nat_tests)
 
-cmp_greater : (x y : ℕ) → y < x → nat_cmp x y ≡ Greater
+pub cmp_greater : (x y : ℕ) → y < x → nat_cmp x y ≡ Greater
 cmp_greater x y less = grind (arith, nat_tests)
 
 cmp_equal : (x y : ℕ) → x ≡ y → nat_cmp x y ≡ Equal

@@ -16,6 +16,6 @@ impl Store {
         ensures { IfOk result (λ places. AreAmended self.now.batches from.now to.now (map position_of places.items)) }
     {
         let _ = (alloc, from.agents(), to.agents());
-        match self.never {}
+        Err(AllocError)
     }
 }

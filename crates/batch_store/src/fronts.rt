@@ -23,6 +23,6 @@ impl Store {
         ensures { IfOk result (λ to. to ≡ front base self.now.batches cut.now period) }
     {
         let _ = (alloc, period, base, cut.agents());
-        match self.never {}
+        Err(AllocError)
     }
 }

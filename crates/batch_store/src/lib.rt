@@ -3,9 +3,11 @@
 
 mod amended;
 mod fronts;
+#[cfg(test)]
 mod missing;
 mod shelf;
 mod stores;
+#[cfg(test)]
 mod values;
 
 pub use stores::Store;

@@ -5,7 +5,7 @@ ghost use Rattle.std.specs.Option.{option_copied, option_map, is_some};
 ghost use Rattle.std.specs.Arc.{arc_value};
 ghost use Rattle.metering_model.specs.Holding.{put};
 ghost use Rattle.batch_view.specs.Batches.{batch_of};
-ghost use Rattle.batch_store.specs.Inner.Shelves.{AreOf, Rises, at_seq, up_to_seq};
+ghost use Rattle.batch_store.specs.Inner.Shelves.{AreFiled, AreOf, Rises, at_seq, up_to_seq, contents, filed_up_to};
 
 use batch_view::OwnedBatch;
 use std::alloc::{AllocError, Global};
@@ -33,6 +33,18 @@ impl Model for Shelf {
     ghost view = { λ s. on_shelf s.whole.items s.ahead.entries };
 
     ghost invariant = { λ s. IsShelf s.whole.items s.ahead.entries };
+}
+
+/// The batches that are filed up to a sequence, shared.
+fn share_filed(filed: &BTreeMap<u32, Arc<OwnedBatch>>, alloc: Global, last: u32) -> Result<BTreeMap<u32, Arc<OwnedBatch>>, AllocError>
+    requires { AreFiled 1 filed.now.entries }
+    ensures { IfOk result (λ part. contents part.entries ≡ contents (filed_up_to last filed.now.entries)) }
+{
+    let mut part = BTreeMap::new(alloc);
+    for (seq, batch) in filed.range(..=last) {
+        part.insert(*seq, Arc::try_clone(batch)?)?;
+    }
+    Ok(part)
 }
 
 impl Shelf {
@@ -138,5 +150,16 @@ impl Shelf {
         self.add(seq, batch)?;
         self.settle();
         Ok(true)
+    }
+
+    /// The batches up to a sequence, shared.
+    pub(crate) fn share(&self, alloc: Global, last: u32) -> Result<Shelf, AllocError>
+        ensures { IfOk result (λ part. part ≡ up_to_seq last self.now) }
+    {
+        let count = self.whole.len().min(last as usize);
+        let mut whole: Vec<Arc<OwnedBatch>> = Vec::with_capacity(alloc, count)?;
+        whole.extend_from_slice(&self.whole[..count])?;
+        let ahead = share_filed(&self.ahead, alloc, last)?;
+        Ok(Shelf { whole, ahead })
     }
 }

@@ -7,31 +7,32 @@ ghost use Rattle.metering_model.specs.Holding.{held, put, up_to};
 ghost use Rattle.batch_view.specs.Batches.{batch_of};
 ghost use Rattle.batch_store.specs.Stores.{IsStored};
 
+use crate::shelf::Shelf;
 use batch_view::OwnedBatch;
 use period_cut::Cut;
 use std::alloc::{AllocError, Global};
 use std::marker::Model;
 use std::sync::Arc;
 
-/// Stands in the place of what is kept, until it is made.
-#[derive(Clone, Copy)]
-pub(crate) enum Never {}
-
 /// The batches of 1 to 64 agents, at most one for each agent and sequence. Batches are shared, and never copied.
 #[derive(Drop)]
 pub struct Store {
-    pub(crate) never: Never,
+    shelves: Vec<Shelf>,
 }
 
 impl Model for Store {
-    ghost use Rattle.std.specs.Prelude.{[]};
-    ghost use Rattle.batch_store.specs.Stores.{Stored, IsStored};
+    ghost use Rattle.std.specs.Prelude.{length};
+    ghost use Rattle.batch_store.specs.Stores.{Stored};
+    ghost use Rattle.batch_store.specs.Inner.Shelves.{on_shelves, IsStore};
 
     ghost Value = { Stored };
 
-    ghost view = { λ _. record { agents = 0; batches = [] } };
+    ghost view = { λ s. record {
+      agents = length s.shelves.items;
+      batches = on_shelves s.shelves.items;
+    } };
 
-    ghost invariant = { λ _. IsStored (record { agents = 0; batches = [] }) };
+    ghost invariant = { λ s. IsStore s.shelves.items };
 }
 
 impl Store {
@@ -41,8 +42,11 @@ impl Store {
         requires to { agents ≤ 64 }
         ensures { IfOk result (λ store. store ≡ record { agents = agents; batches = [] }) }
     {
-        let _ = (alloc, agents);
-        Err(AllocError)
+        let mut shelves = Vec::with_capacity(alloc, usize::from(agents))?;
+        for _ in 0..agents {
+            shelves.push(Shelf::new(alloc))?;
+        }
+        Ok(Store { shelves })
     }
 
     /// The number of agents, from 1 to 64. The batches are a holding of theirs.
@@ -50,7 +54,7 @@ impl Store {
         ensures value { result ≡ self.now.agents }
         ensures stored { IsStored self.now }
     {
-        match self.never {}
+        self.shelves.len() as u8
     }
 
     /// Adds a batch and answers true; where its agent has one of its sequence, that one stays, and the answer is false.
@@ -63,8 +67,8 @@ impl Store {
             ≡ record { agents = self.old.agents; batches = put self.old.batches (batch_of (arc_value batch)) }) }
         ensures kept { IfErr result (λ _. self.new ≡ self.old) }
     {
-        let _ = batch;
-        match self.never {}
+        let agent = batch.view().agent();
+        self.shelves[usize::from(agent) - 1].put(batch)
     }
 
     /// The batch of an agent at a sequence. No memory is taken.
@@ -73,8 +77,7 @@ impl Store {
         requires to { agent ≤ self.now.agents }
         ensures { option_map batch_of (option_copied result) ≡ held self.now.batches agent seq }
     {
-        let _ = (agent, seq);
-        match self.never {}
+        self.shelves[usize::from(agent) - 1].get(seq)
     }
 
     /// The least sequence that an agent has no batch of, from 1 to 1,000,001. No memory is taken.
@@ -85,8 +88,7 @@ impl Store {
         ensures below { (seq : ℕ) → 1 ≤ seq → seq < result → is_some (held self.now.batches agent seq) ≡ true }
         ensures range { (1 ≤ result) × (result ≤ 1_000_001) }
     {
-        let _ = agent;
-        match self.never {}
+        self.shelves[usize::from(agent) - 1].first_absent()
     }
 
     /// The batches up to a cut, shared.
@@ -94,7 +96,10 @@ impl Store {
         requires { length upto.now ≡ self.now.agents }
         ensures { IfOk result (λ part. part ≡ record { agents = self.now.agents; batches = up_to upto.now self.now.batches }) }
     {
-        let _ = (alloc, upto.agents());
-        match self.never {}
+        let mut shelves = Vec::with_capacity(alloc, self.shelves.len())?;
+        for (index, shelf) in self.shelves.iter().enumerate() {
+            shelves.push(shelf.share(alloc, upto.get(index as u8 + 1))?)?;
+        }
+        Ok(Store { shelves })
     }
 }

@@ -7,6 +7,7 @@ use Rattle.std.specs.Arc.{arc_value}
 use Rattle.metering_model.specs.Batch.{Batch}
 use Rattle.metering_model.specs.Holding.{Holding}
 use Rattle.batch_view.specs.Batches.{batch_of}
+use Rattle.batch_store.specs.Stores.{IsStored}
 
 -- a shared batch, by its bytes
 abbrev pub Shared : Type 0
@@ -24,6 +25,14 @@ Filed = ℕ × Shared
 
 abbrev pub batches_filed : List Filed → Holding
 batches_filed es = map (λ e. batch_shared e.1) es
+
+-- what is filed, by the bytes of the batches
+abbrev pub contents : List Filed → List (ℕ × List ℕ)
+contents es = map (λ e. (e.0, arc_value e.1)) es
+
+-- what is filed up to a sequence
+abbrev pub filed_up_to : ℕ → List Filed → List Filed
+filed_up_to last es = filter (λ e. nat_le e.0 last) es
 
 -- the batch of one agent at a sequence
 abbrev pub at_seq : Holding → ℕ → Option Batch
@@ -70,3 +79,8 @@ AreShelves k (x ∷ xs) = AreOf k x × AreShelves (k + 1) xs
 -- what is on all the shelves
 abbrev pub on_shelves : List Holding → Holding
 on_shelves xs = flat_map (λ x. x) xs
+
+-- the shelves of 1 to 64 agents, which have a holding together
+pub record IsStore (xs : List Holding) : Type 0 where
+  pub of_agents : AreShelves 1 xs
+  pub is_stored : IsStored (record { agents = length xs; batches = on_shelves xs })
