@@ -21,16 +21,12 @@ pub struct Store {
 }
 
 impl Model for Store {
-    ghost use Rattle.std.specs.Prelude.{length};
     ghost use Rattle.batch_store.specs.Stores.{Stored};
-    ghost use Rattle.batch_store.specs.Inner.Shelves.{on_shelves, IsStore};
+    ghost use Rattle.batch_store.specs.Inner.Shelves.{stored_on, IsStore};
 
     ghost Value = { Stored };
 
-    ghost view = { λ s. record {
-      agents = length s.shelves.items;
-      batches = on_shelves s.shelves.items;
-    } };
+    ghost view = { λ s. stored_on s.shelves.items };
 
     ghost invariant = { λ s. IsStore s.shelves.items };
 }

@@ -7,7 +7,7 @@ use Rattle.std.specs.Arc.{arc_value}
 use Rattle.metering_model.specs.Batch.{Batch}
 use Rattle.metering_model.specs.Holding.{Holding}
 use Rattle.batch_view.specs.Batches.{batch_of}
-use Rattle.batch_store.specs.Stores.{IsStored}
+use Rattle.batch_store.specs.Stores.{Stored, IsStored}
 
 -- a shared batch, by its bytes
 abbrev pub Shared : Type 0
@@ -80,7 +80,11 @@ AreShelves k (x ∷ xs) = AreOf k x × AreShelves (k + 1) xs
 abbrev pub on_shelves : List Holding → Holding
 on_shelves xs = flat_map (λ x. x) xs
 
+-- the store that shelves make
+abbrev pub stored_on : List Holding → Stored
+stored_on xs = record { agents = length xs; batches = on_shelves xs }
+
 -- the shelves of 1 to 64 agents, which have a holding together
 pub record IsStore (xs : List Holding) : Type 0 where
   pub of_agents : AreShelves 1 xs
-  pub is_stored : IsStored (record { agents = length xs; batches = on_shelves xs })
+  pub is_stored : IsStored (stored_on xs)
