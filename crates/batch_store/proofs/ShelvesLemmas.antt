@@ -1,7 +1,7 @@
 -- Shelves next to each other: what is said of the batches on all of them is said of the shelf of one agent.
-use Rattle.std.proofs.Common.{◌≡◌, ℕ, zero, suc, ◌+◌, ◌-◌, ◌<◌, ◌≤◌, Bool, true, false, cond, List, [], ◌∷◌, ◌++◌, length, map, filter, drop, Option, Some, None, refl, sym, ap, subst, ◌∙◌, arith, inl, inr, get_or, set, replicate, Result, Ok, Err,  append_assoc, All}
+use Rattle.std.proofs.Common.{◌≡◌, ℕ, zero, suc, ◌+◌, ◌-◌, ◌<◌, ◌≤◌, Bool, true, false, cond, List, [], ◌∷◌, ◌++◌, length, map, filter, drop, Option, Some, None, refl, sym, ap, subst, ◌∙◌, arith, inl, inr, get_or, set, drop-cons, length-append, replicate, Result, Ok, Err,  append_assoc, All}
 use Rattle.std.specs.Prelude.{◌==◌, nat_le, IfOk, IfErr, IsTrue, ◌↔◌}
-use Rattle.std.proofs.lemmas.List.{length-replicate}
+use Rattle.std.proofs.lemmas.List.{length-replicate, append-nil, drop_all}
 use Rattle.std.specs.List.{AllByRecursion}
 use Rattle.std.specs.Option.{option_or}
 use Rattle.std.proofs.lemmas.Bool.{cases_Bool, cond-true, cond-false, cond_both}
@@ -250,3 +250,75 @@ module _ (xs : List Holding) (now : Stored) (b : Batch) (i : ℕ) (old new : Hol
 
   pub added_there : {E : Type 0} (r : Result Bool E) → IfOk r (λ added. IsTrue added ↔ (at_seq old b.seq ≡ None)) → IfOk r (λ added. IsTrue added ↔ (held now.batches b.agent b.seq ≡ None))
   added_there r added = subst (λ o. IfOk r (λ t. IsTrue t ↔ (o ≡ None))) (sym (held_store xs now b.agent b.seq old same is low high (e ∙ ap (λ n. get_or xs (n - 1) old) at))) added
+
+-- ---- what is shared
+
+up_to_own : (cut : Cut) (k : ℕ) (x : Holding) → AreOf k x → up_to cut x ≡ up_to_seq (last_of cut k) x
+up_to_own cut k [] of = refl
+up_to_own cut k (b ∷ x) of =
+    let rest = up_to_own cut k x of.1 in
+    ap (λ a. cond (nat_le b.seq (last_of cut a)) (b ∷ up_to cut x) (up_to cut x)) of.0 ∙ ap (λ h. cond (nat_le b.seq (last_of cut k)) (b ∷ h) h) rest
+
+of_kept : (last k : ℕ) (x : Holding) → AreOf k x → AreOf k (up_to_seq last x)
+of_kept last k [] of = tt
+of_kept last k (b ∷ x) of =
+    let rest = of_kept last k x of.1 in
+    cond_both (nat_le b.seq last) (b ∷ up_to_seq last x) (up_to_seq last x) (AreOf k) (λ _. (of.0, rest)) (λ _. rest)
+
+are_push : (k : ℕ) (ys : List Holding) (y : Holding) → AreShelves k ys → AreOf (k + length ys) y → AreShelves k (ys ++ y ∷ [])
+are_push k [] y are of = let here : k + 0 ≡ k = omega arith in (subst (λ a. AreOf a y) here of, tt)
+are_push k (x ∷ ys) y are of = let next : k + suc (length ys) ≡ k + 1 + length ys = omega arith in (are.0, are_push (k + 1) ys y are.1 (subst (λ a. AreOf a y) next of))
+
+-- the first shelves are shared, and what is left is as it was
+pub record AreShared (cut : Cut) (xs ys : List Holding) (i : ℕ) : Type 0 where
+  pub so_far : on_shelves ys ++ up_to cut (on_shelves (drop i xs)) ≡ up_to cut (on_shelves xs)
+  pub are : AreShelves 1 ys
+  pub count : length ys ≡ i
+
+pub share_more : (cut : Cut) (xs ys : List Holding) (i : ℕ) (x y : Holding) → AreShelves 1 xs → i < length xs → x ≡ get_or xs i x → y ≡ up_to_seq (last_of cut (i + 1)) x → AreShared cut xs ys i → AreShared cut xs (ys ++ y ∷ []) (i + 1)
+share_more cut xs ys i x y are less e shared so = record {
+  so_far = ap (λ h. h ++ up_to cut (on_shelves (drop (i + 1) xs))) (flat_map-append (λ (z : Holding). z) ys (y ∷ []) ∙ ap (λ h. on_shelves ys ++ h) (append-nil y ∙ (shared ∙ sym (up_to_own cut (i + 1) x of))))
+      ∙ (append_assoc (on_shelves ys) (up_to cut x) (up_to cut (on_shelves (drop (i + 1) xs)))
+      ∙ (ap (λ h. on_shelves ys ++ h) (sym rest) ∙ so.so_far));
+  are = are_push 1 ys y so.are (subst (λ a. AreOf a y) place (subst (AreOf (i + 1)) (sym shared) (of_kept (last_of cut (i + 1)) (i + 1) x of)));
+  count = let longer = length-append ys (y ∷ []) in let count = so.count in omega (arith, longer, count);
+}
+  where
+    of : AreOf (i + 1) x
+    of = let here : 1 + i ≡ i + 1 = omega arith in subst (λ z. AreOf (i + 1) z) (sym e) (subst (λ a. AreOf a (get_or xs i x)) here (shelf_of 1 i xs x are less))
+
+    place : i + 1 ≡ 1 + length ys
+    place = let count = so.count in omega (arith, count)
+
+    more : suc i ≡ i + 1
+    more = omega arith
+
+    rest : up_to cut (on_shelves (drop i xs)) ≡ up_to cut x ++ up_to cut (on_shelves (drop (i + 1) xs))
+    rest = ap (λ zs. up_to cut (on_shelves zs)) (drop-cons xs i x less ∙ (ap (λ n. get_or xs i x ∷ drop n xs) more ∙ ap (λ z. z ∷ drop (i + 1) xs) (sym e)))
+        ∙ filter-append (λ b. nat_le b.seq (last_of cut b.agent)) x (on_shelves (drop (i + 1) xs))
+
+pub share_all : (cut : Cut) (xs ys : List Holding) (now : Stored) (i : ℕ) → stored_on xs ≡ now → IsStore xs → length xs ≤ i → i ≤ length xs → AreShared cut xs ys i → IsStore ys × (stored_on ys ≡ record { agents = now.agents; batches = up_to cut now.batches })
+share_all cut xs ys now i same is low high so =
+    (
+      record {
+        of_agents = so.are;
+        is_stored = record {
+          agents_from = let from = is.is_stored.agents_from in omega (arith, count, from);
+          agents_to = let to = is.is_stored.agents_to in omega (arith, count, to);
+          is_holding = subst IsHolding (sym batches) (IsHolding-up_to (on_shelves xs) cut is.is_stored.is_holding);
+          of_agents = subst (All (λ b. b.agent ≤ length ys)) (sym batches)
+              (subst (λ n. All (λ b. b.agent ≤ n) (up_to cut (on_shelves xs))) (sym count) (All-filter (λ b. nat_le b.seq (last_of cut b.agent)) (λ b. b.agent ≤ length xs) (on_shelves xs) is.is_stored.of_agents));
+        };
+      },
+      ap (λ n. record { agents = n; batches = on_shelves ys }) (count ∙ ap (λ (v : Stored). v.agents) same)
+      ∙ ap (λ h. record { agents = now.agents; batches = h }) (batches ∙ ap (λ (v : Stored). up_to cut v.batches) same),
+    )
+  where
+    count : length ys ≡ length xs
+    count = let c = so.count in omega (arith, c, low, high)
+
+    none_left : drop i xs ≡ []
+    none_left = drop_all i xs low
+
+    batches : on_shelves ys ≡ up_to cut (on_shelves xs)
+    batches = sym (append-nil (on_shelves ys)) ∙ (ap (λ zs. on_shelves ys ++ up_to cut (on_shelves zs)) (sym none_left) ∙ so.so_far)
