@@ -85,8 +85,7 @@ filed_same n (e ∷ es) (x ∷ fs) same f =
     let more : contents es ≡ contents fs = cc in
     let batch : batch_shared e.1 ≡ batch_shared x.1 = ap batch_of bytes in
     let next : x.0 + 1 ≡ e.0 + 1 = omega (arith, key) in
-    let rest = filed_same (e.0 + 1) es fs more (subst (λ m. AreFiled m fs) next f.3) in
-    (
+    let rest = filed_same (e.0 + 1) es fs more (subst (λ m. AreFiled m fs) next f.3) in (
       (omega (arith, f.0, key), omega (arith, f.1, key), ap (λ (b : Batch). b.seq) batch ∙ (f.2 ∙ sym key), rest.0),
       ap (λ b. b ∷ batches_filed es) batch ∙ ap (λ xs. batch_shared x.1 ∷ xs) rest.1,
     )
@@ -139,13 +138,12 @@ take_least n xs = elim (cases_lt n (length xs)) [
 
 pub shared_shelf : (whole : List Shared) (ahead : List Filed) (last count : ℕ) (now : List Shared) (part : List Filed) → IsShelf whole ahead → count ≡ min (length whole) last
     → AllZip (λ a b. arc_value b ≡ arc_value a) (take count whole) now → contents part ≡ contents (filed_up_to last ahead) → IsShelf now part × (on_shelf now part ≡ up_to_seq last (on_shelf whole ahead))
-shared_shelf whole ahead last count now part is least clones same =
-    (
-      record { counted = subst (AreCounted 1) (sym first) (counted_take 1 count (batches_shared whole) is.counted); short = let short = is.short in omega (arith, shorter); filed = filed_less (length now + 1) (length whole + 1) part (omega (arith, shorter)) second.0 },
-      ap (λ h. h ++ batches_filed part) (first ∙ (ap (λ k. take k (batches_shared whole)) count_is ∙ (take_least last (batches_shared whole) ∙ sym (counted_up_to 1 last last (batches_shared whole) is.counted (omega arith)))))
+shared_shelf whole ahead last count now part is least clones same = (
+  record { counted = subst (AreCounted 1) (sym first) (counted_take 1 count (batches_shared whole) is.counted); short = let short = is.short in omega (arith, shorter); filed = filed_less (length now + 1) (length whole + 1) part (omega (arith, shorter)) second.0 },
+  ap (λ h. h ++ batches_filed part) (first ∙ (ap (λ k. take k (batches_shared whole)) count_is ∙ (take_least last (batches_shared whole) ∙ sym (counted_up_to 1 last last (batches_shared whole) is.counted (omega arith)))))
       ∙ (ap (λ h. up_to_seq last (batches_shared whole) ++ h) (second.1 ∙ sym (batches_up_to (length whole + 1) last ahead is.filed))
       ∙ sym (filter-append (λ b. nat_le b.seq last) (batches_shared whole) (batches_filed ahead))),
-    )
+)
   where
     cloned : (batches_shared now ≡ batches_shared (take count whole)) × (length now ≡ length (take count whole))
     cloned = clones_same (take count whole) now clones

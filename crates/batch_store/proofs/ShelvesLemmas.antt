@@ -1,8 +1,7 @@
 -- Shelves next to each other: what is said of the batches on all of them is said of the shelf of one agent.
-use Rattle.std.proofs.Common.{◌≡◌, ℕ, zero, suc, ◌+◌, ◌-◌, ◌<◌, ◌≤◌, Bool, true, false, cond, List, [], ◌∷◌, ◌++◌, length, map, filter, drop, Option, Some, None, refl, sym, ap, subst, ◌∙◌, arith, inl, inr, get_or, set, drop-cons, length-append, replicate, Result, Ok, Err,  append_assoc, All}
+use Rattle.std.proofs.Common.{◌≡◌, ℕ, zero, suc, ◌+◌, ◌-◌, ◌<◌, ◌≤◌, Bool, true, false, cond, List, [], ◌∷◌, ◌++◌, length, drop, Option, Some, None, refl, sym, ap, subst, ◌∙◌, arith, inl, inr, get_or, set, drop-cons, length-append, replicate, Result, Ok, Err, append_assoc, All}
 use Rattle.std.specs.Prelude.{◌==◌, nat_le, IfOk, IfErr, IsTrue, ◌↔◌}
 use Rattle.std.proofs.lemmas.List.{length-replicate, append-nil, drop_all}
-use Rattle.std.specs.List.{AllByRecursion}
 use Rattle.std.specs.Option.{option_or}
 use Rattle.std.proofs.lemmas.Bool.{cases_Bool, cond-true, cond-false, cond_both}
 use Rattle.std.proofs.lemmas.Bool.Decides.{nat_tests}
@@ -18,7 +17,7 @@ use Rattle.metering_model.specs.declared.BatchFault.{BatchFault}
 use Rattle.metering_model.specs.BatchReading.{batch_in}
 use Rattle.metering_model.proofs.BatchLaws.{IsWellFormed-read}
 use Rattle.batch_view.specs.Batches.{batch_of, or_empty}
-use Rattle.batch_store.specs.Stores.{Stored, IsStored}
+use Rattle.batch_store.specs.Stores.{Stored}
 use Rattle.batch_store.specs.Inner.Shelves.{at_seq, up_to_seq, AreOf, AreShelves, on_shelves, stored_on, IsStore}
 
 -- ---- where a batch is held
@@ -89,8 +88,7 @@ pub no_batches : (agents : ℕ) (xs : List Holding) → 1 ≤ agents → agents 
 no_batches agents xs low high e =
     let none = empty_shelves 1 agents in
     let count : length xs ≡ agents = ap length e ∙ length-replicate agents [] in
-    let batches : on_shelves xs ≡ [] = ap on_shelves e ∙ none.1 in
-    (
+    let batches : on_shelves xs ≡ [] = ap on_shelves e ∙ none.1 in (
       record {
         of_agents = subst (AreShelves 1) (sym e) none.0;
         is_stored = record {
@@ -215,8 +213,7 @@ module _ (xs : List Holding) (now : Stored) (b : Batch) (i : ℕ) (old new : Hol
   made : IsWellFormed b → AfterPut (set xs (i - 1) (put (get_or xs (i - 1) old) b))
   made well =
       let batches = is_put.batches ∙ ap (λ (v : Stored). put v.batches b) same in
-      let count = is_put.count ∙ agents in
-      (
+      let count = is_put.count ∙ agents in (
         record {
           of_agents = is_put.are;
           is_stored = record {
@@ -298,21 +295,20 @@ share_more cut xs ys i x y are less e shared so = record {
         ∙ filter-append (λ b. nat_le b.seq (last_of cut b.agent)) x (on_shelves (drop (i + 1) xs))
 
 pub share_all : (cut : Cut) (xs ys : List Holding) (now : Stored) (i : ℕ) → stored_on xs ≡ now → IsStore xs → length xs ≤ i → i ≤ length xs → AreShared cut xs ys i → IsStore ys × (stored_on ys ≡ record { agents = now.agents; batches = up_to cut now.batches })
-share_all cut xs ys now i same is low high so =
-    (
-      record {
-        of_agents = so.are;
-        is_stored = record {
-          agents_from = let from = is.is_stored.agents_from in omega (arith, count, from);
-          agents_to = let to = is.is_stored.agents_to in omega (arith, count, to);
-          is_holding = subst IsHolding (sym batches) (IsHolding-up_to (on_shelves xs) cut is.is_stored.is_holding);
-          of_agents = subst (All (λ b. b.agent ≤ length ys)) (sym batches)
-              (subst (λ n. All (λ b. b.agent ≤ n) (up_to cut (on_shelves xs))) (sym count) (All-filter (λ b. nat_le b.seq (last_of cut b.agent)) (λ b. b.agent ≤ length xs) (on_shelves xs) is.is_stored.of_agents));
-        };
-      },
-      ap (λ n. record { agents = n; batches = on_shelves ys }) (count ∙ ap (λ (v : Stored). v.agents) same)
+share_all cut xs ys now i same is low high so = (
+  record {
+    of_agents = so.are;
+    is_stored = record {
+      agents_from = let from = is.is_stored.agents_from in omega (arith, count, from);
+      agents_to = let to = is.is_stored.agents_to in omega (arith, count, to);
+      is_holding = subst IsHolding (sym batches) (IsHolding-up_to (on_shelves xs) cut is.is_stored.is_holding);
+      of_agents = subst (All (λ b. b.agent ≤ length ys)) (sym batches)
+          (subst (λ n. All (λ b. b.agent ≤ n) (up_to cut (on_shelves xs))) (sym count) (All-filter (λ b. nat_le b.seq (last_of cut b.agent)) (λ b. b.agent ≤ length xs) (on_shelves xs) is.is_stored.of_agents));
+    };
+  },
+  ap (λ n. record { agents = n; batches = on_shelves ys }) (count ∙ ap (λ (v : Stored). v.agents) same)
       ∙ ap (λ h. record { agents = now.agents; batches = h }) (batches ∙ ap (λ (v : Stored). up_to cut v.batches) same),
-    )
+)
   where
     count : length ys ≡ length xs
     count = let c = so.count in omega (arith, c, low, high)

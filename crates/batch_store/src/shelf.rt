@@ -36,7 +36,11 @@ impl Model for Shelf {
 }
 
 /// The batches that are filed up to a sequence, shared.
-fn share_filed(filed: &BTreeMap<u32, Arc<OwnedBatch>>, alloc: Global, last: u32) -> Result<BTreeMap<u32, Arc<OwnedBatch>>, AllocError>
+fn share_filed(
+    filed: &BTreeMap<u32, Arc<OwnedBatch>>,
+    alloc: Global,
+    last: u32,
+) -> Result<BTreeMap<u32, Arc<OwnedBatch>>, AllocError>
     requires { AreFiled 1 filed.now.entries }
     ensures { IfOk result (λ part. contents part.entries ≡ contents (filed_up_to last filed.now.entries)) }
 {

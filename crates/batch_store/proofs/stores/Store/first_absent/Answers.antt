@@ -1,4 +1,4 @@
-use Rattle.std.proofs.Common.{get_or, ◌-◌, ap, sym, ◌∙◌}
+use Rattle.std.proofs.Common.{get_or, ◌-◌, ap, ◌∙◌}
 use Rattle.std.specs.Option.{is_some}
 use Rattle.batch_store.proofs.ShelvesLemmas.{held_store}
 use Rattle.batch_store.proofs.stores.Store.first_absent.Goals as goal

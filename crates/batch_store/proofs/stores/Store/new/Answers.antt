@@ -1,7 +1,5 @@
 use Rattle.std.proofs.Common.{◌≡◌, [], replicate, ap, ◌∙◌, arith}
-use Rattle.batch_store.specs.Stores.{Stored}
 use Rattle.batch_store.specs.Inner.Shelves.{on_shelves}
-use Rattle.metering_model.specs.Holding.{Holding}
 use Rattle.batch_store.proofs.ShelvesLemmas.{no_batches}
 use Rattle.batch_store.proofs.stores.Store.new.Goals as goal
 

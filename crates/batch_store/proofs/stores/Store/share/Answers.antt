@@ -1,5 +1,4 @@
-use Rattle.std.proofs.Common.{◌≡◌, ◌+◌, ◌++◌, ◌∷◌, [], get_or, sym, ap, subst, ◌∙◌, arith}
-use Rattle.metering_model.specs.Cut.{last_of}
+use Rattle.std.proofs.Common.{◌+◌, sym, ap, subst, ◌∙◌, arith}
 use Rattle.batch_store.specs.Inner.Shelves.{up_to_seq, AreShelves}
 use Rattle.batch_store.proofs.ShelvesLemmas.{AreShared, share_more, share_all}
 use Rattle.batch_store.proofs.stores.Store.share.Goals as goal
