@@ -31,3 +31,6 @@ pub returns-clause-absent : goal.returns-clause-absent
 returns-clause-absent c =
     let none = none_beyond c.self.inside.whole.items c.self.inside.ahead.entries 1_000_001 c.self.invariant (omega arith) in
     search (rules, none)
+
+pub returns-clause-below : goal.returns-clause-below
+returns-clause-below c = search rules

@@ -8,3 +8,6 @@ pub returns-then-is_some-clause-batches : goal.returns-then-is_some-clause-batch
 returns-then-is_some-clause-batches c =
     let seq : c.seq-seq.result ≡ (batch_of (arc_value c.args.batch)).seq = search rules in
     put_found c.args.self.now (batch_of (arc_value c.args.batch)) c.seq-seq.result c.get.result c.get.ensures.rises c.requires seq c.get.ensures.batch (sym c.is_some.ensures ∙ c.if-is_some.true)
+
+pub returns-clause-batches : goal.returns-clause-batches
+returns-clause-batches c = search rules
