@@ -1,0 +1,3 @@
+mod ShareLemmas
+mod ShelfLemmas
+mod ShelvesLemmas

