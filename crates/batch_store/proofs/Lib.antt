@@ -1,0 +1,2 @@
+pub mod LeastAbsent
+pub mod LastDue

@@ -20,6 +20,11 @@ use std::alloc::{AllocError, Global};
 use std::marker::Model;
 use std::sync::Arc;
 
+mod amended;
+mod fronts;
+mod missing;
+mod values;
+
 /// Where a record stands: its agent, from 1; its batch's sequence, from 1; its index in the batch, from 0.
 #[derive(Clone, Copy, Debug, PartialEq, Eq, PartialOrd, Ord)]
 pub struct Place {
@@ -101,55 +106,6 @@ impl Store {
         ensures range { (1 ≤ result) × (result ≤ 1_000_001) }
     {
         let _ = agent;
-        match self.never {}
-    }
-
-    /// The least agent and sequence up to a cut that is absent; None where the store has every batch up to it. No memory
-    /// is taken.
-    pub fn first_missing(&self, cut: &Cut) -> Option<(u8, u32)>
-        requires { length cut.now ≡ self.now.agents }
-        ensures { result ≡ first_missing self.now.batches cut.now }
-    {
-        let _ = cut.agents();
-        match self.never {}
-    }
-
-    /// For each agent the greatest sequence such that all batches above the cut and up to it are there and due for the
-    /// period, or the cut's own.
-    pub fn due_front(
-        &self,
-        alloc: Global,
-        cut: &Cut,
-        period: Period,
-        base: Month,
-    ) -> Result<Cut, AllocError>
-        requires agents { length cut.now ≡ self.now.agents }
-        requires base { IsBaseMonth base }
-        ensures { IfOk result (λ to. to ≡ front base self.now.batches cut.now period) }
-    {
-        let _ = (alloc, period, base, cut.agents());
-        match self.never {}
-    }
-
-    /// The value of the reading at a place as of a sequence of its agent, 0 before its own; None where the store has no
-    /// reading there. No memory is taken.
-    pub fn value_at(&self, place: Place, upto: u32) -> Option<Value>
-        requires from { 1 ≤ place.agent }
-        requires to { place.agent ≤ self.now.agents }
-        ensures there { IsSome result ↔ (is_some (reading_at self.now.batches (position_of place)) ≡ true) }
-        ensures value { IfSome result (λ value. value ≡ value_at self.now.batches (position_of place) upto) }
-    {
-        let _ = (place, upto);
-        match self.never {}
-    }
-
-    /// The places up to the cut `from` that an amendment above it and up to the cut `to` names, each once, rising.
-    pub fn amended(&self, alloc: Global, from: &Cut, to: &Cut) -> Result<Vec<Place>, AllocError>
-        requires agents { length to.now ≡ self.now.agents }
-        requires grows { IsAtLeast to.now from.now }
-        ensures { IfOk result (λ places. AreAmended self.now.batches from.now to.now (map position_of places.items)) }
-    {
-        let _ = (alloc, from.agents(), to.agents());
         match self.never {}
     }
 

@@ -1,0 +1,57 @@
+//! How far a store can be closed for a period.
+
+ghost use Rattle.std.specs.Prelude.{◌≡◌, ◌≤◌, length, IfOk};
+ghost use Rattle.metering_model.specs.Dates.{IsBaseMonth};
+ghost use Rattle.metering_model.specs.Front.{front};
+ghost use Rattle.batch_store.specs.Stores.{IsStored};
+ghost use Rattle.batch_store.specs.Inner.Fronts.{IsLastDue};
+
+use crate::Store;
+use batch_view::Stamp;
+use period_cut::{Cut, Month, Period};
+use std::alloc::{AllocError, Global};
+
+/// An agent has no batch behind this one.
+const LAST_SEQ: u32 = 1_000_000;
+
+impl Store {
+    /// For each agent the greatest sequence such that all batches above the cut and up to it are there and due for the
+    /// period, or the cut's own.
+    pub fn due_front(
+        &self,
+        alloc: Global,
+        cut: &Cut,
+        period: Period,
+        base: Month,
+    ) -> Result<Cut, AllocError>
+        requires agents { length cut.now ≡ self.now.agents }
+        requires base { IsBaseMonth base }
+        ensures { IfOk result (λ to. to ≡ front base self.now.batches cut.now period) }
+    {
+        let end = period.end(base);
+        let mut to = cut.copy(alloc)?;
+        for agent in 1..self.agents() + 1 {
+            to.set(agent, self.last_due(agent, cut.get(agent), end));
+        }
+        Ok(to)
+    }
+
+    /// The last of an agent's sequences from `after` on up to which each batch is there, and each reading in it starts
+    /// before that moment.
+    fn last_due(&self, agent: u8, after: u32, moment: Stamp) -> u32
+        requires from { 1 ≤ agent }
+        requires to { agent ≤ self.now.agents }
+        requires after { after ≤ 1_000_000 }
+        requires stored { IsStored self.now }
+        ensures last { IsLastDue moment self.now.batches agent after result }
+        ensures range { result ≤ 1_000_000 }
+    {
+        for seq in after..LAST_SEQ {
+            match self.get(agent, seq + 1) {
+                Some(batch) if batch.starts_before(moment) => {}
+                _ => return seq,
+            }
+        }
+        LAST_SEQ
+    }
+}
