@@ -1,2 +1,4 @@
 pub mod LeastAbsent
 pub mod LastDue
+pub mod LastGiven
+pub mod OwnValue
