@@ -2,3 +2,7 @@ pub mod LeastAbsent
 pub mod LastDue
 pub mod LastGiven
 pub mod OwnValue
+pub mod Members
+pub mod NamedPlaces
+pub mod NamedBetween
+pub mod RisingPlaces
