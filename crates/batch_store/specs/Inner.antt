@@ -1,3 +1,4 @@
+-- Words that the public clauses don't cite.
 pub mod Fronts
 pub mod Values
 pub mod Amended

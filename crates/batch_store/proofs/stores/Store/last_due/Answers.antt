@@ -1,7 +1,7 @@
 use Rattle.std.proofs.Common.{arith, sym, ◌∙◌, ◌+◌}
 use Rattle.batch_view.specs.Batches.{batch_of}
 use Rattle.batch_store.proofs.LastDue.{starts_where_held, late_where_held, due_one_more, late_beyond}
-use Rattle.batch_store.proofs.Store.last_due.Goals as goal
+use Rattle.batch_store.proofs.stores.Store.last_due.Goals as goal
 
 pub loop-seq-init : goal.loop-seq-init
 loop-seq-init c = λ s above within. absurd (omega arith)

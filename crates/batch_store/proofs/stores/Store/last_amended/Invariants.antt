@@ -1,7 +1,7 @@
 use Rattle.std.proofs.Common.{◌≡◌, ◌<◌, ◌-◌}
 use Rattle.batch_store.specs.Stores.{position_of}
 use Rattle.batch_store.specs.Inner.Values.{last_given}
-use Rattle.batch_store.proofs.Store.last_amended.Given as goal
+use Rattle.batch_store.proofs.stores.Store.last_amended.Given as goal
 
 abbrev pub invariant-loop-seq : goal.invariant-loop-seq
 invariant-loop-seq l =

@@ -3,7 +3,7 @@ use Rattle.batch_view.specs.Batches.{batch_of}
 use Rattle.batch_store.specs.Stores.{position_of}
 use Rattle.batch_store.specs.Inner.Values.{last_given}
 use Rattle.batch_store.proofs.LastGiven.{last_given-beyond, found_at, passed_held, passed_absent}
-use Rattle.batch_store.proofs.Store.last_amended.Goals as goal
+use Rattle.batch_store.proofs.stores.Store.last_amended.Goals as goal
 
 pub loop-seq-init : goal.loop-seq-init
 loop-seq-init c =

@@ -1,7 +1,7 @@
 use Rattle.std.proofs.Common.{◌<◌, length, ◌≤◌, arith}
 use Rattle.metering_model.specs.Cut.{last_of}
 use Rattle.batch_store.proofs.LeastAbsent.{has_all-before_first, has_all-one_more, first_missing_is, first_missing_is_none}
-use Rattle.batch_store.proofs.Store.first_missing.Goals as goal
+use Rattle.batch_store.proofs.stores.Store.first_missing.Goals as goal
 
 pub loop-agent-init : goal.loop-agent-init
 loop-agent-init c = has_all-before_first c.args.self.now.batches c.args.cut.now

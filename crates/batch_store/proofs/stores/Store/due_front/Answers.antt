@@ -2,7 +2,7 @@ use Rattle.std.proofs.Common.{◌+◌, ◌<◌, ◌≤◌, ℤ, ℕ, length, sub
 use Rattle.metering_model.specs.Cut.{Cut}
 use Rattle.batch_store.specs.Inner.Fronts.{IsLastDue}
 use Rattle.batch_store.proofs.LastDue.{FrontSoFar, FrontSoFar-none, FrontSoFar-set, FrontSoFar-all}
-use Rattle.batch_store.proofs.Store.due_front.Goals as goal
+use Rattle.batch_store.proofs.stores.Store.due_front.Goals as goal
 
 pub loop-agent-init : goal.loop-agent-init
 loop-agent-init c = FrontSoFar-none c.end-end.result c.args.self.now.batches c.args.cut.now c.in_ok-to.to c.in_ok-to.ensures

@@ -3,7 +3,7 @@ use Rattle.std.proofs.lemmas.List.Filters.{dedup_is}
 use Rattle.batch_store.specs.Stores.{position_of}
 use Rattle.batch_store.proofs.NamedBetween.{Adds-before_first, Adds-agent, are_amended}
 use Rattle.batch_store.proofs.RisingPlaces.{place_eq, same_places, rise-sorted}
-use Rattle.batch_store.proofs.Store.amended.Goals as goal
+use Rattle.batch_store.proofs.stores.Store.amended.Goals as goal
 
 pub loop-agent-init : goal.loop-agent-init
 loop-agent-init c = Adds-before_first c.args.self.now.batches c.args.from.now c.args.to.now c.new-places.result.items c.new-places.ensures.items

@@ -3,8 +3,8 @@ use Rattle.batch_view.specs.Batches.{batch_of}
 use Rattle.batch_store.specs.declared.Place.{Place}
 use Rattle.batch_store.specs.Inner.Amended.{Adds, IsNamedOf}
 use Rattle.batch_store.proofs.NamedPlaces.{Adds-first, Adds-absent, Adds-held}
-use Rattle.batch_store.proofs.Store.add_amended.Goals.{in-Some+in_ok-add_named, in_default}
-use Rattle.batch_store.proofs.Store.add_amended.Goals as goal
+use Rattle.batch_store.proofs.stores.Store.add_amended.Goals.{in-Some+in_ok-add_named, in_default}
+use Rattle.batch_store.proofs.stores.Store.add_amended.Goals as goal
 
 pub loop-seq-init : goal.loop-seq-init
 loop-seq-init c = Adds-first c.args.self.now.batches c.args.agent c.args.from c.args.places.now.items
