@@ -2,7 +2,7 @@
 use Rattle.std.proofs.Common.{◌≡◌, ℕ, suc, ◌+◌, ◌<◌, ◌≤◌, true, false, [], ◌∷◌, length, refl, sym, ap, subst, ◌∙◌, arith, Option, Some, None, ℤ, inl, inr, slice_index}
 use Rattle.std.specs.Prelude.{slice_set, ◌-◌}
 use Rattle.std.specs.List.{list_all}
-use Rattle.std.specs.Option.{IsSomeAnd}
+use Rattle.std.specs.Option.{IsSomeAnd, option_map_or}
 use Rattle.std.proofs.lemmas.Bool.{cases_lt, both_ways}
 use Rattle.std.proofs.lemmas.List.{length-set}
 use Rattle.metering_model.specs.Batch.{Batch}
@@ -14,19 +14,22 @@ use Rattle.metering_model.proofs.CutLaws.{last_of-set, last_of-set_other}
 use Rattle.metering_model.proofs.Fronts.{front_goes_on, front_is_greatest, length-front}
 use Rattle.metering_model.proofs.HoldingLaws.{held_place}
 use Rattle.metering_model.proofs.PartLaws.{held_well}
-use Rattle.batch_store.specs.Inner.Fronts.{StartsBefore, IsLastDue}
+use Rattle.batch_store.specs.Inner.Fronts.{is_due_by, StartsBefore, IsLastDue}
 
 module _ (moment : ℤ) (h : Holding) (agent : ℕ) where
-  pub starts_where_held : (seq : ℕ) (b : Batch) → Some b ≡ held h agent seq → list_all (starts_before moment) b.records ≡ true → StartsBefore moment h agent seq
-  starts_where_held seq b is starts = subst (λ o. IsSomeAnd o (λ b. list_all (starts_before moment) b.records ≡ true)) is starts
+  pub starts_where_due : (seq : ℕ) → is_due_by moment h agent seq ≡ true → StartsBefore moment h agent seq
+  starts_where_due seq due = either (held h agent seq) due
+    where
+      either : (o : Option Batch) → option_map_or (λ b. list_all (starts_before moment) b.records) o false ≡ true → IsSomeAnd o (λ b. list_all (starts_before moment) b.records ≡ true)
+      either None e = both_ways false refl e
+      either (Some b) e = e
 
-  pub late_where_held : (seq : ℕ) (b : Batch) → Some b ≡ held h agent seq → list_all (starts_before moment) b.records ≡ false → StartsBefore moment h agent seq → ⊥
-  late_where_held seq b is late starts =
-      let early : list_all (starts_before moment) b.records ≡ true = subst (λ o. IsSomeAnd o (λ b. list_all (starts_before moment) b.records ≡ true)) (sym is) starts in
-      both_ways _ late early
-
-  pub late_where_absent : (seq : ℕ) → None ≡ held h agent seq → StartsBefore moment h agent seq → ⊥
-  late_where_absent seq is starts = subst (λ o. IsSomeAnd o (λ b. list_all (starts_before moment) b.records ≡ true)) (sym is) starts
+  pub late_where_not_due : (seq : ℕ) → is_due_by moment h agent seq ≡ false → StartsBefore moment h agent seq → ⊥
+  late_where_not_due seq late = either (held h agent seq) late
+    where
+      either : (o : Option Batch) → option_map_or (λ b. list_all (starts_before moment) b.records) o false ≡ false → IsSomeAnd o (λ b. list_all (starts_before moment) b.records ≡ true) → ⊥
+      either None e starts = starts
+      either (Some b) e starts = both_ways _ e starts
 
   -- one more batch is due
   pub due_one_more : (after upto : ℕ) → ((s : ℕ) → after < s → s ≤ upto → StartsBefore moment h agent s) → StartsBefore moment h agent (upto + 1) → (s : ℕ) → after < s → s ≤ upto + 1 → StartsBefore moment h agent s

@@ -4,7 +4,7 @@ ghost use Rattle.std.specs.Prelude.{◌≡◌, ◌≤◌, length, IfOk};
 ghost use Rattle.metering_model.specs.Dates.{IsBaseMonth};
 ghost use Rattle.metering_model.specs.Front.{front};
 ghost use Rattle.batch_store.specs.Stores.{IsStored};
-ghost use Rattle.batch_store.specs.Inner.Fronts.{IsLastDue};
+ghost use Rattle.batch_store.specs.Inner.Fronts.{is_due_by, IsLastDue};
 
 use crate::Store;
 use batch_view::Stamp;
@@ -36,8 +36,8 @@ impl Store {
         Ok(to)
     }
 
-    /// The last of an agent's sequences from `after` on up to which each batch is there, and each reading in it starts
-    /// before that moment.
+    /// The greatest sequence such that all batches of an agent above `after` and up to it are there, and each of their
+    /// readings starts before that moment.
     fn last_due(&self, agent: u8, after: u32, moment: Stamp) -> u32
         requires from { 1 ≤ agent }
         requires to { agent ≤ self.now.agents }
@@ -47,11 +47,22 @@ impl Store {
         ensures range { result ≤ 1_000_000 }
     {
         for seq in after..LAST_SEQ {
-            match self.get(agent, seq + 1) {
-                Some(batch) if batch.starts_before(moment) => {}
-                _ => return seq,
+            if !self.is_due_by(agent, seq + 1, moment) {
+                return seq;
             }
         }
         LAST_SEQ
+    }
+
+    /// Whether an agent's batch is there, and each reading in it starts before that moment.
+    fn is_due_by(&self, agent: u8, seq: u32, moment: Stamp) -> bool
+        requires from { 1 ≤ agent }
+        requires to { agent ≤ self.now.agents }
+        ensures { result ≡ is_due_by moment self.now.batches agent seq }
+    {
+        match self.get(agent, seq) {
+            Some(batch) => batch.starts_before(moment),
+            None => false,
+        }
     }
 }

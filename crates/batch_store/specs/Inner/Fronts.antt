@@ -1,11 +1,15 @@
 -- How far one agent's batches are due.
-use Rattle.std.specs.Prelude.{◌≡◌, ◌<◌, ◌≤◌, ℕ, ◌+◌, true, ℤ}
+use Rattle.std.specs.Prelude.{◌≡◌, ◌<◌, ◌≤◌, ℕ, ◌+◌, Bool, true, false, ℤ}
 use Rattle.std.specs.List.{list_all}
-use Rattle.std.specs.Option.{IsSomeAnd}
+use Rattle.std.specs.Option.{IsSomeAnd, option_map_or}
 use Rattle.metering_model.specs.Holding.{Holding, held}
 use Rattle.metering_model.specs.Front.{starts_before}
 
--- the batch is held, and each of its readings starts before the moment
+-- whether the batch is held, and each of its readings starts before the moment
+abbrev pub is_due_by : ℤ → Holding → ℕ → ℕ → Bool
+is_due_by moment h agent seq = option_map_or (λ b. list_all (starts_before moment) b.records) (held h agent seq) false
+
+-- that it is so
 abbrev pub StartsBefore : ℤ → Holding → ℕ → ℕ → Type 0
 StartsBefore moment h agent seq = IsSomeAnd (held h agent seq) (λ b. list_all (starts_before moment) b.records ≡ true)
 
