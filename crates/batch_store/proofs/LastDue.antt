@@ -17,6 +17,12 @@ use Rattle.metering_model.proofs.PartLaws.{held_well}
 use Rattle.batch_store.specs.Inner.Fronts.{is_due_by, StartsBefore, IsLastDue}
 
 module _ (moment : ℤ) (h : Holding) (agent : ℕ) where
+  pub is_due_by-absent : (seq : ℕ) → None ≡ held h agent seq → false ≡ is_due_by moment h agent seq
+  is_due_by-absent seq at = ap (λ o. option_map_or (λ b. list_all (starts_before moment) b.records) o false) at
+
+  pub is_due_by-held : (seq : ℕ) (b : Batch) → Some b ≡ held h agent seq → list_all (starts_before moment) b.records ≡ is_due_by moment h agent seq
+  is_due_by-held seq b at = ap (λ o. option_map_or (λ b. list_all (starts_before moment) b.records) o false) at
+
   pub starts_where_due : (seq : ℕ) → is_due_by moment h agent seq ≡ true → StartsBefore moment h agent seq
   starts_where_due seq due = either (held h agent seq) due
     where

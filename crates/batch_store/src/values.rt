@@ -58,7 +58,8 @@ impl Store {
         ensures { last_given self.now.batches (position_of place) upto
             ≡ option_or result (last_given self.now.batches (position_of place) place.seq) }
     {
-        for seq in (place.seq + 1..upto.min(LAST_SEQ) + 1).rev() {
+        let last = upto.min(LAST_SEQ);
+        for seq in (place.seq + 1..last + 1).rev() {
             if let Some(batch) = self.get(place.agent, seq) {
                 let given = batch.value_given(place.seq, place.index);
                 if given.is_some() {

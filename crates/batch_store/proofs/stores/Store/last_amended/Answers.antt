@@ -7,7 +7,7 @@ use Rattle.batch_store.proofs.stores.Store.last_amended.Goals as goal
 
 pub loop-seq-init : goal.loop-seq-init
 loop-seq-init c =
-    let last : min c.args.upto 1_000_000 ≡ c.min-seq.result + 1 - 1 = omega arith in
+    let last : min c.args.upto 1_000_000 ≡ c.min-last.result + 1 - 1 = omega arith in
     (omega arith, last_given-beyond c.args.self.now.batches (position_of c.args.place) c.args.upto c.requires.stored.is_holding ∙ ap (last_given c.args.self.now.batches (position_of c.args.place)) last)
 
 pub loop-seq-preserved : goal.loop-seq-preserved
