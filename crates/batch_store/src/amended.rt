@@ -2,10 +2,8 @@
 
 ghost use Rattle.std.specs.Prelude.{◌≡◌, ◌≤◌, ◌++◌, length, map, IfOk};
 ghost use Rattle.std.specs.List.{filter_map};
-ghost use Rattle.batch_view.specs.Batches.{batch_of};
-ghost use Rattle.batch_view.specs.Kept.{AreAmendmentsOf};
 ghost use Rattle.metering_model.specs.Cut.{IsAtLeast};
-ghost use Rattle.batch_store.specs.Stores.{AreAmended, IsStored, position_of};
+ghost use Rattle.batch_store.specs.Stores.{AreAmended, position_of};
 ghost use Rattle.batch_store.specs.Inner.Amended.{Adds, IsNamedOf, named_place};
 
 use crate::{Place, Store};

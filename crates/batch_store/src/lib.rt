@@ -3,6 +3,7 @@
 
 mod amended;
 mod fronts;
+pub mod laws;
 mod missing;
 mod stores;
 mod values;
