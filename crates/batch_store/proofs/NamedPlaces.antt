@@ -1,11 +1,11 @@
 -- The places that amendments name, batch by batch.
-use Rattle.std.proofs.Common.{◌≡◌, ℕ, ◌+◌, ◌≤◌, Bool, true, false, List, map, ◌++◌, refl, sym, ap, subst, ◌∙◌, arith, Option, Some, None, inl, inr, ◌⊎◌, cond}
+use Rattle.std.proofs.Common.{◌≡◌, ℕ, ◌+◌, ◌≤◌, Bool, true, false, List, map, ◌++◌, refl, sym, ap, subst, ◌∙◌, arith, Option, Some, None, inl, inr, ◌⊎◌, cond, take, get_or, length, [], ◌∷◌, ◌<◌}
 use Rattle.std.specs.Prelude.{nat_le}
-use Rattle.std.specs.List.{Contains, filter_map}
+use Rattle.std.specs.List.{Contains, filter_map, cons_option}
 use Rattle.std.specs.List.Sorted.{IsPermutation}
-use Rattle.std.proofs.lemmas.List.{map-append}
-use Rattle.std.proofs.lemmas.Bool.{cases_lt, leb-true, le-leb, cond-true}
-use Rattle.std.proofs.lemmas.List.Elements.{Contains-append_left, Contains-append_right, Contains-append_cases}
+use Rattle.std.proofs.lemmas.List.{map-append, append_assoc, append-nil, take_more}
+use Rattle.std.proofs.lemmas.Bool.{cases_lt, leb-true, le-leb, cond-true, cond-false, lt-leb}
+use Rattle.std.proofs.lemmas.List.Elements.{Contains-append_left, Contains-append_right, Contains-append_cases, filter_map-append}
 use Rattle.std.proofs.lemmas.List.Sorted.{Contains-permutation, IsPermutation-sym}
 use Rattle.std.proofs.lemmas.Option.{same_Some, none-some}
 use Rattle.metering_model.specs.Batch.{Batch}
@@ -139,3 +139,20 @@ module _ (h : Holding) (agent from : ℕ) where
             inr (named-sorted agent from (amendments_in b) all p sorted.all (subst (λ c. IsNamedIn agent from (amendments_in c) p) is n.named))
         | inr before ↦ inl (record { seq = n.seq; batch = n.batch; above = n.above; until = before; is_held = n.is_held; named = n.named })
       ]
+
+-- ---- one amendment more
+
+module _ (agent upto : ℕ) (old now : List Place) (amendments : List Amendment) (i : ℕ) (a : Amendment) (inside : i < length amendments) (is : a ≡ get_or amendments i a) (so_far : now ≡ old ++ filter_map (named_place agent upto) (take i amendments)) where
+  one_more : (o : Option Place) → named_place agent upto a ≡ o → now ++ cons_option o [] ≡ old ++ filter_map (named_place agent upto) (take (i + 1) amendments)
+  one_more o gives =
+      ap (λ xs. xs ++ cons_option o []) so_far
+      ∙ (append_assoc old (filter_map (named_place agent upto) (take i amendments)) (cons_option o [])
+      ∙ ap (λ xs. old ++ xs) (sym (ap (filter_map (named_place agent upto)) (take_more amendments i a inside)
+      ∙ (filter_map-append (named_place agent upto) (take i amendments) (get_or amendments i a ∷ [])
+      ∙ ap (λ x. filter_map (named_place agent upto) (take i amendments) ++ cons_option x []) (ap (named_place agent upto) (sym is) ∙ gives)))))
+
+  pub one_more-named : a.seq ≤ upto → now ++ record { agent = agent; seq = a.seq; index = a.index } ∷ [] ≡ old ++ filter_map (named_place agent upto) (take (i + 1) amendments)
+  one_more-named within = one_more (Some (record { agent = agent; seq = a.seq; index = a.index })) (cond-true (nat_le a.seq upto) (Some (record { agent = agent; seq = a.seq; index = a.index })) None (le-leb a.seq upto within))
+
+  pub one_more-beyond : upto < a.seq → now ≡ old ++ filter_map (named_place agent upto) (take (i + 1) amendments)
+  one_more-beyond beyond = sym (append-nil now) ∙ one_more None (cond-false (nat_le a.seq upto) (Some (record { agent = agent; seq = a.seq; index = a.index })) None (lt-leb a.seq upto beyond))
