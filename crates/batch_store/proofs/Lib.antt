@@ -1,3 +1,11 @@
 mod ShareLemmas
 mod ShelfLemmas
 mod ShelvesLemmas
+pub mod LeastAbsent
+pub mod LastDue
+pub mod LastGiven
+pub mod OwnValue
+pub mod Members
+pub mod NamedPlaces
+pub mod NamedBetween
+pub mod RisingPlaces

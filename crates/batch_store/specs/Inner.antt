@@ -1,2 +1,5 @@
 -- Words that the public clauses don't cite.
 pub mod Shelves
+pub mod Fronts
+pub mod Values
+pub mod Amended

@@ -3,11 +3,10 @@
 
 mod amended;
 mod fronts;
-#[cfg(test)]
+pub mod laws;
 mod missing;
 mod shelf;
 mod stores;
-#[cfg(test)]
 mod values;
 
 pub use stores::Store;

@@ -1,4 +1,4 @@
-//! The first batch that is absent up to a cut.
+//! What a store lacks.
 
 ghost use Rattle.std.specs.Prelude.{◌≡◌, length};
 ghost use Rattle.metering_model.specs.Step.{first_missing};
@@ -13,7 +13,12 @@ impl Store {
         requires { length cut.now ≡ self.now.agents }
         ensures { result ≡ first_missing self.now.batches cut.now }
     {
-        let _ = cut.agents();
-        match self.never {}
+        for agent in 1..cut.agents() + 1 {
+            let absent = self.first_absent(agent);
+            if absent <= cut.get(agent) {
+                return Some((agent, absent));
+            }
+        }
+        None
     }
 }

@@ -1,13 +1,27 @@
-//! What a reading is worth as of a sequence.
+//! What a reading is worth.
 
 ghost use Rattle.std.specs.Prelude.{◌≡◌, ◌≤◌, ◌↔◌, true, IfSome, IsSome};
-ghost use Rattle.std.specs.Option.{is_some};
+ghost use Rattle.std.specs.Option.{is_some, option_or};
 ghost use Rattle.metering_model.specs.Holding.{reading_at};
 ghost use Rattle.metering_model.specs.ValueAtSequence.{value_at};
-ghost use Rattle.batch_store.specs.Stores.{position_of};
+ghost use Rattle.batch_view.specs.Batches.{batch_of};
+ghost use Rattle.batch_store.specs.Stores.{IsStored, position_of};
+ghost use Rattle.batch_store.specs.Inner.Values.{has_reading_at, last_given};
 
+use crate::fronts::LAST_SEQ;
 use crate::{Place, Store};
+use batch_view::{OwnedBatch, Record};
 use fx_money::Value;
+
+/// Whether the record at that index of the batch is a reading.
+fn is_reading(batch: &OwnedBatch, index: u16) -> bool
+    ensures { result ≡ has_reading_at (batch_of batch.now) index }
+{
+    match batch.view().record_at(index) {
+        Some(Record::Reading(_)) => true,
+        Some(Record::Amend { .. }) | None => false,
+    }
+}
 
 impl Store {
     /// The value of the reading at a place as of a sequence of its agent, 0 before its own; None where the store has no
@@ -18,7 +32,41 @@ impl Store {
         ensures there { IsSome result ↔ (is_some (reading_at self.now.batches (position_of place)) ≡ true) }
         ensures value { IfSome result (λ value. value ≡ value_at self.now.batches (position_of place) upto) }
     {
-        let _ = (place, upto);
-        match self.never {}
+        // Its clause says that the batches are a holding.
+        let _ = self.agents();
+        let own = self.get(place.agent, place.seq)?;
+        if !is_reading(own, place.index) {
+            return None;
+        }
+        if upto < place.seq {
+            return Value::new(0);
+        }
+        let later = self.last_amended(place, upto);
+        if later.is_some() {
+            return later;
+        }
+        own.value_given(place.seq, place.index)
+    }
+
+    /// The value that the last batch behind the reading's own and up to a sequence gives it.
+    fn last_amended(&self, place: Place, upto: u32) -> Option<Value>
+        requires from { 1 ≤ place.agent }
+        requires to { place.agent ≤ self.now.agents }
+        requires seq { place.seq ≤ upto }
+        requires within { place.seq ≤ 1_000_000 }
+        requires stored { IsStored self.now }
+        ensures { last_given self.now.batches (position_of place) upto
+            ≡ option_or result (last_given self.now.batches (position_of place) place.seq) }
+    {
+        let last = upto.min(LAST_SEQ);
+        for seq in (place.seq + 1..last + 1).rev() {
+            if let Some(batch) = self.get(place.agent, seq) {
+                let given = batch.value_given(place.seq, place.index);
+                if given.is_some() {
+                    return given;
+                }
+            }
+        }
+        None
     }
 }
