@@ -10,11 +10,11 @@ use Rattle.metering_model.specs.declared.BatchFault.{BatchFault}
 use Rattle.metering_model.specs.BatchReading.{at_line, records_in, fields_in, head_in, lines_in, batch_in, batch_below, batch_of_lines}
 use Rattle.metering_model.proofs.BatchLaws.{batch_read}
 use Rattle.metering_model.specs.FirstFailure.{◌>>=◌, holds_or}
-use Rattle.batch_view.specs.Lent.{record_of}
+use Rattle.record_view.specs.Lent.{record_of}
 use Rattle.batch_view.specs.Batches.{batch_of, IsLentAt}
 use Rattle.batch_view.specs.Inner.Lines.{lines_from, first_record, head_line, HasNoLine, IsBehindLines, LendsRecord, BeginsWithHead, IsHeadOf}
 use Rattle.batch_view.specs.declared.head.Head.{Head}
-use Rattle.batch_view.specs.declared.records.Record.{Record as LentRecord}
+use Rattle.record_view.specs.declared.records.Record.{Record as LentRecord}
 use Rattle.batch_view.proofs.LineLemmas.{lines_at_feed, lines_without_feed, one_more_line}
 use Rattle.batch_view.proofs.RecordLemmas.{bind_ok, length-records_in, enough_lines, record_at}
 

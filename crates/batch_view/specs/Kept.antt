@@ -6,10 +6,10 @@ use Rattle.metering_model.specs.Batch.{Batch, Record, Reads, Amends}
 use Rattle.metering_model.specs.BatchReading.{lines_in}
 use Rattle.metering_model.specs.Holding.{Position, placed}
 use Rattle.metering_model.specs.ValueAtSequence.{value_given_by}
-use Rattle.batch_view.specs.declared.fields.Span.{Span}
+use Rattle.record_view.specs.declared.fields.Span.{Span}
 use Rattle.batch_view.specs.declared.owned.Amendment.{Amendment}
-use Rattle.batch_view.specs.Parts.{LentText}
-use Rattle.batch_view.specs.Lent.{fields_at}
+use Rattle.record_view.specs.Parts.{LentText}
+use Rattle.record_view.specs.Lent.{fields_at}
 use Rattle.batch_view.specs.Batches.{line_spans}
 
 abbrev pub span_of : LentText → Span

@@ -9,11 +9,12 @@ ghost use Rattle.batch_view.specs.Kept.{AreAmendmentsOf, AreFieldSpans, value_gi
 ghost use Rattle.batch_view.specs.Offers.{IsOfferOf};
 
 use crate::batch::{BatchView, check_batch};
-use crate::dates::Stamp;
-use crate::fields::Span;
+
+
 use crate::head::Head;
 use fx_money::Value;
 use metering_model::BatchFault;
+use record_view::{Span, Stamp};
 use std::alloc::{AllocError, Global};
 use std::marker::Model;
 use std::sync::Arc;

@@ -1,0 +1,4 @@
+pub mod Placed
+pub mod TagPieces
+pub mod RecordSteps
+pub mod LineFields

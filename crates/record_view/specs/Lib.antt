@@ -1,0 +1,5 @@
+pub mod Years
+pub mod Parts
+pub mod TagTexts
+pub mod Lent
+pub mod Inner
