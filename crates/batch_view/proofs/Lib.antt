@@ -5,3 +5,4 @@ pub mod RecordLemmas
 pub mod SplitLemmas
 pub mod WalkLemmas
 pub mod TagsHold
+pub mod EntryLemmas

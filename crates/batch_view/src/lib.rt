@@ -7,6 +7,8 @@ pub use owned::{Amendment, Offer, OwnedBatch};
 pub use record_view::{Day, Field, Reading, Record, Span, Stamp, Tags, calendar, dates, laws};
 
 mod batch;
+mod entries;
 mod head;
 mod lines;
 mod owned;
+mod reading;

@@ -9,8 +9,6 @@ ghost use Rattle.batch_view.specs.Kept.{AreAmendmentsOf, AreFieldSpans, value_gi
 ghost use Rattle.batch_view.specs.Offers.{IsOfferOf};
 
 use crate::batch::{BatchView, check_batch};
-
-
 use crate::head::Head;
 use fx_money::Value;
 use metering_model::BatchFault;

@@ -9,3 +9,4 @@ pub mod LentLaws
 pub mod RecordLaws
 pub mod LineLaws
 pub mod TagsHold
+pub mod SpanLaws

@@ -5,6 +5,7 @@ pub use dates::{Day, Stamp};
 pub use fields::{Field, Span, find_byte};
 pub use metering_model::{BatchCode, Kind};
 pub use records::{Reading, Record, read_record};
+pub use spans::field_spans;
 pub use tags::Tags;
 pub use wholes::read_whole;
 
@@ -15,5 +16,6 @@ mod fields;
 pub mod laws;
 mod numbers;
 mod records;
+mod spans;
 mod tags;
 mod wholes;
