@@ -6,3 +6,4 @@ pub mod SplitLemmas
 pub mod WalkLemmas
 pub mod TagsHold
 pub mod EntryLemmas
+pub mod AmendedLemmas

@@ -6,6 +6,7 @@ pub use metering_model::{BatchCode, BatchFault, Kind};
 pub use owned::{Amendment, Offer, OwnedBatch};
 pub use record_view::{Day, Field, Reading, Record, Span, Stamp, Tags, calendar, dates, laws};
 
+mod amendments;
 mod batch;
 mod entries;
 mod head;
