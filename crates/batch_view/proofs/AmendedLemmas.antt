@@ -1,5 +1,5 @@
 -- Amendments as the entries tell them, one by one.
-use Rattle.std.proofs.Common.{◌≡◌, ℕ, zero, suc, ◌+◌, ◌<◌, ◌≤◌, List, [], ◌∷◌, ◌++◌, length, take, refl, sym, ap, ap₂, subst, ◌∙◌, arith, get_or, Option, Some, None, All, IfSome}
+use Rattle.std.proofs.Common.{◌≡◌, ℕ, suc, ◌+◌, ◌<◌, List, [], ◌∷◌, ◌++◌, length, take, sym, ap, ◌∙◌, arith, get_or, Option, Some, None, All, IfSome}
 use Rattle.std.specs.List.{filter_map, enumerate_from, cons_option}
 use Rattle.std.proofs.lemmas.List.Elements.{filter_map-append, All-append, All-push}
 use Rattle.std.proofs.lemmas.List.{length-take-le, take_more}

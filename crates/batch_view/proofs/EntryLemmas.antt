@@ -1,5 +1,5 @@
 -- What is kept, record by record.
-use Rattle.std.proofs.Common.{◌≡◌, ℕ, zero, suc, ◌+◌, ◌-◌, ◌<◌, ◌≤◌, ◌⊎◌, List, [], ◌∷◌, ◌++◌, length, drop, Some, Ok, Err, refl, sym, ap, subst, ◌∙◌, inl, inr, arith, length-append}
+use Rattle.std.proofs.Common.{◌≡◌, ℕ, zero, suc, ◌+◌, ◌<◌, ◌⊎◌, List, [], ◌∷◌, ◌++◌, length, drop, Some, Ok, Err, refl, sym, ap, subst, ◌∙◌, inl, inr, arith, length-append}
 use Rattle.std.specs.List.{slice_get}
 use Rattle.std.proofs.lemmas.List.{drop-drop}
 use Rattle.metering_model.specs.declared.BatchCode.{BatchCode}
@@ -11,7 +11,7 @@ use Rattle.batch_view.specs.Inner.Kept.{KeepsEntries, KeepsBatch}
 use Rattle.batch_view.specs.declared.entries.Entry.{Entry}
 use Rattle.batch_view.specs.declared.head.Head.{Head}
 use Rattle.batch_view.proofs.LineLemmas.{one_more_line}
-use Rattle.batch_view.proofs.RecordLemmas.{fault_at, one_more_record, is_ok_at}
+use Rattle.batch_view.proofs.RecordLemmas.{fault_at, one_more_record}
 
 -- an item of a list with one more is one of the list, or the one more
 got_of_more : {A : Type 0} (xs : List A) (y : A) (k : ℕ) (x : A) → slice_get (xs ++ y ∷ []) k ≡ Some x → (slice_get xs k ≡ Some x) ⊎ ((k ≡ length xs) × (y ≡ x))

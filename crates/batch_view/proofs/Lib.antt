@@ -7,3 +7,6 @@ pub mod WalkLemmas
 pub mod TagsHold
 pub mod EntryLemmas
 pub mod AmendedLemmas
+pub mod NamedLemmas
+pub mod EntryLaws
+pub mod GivenLaws

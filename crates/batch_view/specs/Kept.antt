@@ -4,7 +4,7 @@ use Rattle.std.specs.List.{slice_get, filter_map, enumerate_from, last_or}
 use Rattle.std.specs.List.Sorted.{IsPermutation, IsSortedBy}
 use Rattle.metering_model.specs.Batch.{Batch, Record, Reads, Amends}
 use Rattle.metering_model.specs.BatchReading.{lines_in}
-use Rattle.metering_model.specs.Holding.{Position, placed}
+use Rattle.metering_model.specs.Holding.{placed}
 use Rattle.metering_model.specs.ValueAtSequence.{value_given_by}
 use Rattle.record_view.specs.declared.fields.Span.{Span}
 use Rattle.batch_view.specs.declared.owned.Amendment.{Amendment}

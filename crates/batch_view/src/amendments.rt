@@ -1,10 +1,10 @@
 //! The amendments of a batch, sorted, and the latest start of its readings.
 
-ghost use Rattle.std.specs.Prelude.{◌≡◌, ◌≤◌, ◌&&◌, length, All, IfOk, OnOk, IfSome, int_lt, ℤ, ◌++◌, []};
+ghost use Rattle.std.specs.Prelude.{◌≡◌, ◌≤◌, ◌&&◌, length, All, IfOk, OnOk, IfSome, MatchOption, int_lt, ℤ, ◌++◌, []};
 ghost use Rattle.std.specs.List.{list_all, cons_option};
 ghost use Rattle.std.specs.List.Sorted.{IsPermutation, IsNonDecreasingBy};
 ghost use Rattle.batch_view.specs.Inner.Kept.{is_before};
-ghost use Rattle.batch_view.specs.Inner.Amended.{amendment_found, amendments_kept, rank, IsSmall, entry_before};
+ghost use Rattle.batch_view.specs.Inner.Amended.{amendment_found, amendments_kept, rank, rank_of, IsSmall, Names, IsPointOf, IsLastNamed, entry_before};
 
 use crate::entries::{Entry, Found};
 use crate::owned::Amendment;
@@ -12,10 +12,10 @@ use record_view::Stamp;
 use std::alloc::{AllocError, Global};
 
 /// A number that rises with the position that an amendment names, and then with its own index.
-fn rank(amendment: Amendment) -> u64
-    ensures { result ≡ rank amendment }
+fn rank(seq: u32, index: u16, own: u16) -> u64
+    ensures { result ≡ rank_of seq index own }
 {
-    (u64::from(amendment.seq) * 65_536 + u64::from(amendment.index)) * 65_536 + u64::from(amendment.own)
+    (u64::from(seq) * 65_536 + u64::from(index)) * 65_536 + u64::from(own)
 }
 
 /// How many of the records are amendments.
@@ -75,11 +75,15 @@ fn sort(amendments: &mut Vec<Amendment>)
     ensures small { All IsSmall amendments.new.items }
     ensures rising { IsNonDecreasingBy rank amendments.new.items }
 {
-    amendments.sort_unstable_by_key(|amendment| rank(*amendment));
+    amendments.sort_unstable_by_key(|a| rank(a.seq, a.index, a.own));
 }
 
 /// The amendments among the records, sorted by the position that each names, and then by their own index.
-pub(crate) fn sorted_amendments(alloc: Global, entries: &[Entry], count: u16) -> Result<Vec<Amendment>, AllocError>
+pub(crate) fn sorted_amendments(
+    alloc: Global,
+    entries: &[Entry],
+    count: u16,
+) -> Result<Vec<Amendment>, AllocError>
     requires { length entries.now ≡ count }
     ensures all { IfOk result (λ found. IsPermutation (amendments_kept entries.now) found.items) }
     ensures small { IfOk result (λ found. All IsSmall found.items) }
@@ -88,6 +92,36 @@ pub(crate) fn sorted_amendments(alloc: Global, entries: &[Entry], count: u16) ->
     let mut found = amendments_of(alloc, entries, count)?;
     sort(&mut found);
     Ok(found)
+}
+
+/// How many of sorted amendments name this position or one before it.
+fn end_of_position(sorted: &[Amendment], seq: u32, index: u16) -> usize
+    requires { IsNonDecreasingBy rank sorted.now }
+    ensures within { result ≤ length sorted.now }
+    ensures point { IsPointOf seq index sorted.now result }
+{
+    let top = rank(seq, index, u16::MAX);
+    sorted.partition_point(|a| rank(a.seq, a.index, a.own) <= top)
+}
+
+/// The last of sorted amendments that names this position, if one does.
+pub(crate) fn last_amendment(sorted: &[Amendment], seq: u32, index: u16) -> Option<Amendment>
+    requires small { All IsSmall sorted.now }
+    requires rising { IsNonDecreasingBy rank sorted.now }
+    ensures { MatchOption result
+        (All (λ a. Names seq index a → ⊥) sorted.now)
+        (λ last. IsLastNamed sorted.now seq index last) }
+{
+    let behind = end_of_position(sorted, seq, index);
+    if behind == 0 {
+        return None;
+    }
+    let last = sorted[behind - 1];
+    if last.seq == seq && last.index == index {
+        Some(last)
+    } else {
+        None
+    }
 }
 
 /// The later of a start and the latest one, if there was one.
@@ -111,4 +145,14 @@ pub(crate) fn latest_start(entries: &[Entry]) -> Option<Stamp>
         }
     }
     latest
+}
+
+/// Whether the latest start, if there is one, is before that moment.
+pub(crate) fn is_before(latest: Option<Stamp>, moment: Stamp) -> bool
+    ensures { result ≡ is_before moment latest }
+{
+    match latest {
+        Some(latest) => latest < moment,
+        None => true,
+    }
 }

@@ -1,7 +1,7 @@
 //! What is kept of each record, made when a batch is read.
 
-ghost use Rattle.std.specs.Prelude.{◌≡◌, ◌≤◌, ◌+◌, length, take, drop, slice_range, Ok, Err, IsOk, IfOk, IfErr, MatchResult};
-ghost use Rattle.std.specs.List.{list_all};
+ghost use Rattle.std.specs.Prelude.{◌≡◌, ◌≤◌, ◌+◌, length, take, drop, slice_range, Ok, Err, IsOk, IfOk, IfErr, MatchResult, MatchOption};
+ghost use Rattle.std.specs.List.{list_all, slice_get};
 ghost use Rattle.metering_model.specs.BatchReading.{batch_in, lines_in, records_in, record_in, fields_in};
 ghost use Rattle.record_view.specs.Lent.{record_of, IsLentRecord};
 ghost use Rattle.record_view.specs.Spans.{spans_at};
@@ -40,6 +40,29 @@ pub(crate) struct Entry {
 }
 
 const _: () = prove!(size_of::<Entry>() <= 104);
+
+/// How many fields the record has.
+pub(crate) fn field_total(found: Found) -> usize
+    ensures value { result ≡ field_total found }
+    ensures range { result ≤ 9 }
+{
+    match found {
+        Found::Reading { .. } => 9,
+        Found::Amend { .. } => 4,
+    }
+}
+
+/// What is kept of the record at that index.
+pub(crate) fn entry_at(entries: &[Entry], index: u16) -> Option<&Entry>
+    ensures { MatchOption result (length entries.now ≤ index) (λ e. slice_get entries.now index ≡ Some e.now) }
+{
+    let at = usize::from(index);
+    if at < entries.len() {
+        Some(&entries[at])
+    } else {
+        None
+    }
+}
 
 /// Whether neither CSV nor JSON quotes or escapes any byte of the text. Each byte is looked at, for want of a branch
 /// in the loop.
@@ -94,10 +117,7 @@ pub(crate) fn entry_from(text: &[u8], from: u32) -> Result<(Entry, u32), BatchCo
 {
     match record_from(text, from) {
         Ok((record, next)) => {
-            let line = Span {
-                from,
-                to: next - 1,
-            };
+            let line = Span { from, to: next - 1 };
             Ok((entry_of(text, line, &record), next))
         }
         Err(code) => Err(code),

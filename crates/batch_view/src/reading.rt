@@ -23,7 +23,12 @@ pub(crate) enum Unkept {
 }
 
 /// Reads so many records, the first of them on line 2 and at `from`, and answers where they end.
-fn keep_entries(alloc: Global, text: &[u8], from: u32, count: u16) -> Result<(Vec<Entry>, u32), Unkept>
+fn keep_entries(
+    alloc: Global,
+    text: &[u8],
+    from: u32,
+    count: u16,
+) -> Result<(Vec<Entry>, u32), Unkept>
     requires behind { IsBehindLines text.now 1 from }
     requires short { length text.now ≤ 65536 }
     ensures { MatchResult result

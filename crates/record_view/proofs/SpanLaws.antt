@@ -135,10 +135,10 @@ nine_spans source line r ordered within places =
       are = ap (map span_of) n.are
           ∙ ap₂ (λ a b. record { from = a; to = b } ∷ others n) adjoin.0 letter_ends
           ∙ ap₂ (λ a b. first ∷ r.start_text.span ∷ r.end_text.span ∷ r.account.span ∷ r.resource.span ∷ r.key.span
-              ∷ record { from = a; to = b } ∷ r.commitment.span ∷ span_of n.tags ∷ []) value value_ends
+          ∷ record { from = a; to = b } ∷ r.commitment.span ∷ span_of n.tags ∷ []) value value_ends
           ∙ ap₂ (λ a b. first ∷ r.start_text.span ∷ r.end_text.span ∷ r.account.span ∷ r.resource.span ∷ r.key.span
-              ∷ record { from = r.key.span.to + 1; to = r.commitment.span.from - 1 } ∷ r.commitment.span
-              ∷ record { from = a; to = b } ∷ []) tags end;
+          ∷ record { from = r.key.span.to + 1; to = r.commitment.span.from - 1 } ∷ r.commitment.span
+          ∷ record { from = a; to = b } ∷ []) tags end;
     }
   where
     first : Span

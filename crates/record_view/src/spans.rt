@@ -42,15 +42,15 @@ fn amendment_spans(source: &[u8], line: Span) -> Option<[Span; 9]>
 
 /// The spans of the fields of a record that was read from that line, from left to right: nine of a reading, four of an
 /// amendment, with nothing meant by those behind them. A reading isn't looked through again.
-pub fn field_spans(source: &[u8], line: Span, record: &Record<'_>) -> [Span; 9]
+pub fn field_spans(source: &[u8], line: Span, what: &Record<'_>) -> [Span; 9]
     requires ordered { line.from ≤ line.to }
     requires within { line.to ≤ length source.now }
     requires short { length source.now ≤ 65536 }
-    requires read { record_in (fields_in (slice_range source.now line.from line.to)) ≡ Ok (record_of record.now) }
-    requires lent { IsLentRecord source.now line record.now }
-    ensures { take (field_count record.now) result ≡ spans_at source.now line }
+    requires read { record_in (fields_in (slice_range source.now line.from line.to)) ≡ Ok (record_of what.now) }
+    requires lent { IsLentRecord source.now line what.now }
+    ensures { take (field_count what.now) result ≡ spans_at source.now line }
 {
-    match record {
+    match what {
         Record::Reading(reading) => [
             Span {
                 from: line.from,

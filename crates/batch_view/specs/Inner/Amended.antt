@@ -1,6 +1,7 @@
 -- Amendments and latest starts, as the entries tell them.
-use Rattle.std.specs.Prelude.{ℕ, ◌+◌, ◌*◌, ◌<◌, Bool, true, List, Option, Some, None, ℤ, int_lt}
-use Rattle.std.specs.List.{filter_map, enumerate_from}
+use Rattle.std.specs.Prelude.{◌≡◌, ℕ, ◌+◌, ◌*◌, ◌<◌, ◌≤◌, nat_le, All, Bool, true, false, List, Option, Some, None, ℤ, int_lt}
+use Rattle.std.specs.List.{Contains, filter_map, enumerate_from}
+use Rattle.std.specs.List.Sorted.{IsPartitionPoint}
 use Rattle.batch_view.specs.declared.entries.Found.{Found}
 use Rattle.batch_view.specs.declared.entries.Found.TheVariants.{Reading, Amend}
 use Rattle.batch_view.specs.declared.entries.Entry.{Entry}
@@ -15,8 +16,26 @@ abbrev pub amendments_kept : List Entry → List Amendment
 amendments_kept es = filter_map (λ p. amendment_found p.0 p.1.value p.1.found) (enumerate_from 0 es)
 
 -- a number that rises with the position that an amendment names, and then with its own index
+abbrev pub rank_of : (seq index own : ℕ) → ℕ
+rank_of seq index own = (seq * 65_536 + index) * 65_536 + own
+
 abbrev pub rank : Amendment → ℕ
-rank a = (a.seq * 65_536 + a.index) * 65_536 + a.own
+rank a = rank_of a.seq a.index a.own
+
+-- the amendment names that position of its agent
+abbrev pub Names : ℕ → ℕ → Amendment → Type 0
+Names seq index a = (a.seq ≡ seq) × (a.index ≡ index)
+
+-- those before the place have a rank up to the greatest of the position, and the others a greater one
+abbrev pub IsPointOf : ℕ → ℕ → List Amendment → ℕ → Type 0
+IsPointOf seq index xs b =
+    IsPartitionPoint (λ y. nat_le (rank y) (rank_of seq index 65_535) ≡ true) (λ y. nat_le (rank y) (rank_of seq index 65_535) ≡ false) xs b
+
+-- It names the position, and none that does stands behind it in the batch.
+pub record IsLastNamed (sorted : List Amendment) (seq index : ℕ) (last : Amendment) : Type 0 where
+  pub found : Contains sorted last
+  pub named : Names seq index last
+  pub others : All (λ a. Names seq index a → a.own ≤ last.own) sorted
 
 -- its rank tells its parts
 abbrev pub IsSmall : Amendment → Type 0

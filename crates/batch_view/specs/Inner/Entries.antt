@@ -1,5 +1,5 @@
 -- What is kept of each record of a batch.
-use Rattle.std.specs.Prelude.{◌≡◌, ℕ, ◌+◌, ◌≤◌, not, ◌&&◌, ◌==◌, Bool, nat_le, List, length, take, drop, slice_range, Some, Ok, ℤ}
+use Rattle.std.specs.Prelude.{◌≡◌, ℕ, ◌+◌, ◌≤◌, List, length, take, drop, slice_range, Some, Ok, ℤ}
 use Rattle.std.specs.List.{slice_get, list_all}
 use Rattle.metering_model.specs.Batch.{Record, Reads, Amends}
 use Rattle.metering_model.specs.BatchReading.{lines_in, record_in, fields_in}

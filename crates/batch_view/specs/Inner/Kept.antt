@@ -1,11 +1,13 @@
 -- What a batch keeps, and why nothing is kept.
-use Rattle.std.specs.Prelude.{◌≡◌, ℕ, ◌+◌, List, length, drop, IsOk, Option, Some, None, ℤ, int_lt, Bool, true}
+use Rattle.std.specs.Prelude.{◌≡◌, ℕ, ◌+◌, List, length, drop, IsOk, Option, Some, None, ℤ, int_lt, Bool, true, All}
 use Rattle.std.specs.List.{list_all}
 use Rattle.metering_model.specs.BatchReading.{lines_in, records_in}
 use Rattle.metering_model.specs.Front.{starts_before}
 use Rattle.metering_model.specs.declared.BatchFault.{BatchFault}
 use Rattle.batch_view.specs.Batches.{batch_of}
 use Rattle.batch_view.specs.Kept.{AreAmendmentsOf}
+use Rattle.std.specs.List.Sorted.{IsNonDecreasingBy}
+use Rattle.batch_view.specs.Inner.Amended.{rank, IsSmall}
 use Rattle.batch_view.specs.Inner.Lines.{IsBehindLines, IsHeadOf}
 use Rattle.batch_view.specs.Inner.Entries.{AreEntries, AreAllEntries}
 use Rattle.batch_view.specs.declared.entries.Entry.{Entry}
@@ -40,4 +42,6 @@ is_before moment (Some latest) = int_lt latest moment
 pub record KeepsParts (bytes : List ℕ) (h : Head) (es : List Entry) (sorted : List Amendment) (latest : Option ℤ) : Type 0 where
   pub batch : KeepsBatch bytes h es
   pub amendments : AreAmendmentsOf (batch_of bytes) sorted
+  pub small : All IsSmall sorted
+  pub rising : IsNonDecreasingBy rank sorted
   pub starts : (moment : ℤ) → list_all (starts_before moment) (batch_of bytes).records ≡ is_before moment latest

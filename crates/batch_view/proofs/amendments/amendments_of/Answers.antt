@@ -1,6 +1,6 @@
-use Rattle.std.proofs.Common.{◌≡◌, ◌+◌, ◌<◌, [], ◌∷◌, ◌++◌, All, take, ap, ap₂, ◌∙◌, subst, sym, arith, get_or}
+use Rattle.std.proofs.Common.{◌≡◌, [], ◌++◌, All, ap, ap₂, ◌∙◌, subst, sym, arith, get_or}
 use Rattle.std.specs.List.{cons_option}
-use Rattle.batch_view.specs.Inner.Amended.{amendment_found, amendments_kept, IsSmall}
+use Rattle.batch_view.specs.Inner.Amended.{IsSmall}
 use Rattle.batch_view.proofs.AmendedLemmas.{kept_take, small_more}
 use Rattle.batch_view.proofs.amendments.amendments_of.Goals as goal
 

@@ -1,4 +1,4 @@
-use Rattle.std.proofs.Common.{◌≡◌, ◌+◌, Err, ap, sym, ◌∙◌, arith}
+use Rattle.std.proofs.Common.{◌≡◌, ◌+◌, Err, ap, ◌∙◌, arith}
 use Rattle.metering_model.specs.declared.BatchCode.TheVariants.{Count}
 use Rattle.batch_view.proofs.RecordLemmas.{ok_is}
 use Rattle.batch_view.proofs.BatchLemmas.{end_fault, is_batch}

@@ -1,5 +1,4 @@
-use Rattle.std.proofs.Common.{◌≡◌, ◌+◌, List, ◌∷◌, ◌++◌, [], true, not, Err, ap, ◌∙◌, subst, sym, arith}
-use Rattle.std.specs.Prelude.{is_ok}
+use Rattle.std.proofs.Common.{◌≡◌, ◌+◌, not, Err, ap, ◌∙◌, subst, sym, arith}
 use Rattle.batch_view.specs.Inner.Kept.{KeepsEntries}
 use Rattle.batch_view.proofs.EntryLemmas.{keeps_more, keeps_fault}
 use Rattle.batch_view.proofs.reading.keep_entries.Goals as goal

@@ -1,6 +1,6 @@
 -- What a reading lends, and where its line ends, tell where its other fields stand.
-use Rattle.std.proofs.Common.{◌≡◌, Ok, sym, ap, subst, ◌∙◌, arith, rules}
-use Rattle.record_view.specs.Lent.{reading_texts, record_texts, lent_fields, fields_at, record_of}
+use Rattle.std.proofs.Common.{Ok, sym, ap, ◌∙◌, arith}
+use Rattle.record_view.specs.Lent.{record_texts, record_of}
 use Rattle.record_view.proofs.SpanLaws.{NineSpans, nine_spans, four_fields_of}
 use Rattle.record_view.proofs.spans.field_spans.Goals as goal
 
@@ -15,7 +15,7 @@ overflow_sub-result c = let s = spans c in omega (arith, s.start_behind)
 pub returns-in-Reading : goal.returns-in-Reading
 returns-in-Reading c =
     let s = nine_spans c.args.source.now c.args.line c.in-Reading.reading c.requires.ordered c.requires.within
-        (sym (ap record_texts c.in-Reading.is) ∙ c.requires.lent.places) in
+    (sym (ap record_texts c.in-Reading.is) ∙ c.requires.lent.places) in
     rw c.in-Reading.is (sym s.are)
 
 pub unreachable-requires : goal.unreachable-requires
