@@ -9,3 +9,5 @@ pub mod LentLaws
 pub mod RecordLaws
 pub mod LineLaws
 pub mod TagsHold
+pub mod FirstPlace
+pub mod PlainLaws

@@ -14,6 +14,7 @@ mod digits;
 mod fields;
 pub mod laws;
 mod numbers;
+mod plain;
 mod records;
 mod tags;
 mod wholes;
