@@ -10,3 +10,5 @@ pub mod RecordLaws
 pub mod LineLaws
 pub mod TagsHold
 pub mod SpanLaws
+pub mod FirstPlace
+pub mod PlainLaws

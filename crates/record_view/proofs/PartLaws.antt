@@ -1,5 +1,5 @@
 -- A text is split at the first byte of a kind: its parts are what stands before it, and the parts of the rest.
-use Rattle.std.proofs.Common.{◌≡◌, ℕ, ◌+◌, ◌-◌, ◌<◌, ◌==◌, ◌||◌, Bool, true, false, not, cond, nat_lt, Some, None, is_some, List, [], ◌∷◌, length, take, drop, refl, sym, ap, subst, ◌∙◌, arith, length-drop}
+use Rattle.std.proofs.Common.{◌≡◌, ℕ, ◌+◌, ◌-◌, ◌<◌, ◌==◌, ◌||◌, Bool, true, false, not, cond, nat_lt, Some, None, is_some, List, [], ◌∷◌, length, take, drop, refl, sym, ap, ap₂, subst, ◌∙◌, arith, length-drop}
 use Rattle.std.specs.List.{list_any, position, position_or_len, before_first, after_first, slice_split, onto_first, count_by}
 use Rattle.std.proofs.lemmas.Bool.{or_parts, ltb-true}
 use Rattle.std.proofs.lemmas.Bool.Decides.{nat_tests}
@@ -7,7 +7,7 @@ use Rattle.std.proofs.lemmas.Option.{cond_some}
 use Rattle.std.proofs.lemmas.List.{length-take-le, take_all}
 use Rattle.std.proofs.lemmas.List.Splits.{slice_split_first, slice_split-cons_no, length-slice_split}
 use Rattle.record_view.specs.Parts.{LentText, part_before, part_after, placed_from, parts_at}
-use Rattle.record_view.specs.Inner.Placed.{IsPlaced}
+use Rattle.record_view.specs.Inner.Placed.{IsPlaced, front_of, back_of}
 
 module _ {X : Type 0} (p : X → Bool) where
   -- the first such element stands within a list that has one
@@ -75,11 +75,27 @@ texts_found byte i t h =
     let same = sym (found_at (λ c. c == byte) t.text i h).0 in
     (ap (λ n. record { text = take n t.text; from = t.from; to = t.from + n }) same, ap (λ n. record { text = drop (n + 1) t.text; from = t.from + n + 1; to = t.to }) same)
 
-pub placed_found : (byte i : ℕ) (t : LentText) → IsPlaced t → position (λ c. c == byte) t.text ≡ Some i
-    → IsPlaced (record { text = take i t.text; from = t.from; to = t.from + i }) × IsPlaced (record { text = drop (i + 1) t.text; from = t.from + i + 1; to = t.to })
-placed_found byte i t placed h =
-    let within = (found_at (λ c. c == byte) t.text i h).1 in
-    (record { fits = omega (arith, length-take-le i t.text (omega arith)) }, record { fits = omega (arith, placed.fits, length-drop (i + 1) t.text) })
+-- the same of two texts that are what stands before and behind it
+pub parts_cut : (byte i : ℕ) (t a b : LentText) → a ≡ front_of i t → b ≡ back_of i t → position (λ c. c == byte) t.text ≡ Some i
+    → parts_at byte t ≡ a ∷ parts_at byte b
+parts_cut byte i t a b front back h = parts_found byte i t h ∙ ap₂ (λ x y. x ∷ parts_at byte y) (sym front) (sym back)
+
+pub texts_cut : (byte i : ℕ) (t a b : LentText) → a ≡ front_of i t → b ≡ back_of i t → position (λ c. c == byte) t.text ≡ Some i
+    → (a ≡ part_before byte t) × (b ≡ part_after byte t)
+texts_cut byte i t a b front back h =
+    let found = texts_found byte i t h in
+    (front ∙ found.0, back ∙ found.1)
+
+pub placed_cut : (i : ℕ) (t a b : LentText) → a ≡ front_of i t → b ≡ back_of i t → IsPlaced t → i < length t.text → IsPlaced a × IsPlaced b
+placed_cut i t a b front back placed within =
+    let before : IsPlaced (front_of i t) = record { fits = omega (arith, length-take-le i t.text (omega arith)) } in
+    let after : IsPlaced (back_of i t) = record { fits = omega (arith, placed.fits, length-drop (i + 1) t.text) } in
+    (subst IsPlaced (sym front) before, subst IsPlaced (sym back) after)
+
+pub shorter_cut : (i : ℕ) (t a b : LentText) → a ≡ front_of i t → b ≡ back_of i t → i < length t.text
+    → length a.text + length b.text + 1 ≡ length t.text
+shorter_cut i t a b front back within =
+    omega (arith, ap (λ x. length x.text) front, ap (λ x. length x.text) back, length-take-le i t.text (omega arith), length-drop (i + 1) t.text)
 
 -- a list from an index to its end
 pub tail_whole : (xs : List ℕ) (i : ℕ) → take (length xs - i) (drop i xs) ≡ drop i xs

@@ -1,11 +1,12 @@
 -- Which record a line's fields give, by their number and their letter.
-use Rattle.std.proofs.Common.{◌≡◌, ◌≢◌, ℕ, ◌==◌, true, false, List, [], ◌∷◌, length, Ok, Err, None, ℤ, refl, ap, ◌∙◌, codes, ok_or}
+use Rattle.std.proofs.Common.{◌≡◌, ◌≢◌, ℕ, ◌==◌, true, false, List, [], ◌∷◌, length, Ok, Err, Option, Some, None, is_some, ℤ, refl, ap, ◌∙◌, codes, ok_or}
 use Rattle.std.proofs.lemmas.Bool.{false≢true, and_parts, eqb-true}
 use Rattle.metering_model.specs.FirstFailure.{◌>>=◌, holds_or}
-use Rattle.metering_model.specs.declared.BatchCode.TheVariants.{Fields}
+use Rattle.metering_model.specs.declared.BatchCode.TheVariants.{Fields, Time, Text, Tags}
 use Rattle.metering_model.specs.declared.Kind.{Kind}
-use Rattle.metering_model.specs.Batch.{Tag, Reads}
-use Rattle.metering_model.specs.BatchReading.{is_same, kind_in, record_in}
+use Rattle.metering_model.specs.Batch.{Tag, Reads, is_text}
+use Rattle.metering_model.specs.Dates.{stamp_in}
+use Rattle.metering_model.specs.BatchReading.{is_same, kind_in, tags_in, record_in}
 use Rattle.record_view.specs.Inner.RecordSteps.{kind_step, stamp_step, order_step, text_step, key_step, value_step, sign_step, commitment_step, tags_step, whole_step, reading_in, amendment_in}
 
 pub nine_fields : (letter start end account resource key value commitment tags : List ℕ)
@@ -44,6 +45,24 @@ pub all_steps : (letter start end account resource key value commitment tags : L
 unfolding reading_in
 all_steps letter start end account resource key value commitment tags k s e v ts h1 h2 h3 h4 h5 h6 h7 h8 h9 h10 h11 =
     rw h1 (rw h2 (rw h3 (rw h4 (rw h5 (rw h6 (rw h7 (rw h8 (rw h9 (rw h10 (rw h11 refl))))))))))
+
+-- ---- steps that are met
+
+pub stamp_met : (t : List ℕ) (n : ℤ) → stamp_step t ≡ Ok n → is_some (stamp_in t) ≡ true
+unfolding stamp_step
+stamp_met t n h = by_stamp (stamp_in t) h
+  where
+    by_stamp : (o : Option ℤ) → ok_or o Time ≡ Ok n → is_some o ≡ true
+    by_stamp None e = absurd (cc)
+    by_stamp (Some m) e = refl
+
+pub text_met : (t : List ℕ) → is_text t ≡ true → text_step t ≡ Ok tt
+unfolding text_step
+text_met t h = ap (λ b. holds_or b Text) h
+
+pub tags_met : (t : List ℕ) (ts : List Tag) → tags_in t ≡ Some ts → tags_step t ≡ Ok ts
+unfolding tags_step
+tags_met t ts h = ap (λ o. ok_or o Tags) h
 
 -- the letter of an amendment is that of no kind
 amendment_letter : (letter : List ℕ) → is_same letter (codes "X") ≡ true → kind_in letter ≡ None

@@ -7,9 +7,10 @@ use Rattle.std.proofs.lemmas.Option.{cond_some}
 use Rattle.metering_model.specs.Batch.{Tag, is_text, is_empty, is_below, keys_rise}
 use Rattle.metering_model.specs.BatchReading.{is_equals_sign, tag_in, tags_in, with_first, all_some, if_rising}
 use Rattle.record_view.specs.Parts.{LentText, placed_from, parts_at}
-use Rattle.record_view.specs.Inner.Placed.{texts_of}
+use Rattle.record_view.specs.Inner.Placed.{IsPlaced, texts_of}
 use Rattle.record_view.specs.TagTexts.{tag_of, lent_tag, unless_empty, tags_at}
 use Rattle.record_view.specs.Inner.TagPieces.{are_tags, key_in, if_above, rise_from, IsFirstPiece}
+use Rattle.record_view.proofs.PartLaws.{parts_whole}
 
 -- ---- one tag
 
@@ -269,3 +270,12 @@ all_have_equals last (p ∷ ps) h = by_tag (tag_in p.text) refl (λ key. all_hav
         → rise_from (if_above last (option_map (λ t. t.key) o)) ps ≡ true → AllHaveEquals (p ∷ ps)
     by_tag None is others rises = absurd (false≢true rises)
     by_tag (Some tag) is others rises = by_test tag is others (is_below last tag.key) rises
+
+-- the last piece rises above the key before it just if it is a tag with a key above that one
+pub last_rises : (last : List ℕ) (t : LentText) → IsPlaced t → list_any (λ c. c == 59) t.text ≡ false
+    → rise_from (Some last) (parts_at 59 t) ≡ is_some (if_above last (key_in t.text))
+last_rises last t placed none = ap (rise_from (Some last)) (parts_whole 59 t placed none) ∙ at_end (if_above last (key_in t.text))
+  where
+    at_end : (o : Option (List ℕ)) → rise_from o [] ≡ is_some o
+    at_end None = refl
+    at_end (Some key) = refl

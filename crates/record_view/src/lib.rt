@@ -15,6 +15,7 @@ mod digits;
 mod fields;
 pub mod laws;
 mod numbers;
+mod plain;
 mod records;
 mod spans;
 mod tags;

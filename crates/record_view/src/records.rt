@@ -2,7 +2,7 @@
 
 ghost use Rattle.std.specs.Prelude.{◌≡◌, ◌≢◌, ◌≤◌, ◌∷◌, [], length, map, slice_range, IsTrue, OnOk, IfOk, IfErr, IfSome, IfNone, MatchResult, Ok, Err, true, false, ℕ, List, codes};
 ghost use Rattle.metering_model.specs.FirstFailure.{holds_or};
-ghost use Rattle.metering_model.specs.Batch.{is_priced};
+ghost use Rattle.metering_model.specs.Batch.{is_priced, is_text};
 ghost use Rattle.metering_model.specs.BatchReading.{is_same, kind_in, record_in, fields_in};
 ghost use Rattle.record_view.specs.Parts.{LentText, AreLentApart, lent, parts_at};
 ghost use Rattle.record_view.specs.Inner.Placed.{IsPlaced, texts_of};
@@ -10,12 +10,13 @@ ghost use Rattle.record_view.specs.TagTexts.{tag_of, tags_at};
 ghost use Rattle.record_view.specs.Inner.TagPieces.{are_tags};
 ghost use Rattle.record_view.specs.Inner.RecordSteps.{kind_step, stamp_step, order_step, text_step, key_step, value_step, sign_step, commitment_step, tags_step, whole_step};
 ghost use Rattle.record_view.specs.Lent.{lent_tags, reading_tags, record_of, record_texts, lent_fields, IsLentRecord};
-ghost use Rattle.record_view.specs.Inner.LineFields.{reading_parts, amendment_parts, field_texts, record_of_reading, record_of_amendment};
+ghost use Rattle.record_view.specs.Inner.LineFields.{reading_parts, amendment_parts, field_texts, record_of_reading, record_of_amendment, HaveStamps, ArePlainFields};
 
 use crate::dates::Stamp;
 use crate::fields::{Field, Span, field_at, is_text, split_at_byte};
 use crate::numbers::read_value;
-use crate::tags::Tags;
+use crate::plain::{split_plain, split_stamp};
+use crate::tags::{Tags, are_plain_tags};
 use crate::wholes::read_whole;
 use fx_money::Value;
 use metering_model::{BatchCode, Kind};
@@ -308,8 +309,8 @@ fn amendment_behind<'a>(letter: &[u8], rest: Field<'_>) -> Result<Record<'a>, Ba
     }
 }
 
-/// The record of a reading's line, from what stands behind its letter.
-fn reading_behind<'a>(letter: &[u8], rest: Field<'a>) -> Result<Record<'a>, BatchCode>
+/// The record of any reading's line, from what stands behind its letter.
+fn exact_reading<'a>(letter: &[u8], rest: Field<'a>) -> Result<Record<'a>, BatchCode>
     requires placed { IsPlaced (lent rest) }
     requires letter { is_same letter.now (codes "X") ≡ false }
     ensures ok { IfOk result (λ r.
@@ -326,6 +327,127 @@ fn reading_behind<'a>(letter: &[u8], rest: Field<'a>) -> Result<Record<'a>, Batc
     match reading_fields(rest) {
         Some(fields) => read_reading(letter, &fields),
         None => Err(BatchCode::Fields),
+    }
+}
+
+// ---- a line of plain bytes, in one pass
+
+/// The fields of a reading, where those that hold texts and tags are plain, and each stamp has the
+/// length of one.
+#[inline(always)]
+fn plain_fields<'a>(rest: Field<'a>) -> Option<ReadingFields<'a>>
+    requires { IsPlaced (lent rest) }
+    ensures parts { IfSome result (λ f. HaveStamps f → parts_at 124 (lent rest.entry) ≡ reading_parts f) }
+    ensures plain { IfSome result ArePlainFields }
+{
+    let (start, rest) = split_stamp(rest)?;
+    let (end, rest) = split_stamp(rest)?;
+    let (account, rest) = split_plain(rest, b'|')?;
+    let (resource, rest) = split_plain(rest, b'|')?;
+    let (key, rest) = split_plain(rest, b'|')?;
+    let (value, rest) = split_plain(rest, b'|')?;
+    let (commitment, tags) = split_plain(rest, b'|')?;
+    if are_plain_tags(tags) {
+        Some(ReadingFields {
+            start,
+            end,
+            account,
+            resource,
+            key,
+            value,
+            commitment,
+            tags,
+        })
+    } else {
+        None
+    }
+}
+
+#[tactic(auto, unfolding(crate::specs::Inner::RecordSteps::key_step))]
+fn check_plain_key(text: &[u8]) -> Result<(), BatchCode>
+    requires { IsTrue (is_text text.now) }
+    ensures { result ≡ key_step text.now }
+{
+    holds_or(!text.is_empty(), BatchCode::Text)
+}
+
+#[tactic(auto, unfolding(crate::specs::Inner::RecordSteps::commitment_step))]
+fn check_plain_commitment(kind: Kind, text: &[u8]) -> Result<(), BatchCode>
+    requires { IsTrue (is_text text.now) }
+    ensures { result ≡ commitment_step kind text.now }
+{
+    holds_or(is_priced(kind) || text.is_empty(), BatchCode::Text)
+}
+
+/// The reading of plain plain. At an error nothing is said of them.
+#[inline(always)]
+fn plain_reading<'a>(letter: &[u8], plain: &ReadingFields<'a>) -> Result<Record<'a>, BatchCode>
+    requires { ArePlainFields plain.now }
+    ensures stamps { OnOk result (HaveStamps plain.now) }
+    ensures ok { IfOk result (λ r. record_of_reading letter.now plain.now ≡ Ok (record_of r)) }
+    ensures lent { IfOk result (λ r. record_texts r ≡ field_texts plain.now) }
+{
+    let kind = read_kind(letter)?;
+    let start = read_stamp(plain.start.text)?;
+    let end = read_stamp(plain.end.text)?;
+    check_order(start, end)?;
+    check_plain_key(plain.key.text)?;
+    let value = read_number(plain.value.text)?;
+    check_sign(kind, value)?;
+    check_plain_commitment(kind, plain.commitment.text)?;
+    let tags = Tags::known(plain.tags);
+    Ok(Record::Reading(Reading {
+        kind,
+        start,
+        end,
+        start_text: plain.start,
+        end_text: plain.end,
+        account: plain.account,
+        resource: plain.resource,
+        key: plain.key,
+        value,
+        commitment: plain.commitment,
+        tags,
+    }))
+}
+
+/// The record of a reading's line of plain bytes, from what stands behind its letter.
+fn plain_record<'a>(letter: &[u8], rest: Field<'a>) -> Option<Record<'a>>
+    requires { IsPlaced (lent rest) }
+    ensures ok { IfSome result (λ r.
+        record_in (letter.now ∷ texts_of (parts_at 124 (lent rest.entry))) ≡ Ok (record_of r)) }
+    ensures places { IfSome result (λ r. (letter : LentText) →
+        record_texts r ≡ lent_fields (letter ∷ parts_at 124 (lent rest.entry))) }
+    ensures lent { IfSome result (λ r. (source : List ℕ) (from to : ℕ) →
+        AreLentApart source from to (parts_at 124 (lent rest.entry))
+        → AreLentApart source from to (record_texts r)) }
+{
+    let fields = plain_fields(rest)?;
+    match plain_reading(letter, &fields) {
+        Ok(record) => Some(record),
+        Err(_) => None,
+    }
+}
+
+/// The record of a reading's line, from what stands behind its letter. What is not plain is read
+/// field by field, for its first fault.
+fn reading_behind<'a>(letter: &[u8], rest: Field<'a>) -> Result<Record<'a>, BatchCode>
+    requires placed { IsPlaced (lent rest) }
+    requires letter { is_same letter.now (codes "X") ≡ false }
+    ensures ok { IfOk result (λ r.
+        record_in (letter.now ∷ texts_of (parts_at 124 (lent rest.entry))) ≡ Ok (record_of r)) }
+    ensures err { IfErr result (λ e.
+        record_in (letter.now ∷ texts_of (parts_at 124 (lent rest.entry))) ≡ Err e) }
+    ensures places { IfOk result (λ r. (letter : LentText) →
+        record_texts r ≡ lent_fields (letter ∷ parts_at 124 (lent rest.entry))) }
+    // What it lends is lent by the parts.
+    ensures lent { IfOk result (λ r. (source : List ℕ) (from to : ℕ) →
+        AreLentApart source from to (parts_at 124 (lent rest.entry))
+        → AreLentApart source from to (record_texts r)) }
+{
+    match plain_record(letter, rest) {
+        Some(record) => Ok(record),
+        None => exact_reading(letter, rest),
     }
 }
 

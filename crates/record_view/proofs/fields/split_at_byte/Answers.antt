@@ -2,7 +2,7 @@
 use Rattle.std.proofs.Common.{◌≡◌, ◌==◌, ◌∙◌, sym, ap, false, is_some}
 use Rattle.std.specs.List.{list_any}
 use Rattle.record_view.specs.Parts.{lent}
-use Rattle.record_view.proofs.PartLaws.{found_any, parts_whole, parts_found, texts_found, placed_found, tail_whole}
+use Rattle.record_view.proofs.PartLaws.{found_any, found_at, parts_whole, parts_cut, texts_cut, placed_cut, shorter_cut}
 use Rattle.record_view.proofs.fields.split_at_byte.Goals as goal
 
 pub returns-in_err-position-clause-found : goal.returns-in_err-position-clause-found
@@ -22,12 +22,18 @@ returns-clause-found c =
 
 pub returns-clause-parts : goal.returns-clause-parts
 returns-clause-parts c =
-    rw tail_whole (parts_found c.args.byte c.in_ok-position.position (lent c.args.whole) (sym c.in_ok-position.ensures))
+    parts_cut c.args.byte c.in_ok-position.position (lent c.args.whole) _ _ c.cut.ensures.before c.cut.ensures.after (sym c.in_ok-position.ensures)
 
 pub returns-clause-texts : goal.returns-clause-texts
 returns-clause-texts c =
-    rw tail_whole (texts_found c.args.byte c.in_ok-position.position (lent c.args.whole) (sym c.in_ok-position.ensures))
+    texts_cut c.args.byte c.in_ok-position.position (lent c.args.whole) _ _ c.cut.ensures.before c.cut.ensures.after (sym c.in_ok-position.ensures)
+
+pub returns-clause-shorter : goal.returns-clause-shorter
+returns-clause-shorter c =
+    shorter_cut c.in_ok-position.position (lent c.args.whole) _ _ c.cut.ensures.before c.cut.ensures.after
+    (found_at (λ x. x == c.args.byte) c.args.whole.text.now c.in_ok-position.position (sym c.in_ok-position.ensures)).1
 
 pub returns-clause-placed : goal.returns-clause-placed
 returns-clause-placed c =
-    rw tail_whole (placed_found c.args.byte c.in_ok-position.position (lent c.args.whole) c.requires (sym c.in_ok-position.ensures))
+    placed_cut c.in_ok-position.position (lent c.args.whole) _ _ c.cut.ensures.before c.cut.ensures.after c.requires
+    (found_at (λ x. x == c.args.byte) c.args.whole.text.now c.in_ok-position.position (sym c.in_ok-position.ensures)).1

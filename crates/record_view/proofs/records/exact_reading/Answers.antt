@@ -1,7 +1,7 @@
 -- The parts behind the letter are the reading's fields, or too many or too few.
 use Rattle.record_view.specs.Parts.{lent}
 use Rattle.record_view.proofs.LineLaws.{ok_along, err_along, reading_line, no_reading_line, reading_lends, reading_parts_lent}
-use Rattle.record_view.proofs.records.reading_behind.Goals as goal
+use Rattle.record_view.proofs.records.exact_reading.Goals as goal
 
 pub returns-in-Some-clause-ok : goal.returns-in-Some-clause-ok
 returns-in-Some-clause-ok c =
