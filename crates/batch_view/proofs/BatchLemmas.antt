@@ -10,11 +10,11 @@ use Rattle.metering_model.specs.declared.BatchFault.{BatchFault}
 use Rattle.metering_model.specs.BatchReading.{at_line, records_in, fields_in, head_in, lines_in, batch_in, batch_below, batch_of_lines}
 use Rattle.metering_model.proofs.BatchLaws.{batch_read}
 use Rattle.metering_model.specs.FirstFailure.{◌>>=◌, holds_or}
-use Rattle.batch_view.specs.Lent.{record_of}
+use Rattle.record_view.specs.Lent.{record_of}
 use Rattle.batch_view.specs.Batches.{batch_of, IsLentAt}
 use Rattle.batch_view.specs.Inner.Lines.{lines_from, first_record, head_line, HasNoLine, IsBehindLines, LendsRecord, BeginsWithHead, IsHeadOf}
 use Rattle.batch_view.specs.declared.head.Head.{Head}
-use Rattle.batch_view.specs.declared.records.Record.{Record as LentRecord}
+use Rattle.record_view.specs.declared.records.Record.{Record as LentRecord}
 use Rattle.batch_view.proofs.LineLemmas.{lines_at_feed, lines_without_feed, one_more_line}
 use Rattle.batch_view.proofs.RecordLemmas.{bind_ok, length-records_in, enough_lines, record_at}
 
@@ -126,13 +126,13 @@ records_of_batch bytes b e short = at_lines (lines_in bytes).lines (sym (by_line
         (head.0.count, records.1 ∙ cc)
 
 -- What stands before a record that is there.
-record There (bytes : List ℕ) (index : ℕ) : Type 0 where
+pub record There (bytes : List ℕ) (index : ℕ) : Type 0 where
   pub one : Record
   pub read : first_record (drop (index + 1) (lines_in bytes).lines) ≡ Ok one
   pub got : slice_get (batch_of bytes).records index ≡ Some one
   pub left : drop index (batch_of bytes).records ≡ one ∷ drop (index + 1) (batch_of bytes).records
 
-there : (bytes : List ℕ) (index : ℕ) → length bytes ≤ 65_536 → batch_in bytes ≡ Ok (batch_of bytes) → index < length (batch_of bytes).records → There bytes index
+pub there : (bytes : List ℕ) (index : ℕ) → length bytes ≤ 65_536 → batch_in bytes ≡ Ok (batch_of bytes) → index < length (batch_of bytes).records → There bytes index
 there bytes index short batch within =
     let all = records_of_batch bytes (batch_of bytes) batch short in
     let many = length-records_in 2 all.0 (drop 1 (lines_in bytes).lines) (batch_of bytes).records all.1 in

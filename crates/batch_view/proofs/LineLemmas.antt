@@ -7,7 +7,7 @@ use Rattle.std.proofs.lemmas.List.Splits.{length-slice_split}
 use Rattle.metering_model.specs.BatchReading.{lines_in, lines_of_parts, with_line}
 use Rattle.batch_view.specs.Batches.{line_spans}
 use Rattle.batch_view.specs.Inner.Lines.{IsFirstLine, IsBehindLines, lines_from}
-use Rattle.batch_view.specs.declared.fields.Span.{Span}
+use Rattle.record_view.specs.declared.fields.Span.{Span}
 use Rattle.batch_view.proofs.SplitLemmas.{split_at, split_nowhere}
 
 first_of_parts : (part : List ℕ) (parts : List (List ℕ)) → 0 < length parts → lines_of_parts (part ∷ parts) ≡ with_line part (lines_of_parts parts)

@@ -4,9 +4,9 @@ use Rattle.std.specs.Iterator.{Yields, Drains}
 use Rattle.std.specs.List.{slice_get}
 use Rattle.std.proofs.lemmas.Iterator.{YieldsList}
 use Rattle.std.proofs.lemmas.Iterator.Consumers.{YieldsList-from_shown}
-use Rattle.batch_view.specs.Lent.{record_of}
+use Rattle.record_view.specs.Lent.{record_of}
 use Rattle.batch_view.specs.Batches.{IsLentAt, RecordsLeft, records_left, GivesNext}
-use Rattle.batch_view.specs.declared.records.Record.{Record as LentRecord}
+use Rattle.record_view.specs.declared.records.Record.{Record as LentRecord}
 
 -- for the consumers of a chain
 pub YieldsList-records : (walk : RecordsLeft) → YieldsList GivesNext record_of walk (records_left walk)

@@ -5,9 +5,9 @@ use Rattle.std.specs.Iterator.{YieldsFirstBy}
 use Rattle.metering_model.specs.Batch.{Batch, Record}
 use Rattle.metering_model.specs.declared.BatchFault.{BatchFault}
 use Rattle.metering_model.specs.BatchReading.{batch_in, lines_in}
-use Rattle.batch_view.specs.Lent.{record_of, IsLentRecord}
-use Rattle.batch_view.specs.declared.fields.Span.{Span}
-use Rattle.batch_view.specs.declared.records.Record.{Record as LentRecord}
+use Rattle.record_view.specs.Lent.{record_of, IsLentRecord}
+use Rattle.record_view.specs.declared.fields.Span.{Span}
+use Rattle.record_view.specs.declared.records.Record.{Record as LentRecord}
 
 -- a batch of no records stands for a text that is none
 abbrev pub or_empty : Result Batch BatchFault → Batch

@@ -1,25 +1,25 @@
 -- What a batch keeps beside its bytes, so that whoever has it need not read it again.
-use Rattle.std.specs.Prelude.{◌≡◌, ℕ, ◌+◌, ◌&&◌, ◌||◌, ◌==◌, Bool, nat_lt, List, map, Option, Some, None, ℤ}
+use Rattle.std.specs.Prelude.{◌≡◌, ℕ, ◌+◌, ◌&&◌, ◌||◌, ◌==◌, Bool, not, nat_lt, nat_le, List, Option, Some, None, ℤ}
 use Rattle.std.specs.List.{slice_get, filter_map, enumerate_from, last_or}
 use Rattle.std.specs.List.Sorted.{IsPermutation, IsSortedBy}
 use Rattle.metering_model.specs.Batch.{Batch, Record, Reads, Amends}
 use Rattle.metering_model.specs.BatchReading.{lines_in}
-use Rattle.metering_model.specs.Holding.{Position, placed}
+use Rattle.metering_model.specs.Holding.{placed}
 use Rattle.metering_model.specs.ValueAtSequence.{value_given_by}
-use Rattle.batch_view.specs.declared.fields.Span.{Span}
+use Rattle.record_view.specs.declared.fields.Span.{Span}
 use Rattle.batch_view.specs.declared.owned.Amendment.{Amendment}
-use Rattle.batch_view.specs.Parts.{LentText}
-use Rattle.batch_view.specs.Lent.{fields_at}
+use Rattle.record_view.specs.Spans.{spans_at}
 use Rattle.batch_view.specs.Batches.{line_spans}
-
-abbrev pub span_of : LentText → Span
-span_of t = record { from = t.from; to = t.to }
 
 -- The spans are those of the fields of the record at `index`, from left to right.
 pub record AreFieldSpans (bytes : List ℕ) (index : ℕ) (spans : List Span) : Type 0 where
   pub line : Span
   pub is_line : slice_get (line_spans 0 (lines_in bytes).lines) (index + 1) ≡ Some line
-  pub fields : spans ≡ map span_of (fields_at bytes line)
+  pub fields : spans ≡ spans_at bytes line
+
+-- neither CSV nor JSON quotes a text for such a byte, or escapes it: not below a space, no `"`, no `,` and no `\`
+abbrev pub is_plain_byte : ℕ → Bool
+is_plain_byte c = nat_le 32 c && not (c == 34) && not (c == 44) && not (c == 92)
 
 -- the amendment that a record is, with the record's own index
 abbrev pub amendment_of : ℕ → Record → Option Amendment

@@ -3,21 +3,21 @@
 ghost use Rattle.std.specs.Prelude.{◌≡◌, ◌≤◌, ◌<◌, ◌+◌, length, drop, Some, None, Ok, Err, IsOk, IfOk, IfErr, MatchResult, IfSome, IsSome, ◌↔◌};
 ghost use Rattle.std.specs.List.{slice_get};
 ghost use Rattle.metering_model.specs.BatchReading.{batch_in, lines_in, records_in};
-ghost use Rattle.batch_view.specs.Lent.{record_of};
+ghost use Rattle.record_view.specs.Lent.{record_of};
 ghost use Rattle.batch_view.specs.Batches.{batch_of, IsLentAt, RecordsLeft};
 ghost use Rattle.batch_view.specs.Inner.Lines.{lines_from, first_record, IsBehindLines, LendsRecord, IsHeadOf};
 
 use crate::head::{Head, read_head};
 use crate::lines::next_line;
-use crate::records::{Record, read_record};
 use metering_model::{BatchCode, BatchFault};
+use record_view::{Record, read_record};
 use std::marker::Model;
 
 /// A batch has no more bytes than this.
 const MOST_BYTES: usize = 65_536;
 
 /// The record whose line begins at `from`, and where the next line begins.
-fn record_from(text: &[u8], from: u32) -> Result<(Record<'_>, u32), BatchCode>
+pub(crate) fn record_from(text: &[u8], from: u32) -> Result<(Record<'_>, u32), BatchCode>
     requires within { from ≤ length text.now }
     requires short { length text.now ≤ 65536 }
     ensures { MatchResult result

@@ -4,10 +4,9 @@ ghost use Rattle.std.specs.Prelude.{◌≡◌, ◌≤◌, ◌+◌, ◌∷◌, []
 ghost use Rattle.metering_model.specs.BatchReading.{fields_in, head_in, batch_in};
 ghost use Rattle.batch_view.specs.Inner.Lines.{head_line, BeginsWithHead};
 
-use crate::fields::{Span, find_byte};
 use crate::lines::next_line;
-use crate::wholes::read_whole;
 use metering_model::{BatchCode, BatchFault};
+use record_view::{Span, find_byte, read_whole};
 
 const BAR: u8 = b'|';
 

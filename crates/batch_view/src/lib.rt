@@ -2,23 +2,14 @@
 #![tactic(auto)]
 
 pub use batch::{BatchView, Records};
-pub use dates::{Day, Stamp};
-pub use fields::{Field, Span};
 pub use metering_model::{BatchCode, BatchFault, Kind};
 pub use owned::{Amendment, Offer, OwnedBatch};
-pub use records::{Reading, Record};
-pub use tags::Tags;
+pub use record_view::{Day, Field, Reading, Record, Span, Stamp, Tags, calendar, dates, laws};
 
+mod amendments;
 mod batch;
-pub mod calendar;
-pub mod dates;
-mod digits;
-mod fields;
+mod entries;
 mod head;
-pub mod laws;
 mod lines;
-mod numbers;
 mod owned;
-mod records;
-mod tags;
-mod wholes;
+mod reading;

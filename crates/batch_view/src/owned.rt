@@ -1,19 +1,24 @@
 //! Batches that keep their bytes.
 
-ghost use Rattle.std.specs.Prelude.{◌≡◌, ◌↔◌, ◌<◌, length, Ok, IfOk, IfErr, IfSome, IsSome};
+ghost use Rattle.std.specs.Prelude.{◌≡◌, ◌↔◌, ◌<◌, length, Ok, IfOk, IfErr, IfSome, IsSome, MatchOption};
+ghost use Rattle.std.specs.Arc.{arc_value};
 ghost use Rattle.std.specs.List.{list_all};
 ghost use Rattle.metering_model.specs.BatchReading.{batch_in};
 ghost use Rattle.metering_model.specs.Front.{starts_before};
 ghost use Rattle.batch_view.specs.Batches.{batch_of};
 ghost use Rattle.batch_view.specs.Kept.{AreAmendmentsOf, AreFieldSpans, value_given_in};
 ghost use Rattle.batch_view.specs.Offers.{IsOfferOf};
+ghost use Rattle.batch_view.specs.Inner.Kept.{KeepsBatch};
+ghost use Rattle.batch_view.specs.Inner.Given.{HasReading, LacksReading};
 
+use crate::amendments::{is_before, last_amendment, latest_start, sorted_amendments};
 use crate::batch::{BatchView, check_batch};
-use crate::dates::Stamp;
-use crate::fields::Span;
+use crate::entries::{Entry, Found, entry_at, field_total};
 use crate::head::Head;
+use crate::reading::{Unkept, keep_batch};
 use fx_money::Value;
 use metering_model::BatchFault;
+use record_view::{Span, Stamp};
 use std::alloc::{AllocError, Global};
 use std::marker::Model;
 use std::sync::Arc;
@@ -28,27 +33,26 @@ pub struct Amendment {
     pub own: u16,
 }
 
-/// Stands in the place of what is kept, until it is made.
-#[derive(Clone, Copy)]
-enum Never {}
-
-/// Bytes that are a batch, and what was found when they were read.
+/// Bytes that are a batch, and what was found when they were read: an entry of each record, the amendments by the
+/// position that each names, and the latest start of a reading.
 #[derive(Drop)]
 pub struct OwnedBatch {
     bytes: Vec<u8>,
     head: Head,
-    never: Never,
+    entries: Vec<Entry>,
+    amendments: Vec<Amendment>,
+    latest: Option<Stamp>,
 }
 
 impl Model for OwnedBatch {
     ghost use Rattle.std.specs.Prelude.{ℕ, List};
-    ghost use Rattle.batch_view.specs.Inner.Lines.{IsHeadOf};
+    ghost use Rattle.batch_view.specs.Inner.Kept.{KeepsParts};
 
     ghost Value = { List ℕ };
 
     ghost view = { λ b. b.bytes.items };
 
-    ghost invariant = { λ b. IsHeadOf b.bytes.items b.head };
+    ghost invariant = { λ b. KeepsParts b.bytes.items b.head b.entries.items b.amendments.items b.latest };
 }
 
 impl OwnedBatch {
@@ -73,14 +77,15 @@ impl OwnedBatch {
         ensures there { IsSome result ↔ (index < length (batch_of self.now).records) }
         ensures spans { IfSome result (λ spans. AreFieldSpans self.now index spans.now) }
     {
-        match self.never {}
+        let entry = entry_at(&self.entries, index)?;
+        Some(&entry.spans[..field_total(entry.found)])
     }
 
     /// The amendments, by the position that each names, then by their own index. No memory is taken.
     pub fn amendments(&self) -> &[Amendment]
         ensures { AreAmendmentsOf (batch_of self.now) result.now }
     {
-        match self.never {}
+        &self.amendments
     }
 
     /// The value that the batch gives the reading at that sequence and index of its agent: that of its last amendment
@@ -88,14 +93,42 @@ impl OwnedBatch {
     pub fn value_given(&self, seq: u32, index: u16) -> Option<Value>
         ensures { result ≡ value_given_in (batch_of self.now) seq index }
     {
-        match self.never {}
+        let Some(amendment) = last_amendment(&self.amendments, seq, index) else {
+            return self.own_value(seq, index);
+        };
+        match self.own_value(seq, index) {
+            Some(value) => {
+                if amendment.own < index {
+                    Some(value)
+                } else {
+                    Some(amendment.value)
+                }
+            }
+            None => Some(amendment.value),
+        }
+    }
+
+    /// The value of the reading at that sequence and index, if it is one of the batch itself.
+    fn own_value(&self, seq: u32, index: u16) -> Option<Value>
+        ensures { MatchOption result
+            (LacksReading (batch_of self.now) seq index)
+            (HasReading (batch_of self.now) seq index) }
+    {
+        if seq != self.head.seq {
+            return None;
+        }
+        let entry = entry_at(&self.entries, index)?;
+        match entry.found {
+            Found::Reading { .. } => Some(entry.value),
+            Found::Amend { .. } => None,
+        }
     }
 
     /// Whether each reading starts before that moment. One comparison with the latest start.
     pub fn starts_before(&self, moment: Stamp) -> bool
         ensures { result ≡ list_all (starts_before moment) (batch_of self.now).records }
     {
-        match self.never {}
+        is_before(self.latest, moment)
     }
 }
 
@@ -108,17 +141,49 @@ pub enum Offer {
     Bad(BatchFault),
 }
 
+/// Shares the batch with what its entries tell, where there is memory.
+fn keep_parts(
+    alloc: Global,
+    bytes: Vec<u8>,
+    head: Head,
+    entries: Vec<Entry>,
+) -> Result<Arc<OwnedBatch>, AllocError>
+    requires { KeepsBatch bytes.items head entries.items }
+    ensures { IfOk result (λ batch. arc_value batch ≡ bytes.items) }
+{
+    let amendments = sorted_amendments(alloc, &entries, head.count)?;
+    let latest = latest_start(&entries);
+    let batch = OwnedBatch {
+        bytes,
+        head,
+        entries,
+        amendments,
+        latest,
+    };
+    match Arc::new(alloc, batch) {
+        Ok(shared) => Ok(shared),
+        Err(_) => Err(AllocError),
+    }
+}
+
 impl Offer {
     /// Keeps just these bytes where they are a batch, and else tells their first fault.
-    /// An error says that there was no memory to share the batch; the bytes are lost then. It comes
-    /// for a batch alone: what is none is refused before any memory is taken.
+    /// An error says that there was no memory to keep the batch; the bytes are lost then. It comes for a batch alone:
+    /// what is none has its fault told, whatever memory there is.
     pub fn read(alloc: Global, bytes: Vec<u8>) -> Result<Offer, AllocError>
         ensures answer { IfOk result (IsOfferOf bytes.items) }
         ensures want { IfErr result (λ _. batch_in bytes.items ≡ Ok (batch_of bytes.items)) }
     {
-        match check_batch(&bytes) {
-            Ok(_) => Err(AllocError),
-            Err(fault) => Ok(Offer::Bad(fault)),
+        match keep_batch(alloc, &bytes) {
+            Ok((head, entries)) => match keep_parts(alloc, bytes, head, entries) {
+                Ok(batch) => Ok(Offer::Good(batch)),
+                Err(_) => Err(AllocError),
+            },
+            Err(Unkept::Fault(fault)) => Ok(Offer::Bad(fault)),
+            Err(Unkept::NoMemory) => match check_batch(&bytes) {
+                Ok(_) => Err(AllocError),
+                Err(fault) => Ok(Offer::Bad(fault)),
+            },
         }
     }
 }

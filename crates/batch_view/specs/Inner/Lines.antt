@@ -4,11 +4,11 @@ use Rattle.metering_model.specs.Batch.{Record}
 use Rattle.metering_model.specs.declared.BatchCode.{BatchCode}
 use Rattle.metering_model.specs.declared.BatchCode.TheVariants.{Count}
 use Rattle.metering_model.specs.BatchReading.{HeadLine, Lines, lines_in, with_line, fields_in, record_in, head_in, batch_in}
-use Rattle.batch_view.specs.Lent.{record_of, IsLentRecord}
+use Rattle.record_view.specs.Lent.{record_of, IsLentRecord}
 use Rattle.batch_view.specs.Batches.{batch_of, line_spans}
-use Rattle.batch_view.specs.declared.fields.Span.{Span}
+use Rattle.record_view.specs.declared.fields.Span.{Span}
 use Rattle.batch_view.specs.declared.head.Head.{Head}
-use Rattle.batch_view.specs.declared.records.Record.{Record as LentRecord}
+use Rattle.record_view.specs.declared.records.Record.{Record as LentRecord}
 
 -- the lines of a text from there on
 abbrev pub lines_from : List ℕ → ℕ → Lines

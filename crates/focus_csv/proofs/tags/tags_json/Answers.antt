@@ -4,7 +4,7 @@ use Rattle.std.proofs.lemmas.Bool.{and_parts}
 use Rattle.std.proofs.lemmas.Result.{IfOk-weaker}
 use Rattle.std.specs.List.{list_all}
 use Rattle.metering_model.specs.Batch.{is_text, keys_rise}
-use Rattle.batch_view.specs.declared.tags.Tags.{Tags}
+use Rattle.record_view.specs.declared.tags.Tags.{Tags}
 use Rattle.batch_view.specs.Lent.{lent_tags, lent_pair}
 use Rattle.batch_view.specs.TagTexts.{LentTag, tag_of}
 use Rattle.batch_view.proofs.TagsHold.{has_texts, tags_hold}

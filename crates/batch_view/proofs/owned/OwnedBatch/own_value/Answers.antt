@@ -1,0 +1,19 @@
+use Rattle.std.proofs.Common.{◌≡◌, Some, rules}
+use Rattle.std.specs.List.{slice_get}
+use Rattle.batch_view.proofs.EntryLaws.{has_reading, lacks_reading}
+use Rattle.batch_view.proofs.owned.OwnedBatch.own_value.Goals as goal
+
+pub returns-in-Reading : goal.returns-in-Reading
+returns-in-Reading c =
+    let is : slice_get c.self.inside.entries.items c.args.index ≡ Some c.in_ok-entry.entry.now = rw c.deref.ensures.value at c.in_ok-entry.ensures in
+    let own : c.args.seq ≡ c.self.inside.head.seq = search rules in
+    rw (← c.self.view_is)
+    (has_reading c.self.inside.bytes.items c.self.inside.head c.self.inside.entries.items c.args.seq c.args.index c.in_ok-entry.entry.now _ _ _ _
+    c.self.invariant.batch own is c.in-Reading.is)
+
+pub returns-in-Amend : goal.returns-in-Amend
+returns-in-Amend c =
+    let is : slice_get c.self.inside.entries.items c.args.index ≡ Some c.in_ok-entry.entry.now = rw c.deref.ensures.value at c.in_ok-entry.ensures in
+    rw (← c.self.view_is)
+    (lacks_reading c.self.inside.bytes.items c.self.inside.head c.self.inside.entries.items c.args.seq c.args.index c.in_ok-entry.entry.now _ _
+    c.self.invariant.batch is c.in-Amend.is)

@@ -1,0 +1,62 @@
+-- What is kept of each record of a batch.
+use Rattle.std.specs.Prelude.{◌≡◌, ℕ, ◌+◌, ◌≤◌, List, length, take, drop, slice_range, Some, Ok, ℤ}
+use Rattle.std.specs.List.{slice_get, list_all}
+use Rattle.metering_model.specs.Batch.{Record, Reads, Amends}
+use Rattle.metering_model.specs.BatchReading.{lines_in, record_in, fields_in}
+use Rattle.record_view.specs.declared.fields.Span.{Span}
+use Rattle.record_view.specs.Spans.{spans_at}
+use Rattle.batch_view.specs.Batches.{batch_of, line_spans}
+use Rattle.batch_view.specs.Kept.{is_plain_byte}
+use Rattle.batch_view.specs.Inner.Lines.{IsFirstLine, first_record}
+use Rattle.batch_view.specs.declared.entries.Found.{Found}
+use Rattle.batch_view.specs.declared.entries.Found.TheVariants.{Reading, Amend}
+use Rattle.batch_view.specs.declared.entries.Entry.{Entry}
+
+abbrev pub field_total : Found → ℕ
+field_total (Reading plain kind start end) = 9
+field_total (Amend seq index) = 4
+
+-- the record has this kind, these stamps or this target, and this value
+abbrev pub FitsRecord : Found → ℤ → Record → Type 0
+FitsRecord (Reading plain kind start end) value (Reads r) = (kind ≡ r.kind) × (start ≡ r.start) × (end ≡ r.end) × (value ≡ r.value)
+FitsRecord (Reading plain kind start end) value (Amends seq index v) = ⊥
+FitsRecord (Amend s i) value (Reads r) = ⊥
+FitsRecord (Amend s i) value (Amends seq index v) = (s ≡ seq) × (i ≡ index) × (value ≡ v)
+
+-- the flag of a reading says whether each byte of its line is plain
+abbrev pub FlagsPlain : Found → List ℕ → Type 0
+FlagsPlain (Reading plain kind start end) line = plain ≡ list_all is_plain_byte line
+FlagsPlain (Amend seq index) line = Unit {0}
+
+-- The entry is that of the record which the line at this span is.
+pub record IsEntryAt (bytes : List ℕ) (line : Span) (e : Entry) : Type 0 where
+  pub what : Record
+  pub ordered : line.from ≤ line.to
+  pub within : line.to ≤ length bytes
+  pub read : record_in (fields_in (slice_range bytes line.from line.to)) ≡ Ok what
+  pub fits : FitsRecord e.found e.value what
+  pub spans : take (field_total e.found) e.spans ≡ spans_at bytes line
+  pub plain : FlagsPlain e.found (slice_range bytes line.from line.to)
+
+-- The entry is that of the record at that index, at its line's spans.
+pub record IsEntry (bytes : List ℕ) (index : ℕ) (e : Entry) : Type 0 where
+  pub line : Span
+  pub is_line : slice_get (line_spans 0 (lines_in bytes).lines) (index + 1) ≡ Some line
+  pub at : IsEntryAt bytes line e
+  pub stands : first_record (drop (index + 1) (lines_in bytes).lines) ≡ Ok at.what
+
+-- each is that of the record at its index
+abbrev pub AreEntries : List ℕ → List Entry → Type 0
+AreEntries bytes es = (index : ℕ) (e : Entry) → slice_get es index ≡ Some e → IsEntry bytes index e
+
+-- there is one for each record
+pub record AreAllEntries (bytes : List ℕ) (es : List Entry) : Type 0 where
+  pub each : AreEntries bytes es
+  pub many : length es ≡ length (batch_of bytes).records
+
+-- What stands there is a line, and the entry is that of its record. The next line begins at `next`.
+pub record KeepsRecord (text : List ℕ) (from : ℕ) (e : Entry) (next : ℕ) : Type 0 where
+  pub span : Span
+  pub is_line : IsFirstLine text from span
+  pub behind : next ≡ span.to + 1
+  pub at : IsEntryAt text span e

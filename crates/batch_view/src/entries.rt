@@ -1,0 +1,125 @@
+//! What is kept of each record, made when a batch is read.
+
+ghost use Rattle.std.specs.Prelude.{◌≡◌, ◌≤◌, ◌+◌, length, take, drop, slice_range, Ok, Err, IsOk, IfOk, IfErr, MatchResult, MatchOption};
+ghost use Rattle.std.specs.List.{list_all, slice_get};
+ghost use Rattle.metering_model.specs.BatchReading.{batch_in, lines_in, records_in, record_in, fields_in};
+ghost use Rattle.record_view.specs.Lent.{record_of, IsLentRecord};
+ghost use Rattle.record_view.specs.Spans.{spans_at};
+ghost use Rattle.batch_view.specs.Kept.{is_plain_byte};
+ghost use Rattle.batch_view.specs.Inner.Lines.{lines_from, first_record, IsBehindLines, IsHeadOf};
+ghost use Rattle.batch_view.specs.Inner.Entries.{field_total, FitsRecord, FlagsPlain, KeepsRecord, AreEntries};
+
+use crate::batch::record_from;
+use fx_money::Value;
+use metering_model::{BatchCode, BatchFault, Kind};
+use record_view::{Record, Span, Stamp, field_spans};
+use std::alloc::Global;
+
+/// What a record is, without its texts.
+#[derive(Clone, Copy)]
+pub(crate) enum Found {
+    /// `plain` says that no byte of its line is one that CSV or JSON quotes or escapes.
+    Reading {
+        plain: bool,
+        kind: Kind,
+        start: Stamp,
+        end: Stamp,
+    },
+    Amend {
+        seq: u32,
+        index: u16,
+    },
+}
+
+/// What is kept of a record: the spans of its nine fields, or of an amendment's four, and its numbers.
+#[derive(Clone, Copy)]
+pub(crate) struct Entry {
+    pub(crate) spans: [Span; 9],
+    pub(crate) value: Value,
+    pub(crate) found: Found,
+}
+
+const _: () = prove!(size_of::<Entry>() <= 104);
+
+/// How many fields the record has.
+pub(crate) fn field_total(found: Found) -> usize
+    ensures value { result ≡ field_total found }
+    ensures range { result ≤ 9 }
+{
+    match found {
+        Found::Reading { .. } => 9,
+        Found::Amend { .. } => 4,
+    }
+}
+
+/// What is kept of the record at that index.
+pub(crate) fn entry_at(entries: &[Entry], index: u16) -> Option<&Entry>
+    ensures { MatchOption result (length entries.now ≤ index) (λ e. slice_get entries.now index ≡ Some e.now) }
+{
+    let at = usize::from(index);
+    if at < entries.len() {
+        Some(&entries[at])
+    } else {
+        None
+    }
+}
+
+/// Whether neither CSV nor JSON quotes or escapes any byte of the text. Each byte is looked at, for want of a branch
+/// in the loop.
+fn is_plain(text: &[u8]) -> bool
+    ensures { result ≡ list_all is_plain_byte text.now }
+{
+    text.iter()
+        .all(|c| *c >= 0x20 && *c != b'"' && *c != b',' && *c != b'\\')
+}
+
+/// What is kept of a record that was read from that line.
+fn entry_of(source: &[u8], line: Span, what: &Record<'_>) -> Entry
+    requires ordered { line.from ≤ line.to }
+    requires within { line.to ≤ length source.now }
+    requires short { length source.now ≤ 65536 }
+    requires read { record_in (fields_in (slice_range source.now line.from line.to)) ≡ Ok (record_of what.now) }
+    requires lent { IsLentRecord source.now line what.now }
+    ensures fits { FitsRecord result.found result.value (record_of what.now) }
+    ensures spans { take (field_total result.found) result.spans ≡ spans_at source.now line }
+    ensures plain { FlagsPlain result.found (slice_range source.now line.from line.to) }
+{
+    let spans = field_spans(source, line, what);
+    match what {
+        Record::Reading(reading) => Entry {
+            spans,
+            value: reading.value,
+            found: Found::Reading {
+                plain: is_plain(&source[line.from as usize..line.to as usize]),
+                kind: reading.kind,
+                start: reading.start,
+                end: reading.end,
+            },
+        },
+        Record::Amend { seq, index, value } => Entry {
+            spans,
+            value: *value,
+            found: Found::Amend {
+                seq: *seq,
+                index: *index,
+            },
+        },
+    }
+}
+
+/// What is kept of the record whose line begins at `from`, and where the next line begins.
+pub(crate) fn entry_from(text: &[u8], from: u32) -> Result<(Entry, u32), BatchCode>
+    requires within { from ≤ length text.now }
+    requires short { length text.now ≤ 65536 }
+    ensures { MatchResult result
+        (λ kept. KeepsRecord text.now from kept.0 kept.1)
+        (λ code. first_record (lines_from text.now from).lines ≡ Err code) }
+{
+    match record_from(text, from) {
+        Ok((record, next)) => {
+            let line = Span { from, to: next - 1 };
+            Ok((entry_of(text, line, &record), next))
+        }
+        Err(code) => Err(code),
+    }
+}

@@ -1,0 +1,88 @@
+//! A batch is read once, and what is found is kept.
+
+ghost use Rattle.std.specs.Prelude.{◌≡◌, ◌≤◌, ◌+◌, length, drop, Err, MatchResult};
+ghost use Rattle.metering_model.specs.BatchReading.{batch_in, lines_in, records_in};
+ghost use Rattle.batch_view.specs.Inner.Lines.{IsBehindLines};
+ghost use Rattle.batch_view.specs.Inner.Kept.{IfFault, KeepsEntries, KeepsBatch};
+
+use crate::entries::{Entry, entry_from};
+use crate::head::{Head, read_head};
+use metering_model::{BatchCode, BatchFault};
+use std::alloc::Global;
+
+/// A batch has no more bytes than this.
+const MOST_BYTES: usize = 65_536;
+
+/// Why nothing is kept.
+#[derive(Drop)]
+pub(crate) enum Unkept {
+    /// The bytes are no batch, for this fault.
+    Fault(BatchFault),
+    /// There was no memory, whatever the bytes are.
+    NoMemory,
+}
+
+/// Reads so many records, the first of them on line 2 and at `from`, and answers where they end.
+fn keep_entries(
+    alloc: Global,
+    text: &[u8],
+    from: u32,
+    count: u16,
+) -> Result<(Vec<Entry>, u32), Unkept>
+    requires behind { IsBehindLines text.now 1 from }
+    requires short { length text.now ≤ 65536 }
+    ensures { MatchResult result
+        (λ kept. KeepsEntries text.now count kept.1 kept.0.items)
+        (λ why. IfFault why (λ fault. records_in 2 count (drop 1 (lines_in text.now).lines) ≡ Err fault)) }
+{
+    let Ok(mut entries) = Vec::with_capacity(alloc, usize::from(count)) else {
+        return Err(Unkept::NoMemory);
+    };
+    let mut at = from;
+    for index in 0..count {
+        match entry_from(text, at) {
+            Ok((entry, next)) => {
+                if entries.push(entry).is_err() {
+                    return Err(Unkept::NoMemory);
+                }
+                at = next;
+            }
+            Err(code) => {
+                return Err(Unkept::Fault(BatchFault {
+                    code,
+                    line: u32::from(index) + 2,
+                }));
+            }
+        }
+    }
+    Ok((entries, at))
+}
+
+/// The head of the batch that these bytes are, and what is kept of its records.
+pub(crate) fn keep_batch(alloc: Global, bytes: &[u8]) -> Result<(Head, Vec<Entry>), Unkept>
+    ensures { MatchResult result
+        (λ kept. KeepsBatch bytes.now kept.0 kept.1.items)
+        (λ why. IfFault why (λ fault. batch_in bytes.now ≡ Err fault)) }
+{
+    if bytes.len() > MOST_BYTES {
+        return Err(Unkept::Fault(BatchFault {
+            code: BatchCode::TooLong,
+            line: 1,
+        }));
+    }
+    let head = match read_head(bytes) {
+        Ok(head) => head,
+        Err(fault) => return Err(Unkept::Fault(fault)),
+    };
+    let (entries, end) = match keep_entries(alloc, bytes, head.records_from, head.count) {
+        Ok(kept) => kept,
+        Err(why) => return Err(why),
+    };
+    if (end as usize) < bytes.len() {
+        return Err(Unkept::Fault(BatchFault {
+            code: BatchCode::Count,
+            line: u32::from(head.count) + 2,
+        }));
+    }
+    Ok((head, entries))
+}

@@ -1,0 +1,14 @@
+pub mod DayRange
+pub mod DayTexts
+pub mod MonthOrder
+pub mod PartLaws
+pub mod TagLaws
+pub mod WholeLaws
+pub mod KindLaws
+pub mod LentLaws
+pub mod RecordLaws
+pub mod LineLaws
+pub mod TagsHold
+pub mod SpanLaws
+pub mod FirstPlace
+pub mod PlainLaws

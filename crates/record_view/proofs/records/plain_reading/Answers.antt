@@ -1,0 +1,25 @@
+-- The steps that the plain fields have met already, and those that were taken here.
+use Rattle.std.proofs.Common.{◌∷◌, Some, map, ◌∙◌, sym, ap}
+use Rattle.std.specs.List.{flat_map}
+use Rattle.record_view.specs.Parts.{lent}
+use Rattle.record_view.specs.TagTexts.{tag_of}
+use Rattle.record_view.specs.Lent.{tag_texts}
+use Rattle.record_view.proofs.TagLaws.{tags_read}
+use Rattle.record_view.proofs.RecordLaws.{all_steps, stamp_met, text_met, tags_met}
+use Rattle.record_view.proofs.records.plain_reading.Goals as goal
+
+pub returns-clause-stamps : goal.returns-clause-stamps
+returns-clause-stamps c = (stamp_met _ _ (sym c.in_ok-start.ensures), stamp_met _ _ (sym c.in_ok-end.ensures))
+
+pub returns-clause-ok : goal.returns-clause-ok
+returns-clause-ok c =
+    let p = c.requires in
+    let tags = tags_read (lent c.args.plain.now.tags) p.tags ∙ ap (λ ts. Some (map tag_of ts)) (sym c.known-tags.ensures) in
+    all_steps _ _ _ _ _ _ _ _ _ _ _ _ _ _ (sym c.in_ok-kind.ensures) (sym c.in_ok-start.ensures) (sym c.in_ok-end.ensures)
+    (sym c.in_ok-check_order.ensures) (text_met _ p.account) (text_met _ p.resource) (sym c.in_ok-check_plain_key.ensures)
+    (sym c.in_ok-value.ensures) (sym c.in_ok-check_sign.ensures) (sym c.in_ok-check_plain_commitment.ensures) (tags_met _ _ tags)
+
+pub returns-clause-lent : goal.returns-clause-lent
+returns-clause-lent c =
+    let f = c.args.plain.now in
+    ap (λ ts. lent f.start ∷ lent f.end ∷ lent f.account ∷ lent f.resource ∷ lent f.key ∷ lent f.commitment ∷ flat_map tag_texts ts) c.known-tags.ensures

@@ -1,0 +1,5 @@
+pub mod Placed
+pub mod Plain
+pub mod TagPieces
+pub mod RecordSteps
+pub mod LineFields

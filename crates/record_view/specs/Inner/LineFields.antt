@@ -1,0 +1,49 @@
+-- The fields of a line behind its letter.
+use Rattle.std.specs.Prelude.{ℕ, List, [], ◌∷◌, is_some, IsTrue, Result}
+use Rattle.std.specs.List.{flat_map}
+use Rattle.metering_model.specs.declared.BatchCode.{BatchCode}
+use Rattle.metering_model.specs.Batch as model
+use Rattle.metering_model.specs.Batch.{is_text}
+use Rattle.metering_model.specs.Dates.{stamp_in}
+use Rattle.record_view.specs.declared.records.ReadingFields.{ReadingFields}
+use Rattle.record_view.specs.declared.records.AmendmentFields.{AmendmentFields}
+use Rattle.record_view.specs.Parts.{LentText, lent}
+use Rattle.record_view.specs.Inner.Placed.{IsPlaced}
+use Rattle.record_view.specs.TagTexts.{tags_at}
+use Rattle.record_view.specs.Lent.{tag_texts}
+use Rattle.record_view.specs.Inner.TagPieces.{are_tags}
+use Rattle.record_view.specs.Inner.RecordSteps.{reading_in, amendment_in}
+
+abbrev pub reading_parts : ReadingFields → List LentText
+reading_parts f =
+    lent f.start ∷ lent f.end ∷ lent f.account ∷ lent f.resource ∷ lent f.key ∷ lent f.value ∷ lent f.commitment ∷ lent f.tags ∷ []
+
+abbrev pub amendment_parts : AmendmentFields → List LentText
+amendment_parts f = lent f.seq ∷ lent f.index ∷ lent f.value ∷ []
+
+-- what the reading of these fields lends
+abbrev pub field_texts : ReadingFields → List LentText
+field_texts f =
+    lent f.start ∷ lent f.end ∷ lent f.account ∷ lent f.resource ∷ lent f.key ∷ lent f.commitment
+    ∷ flat_map tag_texts (tags_at (lent f.tags))
+
+abbrev pub record_of_reading : List ℕ → ReadingFields → Result model.Record BatchCode
+record_of_reading letter f =
+    reading_in letter f.start.text.now f.end.text.now f.account.text.now f.resource.text.now f.key.text.now f.value.text.now
+    f.commitment.text.now f.tags.text.now
+
+abbrev pub record_of_amendment : AmendmentFields → Result model.Record BatchCode
+record_of_amendment f = amendment_in f.seq.text.now f.index.text.now f.value.text.now
+
+-- both stamps are stamps
+abbrev pub HaveStamps : ReadingFields → Type 0
+HaveStamps f = IsTrue (is_some (stamp_in f.start.text.now)) × IsTrue (is_some (stamp_in f.end.text.now))
+
+-- The fields of a plain reading: those that are texts, and the last are tags.
+pub record ArePlainFields (f : ReadingFields) : Type 0 where
+  pub account : IsTrue (is_text f.account.text.now)
+  pub resource : IsTrue (is_text f.resource.text.now)
+  pub key : IsTrue (is_text f.key.text.now)
+  pub commitment : IsTrue (is_text f.commitment.text.now)
+  pub tags : IsTrue (are_tags f.tags.text.now)
+  pub placed : IsPlaced (lent f.tags)

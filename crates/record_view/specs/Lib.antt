@@ -1,0 +1,6 @@
+pub mod Years
+pub mod Parts
+pub mod TagTexts
+pub mod Lent
+pub mod Spans
+pub mod Inner

@@ -1,0 +1,30 @@
+-- Where the fields of a record's line stand, and a reading whose numbers were read there before.
+use Rattle.std.specs.Prelude.{◌≡◌, ℕ, List, map, slice_range, Ok, ℤ}
+use Rattle.metering_model.specs.declared.Kind.{Kind}
+use Rattle.metering_model.specs.Batch as model
+use Rattle.metering_model.specs.BatchReading.{record_in, fields_in}
+use Rattle.record_view.specs.declared.fields.Span.{Span}
+use Rattle.record_view.specs.Parts.{LentText}
+use Rattle.record_view.specs.Lent.{fields_at}
+use Rattle.record_view.specs.declared.records.Record as lent_record
+
+abbrev pub span_of : LentText → Span
+span_of t = record { from = t.from; to = t.to }
+
+-- the spans of a line's fields, from left to right
+abbrev pub spans_at : List ℕ → Span → List Span
+spans_at source line = map span_of (fields_at source line)
+
+-- a reading has nine fields, an amendment four
+abbrev pub field_count : lent_record.Record → ℕ
+field_count (lent_record.TheVariants.Reading r) = 9
+field_count (lent_record.TheVariants.Amend seq index value) = 4
+
+-- The line is a reading of this kind, with these stamps and this value.
+pub record IsReadingAt (source : List ℕ) (line : Span) (kind : Kind) (start end value : ℤ) : Type 0 where
+  pub reading : model.Reading
+  pub read : record_in (fields_in (slice_range source line.from line.to)) ≡ Ok (model.Reads reading)
+  pub kind_is : kind ≡ reading.kind
+  pub start_is : start ≡ reading.start
+  pub end_is : end ≡ reading.end
+  pub value_is : value ≡ reading.value

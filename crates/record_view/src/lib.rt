@@ -1,0 +1,22 @@
+//! One usage record, read where its line lies: no text is copied, and reading takes no memory.
+#![tactic(auto)]
+
+pub use dates::{Day, Stamp};
+pub use fields::{Field, Span, find_byte};
+pub use metering_model::{BatchCode, Kind};
+pub use records::{Reading, Record, read_record};
+pub use spans::field_spans;
+pub use tags::Tags;
+pub use wholes::read_whole;
+
+pub mod calendar;
+pub mod dates;
+mod digits;
+mod fields;
+pub mod laws;
+mod numbers;
+mod plain;
+mod records;
+mod spans;
+mod tags;
+mod wholes;

@@ -1,0 +1,59 @@
+//! Fields of plain text. A byte that is not plain is left to the exact reader.
+
+ghost use Rattle.std.specs.Prelude.{◌≡◌, ◌+◌, ◌==◌, ◌∷◌, false, length, position, IfSome, IfNone, IsTrue, is_some};
+ghost use Rattle.std.specs.List.{list_any};
+ghost use Rattle.metering_model.specs.Dates.{stamp_in};
+ghost use Rattle.record_view.specs.Parts.{lent, parts_at};
+ghost use Rattle.record_view.specs.Inner.Placed.{IsPlaced};
+ghost use Rattle.record_view.specs.Inner.Plain.{is_plain, stops_at};
+
+use crate::fields::{Field, cut};
+
+/// Where the first byte stands that is this one, or is not plain.
+fn first_stop(text: &[u8], byte: u8) -> Option<usize>
+    ensures { result ≡ position (stops_at byte) text.now }
+{
+    text.iter()
+        .position(|c| *c < 0x20 || *c >= 0x7C || *c == byte)
+}
+
+/// Whether each byte is plain.
+pub(crate) fn is_plain(text: &[u8]) -> bool
+    ensures { result ≡ is_plain text.now }
+{
+    text.iter().all(|c| *c >= 0x20 && *c < 0x7C)
+}
+
+/// What stands before and behind the first such byte of a text, where all that stands before it is
+/// plain.
+pub(crate) fn split_plain<'a>(whole: Field<'a>, byte: u8) -> Option<(Field<'a>, Field<'a>)>
+    requires { IsPlaced (lent whole) }
+    ensures parts { IfSome result (λ p. parts_at byte (lent whole.entry) ≡ lent p.0 ∷ parts_at byte (lent p.1)) }
+    ensures plain { IfSome result (λ p. IsTrue (is_plain p.0.text.now)) }
+    ensures bars { IfSome result (λ p. (byte == 124) ≡ false
+        → list_any (λ c. c == 124) whole.entry.text.now ≡ list_any (λ c. c == 124) p.1.text.now) }
+    ensures shorter { IfSome result (λ p.
+        length p.0.text.now + length p.1.text.now + 1 ≡ length whole.entry.text.now) }
+    ensures placed { IfSome result (λ p. IsPlaced (lent p.0) × IsPlaced (lent p.1)) }
+    ensures none { IfNone result (IsTrue (is_plain whole.entry.text.now)
+        → list_any (λ c. c == byte) whole.entry.text.now ≡ false) }
+{
+    let at = first_stop(whole.text, byte)?;
+    if whole.text[at] != byte {
+        return None;
+    }
+    Some(cut(whole, at))
+}
+
+/// The 20 bytes before a bar, and what stands behind it. If they are a stamp, the bar is the first.
+pub(crate) fn split_stamp<'a>(whole: Field<'a>) -> Option<(Field<'a>, Field<'a>)>
+    requires { IsPlaced (lent whole) }
+    ensures parts { IfSome result (λ p. IsTrue (is_some (stamp_in p.0.text.now))
+        → parts_at 124 (lent whole.entry) ≡ lent p.0 ∷ parts_at 124 (lent p.1)) }
+    ensures placed { IfSome result (λ p. IsPlaced (lent p.1)) }
+{
+    if whole.text.len() <= 20 || whole.text[20] != b'|' {
+        return None;
+    }
+    Some(cut(whole, 20))
+}

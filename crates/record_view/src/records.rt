@@ -1,0 +1,475 @@
+//! The records of a batch.
+
+ghost use Rattle.std.specs.Prelude.{◌≡◌, ◌≢◌, ◌≤◌, ◌∷◌, [], length, map, slice_range, IsTrue, OnOk, IfOk, IfErr, IfSome, IfNone, MatchResult, Ok, Err, true, false, ℕ, List, codes};
+ghost use Rattle.metering_model.specs.FirstFailure.{holds_or};
+ghost use Rattle.metering_model.specs.Batch.{is_priced, is_text};
+ghost use Rattle.metering_model.specs.BatchReading.{is_same, kind_in, record_in, fields_in};
+ghost use Rattle.record_view.specs.Parts.{LentText, AreLentApart, lent, parts_at};
+ghost use Rattle.record_view.specs.Inner.Placed.{IsPlaced, texts_of};
+ghost use Rattle.record_view.specs.TagTexts.{tag_of, tags_at};
+ghost use Rattle.record_view.specs.Inner.TagPieces.{are_tags};
+ghost use Rattle.record_view.specs.Inner.RecordSteps.{kind_step, stamp_step, order_step, text_step, key_step, value_step, sign_step, commitment_step, tags_step, whole_step};
+ghost use Rattle.record_view.specs.Lent.{lent_tags, reading_tags, record_of, record_texts, lent_fields, IsLentRecord};
+ghost use Rattle.record_view.specs.Inner.LineFields.{reading_parts, amendment_parts, field_texts, record_of_reading, record_of_amendment, HaveStamps, ArePlainFields};
+
+use crate::dates::Stamp;
+use crate::fields::{Field, Span, field_at, is_text, split_at_byte};
+use crate::numbers::read_value;
+use crate::plain::{split_plain, split_stamp};
+use crate::tags::{Tags, are_plain_tags};
+use crate::wholes::read_whole;
+use fx_money::Value;
+use metering_model::{BatchCode, Kind};
+
+/// What an agent metered. The value is in millionths.
+#[derive(Clone, Copy)]
+pub struct Reading<'a> {
+    pub kind: Kind,
+    pub start: Stamp,
+    pub end: Stamp,
+    pub start_text: Field<'a>,
+    pub end_text: Field<'a>,
+    pub account: Field<'a>,
+    pub resource: Field<'a>,
+    pub key: Field<'a>,
+    pub value: Value,
+    pub commitment: Field<'a>,
+    tags: Tags<'a>,
+}
+
+impl<'a> Reading<'a> {
+    /// The tags, by rising keys.
+    pub fn tags(&self) -> Tags<'a>
+        ensures { lent_tags result ≡ reading_tags self.now }
+    {
+        self.tags
+    }
+}
+
+/// A record of a batch.
+#[derive(Clone, Copy)]
+pub enum Record<'a> {
+    Reading(Reading<'a>),
+    /// Gives the reading at that sequence and index of its agent another value.
+    Amend { seq: u32, index: u16, value: Value },
+}
+
+// ---- the rule of each field
+
+fn holds_or(test: bool, code: BatchCode) -> Result<(), BatchCode>
+    ensures { result ≡ holds_or test code }
+{
+    if test { Ok(()) } else { Err(code) }
+}
+
+fn kind_of(letter: &[u8]) -> Option<Kind>
+    ensures { result ≡ kind_in letter.now }
+{
+    match letter {
+        [b'U'] => Some(Kind::Usage),
+        [b'P'] => Some(Kind::Purchase),
+        [b'C'] => Some(Kind::Credit),
+        [b'T'] => Some(Kind::Tax),
+        [b'A'] => Some(Kind::Adjustment),
+        _ => None,
+    }
+}
+
+/// Whether a price charges readings of this kind.
+fn is_priced(kind: Kind) -> bool
+    ensures { result ≡ is_priced kind }
+{
+    match kind {
+        Kind::Usage | Kind::Purchase => true,
+        Kind::Credit | Kind::Tax | Kind::Adjustment => false,
+    }
+}
+
+#[tactic(auto, unfolding(crate::specs::Inner::RecordSteps::kind_step))]
+fn read_kind(letter: &[u8]) -> Result<Kind, BatchCode>
+    ensures { result ≡ kind_step letter.now }
+{
+    kind_of(letter).ok_or(BatchCode::Fields)
+}
+
+#[tactic(auto, unfolding(crate::specs::Inner::RecordSteps::stamp_step))]
+fn read_stamp(text: &[u8]) -> Result<Stamp, BatchCode>
+    ensures { result ≡ stamp_step text.now }
+{
+    Stamp::read(text).ok_or(BatchCode::Time)
+}
+
+#[tactic(auto, unfolding(crate::specs::Inner::RecordSteps::order_step))]
+fn check_order(start: Stamp, end: Stamp) -> Result<(), BatchCode>
+    ensures { result ≡ order_step start end }
+{
+    holds_or(start < end, BatchCode::Time)
+}
+
+#[tactic(auto, unfolding(crate::specs::Inner::RecordSteps::text_step))]
+fn check_text(text: &[u8]) -> Result<(), BatchCode>
+    ensures { result ≡ text_step text.now }
+{
+    holds_or(is_text(text), BatchCode::Text)
+}
+
+#[tactic(auto, unfolding(crate::specs::Inner::RecordSteps::key_step))]
+fn check_key(text: &[u8]) -> Result<(), BatchCode>
+    ensures { result ≡ key_step text.now }
+{
+    holds_or(is_text(text) && !text.is_empty(), BatchCode::Text)
+}
+
+#[tactic(auto, unfolding(crate::specs::Inner::RecordSteps::value_step))]
+fn read_number(text: &[u8]) -> Result<Value, BatchCode>
+    ensures { result ≡ value_step text.now }
+{
+    read_value(text).ok_or(BatchCode::Number)
+}
+
+#[tactic(auto, unfolding(crate::specs::Inner::RecordSteps::sign_step))]
+fn check_sign(kind: Kind, value: Value) -> Result<(), BatchCode>
+    ensures { result ≡ sign_step kind value }
+{
+    holds_or(
+        !is_priced(kind) || value.millionths() >= 0,
+        BatchCode::Number,
+    )
+}
+
+#[tactic(auto, unfolding(crate::specs::Inner::RecordSteps::commitment_step))]
+fn check_commitment(kind: Kind, text: &[u8]) -> Result<(), BatchCode>
+    ensures { result ≡ commitment_step kind text.now }
+{
+    holds_or(
+        is_text(text) && (is_priced(kind) || text.is_empty()),
+        BatchCode::Text,
+    )
+}
+
+#[tactic(auto, unfolding(crate::specs::Inner::RecordSteps::tags_step))]
+fn read_tags<'a>(text: Field<'a>) -> Result<Tags<'a>, BatchCode>
+    requires { IsPlaced (lent text) }
+    ensures read { MatchResult result
+        (λ t. tags_step text.entry.text.now ≡ Ok (map tag_of (lent_tags t)))
+        (λ e. tags_step text.entry.text.now ≡ Err e) }
+    ensures tags { OnOk result (IsTrue (are_tags text.entry.text.now)) }
+    ensures lent { IfOk result (λ t. lent_tags t ≡ tags_at (lent text.entry)) }
+{
+    Tags::read(text).ok_or(BatchCode::Tags)
+}
+
+#[tactic(auto, unfolding(crate::specs::Inner::RecordSteps::whole_step))]
+fn read_count(text: &[u8], low: u32, high: u32) -> Result<u32, BatchCode>
+    requires { high ≤ 1_000_000 }
+    ensures value { result ≡ whole_step low high text.now }
+    ensures within { IfOk result (λ n. n ≤ high) }
+{
+    read_whole(text, low, high).ok_or(BatchCode::Number)
+}
+
+// ---- the fields of a line
+
+/// The fields of a reading behind its letter.
+#[derive(Clone, Copy)]
+struct ReadingFields<'a> {
+    start: Field<'a>,
+    end: Field<'a>,
+    account: Field<'a>,
+    resource: Field<'a>,
+    key: Field<'a>,
+    value: Field<'a>,
+    commitment: Field<'a>,
+    tags: Field<'a>,
+}
+
+/// The fields of an amendment behind its letter.
+#[derive(Clone, Copy)]
+struct AmendmentFields<'a> {
+    seq: Field<'a>,
+    index: Field<'a>,
+    value: Field<'a>,
+}
+
+/// The fields of a reading, if there are as many.
+#[tactic(auto, using(crate::proofs::PartLaws::some_part))]
+fn reading_fields<'a>(rest: Field<'a>) -> Option<ReadingFields<'a>>
+    requires { IsPlaced (lent rest) }
+    ensures none { IfNone result (length (parts_at 124 (lent rest.entry)) ≢ 8) }
+    ensures some { IfSome result (λ f. parts_at 124 (lent rest.entry) ≡ reading_parts f) }
+    ensures placed { IfSome result (λ f. IsPlaced (lent f.tags)) }
+{
+    let (start, rest) = split_at_byte(rest, b'|')?;
+    let (end, rest) = split_at_byte(rest, b'|')?;
+    let (account, rest) = split_at_byte(rest, b'|')?;
+    let (resource, rest) = split_at_byte(rest, b'|')?;
+    let (key, rest) = split_at_byte(rest, b'|')?;
+    let (value, rest) = split_at_byte(rest, b'|')?;
+    let (commitment, tags) = split_at_byte(rest, b'|')?;
+    match split_at_byte(tags, b'|') {
+        Some(_) => None,
+        None => Some(ReadingFields {
+            start,
+            end,
+            account,
+            resource,
+            key,
+            value,
+            commitment,
+            tags,
+        }),
+    }
+}
+
+/// The fields of an amendment, if there are as many.
+#[tactic(auto, using(crate::proofs::PartLaws::some_part))]
+fn amendment_fields<'a>(rest: Field<'a>) -> Option<AmendmentFields<'a>>
+    requires { IsPlaced (lent rest) }
+    ensures none { IfNone result (length (parts_at 124 (lent rest.entry)) ≢ 3) }
+    ensures some { IfSome result (λ f. parts_at 124 (lent rest.entry) ≡ amendment_parts f) }
+{
+    let (seq, rest) = split_at_byte(rest, b'|')?;
+    let (index, value) = split_at_byte(rest, b'|')?;
+    match split_at_byte(value, b'|') {
+        Some(_) => None,
+        None => Some(AmendmentFields { seq, index, value }),
+    }
+}
+
+/// The reading of its fields, or the rule that the first bad one breaks.
+#[tactic(auto, unfolding(crate::specs::Inner::RecordSteps::reading_in))]
+fn read_reading<'a>(letter: &[u8], fields: &ReadingFields<'a>) -> Result<Record<'a>, BatchCode>
+    requires { IsPlaced (lent fields.now.tags) }
+    ensures ok { IfOk result (λ r. record_of_reading letter.now fields.now ≡ Ok (record_of r)) }
+    ensures err { IfErr result (λ e. record_of_reading letter.now fields.now ≡ Err e) }
+    ensures lent { IfOk result (λ r. record_texts r ≡ field_texts fields.now) }
+    ensures tags { OnOk result (IsTrue (are_tags fields.now.tags.text.now)) }
+{
+    let kind = read_kind(letter)?;
+    let start = read_stamp(fields.start.text)?;
+    let end = read_stamp(fields.end.text)?;
+    check_order(start, end)?;
+    check_text(fields.account.text)?;
+    check_text(fields.resource.text)?;
+    check_key(fields.key.text)?;
+    let value = read_number(fields.value.text)?;
+    check_sign(kind, value)?;
+    check_commitment(kind, fields.commitment.text)?;
+    let tags = read_tags(fields.tags)?;
+    Ok(Record::Reading(Reading {
+        kind,
+        start,
+        end,
+        start_text: fields.start,
+        end_text: fields.end,
+        account: fields.account,
+        resource: fields.resource,
+        key: fields.key,
+        value,
+        commitment: fields.commitment,
+        tags,
+    }))
+}
+
+/// The amendment of its fields, or the rule that the first bad one breaks.
+#[tactic(auto, unfolding(crate::specs::Inner::RecordSteps::amendment_in))]
+fn read_amendment<'a>(fields: &AmendmentFields<'_>) -> Result<Record<'a>, BatchCode>
+    ensures ok { IfOk result (λ r. record_of_amendment fields.now ≡ Ok (record_of r)) }
+    ensures err { IfErr result (λ e. record_of_amendment fields.now ≡ Err e) }
+    ensures lent { IfOk result (λ r. record_texts r ≡ []) }
+{
+    let seq = read_count(fields.seq.text, 1, 1_000_000)?;
+    let index = read_count(fields.index.text, 0, 999)? as u16;
+    let value = read_number(fields.value.text)?;
+    Ok(Record::Amend { seq, index, value })
+}
+
+/// Whether it is the letter of an amendment.
+fn is_amendment(letter: &[u8]) -> bool
+    ensures { result ≡ is_same letter.now (codes "X") }
+{
+    matches!(letter, [b'X'])
+}
+
+/// The record of an amendment's line, from what stands behind its letter.
+fn amendment_behind<'a>(letter: &[u8], rest: Field<'_>) -> Result<Record<'a>, BatchCode>
+    requires placed { IsPlaced (lent rest) }
+    requires letter { is_same letter.now (codes "X") ≡ true }
+    ensures ok { IfOk result (λ r.
+        record_in (letter.now ∷ texts_of (parts_at 124 (lent rest.entry))) ≡ Ok (record_of r)) }
+    ensures err { IfErr result (λ e.
+        record_in (letter.now ∷ texts_of (parts_at 124 (lent rest.entry))) ≡ Err e) }
+    ensures places { IfOk result (λ r. (letter : LentText) →
+        record_texts r ≡ lent_fields (letter ∷ parts_at 124 (lent rest.entry))) }
+    ensures lent { IfOk result (λ r. record_texts r ≡ []) }
+{
+    match amendment_fields(rest) {
+        Some(fields) => read_amendment(&fields),
+        None => Err(BatchCode::Fields),
+    }
+}
+
+/// The record of any reading's line, from what stands behind its letter.
+fn exact_reading<'a>(letter: &[u8], rest: Field<'a>) -> Result<Record<'a>, BatchCode>
+    requires placed { IsPlaced (lent rest) }
+    requires letter { is_same letter.now (codes "X") ≡ false }
+    ensures ok { IfOk result (λ r.
+        record_in (letter.now ∷ texts_of (parts_at 124 (lent rest.entry))) ≡ Ok (record_of r)) }
+    ensures err { IfErr result (λ e.
+        record_in (letter.now ∷ texts_of (parts_at 124 (lent rest.entry))) ≡ Err e) }
+    ensures places { IfOk result (λ r. (letter : LentText) →
+        record_texts r ≡ lent_fields (letter ∷ parts_at 124 (lent rest.entry))) }
+    // What it lends is lent by the parts.
+    ensures lent { IfOk result (λ r. (source : List ℕ) (from to : ℕ) →
+        AreLentApart source from to (parts_at 124 (lent rest.entry))
+        → AreLentApart source from to (record_texts r)) }
+{
+    match reading_fields(rest) {
+        Some(fields) => read_reading(letter, &fields),
+        None => Err(BatchCode::Fields),
+    }
+}
+
+// ---- a line of plain bytes, in one pass
+
+/// The fields of a reading, where those that hold texts and tags are plain, and each stamp has the
+/// length of one.
+#[inline(always)]
+fn plain_fields<'a>(rest: Field<'a>) -> Option<ReadingFields<'a>>
+    requires { IsPlaced (lent rest) }
+    ensures parts { IfSome result (λ f. HaveStamps f → parts_at 124 (lent rest.entry) ≡ reading_parts f) }
+    ensures plain { IfSome result ArePlainFields }
+{
+    let (start, rest) = split_stamp(rest)?;
+    let (end, rest) = split_stamp(rest)?;
+    let (account, rest) = split_plain(rest, b'|')?;
+    let (resource, rest) = split_plain(rest, b'|')?;
+    let (key, rest) = split_plain(rest, b'|')?;
+    let (value, rest) = split_plain(rest, b'|')?;
+    let (commitment, tags) = split_plain(rest, b'|')?;
+    if are_plain_tags(tags) {
+        Some(ReadingFields {
+            start,
+            end,
+            account,
+            resource,
+            key,
+            value,
+            commitment,
+            tags,
+        })
+    } else {
+        None
+    }
+}
+
+#[tactic(auto, unfolding(crate::specs::Inner::RecordSteps::key_step))]
+fn check_plain_key(text: &[u8]) -> Result<(), BatchCode>
+    requires { IsTrue (is_text text.now) }
+    ensures { result ≡ key_step text.now }
+{
+    holds_or(!text.is_empty(), BatchCode::Text)
+}
+
+#[tactic(auto, unfolding(crate::specs::Inner::RecordSteps::commitment_step))]
+fn check_plain_commitment(kind: Kind, text: &[u8]) -> Result<(), BatchCode>
+    requires { IsTrue (is_text text.now) }
+    ensures { result ≡ commitment_step kind text.now }
+{
+    holds_or(is_priced(kind) || text.is_empty(), BatchCode::Text)
+}
+
+/// The reading of plain plain. At an error nothing is said of them.
+#[inline(always)]
+fn plain_reading<'a>(letter: &[u8], plain: &ReadingFields<'a>) -> Result<Record<'a>, BatchCode>
+    requires { ArePlainFields plain.now }
+    ensures stamps { OnOk result (HaveStamps plain.now) }
+    ensures ok { IfOk result (λ r. record_of_reading letter.now plain.now ≡ Ok (record_of r)) }
+    ensures lent { IfOk result (λ r. record_texts r ≡ field_texts plain.now) }
+{
+    let kind = read_kind(letter)?;
+    let start = read_stamp(plain.start.text)?;
+    let end = read_stamp(plain.end.text)?;
+    check_order(start, end)?;
+    check_plain_key(plain.key.text)?;
+    let value = read_number(plain.value.text)?;
+    check_sign(kind, value)?;
+    check_plain_commitment(kind, plain.commitment.text)?;
+    let tags = Tags::known(plain.tags);
+    Ok(Record::Reading(Reading {
+        kind,
+        start,
+        end,
+        start_text: plain.start,
+        end_text: plain.end,
+        account: plain.account,
+        resource: plain.resource,
+        key: plain.key,
+        value,
+        commitment: plain.commitment,
+        tags,
+    }))
+}
+
+/// The record of a reading's line of plain bytes, from what stands behind its letter.
+fn plain_record<'a>(letter: &[u8], rest: Field<'a>) -> Option<Record<'a>>
+    requires { IsPlaced (lent rest) }
+    ensures ok { IfSome result (λ r.
+        record_in (letter.now ∷ texts_of (parts_at 124 (lent rest.entry))) ≡ Ok (record_of r)) }
+    ensures places { IfSome result (λ r. (letter : LentText) →
+        record_texts r ≡ lent_fields (letter ∷ parts_at 124 (lent rest.entry))) }
+    ensures lent { IfSome result (λ r. (source : List ℕ) (from to : ℕ) →
+        AreLentApart source from to (parts_at 124 (lent rest.entry))
+        → AreLentApart source from to (record_texts r)) }
+{
+    let fields = plain_fields(rest)?;
+    match plain_reading(letter, &fields) {
+        Ok(record) => Some(record),
+        Err(_) => None,
+    }
+}
+
+/// The record of a reading's line, from what stands behind its letter. What is not plain is read
+/// field by field, for its first fault.
+fn reading_behind<'a>(letter: &[u8], rest: Field<'a>) -> Result<Record<'a>, BatchCode>
+    requires placed { IsPlaced (lent rest) }
+    requires letter { is_same letter.now (codes "X") ≡ false }
+    ensures ok { IfOk result (λ r.
+        record_in (letter.now ∷ texts_of (parts_at 124 (lent rest.entry))) ≡ Ok (record_of r)) }
+    ensures err { IfErr result (λ e.
+        record_in (letter.now ∷ texts_of (parts_at 124 (lent rest.entry))) ≡ Err e) }
+    ensures places { IfOk result (λ r. (letter : LentText) →
+        record_texts r ≡ lent_fields (letter ∷ parts_at 124 (lent rest.entry))) }
+    // What it lends is lent by the parts.
+    ensures lent { IfOk result (λ r. (source : List ℕ) (from to : ℕ) →
+        AreLentApart source from to (parts_at 124 (lent rest.entry))
+        → AreLentApart source from to (record_texts r)) }
+{
+    match plain_record(letter, rest) {
+        Some(record) => Ok(record),
+        None => exact_reading(letter, rest),
+    }
+}
+
+/// The record that the line at this span is, or the rule that its first bad field breaks.
+pub fn read_record<'a>(source: &'a [u8], span: Span) -> Result<Record<'a>, BatchCode>
+    requires ordered { span.from ≤ span.to }
+    requires within { span.to ≤ length source.now }
+    requires short { length source.now ≤ 65536 }
+    ensures ok { IfOk result (λ r.
+        record_in (fields_in (slice_range source.now span.from span.to)) ≡ Ok (record_of r)) }
+    ensures err { IfErr result (λ e.
+        record_in (fields_in (slice_range source.now span.from span.to)) ≡ Err e) }
+    ensures lent { IfOk result (IsLentRecord source.now span) }
+{
+    match split_at_byte(field_at(source, span), b'|') {
+        Some((letter, rest)) => {
+            if is_amendment(letter.text) {
+                amendment_behind(letter.text, rest)
+            } else {
+                reading_behind(letter.text, rest)
+            }
+        }
+        None => Err(BatchCode::Fields),
+    }
+}

@@ -1,0 +1,79 @@
+//! Where the fields of a record stand.
+
+ghost use Rattle.std.specs.Prelude.{◌≡◌, ◌≢◌, ◌≤◌, length, take, slice_range, Ok, MatchOption};
+ghost use Rattle.metering_model.specs.BatchReading.{record_in, fields_in};
+ghost use Rattle.record_view.specs.Lent.{record_of, fields_at, IsLentRecord};
+ghost use Rattle.record_view.specs.Spans.{field_count, spans_at};
+
+use crate::fields::{Span, field_at, split_at_byte};
+use crate::records::Record;
+
+const BAR: u8 = b'|';
+
+/// Stands behind the last field of an amendment.
+const NOWHERE: Span = Span { from: 0, to: 0 };
+
+/// The spans of the fields of a line that has four.
+#[tactic(auto, using(crate::proofs::PartLaws::some_part))]
+fn amendment_spans(source: &[u8], line: Span) -> Option<[Span; 9]>
+    requires ordered { line.from ≤ line.to }
+    requires within { line.to ≤ length source.now }
+    ensures { MatchOption result (length (fields_at source.now line) ≢ 4)
+        (λ spans. take 4 spans ≡ spans_at source.now line) }
+{
+    let (letter, rest) = split_at_byte(field_at(source, line), BAR)?;
+    let (seq, rest) = split_at_byte(rest, BAR)?;
+    let (index, value) = split_at_byte(rest, BAR)?;
+    match split_at_byte(value, BAR) {
+        Some(_) => None,
+        None => Some([
+            letter.span,
+            seq.span,
+            index.span,
+            value.span,
+            NOWHERE,
+            NOWHERE,
+            NOWHERE,
+            NOWHERE,
+            NOWHERE,
+        ]),
+    }
+}
+
+/// The spans of the fields of a record that was read from that line, from left to right: nine of a reading, four of an
+/// amendment, with nothing meant by those behind them. A reading isn't looked through again.
+pub fn field_spans(source: &[u8], line: Span, what: &Record<'_>) -> [Span; 9]
+    requires ordered { line.from ≤ line.to }
+    requires within { line.to ≤ length source.now }
+    requires short { length source.now ≤ 65536 }
+    requires read { record_in (fields_in (slice_range source.now line.from line.to)) ≡ Ok (record_of what.now) }
+    requires lent { IsLentRecord source.now line what.now }
+    ensures { take (field_count what.now) result ≡ spans_at source.now line }
+{
+    match what {
+        Record::Reading(reading) => [
+            Span {
+                from: line.from,
+                to: reading.start_text.span.from - 1,
+            },
+            reading.start_text.span,
+            reading.end_text.span,
+            reading.account.span,
+            reading.resource.span,
+            reading.key.span,
+            Span {
+                from: reading.key.span.to + 1,
+                to: reading.commitment.span.from - 1,
+            },
+            reading.commitment.span,
+            Span {
+                from: reading.commitment.span.to + 1,
+                to: line.to,
+            },
+        ],
+        Record::Amend { .. } => match amendment_spans(source, line) {
+            Some(spans) => spans,
+            None => unreachable!(),
+        },
+    }
+}
