@@ -1,3 +1,4 @@
+mod FromLemmas
 mod ShareLemmas
 mod ShelfLemmas
 mod ShelvesLemmas

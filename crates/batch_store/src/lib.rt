@@ -8,8 +8,10 @@ mod missing;
 mod shelf;
 mod stores;
 mod values;
+mod walk;
 
 pub use stores::Store;
+pub use walk::Batches;
 
 /// Where a record stands: its agent, from 1; its batch's sequence, from 1; its index in the batch, from 0.
 #[derive(Clone, Copy, Debug, PartialEq, Eq, PartialOrd, Ord)]

@@ -1,11 +1,11 @@
 //! The batches of one agent.
 
-ghost use Rattle.std.specs.Prelude.{◌≡◌, ℕ, true, ◌≤◌, ◌<◌, ◌↔◌, [], None, IfOk, IfErr, OnOk, OnErr, IsTrue};
+ghost use Rattle.std.specs.Prelude.{◌+◌, ◌∷◌, MatchOption, ◌≡◌, ℕ, true, ◌≤◌, ◌<◌, ◌↔◌, [], None, IfOk, IfErr, OnOk, OnErr, IsTrue};
 ghost use Rattle.std.specs.Option.{option_copied, option_map, is_some};
 ghost use Rattle.std.specs.Arc.{arc_value};
 ghost use Rattle.metering_model.specs.Holding.{put};
 ghost use Rattle.batch_view.specs.Batches.{batch_of};
-ghost use Rattle.batch_store.specs.Inner.Shelves.{AreFiled, AreOf, Rises, at_seq, up_to_seq, contents, filed_up_to};
+ghost use Rattle.batch_store.specs.Inner.Shelves.{AreFiled, AreOf, Rises, at_seq, from_seq, up_to_seq, contents, filed_up_to};
 
 use batch_view::OwnedBatch;
 use std::alloc::{AllocError, Global};
@@ -77,6 +77,22 @@ impl Shelf {
             return None;
         }
         Some(&self.whole[seq as usize - 1])
+    }
+
+    /// The first batch from a sequence on.
+    pub(crate) fn first_from(&self, seq: u32) -> Option<&OwnedBatch>
+        ensures { MatchOption result (from_seq seq self.now ≡ [])
+            (λ b. from_seq seq self.now ≡ batch_of b.now ∷ from_seq ((batch_of b.now).seq + 1) self.now) }
+    {
+        let first = seq.max(1);
+        if first as usize <= self.whole.len() {
+            return Some(&self.whole[first as usize - 1]);
+        }
+        let mut later = self.ahead.range(first..);
+        match later.next() {
+            Some((_, batch)) => Some(batch),
+            None => None,
+        }
     }
 
     /// The least sequence without a batch.

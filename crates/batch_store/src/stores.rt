@@ -8,6 +8,7 @@ ghost use Rattle.batch_view.specs.Batches.{batch_of};
 ghost use Rattle.batch_store.specs.Stores.{IsStored};
 
 use crate::shelf::Shelf;
+use crate::walk::Batches;
 use batch_view::OwnedBatch;
 use period_cut::Cut;
 use std::alloc::{AllocError, Global};
@@ -74,6 +75,13 @@ impl Store {
         ensures { option_map batch_of (option_copied result) ≡ held self.now.batches agent seq }
     {
         self.shelves[usize::from(agent) - 1].get(seq)
+    }
+
+    /// The batches, by agent and then by sequence. No memory is taken.
+    pub fn batches(&self) -> Batches<'_>
+        ensures { result ≡ self.now.batches }
+    {
+        Batches::of(self.shelves.as_slice())
     }
 
     /// The least sequence that an agent has no batch of, from 1 to 1,000,001. No memory is taken.

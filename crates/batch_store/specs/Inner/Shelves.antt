@@ -38,6 +38,10 @@ filed_up_to last es = filter (λ e. nat_le e.0 last) es
 abbrev pub at_seq : Holding → ℕ → Option Batch
 at_seq h seq = find (λ b. b.seq == seq) h
 
+-- the batches of one agent from a sequence on
+abbrev pub from_seq : ℕ → Holding → Holding
+from_seq first h = filter (λ b. nat_le first b.seq) h
+
 -- the batches of one agent up to a sequence
 abbrev pub up_to_seq : ℕ → Holding → Holding
 up_to_seq last h = filter (λ b. nat_le b.seq last) h
@@ -88,3 +92,8 @@ stored_on xs = record { agents = length xs; batches = on_shelves xs }
 pub record IsStore (xs : List Holding) : Type 0 where
   pub of_agents : AreShelves 1 xs
   pub is_stored : IsStored (stored_on xs)
+
+-- what is on the shelves, of the first of them from a sequence on
+abbrev pub left_from : ℕ → List Holding → Holding
+left_from seq [] = []
+left_from seq (x ∷ xs) = from_seq seq x ++ on_shelves xs
