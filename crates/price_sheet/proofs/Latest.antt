@@ -1,5 +1,5 @@
 -- The latest row of several, looked for from the first one on.
-use Rattle.std.proofs.Common.{◌≡◌, Option, Some, None, cond, int_lt, refl, rules, arith}
+use Rattle.std.proofs.Common.{◌≡◌, Option, Some, None, refl, arith}
 use Rattle.std.proofs.lemmas.Int.{ints}
 use Rattle.metering_model.specs.Sheet.{PriceRow}
 use Rattle.metering_model.specs.PriceInForce.{later_of}

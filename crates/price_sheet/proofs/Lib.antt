@@ -1,7 +1,3 @@
-pub mod Texts
-pub mod Tables
-pub mod KeyLaws
-pub mod RowLaws
 pub mod SheetLaws
 pub mod Chains
 pub mod Latest

@@ -10,11 +10,9 @@ ghost use Rattle.metering_model.specs.PriceInForce.{latest};
 ghost use Rattle.price_sheet.specs.SheetReading.{fault_at, next_price, next_commitment, prices_sku, prices_in, commitments_in};
 ghost use Rattle.price_sheet.specs.Inner.Later.{later_row};
 
-use crate::commitments::Commitment;
-use crate::faults::{Place, SheetFault};
-use crate::keys::{KeyFault, is_same};
-use crate::prices::PriceRow;
+
 use batch_view::Day;
+use sheet_text::{Commitment, KeyFault, Place, PriceRow, SheetFault, is_same};
 use std::alloc::Global;
 use toml::Table;
 

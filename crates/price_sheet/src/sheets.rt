@@ -8,15 +8,13 @@ ghost use Rattle.metering_model.specs.SheetRules.{IsSheet};
 ghost use Rattle.metering_model.specs.PriceInForce.{price_in_force, commitment_with};
 ghost use Rattle.price_sheet.specs.SheetReading.{prices_in, commitments_in, empty_sheet, sheet_in, sheet_of_text};
 
-use crate::commitments::Commitment;
-use crate::faults::{Place, SheetFault};
-use crate::keys::{base_under, rows_under};
-use crate::prices::PriceRow;
+
 use crate::rows::{
     commitments_in, fault_at, find_commitment, latest, prices_in, same_commitments, same_prices,
 };
 use batch_view::Day;
 use period_cut::Month;
+use sheet_text::{Commitment, Place, PriceRow, SheetFault, base_under, rows_under};
 use std::alloc::{AllocError, Global};
 use std::marker::Model;
 use toml::Table;
