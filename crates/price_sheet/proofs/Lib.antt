@@ -1,3 +1,8 @@
 pub mod SheetLaws
 pub mod Chains
-pub mod Latest
+pub mod DayLaws
+pub mod PlaceLaws
+pub mod RowLaws
+pub mod IndexLaws
+pub mod LookLaws
+pub mod IdLaws

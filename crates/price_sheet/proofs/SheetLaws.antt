@@ -30,7 +30,7 @@ not_false : (b : Bool) → not b ≡ true → b ≡ false
 not_false true h = absurd (cc)
 not_false false h = refl
 
-same_comm : (xs ys : List ℕ) → is_same xs ys ≡ is_same ys xs
+pub same_comm : (xs ys : List ℕ) → is_same xs ys ≡ is_same ys xs
 same_comm [] [] = refl
 same_comm [] (y ∷ ys) = refl
 same_comm (x ∷ xs) [] = refl

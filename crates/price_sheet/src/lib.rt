@@ -1,8 +1,12 @@
 //! The price sheet, read from TOML, and look-ups in it. It passes on the rows and the issuer of `sheet_text`.
 #![tactic(auto)]
 
-mod rows;
+mod commitment_table;
+mod places;
+mod price_index;
+mod price_table;
 mod sheets;
+mod starts;
 
 pub use sheet_text::{
     Commitment, CommitmentCategory, Issuer, IssuerFault, Place, PriceRow, ServiceCategory,

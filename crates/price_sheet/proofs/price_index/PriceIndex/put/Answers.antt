@@ -1,0 +1,27 @@
+-- The starts of the SKU, with one more.
+use Rattle.std.proofs.Common.{◌≡◌, List, [], Option, Some, None, sym, ap, subst, ◌∙◌, rules, if◌then◌else◌}
+use Rattle.price_sheet.specs.declared.starts.Start.{Start}
+use Rattle.price_sheet.specs.Inner.Days.{with_start}
+use Rattle.price_sheet.specs.Inner.Places.{found_at, starts_of, Puts}
+use Rattle.price_sheet.proofs.PlaceLaws.{puts}
+use Rattle.price_sheet.proofs.price_index.PriceIndex.put.Goals as goal
+
+pub returns-in_ok-add-in-Some : goal.returns-in_ok-add-in-Some
+returns-in_ok-add-in-Some c =
+    let was = c.args.self.now.starts in
+    let now = c.get_mut.follows.lender c.add.new.self in
+    let found : found_at c.args.sku.now was.entries ≡ Some c.in-Some.starts.now = search rules in
+    let starts : c.add.new.self ≡ with_start c.in-Some.starts.now c.args.start = search rules in
+    let written = puts was now c.args.sku.now c.add.new.self ((c.get_mut.follows.holds c.add.new.self).3 (search rules)) in
+    rw found (subst (λ value. Puts c.args.sku.now value was.entries now.entries) starts written)
+
+pub returns-in_ok-insert-in-None : goal.returns-in_ok-insert-in-None
+returns-in_ok-insert-in-None c =
+    let was = c.args.self.now.starts in
+    let now = c.insert.new.self in
+    let found : found_at c.args.sku.now was.entries ≡ None = search rules in
+    let key : c.in_ok-key-in-None.key.items ≡ c.args.sku.now = search rules in
+    let same : c.get_mut.follows.lender-at-none ≡ was = search (rules, c.get_mut.follows.holds-at-none) in
+    let written = puts c.get_mut.follows.lender-at-none now c.in_ok-key-in-None.key.items c.in_ok-starts-in-None.starts c.in_ok-insert-in-None.ensures.updates in
+    let over = subst (λ map. Puts c.in_ok-key-in-None.key.items c.in_ok-starts-in-None.starts map.entries now.entries) same written in
+    rw found (subst (λ value. Puts c.args.sku.now value was.entries now.entries) c.in_ok-starts-in-None.ensures (subst (λ text. Puts text c.in_ok-starts-in-None.starts was.entries now.entries) key over))
