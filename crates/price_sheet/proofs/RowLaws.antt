@@ -1,17 +1,14 @@
 -- The prices of a SKU, and their starts, with one row more.
-use Rattle.std.proofs.Common.{◌≡◌, ℕ, zero, suc, ◌+◌, ◌<◌, Bool, true, false, cond, ◌&&◌, ◌||◌, List, [], ◌∷◌, ◌++◌, length, filter, slice_get, Option, Some, None, is_some, ℤ, int_le, int_lt, int_eq, Vec, if◌then◌else◌, append-nil, refl, sym, ap, subst, ◌∙◌, rules, arith}
-use Rattle.std.specs.List.{list_any}
-use Rattle.std.proofs.lemmas.Bool.{and_parts}
+use Rattle.std.proofs.Common.{◌≡◌, ℕ, zero, suc, Bool, true, false, cond, ◌&&◌, ◌||◌, List, [], ◌∷◌, ◌++◌, length, filter, slice_get, Option, Some, None, ℤ, int_le, int_lt, if◌then◌else◌, append-nil, refl, ap, ◌∙◌, arith}
 use Rattle.std.proofs.lemmas.Int.{ints}
 use Rattle.std.proofs.lemmas.List.Elements.{filter-append}
 use Rattle.std.proofs.lemmas.List.Folds.{list_any-append}
 use Rattle.metering_model.specs.BatchReading.{is_same}
 use Rattle.metering_model.specs.Sheet.{PriceRow}
-use Rattle.metering_model.specs.SheetRules.{has_same_key}
 use Rattle.metering_model.specs.PriceInForce.{later_of, latest}
 use Rattle.price_sheet.specs.SheetReading.{prices_sku}
 use Rattle.price_sheet.specs.declared.starts.Start.{Start}
-use Rattle.price_sheet.specs.Inner.Days.{rise, begun, with_start}
+use Rattle.price_sheet.specs.Inner.Days.{with_start}
 use Rattle.price_sheet.specs.Inner.Places.{Shows, AreStarts, starts_of}
 use Rattle.price_sheet.proofs.DayLaws.{later_start, begun_with, still_rise}
 

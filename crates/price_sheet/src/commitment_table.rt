@@ -62,7 +62,10 @@ impl CommitmentTable {
         let mut places = IndexMap::new(alloc);
         for table in tables {
             let row = next_commitment(alloc, prices, &rows, &places, table)?;
-            if add_place(alloc, &rows, &mut places, &row).is_err() || rows.push(row).is_err() {
+            if add_place(alloc, &rows, &mut places, &row).is_err() {
+                return Err(SheetFault::OutOfMemory);
+            }
+            if rows.push(row).is_err() {
                 return Err(SheetFault::OutOfMemory);
             }
         }

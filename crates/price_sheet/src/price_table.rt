@@ -59,7 +59,10 @@ impl PriceTable {
         let mut index = PriceIndex::new(alloc);
         for table in tables {
             let row = next_price(alloc, &rows, &index, table)?;
-            if index.add(alloc, &rows, &row).is_err() || rows.push(row).is_err() {
+            if index.add(alloc, &rows, &row).is_err() {
+                return Err(SheetFault::OutOfMemory);
+            }
+            if rows.push(row).is_err() {
                 return Err(SheetFault::OutOfMemory);
             }
         }

@@ -8,7 +8,6 @@ ghost use Rattle.metering_model.specs.SheetRules.{IsSheet};
 ghost use Rattle.metering_model.specs.PriceInForce.{price_in_force, commitment_with};
 ghost use Rattle.price_sheet.specs.SheetReading.{prices_in, commitments_in, empty_sheet, sheet_in, sheet_of_text};
 
-
 use crate::commitment_table::CommitmentTable;
 use crate::places::fault_at;
 use crate::price_table::PriceTable;

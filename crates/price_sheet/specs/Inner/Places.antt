@@ -1,5 +1,5 @@
 -- At which places of a sheet an index finds the rows of a SKU, or of an id.
-use Rattle.std.specs.Prelude.{◌≡◌, ⊤, ℕ, true, ◌&&◌, if◌then◌else◌, List, [], ◌∷◌, filter, slice_get, find, Option, Some, None, is_some, ℤ, int_le, Vec}
+use Rattle.std.specs.Prelude.{◌≡◌, ⊤, ℕ, true, ◌&&◌, if◌then◌else◌, List, [], filter, slice_get, find, Option, Some, None, is_some, ℤ, int_le, Vec}
 use Rattle.std.specs.Map.{lookup}
 use Rattle.std.specs.Str.{bytes_eq}
 use Rattle.metering_model.specs.BatchReading.{is_same}

@@ -1,5 +1,5 @@
 -- One place more.
-use Rattle.std.proofs.Common.{◌≡◌, length, subst, rules, arith}
+use Rattle.std.proofs.Common.{◌≡◌, length, subst, rules}
 use Rattle.price_sheet.specs.Inner.Places.{Puts}
 use Rattle.price_sheet.proofs.PlaceLaws.{puts}
 use Rattle.price_sheet.proofs.IdLaws.{one_more_id}

@@ -1,8 +1,7 @@
 -- The starts of the SKU, with one more.
-use Rattle.std.proofs.Common.{◌≡◌, List, [], Option, Some, None, sym, ap, subst, ◌∙◌, rules, if◌then◌else◌}
-use Rattle.price_sheet.specs.declared.starts.Start.{Start}
+use Rattle.std.proofs.Common.{◌≡◌, Some, None, subst, rules}
 use Rattle.price_sheet.specs.Inner.Days.{with_start}
-use Rattle.price_sheet.specs.Inner.Places.{found_at, starts_of, Puts}
+use Rattle.price_sheet.specs.Inner.Places.{found_at, Puts}
 use Rattle.price_sheet.proofs.PlaceLaws.{puts}
 use Rattle.price_sheet.proofs.price_index.PriceIndex.put.Goals as goal
 

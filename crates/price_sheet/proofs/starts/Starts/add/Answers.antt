@@ -1,5 +1,5 @@
 -- One more start at its place.
-use Rattle.std.proofs.Common.{◌≡◌, true, rules, arith}
+use Rattle.std.proofs.Common.{◌≡◌, true, rules}
 use Rattle.price_sheet.specs.Inner.Days.{rise, with_start}
 use Rattle.price_sheet.proofs.DayLaws.{put_at, still_rise}
 use Rattle.price_sheet.proofs.starts.Starts.add.Goals as goal
