@@ -1,11 +1,14 @@
 -- The places of commitments, with one row more.
-use Rattle.std.proofs.Common.{◌≡◌, ℕ, Bool, true, false, cond, List, [], ◌∷◌, ◌++◌, length, find, slice_get, Option, Some, None, is_some, Vec, if◌then◌else◌, refl, subst, ◌∙◌}
+use Rattle.std.proofs.Common.{◌≡◌, ℕ, Bool, true, false, cond, List, [], ◌∷◌, ◌++◌, length, find, slice_get, Option, Some, None, Ok, is_some, Vec, if◌then◌else◌, refl, sym, subst, ◌∙◌}
 use Rattle.std.specs.List.{list_any}
 use Rattle.std.specs.Option.{option_or}
 use Rattle.std.proofs.lemmas.List.Folds.{find-append}
+use Rattle.toml.specs.Data.{Members}
 use Rattle.metering_model.specs.BatchReading.{is_same}
-use Rattle.metering_model.specs.Sheet.{Commitment}
+use Rattle.metering_model.specs.Sheet.{PriceRow, Commitment}
 use Rattle.metering_model.specs.SheetRules.{has_same_id}
+use Rattle.metering_model.proofs.StepLaws.{ok_step_from}
+use Rattle.price_sheet.specs.SheetReading.{next_commitment, commitments_in}
 use Rattle.price_sheet.specs.Inner.Places.{found_at, Puts, StandsAt, IndexesIds}
 use Rattle.price_sheet.proofs.PlaceLaws.{same_texts}
 use Rattle.price_sheet.proofs.RowLaws.{still_at, last_at}
@@ -59,3 +62,8 @@ one_more_id rows row place old new at fresh indexed puts id = rw (puts id, find-
     by : (b : Bool) → is_same row.id id ≡ b → StandsAt (rows ++ row ∷ []) (if b then Some place else found_at id old) (option_or (find (λ c. is_same c.id id) rows) (cond b (Some row) None))
     by true same = new_stands rows row place (find (λ c. is_same c.id id) rows) at (subst (λ t. is_some (find (λ c. is_same c.id t) rows) ≡ false) (same_texts row.id id same) (found_is_any rows row ∙ fresh))
     by false other = rw (or_none (find (λ c. is_same c.id id) rows)) (still_stands rows row (found_at id old) (find (λ c. is_same c.id id) rows) (indexed id))
+
+-- ---- reading one table more
+
+pub commitment_step : (prices : List PriceRow) (rows : List Commitment) (table : Members) (row : Commitment) (rest : List Members) → next_commitment prices rows table ≡ Ok row → commitments_in prices (rows ++ row ∷ []) rest ≡ commitments_in prices rows (table ∷ rest)
+commitment_step prices rows table row rest read = sym (ok_step_from (next_commitment prices rows table) (λ r. commitments_in prices (rows ++ r ∷ []) rest) row _ read refl)

@@ -43,17 +43,23 @@ impl PriceIndex {
         }
     }
 
+    // The first start of a SKU.
+    fn put_first(&mut self, alloc: Global, sku: &[u8], start: Start) -> Result<(), AllocError>
+        ensures { OnOk result (Puts sku.now (start ∷ []) self.old.starts.entries self.new.starts.entries) }
+    {
+        let key = Vec::from_slice(alloc, sku)?;
+        let starts = Starts::one(alloc, start)?;
+        self.starts.insert(key, starts)?;
+        Ok(())
+    }
+
     fn put(&mut self, alloc: Global, sku: &[u8], start: Start) -> Result<(), AllocError>
         ensures { OnOk result (Puts sku.now (with_start (starts_of (found_at sku.now self.old.starts.entries)) start)
             self.old.starts.entries self.new.starts.entries) }
     {
         match self.starts.get_mut(sku) {
             Some(starts) => starts.add(start)?,
-            None => {
-                let key = Vec::from_slice(alloc, sku)?;
-                let starts = Starts::one(alloc, start)?;
-                self.starts.insert(key, starts)?;
-            }
+            None => self.put_first(alloc, sku, start)?,
         }
         Ok(())
     }

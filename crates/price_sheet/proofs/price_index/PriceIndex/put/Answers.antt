@@ -1,5 +1,5 @@
 -- The starts of the SKU, with one more.
-use Rattle.std.proofs.Common.{◌≡◌, Some, None, subst, rules}
+use Rattle.std.proofs.Common.{◌≡◌, [], ◌∷◌, Some, None, subst, rules}
 use Rattle.price_sheet.specs.Inner.Days.{with_start}
 use Rattle.price_sheet.specs.Inner.Places.{found_at, Puts}
 use Rattle.price_sheet.proofs.PlaceLaws.{puts}
@@ -14,13 +14,10 @@ returns-in_ok-add-in-Some c =
     let written = puts was now c.args.sku.now c.add.new.self ((c.get_mut.follows.holds c.add.new.self).3 (search rules)) in
     rw found (subst (λ value. Puts c.args.sku.now value was.entries now.entries) starts written)
 
-pub returns-in_ok-insert-in-None : goal.returns-in_ok-insert-in-None
-returns-in_ok-insert-in-None c =
+pub returns-in_ok-put_first-in-None : goal.returns-in_ok-put_first-in-None
+returns-in_ok-put_first-in-None c =
     let was = c.args.self.now.starts in
-    let now = c.insert.new.self in
+    let now = c.put_first.new.self.starts in
     let found : found_at c.args.sku.now was.entries ≡ None = search rules in
-    let key : c.in_ok-key-in-None.key.items ≡ c.args.sku.now = search rules in
     let same : c.get_mut.follows.lender-at-none ≡ was = search (rules, c.get_mut.follows.holds-at-none) in
-    let written = puts c.get_mut.follows.lender-at-none now c.in_ok-key-in-None.key.items c.in_ok-starts-in-None.starts c.in_ok-insert-in-None.ensures.updates in
-    let over = subst (λ map. Puts c.in_ok-key-in-None.key.items c.in_ok-starts-in-None.starts map.entries now.entries) same written in
-    rw found (subst (λ value. Puts c.args.sku.now value was.entries now.entries) c.in_ok-starts-in-None.ensures (subst (λ text. Puts text c.in_ok-starts-in-None.starts was.entries now.entries) key over))
+    rw found (subst (λ map. Puts c.args.sku.now (c.args.start ∷ []) map.entries now.entries) same c.in_ok-put_first-in-None.ensures)
