@@ -1,5 +1,5 @@
 -- A SKU with its first start.
-use Rattle.std.proofs.Common.{◌≡◌, [], ◌∷◌, subst, rules}
+use Rattle.std.proofs.Common.{◌≡◌, subst, rules}
 use Rattle.price_sheet.specs.Inner.Places.{Puts}
 use Rattle.price_sheet.proofs.PlaceLaws.{puts}
 use Rattle.price_sheet.proofs.price_index.PriceIndex.put_first.Goals as goal
