@@ -1,7 +1,8 @@
-pub mod Texts
-pub mod Tables
-pub mod KeyLaws
-pub mod RowLaws
 pub mod SheetLaws
 pub mod Chains
-pub mod Latest
+pub mod DayLaws
+pub mod PlaceLaws
+pub mod RowLaws
+pub mod IndexLaws
+pub mod LookLaws
+pub mod IdLaws

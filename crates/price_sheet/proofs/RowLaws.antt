@@ -1,87 +1,94 @@
--- What is read of a table of the sheet, and of an issuer, meets the rules.
-use Rattle.std.proofs.Common.{◌≡◌, ℕ, true, List, Result, Ok, codes, subst}
-use Rattle.toml.specs.Data.{Members}
-use Rattle.metering_model.specs.Sheet.{PriceRow, Commitment, Issuer}
-use Rattle.metering_model.specs.SheetRules.{IsPriceRow, IsCommitment, IsIssuer}
-use Rattle.metering_model.specs.FirstFailure.{◌>>=◌}
-use Rattle.metering_model.proofs.StepLaws.{step_ok, step_iff, ok_same}
-use Rattle.price_sheet.specs.Keys.{KeyFault, service_category_under}
-use Rattle.price_sheet.specs.SheetReading.{price_row_in, commitment_in}
-use Rattle.price_sheet.specs.IssuerReading.{currency_under, is_currency, issuer_in}
-use Rattle.price_sheet.proofs.KeyLaws.{holds_true, label_read, day_is_read, price_is_read, per_is_read}
+-- The prices of a SKU, and their starts, with one row more.
+use Rattle.std.proofs.Common.{◌≡◌, ℕ, zero, suc, Bool, true, false, cond, ◌&&◌, ◌||◌, List, [], ◌∷◌, ◌++◌, length, filter, slice_get, Option, Some, None, ℤ, int_le, int_lt, if◌then◌else◌, append-nil, refl, ap, ◌∙◌, arith}
+use Rattle.std.proofs.lemmas.Int.{ints}
+use Rattle.std.proofs.lemmas.List.Elements.{filter-append}
+use Rattle.std.proofs.lemmas.List.Folds.{list_any-append}
+use Rattle.metering_model.specs.BatchReading.{is_same}
+use Rattle.metering_model.specs.Sheet.{PriceRow}
+use Rattle.metering_model.specs.PriceInForce.{later_of, latest}
+use Rattle.price_sheet.specs.SheetReading.{prices_sku}
+use Rattle.price_sheet.specs.declared.starts.Start.{Start}
+use Rattle.price_sheet.specs.Inner.Days.{with_start}
+use Rattle.price_sheet.specs.Inner.Places.{Shows, AreStarts, starts_of}
+use Rattle.price_sheet.proofs.DayLaws.{later_start, begun_with, still_rise}
 
--- a chain that answered, taken apart with its first step's answer as a variable
-through : (P : Type 0) {A B E : Type 0} (r : Result A E) (f : A → Result B E) (y : B) → (r >>= f) ≡ Ok y → ((x : A) → r ≡ Ok x → f x ≡ Ok y → P) → P
-through P r f y h next =
-    let step = step_ok r f y h in
-    next step.0 step.1 step.2
+-- ---- the latest row
 
-pub price_row_read : (table : Members) (row : PriceRow) → price_row_in table ≡ Ok row → IsPriceRow row
-unfolding price_row_in
-price_row_read table row h =
-    through (IsPriceRow row) _ _ row h (λ sku sku_is behind_sku.
-    through (IsPriceRow row) _ _ row behind_sku (λ price_id price_id_is behind_price_id.
-    through (IsPriceRow row) _ _ row behind_price_id (λ from from_is behind_from.
-    through (IsPriceRow row) _ _ row behind_from (λ description description_is behind_description.
-    through (IsPriceRow row) _ _ row behind_description (λ service service_is behind_service.
-    through (IsPriceRow row) (service_category_under (codes "category") table) _ row behind_service (λ category category_is behind_category.
-    through (IsPriceRow row) _ _ row behind_category (λ consumed_unit consumed_unit_is behind_consumed_unit.
-    through (IsPriceRow row) _ _ row behind_consumed_unit (λ pricing_unit pricing_unit_is behind_pricing_unit.
-    through (IsPriceRow row) _ _ row behind_pricing_unit (λ per per_is behind_per.
-    through (IsPriceRow row) _ _ row behind_per (λ list list_is behind_list.
-    through (IsPriceRow row) _ _ row behind_list (λ contracted contracted_is behind_contracted.
-    subst IsPriceRow (ok_same _ row behind_contracted) (record {
-      sku = label_read (codes "sku") table sku sku_is;
-      price_id = label_read (codes "price_id") table price_id price_id_is;
-      from = day_is_read (codes "from") table from from_is;
-      description = label_read (codes "description") table description description_is;
-      service = label_read (codes "service") table service service_is;
-      consumed_unit = label_read (codes "consumed_unit") table consumed_unit consumed_unit_is;
-      pricing_unit = label_read (codes "pricing_unit") table pricing_unit pricing_unit_is;
-      per = per_is_read (codes "per") table per per_is;
-      list = price_is_read (codes "list") table list list_is;
-      contracted = price_is_read (codes "contracted") table contracted contracted_is;
-    }))))))))))))
+abbrev later_row : Option PriceRow → PriceRow → PriceRow
+later_row None row = row
+later_row (Some best) row = if int_lt best.from row.from then row else best
 
-pub commitment_read : (table : Members) (row : Commitment) → commitment_in table ≡ Ok row → IsCommitment row
-unfolding commitment_in
-commitment_read table row h =
-    let id = simp step_iff at h in
-    let sku = id.2 in
-    let buy = sku.2 in
-    let category = buy.2 in
-    let kind = category.2 in
-    let rate = kind.2 in
-    subst IsCommitment (ok_same _ row rate.2) (record {
-      id = label_read (codes "id") table id.0 id.1;
-      sku = label_read (codes "sku") table sku.0 sku.1;
-      buy = label_read (codes "buy") table buy.0 buy.1;
-      kind = label_read (codes "type") table kind.0 kind.1;
-      rate = price_is_read (codes "rate") table rate.0 rate.1;
-    })
+one_later : (first : PriceRow) (found : Option PriceRow) (row : PriceRow) → later_of first (Some (later_row found row)) ≡ Some (later_row (later_of first found) row)
+one_later first None row = grind (arith, ints)
+one_later first (Some best) row = grind (arith, ints)
 
-currency_read : (key : List ℕ) (table : Members) (x : List ℕ) → currency_under key table ≡ Ok x → is_currency x ≡ true
-unfolding currency_under
-currency_read key table x h =
-    let text = simp step_iff at h in
-    subst (λ t. is_currency t ≡ true) (ok_same text.0 x text.2.2) (holds_true (is_currency text.0) _ _ text.2.1)
+latest_push : (rows : List PriceRow) (row : PriceRow) → latest (rows ++ row ∷ []) ≡ Some (later_row (latest rows) row)
+latest_push [] row = refl
+latest_push (r ∷ rows) row = ap (later_of r) (latest_push rows row) ∙ one_later r (latest rows) row
 
-pub issuer_read : (table : Members) (issuer : Issuer) → issuer_in table ≡ Ok issuer → IsIssuer issuer
-unfolding issuer_in
-issuer_read table issuer h =
-    let provider = simp step_iff at h in
-    let publisher = provider.2 in
-    let name = publisher.2 in
-    let account_id = name.2 in
-    let account_name = account_id.2 in
-    let currency = account_name.2 in
-    let other_service = currency.2 in
-    subst IsIssuer (ok_same _ issuer other_service.2) (record {
-      provider = label_read (codes "provider") table provider.0 provider.1;
-      publisher = label_read (codes "publisher") table publisher.0 publisher.1;
-      issuer = label_read (codes "issuer") table name.0 name.1;
-      account_id = label_read (codes "account_id") table account_id.0 account_id.1;
-      account_name = label_read (codes "account_name") table account_name.0 account_name.1;
-      currency = currency_read (codes "currency") table currency.0 currency.1;
-      other_service = label_read (codes "other_service") table other_service.0 other_service.1;
-    })
+push_if : (rows : List PriceRow) (row : PriceRow) (b : Bool) → latest (rows ++ cond b (row ∷ []) []) ≡ (if b then Some (later_row (latest rows) row) else latest rows)
+push_if rows row true = latest_push rows row
+push_if rows row false = ap latest (append-nil rows)
+
+own_latest : (rows : List PriceRow) (row : PriceRow) (sku : List ℕ) (day : ℤ) → is_same row.sku sku ≡ true → latest (filter (λ r. is_same r.sku sku && int_le r.from day) (rows ++ row ∷ [])) ≡ (if int_le row.from day then Some (later_row (latest (filter (λ r. is_same r.sku sku && int_le r.from day) rows)) row) else latest (filter (λ r. is_same r.sku sku && int_le r.from day) rows))
+own_latest rows row sku day same = rw (filter-append (λ r. is_same r.sku sku && int_le r.from day) rows (row ∷ []), same) (push_if (filter (λ r. is_same r.sku sku && int_le r.from day) rows) row (int_le row.from day))
+
+others_latest : (rows : List PriceRow) (row : PriceRow) (sku : List ℕ) (day : ℤ) → is_same row.sku sku ≡ false → latest (filter (λ r. is_same r.sku sku && int_le r.from day) (rows ++ row ∷ [])) ≡ latest (filter (λ r. is_same r.sku sku && int_le r.from day) rows)
+others_latest rows row sku day other = rw (filter-append (λ r. is_same r.sku sku && int_le r.from day) rows (row ∷ []), other) (ap latest (append-nil (filter (λ r. is_same r.sku sku && int_le r.from day) rows)))
+
+-- ---- rows and their starts
+
+pub still_at : {A : Type 0} (xs ys : List A) (i : ℕ) (x : A) → slice_get xs i ≡ Some x → slice_get (xs ++ ys) i ≡ Some x
+still_at [] ys i x h = absurd (cc)
+still_at (a ∷ xs) ys zero x h = h
+still_at (a ∷ xs) ys (suc i) x h = still_at xs ys i x h
+
+pub last_at : {A : Type 0} (xs : List A) (x : A) → slice_get (xs ++ x ∷ []) (length xs) ≡ Some x
+last_at [] x = refl
+last_at (a ∷ xs) x = last_at xs x
+
+still_shows : (rows : List PriceRow) (row : PriceRow) (start : Option Start) (shown : Option PriceRow) → Shows rows start shown → Shows (rows ++ row ∷ []) start shown
+still_shows rows row None None h = tt
+still_shows rows row None (Some shown) h = h
+still_shows rows row (Some start) None h = h
+still_shows rows row (Some start) (Some shown) h = (still_at rows (row ∷ []) start.place shown h.0, h.1)
+
+shows_later : (rows : List PriceRow) (row : PriceRow) (place : ℕ) (start : Option Start) (shown : Option PriceRow) → place ≡ length rows → Shows rows start shown → Shows (rows ++ row ∷ []) (Some (later_start start (record { day = row.from; place = place }))) (Some (later_row shown row))
+shows_later rows row place None None at h = (rw at (last_at rows row), refl)
+shows_later rows row place None (Some shown) at h = absurd h
+shows_later rows row place (Some start) None at h = absurd h
+shows_later rows row place (Some start) (Some shown) at h = by (int_lt start.day row.from) (int_lt shown.from row.from) (ap (λ day. int_lt day row.from) h.1)
+  where
+    by : (a b : Bool) → a ≡ b → Shows (rows ++ row ∷ []) (Some (if a then (record { day = row.from; place = place }) else start)) (Some (if b then row else shown))
+    by true true e = (rw at (last_at rows row), refl)
+    by true false e = absurd (cc)
+    by false true e = absurd (cc)
+    by false false e = (still_at rows (row ∷ []) start.place shown h.0, h.1)
+
+shows_if : (rows : List PriceRow) (row : PriceRow) (place : ℕ) (b : Bool) (start : Option Start) (shown : Option PriceRow) → place ≡ length rows → Shows rows start shown
+    → Shows (rows ++ row ∷ []) (if b then Some (later_start start (record { day = row.from; place = place })) else start) (if b then Some (later_row shown row) else shown)
+shows_if rows row place true start shown at h = shows_later rows row place start shown at h
+shows_if rows row place false start shown at h = still_shows rows row start shown h
+
+-- ---- the starts of a SKU
+
+priced_push : (rows : List PriceRow) (row : PriceRow) (sku : List ℕ) → prices_sku (rows ++ row ∷ []) sku ≡ (prices_sku rows sku || (is_same row.sku sku || false))
+priced_push rows row sku = list_any-append (λ p. is_same p.sku sku) rows (row ∷ [])
+
+pub others_starts : (rows : List PriceRow) (row : PriceRow) (sku : List ℕ) (found : Option (List Start)) → is_same row.sku sku ≡ false → AreStarts rows sku found → AreStarts (rows ++ row ∷ []) sku found
+others_starts rows row sku found other are = record {
+  priced = grind (arith, are.priced, priced_push rows row sku, other);
+  rising = are.rising;
+  in_force = λ day. rw (others_latest rows row sku day other) (still_shows rows row _ _ (are.in_force day));
+}
+
+pub own_starts : (rows : List PriceRow) (row : PriceRow) (sku : List ℕ) (place : ℕ) (found : Option (List Start)) → is_same row.sku sku ≡ true → place ≡ length rows → AreStarts rows sku found → AreStarts (rows ++ row ∷ []) sku (Some (with_start (starts_of found) (record { day = row.from; place = place })))
+own_starts rows row sku place found same at are = record {
+  priced = grind (arith, priced_push rows row sku, same);
+  rising = still_rise (starts_of found) (record { day = row.from; place = place }) are.rising;
+  in_force = λ day. rw (own_latest rows row sku day same, begun_with day (starts_of found) (record { day = row.from; place = place }) are.rising) (shows_if rows row place (int_le row.from day) _ _ at (are.in_force day));
+}
+
+-- no rows have no starts
+pub no_starts : (sku : List ℕ) → AreStarts [] sku None
+no_starts sku = record { priced = refl; rising = refl; in_force = λ day. tt }

@@ -1,20 +1,20 @@
 -- What is read of the tables of a sheet is a sheet.
-use Rattle.std.proofs.Common.{◌≡◌, ℕ, ◌+◌, ◌≤◌, Bool, true, false, not, ◌&&◌, ◌||◌, ◌==◌, List, [], ◌∷◌, ◌++◌, length, All, Option, Some, None, Result, Ok, Err, int_eq, codes, refl, sym, ap, subst, ◌∙◌, length-append, rules, arith}
+use Rattle.std.proofs.Common.{◌≡◌, ℕ, ◌+◌, Bool, true, false, not, ◌&&◌, ◌||◌, ◌==◌, List, [], ◌∷◌, ◌++◌, length, All, Result, Ok, Err, int_eq, codes, refl, ap, subst, ◌∙◌, length-append, arith}
 use Rattle.std.specs.List.{list_any}
 use Rattle.std.specs.Cmp.{nat_eq_equiv, int_eq_equiv}
-use Rattle.std.proofs.lemmas.Bool.{and_parts, and_from, leb-true}
+use Rattle.std.proofs.lemmas.Bool.{and_parts, and_from}
 use Rattle.std.proofs.lemmas.List.Elements.{All-nil, All-push}
 use Rattle.std.proofs.lemmas.List.Folds.{list_any-append}
-use Rattle.toml.specs.Data.{Data, Members, get_member}
+use Rattle.toml.specs.Data.{Members}
 use Rattle.metering_model.specs.BatchReading.{is_same}
 use Rattle.metering_model.specs.Sheet.{PriceRow, Commitment, Sheet}
 use Rattle.metering_model.specs.SheetRules.{IsPriceRow, IsCommitment, IsSheet, are_apart, has_same_key, has_same_id}
 use Rattle.metering_model.proofs.StepLaws.{step_ok, step_iff, ok_same}
-use Rattle.price_sheet.specs.Keys.{KeyFault, rows_in, rows_or_none, rows_under}
+use Rattle.sheet_text.specs.declared.keys.KeyFault.{KeyFault}
 use Rattle.price_sheet.specs.SheetReading.{at_place, next_price, next_commitment, prices_in, commitments_in, prices_sku, sheet_in}
-use Rattle.price_sheet.specs.declared.faults.Place.{Place}
-use Rattle.price_sheet.proofs.KeyLaws.{holds_true, base_is_read}
-use Rattle.price_sheet.proofs.RowLaws.{price_row_read, commitment_read}
+use Rattle.sheet_text.specs.declared.faults.Place.{Place}
+use Rattle.sheet_text.proofs.KeyLaws.{holds_true, base_is_read, few_under}
+use Rattle.sheet_text.proofs.RowLaws.{price_row_read, commitment_read}
 
 placed_ok : {A : Type 0} (place : Place) (r : Result A KeyFault) (x : A) → at_place place r ≡ Ok x → r ≡ Ok x
 placed_ok place (Ok y) x h = cc
@@ -30,7 +30,7 @@ not_false : (b : Bool) → not b ≡ true → b ≡ false
 not_false true h = absurd (cc)
 not_false false h = refl
 
-same_comm : (xs ys : List ℕ) → is_same xs ys ≡ is_same ys xs
+pub same_comm : (xs ys : List ℕ) → is_same xs ys ≡ is_same ys xs
 same_comm [] [] = refl
 same_comm [] (y ∷ ys) = refl
 same_comm (x ∷ xs) [] = refl
@@ -101,21 +101,6 @@ commitments_read prices rows (table ∷ tables) all are h =
     (rest.0, omega (arith, rest.1, one_behind rows step.0))
 
 -- ---- the sheet
-
-few_rows : (value : Data) (tables : List Members) → rows_in value ≡ Ok tables → length tables ≤ 10_000
-unfolding rows_in
-few_rows value tables h =
-    let items = simp step_iff at h in
-    let read = items.2 in
-    subst (λ t. length t ≤ 10_000) (ok_same read.0 tables read.2.2) (leb-true (length read.0) 10_000 (holds_true _ _ _ read.2.1))
-
-few_or_none : (found : Option Data) (tables : List Members) → rows_or_none found ≡ Ok tables → length tables ≤ 10_000
-few_or_none None tables h = subst (λ t. length t ≤ 10_000) (ok_same [] tables h) (omega arith)
-few_or_none (Some value) tables h = few_rows value tables h
-
-few_under : (key : List ℕ) (table : Members) (tables : List Members) → rows_under key table ≡ Ok tables → length tables ≤ 10_000
-unfolding rows_under
-few_under key table tables h = few_or_none (get_member key table) tables h
 
 pub sheet_read : (table : Members) (sheet : Sheet) → sheet_in table ≡ Ok sheet → IsSheet sheet
 unfolding sheet_in

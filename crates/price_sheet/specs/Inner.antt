@@ -1,2 +1,2 @@
-pub mod Gives
-pub mod Later
+pub mod Days
+pub mod Places

@@ -7,12 +7,14 @@ use Rattle.metering_model.specs.FirstFailure.{◌>>=◌, holds_or}
 use Rattle.metering_model.specs.BatchReading.{is_same}
 use Rattle.metering_model.specs.Sheet.{PriceRow, Commitment, Sheet}
 use Rattle.metering_model.specs.SheetRules.{has_same_key, has_same_id}
-use Rattle.price_sheet.specs.declared.faults.Place.{Place}
-use Rattle.price_sheet.specs.declared.faults.Place.TheVariants as places
-use Rattle.price_sheet.specs.declared.faults.SheetFault.{SheetFault}
-use Rattle.price_sheet.specs.declared.faults.SheetFault.TheVariants as faults
-use Rattle.price_sheet.specs.declared.keys.KeyFault.TheVariants as key_faults
-use Rattle.price_sheet.specs.Keys.{KeyFault, label_under, day_under, base_under, price_under, per_under, service_category_under, commitment_category_under, rows_under}
+use Rattle.sheet_text.specs.declared.faults.Place.{Place}
+use Rattle.sheet_text.specs.declared.faults.Place.TheVariants as places
+use Rattle.sheet_text.specs.declared.faults.SheetFault.{SheetFault}
+use Rattle.sheet_text.specs.declared.faults.SheetFault.TheVariants as faults
+use Rattle.sheet_text.specs.declared.keys.KeyFault.TheVariants as key_faults
+use Rattle.sheet_text.specs.Keys.{base_under, rows_under}
+use Rattle.sheet_text.specs.declared.keys.KeyFault.{KeyFault}
+use Rattle.sheet_text.specs.RowReading.{price_row_in, commitment_in}
 
 -- the fault of a key, told of the place of its table
 abbrev pub fault_at : Place → KeyFault → SheetFault
@@ -23,44 +25,6 @@ fault_at place key_faults.OutOfMemory = faults.OutOfMemory
 abbrev pub at_place : {A : Type 0} → Place → Result A KeyFault → Result A SheetFault
 at_place place (Ok x) = Ok x
 at_place place (Err fault) = Err (fault_at place fault)
-
--- a row of prices, key by key
-unfoldable pub price_row_in : Members → Result PriceRow KeyFault
-price_row_in table = do
-  sku ← label_under (codes "sku") table
-  price_id ← label_under (codes "price_id") table
-  from ← day_under (codes "from") table
-  description ← label_under (codes "description") table
-  service ← label_under (codes "service") table
-  category ← service_category_under (codes "category") table
-  consumed_unit ← label_under (codes "consumed_unit") table
-  pricing_unit ← label_under (codes "pricing_unit") table
-  per ← per_under (codes "per") table
-  list ← price_under (codes "list") table
-  contracted ← price_under (codes "contracted") table
-  Ok (record {
-    sku = sku;
-    price_id = price_id;
-    from = from;
-    description = description;
-    service = service;
-    category = category;
-    consumed_unit = consumed_unit;
-    pricing_unit = pricing_unit;
-    per = per;
-    list = list;
-    contracted = contracted;
-  })
-
-unfoldable pub commitment_in : Members → Result Commitment KeyFault
-commitment_in table = do
-  id ← label_under (codes "id") table
-  sku ← label_under (codes "sku") table
-  buy ← label_under (codes "buy") table
-  category ← commitment_category_under (codes "category") table
-  kind ← label_under (codes "type") table
-  rate ← price_under (codes "rate") table
-  Ok (record { id = id; sku = sku; buy = buy; category = category; kind = kind; rate = rate })
 
 -- Rows are counted from 1: the next one stands behind those that were read.
 abbrev pub price_place : List PriceRow → Place

@@ -1,17 +1,15 @@
-//! The price sheet and the issuer, read from TOML, and look-ups in the sheet.
+//! The price sheet, read from TOML, and look-ups in it. It passes on the rows and the issuer of `sheet_text`.
 #![tactic(auto)]
 
-mod commitments;
-mod faults;
-mod issuers;
-mod keys;
-mod prices;
-mod rows;
+mod commitment_table;
+mod places;
+mod price_index;
+mod price_table;
 mod sheets;
+mod starts;
 
-pub use commitments::Commitment;
-pub use faults::{IssuerFault, Place, SheetFault};
-pub use issuers::Issuer;
-pub use metering_model::{CommitmentCategory, ServiceCategory};
-pub use prices::PriceRow;
+pub use sheet_text::{
+    Commitment, CommitmentCategory, Issuer, IssuerFault, Place, PriceRow, ServiceCategory,
+    SheetFault,
+};
 pub use sheets::Sheet;

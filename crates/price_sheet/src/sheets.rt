@@ -8,25 +8,22 @@ ghost use Rattle.metering_model.specs.SheetRules.{IsSheet};
 ghost use Rattle.metering_model.specs.PriceInForce.{price_in_force, commitment_with};
 ghost use Rattle.price_sheet.specs.SheetReading.{prices_in, commitments_in, empty_sheet, sheet_in, sheet_of_text};
 
-use crate::commitments::Commitment;
-use crate::faults::{Place, SheetFault};
-use crate::keys::{base_under, rows_under};
-use crate::prices::PriceRow;
-use crate::rows::{
-    commitments_in, fault_at, find_commitment, latest, prices_in, same_commitments, same_prices,
-};
+use crate::commitment_table::CommitmentTable;
+use crate::places::fault_at;
+use crate::price_table::PriceTable;
 use batch_view::Day;
 use period_cut::Month;
+use sheet_text::{Commitment, Place, PriceRow, SheetFault, base_under, rows_under};
 use std::alloc::{AllocError, Global};
 use std::marker::Model;
 use toml::Table;
 
 /// Prices and commitments, in the order of the sheet, and the month that period 0 bills.
-#[derive(Debug, Drop)]
+#[derive(Drop)]
 pub struct Sheet {
     base: Month,
-    prices: Vec<PriceRow>,
-    commitments: Vec<Commitment>,
+    prices: PriceTable,
+    commitments: CommitmentTable,
 }
 
 impl Model for Sheet {
@@ -37,8 +34,8 @@ impl Model for Sheet {
 
     ghost view = { λ s. record {
       base = s.base;
-      prices = s.prices.items;
-      commitments = s.commitments.items;
+      prices = s.prices;
+      commitments = s.commitments;
     } };
 
     ghost invariant = { λ s. IsBaseMonth s.base };
@@ -71,8 +68,8 @@ impl Sheet {
     {
         Ok(Sheet {
             base,
-            prices: Vec::new(alloc),
-            commitments: Vec::new(alloc),
+            prices: PriceTable::new(alloc),
+            commitments: CommitmentTable::new(alloc),
         })
     }
 
@@ -94,8 +91,8 @@ impl Sheet {
             Ok(tables) => tables,
             Err(fault) => return Err(fault_at(Place::Top, fault)),
         };
-        let prices = prices_in(alloc, &price_tables)?;
-        let commitments = commitments_in(alloc, &prices, &commitment_tables)?;
+        let prices = PriceTable::read(alloc, &price_tables)?;
+        let commitments = CommitmentTable::read(alloc, &prices, &commitment_tables)?;
         Ok(Sheet {
             base,
             prices,
@@ -107,14 +104,14 @@ impl Sheet {
     pub fn price(&self, sku: &[u8], day: Day) -> Option<&PriceRow>
         ensures { option_copied result ≡ price_in_force self.now sku.now day }
     {
-        latest(&self.prices, sku, day)
+        self.prices.in_force(sku, day)
     }
 
     /// The commitment with an id. No memory is taken.
     pub fn commitment(&self, id: &[u8]) -> Option<&Commitment>
         ensures { option_copied result ≡ commitment_with self.now id.now }
     {
-        find_commitment(&self.commitments, id)
+        self.commitments.with_id(id)
     }
 
     /// The month that period 0 bills, from 2000-01 to 2100-12.
@@ -130,7 +127,7 @@ impl Sheet {
         ensures { IsTrue result ↔ (self.now ≡ other.now) }
     {
         self.base == other.base
-            && same_prices(&self.prices, &other.prices)
-            && same_commitments(&self.commitments, &other.commitments)
+            && self.prices.same(&other.prices)
+            && self.commitments.same(&other.commitments)
     }
 }

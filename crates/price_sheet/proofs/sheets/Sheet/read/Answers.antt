@@ -1,5 +1,4 @@
 -- A table that is read as a sheet, and a text that is no TOML.
-use Rattle.std.proofs.Common.{refl, ◌∙◌}
 use Rattle.std.proofs.lemmas.Result.{IfOk-weaker}
 use Rattle.metering_model.specs.SheetRules.{IsSheet}
 use Rattle.price_sheet.specs.SheetReading.{sheet_of_text}

@@ -1,0 +1,12 @@
+use Rattle.std.proofs.Common.{◌≡◌, [], drop, map, length}
+use Rattle.toml.specs.View.{table_view}
+use Rattle.price_sheet.specs.SheetReading.{commitments_in}
+use Rattle.price_sheet.specs.Inner.Places.{IndexesIds}
+use Rattle.price_sheet.proofs.commitment_table.CommitmentTable.read.Given as goal
+
+abbrev pub invariant-loop-table : goal.invariant-loop-table
+invariant-loop-table l = record {
+  read : commitments_in l.prices l.rows.items (map (λ t. table_view t.now) (drop l.table-index l.tables)) ≡ commitments_in l.prices [] (map (λ t. table_view t.now) l.tables);
+  count : length l.rows.items ≡ l.table-index;
+  indexed : IndexesIds l.rows.items l.places.entries;
+}

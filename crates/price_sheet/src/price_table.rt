@@ -1,0 +1,159 @@
+//! The rows of prices, and looking among them.
+
+ghost use Rattle.std.specs.Prelude.{◌≡◌, ◌≢◌, ◌↔◌, ◌<◌, ◌≤◌, ◌&&◌, Ok, Err, IfOk, IfErr, IsTrue, [], length, map, filter, int_le};
+ghost use Rattle.std.specs.Option.{option_copied};
+ghost use Rattle.std.specs.List.{list_any};
+ghost use Rattle.toml.specs.View.{table_view};
+ghost use Rattle.metering_model.specs.BatchReading.{is_same};
+ghost use Rattle.metering_model.specs.SheetRules.{has_same_key};
+ghost use Rattle.metering_model.specs.PriceInForce.{latest};
+ghost use Rattle.price_sheet.specs.SheetReading.{next_price, prices_sku, prices_in};
+ghost use Rattle.price_sheet.specs.Inner.Places.{IndexesPrices};
+
+use crate::places::fault_at;
+use crate::price_index::PriceIndex;
+use batch_view::Day;
+use sheet_text::{Place, PriceRow, SheetFault};
+use std::alloc::Global;
+use std::marker::Model;
+use toml::Table;
+
+/// The rows of prices in the order of the sheet, with their places by SKU and day.
+#[derive(Drop)]
+pub(crate) struct PriceTable {
+    rows: Vec<PriceRow>,
+    index: PriceIndex,
+}
+
+impl Model for PriceTable {
+    ghost use Rattle.std.specs.Prelude.{List};
+    ghost use Rattle.metering_model.specs.Sheet.{PriceRow};
+    ghost use Rattle.price_sheet.specs.Inner.Places.{IndexesPrices};
+
+    ghost Value = { List PriceRow };
+
+    ghost view = { λ t. t.rows.items };
+
+    ghost invariant = { λ t. IndexesPrices t.rows.items t.index.starts.entries };
+}
+
+impl PriceTable {
+    /// A table of no rows.
+    pub(crate) fn new(alloc: Global) -> PriceTable
+        ensures { result ≡ [] }
+    {
+        PriceTable {
+            rows: Vec::new(alloc),
+            index: PriceIndex::new(alloc),
+        }
+    }
+
+    /// The rows of the tables, in order.
+    pub(crate) fn read(alloc: Global, tables: &[&Table]) -> Result<PriceTable, SheetFault>
+        requires { length tables.now ≤ 10_000 }
+        ensures taken { IfOk result (λ rows. prices_in [] (map (λ t. table_view t.now) tables.now) ≡ Ok rows) }
+        ensures refused { IfErr result (λ fault. fault ≢ SheetFault.OutOfMemory
+            → prices_in [] (map (λ t. table_view t.now) tables.now) ≡ Err fault) }
+    {
+        let mut rows = Vec::new(alloc);
+        let mut index = PriceIndex::new(alloc);
+        for table in tables {
+            let row = next_price(alloc, &rows, &index, table)?;
+            if index.add(alloc, &rows, &row).is_err() {
+                return Err(SheetFault::OutOfMemory);
+            }
+            if rows.push(row).is_err() {
+                return Err(SheetFault::OutOfMemory);
+            }
+        }
+        Ok(PriceTable { rows, index })
+    }
+
+    /// Whether some row prices the SKU. No memory is taken.
+    pub(crate) fn has_sku(&self, sku: &[u8]) -> bool
+        ensures { result ≡ prices_sku self.now sku.now }
+    {
+        self.index.has_sku(sku)
+    }
+
+    /// Of the rows of a SKU that have begun on a day, the one that began last. No memory is taken.
+    pub(crate) fn in_force(&self, sku: &[u8], day: Day) -> Option<&PriceRow>
+        ensures { option_copied result
+            ≡ latest (filter (λ r. is_same r.sku sku.now && int_le r.from day) self.now) }
+    {
+        row_in_force(&self.rows, &self.index, sku, day)
+    }
+
+    /// Whether the rows are the same, in the same order.
+    pub(crate) fn same(&self, other: &PriceTable) -> bool
+        ensures { IsTrue result ↔ (self.now ≡ other.now) }
+    {
+        same_rows(&self.rows, &other.rows)
+    }
+}
+
+fn row_in_force<'a>(
+    rows: &'a [PriceRow],
+    index: &PriceIndex,
+    sku: &[u8],
+    day: Day,
+) -> Option<&'a PriceRow>
+    requires { IndexesPrices rows.now index.now.starts.entries }
+    ensures { option_copied result
+        ≡ latest (filter (λ r. is_same r.sku sku.now && int_le r.from day) rows.now) }
+{
+    match index.begun(sku, day) {
+        Some(start) => rows.get(start.place as usize),
+        None => None,
+    }
+}
+
+/// Whether an earlier row has the SKU and the day of this one.
+fn is_priced_before(rows: &[PriceRow], index: &PriceIndex, row: &PriceRow) -> bool
+    requires { IndexesPrices rows.now index.now.starts.entries }
+    ensures { result ≡ list_any (has_same_key row.now) rows.now }
+{
+    match row_in_force(rows, index, row.sku().as_bytes(), row.from()) {
+        Some(earlier) => earlier.from() == row.from(),
+        None => false,
+    }
+}
+
+/// The row of one more table.
+#[tactic(auto, using(crate::proofs::Chains::placed_fails), unfolding(crate::specs::SheetReading::next_price))]
+fn next_price(
+    alloc: Global,
+    rows: &[PriceRow],
+    index: &PriceIndex,
+    table: &Table,
+) -> Result<PriceRow, SheetFault>
+    requires few { length rows.now < 10_000 }
+    requires indexed { IndexesPrices rows.now index.now.starts.entries }
+    ensures taken { IfOk result (λ row. next_price rows.now (table_view table.now) ≡ Ok row) }
+    ensures refused { IfErr result (λ fault. fault ≢ SheetFault.OutOfMemory
+        → next_price rows.now (table_view table.now) ≡ Err fault) }
+{
+    let place = Place::Price(rows.len() as u16 + 1);
+    let row = match PriceRow::read(alloc, table) {
+        Ok(row) => row,
+        Err(fault) => return Err(fault_at(place, fault)),
+    };
+    if is_priced_before(rows, index, &row) {
+        return Err(SheetFault::Duplicate(place));
+    }
+    Ok(row)
+}
+
+fn same_rows(left: &[PriceRow], right: &[PriceRow]) -> bool
+    ensures { IsTrue result ↔ (left.now ≡ right.now) }
+{
+    if left.len() != right.len() {
+        return false;
+    }
+    for i in 0..left.len() {
+        if !left[i].same(&right[i]) {
+            return false;
+        }
+    }
+    true
+}

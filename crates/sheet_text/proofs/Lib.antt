@@ -1,0 +1,5 @@
+pub mod Texts
+pub mod Tables
+pub mod KeyLaws
+pub mod RowLaws
+pub mod Chains

@@ -1,0 +1,17 @@
+-- What the map of a table finds under a key.
+use Rattle.std.proofs.Common.{rules}
+use Rattle.toml.proofs.Views.{table_get}
+use Rattle.sheet_text.specs.Keys.{rows_under}
+use Rattle.sheet_text.proofs.keys.rows_under.Goals as goal
+
+pub returns-in-Some-clause-gives : goal.returns-in-Some-clause-gives
+unfolding rows_under
+returns-in-Some-clause-gives c =
+    let found = table_get c.get.result c.args.key.now c.args.table.now.entries c.get.ensures.value in
+    rw (← rw c.in-Some.is at found) c.rows_in.ensures.gives
+
+pub returns-in-None-clause-gives : goal.returns-in-None-clause-gives
+unfolding rows_under
+returns-in-None-clause-gives c =
+    let found = table_get c.get.result c.args.key.now c.args.table.now.entries c.get.ensures.value in
+    rw (← rw c.in-None.is at found) (search rules)

@@ -1,0 +1,16 @@
+-- What the map of a table finds under a key.
+use Rattle.toml.proofs.Views.{table_get}
+use Rattle.sheet_text.specs.Keys.{value_under}
+use Rattle.sheet_text.proofs.keys.value_under.Goals as goal
+
+pub returns-in-Some : goal.returns-in-Some
+unfolding value_under
+returns-in-Some c =
+    let found = table_get c.get.result c.args.key.now c.args.table.now.entries c.get.ensures.value in
+    rw (← rw c.in-Some.is at found)
+
+pub returns-in-None : goal.returns-in-None
+unfolding value_under
+returns-in-None c =
+    let found = table_get c.get.result c.args.key.now c.args.table.now.entries c.get.ensures.value in
+    rw (← rw c.in-None.is at found)

@@ -1,0 +1,107 @@
+-- What stands under the keys of a TOML table, each in the form that it must have.
+use Rattle.std.specs.Prelude.{ℕ, Bool, ◌&&◌, nat_le, List, [], ◌∷◌, length, Option, Some, None, Result, Ok, ok_or, ℤ, pos, int_le, unsigned_abs, find}
+use Rattle.std.specs.Result.{result_ok}
+use Rattle.toml.specs.Data.{Data, Items, no_items, item, Members, as_str, as_integer, as_array, as_table, get_member}
+pub use Rattle.sheet_text.specs.declared.keys.KeyFault.{KeyFault}
+use Rattle.sheet_text.specs.declared.keys.KeyFault.TheVariants.{Missing, BadValue}
+use Rattle.metering_model.specs.FirstFailure.{◌>>=◌, holds_or}
+use Rattle.metering_model.specs.NumberText.{price_in}
+use Rattle.metering_model.specs.Dates.{day_in, month_in}
+use Rattle.metering_model.specs.BatchReading.{is_same, with_first}
+use Rattle.metering_model.specs.declared.ServiceCategory.{ServiceCategory}
+use Rattle.metering_model.specs.declared.ServiceCategory.TheVariants.{Compute, Storage, Networking, Databases, Other}
+use Rattle.metering_model.specs.declared.CommitmentCategory.{CommitmentCategory}
+use Rattle.metering_model.specs.declared.CommitmentCategory.TheVariants.{Spend, Usage}
+use Rattle.metering_model.specs.Sheet.{service_category_text, commitment_category_text}
+use Rattle.metering_model.specs.SheetRules.{is_label}
+
+-- what stands under the key, if the key is there
+unfoldable pub value_under : List ℕ → Members → Result Data KeyFault
+value_under key table = ok_or (get_member key table) Missing
+
+-- the string under the key
+unfoldable pub text_under : List ℕ → Members → Result (List ℕ) KeyFault
+text_under key table = do
+  value ← value_under key table
+  ok_or (as_str value) BadValue
+
+unfoldable pub label_under : List ℕ → Members → Result (List ℕ) KeyFault
+label_under key table = do
+  text ← text_under key table
+  _ ← holds_or (is_label text) BadValue
+  Ok text
+
+-- the day that a string YYYY-MM-DD names
+unfoldable pub day_under : List ℕ → Members → Result ℤ KeyFault
+day_under key table = do
+  text ← text_under key table
+  ok_or (day_in text) BadValue
+
+abbrev pub is_base_month : ℕ → Bool
+is_base_month m = nat_le 24_000 m && nat_le m 25_211
+
+-- the month that a string YYYY-MM names, from 2000-01 to 2100-12
+unfoldable pub base_under : List ℕ → Members → Result ℕ KeyFault
+base_under key table = do
+  text ← text_under key table
+  month ← ok_or (month_in text) BadValue
+  _ ← holds_or (is_base_month month) BadValue
+  Ok month
+
+-- the price that a string spells, in millionths
+unfoldable pub price_under : List ℕ → Members → Result ℕ KeyFault
+price_under key table = do
+  text ← text_under key table
+  ok_or (result_ok (price_in text)) BadValue
+
+-- an integer of TOML, from 1 to 1,000,000,000
+unfoldable pub per_under : List ℕ → Members → Result ℕ KeyFault
+per_under key table = do
+  value ← value_under key table
+  number ← ok_or (as_integer value) BadValue
+  _ ← holds_or (int_le (pos 1) number && int_le number (pos 1_000_000_000)) BadValue
+  Ok (unsigned_abs number)
+
+abbrev pub service_categories : List ServiceCategory
+service_categories = Compute ∷ Storage ∷ Networking ∷ Databases ∷ Other ∷ []
+
+-- the category of which it is the text
+abbrev pub service_category_in : List ℕ → Option ServiceCategory
+service_category_in text = find (λ c. is_same text (service_category_text c)) service_categories
+
+unfoldable pub service_category_under : List ℕ → Members → Result ServiceCategory KeyFault
+service_category_under key table = do
+  text ← text_under key table
+  ok_or (service_category_in text) BadValue
+
+abbrev pub commitment_categories : List CommitmentCategory
+commitment_categories = Spend ∷ Usage ∷ []
+
+abbrev pub commitment_category_in : List ℕ → Option CommitmentCategory
+commitment_category_in text = find (λ c. is_same text (commitment_category_text c)) commitment_categories
+
+unfoldable pub commitment_category_under : List ℕ → Members → Result CommitmentCategory KeyFault
+commitment_category_under key table = do
+  text ← text_under key table
+  ok_or (commitment_category_in text) BadValue
+
+-- the tables of an array that has nothing but tables
+abbrev pub tables_in : Items → Option (List Members)
+tables_in no_items = Some []
+tables_in (item value values) = with_first (as_table value) (tables_in values)
+
+-- an array of at most 10,000 tables
+unfoldable pub rows_in : Data → Result (List Members) KeyFault
+rows_in value = do
+  items ← ok_or (as_array value) BadValue
+  tables ← ok_or (tables_in items) BadValue
+  _ ← holds_or (nat_le (length tables) 10_000) BadValue
+  Ok tables
+
+-- the rows under the key; a key that is not there has none
+abbrev pub rows_or_none : Option Data → Result (List Members) KeyFault
+rows_or_none None = Ok []
+rows_or_none (Some value) = rows_in value
+
+unfoldable pub rows_under : List ℕ → Members → Result (List Members) KeyFault
+rows_under key table = rows_or_none (get_member key table)

@@ -1,0 +1,5 @@
+pub mod Keys
+pub mod RowReading
+pub mod IssuerReading
+pub mod Samples
+pub mod Gives

@@ -1,0 +1,268 @@
+//! What stands under the keys of a TOML table.
+
+ghost use Rattle.std.specs.Prelude.{◌≡◌, ◌≤◌, IsTrue, IfOk, string_bytes, map, length, ok_or};
+ghost use Rattle.std.specs.List.{list_all};
+ghost use Rattle.toml.specs.View.{view, table_view, array_view};
+ghost use Rattle.metering_model.specs.Dates.{IsBaseMonth};
+ghost use Rattle.metering_model.specs.SheetRules.{is_printable, is_label};
+ghost use Rattle.metering_model.specs.BatchReading.{is_same};
+ghost use Rattle.sheet_text.specs.Keys.{value_under, text_under, label_under, day_under, base_under, price_under, per_under, service_category_in, service_category_under, commitment_category_in, commitment_category_under, tables_in, rows_in, rows_under};
+ghost use Rattle.sheet_text.specs.Gives.{Gives};
+
+use batch_view::Day;
+use fx_money::Price;
+use metering_model::{CommitmentCategory, ServiceCategory};
+use period_cut::Month;
+use std::alloc::{AllocError, Global};
+use toml::value::Array;
+use toml::{Table, Value};
+
+/// The rows that a table of a sheet may have.
+const MOST_ROWS: usize = 10_000;
+
+const MOST_UNITS: i64 = 1_000_000_000;
+
+/// What is wrong under a key.
+#[derive(Clone, Copy, Debug, PartialEq, Eq, Drop)]
+pub enum KeyFault {
+    Missing,
+    BadValue,
+    OutOfMemory,
+}
+
+impl From<AllocError> for KeyFault {
+    ghost use Rattle.std.specs.Prelude.{◌≡◌};
+    ghost use Rattle.sheet_text.specs.declared.keys.KeyFault.TheVariants.{OutOfMemory};
+
+    ghost from_gives = { λ _ e. e ≡ OutOfMemory };
+
+    fn from(_error: AllocError) -> KeyFault {
+        KeyFault::OutOfMemory
+    }
+}
+
+/// What stands under a key.
+#[tactic(auto, unfolding(crate::specs::Keys::value_under))]
+pub(crate) fn value_under<'a>(table: &'a Table, key: &str) -> Result<&'a Value, KeyFault>
+    ensures { Gives (λ v. view v.now) result (value_under key.now (table_view table.now)) }
+{
+    match table.get(key) {
+        Some(value) => Ok(value),
+        None => Err(KeyFault::Missing),
+    }
+}
+
+/// The string under a key.
+#[tactic(auto, unfolding(crate::specs::Keys::text_under))]
+pub(crate) fn text_under<'a>(table: &'a Table, key: &str) -> Result<&'a str, KeyFault>
+    ensures { Gives (λ t. t.now) result (text_under key.now (table_view table.now)) }
+{
+    let value = value_under(table, key)?;
+    match value.as_str() {
+        Some(text) => Ok(text),
+        None => Err(KeyFault::BadValue),
+    }
+}
+
+/// Whether two texts are the same bytes.
+#[tactic(auto, using(crate::proofs::Texts::same_is))]
+pub fn is_same(left: &[u8], right: &[u8]) -> bool
+    ensures { result ≡ is_same left.now right.now }
+{
+    left == right
+}
+
+/// Whether no byte of it is a control character of ASCII.
+fn is_printable(text: &[u8]) -> bool
+    ensures { result ≡ list_all is_printable text.now }
+{
+    for byte in text {
+        if *byte < 32 || *byte == 127 {
+            return false;
+        }
+    }
+    true
+}
+
+/// Whether it is one or more characters, none of them a control character of ASCII.
+fn is_label(text: &[u8]) -> bool
+    ensures { result ≡ is_label text.now }
+{
+    !text.is_empty() && is_printable(text)
+}
+
+/// The label under a key.
+#[tactic(auto, unfolding(crate::specs::Keys::label_under))]
+pub(crate) fn label_under(alloc: Global, table: &Table, key: &str) -> Result<String, KeyFault>
+    ensures gives { Gives (λ t. string_bytes t) result (label_under key.now (table_view table.now)) }
+    ensures label { IfOk result (λ t. IsTrue (is_label (string_bytes t))) }
+{
+    let text = text_under(table, key)?;
+    if !is_label(text.as_bytes()) {
+        return Err(KeyFault::BadValue);
+    }
+    Ok(String::from_str(alloc, text)?)
+}
+
+/// The day under a key.
+#[tactic(auto, unfolding(crate::specs::Keys::day_under))]
+pub(crate) fn day_under(table: &Table, key: &str) -> Result<Day, KeyFault>
+    ensures { Gives (λ d. d) result (day_under key.now (table_view table.now)) }
+{
+    let text = text_under(table, key)?;
+    match Day::read(text.as_bytes()) {
+        Some(day) => Ok(day),
+        None => Err(KeyFault::BadValue),
+    }
+}
+
+/// The base month under a key.
+#[tactic(auto, unfolding(crate::specs::Keys::base_under))]
+pub fn base_under(table: &Table, key: &str) -> Result<Month, KeyFault>
+    ensures gives { Gives (λ m. m) result (base_under key.now (table_view table.now)) }
+    ensures base { IfOk result IsBaseMonth }
+{
+    let text = text_under(table, key)?;
+    match Month::read(text.as_bytes()) {
+        Some(month) if month.is_base() => Ok(month),
+        _ => Err(KeyFault::BadValue),
+    }
+}
+
+/// The price under a key.
+#[tactic(auto, unfolding(crate::specs::Keys::price_under))]
+pub(crate) fn price_under(table: &Table, key: &str) -> Result<Price, KeyFault>
+    ensures { Gives (λ p. p) result (price_under key.now (table_view table.now)) }
+{
+    let text = text_under(table, key)?;
+    match Price::read(text.as_bytes()) {
+        Ok(price) => Ok(price),
+        Err(_) => Err(KeyFault::BadValue),
+    }
+}
+
+/// How many metered units make one priced unit.
+#[tactic(auto, unfolding(crate::specs::Keys::per_under))]
+pub(crate) fn per_under(table: &Table, key: &str) -> Result<u32, KeyFault>
+    ensures gives { Gives (λ n. n) result (per_under key.now (table_view table.now)) }
+    ensures range { IfOk result (λ n. (1 ≤ n) × (n ≤ 1_000_000_000)) }
+{
+    let value = value_under(table, key)?;
+    let Some(number) = value.as_integer() else {
+        return Err(KeyFault::BadValue);
+    };
+    if number < 1 || MOST_UNITS < number {
+        return Err(KeyFault::BadValue);
+    }
+    Ok(number as u32)
+}
+
+/// The category of which it is the text.
+fn service_category_in(text: &[u8]) -> Option<ServiceCategory>
+    ensures { result ≡ service_category_in text.now }
+{
+    if is_same(text, b"Compute") {
+        Some(ServiceCategory::Compute)
+    } else if is_same(text, b"Storage") {
+        Some(ServiceCategory::Storage)
+    } else if is_same(text, b"Networking") {
+        Some(ServiceCategory::Networking)
+    } else if is_same(text, b"Databases") {
+        Some(ServiceCategory::Databases)
+    } else if is_same(text, b"Other") {
+        Some(ServiceCategory::Other)
+    } else {
+        None
+    }
+}
+
+/// The service category under a key.
+#[tactic(auto, unfolding(crate::specs::Keys::service_category_under))]
+pub(crate) fn service_category_under(table: &Table, key: &str) -> Result<ServiceCategory, KeyFault>
+    ensures { Gives (λ c. c) result (service_category_under key.now (table_view table.now)) }
+{
+    let text = text_under(table, key)?;
+    match service_category_in(text.as_bytes()) {
+        Some(category) => Ok(category),
+        None => Err(KeyFault::BadValue),
+    }
+}
+
+/// The category of which it is the text.
+fn commitment_category_in(text: &[u8]) -> Option<CommitmentCategory>
+    ensures { result ≡ commitment_category_in text.now }
+{
+    if is_same(text, b"Spend") {
+        Some(CommitmentCategory::Spend)
+    } else if is_same(text, b"Usage") {
+        Some(CommitmentCategory::Usage)
+    } else {
+        None
+    }
+}
+
+/// The category of a commitment under a key.
+#[tactic(auto, unfolding(crate::specs::Keys::commitment_category_under))]
+pub(crate) fn commitment_category_under(
+    table: &Table,
+    key: &str,
+) -> Result<CommitmentCategory, KeyFault>
+    ensures { Gives (λ c. c) result (commitment_category_under key.now (table_view table.now)) }
+{
+    let text = text_under(table, key)?;
+    match commitment_category_in(text.as_bytes()) {
+        Some(category) => Ok(category),
+        None => Err(KeyFault::BadValue),
+    }
+}
+
+/// The tables of an array that has nothing but tables.
+#[tactic(auto, using(crate::proofs::Tables::one_more_table))]
+fn tables_in<'a>(alloc: Global, values: &'a Array) -> Result<Vec<&'a Table>, KeyFault>
+    ensures { Gives (λ rows. map (λ t. table_view t.now) rows.items) result
+        (ok_or (tables_in (array_view values.now)) KeyFault.BadValue) }
+{
+    let mut tables = Vec::new(alloc);
+    for value in values {
+        let Some(table) = value.as_table() else {
+            return Err(KeyFault::BadValue);
+        };
+        if tables.push(table).is_err() {
+            return Err(KeyFault::OutOfMemory);
+        }
+    }
+    Ok(tables)
+}
+
+/// The tables of an array of at most 10,000 tables.
+#[tactic(auto, unfolding(crate::specs::Keys::rows_in))]
+fn rows_in<'a>(alloc: Global, value: &'a Value) -> Result<Vec<&'a Table>, KeyFault>
+    ensures gives { Gives (λ rows. map (λ t. table_view t.now) rows.items) result (rows_in (view value.now)) }
+    ensures few { IfOk result (λ rows. length rows.items ≤ 10_000) }
+{
+    let Some(values) = value.as_array() else {
+        return Err(KeyFault::BadValue);
+    };
+    let tables = tables_in(alloc, values)?;
+    if MOST_ROWS < tables.len() {
+        return Err(KeyFault::BadValue);
+    }
+    Ok(tables)
+}
+
+/// The rows under a key, in order; none where the key is not there.
+#[tactic(auto, unfolding(crate::specs::Keys::rows_under))]
+pub fn rows_under<'a>(
+    alloc: Global,
+    table: &'a Table,
+    key: &str,
+) -> Result<Vec<&'a Table>, KeyFault>
+    ensures gives { Gives (λ rows. map (λ t. table_view t.now) rows.items) result
+        (rows_under key.now (table_view table.now)) }
+    ensures few { IfOk result (λ rows. length rows.items ≤ 10_000) }
+{
+    match table.get(key) {
+        Some(value) => rows_in(alloc, value),
+        None => Ok(Vec::new(alloc)),
+    }
+}
