@@ -11,3 +11,4 @@ pub mod LineLaws
 pub mod TagsHold
 pub mod FirstPlace
 pub mod PlainLaws
+pub mod ValueLaws
