@@ -12,3 +12,4 @@ pub mod TagsHold
 pub mod SpanLaws
 pub mod FirstPlace
 pub mod PlainLaws
+pub mod KeptLaws
