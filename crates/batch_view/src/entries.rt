@@ -4,15 +4,15 @@ ghost use Rattle.std.specs.Prelude.{◌≡◌, ◌≤◌, ◌+◌, length, take,
 ghost use Rattle.std.specs.List.{list_all, slice_get};
 ghost use Rattle.metering_model.specs.BatchReading.{batch_in, lines_in, records_in, record_in, fields_in};
 ghost use Rattle.record_view.specs.Lent.{record_of, IsLentRecord};
-ghost use Rattle.record_view.specs.Spans.{spans_at};
+ghost use Rattle.record_view.specs.Spans.{spans_at, IsRecordAt};
 ghost use Rattle.batch_view.specs.Kept.{is_plain_byte};
 ghost use Rattle.batch_view.specs.Inner.Lines.{lines_from, first_record, IsBehindLines, IsHeadOf};
-ghost use Rattle.batch_view.specs.Inner.Entries.{field_total, FitsRecord, FlagsPlain, KeepsRecord, AreEntries};
+ghost use Rattle.batch_view.specs.Inner.Entries.{field_total, FitsRecord, FlagsPlain, IsEntryAt, KeepsRecord, AreEntries};
 
 use crate::batch::record_from;
 use fx_money::Value;
 use metering_model::{BatchCode, BatchFault, Kind};
-use record_view::{Record, Span, Stamp, field_spans};
+use record_view::{Numbers, Record, Span, Stamp, field_spans, kept_reading};
 use std::alloc::Global;
 
 /// What a record is, without its texts.
@@ -121,5 +121,33 @@ pub(crate) fn entry_from(text: &[u8], from: u32) -> Result<(Entry, u32), BatchCo
             Ok((entry_of(text, line, &record), next))
         }
         Err(code) => Err(code),
+    }
+}
+
+/// The record of an entry: its texts are lent from the entry's spans, and nothing is looked through.
+pub(crate) fn record_of_entry<'a>(bytes: &'a [u8], entry: &Entry) -> Record<'a>
+    requires { (line : Span) × IsEntryAt bytes.now line entry.now }
+    ensures { (line : Span) → IsEntryAt bytes.now line entry.now → IsRecordAt bytes.now line result }
+{
+    match entry.found {
+        Found::Reading {
+            kind,
+            start,
+            end,
+            ..
+        } => {
+            let numbers = Numbers {
+                kind,
+                start,
+                end,
+                value: entry.value,
+            };
+            kept_reading(bytes, &entry.spans, numbers)
+        }
+        Found::Amend { seq, index } => Record::Amend {
+            seq,
+            index,
+            value: entry.value,
+        },
     }
 }

@@ -60,7 +60,7 @@ impl OwnedBatch {
     pub fn view(&self) -> BatchView<'_>
         ensures { result ≡ self.now }
     {
-        BatchView::with_head(self.bytes.as_slice(), self.head)
+        BatchView::with_entries(self.bytes.as_slice(), self.head, self.entries.as_slice())
     }
 
     /// The bytes that are kept.
