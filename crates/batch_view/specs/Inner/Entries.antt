@@ -1,5 +1,5 @@
 -- What is kept of each record of a batch.
-use Rattle.std.specs.Prelude.{◌≡◌, ℕ, ◌+◌, ◌≤◌, List, length, take, drop, slice_range, Option, Some, IfSome, Ok, ℤ}
+use Rattle.std.specs.Prelude.{◌≡◌, ℕ, ◌+◌, ◌≤◌, List, length, take, drop, slice_range, Option, Some, IfSome, Ok, ℤ, Bool, true}
 use Rattle.std.specs.List.{slice_get, list_all}
 use Rattle.metering_model.specs.Batch.{Record, Reads, Amends}
 use Rattle.metering_model.specs.BatchReading.{lines_in, record_in, fields_in}
@@ -29,6 +29,11 @@ FitsRecord (Amend s i) value (Amends seq index v) = (s ≡ seq) × (i ≡ index)
 abbrev pub FlagsPlain : Found → List ℕ → Type 0
 FlagsPlain (Reading plain kind start end) line = plain ≡ list_all is_plain_byte line
 FlagsPlain (Amend seq index) line = Unit {0}
+
+-- what an entry says of plainness: an amendment has no text
+abbrev pub flag : Found → Bool
+flag (Reading plain kind start end) = plain
+flag (Amend seq index) = true
 
 -- The entry is that of the record which the line at this span is.
 pub record IsEntryAt (bytes : List ℕ) (line : Span) (e : Entry) : Type 0 where
