@@ -1,15 +1,24 @@
 -- What the entries say of the records of a batch.
-use Rattle.std.proofs.Common.{◌≡◌, ℕ, suc, ◌+◌, ◌≤◌, ◌==◌, ◌&&◌, ◌||◌, nat_lt, Bool, true, false, List, [], ◌∷◌, length, take, Option, Some, ℤ, int_lt, All, get_or, refl, sym, ap, ap₂, subst, ◌∙◌, arith}
+use Rattle.std.proofs.Common.{◌≡◌, ℕ, suc, ◌+◌, ◌≤◌, ◌==◌, ◌&&◌, ◌||◌, nat_lt, Bool, true, false, List, [], ◌∷◌, length, take, Option, Some, ℤ, int_lt, All, get_or, refl, sym, ap, ap₂, subst, ◌∙◌, arith, Ok, slice_range}
 use Rattle.std.specs.List.{slice_get, list_all, filter_map, enumerate_from, cons_option}
 use Rattle.std.specs.List.Sorted.{IsPermutation, IsSortedBy, IsNonDecreasingBy}
 use Rattle.std.proofs.lemmas.Bool.{le-ltb, eqb-true}
 use Rattle.std.proofs.lemmas.Option.{slice_get_within}
 use Rattle.metering_model.specs.Batch.{Record, Reads, Amends}
 use Rattle.metering_model.specs.declared.Kind.{Kind}
+use Rattle.metering_model.specs.BatchReading.{record_in, fields_in}
+use Rattle.record_view.specs.declared.fields.Span.{Span}
+use Rattle.record_view.specs.declared.kept.Numbers.{Numbers}
+use Rattle.record_view.specs.declared.records.Record as lent_record
+use Rattle.record_view.specs.Parts.{LentText}
+use Rattle.record_view.specs.Lent.{record_of, fields_at, lent_fields}
+use Rattle.record_view.specs.Spans.{IsReadingAt, IsReadingOn, IsRecordAt}
+use Rattle.record_view.proofs.SpanLaws.{four_fields_of}
+use Rattle.std.proofs.lemmas.List.{take_all}
 use Rattle.metering_model.specs.Front.{starts_before}
-use Rattle.batch_view.specs.Batches.{batch_of}
+use Rattle.batch_view.specs.Batches.{batch_of, IsLentAt}
 use Rattle.batch_view.specs.Kept.{AreFieldSpans, amendment_of, amendments_in, comes_before}
-use Rattle.batch_view.specs.Inner.Entries.{field_total, FitsRecord, IsEntry}
+use Rattle.batch_view.specs.Inner.Entries.{field_total, FitsRecord, IsEntryAt, IsEntry}
 use Rattle.batch_view.specs.Inner.Kept.{is_before, KeepsBatch, KeepsParts}
 use Rattle.batch_view.specs.Inner.Given.{HasReading, LacksReading}
 use Rattle.batch_view.specs.Inner.Amended.{amendment_found, amendments_kept, found_before, entry_before, rank, IsSmall}
@@ -160,3 +169,59 @@ pub lacks_reading : (bytes : List ℕ) (h : Head) (es : List Entry) (seq index :
 lacks_reading bytes h es seq index e s i kept is found = λ r own got.
     let fits = fits_at bytes h es index e (Reads r) kept is got in
     subst (λ f. FitsRecord f e.value (Reads r)) found fits
+
+-- ---- the record of an entry
+
+reading_of : (bytes : List ℕ) (line : Span) (e : Entry) (plain : Bool) (n : Numbers) → IsEntryAt bytes line e → e.found ≡ Reading plain n.kind n.start n.end → n.value ≡ e.value
+    → IsReadingAt bytes line n.kind n.start n.end n.value
+reading_of bytes line e plain n at found same = by_record at.what at.read (subst (λ f. FitsRecord f e.value at.what) found at.fits)
+  where
+    by_record : (r : Record) → record_in (fields_in (slice_range bytes line.from line.to)) ≡ Ok r → FitsRecord (Reading plain n.kind n.start n.end) e.value r
+        → IsReadingAt bytes line n.kind n.start n.end n.value
+    by_record (Reads r) read fits = record { reading = r; read = read; kind_is = fits.0; start_is = fits.1; end_is = fits.2; value_is = same ∙ fits.3 }
+    by_record (Amends s i v) read fits = absurd fits
+
+pub reading_on : (bytes : List ℕ) (line : Span) (e : Entry) (plain : Bool) (n : Numbers) → IsEntryAt bytes line e → e.found ≡ Reading plain n.kind n.start n.end → n.value ≡ e.value
+    → length e.spans ≡ 9 → IsReadingOn bytes e.spans n line
+reading_on bytes line e plain n at found same many = record {
+  ordered = at.ordered;
+  within = at.within;
+  are = sym (take_all 9 e.spans (omega (arith, many))) ∙ ap (λ f. take (field_total f) e.spans) (sym found) ∙ at.spans;
+  numbers = reading_of bytes line e plain n at found same;
+}
+
+lends_none : (ps : List LentText) → length ps ≡ 4 → lent_fields ps ≡ []
+lends_none [] many = refl
+lends_none (a ∷ []) many = refl
+lends_none (a ∷ b ∷ []) many = refl
+lends_none (a ∷ b ∷ c ∷ []) many = refl
+lends_none (a ∷ b ∷ c ∷ d ∷ []) many = refl
+lends_none (a ∷ b ∷ c ∷ d ∷ f ∷ ps) many = absurd (omega (arith, many))
+
+pub amendment_on : (bytes : List ℕ) (line : Span) (e : Entry) (s i : ℕ) → IsEntryAt bytes line e → e.found ≡ Amend s i
+    → IsRecordAt bytes line (lent_record.TheVariants.Amend s i e.value)
+amendment_on bytes line e s i at found = by_record at.what at.read (subst (λ f. FitsRecord f e.value at.what) found at.fits)
+  where
+    by_record : (r : Record) → record_in (fields_in (slice_range bytes line.from line.to)) ≡ Ok r → FitsRecord (Amend s i) e.value r
+        → IsRecordAt bytes line (lent_record.TheVariants.Amend s i e.value)
+    by_record (Reads r) read fits = absurd fits
+    by_record (Amends seq index v) read fits =
+        let same : Amends seq index v ≡ Amends s i e.value = let f0 = fits.0 in let f1 = fits.1 in let f2 = fits.2 in cc in
+        record {
+          read = read ∙ ap Ok same;
+          lent = record { apart = tt; places = sym (lends_none (fields_at bytes line) (four_fields_of bytes line seq index v read)) };
+        }
+
+-- What a record that was made of an entry is of the batch.
+pub record IsKeptRecord (bytes : List ℕ) (index : ℕ) (r : lent_record.Record) : Type 0 where
+  pub got : slice_get (batch_of bytes).records index ≡ Some (record_of r)
+  pub lent : IsLentAt bytes index r
+
+pub kept_record_is : (bytes : List ℕ) (h : Head) (es : List Entry) (index : ℕ) (e : Entry) (r : lent_record.Record) → KeepsBatch bytes h es → slice_get es index ≡ Some e
+    → ((line : Span) → IsEntryAt bytes line e → IsRecordAt bytes line r) → IsKeptRecord bytes index r
+kept_record_is bytes h es index e r kept is made =
+    let of = entry_of bytes h es index e kept is in
+    let entry = of.entry in
+    let at = made entry.line entry.at in
+    let same : entry.at.what ≡ record_of r = let one = entry.at.read in let two = at.read in cc in
+    record { got = of.got ∙ ap Some same; lent = record { span = entry.line; is_line = entry.is_line; lent = at.lent } }

@@ -10,3 +10,4 @@ pub mod AmendedLemmas
 pub mod NamedLemmas
 pub mod EntryLaws
 pub mod GivenLaws
+pub mod PlainTexts

@@ -5,8 +5,10 @@ ghost use Rattle.std.specs.List.{slice_get};
 ghost use Rattle.metering_model.specs.BatchReading.{batch_in, lines_in, records_in};
 ghost use Rattle.record_view.specs.Lent.{record_of};
 ghost use Rattle.batch_view.specs.Batches.{batch_of, IsLentAt, RecordsLeft};
+ghost use Rattle.batch_view.specs.Inner.Kept.{KeepsBatch};
 ghost use Rattle.batch_view.specs.Inner.Lines.{lines_from, first_record, IsBehindLines, LendsRecord, IsHeadOf};
 
+use crate::entries::{Entry, entry_at, record_of_entry};
 use crate::head::{Head, read_head};
 use crate::lines::next_line;
 use metering_model::{BatchCode, BatchFault};
@@ -77,22 +79,36 @@ pub(crate) fn check_batch(bytes: &[u8]) -> Result<Head, BatchFault>
     Ok(head)
 }
 
-/// Bytes that are a batch, read in place.
+/// The record at that index, from its entry.
+fn kept_record<'a>(bytes: &'a [u8], head: Head, entries: &[Entry], index: u16) -> Option<Record<'a>>
+    requires { KeepsBatch bytes.now head entries.now }
+    ensures there { IsSome result ↔ (index < length (batch_of bytes.now).records) }
+    ensures record { IfSome result (λ r. slice_get (batch_of bytes.now).records index ≡ Some (record_of r)) }
+    ensures lent { IfSome result (IsLentAt bytes.now index) }
+{
+    match entry_at(entries, index) {
+        Some(entry) => Some(record_of_entry(bytes, entry)),
+        None => None,
+    }
+}
+
+/// Bytes that are a batch, read in place, or looked up where an `OwnedBatch` keeps what was found in them.
 #[derive(Drop)]
 pub struct BatchView<'a> {
     bytes: &'a [u8],
     head: Head,
+    kept: Option<&'a [Entry]>,
 }
 
 impl<'a> Model for BatchView<'a> {
     ghost use Rattle.std.specs.Prelude.{ℕ, List};
-    ghost use Rattle.batch_view.specs.Inner.Lines.{IsHeadOf};
+    ghost use Rattle.batch_view.specs.Inner.Entries.{IsViewOf};
 
     ghost Value = { List ℕ };
 
     ghost view = { λ v. v.bytes.now };
 
-    ghost invariant = { λ v. IsHeadOf v.bytes.now v.head };
+    ghost invariant = { λ v. IsViewOf v.bytes.now v.head v.kept };
 }
 
 impl<'a> BatchView<'a> {
@@ -102,15 +118,23 @@ impl<'a> BatchView<'a> {
         ensures err { IfErr result (λ fault. batch_in bytes.now ≡ Err fault) }
     {
         let head = check_batch(bytes)?;
-        Ok(BatchView { bytes, head })
+        Ok(BatchView {
+            bytes,
+            head,
+            kept: None,
+        })
     }
 
-    /// The view of a batch whose head was read before.
-    pub(crate) fn with_head(bytes: &'a [u8], head: Head) -> BatchView<'a>
-        requires { IsHeadOf bytes.now head }
+    /// The view of a batch that was read before, over what is kept of its records.
+    pub(crate) fn with_entries(bytes: &'a [u8], head: Head, entries: &'a [Entry]) -> BatchView<'a>
+        requires { KeepsBatch bytes.now head entries.now }
         ensures { result ≡ bytes.now }
     {
-        BatchView { bytes, head }
+        BatchView {
+            bytes,
+            head,
+            kept: Some(entries),
+        }
     }
 
     /// The bytes of the batch, all of them.
@@ -157,8 +181,21 @@ impl<'a> BatchView<'a> {
         }
     }
 
-    /// The record at that index, counted from 0. It is looked for from the front.
+    /// The record at that index, counted from 0. Over what an `OwnedBatch` keeps it is looked up; over bytes alone it
+    /// is looked for from the front.
     pub fn record_at(&self, index: u16) -> Option<Record<'a>>
+        ensures there { IsSome result ↔ (index < length (batch_of self.now).records) }
+        ensures record { IfSome result (λ r. slice_get (batch_of self.now).records index ≡ Some (record_of r)) }
+        ensures lent { IfSome result (IsLentAt self.now index) }
+    {
+        match self.kept {
+            Some(entries) => kept_record(self.bytes, self.head, entries, index),
+            None => self.look_for(index),
+        }
+    }
+
+    /// The record at that index, looked for from the front.
+    fn look_for(&self, index: u16) -> Option<Record<'a>>
         ensures there { IsSome result ↔ (index < length (batch_of self.now).records) }
         ensures record { IfSome result (λ r. slice_get (batch_of self.now).records index ≡ Some (record_of r)) }
         ensures lent { IfSome result (IsLentAt self.now index) }

@@ -4,15 +4,15 @@ ghost use Rattle.std.specs.Prelude.{◌≡◌, ◌≤◌, ◌+◌, length, take,
 ghost use Rattle.std.specs.List.{list_all, slice_get};
 ghost use Rattle.metering_model.specs.BatchReading.{batch_in, lines_in, records_in, record_in, fields_in};
 ghost use Rattle.record_view.specs.Lent.{record_of, IsLentRecord};
-ghost use Rattle.record_view.specs.Spans.{spans_at};
+ghost use Rattle.record_view.specs.Spans.{spans_at, IsRecordAt};
 ghost use Rattle.batch_view.specs.Kept.{is_plain_byte};
 ghost use Rattle.batch_view.specs.Inner.Lines.{lines_from, first_record, IsBehindLines, IsHeadOf};
-ghost use Rattle.batch_view.specs.Inner.Entries.{field_total, FitsRecord, FlagsPlain, KeepsRecord, AreEntries};
+ghost use Rattle.batch_view.specs.Inner.Entries.{field_total, FitsRecord, FlagsPlain, flag, IsEntryAt, KeepsRecord, AreEntries};
 
 use crate::batch::record_from;
 use fx_money::Value;
 use metering_model::{BatchCode, BatchFault, Kind};
-use record_view::{Record, Span, Stamp, field_spans};
+use record_view::{Numbers, Record, Span, Stamp, field_spans, kept_reading};
 use std::alloc::Global;
 
 /// What a record is, without its texts.
@@ -52,6 +52,16 @@ pub(crate) fn field_total(found: Found) -> usize
     }
 }
 
+/// Whether the record is known to have no byte in its texts that CSV or JSON quotes or escapes.
+pub(crate) fn plain_flag(found: Found) -> bool
+    ensures { result ≡ flag found }
+{
+    match found {
+        Found::Reading { plain, .. } => plain,
+        Found::Amend { .. } => true,
+    }
+}
+
 /// What is kept of the record at that index.
 pub(crate) fn entry_at(entries: &[Entry], index: u16) -> Option<&Entry>
     ensures { MatchOption result (length entries.now ≤ index) (λ e. slice_get entries.now index ≡ Some e.now) }
@@ -64,9 +74,8 @@ pub(crate) fn entry_at(entries: &[Entry], index: u16) -> Option<&Entry>
     }
 }
 
-/// Whether neither CSV nor JSON quotes or escapes any byte of the text. Each byte is looked at, for want of a branch
-/// in the loop.
-fn is_plain(text: &[u8]) -> bool
+/// Whether neither CSV nor JSON quotes or escapes any byte of the text.
+fn is_plain_text(text: &[u8]) -> bool
     ensures { result ≡ list_all is_plain_byte text.now }
 {
     text.iter()
@@ -90,7 +99,7 @@ fn entry_of(source: &[u8], line: Span, what: &Record<'_>) -> Entry
             spans,
             value: reading.value,
             found: Found::Reading {
-                plain: is_plain(&source[line.from as usize..line.to as usize]),
+                plain: is_plain_text(&source[line.from as usize..line.to as usize]),
                 kind: reading.kind,
                 start: reading.start,
                 end: reading.end,
@@ -121,5 +130,33 @@ pub(crate) fn entry_from(text: &[u8], from: u32) -> Result<(Entry, u32), BatchCo
             Ok((entry_of(text, line, &record), next))
         }
         Err(code) => Err(code),
+    }
+}
+
+/// The record of an entry: its texts are lent from the entry's spans, and nothing is looked through.
+pub(crate) fn record_of_entry<'a>(bytes: &'a [u8], entry: &Entry) -> Record<'a>
+    requires { (line : Span) × IsEntryAt bytes.now line entry.now }
+    ensures { (line : Span) → IsEntryAt bytes.now line entry.now → IsRecordAt bytes.now line result }
+{
+    match entry.found {
+        Found::Reading {
+            kind,
+            start,
+            end,
+            ..
+        } => {
+            let numbers = Numbers {
+                kind,
+                start,
+                end,
+                value: entry.value,
+            };
+            kept_reading(bytes, &entry.spans, numbers)
+        }
+        Found::Amend { seq, index } => Record::Amend {
+            seq,
+            index,
+            value: entry.value,
+        },
     }
 }

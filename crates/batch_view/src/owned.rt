@@ -1,19 +1,20 @@
 //! Batches that keep their bytes.
 
-ghost use Rattle.std.specs.Prelude.{◌≡◌, ◌↔◌, ◌<◌, length, Ok, IfOk, IfErr, IfSome, IsSome, MatchOption};
+ghost use Rattle.std.specs.Prelude.{◌≡◌, ◌↔◌, ◌<◌, length, Ok, IfOk, IfErr, IfSome, IsSome, IsTrue, Some, MatchOption};
 ghost use Rattle.std.specs.Arc.{arc_value};
-ghost use Rattle.std.specs.List.{list_all};
+ghost use Rattle.std.specs.List.{list_all, slice_get};
+ghost use Rattle.metering_model.specs.Batch.{Record};
 ghost use Rattle.metering_model.specs.BatchReading.{batch_in};
 ghost use Rattle.metering_model.specs.Front.{starts_before};
 ghost use Rattle.batch_view.specs.Batches.{batch_of};
-ghost use Rattle.batch_view.specs.Kept.{AreAmendmentsOf, AreFieldSpans, value_given_in};
+ghost use Rattle.batch_view.specs.Kept.{AreAmendmentsOf, AreFieldSpans, are_plain, texts_in, value_given_in};
 ghost use Rattle.batch_view.specs.Offers.{IsOfferOf};
 ghost use Rattle.batch_view.specs.Inner.Kept.{KeepsBatch};
 ghost use Rattle.batch_view.specs.Inner.Given.{HasReading, LacksReading};
 
 use crate::amendments::{is_before, last_amendment, latest_start, sorted_amendments};
 use crate::batch::{BatchView, check_batch};
-use crate::entries::{Entry, Found, entry_at, field_total};
+use crate::entries::{Entry, Found, entry_at, field_total, plain_flag};
 use crate::head::Head;
 use crate::reading::{Unkept, keep_batch};
 use fx_money::Value;
@@ -60,7 +61,7 @@ impl OwnedBatch {
     pub fn view(&self) -> BatchView<'_>
         ensures { result ≡ self.now }
     {
-        BatchView::with_head(self.bytes.as_slice(), self.head)
+        BatchView::with_entries(self.bytes.as_slice(), self.head, self.entries.as_slice())
     }
 
     /// The bytes that are kept.
@@ -79,6 +80,17 @@ impl OwnedBatch {
     {
         let entry = entry_at(&self.entries, index)?;
         Some(&entry.spans[..field_total(entry.found)])
+    }
+
+    /// Whether the record at that index is known to have plain texts alone: where it is true, none has a byte that CSV or
+    /// JSON quotes or escapes. It was found when the batch was read.
+    pub fn is_plain(&self, index: u16) -> bool
+        ensures { IsTrue result → (r : Record) → slice_get (batch_of self.now).records index ≡ Some r → IsTrue (are_plain (texts_in r)) }
+    {
+        match entry_at(&self.entries, index) {
+            Some(entry) => plain_flag(entry.found),
+            None => false,
+        }
     }
 
     /// The amendments, by the position that each names, then by their own index. No memory is taken.

@@ -3,3 +3,4 @@ pub mod Plain
 pub mod TagPieces
 pub mod RecordSteps
 pub mod LineFields
+pub mod KeptFields

@@ -1,11 +1,12 @@
 -- Where the fields of a record's line stand, and a reading whose numbers were read there before.
-use Rattle.std.specs.Prelude.{◌≡◌, ℕ, List, map, slice_range, Ok, ℤ}
+use Rattle.std.specs.Prelude.{◌≡◌, ℕ, ◌≤◌, length, List, map, slice_range, Ok, ℤ}
 use Rattle.metering_model.specs.declared.Kind.{Kind}
 use Rattle.metering_model.specs.Batch as model
 use Rattle.metering_model.specs.BatchReading.{record_in, fields_in}
 use Rattle.record_view.specs.declared.fields.Span.{Span}
+use Rattle.record_view.specs.declared.kept.Numbers.{Numbers}
 use Rattle.record_view.specs.Parts.{LentText}
-use Rattle.record_view.specs.Lent.{fields_at}
+use Rattle.record_view.specs.Lent.{fields_at, record_of, IsLentRecord}
 use Rattle.record_view.specs.declared.records.Record as lent_record
 
 abbrev pub span_of : LentText → Span
@@ -20,6 +21,11 @@ abbrev pub field_count : lent_record.Record → ℕ
 field_count (lent_record.TheVariants.Reading r) = 9
 field_count (lent_record.TheVariants.Amend seq index value) = 4
 
+-- The record is lent from the line, and is the one that the line is read as.
+pub record IsRecordAt (source : List ℕ) (line : Span) (r : lent_record.Record) : Type 0 where
+  pub read : record_in (fields_in (slice_range source line.from line.to)) ≡ Ok (record_of r)
+  pub lent : IsLentRecord source line r
+
 -- The line is a reading of this kind, with these stamps and this value.
 pub record IsReadingAt (source : List ℕ) (line : Span) (kind : Kind) (start end value : ℤ) : Type 0 where
   pub reading : model.Reading
@@ -28,3 +34,10 @@ pub record IsReadingAt (source : List ℕ) (line : Span) (kind : Kind) (start en
   pub start_is : start ≡ reading.start
   pub end_is : end ≡ reading.end
   pub value_is : value ≡ reading.value
+
+-- The line lies in the source, its fields stand at the spans, and it is a reading of these numbers.
+pub record IsReadingOn (source : List ℕ) (spans : List Span) (n : Numbers) (line : Span) : Type 0 where
+  pub ordered : line.from ≤ line.to
+  pub within : line.to ≤ length source
+  pub are : spans ≡ spans_at source line
+  pub numbers : IsReadingAt source line n.kind n.start n.end n.value

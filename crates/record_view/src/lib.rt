@@ -3,6 +3,7 @@
 
 pub use dates::{Day, Stamp};
 pub use fields::{Field, Span, find_byte};
+pub use kept::{Numbers, kept_reading};
 pub use metering_model::{BatchCode, Kind};
 pub use records::{Reading, Record, read_record};
 pub use spans::field_spans;
@@ -13,6 +14,7 @@ pub mod calendar;
 pub mod dates;
 mod digits;
 mod fields;
+mod kept;
 pub mod laws;
 mod numbers;
 mod plain;

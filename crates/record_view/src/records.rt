@@ -34,7 +34,7 @@ pub struct Reading<'a> {
     pub key: Field<'a>,
     pub value: Value,
     pub commitment: Field<'a>,
-    tags: Tags<'a>,
+    pub(crate) tags: Tags<'a>,
 }
 
 impl<'a> Reading<'a> {

@@ -1,5 +1,5 @@
 -- What is kept of each record of a batch.
-use Rattle.std.specs.Prelude.{◌≡◌, ℕ, ◌+◌, ◌≤◌, List, length, take, drop, slice_range, Some, Ok, ℤ}
+use Rattle.std.specs.Prelude.{◌≡◌, ℕ, ◌+◌, ◌≤◌, List, length, take, drop, slice_range, Option, Some, IfSome, Ok, ℤ, Bool, true}
 use Rattle.std.specs.List.{slice_get, list_all}
 use Rattle.metering_model.specs.Batch.{Record, Reads, Amends}
 use Rattle.metering_model.specs.BatchReading.{lines_in, record_in, fields_in}
@@ -7,10 +7,12 @@ use Rattle.record_view.specs.declared.fields.Span.{Span}
 use Rattle.record_view.specs.Spans.{spans_at}
 use Rattle.batch_view.specs.Batches.{batch_of, line_spans}
 use Rattle.batch_view.specs.Kept.{is_plain_byte}
-use Rattle.batch_view.specs.Inner.Lines.{IsFirstLine, first_record}
+use Rattle.batch_view.specs.Inner.Lines.{IsFirstLine, first_record, IsHeadOf}
 use Rattle.batch_view.specs.declared.entries.Found.{Found}
 use Rattle.batch_view.specs.declared.entries.Found.TheVariants.{Reading, Amend}
 use Rattle.batch_view.specs.declared.entries.Entry.{Entry}
+use Rattle.batch_view.specs.declared.head.Head.{Head}
+use denote.Ref.{Bor}
 
 abbrev pub field_total : Found → ℕ
 field_total (Reading plain kind start end) = 9
@@ -27,6 +29,11 @@ FitsRecord (Amend s i) value (Amends seq index v) = (s ≡ seq) × (i ≡ index)
 abbrev pub FlagsPlain : Found → List ℕ → Type 0
 FlagsPlain (Reading plain kind start end) line = plain ≡ list_all is_plain_byte line
 FlagsPlain (Amend seq index) line = Unit {0}
+
+-- what an entry says of plainness: an amendment has no text
+abbrev pub flag : Found → Bool
+flag (Reading plain kind start end) = plain
+flag (Amend seq index) = true
 
 -- The entry is that of the record which the line at this span is.
 pub record IsEntryAt (bytes : List ℕ) (line : Span) (e : Entry) : Type 0 where
@@ -60,3 +67,8 @@ pub record KeepsRecord (text : List ℕ) (from : ℕ) (e : Entry) (next : ℕ) :
   pub is_line : IsFirstLine text from span
   pub behind : next ≡ span.to + 1
   pub at : IsEntryAt text span e
+
+-- The bytes are a batch of this head, and where entries are kept, they are those of its records.
+pub record IsViewOf (bytes : List ℕ) (h : Head) (kept : Option (Bor (List Entry))) : Type 0 where
+  pub head : IsHeadOf bytes h
+  pub entries : IfSome kept (λ es. AreAllEntries bytes es.now)
