@@ -2,11 +2,10 @@
 #![tactic(auto)]
 
 mod charges;
-mod issuer;
 pub mod laws;
 mod row;
 mod rows;
 
-pub use issuer::Issuer;
+pub use price_sheet::Issuer;
 pub use row::FocusRow;
-pub use rows::{RowFault, one_batch_rows};
+pub use rows::{OneBatchFault, one_batch_rows};

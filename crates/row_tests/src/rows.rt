@@ -5,7 +5,7 @@ ghost use Rattle.batch_view.specs.Batches.{batch_of};
 
 use batch_view::BatchView;
 use focus_csv::CsvFault;
-use focus_row::{FocusRow, Issuer, RowFault, one_batch_rows};
+use focus_row::{FocusRow, Issuer, OneBatchFault, one_batch_rows};
 use metering_model::BrokenRule;
 use period_cut::{Month, Period};
 use std::test::Fail;
@@ -33,7 +33,7 @@ pub(crate) fn first_rows<'a>(
     rt: &HostRuntime,
     batch: &BatchView<'a>,
     issuer: &'a Issuer,
-) -> Result<Vec<FocusRow<'a>>, RowFault>
+) -> Result<Vec<FocusRow<'a>>, OneBatchFault>
     requires { (batch_of batch.now).seq ≡ 1 }
 {
     let january = Period::new(0).unwrap();
@@ -62,9 +62,9 @@ fn the_first_run_has_three_rows(rt: HostRuntime) -> Result<(), Fail> {
 #[test]
 fn each_fault_is_told_in_its_words(rt: HostRuntime) -> Result<(), Fail> {
     let rows = [
-        (RowFault::Broken(BrokenRule::BadTarget), "bad target"),
-        (RowFault::Broken(BrokenRule::Unpriced), "unpriced"),
-        (RowFault::OutOfMemory, "out of memory"),
+        (OneBatchFault::Broken(BrokenRule::BadTarget), "bad target"),
+        (OneBatchFault::Broken(BrokenRule::Unpriced), "unpriced"),
+        (OneBatchFault::OutOfMemory, "out of memory"),
     ];
     for (fault, words) in &rows {
         assert_eq!(rt; format!(in rt.alloc(); "{fault}")?.as_str(), *words);
