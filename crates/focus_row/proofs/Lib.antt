@@ -1,3 +1,5 @@
 pub mod OneBatchLaws
 pub mod JournalLaws
 pub mod RowLemmas
+pub mod LeftLaws
+pub mod PlaceOrder

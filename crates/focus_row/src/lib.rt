@@ -3,6 +3,7 @@
 
 mod charges;
 pub mod laws;
+mod places;
 mod row;
 mod rows;
 
