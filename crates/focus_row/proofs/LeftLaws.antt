@@ -1,17 +1,16 @@
 -- The batches that are left from an agent's sequence on: the first of them, and those of the next agent.
-use Rattle.std.proofs.Common.{◌≡◌, ℕ, zero, suc, ◌+◌, ◌<◌, ◌≤◌, Bool, true, false, List, [], ◌∷◌, length, filter, refl, sym, ap, ◌∙◌, arith, Option, Some, None, inl, inr, cond}
-use Rattle.std.specs.Prelude.{All, ◌==◌, nat_le}
-use Rattle.std.specs.List.{list_all, range_with_len}
-use Rattle.std.proofs.lemmas.Bool.{and_parts, and_from, cond-true, cond-false, cases_Bool, leb-true, eqb-true, cases_lt}
+use Rattle.std.proofs.Common.{◌≡◌, ℕ, zero, suc, ◌+◌, ◌<◌, ◌≤◌, Bool, true, false, [], ◌∷◌, length, filter, refl, sym, ap, ◌∙◌, arith, Some, inl, inr, cond}
+use Rattle.std.specs.Prelude.{All, nat_le}
+use Rattle.std.specs.List.{list_all}
+use Rattle.std.proofs.lemmas.Bool.{and_parts, cond-true, cond-false, cases_Bool, leb-true, cases_lt}
 use Rattle.std.proofs.lemmas.Bool.Decides.{nat_tests}
 use Rattle.std.proofs.lemmas.List.{get_or_past}
-use Rattle.std.proofs.lemmas.List.Elements.{All-nil, All-cons, All-head, All-tail, All-filter, filter_passes, All-weaker}
+use Rattle.std.proofs.lemmas.List.Elements.{All-head, All-tail, All-filter, filter_passes, All-weaker}
 use Rattle.std.proofs.lemmas.Option.{same_Some}
 use Rattle.metering_model.specs.Batch.{Batch, IsWellFormed}
 use Rattle.metering_model.specs.Cut.{Cut, last_of}
-use Rattle.metering_model.specs.Holding.{Holding, IsHolding, comes_before, is_in_order, is_batch_at, held, up_to, sequences_of}
+use Rattle.metering_model.specs.Holding.{Holding, IsHolding, comes_before, is_in_order, is_batch_at, held, up_to}
 use Rattle.metering_model.proofs.BatchOrder.{found_passes, in_order_parts, place_of_batch}
-use Rattle.metering_model.proofs.Journals.{sequences-of_agent, sequences-of_another}
 use Rattle.focus_row.specs.Inner.Left.{is_from, left}
 
 -- ---- tests

@@ -1,12 +1,18 @@
 //! Rows of charges, by the columns of the FinOps Open Cost and Usage Specification (FOCUS) 1.0.
 #![tactic(auto)]
 
+mod between;
 mod charges;
+mod held;
 pub mod laws;
 mod places;
 mod row;
 mod rows;
+mod rules;
+mod whole;
 
+pub use between::{RowsBetween, rows_between};
 pub use price_sheet::Issuer;
 pub use row::FocusRow;
 pub use rows::{OneBatchFault, one_batch_rows};
+pub use whole::{RowFault, rows_of};

@@ -13,11 +13,11 @@ ghost use Rattle.focus_row.specs.Inner.Charging.{ArePeriodTexts, new_rows};
 ghost use Rattle.focus_row.specs.OneBatch.{empty_sheet, rows_alone, refusal_of, first_refusal};
 
 use crate::charges::{Billing, new_row};
-use price_sheet::Issuer;
 use crate::row::FocusRow;
 use batch_view::{BatchView, Kind, Record, Stamp};
 use metering_model::BrokenRule;
 use period_cut::{Month, Period};
+use price_sheet::Issuer;
 use std::alloc::{AllocError, Global};
 use thiserror::Error;
 

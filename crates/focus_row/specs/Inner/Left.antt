@@ -7,9 +7,10 @@ use Rattle.metering_model.specs.Sheet.{Sheet, Issuer}
 use Rattle.metering_model.specs.Cut.{Cut, IsAtLeast}
 use Rattle.metering_model.specs.Holding.{Holding, Position, Placed, held, up_to, records_in_order}
 use Rattle.metering_model.specs.Step.{first_missing}
-use Rattle.metering_model.specs.JournalRules.{BrokenRule, MeetsJournalRules, first_broken}
+use Rattle.metering_model.specs.declared.BrokenRule.{BrokenRule}
+use Rattle.metering_model.specs.JournalRules.{MeetsJournalRules, first_broken}
 use Rattle.metering_model.specs.Row.{Row}
-use Rattle.metering_model.specs.Rows.{PlacedRow, placed_row}
+use Rattle.metering_model.specs.Rows.{placed_row}
 use Rattle.batch_store.specs.Stores.{IsStored}
 
 -- whether the batch is the agent's at the sequence, or comes behind that
