@@ -20,8 +20,8 @@ use Rattle.metering_model.proofs.ValueBounds.{all_filter_map, value_not_negative
 use Rattle.batch_store.specs.Stores.{named_by, named_between, AreAmended}
 use Rattle.focus_row.specs.Inner.Left.{is_from, left, placed_from, record_at, Between, MayBeCharged, rows_in, rows_left}
 use Rattle.focus_row.specs.Inner.Places.{IsNextNamed, NoneNamed}
-use Rattle.focus_row.specs.declared.row.FocusRow.{FocusRow}
-use Rattle.focus_row.specs.FocusRows.{model_row}
+use Rattle.charge_row.specs.declared.columns.FocusRow.{FocusRow}
+use Rattle.charge_row.specs.FocusRows.{model_row}
 use Rattle.focus_row.proofs.LeftLaws.{IsInCut, in_cut, left_all, left_first, left_next, left_none}
 use Rattle.focus_row.proofs.BetweenLaws.{same_at_both}
 

@@ -1,3 +1,2 @@
-pub mod FocusRows
 pub mod OneBatch
 pub mod Inner

@@ -13,13 +13,12 @@ ghost use Rattle.metering_model.specs.Step.{first_missing};
 ghost use Rattle.metering_model.specs.JournalRules.{MeetsJournalRules};
 ghost use Rattle.batch_view.specs.Lent.{model_reading, record_of};
 ghost use Rattle.batch_store.specs.Stores.{position_of};
-ghost use Rattle.focus_row.specs.FocusRows.{model_row};
+ghost use Rattle.charge_row.specs.FocusRows.{model_row};
 ghost use Rattle.focus_row.specs.Inner.Left.{MayBeCharged, record_at, rows_left};
 
-use crate::charges::{Billing, row};
+use charge_row::{Billing, FocusRow, row};
 use crate::held::batch_at;
 use crate::places::{is_named, next_named};
-use crate::row::FocusRow;
 use batch_store::{Place, Store};
 use batch_view::{Reading, Record};
 use fx_money::Value;
@@ -45,7 +44,7 @@ struct BetweenCuts<'a> {
 impl<'a> Model for BetweenCuts<'a> {
     ghost use Rattle.std.specs.Prelude.{map};
     ghost use Rattle.batch_store.specs.Stores.{AreAmended, position_of};
-    ghost use Rattle.focus_row.specs.Inner.Charging.{ArePeriodTexts};
+    ghost use Rattle.charge_row.specs.PeriodTexts.{ArePeriodTexts};
     ghost use Rattle.focus_row.specs.Inner.Left.{Between, MayBeCharged};
 
     ghost Value = { Between };

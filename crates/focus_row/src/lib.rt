@@ -2,17 +2,15 @@
 #![tactic(auto)]
 
 mod between;
-mod charges;
 mod held;
 pub mod laws;
 mod places;
-mod row;
 mod rows;
 mod rules;
 mod whole;
 
 pub use between::{RowsBetween, rows_between};
 pub use price_sheet::Issuer;
-pub use row::FocusRow;
+pub use charge_row::FocusRow;
 pub use rows::{OneBatchFault, one_batch_rows};
 pub use whole::{RowFault, rows_of};

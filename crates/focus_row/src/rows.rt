@@ -8,12 +8,12 @@ ghost use Rattle.metering_model.specs.Sheet.{Sheet};
 ghost use Rattle.metering_model.specs.Front.{starts_before, is_due};
 ghost use Rattle.batch_view.specs.Batches.{batch_of};
 ghost use Rattle.batch_view.specs.Lent.{record_of};
-ghost use Rattle.focus_row.specs.FocusRows.{model_row};
-ghost use Rattle.focus_row.specs.Inner.Charging.{ArePeriodTexts, new_rows};
+ghost use Rattle.charge_row.specs.FocusRows.{model_row};
+ghost use Rattle.charge_row.specs.PeriodTexts.{ArePeriodTexts};
+ghost use Rattle.focus_row.specs.Inner.Charging.{new_rows};
 ghost use Rattle.focus_row.specs.OneBatch.{empty_sheet, rows_alone, refusal_of, first_refusal};
 
-use crate::charges::{Billing, new_row};
-use crate::row::FocusRow;
+use charge_row::{Billing, FocusRow, new_row};
 use batch_view::{BatchView, Kind, Record, Stamp};
 use metering_model::BrokenRule;
 use period_cut::{Month, Period};

@@ -7,12 +7,12 @@ ghost use Rattle.metering_model.specs.Holding.{records_in_order, up_to};
 ghost use Rattle.metering_model.specs.Step.{first_missing};
 ghost use Rattle.metering_model.specs.JournalRules.{MeetsJournalRules, first_broken};
 ghost use Rattle.metering_model.specs.Rows.{rows};
-ghost use Rattle.focus_row.specs.FocusRows.{model_row};
+ghost use Rattle.charge_row.specs.FocusRows.{model_row};
 
 use crate::between::{RowsBetween, rows_between};
-use crate::row::FocusRow;
 use crate::rules::first_broken;
 use batch_store::Store;
+use charge_row::FocusRow;
 use metering_model::BrokenRule;
 use period_cut::{Cut, Period};
 use price_sheet::{Issuer, Sheet};

@@ -1,5 +1,5 @@
 use Rattle.std.proofs.Common.{◌≡◌, ◌++◌, map, length}
-use Rattle.focus_row.specs.FocusRows.{model_row}
+use Rattle.charge_row.specs.FocusRows.{model_row}
 use Rattle.focus_row.proofs.whole.all_of.Given as goal
 
 -- The rows so far and those still to come are all.

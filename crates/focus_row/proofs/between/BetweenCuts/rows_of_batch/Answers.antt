@@ -7,8 +7,8 @@ use Rattle.metering_model.proofs.HoldingLaws.{held_place}
 use Rattle.metering_model.proofs.MissingLaws.{held-up_to_where}
 use Rattle.batch_view.specs.Batches.{RecordsLeft, batch_of, records_left}
 use Rattle.batch_view.specs.Lent.{record_of}
-use Rattle.focus_row.specs.FocusRows.{model_row}
-use Rattle.focus_row.specs.declared.row.FocusRow.{FocusRow}
+use Rattle.charge_row.specs.FocusRows.{model_row}
+use Rattle.charge_row.specs.declared.columns.FocusRow.{FocusRow}
 use Rattle.focus_row.specs.Inner.Left.{Between, MayBeCharged, placed_from, rows_in, rows_left}
 use Rattle.focus_row.proofs.StopLaws.{first_left, push_row, pass_record, rows_first}
 use Rattle.focus_row.proofs.between.BetweenCuts.rows_of_batch.Goals as goal

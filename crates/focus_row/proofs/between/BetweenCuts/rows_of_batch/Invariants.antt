@@ -1,7 +1,7 @@
 use Rattle.std.proofs.Common.{◌≡◌, ◌≤◌, ◌++◌, length, map, Some}
 use Rattle.metering_model.specs.Holding.{held}
 use Rattle.batch_view.specs.Batches.{batch_of, records_left}
-use Rattle.focus_row.specs.FocusRows.{model_row}
+use Rattle.charge_row.specs.FocusRows.{model_row}
 use Rattle.focus_row.specs.Inner.Left.{placed_from, rows_in}
 use Rattle.focus_row.proofs.between.BetweenCuts.rows_of_batch.Given as goal
 

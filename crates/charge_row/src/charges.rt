@@ -8,10 +8,10 @@ ghost use Rattle.metering_model.specs.Batch.{is_priced};
 ghost use Rattle.metering_model.specs.declared.ChargeClass.TheVariants.{New};
 ghost use Rattle.metering_model.specs.Row.{row, or_null, by_kind, category_text, class_text, priced_kind, price_of, commitment_of, charge};
 ghost use Rattle.batch_view.specs.Lent.{model_reading};
-ghost use Rattle.focus_row.specs.FocusRows.{model_row};
-ghost use Rattle.focus_row.specs.Inner.Charging.{ArePeriodTexts};
+ghost use Rattle.charge_row.specs.FocusRows.{model_row};
+ghost use Rattle.charge_row.specs.PeriodTexts.{ArePeriodTexts};
 
-use crate::row::FocusRow;
+use crate::columns::FocusRow;
 use batch_view::{Kind, Reading};
 use fx_money::{Price, Value};
 use metering_model::{ChargeClass, CommitmentCategory, PricedKind, ServiceCategory};
@@ -21,14 +21,15 @@ use rating::{Rated, rate, rate_flat};
 
 /// What all rows of a billing period share: who bills, and the period's start and end.
 #[derive(Clone, Copy)]
-pub(crate) struct Billing<'a> {
-    issuer: &'a Issuer,
-    start_text: [u8; 20],
-    end_text: [u8; 20],
+pub struct Billing<'a> {
+    pub issuer: &'a Issuer,
+    pub start_text: [u8; 20],
+    pub end_text: [u8; 20],
 }
 
 impl<'a> Billing<'a> {
-    pub(crate) fn new(issuer: &'a Issuer, base: Month, period: Period) -> Billing<'a>
+    /// Of an issuer, in a period behind a base month.
+    pub fn new(issuer: &'a Issuer, base: Month, period: Period) -> Billing<'a>
         requires base { IsBaseMonth base }
         ensures issuer { result.issuer.now ≡ issuer.now }
         ensures texts { ArePeriodTexts base period result.start_text result.end_text }
@@ -55,7 +56,7 @@ fn priced_kind(kind: Kind) -> Option<PricedKind>
 }
 
 /// Whether a price charges readings of this kind.
-pub(crate) fn is_priced(kind: Kind) -> bool
+pub fn is_priced(kind: Kind) -> bool
     ensures { result ≡ is_priced kind }
 {
     match kind {
@@ -65,7 +66,7 @@ pub(crate) fn is_priced(kind: Kind) -> bool
 }
 
 /// The price in force on the day that the reading starts, where its kind is charged by one.
-pub(crate) fn price_of<'a>(sheet: &'a Sheet, reading: &Reading<'_>) -> Option<&'a PriceRow>
+pub fn price_of<'a>(sheet: &'a Sheet, reading: &Reading<'_>) -> Option<&'a PriceRow>
     ensures { option_copied result ≡ price_of sheet.now (model_reading reading.now) }
 {
     if !is_priced(reading.kind) {
@@ -75,7 +76,7 @@ pub(crate) fn price_of<'a>(sheet: &'a Sheet, reading: &Reading<'_>) -> Option<&'
 }
 
 /// The commitment that the reading names, where its kind is charged by a price.
-pub(crate) fn commitment_of<'a>(sheet: &'a Sheet, reading: &Reading<'_>) -> Option<&'a Commitment>
+pub fn commitment_of<'a>(sheet: &'a Sheet, reading: &Reading<'_>) -> Option<&'a Commitment>
     ensures { option_copied result ≡ commitment_of sheet.now (model_reading reading.now) }
 {
     if !is_priced(reading.kind) {
@@ -362,8 +363,9 @@ fn row_by<'a>(
     }
 }
 
-/// The row of a reading, from an old value to a new one.
-pub(crate) fn row<'a>(
+/// The row of a reading, from an old value to a new one, at the price in force on its day and under the commitment
+/// that it names. It takes no memory.
+pub fn row<'a>(
     billing: &Billing<'a>,
     sheet: &'a Sheet,
     reading: &Reading<'a>,
@@ -383,7 +385,7 @@ pub(crate) fn row<'a>(
 }
 
 /// The row of a credit, a tax or an adjustment that is charged whole.
-pub(crate) fn new_row<'a>(billing: &Billing<'a>, reading: &Reading<'a>) -> FocusRow<'a>
+pub fn new_row<'a>(billing: &Billing<'a>, reading: &Reading<'a>) -> FocusRow<'a>
     requires flat { is_priced reading.now.kind ≡ false }
     ensures { (sheet : ModelSheet) (period : ℕ)
         → ArePeriodTexts sheet.base period billing.now.start_text billing.now.end_text

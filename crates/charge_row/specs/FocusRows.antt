@@ -4,7 +4,7 @@ use Rattle.std.specs.Option.{option_copied}
 use Rattle.metering_model.specs.Row.{Row}
 use Rattle.batch_view.specs.TagTexts.{tag_of}
 use Rattle.batch_view.specs.Lent.{lent_tags}
-use Rattle.focus_row.specs.declared.row.FocusRow.{FocusRow}
+use Rattle.charge_row.specs.declared.columns.FocusRow.{FocusRow}
 
 abbrev pub model_row : FocusRow → Row
 model_row r = record {
