@@ -6,6 +6,9 @@ use Rattle.focus_row.specs.Inner.Left.{MayBeCharged}
 use Rattle.focus_row.proofs.StopLaws.{not_negative_at}
 use Rattle.focus_row.proofs.between.BetweenCuts.value.Goals as goal
 
+pub returns-clause-value : goal.returns-clause-value
+returns-clause-value c = search rules
+
 pub returns-clause-not_negative : goal.returns-clause-not_negative
 returns-clause-not_negative c r found priced =
     let s = c.args.self.now in
