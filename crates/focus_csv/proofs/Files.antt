@@ -4,8 +4,8 @@ use Rattle.std.specs.List.{flat_map}
 use Rattle.std.proofs.lemmas.List.{append-nil, map-append, take_more}
 use Rattle.std.proofs.lemmas.Grind.{flat_map-append}
 use Rattle.metering_model.specs.File.{row_text}
-use Rattle.focus_row.specs.declared.row.FocusRow.{FocusRow}
-use Rattle.focus_row.specs.FocusRows.{model_row}
+use Rattle.charge_row.specs.declared.columns.FocusRow.{FocusRow}
+use Rattle.charge_row.specs.FocusRows.{model_row}
 
 each_more : {X : Type 0} (f : X → List ℕ) (xs : List X) (x : X) → flat_map f xs ++ f x ≡ flat_map f (xs ++ x ∷ [])
 each_more f xs x = ap (λ t. flat_map f xs ++ t) (sym (append-nil (f x))) ∙ sym (flat_map-append f xs (x ∷ []))

@@ -6,7 +6,7 @@ ghost use Rattle.std.specs.Io.KnownBytes.{Appends};
 ghost use Rattle.counted_io.specs.Counts.{Rises, count_after};
 ghost use Rattle.counted_io.specs.Writing.{AppendsFront};
 ghost use Rattle.metering_model.specs.File.{file};
-ghost use Rattle.focus_row.specs.FocusRows.{model_row};
+ghost use Rattle.charge_row.specs.FocusRows.{model_row};
 ghost use Rattle.focus_csv.specs.Faults.{is_sink_fault};
 
 use counted_io::{Sink, write_all};

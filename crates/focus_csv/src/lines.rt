@@ -5,7 +5,7 @@ ghost use Rattle.std.specs.List.{flat_map};
 ghost use Rattle.std.specs.Option.{option_copied};
 ghost use Rattle.std.specs.Io.KnownBytes.{Appends};
 ghost use Rattle.metering_model.specs.File.{file, fields_of_row, header_line, row_text, text_or_null};
-ghost use Rattle.focus_row.specs.FocusRows.{model_row};
+ghost use Rattle.charge_row.specs.FocusRows.{model_row};
 ghost use Rattle.focus_csv.specs.Inner.Made.{AreMadeOf};
 ghost use Rattle.focus_csv.specs.Inner.Lines.{IsAtLineStart, writer_text, line_of};
 

@@ -3,7 +3,7 @@
 ghost use Rattle.std.specs.Prelude.{◌≡◌, string_bytes, OnOk};
 ghost use Rattle.metering_model.specs.NumberText.{spelling};
 ghost use Rattle.metering_model.specs.File.{quantity_or_null, price_or_null};
-ghost use Rattle.focus_row.specs.FocusRows.{model_row};
+ghost use Rattle.charge_row.specs.FocusRows.{model_row};
 ghost use Rattle.focus_csv.specs.Inner.Made.{AreMadeOf};
 
 use crate::tags::tags_json;

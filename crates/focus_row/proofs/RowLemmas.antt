@@ -6,8 +6,8 @@ use Rattle.metering_model.specs.Batch.{Reading, Record, Reads}
 use Rattle.metering_model.specs.declared.BrokenRule.{BrokenRule}
 use Rattle.metering_model.specs.declared.ChargeClass.TheVariants.{New}
 use Rattle.metering_model.specs.Row.{Row, row}
-use Rattle.focus_row.specs.declared.row.FocusRow.{FocusRow}
-use Rattle.focus_row.specs.FocusRows.{model_row}
+use Rattle.charge_row.specs.declared.columns.FocusRow.{FocusRow}
+use Rattle.charge_row.specs.FocusRows.{model_row}
 use Rattle.focus_row.specs.Inner.Charging.{new_rows}
 use Rattle.focus_row.specs.OneBatch.{refusal_of, first_refusal}
 

@@ -1,1 +1,3 @@
 pub mod Charging
+pub mod Left
+pub mod Places

@@ -1,4 +1,2 @@
-pub mod Samples
-pub mod FocusRows
 pub mod OneBatch
 pub mod Inner

@@ -1,12 +1,16 @@
 //! Rows of charges, by the columns of the FinOps Open Cost and Usage Specification (FOCUS) 1.0.
 #![tactic(auto)]
 
-mod charges;
-mod issuer;
+mod between;
+mod held;
 pub mod laws;
-mod row;
+mod places;
 mod rows;
+mod rules;
+mod whole;
 
-pub use issuer::Issuer;
-pub use row::FocusRow;
-pub use rows::{RowFault, one_batch_rows};
+pub use between::{RowsBetween, rows_between};
+pub use price_sheet::Issuer;
+pub use charge_row::FocusRow;
+pub use rows::{OneBatchFault, one_batch_rows};
+pub use whole::{RowFault, rows_of};

@@ -8,22 +8,22 @@ ghost use Rattle.metering_model.specs.Sheet.{Sheet};
 ghost use Rattle.metering_model.specs.Front.{starts_before, is_due};
 ghost use Rattle.batch_view.specs.Batches.{batch_of};
 ghost use Rattle.batch_view.specs.Lent.{record_of};
-ghost use Rattle.focus_row.specs.FocusRows.{model_row};
-ghost use Rattle.focus_row.specs.Inner.Charging.{ArePeriodTexts, new_rows};
+ghost use Rattle.charge_row.specs.FocusRows.{model_row};
+ghost use Rattle.charge_row.specs.PeriodTexts.{ArePeriodTexts};
+ghost use Rattle.focus_row.specs.Inner.Charging.{new_rows};
 ghost use Rattle.focus_row.specs.OneBatch.{empty_sheet, rows_alone, refusal_of, first_refusal};
 
-use crate::charges::{Billing, new_row};
-use crate::issuer::Issuer;
-use crate::row::FocusRow;
+use charge_row::{Billing, FocusRow, new_row};
 use batch_view::{BatchView, Kind, Record, Stamp};
 use metering_model::BrokenRule;
 use period_cut::{Month, Period};
+use price_sheet::Issuer;
 use std::alloc::{AllocError, Global};
 use thiserror::Error;
 
 /// Why no rows are given.
 #[derive(Clone, Copy, Debug, Drop, Error)]
-pub enum RowFault {
+pub enum OneBatchFault {
     /// The rule for which the first record that is refused is so.
     #[error("{0}")]
     Broken(BrokenRule),
@@ -145,24 +145,24 @@ pub fn one_batch_rows<'a>(
     issuer: &'a Issuer,
     base: Month,
     period: Period,
-) -> Result<Vec<FocusRow<'a>>, RowFault>
+) -> Result<Vec<FocusRow<'a>>, OneBatchFault>
     requires base { IsBaseMonth base }
     requires first { (batch_of batch.now).seq ≡ 1 }
     ensures rows { IfOk result (λ rows.
         map model_row rows.items ≡ rows_alone (empty_sheet base) issuer.now (batch_of batch.now) period) }
     ensures taken { IfOk result (λ rows. first_refusal (batch_of batch.now).records ≡ None) }
-    ensures memory { result ≡ Err RowFault.OutOfMemory
+    ensures memory { result ≡ Err OneBatchFault.OutOfMemory
         → first_refusal (batch_of batch.now).records ≡ None }
-    ensures broken { (rule : BrokenRule) → result ≡ Err (RowFault.Broken rule)
+    ensures broken { (rule : BrokenRule) → result ≡ Err (OneBatchFault.Broken rule)
         → first_refusal (batch_of batch.now).records ≡ Some rule }
 {
     // Its clause says that they are a batch, so the agent is one of 64.
     let _bytes = batch.bytes();
     if let Some(rule) = first_refusal(batch) {
-        return Err(RowFault::Broken(rule));
+        return Err(OneBatchFault::Broken(rule));
     }
     match due_rows(alloc, batch, issuer, base, period) {
         Ok(rows) => Ok(rows),
-        Err(_) => Err(RowFault::OutOfMemory),
+        Err(_) => Err(OneBatchFault::OutOfMemory),
     }
 }

@@ -3,7 +3,7 @@
 use command_line::LineFault;
 use counted_io::{Failed, ReadFault};
 use focus_csv::CsvFault;
-use focus_row::RowFault;
+use focus_row::{OneBatchFault, RowFault};
 use metering_model::{BatchCode, BatchFault, BrokenRule, NumberFault, Refusal};
 use schedule_player::PlayFault;
 use std::test::Fail;
@@ -70,11 +70,20 @@ fn each_fault_is_told_in_its_words(rt: HostRuntime) -> Result<(), Fail> {
         (
             format!(in alloc;
                 "{}, {}, {}",
-                RowFault::Broken(BrokenRule::BadTarget),
+                OneBatchFault::Broken(BrokenRule::BadTarget),
+                OneBatchFault::Broken(BrokenRule::Unpriced),
+                OneBatchFault::OutOfMemory
+            )?,
+            "bad target, unpriced, out of memory",
+        ),
+        (
+            format!(in alloc;
+                "{}, {}, {}",
+                RowFault::Missing { agent: 1, seq: 2 },
                 RowFault::Broken(BrokenRule::Unpriced),
                 RowFault::OutOfMemory
             )?,
-            "bad target, unpriced, out of memory",
+            "missing agent 1 seq 2, unpriced, out of memory",
         ),
         (
             format!(in alloc;

@@ -4,7 +4,7 @@ use crate::rows::{FIRST_RUN, first_batch, first_rows};
 use batch_view::{BatchView, Record, Tags};
 use counted_io::{Counted, FakeWriter};
 use focus_csv::{CsvFault, write_file};
-use focus_row::{FocusRow, Issuer, RowFault};
+use focus_row::{FocusRow, Issuer, OneBatchFault};
 use fx_money::{Cost, Delta, Price};
 use std::test::Fail;
 
@@ -185,7 +185,7 @@ fn a_refused_growth_is_a_want_of_memory(rt: HostRuntime) -> Result<(), Fail> {
     let batch = first_batch(FIRST_RUN)?;
     match first_rows(&rt, &batch, &issuer) {
         Ok(rows) => assert!(rt; is_told(&rt, rows.get(0).ok_or("no row")?)),
-        Err(fault) => assert!(rt; matches!(fault, RowFault::OutOfMemory)),
+        Err(fault) => assert!(rt; matches!(fault, OneBatchFault::OutOfMemory)),
     }
     Ok(())
 }

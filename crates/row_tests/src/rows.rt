@@ -4,7 +4,7 @@ ghost use Rattle.std.specs.Prelude.{◌≡◌, IfOk};
 ghost use Rattle.batch_view.specs.Batches.{batch_of};
 
 use batch_view::BatchView;
-use focus_row::{FocusRow, Issuer, RowFault, one_batch_rows};
+use focus_row::{FocusRow, Issuer, OneBatchFault, one_batch_rows};
 use period_cut::{Month, Period};
 use std::test::Fail;
 
@@ -31,7 +31,7 @@ pub(crate) fn first_rows<'a>(
     rt: &HostRuntime,
     batch: &BatchView<'a>,
     issuer: &'a Issuer,
-) -> Result<Vec<FocusRow<'a>>, RowFault>
+) -> Result<Vec<FocusRow<'a>>, OneBatchFault>
     requires { (batch_of batch.now).seq ≡ 1 }
 {
     let january = Period::new(0).unwrap();

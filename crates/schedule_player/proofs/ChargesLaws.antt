@@ -22,7 +22,7 @@ use Rattle.metering_model.specs.File.{header_line, row_text, file}
 use Rattle.metering_model.proofs.StepLaws.{step_iff, ok_same}
 use Rattle.metering_model.proofs.Splitting.{ended}
 use Rattle.metering_model.proofs.BatchLaws.{batch_read}
-use Rattle.focus_row.specs.Samples.{sample_issuer}
+use Rattle.price_sheet.specs.Samples.{sample_issuer}
 use Rattle.focus_row.specs.OneBatch.{empty_sheet, rows_alone, first_refusal}
 use Rattle.focus_row.proofs.OneBatchLaws.{rows_alone_are}
 use Rattle.schedule_player.specs.RateInput.{base_month, rated_file}

@@ -7,7 +7,7 @@ use Rattle.metering_model.specs.declared.Refusal.TheVariants.{WrongSeq}
 use Rattle.metering_model.specs.Sheet.{Issuer}
 use Rattle.metering_model.specs.Step.{or_bad_batch, unless_broken}
 use Rattle.metering_model.specs.File.{file}
-use Rattle.focus_row.specs.Samples.{sample_issuer}
+use Rattle.price_sheet.specs.Samples.{sample_issuer}
 use Rattle.focus_row.specs.OneBatch.{empty_sheet, rows_alone, first_refusal}
 
 -- 2025-01, counted from January of the year 0

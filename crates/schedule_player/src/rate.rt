@@ -14,7 +14,7 @@ ghost use Rattle.schedule_player.specs.Faults.{tells_of_reader, tells_of_writer}
 use batch_view::BatchView;
 use counted_io::{Input, ReadFault, Sink, Source, read_to_limit};
 use focus_csv::{CsvFault, write_file};
-use focus_row::{Issuer, RowFault, one_batch_rows};
+use focus_row::{Issuer, OneBatchFault, one_batch_rows};
 use metering_model::{BatchCode, BatchFault, BrokenRule, Refusal};
 use period_cut::{Month, Period};
 use std::alloc::Global;
@@ -159,16 +159,16 @@ pub fn rate_batch<W: Sink>(
     }
 }
 
-fn fault_of_rows(fault: RowFault) -> PlayFault
+fn fault_of_rows(fault: OneBatchFault) -> PlayFault
     ensures refused { (refusal : Refusal) → result ≡ PlayFault.Refused refusal
-        → (rule : BrokenRule) × (fault ≡ RowFault.Broken rule)
+        → (rule : BrokenRule) × (fault ≡ OneBatchFault.Broken rule)
         × (unless_broken (Some rule) ≡ Err refusal) }
-    ensures memory { result ≡ PlayFault.OutOfMemory → fault ≡ RowFault.OutOfMemory }
+    ensures memory { result ≡ PlayFault.OutOfMemory → fault ≡ OneBatchFault.OutOfMemory }
     ensures others { (result ≢ PlayFault.Read) × (result ≢ PlayFault.Write) }
 {
     match fault {
-        RowFault::Broken(BrokenRule::BadTarget) => PlayFault::Refused(Refusal::BadTarget),
-        RowFault::Broken(BrokenRule::Unpriced) => PlayFault::Refused(Refusal::Unpriced),
-        RowFault::OutOfMemory => PlayFault::OutOfMemory,
+        OneBatchFault::Broken(BrokenRule::BadTarget) => PlayFault::Refused(Refusal::BadTarget),
+        OneBatchFault::Broken(BrokenRule::Unpriced) => PlayFault::Refused(Refusal::Unpriced),
+        OneBatchFault::OutOfMemory => PlayFault::OutOfMemory,
     }
 }

@@ -1,17 +1,11 @@
 -- What the rows of readings that are charged by their amount are made of.
-use Rattle.std.specs.Prelude.{◌≡◌, ℕ, List, map, pos}
+use Rattle.std.specs.Prelude.{ℕ, List, map, pos}
 use Rattle.std.specs.List.{filter_map}
-use Rattle.metering_model.specs.Dates.{period_start_text, period_end_text}
 use Rattle.metering_model.specs.Batch.{Record}
 use Rattle.metering_model.specs.Holding.{reading_of}
 use Rattle.metering_model.specs.Sheet.{Sheet, Issuer}
 use Rattle.metering_model.specs.declared.ChargeClass.TheVariants.{New}
 use Rattle.metering_model.specs.Row.{Row, row}
-
--- The texts are those of the period's first moment and of the first moment behind it.
-pub record ArePeriodTexts (base period : ℕ) (start end : List ℕ) : Type 0 where
-  pub start_is : start ≡ period_start_text base period
-  pub end_is : end ≡ period_end_text base period
 
 -- a row for each reading of the records, charged whole
 abbrev pub new_rows : Sheet → Issuer → ℕ → List Record → List Row

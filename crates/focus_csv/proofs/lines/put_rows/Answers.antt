@@ -1,7 +1,7 @@
 -- One more line.
 use Rattle.std.proofs.Common.{◌<◌, ◌++◌, length, ap, ◌∙◌, append_assoc, rules, arith}
 use Rattle.metering_model.specs.File.{row_text}
-use Rattle.focus_row.specs.FocusRows.{model_row}
+use Rattle.charge_row.specs.FocusRows.{model_row}
 use Rattle.focus_csv.proofs.Files.{rows_more}
 use Rattle.focus_csv.proofs.lines.put_rows.Goals as goal
 

@@ -3,7 +3,7 @@ use Rattle.std.proofs.Common.{map, take}
 use Rattle.std.specs.List.{flat_map}
 use Rattle.std.specs.Io.KnownBytes.{Appends}
 use Rattle.metering_model.specs.File.{row_text}
-use Rattle.focus_row.specs.FocusRows.{model_row}
+use Rattle.charge_row.specs.FocusRows.{model_row}
 use Rattle.focus_csv.specs.Inner.Lines.{IsAtLineStart, writer_text}
 use Rattle.focus_csv.proofs.lines.put_rows.Given as goal
 

@@ -1,8 +1,9 @@
 use Rattle.std.proofs.Common.{◌≡◌, ℕ, ◌++◌, None, map}
 use Rattle.metering_model.specs.Sheet.{Sheet}
 use Rattle.batch_view.specs.Batches.{batch_of, records_left}
-use Rattle.focus_row.specs.FocusRows.{model_row}
-use Rattle.focus_row.specs.Inner.Charging.{ArePeriodTexts, new_rows}
+use Rattle.charge_row.specs.FocusRows.{model_row}
+use Rattle.charge_row.specs.PeriodTexts.{ArePeriodTexts}
+use Rattle.focus_row.specs.Inner.Charging.{new_rows}
 use Rattle.focus_row.specs.OneBatch.{first_refusal}
 use Rattle.focus_row.proofs.rows.rows_of_readings.Given as goal
 

@@ -3,7 +3,7 @@ use Rattle.metering_model.specs.Batch.{Batch}
 use Rattle.metering_model.specs.BatchReading.{batch_in}
 use Rattle.metering_model.specs.File.{file}
 use Rattle.metering_model.specs.Sheet.{Issuer}
-use Rattle.focus_row.specs.declared.rows.RowFault.TheVariants.{OutOfMemory}
+use Rattle.focus_row.specs.declared.rows.OneBatchFault.TheVariants.{OutOfMemory}
 use Rattle.focus_row.specs.OneBatch.{empty_sheet, rows_alone, first_refusal}
 use Rattle.batch_view.specs.Batches.{batch_of}
 use Rattle.schedule_player.specs.RateInput.{base_month, file_by}

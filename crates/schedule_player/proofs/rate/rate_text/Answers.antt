@@ -1,7 +1,7 @@
 use Rattle.std.proofs.Common.{◌≡◌, List, ℕ, Option, Some, None, Result, Ok, Err, IfSome, OnOk, rules}
 use Rattle.std.specs.Io.KnownBytes.{Appends}
 use Rattle.metering_model.specs.declared.Refusal.{Refusal}
-use Rattle.focus_row.specs.Samples.{sample_issuer}
+use Rattle.price_sheet.specs.Samples.{sample_issuer}
 use Rattle.schedule_player.specs.RateInput.{rated_file}
 use Rattle.schedule_player.specs.Charges.{IsFileOf}
 use Rattle.schedule_player.proofs.ChargesLaws.{bills_batch}

@@ -1,0 +1,2 @@
+pub mod FocusRows
+pub mod PeriodTexts

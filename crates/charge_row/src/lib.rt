@@ -1,0 +1,8 @@
+//! One charge as a row, by the columns of the FinOps Open Cost and Usage Specification (FOCUS) 1.0.
+#![tactic(auto)]
+
+mod charges;
+mod columns;
+
+pub use charges::{Billing, commitment_of, is_priced, new_row, price_of, row};
+pub use columns::FocusRow;

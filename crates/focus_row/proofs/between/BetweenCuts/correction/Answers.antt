@@ -1,0 +1,25 @@
+use Rattle.std.proofs.Common.{sym, subst, map}
+use Rattle.std.proofs.lemmas.Bool.{both_ways}
+use Rattle.std.specs.List.{Contains}
+use Rattle.batch_view.specs.Lent.{model_reading}
+use Rattle.batch_store.specs.Stores.{AreAmended, position_of}
+use Rattle.focus_row.specs.Inner.Left.{Between, MayBeCharged}
+use Rattle.focus_row.proofs.StopLaws.{no_row_unnamed}
+use Rattle.focus_row.proofs.between.BetweenCuts.correction.Goals as goal
+
+pub returns-then-not-is_named : goal.returns-then-not-is_named
+returns-then-not-is_named c =
+    let s = c.args.self.now in
+    let may : MayBeCharged s = subst MayBeCharged c.self.view_is c.self.invariant.0 in
+    let ps = map position_of c.self.inside.amended.items in
+    let am : AreAmended s.batches s.from s.to ps = subst (λ (b : Between). AreAmended b.batches b.from b.to ps) c.self.view_is c.self.invariant.2 in
+    let place = position_of c.args.place in
+    no_row_unnamed s may place (model_reading c.args.reading.now) c.requires.within (λ has.
+    both_ways c.is_named.result c.if-not-is_named.true
+    (c.is_named.ensures.1 (subst (λ xs. Contains (map position_of xs) place) (sym c.deref.ensures.value) ((am.each place).1 has))))
+
+pub row-requires-clause-was : goal.row-requires-clause-was
+row-requires-clause-was c priced = c.value-was.ensures.not_negative (model_reading c.args.reading.now) c.requires.there priced
+
+pub row-requires-clause-value : goal.row-requires-clause-value
+row-requires-clause-value c priced = c.value-now.ensures.not_negative (model_reading c.args.reading.now) c.requires.there priced

@@ -1,0 +1,35 @@
+use Rattle.std.proofs.Common.{◌≡◌, ℕ, ◌<◌, ◌+◌, ◌-◌, ◌/◌, length, map, Some, get_or, ap, sym, ◌∙◌, option_map, arith}
+use Rattle.std.specs.Prelude.{List, slice_get}
+use Rattle.std.proofs.lemmas.Option.{slice_get-map, slice_get-get_or}
+use Rattle.batch_store.specs.declared.Place.{Place}
+use Rattle.batch_store.specs.Stores.{position_of}
+use Rattle.focus_row.proofs.PlaceOrder.{before_middle, behind_middle}
+use Rattle.focus_row.proofs.places.first_from.Goals as goal
+
+-- the position at an index within the places
+position_at : (xs : List Place) (k : ℕ) (d : Place) → k < length xs → slice_get (map position_of xs) k ≡ Some (position_of (get_or xs k d))
+position_at xs k d inside = slice_get-map position_of xs k ∙ ap (option_map position_of) (slice_get-get_or xs k d inside)
+
+pub loop-low-preserved-then-stands_before : goal.loop-low-preserved-then-stands_before
+loop-low-preserved-then-stands_before c =
+    let low = c.loop-low.low in
+    let high = c.loop-low.high in
+    let at = position_at c.args.places.now (low + (high - low) / 2) _ (omega arith) in
+    record {
+      ordered = omega arith;
+      within = c.loop-low.invariant.within;
+      before = λ k q e less. before_middle (map position_of c.args.places.now) _ k _ q _ c.requires at (sym c.stands_before.ensures ∙ c.if-stands_before.true) e less;
+      behind = c.loop-low.invariant.behind;
+    }
+
+pub loop-low-preserved : goal.loop-low-preserved
+loop-low-preserved c =
+    let low = c.loop-low.low in
+    let high = c.loop-low.high in
+    let at = position_at c.args.places.now (low + (high - low) / 2) _ (omega arith) in
+    record {
+      ordered = omega arith;
+      within = omega arith;
+      before = c.loop-low.invariant.before;
+      behind = λ k q e from. behind_middle (map position_of c.args.places.now) _ k _ q _ c.requires at (sym c.stands_before.ensures ∙ c.if-stands_before.false) e from;
+    }

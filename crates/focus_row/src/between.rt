@@ -1,0 +1,311 @@
+//! The rows between two cuts, batch by batch.
+
+ghost use Rattle.std.specs.Prelude.{◌≡◌, ◌≢◌, ◌≤◌, ◌≤ℤ◌, ◌+◌, ◌<◌, ◌++◌, [], true, pos, length, map, option_map, Some, None, IfOk, IfSome, IfNone, IfErr, OnOk, OnErr};
+ghost use Rattle.std.specs.Option.{is_some};
+ghost use Rattle.metering_model.specs.Batch.{Reading as ModelReading, is_priced};
+ghost use Rattle.metering_model.specs.Cut.{IsAtLeast, last_of};
+ghost use Rattle.metering_model.specs.Holding.{reading_at, up_to};
+ghost use Rattle.metering_model.specs.ValueAtSequence.{value_at};
+ghost use Rattle.metering_model.specs.declared.ChargeClass.TheVariants.{New, Correction};
+ghost use Rattle.metering_model.specs.Row.{row};
+ghost use Rattle.metering_model.specs.Rows.{row_of, row_of_reading, rows};
+ghost use Rattle.metering_model.specs.Step.{first_missing};
+ghost use Rattle.metering_model.specs.JournalRules.{MeetsJournalRules};
+ghost use Rattle.batch_view.specs.Lent.{model_reading, record_of};
+ghost use Rattle.batch_store.specs.Stores.{position_of};
+ghost use Rattle.charge_row.specs.FocusRows.{model_row};
+ghost use Rattle.focus_row.specs.Inner.Left.{MayBeCharged, record_at, rows_left};
+
+use charge_row::{Billing, FocusRow, row};
+use crate::held::batch_at;
+use crate::places::{is_named, next_named};
+use batch_store::{Place, Store};
+use batch_view::{Reading, Record};
+use fx_money::Value;
+use metering_model::ChargeClass;
+use period_cut::{Cut, Period};
+use price_sheet::{Issuer, Sheet};
+use std::alloc::{AllocError, Global};
+use std::marker::Model;
+
+/// What is charged between two cuts, and by what.
+#[derive(Drop)]
+struct BetweenCuts<'a> {
+    store: &'a Store,
+    sheet: &'a Sheet,
+    billing: Billing<'a>,
+    period: Period,
+    from: &'a Cut,
+    to: &'a Cut,
+    /// The places up to `from` that are amended above it and up to `to`.
+    amended: Vec<Place>,
+}
+
+impl<'a> Model for BetweenCuts<'a> {
+    ghost use Rattle.std.specs.Prelude.{map};
+    ghost use Rattle.batch_store.specs.Stores.{AreAmended, position_of};
+    ghost use Rattle.charge_row.specs.PeriodTexts.{ArePeriodTexts};
+    ghost use Rattle.focus_row.specs.Inner.Left.{Between, MayBeCharged};
+
+    ghost Value = { Between };
+
+    ghost view = { λ b. record {
+      sheet = b.sheet.now;
+      issuer = b.billing.issuer.now;
+      agents = b.store.now.agents;
+      batches = b.store.now.batches;
+      period = b.period;
+      from = b.from.now;
+      to = b.to.now;
+    } };
+
+    ghost invariant = { λ b.
+        MayBeCharged (record {
+          sheet = b.sheet.now;
+          issuer = b.billing.issuer.now;
+          agents = b.store.now.agents;
+          batches = b.store.now.batches;
+          period = b.period;
+          from = b.from.now;
+          to = b.to.now;
+        })
+        × ArePeriodTexts b.sheet.now.base b.period b.billing.start_text b.billing.end_text
+        × AreAmended b.store.now.batches b.from.now b.to.now (map position_of b.amended.items) };
+}
+
+impl<'a> BetweenCuts<'a> {
+    /// The value of a reading as of a sequence of its agent.
+    fn value(&self, place: Place, upto: u32) -> Value
+        requires from { 1 ≤ place.agent }
+        requires to { place.agent ≤ self.now.agents }
+        requires there { is_some (reading_at self.now.batches (position_of place)) ≡ true }
+        requires upto { upto ≤ last_of self.now.to place.agent }
+        requires within { place.seq ≤ last_of self.now.to place.agent }
+        ensures value { result ≡ value_at self.now.batches (position_of place) upto }
+        ensures not_negative { (r : ModelReading) → reading_at self.now.batches (position_of place) ≡ Some r
+            → is_priced r.kind ≡ true → pos 0 ≤ℤ result }
+    {
+        self.store.value_at(place, upto).unwrap()
+    }
+
+    /// The row of a reading above `from`: it is charged whole.
+    fn new_row(&self, place: Place, reading: &Reading<'a>) -> FocusRow<'a>
+        requires from { 1 ≤ place.agent }
+        requires to { place.agent ≤ self.now.agents }
+        requires there { reading_at self.now.batches (position_of place) ≡ Some (model_reading reading.now) }
+        requires within { place.seq ≤ last_of self.now.to place.agent }
+        ensures { model_row result ≡ row self.now.sheet self.now.issuer (model_reading reading.now) self.now.period New (pos 0)
+            (value_at self.now.batches (position_of place) (last_of self.now.to place.agent)) }
+    {
+        let nothing = Value::new(0).unwrap();
+        let now = self.value(place, self.to.get(place.agent));
+        row(
+            &self.billing,
+            self.sheet,
+            reading,
+            ChargeClass::New,
+            nothing,
+            now,
+        )
+    }
+
+    /// The row of a reading up to `from` from its value there to the one at `to`, where these differ.
+    fn correction(&self, place: Place, reading: &Reading<'a>) -> Option<FocusRow<'a>>
+        requires from { 1 ≤ place.agent }
+        requires to { place.agent ≤ self.now.agents }
+        requires there { reading_at self.now.batches (position_of place) ≡ Some (model_reading reading.now) }
+        requires within { place.seq ≤ last_of self.now.from place.agent }
+        ensures { option_map model_row result ≡ row_of_reading self.now.sheet self.now.issuer self.now.batches self.now.period
+            self.now.from self.now.to (position_of place) (model_reading reading.now) }
+    {
+        if !is_named(&self.amended, place) {
+            return None;
+        }
+        let was = self.value(place, self.from.get(place.agent));
+        let now = self.value(place, self.to.get(place.agent));
+        if was == now {
+            return None;
+        }
+        Some(row(
+            &self.billing,
+            self.sheet,
+            reading,
+            ChargeClass::Correction,
+            was,
+            now,
+        ))
+    }
+
+    /// The row of a record, where it has one.
+    fn row_of(&self, place: Place, what: &Record<'a>) -> Option<FocusRow<'a>>
+        requires from { 1 ≤ place.agent }
+        requires to { place.agent ≤ self.now.agents }
+        requires there { record_at self.now.batches (position_of place) ≡ Some (record_of what.now) }
+        requires within { place.seq ≤ last_of self.now.to place.agent }
+        ensures { option_map model_row result ≡ row_of self.now.sheet self.now.issuer self.now.batches self.now.period
+            self.now.from self.now.to (position_of place) (record_of what.now) }
+    {
+        let Record::Reading(reading) = what else {
+            return None;
+        };
+        if place.seq > self.from.get(place.agent) {
+            Some(self.new_row(place, reading))
+        } else {
+            self.correction(place, reading)
+        }
+    }
+
+    /// The rows of the batch of an agent at a sequence.
+    fn rows_of_batch(
+        &self,
+        alloc: Global,
+        agent: u8,
+        seq: u32,
+    ) -> Result<Vec<FocusRow<'a>>, AllocError>
+        requires from { 1 ≤ agent }
+        requires to { agent ≤ self.now.agents }
+        requires first { 1 ≤ seq }
+        requires within { seq ≤ last_of self.now.to agent }
+        ensures { IfOk result (λ rows. map model_row rows.items ++ rows_left self.now agent (seq + 1) ≡ rows_left self.now agent seq) }
+    {
+        let batch = batch_at(self.store, agent, seq);
+        let _count = batch.count();
+        let mut rows = Vec::new(alloc);
+        let mut index = 0;
+        for record in batch.records() {
+            let place = Place { agent, seq, index };
+            index += 1;
+            if let Some(row) = self.row_of(place, &record) {
+                if rows.push(row).is_err() {
+                    return Err(AllocError);
+                }
+            }
+        }
+        Ok(rows)
+    }
+
+    /// The sequence of the agent's first batch from a sequence on that may have rows.
+    fn next_of_agent(&self, agent: u8, seq: u32) -> Option<u32>
+        requires from { 1 ≤ agent }
+        requires to { agent ≤ self.now.agents }
+        ensures within { IfSome result (λ next. (seq ≤ next) × (next ≤ last_of self.now.to agent) × (next ≤ 1_000_000)) }
+        ensures some { IfSome result (λ next. rows_left self.now agent next ≡ rows_left self.now agent seq) }
+        ensures none { IfNone result (rows_left self.now (agent + 1) 1 ≡ rows_left self.now agent seq) }
+    {
+        let from = self.from.get(agent);
+        if let Some(named) = next_named(&self.amended, agent, seq) {
+            return Some(named);
+        }
+        let next = if seq <= from { from + 1 } else { seq };
+        if next <= self.to.get(agent) {
+            Some(next)
+        } else {
+            None
+        }
+    }
+
+    /// The first batch from an agent's sequence on that may have rows: its agent and its sequence.
+    fn next_stop(&self, agent: u8, seq: u32) -> Option<(u8, u32)>
+        requires from { 1 ≤ agent }
+        requires first { 1 ≤ seq }
+        ensures agent { IfSome result (λ stop. (agent ≤ stop.0) × (stop.0 ≤ self.now.agents) × (stop.0 ≤ 64)) }
+        ensures seq { IfSome result (λ stop. (1 ≤ stop.1) × (stop.1 ≤ 1_000_000) × (stop.1 ≤ last_of self.now.to stop.0)) }
+        ensures behind { IfSome result (λ stop. stop.0 ≡ agent → seq ≤ stop.1) }
+        ensures some { IfSome result (λ stop. rows_left self.now stop.0 stop.1 ≡ rows_left self.now agent seq) }
+        ensures none { IfNone result (rows_left self.now agent seq ≡ []) }
+    {
+        let agents = self.store.agents();
+        let mut start = seq;
+        for own in agent..agents + 1 {
+            if let Some(next) = self.next_of_agent(own, start) {
+                return Some((own, next));
+            }
+            start = 1;
+        }
+        None
+    }
+}
+
+/// The rows between two cuts that are still to come, in journal order.
+#[derive(Drop)]
+pub struct RowsBetween<'a> {
+    cuts: BetweenCuts<'a>,
+    /// The next batch is this agent's at this sequence, or comes behind that.
+    agent: u8,
+    seq: u32,
+}
+
+impl<'a> Model for RowsBetween<'a> {
+    ghost use Rattle.std.specs.Prelude.{List, ◌≤◌};
+    ghost use Rattle.metering_model.specs.Row.{Row};
+    ghost use Rattle.focus_row.specs.Inner.Left.{rows_left};
+
+    ghost Value = { List Row };
+
+    ghost view = { λ r. rows_left r.cuts r.agent r.seq };
+
+    ghost invariant = { λ r. (1 ≤ r.agent) × (r.agent ≤ 64) × (1 ≤ r.seq) × (r.seq ≤ 1_000_001) };
+}
+
+impl<'a> RowsBetween<'a> {
+    /// The rows of the next batch that has any; None at the end. Memory is taken for these alone, and want of it
+    /// changes nothing.
+    pub fn next_batch(&mut self, alloc: Global) -> Result<Option<Vec<FocusRow<'a>>>, AllocError>
+        ensures given { IfOk result (λ batch. IfSome batch (λ rows. map model_row rows.items ++ self.new ≡ self.old)) }
+        ensures some { IfOk result (λ batch. IfSome batch (λ rows. length self.new < length self.old)) }
+        ensures end { IfOk result (λ batch. IfNone batch ((self.old ≡ []) × (self.new ≡ []))) }
+        ensures kept { IfErr result (λ _. self.new ≡ self.old) }
+    {
+        let mut agent = self.agent;
+        let mut seq = self.seq;
+        while let Some((next_agent, next_seq)) = self.cuts.next_stop(agent, seq) {
+            let Ok(rows) = self.cuts.rows_of_batch(alloc, next_agent, next_seq) else {
+                return Err(AllocError);
+            };
+            agent = next_agent;
+            seq = next_seq + 1;
+            if !rows.is_empty() {
+                self.agent = agent;
+                self.seq = seq;
+                return Ok(Some(rows));
+            }
+        }
+        Ok(None)
+    }
+}
+
+/// The rows of a billing period between two cuts of what a store has, batch by batch.
+///
+/// The readings up to `from` are visited only where an amendment between the cuts names them.
+pub fn rows_between<'a>(
+    alloc: Global,
+    store: &'a Store,
+    sheet: &'a Sheet,
+    issuer: &'a Issuer,
+    period: Period,
+    from: &'a Cut,
+    to: &'a Cut,
+) -> Result<RowsBetween<'a>, AllocError>
+    requires agents { length to.now ≡ store.now.agents }
+    requires grows { IsAtLeast to.now from.now }
+    requires whole { first_missing store.now.batches to.now ≡ None }
+    requires met { MeetsJournalRules sheet.now (up_to to.now store.now.batches) }
+    ensures { IfOk result (λ left. left ≡ rows sheet.now issuer.now store.now.batches period from.now to.now) }
+{
+    let amended = store.amended(alloc, from, to)?;
+    let _agents = store.agents();
+    let cuts = BetweenCuts {
+        store,
+        sheet,
+        billing: Billing::new(issuer, sheet.base_month(), period),
+        period,
+        from,
+        to,
+        amended,
+    };
+    Ok(RowsBetween {
+        cuts,
+        agent: 1,
+        seq: 1,
+    })
+}

@@ -1,0 +1,96 @@
+//! All rows between two cuts, or why there are none.
+
+ghost use Rattle.std.specs.Prelude.{◌≡◌, ℕ, length, map, Some, None, Err, IfOk};
+ghost use Rattle.metering_model.specs.declared.BrokenRule.{BrokenRule};
+ghost use Rattle.metering_model.specs.Cut.{IsAtLeast};
+ghost use Rattle.metering_model.specs.Holding.{records_in_order, up_to};
+ghost use Rattle.metering_model.specs.Step.{first_missing};
+ghost use Rattle.metering_model.specs.JournalRules.{MeetsJournalRules, first_broken};
+ghost use Rattle.metering_model.specs.Rows.{rows};
+ghost use Rattle.charge_row.specs.FocusRows.{model_row};
+
+use crate::between::{RowsBetween, rows_between};
+use crate::rules::first_broken;
+use batch_store::Store;
+use charge_row::FocusRow;
+use metering_model::BrokenRule;
+use period_cut::{Cut, Period};
+use price_sheet::{Issuer, Sheet};
+use std::alloc::{AllocError, Global};
+use thiserror::Error;
+
+/// Why no rows are given.
+#[derive(Clone, Copy, Debug, Drop, Error)]
+pub enum RowFault {
+    /// Q1: the store lacks this batch, and perhaps later ones up to the cut.
+    #[error("missing agent {agent} seq {seq}")]
+    Missing { agent: u8, seq: u32 },
+    /// Q2, Q3: the rule that the first bad record up to the cut breaks.
+    #[error("{0}")]
+    Broken(BrokenRule),
+    /// Q4: no room could be made for the rows.
+    #[error("out of memory")]
+    OutOfMemory,
+}
+
+/// All rows that are still to come.
+fn all_of<'a>(alloc: Global, left: &mut RowsBetween<'a>) -> Result<Vec<FocusRow<'a>>, AllocError>
+    ensures { IfOk result (λ all. map model_row all.items ≡ left.old) }
+{
+    let mut all = Vec::new(alloc);
+    loop {
+        let Ok(next) = left.next_batch(alloc) else {
+            return Err(AllocError);
+        };
+        let Some(mut rows) = next else {
+            return Ok(all);
+        };
+        if all.append(&mut rows).is_err() {
+            return Err(AllocError);
+        }
+    }
+}
+
+/// The rows of a billing period between two cuts of what a store has, in journal order.
+///
+/// Each reading above `from` is charged whole, and each one up to it the change of its value, where amendments
+/// between the cuts change it. What is missing, and then what breaks a rule of the journals, is told before any
+/// memory is taken.
+pub fn rows_of<'a>(
+    alloc: Global,
+    store: &'a Store,
+    sheet: &'a Sheet,
+    issuer: &'a Issuer,
+    period: Period,
+    from: &'a Cut,
+    to: &'a Cut,
+) -> Result<Vec<FocusRow<'a>>, RowFault>
+    requires agents { length to.now ≡ store.now.agents }
+    requires grows { IsAtLeast to.now from.now }
+    ensures rows { IfOk result (λ all. map model_row all.items
+        ≡ rows sheet.now issuer.now store.now.batches period from.now to.now) }
+    ensures whole { IfOk result (λ _. (first_missing store.now.batches to.now ≡ None)
+        × MeetsJournalRules sheet.now (up_to to.now store.now.batches)) }
+    ensures missing { (agent seq : ℕ) → result ≡ Err (RowFault.Missing agent seq)
+        → first_missing store.now.batches to.now ≡ Some (agent, seq) }
+    ensures broken { (rule : BrokenRule) → result ≡ Err (RowFault.Broken rule)
+        → (first_missing store.now.batches to.now ≡ None)
+        × (first_broken sheet.now (up_to to.now store.now.batches) (records_in_order (up_to to.now store.now.batches)) ≡ Some rule) }
+    ensures memory { result ≡ Err RowFault.OutOfMemory → (first_missing store.now.batches to.now ≡ None)
+        × MeetsJournalRules sheet.now (up_to to.now store.now.batches) }
+{
+    let _agents = store.agents();
+    if let Some((agent, seq)) = store.first_missing(to) {
+        return Err(RowFault::Missing { agent, seq });
+    }
+    if let Some(rule) = first_broken(store, sheet, to) {
+        return Err(RowFault::Broken(rule));
+    }
+    let Ok(mut left) = rows_between(alloc, store, sheet, issuer, period, from, to) else {
+        return Err(RowFault::OutOfMemory);
+    };
+    match all_of(alloc, &mut left) {
+        Ok(all) => Ok(all),
+        Err(_) => Err(RowFault::OutOfMemory),
+    }
+}
