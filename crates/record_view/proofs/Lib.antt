@@ -13,3 +13,4 @@ pub mod SpanLaws
 pub mod FirstPlace
 pub mod PlainLaws
 pub mod KeptLaws
+pub mod ValueLaws

@@ -51,6 +51,7 @@ fn first_place(text: &[u8], byte: u8) -> Option<usize>
 }
 
 /// What stands before a byte of a text, and what stands behind it.
+#[inline(always)]
 pub(crate) fn cut<'a>(whole: Field<'a>, at: usize) -> (Field<'a>, Field<'a>)
     requires placed { IsPlaced (lent whole) }
     requires within { at < length whole.text.now }

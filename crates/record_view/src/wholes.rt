@@ -27,20 +27,33 @@ fn is_whole_part(text: &[u8]) -> bool
 }
 
 /// The number that digits write, unless it is above the limit.
-fn number_within(digits: &[u8], limit: u32) -> Option<u32>
+fn number_within(digits: &[u8], limit: u64) -> Option<u64>
     requires digits { IsTrue (list_all is_digit digits.now) }
-    requires small { limit ≤ 1_000_000 }
+    requires small { limit < 1_000_000_000_000 }
     ensures { MatchOption result (limit < number_of digits.now)
         (λ n. (n ≡ number_of digits.now) × (n ≤ limit)) }
 {
     let mut number = 0;
     for digit in digits {
-        number = 10 * number + u32::from(*digit - b'0');
+        number = 10 * number + u64::from(*digit - b'0');
         if number > limit {
             return None;
         }
     }
     Some(number)
+}
+
+/// The whole number that a text writes, where it is one up to the limit.
+pub(crate) fn whole_up_to(text: &[u8], limit: u64) -> Option<u64>
+    requires { limit < 1_000_000_000_000 }
+    ensures { MatchOption result (IsTrue (is_whole_part text.now) → limit < number_of text.now)
+        (λ n. IsTrue (is_whole_part text.now) × (n ≡ number_of text.now) × (n ≤ limit)) }
+{
+    if is_whole_part(text) {
+        number_within(text, limit)
+    } else {
+        None
+    }
 }
 
 /// The whole number that a text writes, from `low` to `high`.
@@ -49,9 +62,6 @@ pub fn read_whole(text: &[u8], low: u32, high: u32) -> Option<u32>
     ensures value { result ≡ whole_in low high text.now }
     ensures within { IfSome result (λ n. n ≤ high) }
 {
-    if !is_whole_part(text) {
-        return None;
-    }
-    let number = number_within(text, high)?;
+    let number = whole_up_to(text, u64::from(high))? as u32;
     if number < low { None } else { Some(number) }
 }
