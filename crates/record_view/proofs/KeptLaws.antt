@@ -1,22 +1,20 @@
 -- A line whose spans are known has its fields there, and a line that was read has its record.
-use Rattle.std.proofs.Common.{◌≡◌, ℕ, zero, suc, ◌+◌, ◌<◌, ◌≤◌, List, [], ◌∷◌, length, map, All, get_or, Ok, Some, is_some, true, IsTrue, ℤ, slice_range, refl, sym, ap, subst, ◌∙◌, arith}
+use Rattle.std.proofs.Common.{◌≡◌, ℕ, zero, suc, ◌+◌, ◌<◌, ◌≤◌, List, [], ◌∷◌, length, map, All, get_or, Ok, Some, is_some, true, slice_range, refl, sym, ap, subst, ◌∙◌, arith}
 use Rattle.std.specs.List.{slice_get, flat_map}
-use Rattle.std.proofs.lemmas.List.{length-map}
-use Rattle.metering_model.specs.declared.Kind.{Kind}
 use Rattle.metering_model.specs.Batch as model
 use Rattle.metering_model.specs.BatchReading.{record_in, fields_in, tags_in}
-use Rattle.metering_model.proofs.ReadingLaws.{Steps, taken_apart}
+use Rattle.metering_model.proofs.ReadingLaws.{taken_apart}
 use Rattle.record_view.specs.declared.fields.Span.{Span}
 use Rattle.record_view.specs.declared.records.Reading.{Reading}
 use Rattle.record_view.specs.declared.records.Record as lent_record
-use Rattle.record_view.specs.Parts.{LentText, lent, IsLent, AreLentApart}
+use Rattle.record_view.specs.Parts.{LentText, lent, AreLentApart}
 use Rattle.record_view.specs.TagTexts.{tag_of, tags_at}
 use Rattle.record_view.specs.Inner.TagPieces.{are_tags}
 use Rattle.record_view.specs.Inner.Placed.{texts_of}
 use Rattle.record_view.specs.Inner.KeptFields.{LiesWithin, StandsAt, HasTags, IsLentAtSpans}
 use Rattle.record_view.specs.declared.fields.Field.{Field}
 use Rattle.record_view.specs.declared.kept.Numbers.{Numbers}
-use Rattle.record_view.specs.Lent.{fields_at, text_at, lent_fields, tag_texts, reading_tags, model_reading, reading_texts, IsLentRecord}
+use Rattle.record_view.specs.Lent.{fields_at, text_at, lent_fields, tag_texts, reading_tags, model_reading}
 use Rattle.record_view.specs.Spans.{span_of, spans_at, IsReadingAt, IsRecordAt}
 use Rattle.record_view.proofs.TagLaws.{texts_of_parts, tags_read}
 use Rattle.record_view.proofs.LentLaws.{lent_rest, tags_lent}
