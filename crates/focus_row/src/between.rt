@@ -16,11 +16,11 @@ ghost use Rattle.batch_store.specs.Stores.{position_of};
 ghost use Rattle.charge_row.specs.FocusRows.{model_row};
 ghost use Rattle.focus_row.specs.Inner.Left.{MayBeCharged, record_at, rows_left};
 
-use charge_row::{Billing, FocusRow, row};
 use crate::held::batch_at;
 use crate::places::{is_named, next_named};
 use batch_store::{Place, Store};
 use batch_view::{Reading, Record};
+use charge_row::{Billing, FocusRow, row};
 use fx_money::Value;
 use metering_model::ChargeClass;
 use period_cut::{Cut, Period};

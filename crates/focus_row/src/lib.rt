@@ -10,7 +10,7 @@ mod rules;
 mod whole;
 
 pub use between::{RowsBetween, rows_between};
-pub use price_sheet::Issuer;
 pub use charge_row::FocusRow;
+pub use price_sheet::Issuer;
 pub use rows::{OneBatchFault, one_batch_rows};
 pub use whole::{RowFault, rows_of};

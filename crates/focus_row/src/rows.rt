@@ -13,8 +13,8 @@ ghost use Rattle.charge_row.specs.PeriodTexts.{ArePeriodTexts};
 ghost use Rattle.focus_row.specs.Inner.Charging.{new_rows};
 ghost use Rattle.focus_row.specs.OneBatch.{empty_sheet, rows_alone, refusal_of, first_refusal};
 
-use charge_row::{Billing, FocusRow, new_row};
 use batch_view::{BatchView, Kind, Record, Stamp};
+use charge_row::{Billing, FocusRow, new_row};
 use metering_model::BrokenRule;
 use period_cut::{Month, Period};
 use price_sheet::Issuer;

@@ -13,10 +13,10 @@ ghost use Rattle.batch_view.specs.Lent.{model_reading, record_of};
 ghost use Rattle.batch_store.specs.Stores.{position_of};
 ghost use Rattle.focus_row.specs.Inner.Left.{broken_left};
 
-use charge_row::{commitment_of, is_priced, price_of};
 use crate::held::batch_at;
 use batch_store::{Place, Store};
 use batch_view::{BatchView, Kind, Reading, Record};
+use charge_row::{commitment_of, is_priced, price_of};
 use fx_money::Value;
 use metering_model::BrokenRule;
 use period_cut::Cut;

@@ -1,4 +1,4 @@
-use Rattle.std.proofs.Common.{sym, subst, map}
+use Rattle.std.proofs.Common.{sym, subst, map, rules}
 use Rattle.std.proofs.lemmas.Bool.{both_ways}
 use Rattle.std.specs.List.{Contains}
 use Rattle.batch_view.specs.Lent.{model_reading}
@@ -23,3 +23,6 @@ row-requires-clause-was c priced = c.value-was.ensures.not_negative (model_readi
 
 pub row-requires-clause-value : goal.row-requires-clause-value
 row-requires-clause-value c priced = c.value-now.ensures.not_negative (model_reading c.args.reading.now) c.requires.there priced
+
+pub returns : goal.returns
+returns c = search rules
