@@ -3,3 +3,5 @@ mod Members
 mod CsvText
 mod Texts
 mod Files
+mod Pieces
+mod ReadBack
