@@ -68,7 +68,7 @@ fn row_fields<'a>(row: &'a FocusRow<'a>, made: &'a MadeTexts) -> [&'a [u8]; COLU
         text_or_null(row.sku_id),
         text_or_null(row.sku_price_id),
         text_or_null(row.sub_account_id),
-        made.tags.as_bytes(),
+        made.tags.as_slice(),
     ]
 }
 
@@ -88,7 +88,6 @@ fn put_line(writer: &mut Writer<Vec<u8>>, fields: &[&[u8]]) -> Result<(), AllocE
 
 /// Writes the line of a row.
 fn put_row(
-    alloc: Global,
     writer: &mut Writer<Vec<u8>>,
     made: &mut MadeTexts,
     row: &FocusRow<'_>,
@@ -97,7 +96,7 @@ fn put_row(
     ensures text { OnOk result (Appends (writer_text writer.old) (writer_text writer.new) (row_text (model_row row.now))) }
     ensures start { OnOk result (IsAtLineStart writer.new) }
 {
-    made.set(alloc, row)?;
+    made.set(row)?;
     put_line(writer, &row_fields(row, made))
 }
 
@@ -113,7 +112,7 @@ fn put_rows(
 {
     let mut made = MadeTexts::new(alloc);
     for row in rows {
-        put_row(alloc, writer, &mut made, row)?;
+        put_row(writer, &mut made, row)?;
     }
     Ok(())
 }
