@@ -1,5 +1,5 @@
-mod JsonText
-mod Members
+mod TagTexts
 mod CsvText
-mod Texts
 mod Files
+mod Pieces
+mod ReadBack

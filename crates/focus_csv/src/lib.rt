@@ -12,9 +12,11 @@ ghost use Rattle.focus_csv.specs.Faults.{is_sink_fault};
 use counted_io::{Sink, write_all};
 use focus_row::FocusRow;
 use lines::file_bytes;
+pub use lines::{header_text, row_texts};
 use std::alloc::Global;
 use thiserror::Error;
 
+pub mod laws;
 mod lines;
 mod made;
 mod tags;

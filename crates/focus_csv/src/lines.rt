@@ -1,6 +1,6 @@
 //! The lines of the file.
 
-ghost use Rattle.std.specs.Prelude.{◌≡◌, ◌≤◌, ◌++◌, ◌∷◌, [], map, length, IfOk, OnOk, Some};
+ghost use Rattle.std.specs.Prelude.{◌≡◌, ◌≤◌, ◌++◌, ◌∷◌, [], map, length, IfOk, OnOk};
 ghost use Rattle.std.specs.List.{flat_map};
 ghost use Rattle.std.specs.Option.{option_copied};
 ghost use Rattle.std.specs.Io.KnownBytes.{Appends};
@@ -16,50 +16,6 @@ use std::alloc::{AllocError, Global};
 
 /// How many columns a row has.
 const COLUMNS: usize = 36;
-
-/// The names of the columns, in order.
-fn column_names() -> [&'static [u8]; COLUMNS]
-    ensures { line_of (map (λ n. n.now) result) ≡ header_line ++ 10 ∷ [] }
-{
-    [
-        b"BilledCost",
-        b"BillingAccountId",
-        b"BillingAccountName",
-        b"BillingCurrency",
-        b"BillingPeriodEnd",
-        b"BillingPeriodStart",
-        b"ChargeCategory",
-        b"ChargeClass",
-        b"ChargeDescription",
-        b"ChargeFrequency",
-        b"ChargePeriodEnd",
-        b"ChargePeriodStart",
-        b"CommitmentDiscountCategory",
-        b"CommitmentDiscountId",
-        b"CommitmentDiscountStatus",
-        b"CommitmentDiscountType",
-        b"ConsumedQuantity",
-        b"ConsumedUnit",
-        b"ContractedCost",
-        b"ContractedUnitPrice",
-        b"EffectiveCost",
-        b"InvoiceIssuerName",
-        b"ListCost",
-        b"ListUnitPrice",
-        b"PricingCategory",
-        b"PricingQuantity",
-        b"PricingUnit",
-        b"ProviderName",
-        b"PublisherName",
-        b"ResourceId",
-        b"ServiceCategory",
-        b"ServiceName",
-        b"SkuId",
-        b"SkuPriceId",
-        b"SubAccountId",
-        b"Tags",
-    ]
-}
 
 /// The text, which is empty for null.
 fn text_or_null<'a>(text: Option<&'a [u8]>) -> &'a [u8]
@@ -112,7 +68,7 @@ fn row_fields<'a>(row: &'a FocusRow<'a>, made: &'a MadeTexts) -> [&'a [u8]; COLU
         text_or_null(row.sku_id),
         text_or_null(row.sku_price_id),
         text_or_null(row.sub_account_id),
-        made.tags.as_bytes(),
+        made.tags.as_slice(),
     ]
 }
 
@@ -132,7 +88,6 @@ fn put_line(writer: &mut Writer<Vec<u8>>, fields: &[&[u8]]) -> Result<(), AllocE
 
 /// Writes the line of a row.
 fn put_row(
-    alloc: Global,
     writer: &mut Writer<Vec<u8>>,
     made: &mut MadeTexts,
     row: &FocusRow<'_>,
@@ -141,18 +96,8 @@ fn put_row(
     ensures text { OnOk result (Appends (writer_text writer.old) (writer_text writer.new) (row_text (model_row row.now))) }
     ensures start { OnOk result (IsAtLineStart writer.new) }
 {
-    made.set(alloc, row)?;
+    made.set(row)?;
     put_line(writer, &row_fields(row, made))
-}
-
-/// A writer into memory that has written the header line.
-fn begin(alloc: Global) -> Result<Writer<Vec<u8>>, AllocError>
-    ensures text { IfOk result (λ w. writer_text w ≡ Some (header_line ++ 10 ∷ [])) }
-    ensures start { IfOk result IsAtLineStart }
-{
-    let mut writer = WriterBuilder::new().from_writer(Vec::new(alloc));
-    put_line(&mut writer, &column_names())?;
-    Ok(writer)
 }
 
 /// Writes the lines of the rows, in order.
@@ -167,19 +112,53 @@ fn put_rows(
 {
     let mut made = MadeTexts::new(alloc);
     for row in rows {
-        put_row(alloc, writer, &mut made, row)?;
+        put_row(writer, &mut made, row)?;
     }
     Ok(())
+}
+
+/// A head, and behind it the lines of the rows, in order.
+fn lines_behind(alloc: Global, head: &[u8], rows: &[FocusRow<'_>]) -> Result<Vec<u8>, AllocError>
+    ensures { IfOk result (λ v. v.items ≡ head.now ++ flat_map row_text (map model_row rows.now)) }
+{
+    let mut text = Vec::new(alloc);
+    text.extend_from_slice(head)?;
+    let mut writer = WriterBuilder::new().from_writer(text);
+    put_rows(alloc, &mut writer, rows)?;
+    match writer.into_inner() {
+        Ok(text) => Ok(text),
+        // A vector takes all that it finds room for.
+        Err(_) => Err(AllocError),
+    }
+}
+
+/// The header line of every file: the names of the 36 columns in order, and a line feed.
+pub fn header_text() -> &'static [u8]
+    ensures { result.now ≡ header_line ++ 10 ∷ [] }
+{
+    b"\
+        BilledCost,BillingAccountId,BillingAccountName,BillingCurrency,BillingPeriodEnd,\
+        BillingPeriodStart,ChargeCategory,ChargeClass,ChargeDescription,ChargeFrequency,\
+        ChargePeriodEnd,ChargePeriodStart,CommitmentDiscountCategory,CommitmentDiscountId,\
+        CommitmentDiscountStatus,CommitmentDiscountType,ConsumedQuantity,ConsumedUnit,\
+        ContractedCost,ContractedUnitPrice,EffectiveCost,InvoiceIssuerName,ListCost,ListUnitPrice,\
+        PricingCategory,PricingQuantity,PricingUnit,ProviderName,PublisherName,ResourceId,\
+        ServiceCategory,ServiceName,SkuId,SkuPriceId,SubAccountId,Tags\n"
+}
+
+/// The text of the rows without a header line: a line for each row, in order.
+///
+/// So a file can be written in pieces: `header_text`, and then the texts of its rows, as many at a
+/// time as the caller likes. Its only fault is want of memory.
+pub fn row_texts(alloc: Global, rows: &[FocusRow<'_>]) -> Result<Vec<u8>, AllocError>
+    ensures { IfOk result (λ v. v.items ≡ flat_map row_text (map model_row rows.now)) }
+{
+    lines_behind(alloc, &[], rows)
 }
 
 /// The bytes of the file of the rows.
 pub(crate) fn file_bytes(alloc: Global, rows: &[FocusRow<'_>]) -> Result<Vec<u8>, AllocError>
     ensures { IfOk result (λ v. v.items ≡ file (map model_row rows.now)) }
 {
-    let mut writer = begin(alloc)?;
-    put_rows(alloc, &mut writer, rows)?;
-    match writer.into_inner() {
-        Ok(bytes) => Ok(bytes),
-        Err(_) => Err(AllocError),
-    }
+    lines_behind(alloc, header_text(), rows)
 }

@@ -6,13 +6,13 @@ ghost use Rattle.metering_model.specs.File.{quantity_or_null, price_or_null};
 ghost use Rattle.charge_row.specs.FocusRows.{model_row};
 ghost use Rattle.focus_csv.specs.Inner.Made.{AreMadeOf};
 
-use crate::tags::tags_json;
+use crate::tags::set_tags;
 use focus_row::FocusRow;
 use fx_money::{Cost, Delta, Price};
 use std::alloc::{AllocError, Global};
 
-/// The numbers of a row, and its tags. They are kept from row to row, so that the numbers need new
-/// room only where one is longer than all before it.
+/// The numbers of a row, and its tags. They are kept from row to row, so that one needs new room only
+/// where it is longer than all before it.
 #[derive(Drop)]
 pub(crate) struct MadeTexts {
     pub(crate) billed_cost: String,
@@ -23,7 +23,7 @@ pub(crate) struct MadeTexts {
     pub(crate) list_cost: String,
     pub(crate) list_unit_price: String,
     pub(crate) pricing_quantity: String,
-    pub(crate) tags: String,
+    pub(crate) tags: Vec<u8>,
 }
 
 /// Makes the text that of a cost.
@@ -68,12 +68,12 @@ impl MadeTexts {
             list_cost: String::new(alloc),
             list_unit_price: String::new(alloc),
             pricing_quantity: String::new(alloc),
-            tags: String::new(alloc),
+            tags: Vec::new(alloc),
         }
     }
 
     /// Makes the texts those of a row.
-    pub(crate) fn set(&mut self, alloc: Global, row: &FocusRow<'_>) -> Result<(), AllocError>
+    pub(crate) fn set(&mut self, row: &FocusRow<'_>) -> Result<(), AllocError>
         ensures { OnOk result (AreMadeOf self.new (model_row row.now)) }
     {
         set_cost(&mut self.billed_cost, row.billed_cost)?;
@@ -84,7 +84,6 @@ impl MadeTexts {
         set_cost(&mut self.list_cost, row.list_cost)?;
         set_price(&mut self.list_unit_price, row.list_unit_price)?;
         set_quantity(&mut self.pricing_quantity, row.pricing_quantity)?;
-        self.tags = tags_json(alloc, row.tags)?;
-        Ok(())
+        set_tags(&mut self.tags, row.tags)
     }
 }

@@ -1,54 +1,73 @@
 //! Tags as the text of a JSON object.
 
-ghost use Rattle.std.specs.Prelude.{◌≡◌, map, IsTrue, IfOk, OnOk, string_bytes};
-ghost use Rattle.metering_model.specs.Batch.{is_text};
-ghost use Rattle.metering_model.specs.File.{json_object};
+ghost use Rattle.std.specs.Prelude.{◌≡◌, ◌||◌, ◌==◌, ◌∷◌, [], ◌++◌, if◌then◌else◌, map, OnOk};
+ghost use Rattle.metering_model.specs.File.{json_member, json_object, json_string, marked};
 ghost use Rattle.batch_view.specs.Lent.{lent_tags};
 ghost use Rattle.batch_view.specs.TagTexts.{tag_of};
-ghost use Rattle.serde_json.specs.Data.{string, put};
-ghost use Rattle.serde_json.specs.View.{members_view};
 
 use batch_view::Tags;
-use serde_json::{Map, Value};
-use std::alloc::{AllocError, Global};
-use std::str;
+use std::alloc::AllocError;
 
-/// A text of its own, of printable ASCII.
-fn string_of(alloc: Global, text: &[u8]) -> Result<String, AllocError>
-    requires { IsTrue (is_text text.now) }
-    ensures { IfOk result (λ s. string_bytes s ≡ text.now) }
+/// Appends a byte of a string, behind a backslash if it is a quotation mark or a backslash.
+fn put_byte(json: &mut Vec<u8>, byte: u8) -> Result<(), AllocError>
+    ensures { OnOk result (json.new.items ≡ json.old.items
+        ++ (if (byte == 34) || (byte == 92) then 92 ∷ byte ∷ [] else byte ∷ [])) }
 {
-    match str::from_utf8(text) {
-        Ok(text) => String::from_str(alloc, text),
-        Err(_) => unreachable!(),
+    if byte == b'"' || byte == b'\\' {
+        json.push(b'\\')?;
     }
-}
-
-/// Puts one more member into an object.
-fn put_member(
-    alloc: Global,
-    members: &mut Map<String, Value>,
-    key: &[u8],
-    value: &[u8],
-) -> Result<(), AllocError>
-    requires key { IsTrue (is_text key.now) }
-    requires value { IsTrue (is_text value.now) }
-    ensures { OnOk result (members_view members.new.entries
-        ≡ put key.now (string value.now) (members_view members.old.entries)) }
-{
-    let name = string_of(alloc, key)?;
-    let text = Value::String(string_of(alloc, value)?);
-    members.insert(name, text)?;
+    json.push(byte)?;
     Ok(())
 }
 
-/// The tags as one JSON object without blanks, by rising keys.
-pub(crate) fn tags_json(alloc: Global, tags: Tags<'_>) -> Result<String, AllocError>
-    ensures { IfOk result (λ s. string_bytes s ≡ json_object (map tag_of (lent_tags tags.entry))) }
+/// Appends what stands between the quotation marks of a string.
+fn put_inner(json: &mut Vec<u8>, text: &[u8]) -> Result<(), AllocError>
+    ensures { OnOk result (json.new.items ≡ json.old.items
+        ++ marked (λ c. (c == 34) || (c == 92)) 92 text.now) }
 {
-    let mut members = Map::new(alloc);
-    for (key, value) in tags {
-        put_member(alloc, &mut members, key.text, value.text)?;
+    for byte in text {
+        put_byte(json, *byte)?;
     }
-    Value::Object(members).to_string(alloc)
+    Ok(())
+}
+
+/// Appends a text as a string. (No tag has a control character.)
+fn put_string(json: &mut Vec<u8>, text: &[u8]) -> Result<(), AllocError>
+    ensures { OnOk result (json.new.items ≡ json.old.items ++ json_string text.now) }
+{
+    json.push(b'"')?;
+    put_inner(json, text)?;
+    json.push(b'"')?;
+    Ok(())
+}
+
+/// Appends one more member, and in front of it what parts it from the one before.
+fn put_member(
+    json: &mut Vec<u8>,
+    separator: &[u8],
+    key: &[u8],
+    value: &[u8],
+) -> Result<(), AllocError>
+    ensures { OnOk result (json.new.items ≡ json.old.items
+        ++ (separator.now ++ json_member (record { key = key.now; value = value.now }))) }
+{
+    json.extend_from_slice(separator)?;
+    put_string(json, key)?;
+    json.push(b':')?;
+    put_string(json, value)
+}
+
+/// Makes the text that of the tags: one JSON object without blanks, by rising keys.
+pub(crate) fn set_tags(json: &mut Vec<u8>, tags: Tags<'_>) -> Result<(), AllocError>
+    ensures { OnOk result (json.new.items ≡ json_object (map tag_of (lent_tags tags.entry))) }
+{
+    json.clear();
+    json.push(b'{')?;
+    let mut separator: &[u8] = b"";
+    for (key, value) in tags {
+        put_member(json, separator, key.text, value.text)?;
+        separator = b",";
+    }
+    json.push(b'}')?;
+    Ok(())
 }

@@ -15,4 +15,4 @@ pub record AreMadeOf (m : MadeTexts) (r : Row) : Type 0 where
   pub list_cost : string_bytes m.list_cost ≡ spelling 12 r.list_cost
   pub list_unit_price : string_bytes m.list_unit_price ≡ price_or_null r.list_unit_price
   pub pricing_quantity : string_bytes m.pricing_quantity ≡ quantity_or_null r.pricing_quantity
-  pub tags : string_bytes m.tags ≡ json_object r.tags
+  pub tags : m.tags.items ≡ json_object r.tags

@@ -1,0 +1,22 @@
+-- A file grows behind its header line.
+use Rattle.std.proofs.Common.{◌≡◌, List, [], ◌∷◌, ◌++◌, refl, sym, ap, ◌∙◌, append_assoc}
+use Rattle.std.specs.List.{flat_map}
+use Rattle.std.proofs.lemmas.Grind.{flat_map-append}
+use Rattle.metering_model.specs.Row.{Row}
+use Rattle.metering_model.specs.File.{file, header_line, row_text}
+
+pub more : (written piece : List Row) → file written ++ flat_map row_text piece ≡ file (written ++ piece)
+more written piece =
+    append_assoc header_line (10 ∷ flat_map row_text written) (flat_map row_text piece)
+    ∙ ap (λ t. header_line ++ 10 ∷ t) (sym (flat_map-append row_text written piece))
+
+texts_of : (pieces : List (List Row)) → flat_map (flat_map row_text) pieces ≡ flat_map row_text (flat_map (λ piece. piece) pieces)
+texts_of [] = refl
+texts_of (p ∷ ps) =
+    ap (λ t. flat_map row_text p ++ t) (texts_of ps)
+    ∙ sym (flat_map-append row_text p (flat_map (λ piece. piece) ps))
+
+pub all_pieces : (pieces : List (List Row)) → (header_line ++ 10 ∷ []) ++ flat_map (flat_map row_text) pieces ≡ file (flat_map (λ piece. piece) pieces)
+all_pieces pieces =
+    append_assoc header_line (10 ∷ []) (flat_map (flat_map row_text) pieces)
+    ∙ ap (λ t. header_line ++ 10 ∷ t) (texts_of pieces)
