@@ -12,7 +12,8 @@ const HEAD: &[u8] = b"B1|1|1|1\n";
 const READING: &[u8] =
     b"U|2025-01-10T00:00:00Z|2025-01-10T02:00:00Z|acc-7|vm-1|cpu|5400||env=prod\n";
 
-const ALL_KINDS: &[u8] = b"B1|7|41|6\n\
+/// A record of each kind.
+pub(crate) const ALL_KINDS: &[u8] = b"B1|7|41|6\n\
     U|2025-01-10T00:00:00Z|2025-01-10T02:00:00Z|acc-7|vm-1|cpu|5400||env=prod\n\
     P|2025-01-01T00:00:00Z|2025-02-01T00:00:00Z|acc-7||cpu-plan|2|cm-1|\n\
     C|2025-01-31T00:00:00Z|2025-02-01T00:00:00Z|acc-7||Launch credit|-2.5||\n\

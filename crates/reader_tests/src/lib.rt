@@ -9,3 +9,5 @@ mod cuts;
 mod devices;
 #[cfg(test)]
 mod numbers;
+#[cfg(test)]
+mod stores;
