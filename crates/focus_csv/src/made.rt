@@ -74,6 +74,44 @@ fn set_price(text: &mut String, price: Option<Price>) -> Result<(), AllocError>
     }
 }
 
+/// Makes the text that of a quantity, by copying the spelling of an equal one if that is at hand.
+fn set_quantity_like(
+    text: &mut String,
+    quantity: Option<Delta>,
+    other: Option<Delta>,
+    spelled: &String,
+) -> Result<(), AllocError>
+    requires { string_bytes spelled.now ≡ quantity_or_null other }
+    ensures { OnOk result (string_bytes text.new ≡ quantity_or_null quantity) }
+{
+    match (quantity, other) {
+        (Some(quantity), Some(other)) if quantity.millionths() == other.millionths() => {
+            text.clear();
+            text.push_str(spelled.as_str())
+        }
+        _ => set_quantity(text, quantity),
+    }
+}
+
+/// Makes the text that of a unit price, by copying the spelling of an equal one if that is at hand.
+fn set_price_like(
+    text: &mut String,
+    price: Option<Price>,
+    other: Option<Price>,
+    spelled: &String,
+) -> Result<(), AllocError>
+    requires { string_bytes spelled.now ≡ price_or_null other }
+    ensures { OnOk result (string_bytes text.new ≡ price_or_null price) }
+{
+    match (price, other) {
+        (Some(price), Some(other)) if price.millionths() == other.millionths() => {
+            text.clear();
+            text.push_str(spelled.as_str())
+        }
+        _ => set_price(text, price),
+    }
+}
+
 impl MadeTexts {
     /// Texts of no row.
     pub(crate) fn new(alloc: Global) -> MadeTexts {
@@ -115,8 +153,18 @@ impl MadeTexts {
             row.billed_cost,
             &self.billed_cost,
         )?;
-        set_price(&mut self.list_unit_price, row.list_unit_price)?;
-        set_quantity(&mut self.pricing_quantity, row.pricing_quantity)?;
+        set_price_like(
+            &mut self.list_unit_price,
+            row.list_unit_price,
+            row.contracted_unit_price,
+            &self.contracted_unit_price,
+        )?;
+        set_quantity_like(
+            &mut self.pricing_quantity,
+            row.pricing_quantity,
+            row.consumed_quantity,
+            &self.consumed_quantity,
+        )?;
         set_tags(&mut self.tags, row.tags)
     }
 }
