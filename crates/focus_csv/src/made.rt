@@ -34,6 +34,24 @@ fn set_cost(text: &mut String, cost: Cost) -> Result<(), AllocError>
     cost.write_to(text)
 }
 
+/// Makes the text that of a cost, by copying the spelling of an equal one if that is at hand.
+fn set_cost_like(
+    text: &mut String,
+    cost: Cost,
+    other: Cost,
+    spelled: &String,
+) -> Result<(), AllocError>
+    requires { string_bytes spelled.now ≡ spelling 12 other }
+    ensures { OnOk result (string_bytes text.new ≡ spelling 12 cost) }
+{
+    text.clear();
+    if cost.units() == other.units() {
+        text.push_str(spelled.as_str())
+    } else {
+        cost.write_to(text)
+    }
+}
+
 /// Makes the text that of a quantity, and empties it for null.
 fn set_quantity(text: &mut String, quantity: Option<Delta>) -> Result<(), AllocError>
     ensures { OnOk result (string_bytes text.new ≡ quantity_or_null quantity) }
@@ -53,6 +71,44 @@ fn set_price(text: &mut String, price: Option<Price>) -> Result<(), AllocError>
     match price {
         Some(price) => price.write_to(text),
         None => Ok(()),
+    }
+}
+
+/// Makes the text that of a quantity, by copying the spelling of an equal one if that is at hand.
+fn set_quantity_like(
+    text: &mut String,
+    quantity: Option<Delta>,
+    other: Option<Delta>,
+    spelled: &String,
+) -> Result<(), AllocError>
+    requires { string_bytes spelled.now ≡ quantity_or_null other }
+    ensures { OnOk result (string_bytes text.new ≡ quantity_or_null quantity) }
+{
+    match (quantity, other) {
+        (Some(quantity), Some(other)) if quantity.millionths() == other.millionths() => {
+            text.clear();
+            text.push_str(spelled.as_str())
+        }
+        _ => set_quantity(text, quantity),
+    }
+}
+
+/// Makes the text that of a unit price, by copying the spelling of an equal one if that is at hand.
+fn set_price_like(
+    text: &mut String,
+    price: Option<Price>,
+    other: Option<Price>,
+    spelled: &String,
+) -> Result<(), AllocError>
+    requires { string_bytes spelled.now ≡ price_or_null other }
+    ensures { OnOk result (string_bytes text.new ≡ price_or_null price) }
+{
+    match (price, other) {
+        (Some(price), Some(other)) if price.millionths() == other.millionths() => {
+            text.clear();
+            text.push_str(spelled.as_str())
+        }
+        _ => set_price(text, price),
     }
 }
 
@@ -78,12 +134,37 @@ impl MadeTexts {
     {
         set_cost(&mut self.billed_cost, row.billed_cost)?;
         set_quantity(&mut self.consumed_quantity, row.consumed_quantity)?;
-        set_cost(&mut self.contracted_cost, row.contracted_cost)?;
+        set_cost_like(
+            &mut self.contracted_cost,
+            row.contracted_cost,
+            row.billed_cost,
+            &self.billed_cost,
+        )?;
         set_price(&mut self.contracted_unit_price, row.contracted_unit_price)?;
-        set_cost(&mut self.effective_cost, row.effective_cost)?;
-        set_cost(&mut self.list_cost, row.list_cost)?;
-        set_price(&mut self.list_unit_price, row.list_unit_price)?;
-        set_quantity(&mut self.pricing_quantity, row.pricing_quantity)?;
+        set_cost_like(
+            &mut self.effective_cost,
+            row.effective_cost,
+            row.billed_cost,
+            &self.billed_cost,
+        )?;
+        set_cost_like(
+            &mut self.list_cost,
+            row.list_cost,
+            row.billed_cost,
+            &self.billed_cost,
+        )?;
+        set_price_like(
+            &mut self.list_unit_price,
+            row.list_unit_price,
+            row.contracted_unit_price,
+            &self.contracted_unit_price,
+        )?;
+        set_quantity_like(
+            &mut self.pricing_quantity,
+            row.pricing_quantity,
+            row.consumed_quantity,
+            &self.consumed_quantity,
+        )?;
         set_tags(&mut self.tags, row.tags)
     }
 }
