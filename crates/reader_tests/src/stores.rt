@@ -377,3 +377,105 @@ fn kept_parts_and_bytes_have_the_same_records(rt: HostRuntime) -> Result<(), Fai
     assert!(rt; all);
     Ok(())
 }
+
+/// What comes of these bytes.
+fn offered(alloc: Global, bytes: &[u8]) -> Result<Offer, AllocError> {
+    Offer::read(alloc, bytes.to_vec(alloc)?)
+}
+
+/// The batch of these bytes, which are read again where the first call finds no memory.
+fn batch_again(alloc: Global, bytes: &[u8]) -> Result<Arc<OwnedBatch>, Fail> {
+    let offer = match offered(alloc, bytes) {
+        Ok(offer) => offer,
+        Err(_) => offered(alloc, bytes)?,
+    };
+    match offer {
+        Offer::Good(batch) => Ok(batch),
+        Offer::Bad(_) => Err(Fail::from("it is no batch")),
+    }
+}
+
+/// Puts a batch, again where the first call finds no memory, and tells whether it was added and nothing had changed
+/// by then.
+fn is_put_again(store: &mut Store, batch: Arc<OwnedBatch>) -> Result<bool, Fail> {
+    let agent = batch.view().agent();
+    let seq = batch.view().seq();
+    if store.agents() < agent {
+        return Err(Fail::from("it is of another agent"));
+    }
+    let absent = first_absent(store, agent);
+    let other = Arc::try_clone(&batch)?;
+    match store.put(batch) {
+        Ok(added) => Ok(added),
+        Err(_) => {
+            let unchanged = !has(store, agent, seq) && first_absent(store, agent) == absent;
+            Ok(unchanged && store.put(other)?)
+        }
+    }
+}
+
+/// The cut of one agent, made again where the first call finds no memory.
+fn cut_again(alloc: Global, seq: u32) -> Result<Cut, AllocError> {
+    match cut_of_one(alloc, seq) {
+        Ok(cut) => Ok(cut),
+        Err(_) => cut_of_one(alloc, seq),
+    }
+}
+
+/// Whether the worked amendments have their part, front and amended place, each asked for again where the first call
+/// finds no memory.
+fn answers_again(store: &Store, alloc: Global) -> Result<bool, Fail> {
+    let january = Period::new(0).ok_or("no period")?;
+    let base = Month::of(2025, 1);
+    let zero = cut_again(alloc, 0)?;
+    let one = cut_again(alloc, 1)?;
+    let three = cut_again(alloc, 3)?;
+    if store.agents() != 1 || zero.agents() != 1 || one.agents() != 1 || three.agents() != 1 {
+        return Err(Fail::from("other agents"));
+    }
+    if !three.at_least(&one) {
+        return Err(Fail::from("no later cut"));
+    }
+    let part = match store.share(alloc, &one) {
+        Ok(part) => part,
+        Err(_) => store.share(alloc, &one)?,
+    };
+    let front = match store.due_front(alloc, &zero, january, base) {
+        Ok(front) => front,
+        Err(_) => store.due_front(alloc, &zero, january, base)?,
+    };
+    let places = match store.amended(alloc, &one, &three) {
+        Ok(places) => places,
+        Err(_) => store.amended(alloc, &one, &three)?,
+    };
+    let amended = Place {
+        agent: 1,
+        seq: 1,
+        index: 0,
+    };
+    Ok(
+        first_absent(&part, 1) == 2
+            && front.agents() == three.agents()
+            && front.same(&three)
+            && places.as_slice() == [amended].as_slice(),
+    )
+}
+
+/// Each call that may find no memory is made again where it does: with `--fail-alloc` the answers of the second call
+/// show that the first has changed nothing.
+#[test]
+fn a_refused_growth_of_a_store_changes_nothing(rt: HostRuntime) -> Result<(), Fail> {
+    let alloc = rt.alloc();
+    let mut store = match Store::new(alloc, 1) {
+        Ok(store) => store,
+        Err(_) => Store::new(alloc, 1)?,
+    };
+    let mut all = true;
+    for bytes in [AMENDED_TWICE, READ, AMENDED] {
+        let batch = batch_again(alloc, bytes)?;
+        all = is_put_again(&mut store, batch)? && all;
+    }
+    all = answers_again(&store, alloc)? && all;
+    assert!(rt; all && first_absent(&store, 1) == 4 && has_values(&store, &WORKED_VALUES));
+    Ok(())
+}

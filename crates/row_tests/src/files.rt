@@ -8,7 +8,7 @@ use focus_row::{FocusRow, Issuer, OneBatchFault};
 use fx_money::{Cost, Delta, Price};
 use std::test::Fail;
 
-const HEADER: &[u8] = b"BilledCost,BillingAccountId,BillingAccountName,BillingCurrency,\
+pub(crate) const HEADER: &[u8] = b"BilledCost,BillingAccountId,BillingAccountName,BillingCurrency,\
 BillingPeriodEnd,BillingPeriodStart,ChargeCategory,ChargeClass,ChargeDescription,ChargeFrequency,\
 ChargePeriodEnd,ChargePeriodStart,CommitmentDiscountCategory,CommitmentDiscountId,\
 CommitmentDiscountStatus,CommitmentDiscountType,ConsumedQuantity,ConsumedUnit,ContractedCost,\
@@ -32,7 +32,8 @@ Adjustment,,\"Goodwill, May\",One-Time,2025-02-01T00:00:00Z,2025-01-31T00:00:00Z
 const USAGE: &[u8] = b"B1|7|41|1\n\
 U|2025-01-10T00:00:00Z|2025-01-10T02:00:00Z|acc-7|vm-1|cpu|5400||env=prod\n";
 
-const USAGE_LINE: &[u8] = b"0.12,A-100,Payer,USD,2025-02-01T00:00:00Z,2025-01-01T00:00:00Z,\
+pub(crate) const USAGE_LINE: &[u8] =
+    b"0.12,A-100,Payer,USD,2025-02-01T00:00:00Z,2025-01-01T00:00:00Z,\
 Usage,,Virtual CPU time,Usage-Based,2025-01-10T02:00:00Z,2025-01-10T00:00:00Z,,,,,5400,Seconds,\
 0.12,0.08,0.12,Sample Cloud Ltd,0.15,0.1,Standard,1.5,Hours,Sample Cloud,Sample Cloud,vm-1,\
 Compute,Sample Compute,cpu,cpu-od,acc-7,\"{\"\"env\"\":\"\"prod\"\"}\"\n";
@@ -98,14 +99,14 @@ fn usage_row() -> Option<FocusRow<'static>> {
 }
 
 /// What is written for the rows.
-fn written(rt: &HostRuntime, rows: &[FocusRow<'_>]) -> Result<Vec<u8>, Fail> {
+pub(crate) fn written(rt: &HostRuntime, rows: &[FocusRow<'_>]) -> Result<Vec<u8>, Fail> {
     let mut sink = Counted::new(Vec::new(rt.alloc()));
     write_file(rt.alloc(), rows, &mut sink)?;
     Ok(sink.into_inner())
 }
 
 /// The header line, and these lines.
-fn file_of(rt: &HostRuntime, lines: &[u8]) -> Result<Vec<u8>, Fail> {
+pub(crate) fn file_of(rt: &HostRuntime, lines: &[u8]) -> Result<Vec<u8>, Fail> {
     let mut file = HEADER.to_vec(rt.alloc())?;
     file.extend_from_slice(lines)?;
     Ok(file)
