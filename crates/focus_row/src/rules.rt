@@ -3,7 +3,6 @@
 ghost use Rattle.std.specs.Prelude.{◌≡◌, ◌≤◌, ◌+◌, ◌==◌, None, Some, length, MatchOption};
 ghost use Rattle.std.specs.Option.{option_copied};
 ghost use Rattle.metering_model.specs.Batch.{is_priced};
-ghost use Rattle.metering_model.specs.BatchReading.{is_same};
 ghost use Rattle.metering_model.specs.Cut.{last_of};
 ghost use Rattle.metering_model.specs.Holding.{placed, reading_at, reading_of, records_in_order, up_to};
 ghost use Rattle.metering_model.specs.Step.{first_missing};
@@ -21,14 +20,7 @@ use fx_money::Value;
 use metering_model::BrokenRule;
 use period_cut::Cut;
 use price_sheet::{Commitment, Sheet};
-
-/// Whether two texts are the same bytes.
-#[tactic(auto, using(price_sheet::proofs::Texts::same_is))]
-fn is_same(left: &[u8], right: &[u8]) -> bool
-    ensures { result ≡ is_same left.now right.now }
-{
-    left == right
-}
+use sheet_text::is_same;
 
 /// Whether the reading names no commitment, or one that fits it: usage its SKU, a purchase the SKU that buys it.
 fn is_fit_commitment(reading: &Reading<'_>, commitment: Option<&Commitment>) -> bool
