@@ -173,6 +173,8 @@ fn what_is_absent_and_what_is_due_is_told(rt: HostRuntime) -> Result<(), Fail> {
 
 /// The value of a reading of agent 1 as of a sequence, in whole units.
 fn value(store: &Store, seq: u32, index: u16, upto: u32) -> Option<i64> {
+    // Its clause says that there is an agent.
+    let _agents = store.agents();
     let place = Place {
         agent: 1,
         seq,
