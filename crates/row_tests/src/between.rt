@@ -104,7 +104,56 @@ fn cut_of(alloc: Global, seq: u32) -> Result<Cut, AllocError> {
     Ok(cut)
 }
 
-/// What a period's file is between two sequences of one agent, or the text of the fault.
+/// The file of what a store has between two cuts, or the text of the fault.
+fn told_of(
+    rt: &HostRuntime,
+    store: &Store,
+    sheet: &Sheet,
+    issuer: &Issuer,
+    period: Period,
+    cuts: (&Cut, &Cut),
+) -> Result<Vec<u8>, Fail> {
+    let (from, to) = cuts;
+    if store.agents() != 1 || to.agents() != 1 || from.agents() != 1 || !to.at_least(from) {
+        return Err(Fail::from("no such cuts"));
+    }
+    match rows_of(rt.alloc(), store, sheet, issuer, period, from, to) {
+        Ok(rows) => written(rt, &rows),
+        Err(fault) => text_of(rt, fault),
+    }
+}
+
+fn text_of(rt: &HostRuntime, fault: RowFault) -> Result<Vec<u8>, Fail> {
+    let text = format!(in rt.alloc(); "{fault}")?;
+    Ok(text.as_bytes().to_vec(rt.alloc())?)
+}
+
+/// The same with the sheet and the sample issuer.
+fn told_with_sheet(
+    rt: &HostRuntime,
+    store: &Store,
+    period: Period,
+    cuts: (&Cut, &Cut),
+) -> Result<Vec<u8>, Fail> {
+    let sheet = Sheet::read(rt.alloc(), SHEET)?;
+    let issuer = Issuer::sample(rt.alloc())?;
+    told_of(rt, store, &sheet, &issuer, period, cuts)
+}
+
+/// The same between two sequences of one agent.
+fn told_of_store(
+    rt: &HostRuntime,
+    store: &Store,
+    period: Period,
+    from: u32,
+    to: u32,
+) -> Result<Vec<u8>, Fail> {
+    let from = cut_of(rt.alloc(), from)?;
+    let to = cut_of(rt.alloc(), to)?;
+    told_with_sheet(rt, store, period, (&from, &to))
+}
+
+/// What a period's file is of these batches between two sequences, or the text of the fault.
 fn told_between(
     rt: &HostRuntime,
     batches: &[&[u8]],
@@ -112,22 +161,9 @@ fn told_between(
     from: u32,
     to: u32,
 ) -> Result<Vec<u8>, Fail> {
-    let store = store_of(rt.alloc(), batches)?;
-    let sheet = Sheet::read(rt.alloc(), SHEET)?;
-    let issuer = Issuer::sample(rt.alloc())?;
     let period = Period::new(period).ok_or("no period")?;
-    let from = cut_of(rt.alloc(), from)?;
-    let to = cut_of(rt.alloc(), to)?;
-    if store.agents() != 1 || to.agents() != 1 || from.agents() != 1 || !to.at_least(&from) {
-        return Err(Fail::from("no such cuts"));
-    }
-    match rows_of(rt.alloc(), &store, &sheet, &issuer, period, &from, &to) {
-        Ok(rows) => written(rt, &rows),
-        Err(fault) => {
-            let text = format!(in rt.alloc(); "{fault}")?;
-            Ok(text.as_bytes().to_vec(rt.alloc())?)
-        }
-    }
+    let store = store_of(rt.alloc(), batches)?;
+    told_of_store(rt, &store, period, from, to)
 }
 
 #[test]
