@@ -1,2 +1,2 @@
--- Passed on from the crate that reads one record.
-pub use Rattle.record_view.specs.Years.{IsMonthNumber, first_day, last_day, IsDayNumber, IsStampNumber}
+-- Passed on from the crate of days and moments.
+pub use Rattle.utc_calendar.specs.Years.{IsMonthNumber, first_day, last_day, IsDayNumber, IsStampNumber}

@@ -1,6 +1,3 @@
-pub mod DayRange
-pub mod DayTexts
-pub mod MonthOrder
 pub mod PartLaws
 pub mod TagLaws
 pub mod WholeLaws

@@ -7,12 +7,12 @@ ghost use Rattle.record_view.specs.Spans.{IsReadingOn, IsRecordAt};
 ghost use Rattle.record_view.specs.Inner.Placed.{IsPlaced};
 ghost use Rattle.record_view.specs.Inner.KeptFields.{LiesWithin, StandsAt, HasTags, IsLentAtSpans};
 
-use crate::dates::Stamp;
 use crate::fields::{Field, Span, field_at};
 use crate::records::{Reading, Record};
 use crate::tags::Tags;
 use fx_money::Value;
 use metering_model::Kind;
+use utc_calendar::Stamp;
 
 /// What was read of a reading, but for its texts. The value is in millionths.
 #[derive(Clone, Copy)]

@@ -1,18 +1,15 @@
 //! One usage record, read where its line lies: no text is copied, and reading takes no memory.
 #![tactic(auto)]
 
-pub use dates::{Day, Stamp};
 pub use fields::{Field, Span, find_byte};
 pub use kept::{Numbers, kept_reading};
 pub use metering_model::{BatchCode, Kind};
 pub use records::{Reading, Record, read_record};
 pub use spans::field_spans;
 pub use tags::Tags;
+pub use utc_calendar::{Day, Stamp, calendar, dates};
 pub use wholes::read_whole;
 
-pub mod calendar;
-pub mod dates;
-mod digits;
 mod fields;
 mod kept;
 pub mod laws;

@@ -12,7 +12,6 @@ ghost use Rattle.record_view.specs.Inner.RecordSteps.{kind_step, stamp_step, ord
 ghost use Rattle.record_view.specs.Lent.{lent_tags, reading_tags, record_of, record_texts, lent_fields, IsLentRecord};
 ghost use Rattle.record_view.specs.Inner.LineFields.{reading_parts, amendment_parts, field_texts, record_of_reading, record_of_amendment, HaveStamps, ArePlainFields};
 
-use crate::dates::Stamp;
 use crate::fields::{Field, Span, field_at, is_text, split_at_byte};
 use crate::numbers::read_value;
 use crate::plain::{split_plain, split_stamp};
@@ -20,6 +19,7 @@ use crate::tags::{Tags, are_plain_tags};
 use crate::wholes::read_whole;
 use fx_money::Value;
 use metering_model::{BatchCode, Kind};
+use utc_calendar::Stamp;
 
 /// What an agent metered. The value is in millionths.
 #[derive(Clone, Copy)]

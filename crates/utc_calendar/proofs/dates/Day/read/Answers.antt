@@ -2,8 +2,8 @@
 use Rattle.std.proofs.Common.{◌≡◌, length, get_or, refl, ◌∙◌, sym, ap, arith}
 use Rattle.std.proofs.lemmas.Bool.{false≢true, false_from_ne_true}
 use Rattle.metering_model.specs.Dates.{are_digits, day_of_month}
-use Rattle.record_view.proofs.DayTexts.{day_in-month, day_in-no_digits}
-use Rattle.record_view.proofs.dates.Day.read.Goals as goal
+use Rattle.utc_calendar.proofs.DayTexts.{day_in-month, day_in-no_digits}
+use Rattle.utc_calendar.proofs.dates.Day.read.Goals as goal
 
 pub returns-in_err-day : goal.returns-in_err-day
 returns-in_err-day c =

@@ -2,7 +2,7 @@
 use Rattle.std.proofs.Common.{◌≡◌, ◌^◌, ◌<◌, true, take}
 use Rattle.std.specs.List.{list_all}
 use Rattle.metering_model.specs.NumberText.{is_digit, number_of}
-use Rattle.record_view.proofs.digits.number.Given as goal
+use Rattle.utc_calendar.proofs.digits.number.Given as goal
 
 abbrev pub invariant-loop-digit : goal.invariant-loop-digit
 invariant-loop-digit l = record {

@@ -3,8 +3,8 @@ use Rattle.std.proofs.Common.{◌≡◌, arith, ap, ◌∙◌}
 use Rattle.jiff_core.specs.Date.{epoch_day}
 use Rattle.jiff_core.proofs.SignedLemmas.{signed_arith}
 use Rattle.jiff_core.proofs.DateLemmas.{civil}
-use Rattle.record_view.proofs.DayRange.{IsDayNumber-date}
-use Rattle.record_view.proofs.dates.Day.from_date.Goals as goal
+use Rattle.utc_calendar.proofs.DayRange.{IsDayNumber-date}
+use Rattle.utc_calendar.proofs.dates.Day.from_date.Goals as goal
 
 pub invariant_of-result : goal.invariant_of-result
 invariant_of-result c =

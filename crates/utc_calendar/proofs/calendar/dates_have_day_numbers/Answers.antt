@@ -1,5 +1,5 @@
-use Rattle.record_view.proofs.DayRange.{first_day_is, last_day_is, IsDayNumber-date}
-use Rattle.record_view.proofs.calendar.dates_have_day_numbers.Goals as goal
+use Rattle.utc_calendar.proofs.DayRange.{first_day_is, last_day_is, IsDayNumber-date}
+use Rattle.utc_calendar.proofs.calendar.dates_have_day_numbers.Goals as goal
 
 pub returns-clause-first : goal.returns-clause-first
 returns-clause-first c = first_day_is

@@ -3,7 +3,7 @@
 ghost use Rattle.std.specs.Prelude.{◌≡◌, ℕ, ◌<◌, ◌<ℤ◌, ◌≤ℤ◌, List, ℤ, pos};
 ghost use Rattle.jiff_core.specs.Calendar.{days_from_civil, IsCivilDate};
 ghost use Rattle.metering_model.specs.Dates.{IsStampText, day_of, month_start};
-ghost use Rattle.record_view.specs.Years.{first_day, last_day, IsDayNumber};
+ghost use Rattle.utc_calendar.specs.Years.{first_day, last_day, IsDayNumber};
 
 /// A later month begins later.
 pub fn later_months_begin_later()

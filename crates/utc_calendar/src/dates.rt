@@ -4,7 +4,7 @@ ghost use Rattle.std.specs.Prelude.{◌≡◌, ◌<◌, ◌≤◌, ◌≤ℤ◌,
 ghost use Rattle.jiff_core.specs.Calendar.{days_from_civil};
 ghost use Rattle.jiff_core.specs.Date.{epoch_day};
 ghost use Rattle.metering_model.specs.Dates.{month_in, day_of_month, day_in, second_in, stamp_in, day_of};
-ghost use Rattle.record_view.specs.Years.{IsMonthNumber, IsDayNumber, IsStampNumber};
+ghost use Rattle.utc_calendar.specs.Years.{IsMonthNumber, IsDayNumber, IsStampNumber};
 
 use crate::digits;
 use jiff::civil::{Date, date};

@@ -4,7 +4,7 @@ use Rattle.jiff_core.specs.Calendar.{IsCivilDate, days_from_civil, day_count, da
 use Rattle.jiff_core.proofs.SignedLemmas.{signed_arith}
 use Rattle.jiff_core.proofs.MarchLemmas.{day_count-early, day_count-late}
 use Rattle.jiff_core.proofs.CalendarLemmas.{days_from_civil-day_count, day_count-day_of_year, day_count-later_year, day_count_bounds}
-use Rattle.record_view.specs.Years.{first_day, last_day, IsDayNumber}
+use Rattle.utc_calendar.specs.Years.{first_day, last_day, IsDayNumber}
 
 pub first_day_is : days_from_civil (pos 1) 1 1 ≡ first_day
 first_day_is =

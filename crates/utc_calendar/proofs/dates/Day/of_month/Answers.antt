@@ -1,5 +1,5 @@
 use Rattle.std.proofs.Common.{rules}
-use Rattle.record_view.proofs.dates.Day.of_month.Goals as goal
+use Rattle.utc_calendar.proofs.dates.Day.of_month.Goals as goal
 
 pub returns-in-Err : goal.returns-in-Err
 returns-in-Err c = search rules

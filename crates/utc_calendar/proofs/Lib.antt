@@ -1,0 +1,3 @@
+pub mod DayRange
+pub mod DayTexts
+pub mod MonthOrder
