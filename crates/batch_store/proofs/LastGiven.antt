@@ -1,12 +1,12 @@
 -- The last record that gives a reading a value stands in the last batch that gives it one.
-use Rattle.std.proofs.Common.{◌≡◌, ℕ, zero, suc, ◌+◌, ◌<◌, ◌≤◌, Bool, true, false, ◌&&◌, not, cond, List, [], ◌∷◌, ◌++◌, map, filter, refl, sym, ap, subst, ◌∙◌, arith, Option, Some, None, ℤ, inl, inr, is_some, All, min}
+use Rattle.std.proofs.Common.{◌≡◌, ℕ, zero, suc, ◌+◌, ◌<◌, Bool, true, false, ◌&&◌, not, cond, List, [], ◌∷◌, ◌++◌, map, filter, refl, sym, ap, subst, ◌∙◌, arith, Option, Some, None, ℤ, inl, inr, is_some, min}
 use Rattle.std.specs.Prelude.{◌-◌, ◌==◌, nat_le}
 use Rattle.std.specs.List.{enumerate_from, filter_map, last_or, list_all}
 use Rattle.std.specs.Option.{option_or, option_and_then}
 use Rattle.std.proofs.lemmas.Bool.{and_parts, cond-true, cond-false, cases_Bool, cases_lt}
 use Rattle.std.proofs.lemmas.Bool.Decides.{nat_tests}
-use Rattle.std.proofs.lemmas.List.Elements.{filter-append, filter_map-append, All-head, All-tail}
-use Rattle.metering_model.specs.Batch.{Batch, IsWellFormed, Record}
+use Rattle.std.proofs.lemmas.List.Elements.{filter-append, filter_map-append}
+use Rattle.metering_model.specs.Batch.{Batch, Record}
 use Rattle.metering_model.specs.Holding.{Holding, IsHolding, Position, Placed, placed, records_in_order, held, is_batch_at, is_in_order, comes_before}
 use Rattle.metering_model.specs.ValueAtSequence.{value_given_by, journal_until}
 use Rattle.metering_model.proofs.BatchOrder.{in_order_parts, list_all-weaker}
@@ -130,18 +130,6 @@ module _ (p : Position) where
             ∙ sym (ap (λ f. option_or (option_and_then given_by f) (pick o (b ∷ h) s)) held_later))
       ]
 
-  same_beyond : (b : Batch) (upto : ℕ) → b.seq ≤ 1_000_000 → 1_000_000 ≤ upto → is_batch_until upto b ≡ is_batch_until 1_000_000 b
-  same_beyond b upto within beyond = grind (arith, nat_tests)
-
-  -- there is nothing behind 1,000,000
-  pick-beyond : (o : Option ℤ) (h : Holding) (upto : ℕ) → All IsWellFormed h → 1_000_000 ≤ upto → pick o h upto ≡ pick o h 1_000_000
-  unfolding pick
-  pick-beyond o [] upto well beyond = refl
-  pick-beyond o (b ∷ h) upto well beyond =
-      let first = All-head IsWellFormed b h well in
-      ap (λ t. pick (cond t (option_or (given_by b) o) o) h upto) (same_beyond b upto first.seq.1 beyond)
-      ∙ pick-beyond (cond (is_batch_until 1_000_000 b) (option_or (given_by b) o) o) h upto (All-tail IsWellFormed b h well) beyond
-
 -- ---- sequence by sequence
 
 given_in_place : (p : Position) (b : Batch) → b.agent ≡ p.agent → last_or None (filter_map (value_given_by p) (placed b)) ≡ value_given_in b p.seq p.index
@@ -161,12 +149,20 @@ last_given-absent h p s is at =
     ∙ (pick-step p None h s is.in_order
     ∙ (ap (λ f. option_or (option_and_then (λ c. last_or None (filter_map (value_given_by p) (placed c))) f) (pick p None h s)) (sym at) ∙ sym (given_is_pick p None h s)))
 
-pub last_given-beyond : (h : Holding) (p : Position) (upto : ℕ) → IsHolding h → last_given h p upto ≡ last_given h p (min upto 1_000_000)
-last_given-beyond h p upto is = elim (cases_lt upto 1_000_000) [
-  | inl less ↦ let same : upto ≡ min upto 1_000_000 = omega arith in ap (last_given h p) same
+none_between : (h : Holding) (p : Position) (n k : ℕ) → IsHolding h → ((s : ℕ) → n < s → held h p.agent s ≡ None) → last_given h p (n + k) ≡ last_given h p n
+none_between h p n zero is none = let same : n + zero ≡ n = omega arith in ap (last_given h p) same
+none_between h p n (suc k) is none =
+    let next : n + suc k ≡ n + k + 1 = omega arith in
+    ap (last_given h p) next ∙ (last_given-absent h p (n + k) is (sym (none (n + k + 1) (omega arith))) ∙ none_between h p n k is none)
+
+-- where no batch is above a sequence
+pub last_given-above : (h : Holding) (p : Position) (upto n : ℕ) → IsHolding h → ((s : ℕ) → n < s → held h p.agent s ≡ None) → last_given h p upto ≡ last_given h p (min upto n)
+last_given-above h p upto n is none = elim (cases_lt upto n) [
+  | inl less ↦ let same : upto ≡ min upto n = omega arith in ap (last_given h p) same
   | inr beyond ↦
-      let same : 1_000_000 ≡ min upto 1_000_000 = omega arith in
-      given_is_pick p None h upto ∙ (pick-beyond p None h upto is.batches beyond ∙ (sym (given_is_pick p None h 1_000_000) ∙ ap (last_given h p) same))
+      let far : upto ≡ n + (upto - n) = omega arith in
+      let same : n ≡ min upto n = omega arith in
+      ap (last_given h p) far ∙ (none_between h p n (upto - n) is none ∙ ap (last_given h p) same)
 ]
 
 -- A search from a sequence downwards: it ends where a batch gives a value,

@@ -12,7 +12,7 @@ use period_cut::{Cut, Month, Period};
 use std::alloc::{AllocError, Global};
 
 /// No batch has a sequence above this one.
-pub(crate) const LAST_SEQ: u32 = 1_000_000;
+const LAST_SEQ: u32 = 1_000_000;
 
 impl Store {
     /// For each agent the greatest sequence such that all batches above the cut and up to it are there and due for the

@@ -95,6 +95,16 @@ impl Store {
         self.shelves[usize::from(agent) - 1].first_absent()
     }
 
+    /// The greatest sequence that an agent has a batch of, 0 where it has none.
+    pub(crate) fn last_seq(&self, agent: u8) -> u32
+        requires from { 1 ≤ agent }
+        requires to { agent ≤ self.now.agents }
+        ensures none { (seq : ℕ) → result < seq → held self.now.batches agent seq ≡ None }
+        ensures range { result ≤ 1_000_000 }
+    {
+        self.shelves[usize::from(agent) - 1].last()
+    }
+
     /// The batches up to a cut, shared.
     pub fn share(&self, alloc: Global, upto: &Cut) -> Result<Store, AllocError>
         requires { length upto.now ≡ self.now.agents }

@@ -8,7 +8,6 @@ ghost use Rattle.batch_view.specs.Batches.{batch_of};
 ghost use Rattle.batch_store.specs.Stores.{IsStored, position_of};
 ghost use Rattle.batch_store.specs.Inner.Values.{has_reading_at, last_given};
 
-use crate::fronts::LAST_SEQ;
 use crate::{Place, Store};
 use batch_view::{OwnedBatch, Record};
 use fx_money::Value;
@@ -58,7 +57,7 @@ impl Store {
         ensures { last_given self.now.batches (position_of place) upto
             ≡ option_or result (last_given self.now.batches (position_of place) place.seq) }
     {
-        let last = upto.min(LAST_SEQ);
+        let last = upto.min(self.last_seq(place.agent).max(place.seq));
         for seq in (place.seq + 1..last + 1).rev() {
             if let Some(batch) = self.get(place.agent, seq) {
                 let given = batch.value_given(place.seq, place.index);

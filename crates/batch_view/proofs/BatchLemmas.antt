@@ -1,7 +1,7 @@
 -- A text is a batch, or has its first fault, by its head line, its records and its end.
-use Rattle.std.proofs.Common.{◌≡◌, ℕ, suc, ◌+◌, ◌<◌, ◌≤◌, ◌==◌, ◌&&◌, ◌⊎◌, Bool, true, false, List, [], ◌∷◌, length, drop, Option, Some, None, Ok, Err, refl, sym, ap, subst, ◌∙◌, inl, inr, arith, length-drop}
+use Rattle.std.proofs.Common.{◌≡◌, ℕ, suc, ◌+◌, ◌<◌, ◌≤◌, ◌==◌, ◌&&◌, ◌⊎◌, ◌↔◌, Bool, true, false, List, [], ◌∷◌, length, drop, Option, Some, None, IsSome, IfSome, Ok, Err, refl, sym, ap, subst, ◌∙◌, inl, inr, arith, length-drop}
 use Rattle.std.specs.List.{slice_get, position}
-use Rattle.std.proofs.lemmas.Bool.{cond-true, cond-false, le-ltb, lt-ltb, eqb-true, eq-eqb, cases_Bool, and_left, and_right, and_from}
+use Rattle.std.proofs.lemmas.Bool.{cond-true, cond-false, le-ltb, lt-ltb, eqb-true, eq-eqb, false≢true, cases_Bool, and_left, and_right, and_from}
 use Rattle.std.proofs.lemmas.List.{drop-drop, drop_all, nil_from_length}
 use Rattle.metering_model.specs.Batch.{Batch, Record, is_empty}
 use Rattle.metering_model.specs.declared.BatchCode.{BatchCode}
@@ -11,7 +11,7 @@ use Rattle.metering_model.specs.BatchReading.{at_line, records_in, fields_in, he
 use Rattle.metering_model.proofs.BatchLaws.{batch_read}
 use Rattle.metering_model.specs.FirstFailure.{◌>>=◌, holds_or}
 use Rattle.record_view.specs.Lent.{record_of}
-use Rattle.batch_view.specs.Batches.{batch_of, IsLentAt}
+use Rattle.batch_view.specs.Batches.{batch_of, IsLentAt, GivesNext}
 use Rattle.batch_view.specs.Inner.Lines.{lines_from, first_record, head_line, HasNoLine, IsBehindLines, LendsRecord, BeginsWithHead, IsHeadOf}
 use Rattle.batch_view.specs.declared.head.Head.{Head}
 use Rattle.record_view.specs.declared.records.Record.{Record as LentRecord}
@@ -177,6 +177,16 @@ record_read bytes index at r next short batch within behind lends =
       lent = record { span = lends.span; is_line = line.spot; lent = lends.lent };
       behind = subst (λ n. IsBehindLines bytes n next) two (subst (IsBehindLines bytes (index + 1 + 1)) (sym lends.behind) line.behind);
     }
+
+-- a record that is looked up is the first that is left
+pub gives_there : (bytes : List ℕ) (index : ℕ) (o : Option LentRecord) → length bytes ≤ 65_536 → batch_in bytes ≡ Ok (batch_of bytes) → index < length (batch_of bytes).records
+    → (IsSome o ↔ (index < length (batch_of bytes).records)) → IfSome o (λ r. slice_get (batch_of bytes).records index ≡ Some (record_of r)) → IfSome o (IsLentAt bytes index)
+    → GivesNext (record { bytes = bytes; index = index }) o (record { bytes = bytes; index = index + 1 })
+gives_there bytes index None short batch within there_is got lent = absurd (false≢true (there_is.1 within))
+gives_there bytes index (Some r) short batch within there_is got lent =
+    let stands = there bytes index short batch within in
+    let same : stands.one ≡ record_of r = let one = stands.got in let other : slice_get (batch_of bytes).records index ≡ Some (record_of r) = got in cc in
+    record { first = stands.left ∙ ap (λ x. x ∷ drop (index + 1) (batch_of bytes).records) same; lent = lent; walk = refl }
 
 -- ---- the head
 

@@ -169,15 +169,17 @@ impl<'a> BatchView<'a> {
         self.head.count
     }
 
-    /// The records, in order. The walk goes once over the bytes.
+    /// The records, in order. Over what an `OwnedBatch` keeps each is looked up; over bytes alone the walk goes once over
+    /// them.
     pub fn records(&self) -> Records<'a>
         ensures { result ≡ record { bytes = self.now; index = 0 } }
     {
         Records {
             bytes: self.bytes,
-            at: self.head.records_from,
+            head: self.head,
+            kept: self.kept,
             index: 0,
-            count: self.head.count,
+            at: self.head.records_from,
         }
     }
 
@@ -218,20 +220,22 @@ impl<'a> BatchView<'a> {
 #[derive(Drop)]
 pub struct Records<'a> {
     bytes: &'a [u8],
-    at: u32,
+    head: Head,
+    kept: Option<&'a [Entry]>,
     index: u16,
-    count: u16,
+    // Where the next line begins. Over kept entries it stays where it was.
+    at: u32,
 }
 
 impl<'a> Model for Records<'a> {
     ghost use Rattle.batch_view.specs.Batches.{RecordsLeft};
-    ghost use Rattle.batch_view.specs.Inner.Lines.{IsBeforeRecord};
+    ghost use Rattle.batch_view.specs.Inner.Entries.{IsWalk};
 
     ghost Value = { RecordsLeft };
 
     ghost view = { λ r. record { bytes = r.bytes.now; index = r.index } };
 
-    ghost invariant = { λ r. IsBeforeRecord r.bytes.now r.index r.count r.at };
+    ghost invariant = { λ r. IsWalk r.bytes.now r.head r.kept r.index r.at };
 }
 
 impl<'a> Iterator for Records<'a> {
@@ -245,9 +249,14 @@ impl<'a> Iterator for Records<'a> {
     ghost remaining = { item_count records_left };
 
     fn next(&mut self) -> Option<Record<'a>> {
-        let end = self.count;
+        let end = self.head.count;
         if self.index == end {
             return None;
+        }
+        if let Some(entries) = self.kept {
+            let record = kept_record(self.bytes, self.head, entries, self.index);
+            self.index += 1;
+            return record;
         }
         match record_from(self.bytes, self.at) {
             Ok((record, next)) => {

@@ -1,16 +1,16 @@
 //! What is kept of each record, made when a batch is read.
 
-ghost use Rattle.std.specs.Prelude.{◌≡◌, ◌≤◌, ◌+◌, length, take, drop, slice_range, Ok, Err, IsOk, IfOk, IfErr, MatchResult, MatchOption};
-ghost use Rattle.std.specs.List.{list_all, slice_get};
+ghost use Rattle.std.specs.Prelude.{◌≡◌, ◌≤◌, ◌+◌, not, length, take, drop, slice_range, Ok, Err, IsOk, IfOk, IfErr, MatchResult, MatchOption};
+ghost use Rattle.std.specs.List.{list_any, slice_get};
 ghost use Rattle.metering_model.specs.BatchReading.{batch_in, lines_in, records_in, record_in, fields_in};
 ghost use Rattle.record_view.specs.Lent.{record_of, IsLentRecord};
 ghost use Rattle.record_view.specs.Spans.{spans_at, IsRecordAt};
-ghost use Rattle.batch_view.specs.Kept.{is_plain_byte};
 ghost use Rattle.batch_view.specs.Inner.Lines.{lines_from, first_record, IsBehindLines, IsHeadOf};
-ghost use Rattle.batch_view.specs.Inner.Entries.{field_total, FitsRecord, FlagsPlain, flag, IsEntryAt, KeepsRecord, AreEntries};
+ghost use Rattle.batch_view.specs.Inner.Entries.{field_total, FitsRecord, FlagsPlain, flag, is_quoted, IsEntryAt, KeepsRecord, AreEntries};
 
 use crate::batch::record_from;
 use fx_money::Value;
+use memchr::memchr3;
 use metering_model::{BatchCode, BatchFault, Kind};
 use record_view::{Numbers, Record, Span, Stamp, field_spans, kept_reading};
 use std::alloc::Global;
@@ -74,12 +74,12 @@ pub(crate) fn entry_at(entries: &[Entry], index: u16) -> Option<&Entry>
     }
 }
 
-/// Whether neither CSV nor JSON quotes or escapes any byte of the text.
-fn is_plain_text(text: &[u8]) -> bool
-    ensures { result ≡ list_all is_plain_byte text.now }
+/// Whether the text has no byte for which CSV or JSON quotes or escapes a text of a record. (Below a space a record has
+/// none.)
+fn is_unquoted(text: &[u8]) -> bool
+    ensures { result ≡ not (list_any is_quoted text.now) }
 {
-    text.iter()
-        .all(|c| *c >= 0x20 && *c != b'"' && *c != b',' && *c != b'\\')
+    memchr3(b'"', b',', b'\\', text).is_none()
 }
 
 /// What is kept of a record that was read from that line.
@@ -99,7 +99,7 @@ fn entry_of(source: &[u8], line: Span, what: &Record<'_>) -> Entry
             spans,
             value: reading.value,
             found: Found::Reading {
-                plain: is_plain_text(&source[line.from as usize..line.to as usize]),
+                plain: is_unquoted(&source[line.from as usize..line.to as usize]),
                 kind: reading.kind,
                 start: reading.start,
                 end: reading.end,

@@ -1,13 +1,12 @@
 -- What is kept of each record of a batch.
-use Rattle.std.specs.Prelude.{◌≡◌, ℕ, ◌+◌, ◌≤◌, List, length, take, drop, slice_range, Option, Some, IfSome, Ok, ℤ, Bool, true}
-use Rattle.std.specs.List.{slice_get, list_all}
+use Rattle.std.specs.Prelude.{◌≡◌, ℕ, ◌+◌, ◌≤◌, List, length, take, drop, slice_range, Option, Some, IfSome, Ok, ℤ, Bool, true, not, ◌==◌, ◌||◌, MatchOption}
+use Rattle.std.specs.List.{slice_get, list_any}
 use Rattle.metering_model.specs.Batch.{Record, Reads, Amends}
 use Rattle.metering_model.specs.BatchReading.{lines_in, record_in, fields_in}
 use Rattle.record_view.specs.declared.fields.Span.{Span}
 use Rattle.record_view.specs.Spans.{spans_at}
 use Rattle.batch_view.specs.Batches.{batch_of, line_spans}
-use Rattle.batch_view.specs.Kept.{is_plain_byte}
-use Rattle.batch_view.specs.Inner.Lines.{IsFirstLine, first_record, IsHeadOf}
+use Rattle.batch_view.specs.Inner.Lines.{IsFirstLine, IsBehindLines, first_record, IsHeadOf}
 use Rattle.batch_view.specs.declared.entries.Found.{Found}
 use Rattle.batch_view.specs.declared.entries.Found.TheVariants.{Reading, Amend}
 use Rattle.batch_view.specs.declared.entries.Entry.{Entry}
@@ -25,9 +24,13 @@ FitsRecord (Reading plain kind start end) value (Amends seq index v) = ⊥
 FitsRecord (Amend s i) value (Reads r) = ⊥
 FitsRecord (Amend s i) value (Amends seq index v) = (s ≡ seq) × (i ≡ index) × (value ≡ v)
 
--- the flag of a reading says whether each byte of its line is plain
+-- a quote, a comma or a backslash: of the bytes that a record may have, those for which CSV or JSON quotes or escapes a text
+abbrev pub is_quoted : ℕ → Bool
+is_quoted c = c == 34 || c == 44 || c == 92
+
+-- the flag of a reading says whether its line has no such byte
 abbrev pub FlagsPlain : Found → List ℕ → Type 0
-FlagsPlain (Reading plain kind start end) line = plain ≡ list_all is_plain_byte line
+FlagsPlain (Reading plain kind start end) line = plain ≡ not (list_any is_quoted line)
 FlagsPlain (Amend seq index) line = Unit {0}
 
 -- what an entry says of plainness: an amendment has no text
@@ -72,3 +75,10 @@ pub record KeepsRecord (text : List ℕ) (from : ℕ) (e : Entry) (next : ℕ) :
 pub record IsViewOf (bytes : List ℕ) (h : Head) (kept : Option (Bor (List Entry))) : Type 0 where
   pub head : IsHeadOf bytes h
   pub entries : IfSome kept (λ es. AreAllEntries bytes es.now)
+
+-- A walk over the records of such a batch stands before the record at that index; where no entries are kept, its line begins
+-- at `at`.
+pub record IsWalk (bytes : List ℕ) (h : Head) (kept : Option (Bor (List Entry))) (index at : ℕ) : Type 0 where
+  pub view : IsViewOf bytes h kept
+  pub within : index ≤ h.count
+  pub behind : MatchOption kept (IsBehindLines bytes (index + 1) at) (λ es. Unit {0})

@@ -63,11 +63,3 @@ pub record IsHeadOf (bytes : List ℕ) (h : Head) : Type 0 where
   pub seq : h.seq ≡ (batch_of bytes).seq
   pub count : h.count ≡ length (batch_of bytes).records
   pub behind : IsBehindLines bytes 1 h.records_from
-
--- A walk over the records of a batch stands before the record at that index.
-pub record IsBeforeRecord (bytes : List ℕ) (index count at : ℕ) : Type 0 where
-  pub short : length bytes ≤ 65_536
-  pub batch : batch_in bytes ≡ Ok (batch_of bytes)
-  pub within : index ≤ count
-  pub all : count ≡ length (batch_of bytes).records
-  pub behind : IsBehindLines bytes (index + 1) at

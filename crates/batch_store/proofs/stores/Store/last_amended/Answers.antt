@@ -2,13 +2,13 @@ use Rattle.std.proofs.Common.{◌≡◌, ◌+◌, ◌-◌, ◌∙◌, min, ap, s
 use Rattle.batch_view.specs.Batches.{batch_of}
 use Rattle.batch_store.specs.Stores.{position_of}
 use Rattle.batch_store.specs.Inner.Values.{last_given}
-use Rattle.batch_store.proofs.LastGiven.{last_given-beyond, found_at, passed_held, passed_absent}
+use Rattle.batch_store.proofs.LastGiven.{last_given-above, found_at, passed_held, passed_absent}
 use Rattle.batch_store.proofs.stores.Store.last_amended.Goals as goal
 
 pub loop-seq-init : goal.loop-seq-init
 loop-seq-init c =
-    let last : min c.args.upto 1_000_000 ≡ c.min-last.result + 1 - 1 = omega arith in
-    (omega arith, last_given-beyond c.args.self.now.batches (position_of c.args.place) c.args.upto c.requires.stored.is_holding ∙ ap (last_given c.args.self.now.batches (position_of c.args.place)) last)
+    let last : min c.args.upto c.max.result ≡ c.min-last.result + 1 - 1 = omega arith in
+    (omega arith, last_given-above c.args.self.now.batches (position_of c.args.place) c.args.upto c.max.result c.requires.stored.is_holding (λ s high. c.last_seq.ensures.none s (omega (arith, high))) ∙ ap (last_given c.args.self.now.batches (position_of c.args.place)) last)
 
 pub loop-seq-preserved : goal.loop-seq-preserved
 loop-seq-preserved c =
