@@ -13,7 +13,7 @@ use std::marker::Model;
 use toml::Table;
 
 /// A discount on the usage of a SKU, which is bought as another.
-#[derive(Debug, Drop)]
+#[derive(Drop)]
 pub struct Commitment {
     id: String,
     sku: String,

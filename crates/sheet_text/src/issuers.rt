@@ -1,8 +1,9 @@
 //! Who bills.
 
 ghost use Rattle.std.specs.Prelude.{◌≡◌, ◌≢◌, Ok, Err, IfOk, IfErr, IsTrue, ◌↔◌, string_bytes, IsOkUnless};
+ghost use Rattle.std.specs.List.{list_all};
 ghost use Rattle.toml.specs.View.{table_view};
-ghost use Rattle.metering_model.specs.SheetRules.{IsIssuer};
+ghost use Rattle.metering_model.specs.SheetRules.{IsIssuer, is_capital};
 ghost use Rattle.sheet_text.specs.IssuerReading.{is_currency, currency_under, issuer_fault, issuer_in, issuer_of_text};
 ghost use Rattle.sheet_text.specs.Gives.{Gives};
 ghost use Rattle.sheet_text.specs.Samples.{sample_issuer};
@@ -14,7 +15,7 @@ use std::marker::Model;
 use toml::Table;
 
 /// Who provides, publishes and invoices the charges, who pays them, and in which currency.
-#[derive(Debug, Drop)]
+#[derive(Drop)]
 pub struct Issuer {
     provider: String,
     publisher: String,
@@ -178,16 +179,18 @@ fn issuer_fault(fault: KeyFault) -> IssuerFault
     }
 }
 
+/// Whether it is nothing but letters A to Z.
+fn is_in_capitals(text: &[u8]) -> bool
+    ensures { result ≡ list_all is_capital text.now }
+{
+    text.iter().all(|byte| *byte >= b'A' && *byte <= b'Z')
+}
+
 /// Whether it is three letters A to Z.
 fn is_currency(text: &[u8]) -> bool
     ensures { result ≡ is_currency text.now }
 {
-    match text {
-        [first, second, third] => {
-            first.is_ascii_uppercase() && second.is_ascii_uppercase() && third.is_ascii_uppercase()
-        }
-        _ => false,
-    }
+    is_in_capitals(text) && text.len() == 3
 }
 
 /// The currency under a key.

@@ -23,7 +23,7 @@ const MOST_ROWS: usize = 10_000;
 const MOST_UNITS: i64 = 1_000_000_000;
 
 /// What is wrong under a key.
-#[derive(Clone, Copy, Debug, PartialEq, Eq, Drop)]
+#[derive(Clone, Copy, Drop)]
 pub enum KeyFault {
     Missing,
     BadValue,

@@ -17,7 +17,7 @@ use std::marker::Model;
 use toml::Table;
 
 /// A price of a SKU from a day on.
-#[derive(Debug, Drop)]
+#[derive(Drop)]
 pub struct PriceRow {
     sku: String,
     price_id: String,
