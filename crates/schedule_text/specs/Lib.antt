@@ -1,0 +1,3 @@
+pub mod Sections
+pub mod RateInput
+pub mod Inner

@@ -1,0 +1,12 @@
+//! The texts that the program is given: what is left of them, line by line, and the sections in them.
+#![tactic(auto)]
+
+mod faults;
+mod rates;
+mod sections;
+mod unread;
+
+pub use faults::{ScheduleCode, ScheduleFault};
+pub use rates::{RateInput, rate_input};
+pub use sections::{Section, read_issuer, read_section, read_sheet};
+pub use unread::Unread;
