@@ -424,43 +424,54 @@ fn cut_again(alloc: Global, seq: u32) -> Result<Cut, AllocError> {
     }
 }
 
-/// Whether the worked amendments have their part, front and amended place, each asked for again where the first call
-/// finds no memory.
-fn answers_again(store: &Store, alloc: Global) -> Result<bool, Fail> {
+/// Amendments behind a gap, so many that the list of what they and the worked ones name grows twice.
+const AHEAD: &[u8] = b"B1|1|5|3\nX|1|0|7200\nX|1|0|3600\nX|1|0|5400\n";
+
+/// Whether a part is shared up to the batch behind the gap, asked for again where the first call finds no memory.
+fn shares_again(store: &Store, alloc: Global) -> Result<bool, Fail> {
+    let five = cut_again(alloc, 5)?;
+    if store.agents() != 1 || five.agents() != 1 {
+        return Err(Fail::from("other agents"));
+    }
+    let part = match store.share(alloc, &five) {
+        Ok(part) => part,
+        Err(_) => store.share(alloc, &five)?,
+    };
+    Ok(first_absent(&part, 1) == 4 && has(&part, 1, 5))
+}
+
+/// Whether the store can be closed up to the gap, asked again where the first call finds no memory.
+fn closes_again(store: &Store, alloc: Global) -> Result<bool, Fail> {
     let january = Period::new(0).ok_or("no period")?;
     let base = Month::of(2025, 1);
     let zero = cut_again(alloc, 0)?;
-    let one = cut_again(alloc, 1)?;
-    let three = cut_again(alloc, 3)?;
-    if store.agents() != 1 || zero.agents() != 1 || one.agents() != 1 || three.agents() != 1 {
+    if store.agents() != 1 || zero.agents() != 1 {
         return Err(Fail::from("other agents"));
     }
-    if !three.at_least(&one) {
-        return Err(Fail::from("no later cut"));
-    }
-    let part = match store.share(alloc, &one) {
-        Ok(part) => part,
-        Err(_) => store.share(alloc, &one)?,
-    };
     let front = match store.due_front(alloc, &zero, january, base) {
         Ok(front) => front,
         Err(_) => store.due_front(alloc, &zero, january, base)?,
     };
-    let places = match store.amended(alloc, &one, &three) {
+    Ok(front.agents() == 1 && front.get(1) == 3)
+}
+
+/// Whether the one place that is amended is told, asked for again where the first call finds no memory.
+fn names_again(store: &Store, alloc: Global) -> Result<bool, Fail> {
+    let one = cut_again(alloc, 1)?;
+    let five = cut_again(alloc, 5)?;
+    if store.agents() != 1 || one.agents() != 1 || five.agents() != 1 || !five.at_least(&one) {
+        return Err(Fail::from("no such cuts"));
+    }
+    let places = match store.amended(alloc, &one, &five) {
         Ok(places) => places,
-        Err(_) => store.amended(alloc, &one, &three)?,
+        Err(_) => store.amended(alloc, &one, &five)?,
     };
     let amended = Place {
         agent: 1,
         seq: 1,
         index: 0,
     };
-    Ok(
-        first_absent(&part, 1) == 2
-            && front.agents() == three.agents()
-            && front.same(&three)
-            && places.as_slice() == [amended].as_slice(),
-    )
+    Ok(places.as_slice() == [amended].as_slice())
 }
 
 /// Each call that may find no memory is made again where it does: with `--fail-alloc` the answers of the second call
@@ -473,11 +484,13 @@ fn a_refused_growth_of_a_store_changes_nothing(rt: HostRuntime) -> Result<(), Fa
         Err(_) => Store::new(alloc, 1)?,
     };
     let mut all = true;
-    for bytes in [AMENDED_TWICE, READ, AMENDED] {
+    for bytes in [AHEAD, AMENDED_TWICE, READ, AMENDED] {
         let batch = batch_again(alloc, bytes)?;
         all = is_put_again(&mut store, batch)? && all;
     }
-    all = answers_again(&store, alloc)? && all;
+    all = shares_again(&store, alloc)? && all;
+    all = closes_again(&store, alloc)? && all;
+    all = names_again(&store, alloc)? && all;
     assert!(rt; all && first_absent(&store, 1) == 4 && has_values(&store, &WORKED_VALUES));
     Ok(())
 }
