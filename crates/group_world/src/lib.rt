@@ -1,0 +1,2 @@
+//! The world of a group: what is there, and what one event does to it.
+#![tactic(auto)]
