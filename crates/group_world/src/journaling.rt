@@ -1,0 +1,110 @@
+//! A batch is journaled.
+
+ghost use Rattle.std.specs.Prelude.{◌≡◌, ◌≤◌, ◌++◌, ◌∷◌, [], Some, Ok, Err, map, IfOk, OnErr, MatchOption};
+ghost use Rattle.std.specs.Arc.{arc_value};
+ghost use Rattle.metering_model.specs.Holding.{put};
+ghost use Rattle.metering_model.specs.JournalRules.{MeetsJournalRules};
+ghost use Rattle.metering_model.specs.World.{CarriesBatch, Journal};
+ghost use Rattle.metering_model.specs.Step.{on_batch, step, unless_broken};
+ghost use Rattle.batch_view.specs.Batches.{batch_of};
+ghost use Rattle.group_node.specs.Packets.{packet_of};
+ghost use Rattle.group_events.specs.Events.{offer_of};
+ghost use Rattle.group_events.specs.Replies.{reply_of};
+ghost use Rattle.group_world.specs.Reached.{IsReached};
+ghost use Rattle.group_world.specs.Inner.Allowed.{MayJournal};
+
+use crate::GroupState;
+use crate::state::MOST_PACKETS;
+use batch_store::Store;
+use batch_view::{Offer, OwnedBatch};
+use group_events::Reply;
+use group_node::Packet;
+use journal_rules::first_broken;
+use metering_model::{BrokenRule, Refusal};
+use std::alloc::AllocError;
+use std::sync::Arc;
+
+/// Puts a batch into the journals and into a packet of its own, where there is memory for both.
+fn keep_batch(
+    journals: &mut Store,
+    packets: &mut Vec<Packet>,
+    batch: &Arc<OwnedBatch>,
+) -> Result<(), AllocError>
+    requires { (batch_of (arc_value batch.now)).agent ≤ journals.old.agents }
+    ensures journals { IfOk result (λ _. journals.new
+        ≡ record { agents = journals.old.agents; batches = put journals.old.batches (batch_of (arc_value batch.now)) }) }
+    ensures packets { IfOk result (λ _. map packet_of packets.new.items
+        ≡ map packet_of packets.old.items ++ CarriesBatch (batch_of (arc_value batch.now)) ∷ []) }
+    ensures journals_kept { OnErr result (journals.new ≡ journals.old) }
+    ensures packets_kept { OnErr result (packets.new.items ≡ packets.old.items) }
+{
+    packets.reserve(1)?;
+    let stored = Arc::try_clone(batch)?;
+    let sent = Arc::try_clone(batch)?;
+    journals.put(stored)?;
+    packets.push_reserved(Packet::Batch(sent));
+    Ok(())
+}
+
+/// How a broken rule is told.
+fn refusal_of(rule: BrokenRule) -> Refusal
+    ensures { unless_broken (Some rule) ≡ Err result }
+{
+    match rule {
+        BrokenRule::BadTarget => Refusal::BadTarget,
+        BrokenRule::Unpriced => Refusal::Unpriced,
+    }
+}
+
+impl GroupState {
+    /// Why a batch is not journaled; None where it is its agent's next, breaks no rule, and there is room for its packet.
+    fn journal_refusal(&self, batch: &OwnedBatch) -> Option<Refusal>
+        requires { MeetsJournalRules self.now.sheet self.now.journals }
+        ensures { MatchOption result
+            (MayJournal self.now (batch_of batch.now))
+            (λ refusal. on_batch self.now (batch_of batch.now) ≡ Err refusal) }
+    {
+        let view = batch.view();
+        let agent = view.agent();
+        if agent > self.journals.agents() {
+            return Some(Refusal::NoAgent);
+        }
+        let wanted = self.journals.first_absent(agent);
+        if view.seq() != wanted {
+            return Some(Refusal::WrongSeq { wanted });
+        }
+        if let Some(rule) = first_broken(&self.journals, &self.sheet, &view) {
+            return Some(refusal_of(rule));
+        }
+        if self.packets.len() >= MOST_PACKETS {
+            return Some(Refusal::WorldFull);
+        }
+        None
+    }
+
+    /// Journals a batch that may be journaled.
+    fn take(&mut self, batch: &Arc<OwnedBatch>) -> Result<Reply, AllocError>
+        requires { MayJournal self.old (batch_of (arc_value batch.now)) }
+        ensures ok { IfOk result (λ reply. on_batch self.old (batch_of (arc_value batch.now)) ≡ Ok (reply_of reply, self.new)) }
+        ensures err { OnErr result (self.new ≡ self.old) }
+    {
+        let packet = self.packets.len() as u32;
+        keep_batch(&mut self.journals, &mut self.packets, batch)?;
+        Ok(Reply::Journaled { packet })
+    }
+
+    /// Journals a batch that is its agent's next and breaks no rule, and sends it in a packet.
+    pub fn journal(&mut self, offer: &Offer) -> Result<Reply, AllocError>
+        requires reached { IsReached self.old }
+        ensures ok { IfOk result (λ reply. (reply_of reply, self.new) ≡ step self.old (Journal (offer_of offer.now))) }
+        ensures err { OnErr result (self.new ≡ self.old) }
+    {
+        match offer {
+            Offer::Good(batch) => match self.journal_refusal(batch) {
+                Some(refusal) => Ok(Reply::Refused(refusal)),
+                None => self.take(batch),
+            },
+            Offer::Bad(fault) => Ok(Reply::Refused(Refusal::BadBatch(*fault))),
+        }
+    }
+}

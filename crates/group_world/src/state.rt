@@ -1,0 +1,88 @@
+//! The world as it stands.
+
+ghost use Rattle.std.specs.Prelude.{◌≡◌, ◌≤◌, IfOk, replicate};
+ghost use Rattle.std.specs.Arc.{arc_value};
+ghost use Rattle.metering_model.specs.World.{new_kept, opening, wake};
+
+use batch_store::Store;
+use group_node::{Node, Packet};
+use price_sheet::{Issuer, Sheet};
+use std::alloc::{AllocError, Global};
+use std::marker::Model;
+use std::sync::Arc;
+
+/// No packet is sent once there are so many.
+pub(crate) const MOST_PACKETS: usize = 1_000_000;
+
+/// What a group is at one moment: the sheet and the issuer, the batches that were journaled, the packets that were ever
+/// sent, by number, and the nodes. Packets, journals and nodes share batches and cuts, and never copy one.
+#[derive(Drop)]
+pub struct GroupState {
+    pub(crate) sheet: Arc<Sheet>,
+    pub(crate) issuer: Arc<Issuer>,
+    pub(crate) journals: Store,
+    pub(crate) packets: Vec<Packet>,
+    pub(crate) nodes: Vec<Node>,
+}
+
+impl Model for GroupState {
+    ghost use Rattle.std.specs.Prelude.{map};
+    ghost use Rattle.std.specs.Arc.{arc_value};
+    ghost use Rattle.metering_model.specs.World.{World};
+    ghost use Rattle.group_node.specs.Packets.{packet_of};
+    ghost use Rattle.group_world.specs.Inner.Members.{AreMembers};
+
+    ghost Value = { World };
+
+    ghost view = { λ s. record {
+      sheet = arc_value s.sheet;
+      issuer = arc_value s.issuer;
+      agents = s.journals.agents;
+      journals = s.journals.batches;
+      packets = map packet_of s.packets.items;
+      nodes = map (λ n. n.node) s.nodes.items;
+    } };
+
+    ghost invariant = { λ s. AreMembers s.journals.agents s.nodes.items };
+}
+
+/// So many nodes of a group with so many agents, which have begun nothing and hold nothing.
+fn new_nodes(alloc: Global, nodes: u8, agents: u8) -> Result<Vec<Node>, AllocError>
+    requires nodes_to { nodes ≤ 99 }
+    requires from { 1 ≤ agents }
+    requires to { agents ≤ 64 }
+    ensures { IfOk result (λ made. made.items ≡ replicate nodes (record { voters = nodes; agents = agents; node = wake new_kept })) }
+{
+    let mut made = Vec::with_capacity(alloc, usize::from(nodes))?;
+    for _ in 0..nodes {
+        made.push(Node::new(alloc, nodes, agents)?)?;
+    }
+    Ok(made)
+}
+
+impl GroupState {
+    /// A group of so many nodes and agents, with empty journals, before any event.
+    pub fn new(
+        alloc: Global,
+        nodes: u8,
+        agents: u8,
+        sheet: Arc<Sheet>,
+        issuer: Arc<Issuer>,
+    ) -> Result<GroupState, AllocError>
+        requires nodes_from { 1 ≤ nodes }
+        requires nodes_to { nodes ≤ 99 }
+        requires agents_from { 1 ≤ agents }
+        requires agents_to { agents ≤ 64 }
+        ensures { IfOk result (λ state. state ≡ opening nodes agents (arc_value sheet) (arc_value issuer)) }
+    {
+        let journals = Store::new(alloc, agents)?;
+        let made = new_nodes(alloc, nodes, agents)?;
+        Ok(GroupState {
+            sheet,
+            issuer,
+            journals,
+            packets: Vec::new(alloc),
+            nodes: made,
+        })
+    }
+}
