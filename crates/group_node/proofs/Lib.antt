@@ -1,0 +1,3 @@
+pub mod Among
+mod KeptLemmas
+mod Sending

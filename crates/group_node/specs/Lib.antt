@@ -1,0 +1,4 @@
+pub mod Inner
+pub mod Packets
+pub mod Nodes
+pub mod Handling

@@ -1,0 +1,151 @@
+//! Nodes: how they begin, start and restart, and what they have.
+ghost use Rattle.std.specs.Prelude.{◌≡◌, ◌+◌, ◌<◌, ◌≤◌, length, slice_get, IfOk, None};
+ghost use Rattle.std.specs.Option.{option_copied, option_map};
+ghost use Rattle.std.specs.Arc.{arc_value};
+ghost use Rattle.metering_model.specs.Ballot.{ballot_of};
+ghost use Rattle.metering_model.specs.World.{current_period, new_kept, wake};
+ghost use Rattle.metering_model.specs.Step.{started_node};
+ghost use Rattle.group_node.specs.Nodes.{IsNodeAmong};
+
+use batch_store::Store;
+use node_kept::{Kept, Parts};
+use paxos_ballot::{Acceptor, Attempt, Ballot, Tally};
+use period_cut::Cut;
+use std::alloc::{AllocError, Global};
+use std::marker::Model;
+use std::sync::Arc;
+
+/// A node of a group: what it keeps over a restart, the attempt that it makes, and its tally of the current period.
+#[derive(Drop)]
+pub struct Node {
+    pub(crate) voters: u8,
+    pub(crate) kept: Parts,
+    pub(crate) attempt: Option<Attempt>,
+    pub(crate) tally: Tally,
+}
+
+impl Model for Node {
+    ghost use Rattle.std.specs.Prelude.{◌≡◌};
+    ghost use Rattle.group_node.specs.Nodes.{NodeAmong, IsNodeAmong};
+
+    ghost Value = { NodeAmong };
+
+    ghost view = { λ n. record {
+      voters = n.voters;
+      agents = n.kept.agents;
+      node = record { kept = n.kept.kept; attempt = n.attempt; tally = n.tally.accepting };
+    } };
+
+    ghost invariant = { λ n. (n.tally.nodes ≡ n.voters) × IsNodeAmong (record {
+      voters = n.voters;
+      agents = n.kept.agents;
+      node = record { kept = n.kept.kept; attempt = n.attempt; tally = n.tally.accepting };
+    }) };
+}
+
+impl Node {
+    /// A node of a group with so many voters and agents, which has begun nothing and holds nothing.
+    pub fn new(alloc: Global, voters: u8, agents: u8) -> Result<Node, AllocError>
+        requires voters { voters ≤ 99 }
+        requires from { 1 ≤ agents }
+        requires to { agents ≤ 64 }
+        ensures { IfOk result (λ node. node ≡ record { voters = voters; agents = agents; node = wake new_kept }) }
+    {
+        let store = Store::new(alloc, agents)?;
+        let kept = Parts {
+            round: 0,
+            learned: Vec::new(alloc),
+            acceptor: Acceptor::new(),
+            store,
+        };
+        Ok(Node::wake(alloc, voters, Kept::of(kept)))
+    }
+
+    /// The node that wakes with what was kept: it makes no attempt, and its tally is empty. It takes no memory.
+    pub fn wake(alloc: Global, voters: u8, kept: Kept) -> Node
+        requires { voters ≤ 99 }
+        ensures { result ≡ record { voters = voters; agents = kept.agents; node = wake kept.kept } }
+    {
+        Node {
+            voters,
+            kept: kept.into_parts(),
+            attempt: None,
+            tally: Tally::new(alloc, voters),
+        }
+    }
+
+    /// What the node keeps over a restart.
+    pub fn into_kept(self) -> Kept
+        ensures { result ≡ record { agents = self.agents; kept = self.node.kept } }
+    {
+        Kept::of(self.kept)
+    }
+
+    /// Forgets the attempt and the tally, as a node does that wakes. It takes no memory.
+    pub fn restart(&mut self, alloc: Global)
+        ensures { self.new ≡ record { voters = self.old.voters; agents = self.old.agents; node = wake self.old.node.kept } }
+    {
+        self.attempt = None;
+        self.tally = Tally::new(alloc, self.voters);
+    }
+
+    /// Begins the next round of node i, and answers its ballot. It takes no memory.
+    pub fn start(&mut self, i: u8) -> Ballot
+        requires votes { i < self.old.voters }
+        requires round { self.old.node.kept.round < 10_000 }
+        ensures ballot { result ≡ ballot_of (self.old.node.kept.round + 1) i self.old.voters }
+        ensures state { self.new ≡ record {
+          voters = self.old.voters;
+          agents = self.old.agents;
+          node = started_node self.old.voters result self.old.node;
+        } }
+    {
+        let kept = &mut self.kept;
+        kept.round += 1;
+        let ballot = Ballot::of(kept.round, i, self.voters);
+        self.attempt = Some(Attempt::new(ballot, self.voters));
+        ballot
+    }
+
+    /// How many nodes of its group vote. What the node has is within its limits.
+    pub fn voters(&self) -> u8
+        ensures value { result ≡ self.now.voters }
+        ensures within { IsNodeAmong self.now }
+    {
+        self.voters
+    }
+
+    /// How many ballots the node has begun, at most 10,000.
+    pub fn round(&self) -> u16
+        ensures value { result ≡ self.now.node.kept.round }
+        ensures within { result ≤ 10_000 }
+    {
+        let kept = &self.kept;
+        kept.round
+    }
+
+    /// The first period that the node has not learned: how many cuts it has learned, at most 1,200.
+    pub fn current_period(&self) -> u16
+        ensures value { result ≡ current_period self.now.node }
+        ensures within { result ≤ 1_200 }
+    {
+        let kept = &self.kept;
+        kept.learned.len() as u16
+    }
+
+    /// The cut that the node has learned for a period.
+    pub fn learned(&self, period: u16) -> Option<&Arc<Cut>>
+        ensures { option_map arc_value (option_copied result) ≡ slice_get self.now.node.kept.learned period }
+    {
+        let kept = &self.kept;
+        kept.learned.get(usize::from(period))
+    }
+
+    /// The batches that the node holds.
+    pub fn store(&self) -> &Store
+        ensures { result.now ≡ record { agents = self.now.agents; batches = self.now.node.kept.holding } }
+    {
+        let kept = &self.kept;
+        &kept.store
+    }
+}

@@ -1,0 +1,6 @@
+//! What a node keeps over a restart.
+#![tactic(auto)]
+
+mod kept;
+
+pub use kept::{Kept, Parts};
