@@ -10,7 +10,6 @@ ghost use Rattle.group_world.specs.Reached.{IsReached};
 ghost use Rattle.group_world.specs.Inner.Allowed.{HandsOver, MayDeliver};
 
 use crate::GroupState;
-use crate::state::MOST_PACKETS;
 use group_events::Reply;
 use group_node::{Node, Packet};
 use metering_model::Refusal;
@@ -62,13 +61,13 @@ impl GroupState {
             (MayDeliver self.now packet node)
             (λ refusal. on_delivery self.now packet node ≡ Err refusal) }
     {
-        let Some(packet) = self.packets.get(packet as usize) else {
+        let Some(what) = self.packet(packet) else {
             return Some(Refusal::NoPacket);
         };
-        let Some(node) = self.nodes.get(usize::from(node)) else {
+        let Some(taker) = self.node(node) else {
             return Some(Refusal::NoNode);
         };
-        if self.packets.len() >= MOST_PACKETS && node.sends(packet) {
+        if !self.has_room() && taker.sends(what) {
             return Some(Refusal::WorldFull);
         }
         None
@@ -84,13 +83,14 @@ impl GroupState {
             return Ok(Reply::Refused(refusal));
         }
         let base = self.sheet.base_month();
-        hand_over(
+        let reply = hand_over(
             alloc,
             &mut self.packets,
             &mut self.nodes[usize::from(node)],
             packet as usize,
             node,
             base,
-        )
+        )?;
+        Ok(reply)
     }
 }

@@ -82,17 +82,17 @@ impl GroupState {
         requires reached { IsReached self.now }
         ensures { IfOk result (λ answer. answer ≡ snapshot self.now node period) }
     {
-        let Some(node) = self.nodes.get(usize::from(node)) else {
+        let Some(asked) = self.node(node) else {
             return Ok(Err(Refusal::NoNode));
         };
-        let learned = node.current_period();
-        let (Some(period), Some(to)) = (Period::new(period), node.learned(period)) else {
+        let learned = asked.current_period();
+        let (Some(of), Some(to)) = (Period::new(period), asked.learned(period)) else {
             return Ok(Err(Refusal::NotClosed { learned }));
         };
-        if let Some((agent, seq)) = node.store().first_missing(to) {
+        if let Some((agent, seq)) = asked.store().first_missing(to) {
             return Ok(Err(Refusal::Missing { agent, seq }));
         }
-        let taken = self.take_snapshot(alloc, node, period, to)?;
+        let taken = self.take_snapshot(alloc, asked, of, to)?;
         Ok(Ok(taken))
     }
 

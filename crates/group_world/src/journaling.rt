@@ -14,7 +14,6 @@ ghost use Rattle.group_world.specs.Reached.{IsReached};
 ghost use Rattle.group_world.specs.Inner.Allowed.{MayJournal};
 
 use crate::GroupState;
-use crate::state::MOST_PACKETS;
 use batch_store::Store;
 use batch_view::{Offer, OwnedBatch};
 use group_events::Reply;
@@ -76,7 +75,7 @@ impl GroupState {
         if let Some(rule) = first_broken(&self.journals, &self.sheet, &view) {
             return Some(refusal_of(rule));
         }
-        if self.packets.len() >= MOST_PACKETS {
+        if !self.has_room() {
             return Some(Refusal::WorldFull);
         }
         None

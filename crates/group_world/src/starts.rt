@@ -72,12 +72,13 @@ impl GroupState {
             Ok(period) => period,
             Err(refusal) => return Ok(Reply::Refused(refusal)),
         };
-        begin(
+        let reply = begin(
             &mut self.packets,
             &mut self.nodes[usize::from(node)],
             node,
             period,
-        )
+        )?;
+        Ok(reply)
     }
 
     /// A node forgets its attempt and its tally, and keeps round, learned cuts, promise, vote and batches. No memory is

@@ -1,8 +1,11 @@
 //! The world as it stands.
 
-ghost use Rattle.std.specs.Prelude.{◌≡◌, ◌≤◌, IfOk, replicate};
+ghost use Rattle.std.specs.Prelude.{◌≡◌, ◌≤◌, IfOk, IfSome, length, nat_lt, replicate, slice_get};
+ghost use Rattle.std.specs.Option.{option_copied, option_map};
 ghost use Rattle.std.specs.Arc.{arc_value};
 ghost use Rattle.metering_model.specs.World.{new_kept, opening, wake};
+ghost use Rattle.group_node.specs.Packets.{packet_of};
+ghost use Rattle.group_world.specs.Inner.Members.{IsMember};
 
 use batch_store::Store;
 use group_node::{Node, Packet};
@@ -84,5 +87,27 @@ impl GroupState {
             packets: Vec::new(alloc),
             nodes: made,
         })
+    }
+
+    /// The packet of that number.
+    pub(crate) fn packet(&self, packet: u32) -> Option<&Packet>
+        ensures { option_map packet_of (option_copied result) ≡ slice_get self.now.packets packet }
+    {
+        self.packets.get(packet as usize)
+    }
+
+    /// The node of that number.
+    pub(crate) fn node(&self, node: u8) -> Option<&Node>
+        ensures node { option_map (λ n. n.node) (option_copied result) ≡ slice_get self.now.nodes node }
+        ensures member { IfSome result (λ n. IsMember (length self.now.nodes) self.now.agents n.now) }
+    {
+        self.nodes.get(usize::from(node))
+    }
+
+    /// Whether one packet more may be sent.
+    pub(crate) fn has_room(&self) -> bool
+        ensures { result ≡ nat_lt (length self.now.packets) 1_000_000 }
+    {
+        self.packets.len() < MOST_PACKETS
     }
 }
