@@ -11,7 +11,7 @@ use Rattle.group_laws.proofs.Limits.{keeps_limits}
 use Rattle.group_world.specs.Reached.{MayOpen, IsReached}
 
 -- the world that a group is opened with is reached, by no event
-pub opening_reached : (nodes agents : ℕ) (sheet : Sheet) (issuer : Issuer) → MayOpen nodes agents sheet issuer → IsReached (opening nodes agents sheet issuer)
+pub opening_reached : (nodes agents : ℕ) (sheet : Sheet) (issuer : Issuer) → MayOpen nodes agents sheet → IsReached (opening nodes agents sheet issuer)
 opening_reached nodes agents sheet issuer may = record { nodes = nodes; agents = agents; sheet = sheet; issuer = issuer; opened = may; events = []; leads = refl }
 
 -- a run from a reached world leads to a reached one
@@ -37,10 +37,10 @@ headline_here w h =
     (holds_after h.nodes h.agents h.sheet h.issuer h.events)
 
 -- what the world has is in the ranges in which a group may be opened
-pub still_open : (w : World) → IsReached w → MayOpen (node_count w) w.agents w.sheet w.issuer
+pub still_open : (w : World) → IsReached w → MayOpen (node_count w) w.agents w.sheet
 still_open w h =
     let all = headline_here w h in
-    rw (all.nodes_kept, all.agents_kept, all.sheet_kept, all.issuer_kept) h.opened
+    rw (all.nodes_kept, all.agents_kept, all.sheet_kept) h.opened
 
 -- the limits that every run keeps
 pub limits_here : (w : World) → IsReached w → KeepsLimits (node_count w) w.agents w

@@ -67,10 +67,14 @@ impl GroupState {
         let Some(taker) = self.node(node) else {
             return Some(Refusal::NoNode);
         };
-        if !self.has_room() && taker.sends(what) {
-            return Some(Refusal::WorldFull);
+        if self.has_room() {
+            return None;
         }
-        None
+        if taker.sends(what) {
+            Some(Refusal::WorldFull)
+        } else {
+            None
+        }
     }
 
     /// Hands a packet to a node, once more where it had it before, and sends what the node answers.

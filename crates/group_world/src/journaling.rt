@@ -1,9 +1,9 @@
 //! A batch is journaled.
 
-ghost use Rattle.std.specs.Prelude.{◌≡◌, ◌≤◌, ◌++◌, ◌∷◌, [], Some, Ok, Err, map, IfOk, OnErr, MatchOption};
+ghost use Rattle.std.specs.Prelude.{◌≡◌, ◌≤◌, ◌++◌, ◌∷◌, [], None, Some, Ok, Err, map, IfOk, OnErr, MatchOption};
 ghost use Rattle.std.specs.Arc.{arc_value};
-ghost use Rattle.metering_model.specs.Holding.{put};
-ghost use Rattle.metering_model.specs.JournalRules.{MeetsJournalRules};
+ghost use Rattle.metering_model.specs.Holding.{held, placed, put};
+ghost use Rattle.metering_model.specs.JournalRules.{MeetsJournalRules, first_broken, next_seq};
 ghost use Rattle.metering_model.specs.World.{CarriesBatch, Journal};
 ghost use Rattle.metering_model.specs.Step.{on_batch, step, unless_broken};
 ghost use Rattle.batch_view.specs.Batches.{batch_of};
@@ -15,7 +15,7 @@ ghost use Rattle.group_world.specs.Inner.Allowed.{MayJournal};
 
 use crate::GroupState;
 use batch_store::Store;
-use batch_view::{Offer, OwnedBatch};
+use batch_view::{BatchView, Offer, OwnedBatch};
 use group_events::Reply;
 use group_node::Packet;
 use journal_rules::first_broken;
@@ -56,6 +56,26 @@ fn refusal_of(rule: BrokenRule) -> Refusal
 }
 
 impl GroupState {
+    /// The sequence of an agent's next batch: the first that is absent, since journals have no gap.
+    fn next_seq(&self, agent: u8) -> u32
+        requires rules { MeetsJournalRules self.now.sheet self.now.journals }
+        requires from { 1 ≤ agent }
+        requires to { agent ≤ self.now.agents }
+        ensures next { result ≡ next_seq self.now.journals agent }
+        ensures absent { held self.now.journals agent result ≡ None }
+    {
+        self.journals.first_absent(agent)
+    }
+
+    /// The rule of the journals that a batch breaks, which they have not.
+    fn broken_rule(&self, batch: &BatchView<'_>) -> Option<BrokenRule>
+        requires agent { (batch_of batch.now).agent ≤ self.now.agents }
+        requires new { held self.now.journals (batch_of batch.now).agent (batch_of batch.now).seq ≡ None }
+        ensures { result ≡ first_broken self.now.sheet (put self.now.journals (batch_of batch.now)) (placed (batch_of batch.now)) }
+    {
+        first_broken(&self.journals, &self.sheet, batch)
+    }
+
     /// Why a batch is not journaled; None where it is its agent's next, breaks no rule, and there is room for its packet.
     fn journal_refusal(&self, batch: &OwnedBatch) -> Option<Refusal>
         requires { MeetsJournalRules self.now.sheet self.now.journals }
@@ -65,20 +85,21 @@ impl GroupState {
     {
         let view = batch.view();
         let agent = view.agent();
-        if agent > self.journals.agents() {
+        if agent > self.agents() {
             return Some(Refusal::NoAgent);
         }
-        let wanted = self.journals.first_absent(agent);
+        let wanted = self.next_seq(agent);
         if view.seq() != wanted {
             return Some(Refusal::WrongSeq { wanted });
         }
-        if let Some(rule) = first_broken(&self.journals, &self.sheet, &view) {
+        if let Some(rule) = self.broken_rule(&view) {
             return Some(refusal_of(rule));
         }
-        if !self.has_room() {
-            return Some(Refusal::WorldFull);
+        if self.has_room() {
+            None
+        } else {
+            Some(Refusal::WorldFull)
         }
-        None
     }
 
     /// Journals a batch that may be journaled.
@@ -98,12 +119,16 @@ impl GroupState {
         ensures ok { IfOk result (λ reply. (reply_of reply, self.new) ≡ step self.old (Journal (offer_of offer.now))) }
         ensures err { OnErr result (self.new ≡ self.old) }
     {
-        match offer {
-            Offer::Good(batch) => match self.journal_refusal(batch) {
-                Some(refusal) => Ok(Reply::Refused(refusal)),
-                None => self.take(batch),
-            },
-            Offer::Bad(fault) => Ok(Reply::Refused(Refusal::BadBatch(*fault))),
+        let batch = match offer {
+            Offer::Good(batch) => batch,
+            Offer::Bad(fault) => return Ok(Reply::Refused(Refusal::BadBatch(*fault))),
+        };
+        // Its clause says that the bytes are a batch.
+        let _ = batch.bytes();
+        if let Some(refusal) = self.journal_refusal(batch) {
+            return Ok(Reply::Refused(refusal));
         }
+        let reply = self.take(batch)?;
+        Ok(reply)
     }
 }

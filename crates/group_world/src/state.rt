@@ -110,4 +110,12 @@ impl GroupState {
     {
         self.packets.len() < MOST_PACKETS
     }
+
+    /// The number of agents.
+    pub(crate) fn agents(&self) -> u8
+        ensures value { result ≡ self.now.agents }
+        ensures range { (1 ≤ result) × (result ≤ 64) }
+    {
+        self.journals.agents()
+    }
 }

@@ -2,7 +2,9 @@ use Rattle.group_world.proofs.state.GroupState.restart.Goals as goal
 
 pub returns : goal.returns
 returns c =
-    let s = c.self in
-    let i = c.index_mut in
-    let r = c.restart in
+    let v = c.self.view_is in
+    let i = c.index_mut-node.ensures in
+    let l = c.len.ensures in
+    let j = c.from-2.ensures in
+    let r = c.restart.ensures in
     ?
