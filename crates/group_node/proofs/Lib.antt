@@ -1,3 +1,4 @@
 pub mod Among
 mod KeptLemmas
+mod LastCut
 mod Sending

@@ -4,7 +4,7 @@ use Rattle.std.specs.Prelude.{◌==◌}
 use Rattle.metering_model.specs.Ballot.{Vote, Attempt, Tally, has_majority, with_node}
 use Rattle.metering_model.specs.World.{Promise, Kept, World, voter_count}
 use Rattle.metering_model.specs.Deliveries.{Handled, on_promise}
-use Rattle.group_node.specs.Inner.Answering.{completes, proposes_at}
+use Rattle.group_node.specs.Inner.Answering.{proposes_at}
 use Rattle.group_node.specs.Handling.{Answers}
 use Rattle.group_node.specs.Nodes.{NodeAmong}
 

@@ -1,16 +1,51 @@
 //! What a node does with a packet.
-ghost use Rattle.std.specs.Prelude.{◌≡◌, IfOk, OnErr};
+ghost use Rattle.std.specs.Prelude.{◌≡◌, ℕ, ◌≤◌, IfOk, OnOk, OnErr, None};
 ghost use Rattle.std.specs.Option.{option_map};
+ghost use Rattle.std.specs.Arc.{arc_value};
+ghost use Rattle.metering_model.specs.World.{CarriesBatch};
+ghost use Rattle.batch_view.specs.Batches.{batch_of};
 ghost use Rattle.metering_model.specs.Dates.{IsBaseMonth};
 ghost use Rattle.group_node.specs.Packets.{packet_of, IsPacketAmong};
 ghost use Rattle.group_node.specs.Handling.{Does, Answers};
 
 use crate::nodes::Node;
 use crate::packets::{Handled, Packet};
-use period_cut::Month;
+use batch_view::OwnedBatch;
+use period_cut::{Month, Period};
 use std::alloc::{AllocError, Global};
+use std::sync::Arc;
+
+fn sending(sends: Option<Packet>) -> Handled
+    ensures { result ≡ record { sends = sends; learns = None } }
+{
+    Handled {
+        sends,
+        learns: None,
+    }
+}
+
+fn learning(learns: Option<Period>) -> Handled
+    ensures { result ≡ record { sends = None; learns = learns } }
+{
+    Handled {
+        sends: None,
+        learns,
+    }
+}
 
 impl Node {
+    /// Takes a batch that was journaled; one that is there already stays.
+    fn on_batch(&mut self, batch: &Arc<OwnedBatch>) -> Result<(), AllocError>
+        requires { (batch_of (arc_value batch.now)).agent ≤ self.old.agents }
+        ensures does { OnOk result ((base i : ℕ) → Does base i (CarriesBatch (batch_of (arc_value batch.now))) self.old self.new None None) }
+        ensures unchanged { OnErr result (self.new ≡ self.old) }
+    {
+        let batch = Arc::try_clone(batch)?;
+        let kept = &mut self.kept;
+        kept.store.put(batch)?;
+        Ok(())
+    }
+
     /// Whether the node would send something, if the packet came now. No memory is taken.
     pub fn sends(&self, packet: &Packet) -> bool
         requires { IsPacketAmong self.now.voters self.now.agents (packet_of packet.now) }
@@ -49,6 +84,34 @@ impl Node {
         ensures does { IfOk result (λ handled. Does base i (packet_of packet.now) self.old self.new (option_map packet_of handled.sends) handled.learns) }
         ensures unchanged { OnErr result (self.new ≡ self.old) }
     {
-        Err(AllocError)
+        match packet {
+            Packet::Batch(batch) => {
+                self.on_batch(batch)?;
+                Ok(sending(None))
+            }
+            Packet::Prepare { period, ballot } => {
+                Ok(sending(self.on_prepare(i, *period, *ballot)?))
+            }
+            Packet::Promise {
+                from,
+                period,
+                ballot,
+                vote,
+            } => Ok(sending(self.on_promise(alloc, base, *from, *period, *ballot, vote)?)),
+            Packet::Accept {
+                period,
+                ballot,
+                cut,
+            } => Ok(sending(self.on_accept(i, *period, *ballot, cut)?)),
+            Packet::Accepted {
+                from,
+                period,
+                ballot,
+                cut,
+            } => Ok(learning(self.on_accepted(alloc, *from, *period, *ballot, cut)?)),
+            Packet::Decided { period, cut } => {
+                Ok(learning(self.on_decided(alloc, *period, cut)?))
+            }
+        }
     }
 }

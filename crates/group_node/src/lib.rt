@@ -3,8 +3,11 @@
 
 mod answering;
 mod handling;
+mod learning;
 mod nodes;
 mod packets;
+mod proposing;
+mod voting;
 
 pub use nodes::Node;
 pub use packets::{Handled, Packet};

@@ -2,7 +2,6 @@
 use Rattle.std.specs.Prelude.{◌≡◌, ℕ, ◌≤◌, length, All, Some}
 use Rattle.metering_model.specs.Ballot.{Vote}
 use Rattle.metering_model.specs.World.{Kept}
-use Rattle.batch_store.specs.Stores.{IsStored}
 
 -- what a node keeps, and the number of agents of its store
 pub record KeptAmong : Type 0 where
@@ -20,4 +19,3 @@ pub record IsKept (k : KeptAmong) : Type 0 where
   pub cuts : All (λ cut. length cut ≡ k.agents) k.kept.learned
   pub promised : (ballot : ℕ) → k.kept.acceptor.promised ≡ Some ballot → IsBallotNumber ballot
   pub vote : (v : Vote) → k.kept.acceptor.vote ≡ Some v → IsBallotNumber v.ballot × (length v.cut ≡ k.agents)
-  pub stored : IsStored (record { agents = k.agents; batches = k.kept.holding })

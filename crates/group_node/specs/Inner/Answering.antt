@@ -1,5 +1,5 @@
 -- Which packets a node answers.
-use Rattle.std.specs.Prelude.{ℕ, Bool, false, ◌==◌, ◌&&◌, ◌||◌, Option, Some, None, slice_get}
+use Rattle.std.specs.Prelude.{ℕ, Bool, false, ◌==◌, ◌&&◌, Option, Some, None, slice_get}
 use Rattle.std.specs.Option.{is_some}
 use Rattle.metering_model.specs.Ballot.{Attempt, is_above, is_not_below}
 use Rattle.metering_model.specs.World.{Node, current_period}

@@ -1,0 +1,15 @@
+use Rattle.std.proofs.Common.{sym, subst}
+use Rattle.node_kept.specs.Kept.{IsKept}
+use Rattle.group_node.proofs.KeptLemmas.{holding_kept}
+use Rattle.group_node.proofs.nodes.Node.on_batch.Goals as goal
+
+pub invariant_of-self-2 : goal.invariant_of-self-2
+invariant_of-self-2 c =
+    let kept = subst IsKept (sym c.kept.view_is) c.self.invariant.1.kept in (
+      c.self.invariant.0,
+      record {
+        few = c.self.invariant.1.few;
+        kept = holding_kept _ _ c.put.new.self kept c.in_ok-put.ensures.batches;
+        attempt = c.self.invariant.1.attempt;
+      },
+    )
