@@ -10,3 +10,4 @@ pub mod Members
 pub mod NamedPlaces
 pub mod NamedBetween
 pub mod RisingPlaces
+mod SameBatches

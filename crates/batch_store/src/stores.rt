@@ -8,7 +8,7 @@ ghost use Rattle.batch_view.specs.Batches.{batch_of};
 ghost use Rattle.batch_store.specs.Stores.{IsStored};
 
 use crate::shelf::Shelf;
-use crate::walk::Batches;
+use crate::walk::{Batches, are_same};
 use batch_view::OwnedBatch;
 use period_cut::Cut;
 use std::alloc::{AllocError, Global};
@@ -82,6 +82,13 @@ impl Store {
         ensures { result ≡ self.now.batches }
     {
         Batches::of(self.shelves.as_slice())
+    }
+
+    /// Whether both have as many agents and the same batches. No memory is taken.
+    pub fn same(&self, other: &Store) -> bool
+        ensures { IsTrue result ↔ (self.now ≡ other.now) }
+    {
+        self.agents() == other.agents() && are_same(self.batches(), other.batches())
     }
 
     /// The least sequence that an agent has no batch of, from 1 to 1,000,001. No memory is taken.

@@ -1,6 +1,7 @@
 //! The batches of a store, one after another.
 
-ghost use Rattle.std.specs.Prelude.{◌≡◌};
+ghost use Rattle.std.specs.Prelude.{◌≡◌, ◌↔◌, IsTrue};
+ghost use Rattle.batch_view.specs.Batches.{batch_of};
 ghost use Rattle.batch_store.specs.Inner.Shelves.{on_shelves};
 
 use crate::shelf::Shelf;
@@ -29,6 +30,30 @@ impl<'a> Batches<'a> {
         ensures { result ≡ on_shelves shelves.now }
     {
         Batches { shelves, seq: 0 }
+    }
+}
+
+/// Whether both batches are the same. Their bytes decide, since a batch has one text.
+fn is_same(one: &OwnedBatch, two: &OwnedBatch) -> bool
+    ensures { IsTrue result ↔ (batch_of one.now ≡ batch_of two.now) }
+{
+    one.bytes() == two.bytes()
+}
+
+/// Whether both walks give the same batches from here on.
+pub(crate) fn are_same<'a>(mut one: Batches<'a>, mut two: Batches<'a>) -> bool
+    ensures { IsTrue result ↔ (one.entry ≡ two.entry) }
+{
+    loop {
+        match (one.next(), two.next()) {
+            (Some(batch), Some(other)) => {
+                if !is_same(batch, other) {
+                    return false;
+                }
+            }
+            (None, None) => return true,
+            _ => return false,
+        }
     }
 }
 

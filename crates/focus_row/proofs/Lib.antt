@@ -1,9 +1,6 @@
 pub mod OneBatchLaws
 pub mod JournalLaws
 pub mod RowLemmas
-pub mod LeftLaws
 pub mod PlaceOrder
-pub mod BrokenLaws
 pub mod BetweenLaws
 pub mod StopLaws
-pub mod RuleLaws

@@ -22,7 +22,7 @@ use Rattle.focus_row.specs.Inner.Left.{is_from, left, placed_from, record_at, Be
 use Rattle.focus_row.specs.Inner.Places.{IsNextNamed, NoneNamed}
 use Rattle.charge_row.specs.declared.columns.FocusRow.{FocusRow}
 use Rattle.charge_row.specs.FocusRows.{model_row}
-use Rattle.focus_row.proofs.LeftLaws.{IsInCut, in_cut, left_all, left_first, left_next, left_none}
+use Rattle.journal_rules.proofs.LeftLaws.{IsInCut, in_cut, left_all, left_first, left_next, left_none}
 use Rattle.focus_row.proofs.BetweenLaws.{same_at_both}
 
 -- ---- a reading, and its record

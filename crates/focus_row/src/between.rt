@@ -16,12 +16,12 @@ ghost use Rattle.batch_store.specs.Stores.{position_of};
 ghost use Rattle.charge_row.specs.FocusRows.{model_row};
 ghost use Rattle.focus_row.specs.Inner.Left.{MayBeCharged, record_at, rows_left};
 
-use crate::held::batch_at;
 use crate::places::{is_named, next_named};
 use batch_store::{Place, Store};
 use batch_view::{Reading, Record};
 use charge_row::{Billing, FocusRow, row};
 use fx_money::Value;
+use journal_rules::batch_at;
 use metering_model::ChargeClass;
 use period_cut::{Cut, Period};
 use price_sheet::{Issuer, Sheet};
@@ -271,6 +271,24 @@ impl<'a> RowsBetween<'a> {
             }
         }
         Ok(None)
+    }
+
+    /// All rows that are still to come.
+    pub fn rest(&mut self, alloc: Global) -> Result<Vec<FocusRow<'a>>, AllocError>
+        ensures { IfOk result (λ all. map model_row all.items ≡ self.old) }
+    {
+        let mut all = Vec::new(alloc);
+        loop {
+            let Ok(next) = self.next_batch(alloc) else {
+                return Err(AllocError);
+            };
+            let Some(mut rows) = next else {
+                return Ok(all);
+            };
+            if all.append(&mut rows).is_err() {
+                return Err(AllocError);
+            }
+        }
     }
 }
 

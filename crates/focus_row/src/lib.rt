@@ -2,11 +2,9 @@
 #![tactic(auto)]
 
 mod between;
-mod held;
 pub mod laws;
 mod places;
 mod rows;
-mod rules;
 mod whole;
 
 pub use between::{RowsBetween, rows_between};

@@ -9,14 +9,14 @@ ghost use Rattle.metering_model.specs.JournalRules.{MeetsJournalRules, first_bro
 ghost use Rattle.metering_model.specs.Rows.{rows};
 ghost use Rattle.charge_row.specs.FocusRows.{model_row};
 
-use crate::between::{RowsBetween, rows_between};
-use crate::rules::first_broken;
+use crate::between::rows_between;
 use batch_store::Store;
 use charge_row::FocusRow;
+use journal_rules::first_broken_up_to;
 use metering_model::BrokenRule;
 use period_cut::{Cut, Period};
 use price_sheet::{Issuer, Sheet};
-use std::alloc::{AllocError, Global};
+use std::alloc::Global;
 use thiserror::Error;
 
 /// Why no rows are given.
@@ -31,24 +31,6 @@ pub enum RowFault {
     /// Q4: no room could be made for the rows.
     #[error("out of memory")]
     OutOfMemory,
-}
-
-/// All rows that are still to come.
-fn all_of<'a>(alloc: Global, left: &mut RowsBetween<'a>) -> Result<Vec<FocusRow<'a>>, AllocError>
-    ensures { IfOk result (λ all. map model_row all.items ≡ left.old) }
-{
-    let mut all = Vec::new(alloc);
-    loop {
-        let Ok(next) = left.next_batch(alloc) else {
-            return Err(AllocError);
-        };
-        let Some(mut rows) = next else {
-            return Ok(all);
-        };
-        if all.append(&mut rows).is_err() {
-            return Err(AllocError);
-        }
-    }
 }
 
 /// The rows of a billing period between two cuts of what a store has, in journal order.
@@ -83,13 +65,13 @@ pub fn rows_of<'a>(
     if let Some((agent, seq)) = store.first_missing(to) {
         return Err(RowFault::Missing { agent, seq });
     }
-    if let Some(rule) = first_broken(store, sheet, to) {
+    if let Some(rule) = first_broken_up_to(store, sheet, to) {
         return Err(RowFault::Broken(rule));
     }
     let Ok(mut left) = rows_between(alloc, store, sheet, issuer, period, from, to) else {
         return Err(RowFault::OutOfMemory);
     };
-    match all_of(alloc, &mut left) {
+    match left.rest(alloc) {
         Ok(all) => Ok(all),
         Err(_) => Err(RowFault::OutOfMemory),
     }

@@ -1,29 +1,17 @@
--- The batches up to a cut from an agent's sequence on, and the rows of these.
-use Rattle.std.specs.Prelude.{◌≡◌, ℕ, ◌||◌, ◌&&◌, ◌==◌, Bool, nat_lt, nat_le, List, map, filter, length, Option, None, slice_get}
-use Rattle.std.specs.List.{filter_map, enumerate_from}
+-- The rows of the batches up to a cut from an agent's sequence on.
+use Rattle.std.specs.Prelude.{◌≡◌, ℕ, List, map, length, Option, None, slice_get}
+use Rattle.std.specs.List.{filter_map}
 use Rattle.std.specs.Option.{option_and_then}
-use Rattle.metering_model.specs.Batch.{Batch, Record}
+use Rattle.metering_model.specs.Batch.{Record}
 use Rattle.metering_model.specs.Sheet.{Sheet, Issuer}
 use Rattle.metering_model.specs.Cut.{Cut, IsAtLeast}
 use Rattle.metering_model.specs.Holding.{Holding, Position, Placed, held, up_to, records_in_order}
 use Rattle.metering_model.specs.Step.{first_missing}
-use Rattle.metering_model.specs.declared.BrokenRule.{BrokenRule}
-use Rattle.metering_model.specs.JournalRules.{MeetsJournalRules, first_broken}
+use Rattle.metering_model.specs.JournalRules.{MeetsJournalRules}
 use Rattle.metering_model.specs.Row.{Row}
 use Rattle.metering_model.specs.Rows.{placed_row}
 use Rattle.batch_store.specs.Stores.{IsStored}
-
--- whether the batch is the agent's at the sequence, or comes behind that
-abbrev pub is_from : ℕ → ℕ → Batch → Bool
-is_from agent seq b = nat_lt agent b.agent || ((b.agent == agent) && nat_le seq b.seq)
-
-abbrev pub left : ℕ → ℕ → Holding → Holding
-left agent seq h = filter (is_from agent seq) h
-
--- the records of an agent's batch from an index on, placed
-abbrev pub placed_from : ℕ → ℕ → ℕ → List Record → List Placed
-placed_from agent seq index rs =
-    map (λ e. record { place = record { agent = agent; seq = seq; index = e.0 }; what = e.1 }) (enumerate_from index rs)
+pub use Rattle.journal_rules.specs.Inner.Left.{is_from, left, placed_from}
 
 abbrev pub record_at : Holding → Position → Option Record
 record_at h p = option_and_then (λ b. slice_get b.records p.index) (held h p.agent p.seq)
@@ -53,7 +41,3 @@ rows_in b xs = map (λ x. x.row) (filter_map (placed_row b.sheet b.issuer b.batc
 -- the rows of the batches from an agent's sequence on
 unfoldable pub rows_left : Between → ℕ → ℕ → List Row
 rows_left b agent seq = rows_in b (records_in_order (left agent seq (up_to b.to b.batches)))
-
--- the first rule that the batches up to a cut break from an agent's sequence on
-unfoldable pub broken_left : Sheet → Holding → Cut → ℕ → ℕ → Option BrokenRule
-broken_left sheet h cut agent seq = first_broken sheet h (records_in_order (left agent seq (up_to cut h)))

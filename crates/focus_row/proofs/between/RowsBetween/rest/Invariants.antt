@@ -1,0 +1,10 @@
+use Rattle.std.proofs.Common.{◌≡◌, ◌++◌, map, length}
+use Rattle.charge_row.specs.FocusRows.{model_row}
+use Rattle.focus_row.proofs.between.RowsBetween.rest.Given as goal
+
+-- The rows so far and those still to come are all.
+abbrev pub invariant-loop-next : goal.invariant-loop-next
+invariant-loop-next l = map model_row l.all.items ++ l.self ≡ l.fn.self
+
+abbrev pub decreases-loop-next : goal.decreases-loop-next
+decreases-loop-next l = length l.self

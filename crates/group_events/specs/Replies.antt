@@ -1,0 +1,18 @@
+-- What a reply stands for.
+use Rattle.std.specs.Prelude.{Bool, true, false}
+use Rattle.metering_model.specs.World as model
+use Rattle.group_events.specs.declared.replies.Reply.{Reply}
+use Rattle.group_events.specs.declared.replies.Reply.TheVariants.{Journaled, Delivered, Started, Restarted, Exported, Refused}
+
+abbrev pub reply_of : Reply → model.Reply
+reply_of (Journaled packet) = model.Journaled packet
+reply_of (Delivered sent learned) = model.Delivered sent learned
+reply_of (Started ballot packet) = model.Started ballot packet
+reply_of Restarted = model.Restarted
+reply_of (Exported snapshot) = model.Exported snapshot
+reply_of (Refused refusal) = model.Refused refusal
+
+-- whether the reply has a snapshot
+abbrev pub is_exported : model.Reply → Bool
+is_exported (model.Exported s) = true
+is_exported _ = false

@@ -1,0 +1,97 @@
+//! Events: what may happen to a group.
+
+ghost use Rattle.std.specs.Prelude.{◌≡◌, ◌↔◌, IfOk, IsTrue};
+ghost use Rattle.group_events.specs.Events.{event_of, offer_of};
+
+use batch_view::Offer;
+use std::alloc::AllocError;
+use std::sync::Arc;
+
+/// One thing that happens to a group. Any numbers may be named: those that the group lacks are refused.
+#[derive(Drop)]
+pub enum Event {
+    /// A batch, or what was offered as one, is to be journaled.
+    Journal(Offer),
+    /// The packet of this number reaches a node.
+    Deliver { packet: u32, node: u8 },
+    /// A node begins a ballot of its own.
+    Start { node: u8 },
+    /// A node forgets what it does not keep.
+    Restart { node: u8 },
+    /// A node is asked for the file of a period.
+    Export { node: u8, period: u16 },
+}
+
+/// What is offered once more: the same batch, shared, or the same fault.
+fn copy_of_offer(offer: &Offer) -> Result<Offer, AllocError>
+    ensures { IfOk result (λ copy. offer_of copy ≡ offer_of offer.now) }
+{
+    match offer {
+        Offer::Good(batch) => match Arc::try_clone(batch) {
+            Ok(batch) => Ok(Offer::Good(batch)),
+            Err(_) => Err(AllocError),
+        },
+        Offer::Bad(fault) => Ok(Offer::Bad(*fault)),
+    }
+}
+
+/// Whether both offer the same bytes, or have the same fault.
+fn is_same_offer(one: &Offer, two: &Offer) -> bool
+    ensures { IsTrue result ↔ (offer_of one.now ≡ offer_of two.now) }
+{
+    match (one, two) {
+        (Offer::Good(one), Offer::Good(two)) => one.bytes() == two.bytes(),
+        (Offer::Bad(one), Offer::Bad(two)) => *one == *two,
+        _ => false,
+    }
+}
+
+impl Event {
+    /// An equal event, which shares the batch. An error comes only where the batch cannot be shared once more.
+    pub fn copy(&self) -> Result<Event, AllocError>
+        ensures { IfOk result (λ copy. event_of copy ≡ event_of self.now) }
+    {
+        match self {
+            Event::Journal(offer) => match copy_of_offer(offer) {
+                Ok(offer) => Ok(Event::Journal(offer)),
+                Err(_) => Err(AllocError),
+            },
+            Event::Deliver { packet, node } => Ok(Event::Deliver {
+                packet: *packet,
+                node: *node,
+            }),
+            Event::Start { node } => Ok(Event::Start { node: *node }),
+            Event::Restart { node } => Ok(Event::Restart { node: *node }),
+            Event::Export { node, period } => Ok(Event::Export {
+                node: *node,
+                period: *period,
+            }),
+        }
+    }
+
+    /// Whether both are the same event: the same numbers, the same bytes, or the same fault. No memory is taken.
+    pub fn same(&self, other: &Event) -> bool
+        ensures { IsTrue result ↔ (event_of self.now ≡ event_of other.now) }
+    {
+        match (self, other) {
+            (Event::Journal(one), Event::Journal(two)) => is_same_offer(one, two),
+            (
+                Event::Deliver { packet, node },
+                Event::Deliver {
+                    packet: packet_two,
+                    node: node_two,
+                },
+            ) => *packet == *packet_two && *node == *node_two,
+            (Event::Start { node }, Event::Start { node: node_two }) => *node == *node_two,
+            (Event::Restart { node }, Event::Restart { node: node_two }) => *node == *node_two,
+            (
+                Event::Export { node, period },
+                Event::Export {
+                    node: node_two,
+                    period: period_two,
+                },
+            ) => *node == *node_two && *period == *period_two,
+            _ => false,
+        }
+    }
+}

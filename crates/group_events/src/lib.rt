@@ -1,0 +1,11 @@
+//! What happens to a group of nodes, what it answers, and what its exports are made of.
+#![tactic(auto)]
+
+mod events;
+mod pieces;
+mod replies;
+mod snapshots;
+
+pub use events::Event;
+pub use replies::Reply;
+pub use snapshots::Snapshot;

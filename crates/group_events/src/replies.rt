@@ -1,0 +1,85 @@
+//! Replies: what a group answers to events.
+
+ghost use Rattle.std.specs.Prelude.{◌≡◌, ◌↔◌, true, IfOk, IfErr, IsTrue};
+ghost use Rattle.group_events.specs.Replies.{is_exported, reply_of};
+
+use crate::Snapshot;
+use metering_model::Refusal;
+use paxos_ballot::Ballot;
+use period_cut::Period;
+use std::alloc::{AllocError, Global};
+
+/// What a group answers to an event.
+#[derive(Drop)]
+pub enum Reply {
+    /// The batch stands in the journals, and the packet of this number carries it.
+    Journaled { packet: u32 },
+    /// The node took the packet, sent the packet of that number, and learned the cut of that period, if it did so.
+    Delivered {
+        sent: Option<u32>,
+        learned: Option<Period>,
+    },
+    /// The node began this ballot, and sent the packet of this number.
+    Started { ballot: Ballot, packet: u32 },
+    /// The node keeps what it kept, and has no ballot of its own any more.
+    Restarted,
+    /// What the file of the period is made of.
+    Exported(Snapshot),
+    /// Nothing was done, for this reason.
+    Refused(Refusal),
+}
+
+impl Reply {
+    /// An equal reply. Memory is taken for a snapshot alone, which shares its batches.
+    pub fn copy(&self, alloc: Global) -> Result<Reply, AllocError>
+        ensures copy { IfOk result (λ copy. reply_of copy ≡ reply_of self.now) }
+        ensures want { IfErr result (λ _. is_exported (reply_of self.now) ≡ true) }
+    {
+        match self {
+            Reply::Journaled { packet } => Ok(Reply::Journaled { packet: *packet }),
+            Reply::Delivered { sent, learned } => Ok(Reply::Delivered {
+                sent: *sent,
+                learned: *learned,
+            }),
+            Reply::Started { ballot, packet } => Ok(Reply::Started {
+                ballot: *ballot,
+                packet: *packet,
+            }),
+            Reply::Restarted => Ok(Reply::Restarted),
+            Reply::Exported(snapshot) => match snapshot.copy(alloc) {
+                Ok(copy) => Ok(Reply::Exported(copy)),
+                Err(_) => Err(AllocError),
+            },
+            Reply::Refused(refusal) => Ok(Reply::Refused(*refusal)),
+        }
+    }
+
+    /// Whether both are the same reply; snapshots are the same where all of their parts are equal. No memory is taken.
+    pub fn same(&self, other: &Reply) -> bool
+        ensures { IsTrue result ↔ (reply_of self.now ≡ reply_of other.now) }
+    {
+        match (self, other) {
+            (Reply::Journaled { packet }, Reply::Journaled { packet: packet_two }) => {
+                *packet == *packet_two
+            }
+            (
+                Reply::Delivered { sent, learned },
+                Reply::Delivered {
+                    sent: sent_two,
+                    learned: learned_two,
+                },
+            ) => *sent == *sent_two && *learned == *learned_two,
+            (
+                Reply::Started { ballot, packet },
+                Reply::Started {
+                    ballot: ballot_two,
+                    packet: packet_two,
+                },
+            ) => *ballot == *ballot_two && *packet == *packet_two,
+            (Reply::Restarted, Reply::Restarted) => true,
+            (Reply::Exported(one), Reply::Exported(two)) => one.same(two),
+            (Reply::Refused(one), Reply::Refused(two)) => *one == *two,
+            _ => false,
+        }
+    }
+}

@@ -1,0 +1,4 @@
+pub mod OneMore
+pub mod LeftLaws
+pub mod BrokenLaws
+pub mod RuleLaws

@@ -1,0 +1,7 @@
+use Rattle.batch_view.specs.Batches.{batch_of}
+use Rattle.journal_rules.proofs.OneMore.{put_there}
+use Rattle.journal_rules.proofs.rules.first_broken.Goals as goal
+
+pub invariant_of-first_broken : goal.invariant_of-first_broken
+invariant_of-first_broken c =
+    (c.requires.agent, put_there c.args.store.now.batches (batch_of c.args.batch.now) c.agents-agents.ensures.stored.is_holding c.requires.new)

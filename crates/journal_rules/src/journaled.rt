@@ -1,0 +1,186 @@
+//! The rules of the journals, over what a store has with one batch more.
+
+ghost use Rattle.std.specs.Prelude.{◌≡◌, ◌≤◌, true, false};
+ghost use Rattle.std.specs.List.{slice_get};
+ghost use Rattle.std.specs.Option.{option_and_then, option_copied};
+ghost use Rattle.metering_model.specs.Holding.{is_batch_at, placed, reading_at, reading_of};
+ghost use Rattle.metering_model.specs.JournalRules.{is_fit_commitment, is_fit_reading, is_fit_target, comes_earlier, broken_by, first_broken};
+ghost use Rattle.batch_view.specs.Batches.{batch_of};
+ghost use Rattle.batch_view.specs.Lent.{model_reading, record_of};
+ghost use Rattle.batch_store.specs.Stores.{position_of};
+
+use batch_store::{Place, Store};
+use batch_view::{BatchView, Kind, Reading, Record};
+use charge_row::{commitment_of, is_priced, price_of};
+use fx_money::Value;
+use metering_model::BrokenRule;
+use price_sheet::{Commitment, Sheet};
+use sheet_text::is_same;
+use std::marker::Model;
+
+/// Whether the reading names no commitment, or one that fits it: usage its SKU, a purchase the SKU that buys it.
+fn is_fit_commitment(reading: &Reading<'_>, commitment: Option<&Commitment>) -> bool
+    ensures { result ≡ is_fit_commitment (model_reading reading.now) (option_copied commitment.entry) }
+{
+    let Some(commitment) = commitment else {
+        return reading.commitment.text.is_empty();
+    };
+    match reading.kind {
+        Kind::Usage => is_same(reading.key.text, commitment.sku().as_bytes()),
+        Kind::Purchase => is_same(reading.key.text, commitment.buy().as_bytes()),
+        Kind::Credit | Kind::Tax | Kind::Adjustment => is_same(reading.key.text, b""),
+    }
+}
+
+/// Whether a reading of a priced kind has a price in force, and a fit commitment.
+fn is_fit_reading(sheet: &Sheet, reading: &Reading<'_>) -> bool
+    ensures { result ≡ is_fit_reading sheet.now (model_reading reading.now) }
+{
+    !is_priced(reading.kind)
+        || (price_of(sheet, reading).is_some()
+            && is_fit_commitment(reading, commitment_of(sheet, reading)))
+}
+
+/// Whether the record takes the value as an amendment: it is a reading, and no priced one has a negative value.
+fn takes_value(record: &Record<'_>, value: Value) -> bool
+    ensures { result ≡ is_fit_target value (reading_of (record_of «record».now)) }
+{
+    match record {
+        Record::Reading(reading) => !is_priced(reading.kind) || value.millionths() >= 0,
+        Record::Amend { .. } => false,
+    }
+}
+
+/// Whether the batch has a reading at the index that takes the value.
+fn has_fit_target(batch: &BatchView<'_>, index: u16, value: Value) -> bool
+    ensures { result ≡ is_fit_target value (option_and_then reading_of (slice_get (batch_of batch.now).records index)) }
+{
+    match batch.record_at(index) {
+        Some(record) => takes_value(&record, value),
+        None => false,
+    }
+}
+
+/// Whether a sequence and an index come before the place.
+fn comes_earlier(place: Place, seq: u32, index: u16) -> bool
+    ensures { result ≡ comes_earlier (position_of place) seq index }
+{
+    seq < place.seq || (seq == place.seq && index < place.index)
+}
+
+/// What a store has with one batch more. The store may have that very batch already.
+#[derive(Drop)]
+pub(crate) struct Journaled<'a> {
+    pub(crate) store: &'a Store,
+    pub(crate) batch: &'a BatchView<'a>,
+}
+
+impl<'a> Model for Journaled<'a> {
+    ghost use Rattle.std.specs.Prelude.{◌≡◌, ◌≤◌, Some};
+    ghost use Rattle.metering_model.specs.Holding.{held, put};
+    ghost use Rattle.batch_view.specs.Batches.{batch_of};
+    ghost use Rattle.journal_rules.specs.Inner.Journaled.{WithBatch};
+
+    ghost Value = { WithBatch };
+
+    ghost view = { λ j. record {
+      agents = j.store.now.agents;
+      batches = put j.store.now.batches (batch_of j.batch.now);
+      batch = batch_of j.batch.now;
+    } };
+
+    ghost invariant = { λ j.
+        ((batch_of j.batch.now).agent ≤ j.store.now.agents)
+        × (held (put j.store.now.batches (batch_of j.batch.now)) (batch_of j.batch.now).agent (batch_of j.batch.now).seq
+        ≡ Some (batch_of j.batch.now)) };
+}
+
+impl<'a> Journaled<'a> {
+    /// Whether the place is one of the batch itself.
+    fn is_own(&self, place: Place) -> bool
+        ensures { result ≡ is_batch_at place.agent place.seq self.now.batch }
+    {
+        self.batch.agent() == place.agent && self.batch.seq() == place.seq
+    }
+
+    /// Whether the batch itself has a reading at the place that takes the value.
+    fn is_fit_here(&self, place: Place, value: Value) -> bool
+        requires { is_batch_at place.agent place.seq self.now.batch ≡ true }
+        ensures { result ≡ is_fit_target value (reading_at self.now.batches (position_of place)) }
+    {
+        has_fit_target(self.batch, place.index, value)
+    }
+
+    /// Whether the store has a reading at the place that takes the value.
+    fn is_fit_elsewhere(&self, place: Place, value: Value) -> bool
+        requires from { 1 ≤ place.agent }
+        requires to { place.agent ≤ self.now.agents }
+        requires elsewhere { is_batch_at place.agent place.seq self.now.batch ≡ false }
+        ensures { result ≡ is_fit_target value (reading_at self.now.batches (position_of place)) }
+    {
+        match self.store.get(place.agent, place.seq) {
+            Some(batch) => has_fit_target(&batch.view(), place.index, value),
+            None => false,
+        }
+    }
+
+    /// Whether there is a reading at the place that takes the value.
+    fn is_fit_target(&self, place: Place, value: Value) -> bool
+        requires from { 1 ≤ place.agent }
+        requires to { place.agent ≤ self.now.agents }
+        ensures { result ≡ is_fit_target value (reading_at self.now.batches (position_of place)) }
+    {
+        if self.is_own(place) {
+            self.is_fit_here(place, value)
+        } else {
+            self.is_fit_elsewhere(place, value)
+        }
+    }
+
+    /// The rule that a record at a place breaks.
+    fn broken_by(&self, sheet: &Sheet, place: Place, record: &Record<'_>) -> Option<BrokenRule>
+        requires from { 1 ≤ place.agent }
+        requires to { place.agent ≤ self.now.agents }
+        ensures { result ≡ broken_by sheet.now self.now.batches (position_of place) (record_of «record».now) }
+    {
+        match record {
+            Record::Reading(reading) => {
+                if is_fit_reading(sheet, reading) {
+                    None
+                } else {
+                    Some(BrokenRule::Unpriced)
+                }
+            }
+            Record::Amend { seq, index, value } => {
+                let target = Place {
+                    agent: place.agent,
+                    seq: *seq,
+                    index: *index,
+                };
+                if comes_earlier(place, *seq, *index) && self.is_fit_target(target, *value) {
+                    None
+                } else {
+                    Some(BrokenRule::BadTarget)
+                }
+            }
+        }
+    }
+
+    /// The rule that the first bad record of the batch breaks.
+    pub(crate) fn first_broken(&self, sheet: &Sheet) -> Option<BrokenRule>
+        ensures { result ≡ first_broken sheet.now self.now.batches (placed self.now.batch) }
+    {
+        let agent = self.batch.agent();
+        let seq = self.batch.seq();
+        let _count = self.batch.count();
+        let mut index = 0;
+        for record in self.batch.records() {
+            let place = Place { agent, seq, index };
+            if let Some(rule) = self.broken_by(sheet, place, &record) {
+                return Some(rule);
+            }
+            index += 1;
+        }
+        None
+    }
+}
