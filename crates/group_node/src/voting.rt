@@ -28,7 +28,7 @@ pub(crate) fn share_vote(vote: Option<&Vote>) -> Result<Option<Vote>, AllocError
 }
 
 impl Node {
-    /// Where the node has learned the period, a packet that tells its cut.
+    /// A packet that tells the period's cut, where the node has learned it.
     fn decided(&self, period: Period) -> Result<Option<Packet>, AllocError>
         ensures { IfOk result (λ packet. option_map packet_of packet ≡ option_map (λ cut. Decided period cut) (slice_get self.now.node.kept.learned period)) }
     {
@@ -52,11 +52,8 @@ impl Node {
         ensures does { IfOk result (λ sends. (base : ℕ) → Does base i (Prepare period ballot) self.old self.new (option_map packet_of sends) None) }
         ensures unchanged { OnErr result (self.new ≡ self.old) }
     {
-        if self.has_learned(period) {
-            return self.decided(period);
-        }
         if !self.promises(period, ballot) {
-            return Ok(None);
+            return self.decided(period);
         }
         let kept = &mut self.kept;
         let vote = share_vote(kept.acceptor.vote())?;
@@ -82,11 +79,8 @@ impl Node {
         ensures does { IfOk result (λ sends. (base : ℕ) → Does base i (Accept period ballot (arc_value cut.now)) self.old self.new (option_map packet_of sends) None) }
         ensures unchanged { OnErr result (self.new ≡ self.old) }
     {
-        if self.has_learned(period) {
-            return self.decided(period);
-        }
         if !self.accepts(period, ballot) {
-            return Ok(None);
+            return self.decided(period);
         }
         let vote = Vote {
             ballot,

@@ -1,0 +1,112 @@
+-- What an event is answered, case by case.
+use Rattle.std.proofs.Common.{◌≡◌, ℕ, ◌+◌, ◌<◌, ◌≤◌, Bool, true, false, List, [], ◌∷◌, length, refl, sym, ap, ◌∙◌, Option, Some, None, Result, Ok, Err, nat_lt, nat_le}
+use Rattle.std.specs.Prelude.{slice_get, ◌==◌}
+use Rattle.metering_model.specs.Batch.{Batch}
+use Rattle.metering_model.specs.BatchReading.{batch_in}
+use Rattle.metering_model.specs.Holding.{placed, put}
+use Rattle.metering_model.specs.JournalRules.{next_seq, first_broken}
+use Rattle.metering_model.specs.declared.BrokenRule.{BrokenRule}
+use Rattle.metering_model.specs.declared.BrokenRule.TheVariants.{BadTarget as BreaksTarget, Unpriced as BreaksPrice}
+use Rattle.metering_model.specs.declared.Refusal.{Refusal}
+use Rattle.metering_model.specs.declared.Refusal.TheVariants.{NoPacket, NoNode, NoAgent, WrongSeq, BadTarget, Unpriced, AllClosed, NoBallot, WorldFull, NotClosed, Missing}
+use Rattle.metering_model.specs.Ballot.{ballot_of}
+use Rattle.metering_model.specs.Cut.{Cut}
+use Rattle.metering_model.specs.World.{World, Node, Packet, CarriesBatch, Prepare, Journaled, Delivered, Started, Restarted, voter_count, current_period, wake, with_node_at, with_packet, next_packet}
+use Rattle.metering_model.specs.Deliveries.{Handled, handled}
+use Rattle.metering_model.specs.Step.{Outcome, on_batch, on_delivery, on_start, on_restart, started_node, snapshot, cut_before, first_missing}
+use Rattle.metering_model.specs.Holding.{up_to}
+
+-- ---- a batch is journaled
+
+abbrev IsOfAgents : World → Batch → Bool
+IsOfAgents w b = nat_le b.agent w.agents
+
+abbrev IsNextOne : World → Batch → Bool
+IsNextOne w b = b.seq == next_seq w.journals b.agent
+
+module _ (w : World) (b : Batch) where
+  pub no_agent : IsOfAgents w b ≡ false → on_batch w b ≡ Err NoAgent
+  no_agent e = rw e refl
+
+  pub wrong_seq : IsOfAgents w b ≡ true → IsNextOne w b ≡ false → on_batch w b ≡ Err (WrongSeq (next_seq w.journals b.agent))
+  wrong_seq e f = rw (e, f) refl
+
+  pub bad_target : IsOfAgents w b ≡ true → IsNextOne w b ≡ true → first_broken w.sheet (put w.journals b) (placed b) ≡ Some BreaksTarget → on_batch w b ≡ Err BadTarget
+  bad_target e f g = rw (e, f, g) refl
+
+  pub unpriced : IsOfAgents w b ≡ true → IsNextOne w b ≡ true → first_broken w.sheet (put w.journals b) (placed b) ≡ Some BreaksPrice → on_batch w b ≡ Err Unpriced
+  unpriced e f g = rw (e, f, g) refl
+
+  pub no_room_for_batch : IsOfAgents w b ≡ true → IsNextOne w b ≡ true → first_broken w.sheet (put w.journals b) (placed b) ≡ None → nat_lt (length w.packets) 1_000_000 ≡ false → on_batch w b ≡ Err WorldFull
+  no_room_for_batch e f g h = rw (e, f, g, h) refl
+
+  pub journals_batch : IsOfAgents w b ≡ true → IsNextOne w b ≡ true → first_broken w.sheet (put w.journals b) (placed b) ≡ None → nat_lt (length w.packets) 1_000_000 ≡ true
+      → on_batch w b ≡ Ok (Journaled (length w.packets), with_packet (CarriesBatch b) (record w { journals = put w.journals b }))
+  journals_batch e f g h = rw (e, f, g, h) refl
+
+-- ---- a packet is delivered
+
+module _ (w : World) (k i : ℕ) where
+  pub no_packet : slice_get w.packets k ≡ None → on_delivery w k i ≡ Err NoPacket
+  no_packet e = rw e refl
+
+  pub no_node : (p : Packet) → slice_get w.packets k ≡ Some p → slice_get w.nodes i ≡ None → on_delivery w k i ≡ Err NoNode
+  no_node p e f = rw (e, f) refl
+
+  module _ (p : Packet) (n m : Node) (sent : slice_get w.packets k ≡ Some p) (found : slice_get w.nodes i ≡ Some n) (learns : Option ℕ) where
+    pub delivers : handled w i n p ≡ record { node = m; sends = None; learns = learns } → on_delivery w k i ≡ Ok (Delivered None learns, with_node_at i m w)
+    delivers e = rw (sent, found, e) refl
+
+    pub no_room_for_answer : (q : Packet) → handled w i n p ≡ record { node = m; sends = Some q; learns = learns } → nat_lt (length w.packets) 1_000_000 ≡ false → on_delivery w k i ≡ Err WorldFull
+    no_room_for_answer q e f = rw (sent, found, e, f) refl
+
+    pub delivers_and_sends : (q : Packet) → handled w i n p ≡ record { node = m; sends = Some q; learns = learns } → nat_lt (length w.packets) 1_000_000 ≡ true
+        → on_delivery w k i ≡ Ok (Delivered (Some (length w.packets)) learns, with_packet q (with_node_at i m w))
+    delivers_and_sends q e f = rw (sent, found, e, f) refl
+
+-- ---- a node starts
+
+module _ (w : World) (i : ℕ) where
+  pub nothing_starts : slice_get w.nodes i ≡ None → on_start w i ≡ Err NoNode
+  nothing_starts e = rw e refl
+
+  module _ (n : Node) (found : slice_get w.nodes i ≡ Some n) where
+    pub all_closed : nat_lt (current_period n) 1_200 ≡ false → on_start w i ≡ Err AllClosed
+    all_closed e = rw (found, e) refl
+
+    pub no_ballot : nat_lt (current_period n) 1_200 ≡ true → nat_lt n.kept.round 10_000 ≡ false → on_start w i ≡ Err NoBallot
+    no_ballot e f = rw (found, e, f) refl
+
+    pub no_room_for_start : nat_lt (current_period n) 1_200 ≡ true → nat_lt n.kept.round 10_000 ≡ true → nat_lt (length w.packets) 1_000_000 ≡ false → on_start w i ≡ Err WorldFull
+    no_room_for_start e f g = rw (found, e, f, g) refl
+
+    pub starts : nat_lt (current_period n) 1_200 ≡ true → nat_lt n.kept.round 10_000 ≡ true → nat_lt (length w.packets) 1_000_000 ≡ true
+        → on_start w i
+        ≡ Ok (Started (ballot_of (n.kept.round + 1) i (voter_count w)) (length w.packets), with_packet (Prepare (current_period n) (ballot_of (n.kept.round + 1) i (voter_count w))) (with_node_at i (started_node (voter_count w) (ballot_of (n.kept.round + 1) i (voter_count w)) n) w))
+    starts e f g = rw (found, e, f, g) refl
+
+  -- ---- a node restarts
+
+  pub nothing_restarts : slice_get w.nodes i ≡ None → on_restart w i ≡ Err NoNode
+  nothing_restarts e = rw e refl
+
+  pub restarts : (n : Node) → slice_get w.nodes i ≡ Some n → on_restart w i ≡ Ok (Restarted, with_node_at i (wake n.kept) w)
+  restarts n e = rw e refl
+
+-- ---- a node exports
+
+module _ (w : World) (i p : ℕ) where
+  pub nothing_exports : slice_get w.nodes i ≡ None → snapshot w i p ≡ Err NoNode
+  nothing_exports e = rw e refl
+
+  module _ (n : Node) (found : slice_get w.nodes i ≡ Some n) where
+    pub not_closed : slice_get n.kept.learned p ≡ None → snapshot w i p ≡ Err (NotClosed (current_period n))
+    not_closed e = rw (found, e) refl
+
+    pub missing : (to : Cut) (absent : ℕ × ℕ) → slice_get n.kept.learned p ≡ Some to → first_missing n.kept.holding to ≡ Some absent → snapshot w i p ≡ Err (Missing absent.0 absent.1)
+    missing to absent e f = rw (found, e, f) refl
+
+    pub exports : (to : Cut) → slice_get n.kept.learned p ≡ Some to → first_missing n.kept.holding to ≡ None
+        → snapshot w i p
+        ≡ Ok (record { period = p; from = cut_before w.agents n.kept.learned p; to = to; batches = up_to to n.kept.holding; sheet = w.sheet; issuer = w.issuer })
+    exports to e f = rw (found, e, f) refl
