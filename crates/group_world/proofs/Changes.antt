@@ -1,9 +1,9 @@
 -- What the parts of a world say of it, and of the world that an event leaves.
-use Rattle.std.proofs.Common.{◌≡◌, ℕ, ◌+◌, ◌<◌, ◌≤◌, Bool, true, false, List, [], ◌∷◌, ◌++◌, length, get_or, map, refl, sym, subst, ap, ◌∙◌, arith, Option, Some, None, Result, Ok, Err, nat_lt, nat_le, eqb, replicate}
+use Rattle.std.proofs.Common.{◌≡◌, ℕ, zero, suc, ◌+◌, ◌<◌, ◌≤◌, Bool, true, false, List, [], ◌∷◌, ◌++◌, length, get_or, map, refl, sym, subst, ap, ◌∙◌, arith, Option, Some, None, Result, Ok, Err, nat_lt, nat_le, eqb, replicate}
 use Rattle.std.specs.Prelude.{slice_get, slice_set, ◌==◌, All}
 use Rattle.std.specs.Option.{is_some, option_map}
 use Rattle.std.specs.List.{cons_option}
-use Rattle.std.proofs.lemmas.Bool.{lt-ltb, ltb-true, ltb-false, eq-eqb, eqb-true, leb-le, le-leb}
+use Rattle.std.proofs.lemmas.Bool.{lt-ltb, ltb-true, eq-eqb, eqb-true, le-leb}
 use Rattle.std.proofs.lemmas.List.{map-set, length-map, append-nil}
 use Rattle.std.proofs.lemmas.Option.{slice_get-get_or, slice_get_within}
 use Rattle.metering_model.specs.Batch.{Batch}
@@ -142,4 +142,5 @@ restarted w i at ns n m same place low e woken =
 -- ---- the opening
 
 pub opening_nodes : (count voters agents : ℕ) → nodes_in (replicate count (record { voters = voters; agents = agents; node = wake new_kept })) ≡ replicate count (wake new_kept)
-opening_nodes count voters agents = ?
+opening_nodes zero voters agents = refl
+opening_nodes (suc count) voters agents = ap (λ xs. wake new_kept ∷ xs) (opening_nodes count voters agents)

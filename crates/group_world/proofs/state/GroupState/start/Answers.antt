@@ -1,13 +1,25 @@
+use Rattle.std.proofs.Common.{◌≡◌, ◌<◌, length, refl, arith, ap, ◌∙◌, sym}
+use Rattle.std.proofs.lemmas.List.{length-map}
+use Rattle.metering_model.specs.World.{World}
+use Rattle.group_node.specs.Nodes.{NodeAmong}
+use Rattle.group_world.proofs.Changes.{nodes_in, node_found, member_at, begun}
 use Rattle.group_world.proofs.state.GroupState.start.Goals as goal
 
 pub begin-requires-clause-round : goal.begin-requires-clause-round
 begin-requires-clause-round c =
-    let p = c.period_to_begin.ensures in
-    let i = c.index_mut.ensures in
-    let h = c.in-Ok.ensures in
-    ?
+    let same = ap (λ (w : World). w.nodes) c.self.view_is in
+    let count = ap (λ (w : World). length w.nodes) c.self.view_is in
+    let size = length-map c.self.inside.nodes.items (λ (n : NodeAmong). n.node) in
+    let may = c.in-Ok.ensures in
+    let low : c.args.node < length c.self.inside.nodes.items = omega (arith, may.node, count, size) in
+    (may.works c.index_mut.result.now.node (node_found c.args.self.now c.self.inside.nodes.items c.args.node c.index_mut.result.now same low (rw (← c.from.ensures) c.index_mut.ensures.value))).2
 
 pub returns-clause-ok : goal.returns-clause-ok
 returns-clause-ok c =
-    let b = c.begin-reply.ensures in
+    let may = c.in-Ok.ensures in
+    let count = ap (λ (w : World). length w.nodes) c.self.view_is in
+    let size = length-map c.self.inside.nodes.items (λ (n : NodeAmong). n.node) in
+    let low : c.args.node < length c.self.inside.nodes.items = omega (arith, may.node, count, size) in
+    let member = member_at _ _ c.args.node c.self.inside.nodes.items c.index_mut.result.now c.self.invariant.each low (rw (← c.from.ensures) c.index_mut.ensures.value) in
+    let b = c.in_ok-reply.ensures.ok in
     ?
