@@ -30,11 +30,7 @@ fn write_text<W: Sink>(sink: &mut W, text: &[u8]) -> Result<(), CsvFault>
 }
 
 /// Writes the lines of these rows, whose text is made first.
-fn write_rows<W: Sink>(
-    alloc: Global,
-    rows: &[FocusRow<'_>],
-    sink: &mut W,
-) -> Result<(), CsvFault>
+fn write_rows<W: Sink>(alloc: Global, rows: &[FocusRow<'_>], sink: &mut W) -> Result<(), CsvFault>
     ensures written { OnOk result
         (Appends (W.contents sink.old) (W.contents sink.new) (flat_map row_text (map model_row rows.now))) }
     ensures front { result ≡ Err CsvFault.Write
