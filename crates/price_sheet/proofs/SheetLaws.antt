@@ -11,7 +11,7 @@ use Rattle.metering_model.specs.Sheet.{PriceRow, Commitment, Sheet}
 use Rattle.metering_model.specs.SheetRules.{IsPriceRow, IsCommitment, IsSheet, are_apart, has_same_key, has_same_id}
 use Rattle.metering_model.proofs.StepLaws.{step_ok, step_iff, ok_same}
 use Rattle.sheet_text.specs.declared.keys.KeyFault.{KeyFault}
-use Rattle.price_sheet.specs.SheetReading.{at_place, next_price, next_commitment, prices_in, commitments_in, prices_sku, sheet_in}
+use Rattle.price_sheet.specs.SheetReading.{at_place, next_price, next_commitment, prices_in, commitments_in, prices_sku, sheet_of_rows, sheet_in}
 use Rattle.sheet_text.specs.declared.faults.Place.{Place}
 use Rattle.sheet_text.proofs.KeyLaws.{holds_true, base_is_read, few_under}
 use Rattle.sheet_text.proofs.RowLaws.{price_row_read, commitment_read}
@@ -103,7 +103,7 @@ commitments_read prices rows (table ∷ tables) all are h =
 -- ---- the sheet
 
 pub sheet_read : (table : Members) (sheet : Sheet) → sheet_in table ≡ Ok sheet → IsSheet sheet
-unfolding sheet_in
+unfolding sheet_in sheet_of_rows
 sheet_read table sheet h =
     let base = simp step_iff at h in
     let price_tables = base.2 in

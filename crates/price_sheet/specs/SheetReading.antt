@@ -68,15 +68,20 @@ commitments_in prices rows (table ∷ tables) = do
 abbrev pub empty_sheet : ℕ → Sheet
 empty_sheet base = record { base = base; prices = []; commitments = [] }
 
--- the sheet that a table is: first what stands at the top, then the prices in order, then the commitments
+-- the sheet of the rows that these tables are: first the prices in order, then the commitments
+unfoldable pub sheet_of_rows : ℕ → List Members → List Members → Result Sheet SheetFault
+sheet_of_rows base price_tables commitment_tables = do
+  prices ← prices_in [] price_tables
+  commitments ← commitments_in prices [] commitment_tables
+  Ok (record { base = base; prices = prices; commitments = commitments })
+
+-- the sheet that a table is: first what stands at the top, then the rows
 unfoldable pub sheet_in : Members → Result Sheet SheetFault
 sheet_in table = do
   base ← at_place places.Top (base_under (codes "base") table)
   price_tables ← at_place places.Top (rows_under (codes "price") table)
   commitment_tables ← at_place places.Top (rows_under (codes "commitment") table)
-  prices ← prices_in [] price_tables
-  commitments ← commitments_in prices [] commitment_tables
-  Ok (record { base = base; prices = prices; commitments = commitments })
+  sheet_of_rows base price_tables commitment_tables
 
 abbrev pub sheet_of_document : Option Members → Result Sheet SheetFault
 sheet_of_document None = Err faults.NotToml

@@ -6,7 +6,7 @@ ghost use Rattle.toml.specs.View.{table_view};
 ghost use Rattle.metering_model.specs.Dates.{IsBaseMonth};
 ghost use Rattle.metering_model.specs.SheetRules.{IsSheet};
 ghost use Rattle.metering_model.specs.PriceInForce.{price_in_force, commitment_with};
-ghost use Rattle.price_sheet.specs.SheetReading.{prices_in, commitments_in, empty_sheet, sheet_in, sheet_of_text};
+ghost use Rattle.price_sheet.specs.SheetReading.{prices_in, commitments_in, empty_sheet, sheet_of_rows, sheet_in, sheet_of_text};
 
 use crate::commitment_table::CommitmentTable;
 use crate::places::fault_at;
@@ -91,8 +91,27 @@ impl Sheet {
             Ok(tables) => tables,
             Err(fault) => return Err(fault_at(Place::Top, fault)),
         };
-        let prices = PriceTable::read(alloc, &price_tables)?;
-        let commitments = CommitmentTable::read(alloc, &prices, &commitment_tables)?;
+        Sheet::of_rows(alloc, base, &price_tables, &commitment_tables)
+    }
+
+    /// Reads the rows of a sheet: the prices, and then the commitments.
+    #[tactic(auto, unfolding(crate::specs::SheetReading::sheet_of_rows))]
+    fn of_rows(
+        alloc: Global,
+        base: Month,
+        price_tables: &[&Table],
+        commitment_tables: &[&Table],
+    ) -> Result<Sheet, SheetFault>
+        requires base { IsBaseMonth base }
+        requires few { (length price_tables.now ≤ 10_000) × (length commitment_tables.now ≤ 10_000) }
+        ensures taken { IfOk result (λ sheet. sheet_of_rows base (map (λ t. table_view t.now) price_tables.now)
+            (map (λ t. table_view t.now) commitment_tables.now) ≡ Ok sheet) }
+        ensures refused { IfErr result (λ fault. fault ≢ SheetFault.OutOfMemory
+            → sheet_of_rows base (map (λ t. table_view t.now) price_tables.now)
+            (map (λ t. table_view t.now) commitment_tables.now) ≡ Err fault) }
+    {
+        let prices = PriceTable::read(alloc, price_tables)?;
+        let commitments = CommitmentTable::read(alloc, &prices, commitment_tables)?;
         Ok(Sheet {
             base,
             prices,

@@ -11,3 +11,11 @@ returns-clause-taken c = search rules
 pub returns-in-Err-clause-refused : goal.returns-in-Err-clause-refused
 unfolding next_commitment
 returns-in-Err-clause-refused c = search (rules, placed_fails)
+
+pub returns-then-is_named_before-clause-refused : goal.returns-then-is_named_before-clause-refused
+unfolding next_commitment
+returns-then-is_named_before-clause-refused c = search rules
+
+pub returns-then-not-has_sku-clause-refused : goal.returns-then-not-has_sku-clause-refused
+unfolding next_commitment
+returns-then-not-has_sku-clause-refused c = search rules
