@@ -15,14 +15,20 @@ use Rattle.metering_model.specs.declared.Refusal.{Refusal}
 use Rattle.metering_model.specs.declared.Refusal.TheVariants.{WorldFull, WrongSeq}
 use Rattle.metering_model.specs.World.{World, Node, Packet, Good, Journal, Deliver, Start, Restart, Refused, Restarted, Reply, Delivered, Started, new_kept, wake, current_period, voter_count}
 use Rattle.metering_model.specs.Deliveries.{Handled, handled}
-use Rattle.metering_model.specs.Step.{Outcome, after_delivery, on_batch, on_delivery, on_start, on_restart, or_refused, started_node, step, unless_broken}
+use Rattle.metering_model.specs.Step.{Outcome, after_delivery, first_missing, on_batch, on_delivery, on_start, on_restart, or_refused, started_node, step, unless_broken}
 use Rattle.group_node.specs.Nodes.{NodeAmong}
 use Rattle.group_node.specs.Handling.{Does, Answers}
-use Rattle.group_world.specs.Inner.Members.{IsMember, Begins, next_ballot}
-use Rattle.group_world.specs.Inner.Allowed.{MayJournal, MayDeliver, HandsOver, MayBegin}
+use Rattle.group_node.specs.Packets.{IsPacketAmong}
+use Rattle.group_node.proofs.Among.{packet_of_run}
+use Rattle.group_laws.specs.EveryRun.{IsNode}
+use Rattle.metering_model.specs.Cut.{Cut}
+use Rattle.group_world.specs.Reached.{IsReached}
+use Rattle.group_world.specs.Inner.Members.{IsMember, AreMembers, Begins, next_ballot}
+use Rattle.group_world.specs.Inner.Allowed.{MayJournal, MayDeliver, HandsOver, MayBegin, MayTake}
 use Rattle.group_world.proofs.Lookups.{found_at}
 use Rattle.group_world.proofs.Outcomes.{wrong_seq, no_room_for_batch, journals_batch, no_room_for_answer, delivers, delivers_and_sends, starts, restarts}
-use Rattle.group_world.proofs.Parts.{at_entry}
+use Rattle.group_world.proofs.Parts.{at_entry, node_here, learned_size, grows_from_before, rules_of_export}
+use Rattle.group_world.proofs.Reaching.{limits_here, still_open}
 
 abbrev pub nodes_in : List NodeAmong → List Node
 nodes_in ns = map (λ n. n.node) ns
@@ -33,6 +39,14 @@ node_found w ns i n same low e = ap (λ (xs : List Node). slice_get xs i) (sym s
 
 pub member_at : (voters agents i : ℕ) (ns : List NodeAmong) (n : NodeAmong) → All (IsMember voters agents) ns → i < length ns → n ≡ get_or ns i n → IsMember voters agents n
 member_at voters agents i ns n all low e = at_entry (IsMember voters agents) ns i n all (slice_get-get_or ns i n low ∙ ap Some (sym e))
+
+-- and it is a member of the world's group
+pub member_here : (w : World) (agents i : ℕ) (ns : List NodeAmong) (n : NodeAmong) → nodes_in ns ≡ w.nodes → agents ≡ w.agents → AreMembers agents ns → i < length ns → n ≡ get_or ns i n
+    → IsMember (voter_count w) w.agents n
+member_here w agents i ns n same stores are low e =
+    let is : IsMember (length ns) agents n = member_at (length ns) agents i ns n are.each low e in
+    let size : length (nodes_in ns) ≡ length ns = length-map ns (λ (m : NodeAmong). m.node) in
+    record { votes = is.votes ∙ (sym size ∙ ap length same); stores = is.stores ∙ stores }
 
 -- ---- journaling
 
@@ -100,15 +114,17 @@ pub sends_here : (w : World) (i : ℕ) (q : Packet) (n : NodeAmong) (answers : B
 sends_here w i q n answers votes h = h.sends w i (sym votes)
 
 -- what was handed over is what the step does
-pub delivered : (w : World) (base k i at : ℕ) (ns : List NodeAmong) (after : List Packet) (n m : NodeAmong) (r : Reply)
-    → nodes_in ns ≡ w.nodes → w.sheet.base ≡ base → IsMember (voter_count w) w.agents n → at ≡ i → i < length ns → n ≡ get_or ns i n → MayDeliver w k i
+pub delivered : (w : World) (agents base k i at : ℕ) (ns : List NodeAmong) (after : List Packet) (n m : NodeAmong) (r : Reply)
+    → nodes_in ns ≡ w.nodes → w.sheet.base ≡ base → agents ≡ w.agents → AreMembers agents ns → at ≡ i → i < length ns → n ≡ get_or ns i n → MayDeliver w k i
     → HandsOver base i k w.packets after n m r
     → ◌≡◌ {A = Outcome} (r, record w { packets = after; nodes = nodes_in (slice_set ns at m) }) (step w (Deliver k i))
-delivered w base k i at ns after n m r same month member place low e may h =
+delivered w agents base k i at ns after n m r same month stores are place low e may h =
     rw (h.tells, h.packets, place, map-set (λ (x : NodeAmong). x.node) ns i m, same) (by_sends h.sends refl)
   where
     found : slice_get w.nodes i ≡ Some n.node
     found = node_found w ns i n same low e
+    member : IsMember (voter_count w) w.agents n
+    member = member_here w agents i ns n same stores are low e
     does : handled w i n.node h.packet ≡ record { node = m.node; sends = h.sends; learns = h.learns }
     does = h.does.handles w month (sym member.stores) (sym member.votes)
     by_sends : (o : Option Packet) → h.sends ≡ o
@@ -144,3 +160,22 @@ restarted w i at ns n m same place low e woken =
 pub opening_nodes : (count voters agents : ℕ) → nodes_in (replicate count (record { voters = voters; agents = agents; node = wake new_kept })) ≡ replicate count (wake new_kept)
 opening_nodes zero voters agents = refl
 opening_nodes (suc count) voters agents = ap (λ xs. wake new_kept ∷ xs) (opening_nodes count voters agents)
+
+-- what a member asks of a packet that was sent
+pub among_here : (w : World) (k : ℕ) (q : Packet) (n : NodeAmong) → IsReached w → slice_get w.packets k ≡ Some q → IsMember (voter_count w) w.agents n → IsPacketAmong n.voters n.agents q
+among_here w k q n h sent member =
+    let among : IsPacketAmong (voter_count w) w.agents q = packet_of_run (voter_count w) w.agents w k q (still_open w h).nodes_to (limits_here w h) sent in
+    subst (λ v. IsPacketAmong v n.agents q) (sym member.votes) (subst (λ a. IsPacketAmong (voter_count w) a q) (sym member.stores) among)
+
+-- what an export asks of a node that has every batch up to the cut that it learned
+pub may_take : (w : World) (i p : ℕ) (n : NodeAmong) (to : Cut) → IsReached w → IsMember (voter_count w) w.agents n → slice_get w.nodes i ≡ Some n.node
+    → slice_get n.node.kept.learned p ≡ Some to → first_missing n.node.kept.holding to ≡ None → MayTake w.sheet w.agents p to n
+may_take w i p n to h member found learned none =
+    let is : IsNode (voter_count w) w.agents w.journals n.node = node_here w i n.node h found in
+    record {
+      among = member.stores;
+      size = learned_size (voter_count w) w.agents w.journals n.node p to is learned;
+      grows = grows_from_before w.agents p n.node.kept.learned to is.growing learned;
+      whole = none;
+      met = rules_of_export w.sheet n.node.kept.holding w.journals to is.is_holding is.part (limits_here w h).rules (is.whole p to learned none);
+    }

@@ -1,4 +1,4 @@
-use Rattle.std.proofs.Common.{◌≡◌, ◌∙◌, ap}
+use Rattle.std.proofs.Common.{◌≡◌, ◌∙◌, ap, refl}
 use Rattle.group_world.proofs.Changes.{nodes_in, opening_nodes}
 use Rattle.group_world.proofs.state.GroupState.new.Goals as goal
 
@@ -7,4 +7,5 @@ returns c =
     let j = c.in_ok-journals.ensures in
     let n = c.in_ok-made.ensures in
     let e = ap nodes_in n ∙ opening_nodes c.args.nodes c.args.nodes c.args.agents in
-    rw (j, e) refl
+    let p = c.new-2.ensures.items in
+    rw (j, e, p) refl

@@ -1,8 +1,11 @@
-use Rattle.std.proofs.Common.{◌≡◌, ◌<◌, length, refl, arith, ap, ◌∙◌, sym}
+use Rattle.std.proofs.Common.{◌≡◌, ◌<◌, length, map, refl, arith, ap, subst, ◌∙◌, sym}
 use Rattle.std.proofs.lemmas.List.{length-map}
 use Rattle.metering_model.specs.World.{World}
 use Rattle.group_node.specs.Nodes.{NodeAmong}
-use Rattle.group_world.proofs.Changes.{nodes_in, node_found, member_at, begun}
+use Rattle.group_node.specs.Packets.{packet_of}
+use Rattle.group_events.specs.Replies.{reply_of}
+use Rattle.group_world.specs.Inner.Allowed.{MayBegin}
+use Rattle.group_world.proofs.Changes.{node_found, member_at, begun}
 use Rattle.group_world.proofs.state.GroupState.start.Goals as goal
 
 pub begin-requires-clause-round : goal.begin-requires-clause-round
@@ -21,5 +24,6 @@ returns-clause-ok c =
     let size = length-map c.self.inside.nodes.items (λ (n : NodeAmong). n.node) in
     let low : c.args.node < length c.self.inside.nodes.items = omega (arith, may.node, count, size) in
     let member = member_at _ _ c.args.node c.self.inside.nodes.items c.index_mut.result.now c.self.invariant.each low (rw (← c.from.ensures) c.index_mut.ensures.value) in
-    let b = c.in_ok-reply.ensures.ok in
-    ?
+    let here = subst (λ (w : World). MayBegin w c.args.node c.in-Ok.period) (sym c.self.view_is) may in
+    rw (← c.self.view_is)
+    (begun _ c.args.node c.from.result c.in-Ok.period c.self.inside.nodes.items (map packet_of c.begin.new.packets.items) c.index_mut.result.now c.begin.new.node (reply_of c.in_ok-reply.reply) refl (member.votes ∙ sym size) c.from.ensures low (rw (← c.from.ensures) c.index_mut.ensures.value) here c.in_ok-reply.ensures.ok)
