@@ -1,0 +1,3 @@
+pub mod Worlds
+pub mod Runs
+pub mod Calls

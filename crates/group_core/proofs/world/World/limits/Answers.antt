@@ -1,0 +1,5 @@
+use Rattle.group_world.proofs.Reaching.{limits_here}
+use Rattle.group_core.proofs.world.World.limits.Goals as goal
+
+pub returns : goal.returns
+returns c = limits_here c.args.self.now c.reached.ensures

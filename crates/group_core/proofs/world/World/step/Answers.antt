@@ -1,0 +1,22 @@
+use Rattle.std.proofs.Common.{subst}
+use Rattle.metering_model.specs.World.{World}
+use Rattle.group_events.specs.Events.{event_of}
+use Rattle.group_events.specs.Replies.{reply_of}
+use Rattle.group_core.specs.Headline.{IsSameGroup, ListGrows, ExportsStay}
+use Rattle.group_core.proofs.Calls.{reached_after_call, exports_of_call, same_group_after_call, grows_in_call, stay_in_call}
+use Rattle.group_core.proofs.world.World.step.Goals as goal
+
+pub invariant_of-self : goal.invariant_of-self
+invariant_of-self c = reached_after_call reply_of c.step.result c.self.inside.state c.step.new.self (event_of c.args.event.now) c.self.invariant c.step.ensures.ok c.step.ensures.err
+
+pub returns-clause-exports : goal.returns-clause-exports
+returns-clause-exports c = exports_of_call reply_of c.step.result c.self.inside.state c.step.new.self (event_of c.args.event.now) c.self.invariant c.step.ensures.ok c.step.ensures.err
+
+pub returns-clause-group : goal.returns-clause-group
+returns-clause-group c = subst (λ (w : World). IsSameGroup w c.step.new.self) c.self.view_is (same_group_after_call reply_of c.step.result c.self.inside.state c.step.new.self (event_of c.args.event.now) c.self.invariant c.step.ensures.ok c.step.ensures.err)
+
+pub returns-clause-grows : goal.returns-clause-grows
+returns-clause-grows c = subst (λ (w : World). ListGrows w c.step.new.self) c.self.view_is (grows_in_call reply_of c.step.result c.self.inside.state c.step.new.self (event_of c.args.event.now) c.self.invariant c.step.ensures.ok c.step.ensures.err)
+
+pub returns-clause-stay : goal.returns-clause-stay
+returns-clause-stay c = subst (λ (w : World). ExportsStay w c.step.new.self) c.self.view_is (stay_in_call reply_of c.step.result c.self.inside.state c.step.new.self (event_of c.args.event.now) c.self.invariant c.step.ensures.ok c.step.ensures.err)

@@ -1,0 +1,73 @@
+-- The headline of the calls of a world: what holds of the world, of the replies of a call, and from before the call to after
+-- it. The words underneath are those of the headline over every list of events.
+use Rattle.std.specs.Prelude.{◌≡◌, ℕ, ◌⊎◌, List, length, Some, Ok, slice_get}
+use Rattle.std.specs.List.{Contains}
+use Rattle.metering_model.specs.Batch.{Batch}
+use Rattle.metering_model.specs.Cut.{Cut}
+use Rattle.metering_model.specs.Holding.{IsPartOf, held}
+use Rattle.metering_model.specs.Chosen.{IsChosen}
+use Rattle.metering_model.specs.World.{World, Node, Offer, Event, Journal, Export, Snapshot, Reply, Journaled, Exported, node_count}
+use Rattle.metering_model.specs.Step.{batch_of}
+use Rattle.group_laws.specs.Headline.{IsPrefixOf, AreTheCuts, IsExport, AreChargedOnce}
+
+-- The chosen cuts are one growing list, within the journals and due, of which each node has learned the first ones. There is
+-- just one such list.
+pub record HasOneList (w : World) : Type 0 where
+  pub cuts : List Cut
+  pub are_the_cuts : AreTheCuts w cuts
+  pub no_other : (others : List Cut) → AreTheCuts w others → others ≡ cuts
+
+-- Whatever a node has learned of a period was chosen for it.
+pub record LearnsWhatIsChosen (w : World) : Type 0 where
+  pub chosen : (n : Node) (period : ℕ) (cut : Cut) → Contains w.nodes n → slice_get n.kept.learned period ≡ Some cut → IsChosen w period cut
+
+-- No batch lies between the cuts of two periods, and each reading is new in at most one file.
+pub record ChargesOnce (w : World) : Type 0 where
+  pub cuts : List Cut
+  pub are_the_cuts : AreTheCuts w cuts
+  pub charged_once : AreChargedOnce w cuts
+
+-- The snapshot is of two neighbouring cuts of the list, with the world's sheet and issuer and just the journals' batches.
+pub record IsExportOf (w : World) (s : Snapshot) : Type 0 where
+  pub cuts : List Cut
+  pub are_the_cuts : AreTheCuts w cuts
+  pub is_export : IsExport w cuts s
+
+-- each export among the replies is one of this world
+abbrev pub AreExportsOf : World → List Reply → Type 0
+AreExportsOf w replies = (s : Snapshot) → Contains replies (Exported s) → IsExportOf w s
+
+-- Two exports of one period are the same, be they of one call or of two: an earlier one is still an export of this world.
+pub record ExportsAgree (w : World) (replies : List Reply) : Type 0 where
+  pub here : (s t : Snapshot) → Contains replies (Exported s) → Contains replies (Exported t) → s.period ≡ t.period → s ≡ t
+  pub with_earlier : (s t : Snapshot) → Contains replies (Exported s) → IsExportOf w t → s.period ≡ t.period → s ≡ t
+
+-- The later world is of the same group.
+pub record IsSameGroup (before after : World) : Type 0 where
+  pub nodes : node_count after ≡ node_count before
+  pub agents : after.agents ≡ before.agents
+  pub sheet : after.sheet ≡ before.sheet
+  pub issuer : after.issuer ≡ before.issuer
+
+-- A cut that was chosen stays, at its period: more are only added behind.
+abbrev pub ListGrows : World → World → Type 0
+ListGrows before after = (cuts later : List Cut) → AreTheCuts before cuts → AreTheCuts after later → IsPrefixOf cuts later
+
+-- What was an export is one of the later world too.
+abbrev pub ExportsStay : World → World → Type 0
+ExportsStay before after = (s : Snapshot) → IsExportOf before s → IsExportOf after s
+
+-- one of the events handed in the batch, and was answered `Journaled`
+abbrev pub IsJournaledBy : List Event → List Reply → Batch → Type 0
+IsJournaledBy events replies b =
+    (k : ℕ) × (packet : ℕ) × (offer : Offer) × (slice_get events k ≡ Some (Journal offer)) × (slice_get replies k ≡ Some (Journaled packet)) × (batch_of offer ≡ Ok b)
+
+-- Each event has its own answer. An export is of the period that was asked for, and what was answered `Journaled`, and nothing
+-- else, came to the journals.
+pub record AnswersEach (before : World) (events : List Event) (replies : List Reply) (after : World) : Type 0 where
+  pub one_each : length replies ≡ length events
+  pub asked : (k : ℕ) (s : Snapshot) → slice_get replies k ≡ Some (Exported s) → (node : ℕ) × (slice_get events k ≡ Some (Export node s.period))
+  pub kept : (k packet : ℕ) (offer : Offer) → slice_get events k ≡ Some (Journal offer) → slice_get replies k ≡ Some (Journaled packet) →
+      (b : Batch) × (batch_of offer ≡ Ok b) × (held after.journals b.agent b.seq ≡ Some b)
+  pub had : IsPartOf before.journals after.journals
+  pub only : (agent seq : ℕ) (b : Batch) → held after.journals agent seq ≡ Some b → (held before.journals agent seq ≡ Some b) ⊎ IsJournaledBy events replies b

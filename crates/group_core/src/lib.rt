@@ -1,0 +1,10 @@
+//! The group of nodes: a world that only comes from an opening one by events, so that the headline holds of it.
+#![tactic(auto)]
+
+pub mod laws;
+mod playing;
+mod world;
+
+pub use group_world::{Event, Node, Packet, Reply, Snapshot};
+pub use playing::Stopped;
+pub use world::World;

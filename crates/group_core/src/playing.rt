@@ -1,0 +1,70 @@
+//! Many events in turn.
+
+ghost use Rattle.std.specs.Prelude.{◌≡◌, ◌<◌, [], length, map, take, IfOk, IfErr, OnOk, OnErr};
+ghost use Rattle.metering_model.specs.Step.{play};
+ghost use Rattle.group_laws.specs.Headline.{AtMostOneIsChosen};
+ghost use Rattle.group_events.specs.Events.{event_of};
+ghost use Rattle.group_events.specs.Replies.{reply_of};
+ghost use Rattle.group_core.specs.Headline.{AnswersEach, AreExportsOf, ChargesOnce, ExportsAgree, ExportsStay, HasOneList, IsSameGroup, LearnsWhatIsChosen, ListGrows};
+ghost use Rattle.group_core.specs.Playing.{replies_in};
+
+use crate::World;
+use group_world::{Event, Reply};
+use std::alloc::{AllocError, Global};
+
+/// Memory was refused, after these replies. The world stands after exactly their events.
+#[derive(Drop)]
+pub struct Stopped {
+    pub replies: Vec<Reply>,
+}
+
+impl World {
+    /// Does the events in turn, and gives a reply for each. Where memory is refused it stops: the replies so far are those of
+    /// the first events, and the world is as these left it, so that the rest can be played from there.
+    ///
+    /// With Ok or [`Stopped`], after any calls before: at most one cut is chosen for a period; each export that was answered is
+    /// of two neighbouring cuts of the one growing list; two exports of one period are the same, whichever nodes gave them;
+    /// and each reading is charged as new in one period. What an earlier call was answered stays true.
+    pub fn play(&mut self, alloc: Global, events: &[Event]) -> Result<Vec<Reply>, Stopped>
+        ensures run { IfOk result (λ replies. (map reply_of replies.items, self.new) ≡ play self.old (map event_of events.now)) }
+        ensures short { IfErr result (λ why. length why.replies.items < length events.now) }
+        ensures stopped { IfErr result (λ why. (map reply_of why.replies.items, self.new) ≡ play self.old (map event_of (take (length why.replies.items) events.now))) }
+        ensures one_cut { AtMostOneIsChosen self.new }
+        ensures learned { LearnsWhatIsChosen self.new }
+        ensures cuts { HasOneList self.new }
+        ensures exports { AreExportsOf self.new (replies_in result) }
+        ensures agree { ExportsAgree self.new (replies_in result) }
+        ensures charged_once { ChargesOnce self.new }
+        ensures answers { AnswersEach self.old (map event_of (take (length (replies_in result)) events.now)) (replies_in result) self.new }
+        ensures group { IsSameGroup self.old self.new }
+        ensures grows { ListGrows self.old self.new }
+        ensures stay { ExportsStay self.old self.new }
+    {
+        self.reached();
+        let mut replies = Vec::new(alloc);
+        match self.play_on(alloc, events, &mut replies) {
+            Ok(()) => Ok(replies),
+            Err(_) => Err(Stopped { replies }),
+        }
+    }
+
+    /// Does the events in turn, and writes down a reply for each, for which there is room before its event is done.
+    fn play_on(
+        &mut self,
+        alloc: Global,
+        events: &[Event],
+        replies: &mut Vec<Reply>,
+    ) -> Result<(), AllocError>
+        requires begun { replies.old.items ≡ [] }
+        ensures run { (map reply_of replies.new.items, self.new) ≡ play self.old (map event_of (take (length replies.new.items) events.now)) }
+        ensures all { OnOk result (length replies.new.items ≡ length events.now) }
+        ensures short { OnErr result (length replies.new.items < length events.now) }
+    {
+        for event in events {
+            replies.reserve(1)?;
+            let reply = self.step(alloc, event)?;
+            replies.push_reserved(reply);
+        }
+        Ok(())
+    }
+}

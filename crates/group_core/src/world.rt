@@ -1,0 +1,110 @@
+//! A group, whose type keeps that some run leads to it.
+
+ghost use Rattle.std.specs.Prelude.{◌≡◌, ◌≤◌, IfOk, OnErr, [], ◌∷◌};
+ghost use Rattle.std.specs.Arc.{arc_value};
+ghost use Rattle.metering_model.specs.World.{node_count, opening};
+ghost use Rattle.metering_model.specs.Step.{snapshot, step};
+ghost use Rattle.group_laws.specs.Headline.{AtMostOneIsChosen};
+ghost use Rattle.group_laws.specs.EveryRun.{KeepsLimits};
+ghost use Rattle.group_events.specs.Events.{event_of};
+ghost use Rattle.group_events.specs.Replies.{reply_of};
+ghost use Rattle.group_world.specs.Reached.{IsReached};
+ghost use Rattle.group_core.specs.Headline.{AreExportsOf, ChargesOnce, ExportsStay, HasOneList, IsExportOf, IsSameGroup, LearnsWhatIsChosen, ListGrows};
+
+use group_world::{Event, GroupState, Reply, Snapshot};
+use metering_model::Refusal;
+use price_sheet::{Issuer, Sheet};
+use std::alloc::{AllocError, Global};
+use std::marker::Model;
+use std::sync::Arc;
+
+/// A group: sheet, issuer, journals, the packets that were ever sent, and the nodes. It only comes from an opening world,
+/// by events: so what every run keeps is true of each world, without a look at its parts.
+#[derive(Drop)]
+pub struct World {
+    state: GroupState,
+}
+
+impl Model for World {
+    ghost use Rattle.metering_model.specs.World as model;
+    ghost use Rattle.group_world.specs.Reached.{IsReached};
+
+    ghost Value = { model.World };
+
+    ghost view = { λ w. w.state };
+
+    ghost invariant = { λ w. IsReached w.state };
+}
+
+impl World {
+    /// A group of so many nodes and agents before any event: nothing is journaled, sent, held or learned.
+    pub fn new(
+        alloc: Global,
+        nodes: u8,
+        agents: u8,
+        sheet: Arc<Sheet>,
+        issuer: Arc<Issuer>,
+    ) -> Result<World, AllocError>
+        requires nodes_from { 1 ≤ nodes }
+        requires nodes_to { nodes ≤ 99 }
+        requires agents_from { 1 ≤ agents }
+        requires agents_to { agents ≤ 64 }
+        ensures { IfOk result (λ world. world ≡ opening nodes agents (arc_value sheet) (arc_value issuer)) }
+    {
+        let _ = sheet.base_month();
+        let state = GroupState::new(alloc, nodes, agents, sheet, issuer)?;
+        Ok(World { state })
+    }
+
+    /// Some run leads here. The call does nothing: its clause is what each world's type keeps.
+    pub fn reached(&self)
+        ensures { IsReached self.now }
+    {
+        let _ = &self.state;
+    }
+
+    /// Packets, ballots, cuts and holdings keep the limits that every run keeps. The call does nothing.
+    pub fn limits(&self)
+        ensures { KeepsLimits (node_count self.now) self.now.agents self.now }
+    {
+        self.reached();
+    }
+
+    /// What is agreed in every world: no period has two chosen cuts, the chosen ones are one growing list of which each node
+    /// has learned the first ones, and each reading is charged as new once. The call does nothing.
+    pub fn agreed(&self)
+        ensures one_cut { AtMostOneIsChosen self.now }
+        ensures learned { LearnsWhatIsChosen self.now }
+        ensures cuts { HasOneList self.now }
+        ensures charged_once { ChargesOnce self.now }
+    {
+        self.reached();
+    }
+
+    /// Does one event, and answers it. A refused event, and an error, which says that there was no memory, leave the world as
+    /// it was. An export that is answered is of two neighbouring chosen cuts.
+    pub fn step(&mut self, alloc: Global, event: &Event) -> Result<Reply, AllocError>
+        ensures ok { IfOk result (λ reply. (reply_of reply, self.new) ≡ step self.old (event_of event.now)) }
+        ensures err { OnErr result (self.new ≡ self.old) }
+        ensures exports { IfOk result (λ reply. AreExportsOf self.new (reply_of reply ∷ [])) }
+        ensures group { IsSameGroup self.old self.new }
+        ensures grows { ListGrows self.old self.new }
+        ensures stay { ExportsStay self.old self.new }
+    {
+        self.state.step(alloc, event)
+    }
+
+    /// What an export of a period at a node is answered with; or why it is refused, which is told first for a node that is
+    /// not there, then for a period that the node has not learned, then for a batch that it lacks. Nothing changes.
+    pub fn snapshot(
+        &self,
+        alloc: Global,
+        node: u8,
+        period: u16,
+    ) -> Result<Result<Snapshot, Refusal>, AllocError>
+        ensures value { IfOk result (λ answer. answer ≡ snapshot self.now node period) }
+        ensures export { IfOk result (λ answer. IfOk answer (λ taken. IsExportOf self.now taken)) }
+    {
+        self.state.snapshot(alloc, node, period)
+    }
+}
