@@ -1,7 +1,7 @@
 -- Which value a whole number writes.
-use Rattle.std.proofs.Common.{◌≡◌, ℕ, ◌+◌, ◌*◌, ◌≤◌, true, false, List, [], ◌++◌, Ok, refl, sym, ap, ◌∙◌, arith, ℤ, pos, append-nil}
+use Rattle.std.proofs.Common.{◌≡◌, ℕ, ◌*◌, ◌≤◌, true, false, List, [], Ok, refl, sym, ap, ◌∙◌, arith, pos, append-nil}
 use Rattle.std.proofs.lemmas.Bool.{cond-true, lt-ltb, false≢true}
-use Rattle.metering_model.specs.NumberText.{is_whole_part, number_of, worth_of, units_of, number_in, value_within, value_limit, value_in, Spells}
+use Rattle.metering_model.specs.NumberText.{is_whole_part, number_of, worth_of, units_of, value_within, value_limit, value_in, Spells}
 use Rattle.metering_model.proofs.NumberLaws.{spelled_number}
 
 whole_units : (t : List ℕ) → number_of t * 1_000_000 ≡ units_of 6 t []

@@ -2,7 +2,7 @@
 use Rattle.std.proofs.Common.{◌≡◌, ◌*◌, ◌<◌, ◌≤◌, Some, pos, to_z, w64, unsigned_abs, sym, ap, subst, ◌∙◌, arith}
 use Rattle.std.specs.Result.{result_ok}
 use Rattle.std.proofs.lemmas.Int.{ints}
-use Rattle.metering_model.specs.NumberText.{number_of, value_limit, value_in}
+use Rattle.metering_model.specs.NumberText.{number_of, value_limit}
 use Rattle.record_view.proofs.ValueLaws.{whole_value}
 use Rattle.record_view.proofs.numbers.read_value.Goals as goal
 
