@@ -1,6 +1,6 @@
 //! Rows that are written piece by piece.
 
-ghost use Rattle.std.specs.Prelude.{◌≡◌, Err, IfErr, OnOk, OnErr, map};
+ghost use Rattle.std.specs.Prelude.{◌≡◌, ◌++◌, Err, IfErr, OnOk, OnErr, map};
 ghost use Rattle.std.specs.List.{flat_map};
 ghost use Rattle.std.specs.Io.KnownBytes.{Appends};
 ghost use Rattle.counted_io.specs.Counts.{Rises, count_after};
@@ -16,7 +16,7 @@ use focus_row::{FocusRow, RowsBetween};
 use std::alloc::Global;
 
 /// Writes a text.
-pub(crate) fn write_text<W: Sink>(sink: &mut W, text: &[u8]) -> Result<(), CsvFault>
+fn write_text<W: Sink>(sink: &mut W, text: &[u8]) -> Result<(), CsvFault>
     ensures written { OnOk result (Appends (W.contents sink.old) (W.contents sink.new) text.now) }
     ensures front { OnErr result (AppendsFront (W.contents sink.old) (W.contents sink.new) text.now) }
     ensures fault { IfErr result (λ fault. fault ≡ CsvFault.Write) }
@@ -30,11 +30,7 @@ pub(crate) fn write_text<W: Sink>(sink: &mut W, text: &[u8]) -> Result<(), CsvFa
 }
 
 /// Writes the lines of these rows, whose text is made first.
-fn write_rows<W: Sink>(
-    alloc: Global,
-    rows: &[FocusRow<'_>],
-    sink: &mut W,
-) -> Result<(), CsvFault>
+fn write_rows<W: Sink>(alloc: Global, rows: &[FocusRow<'_>], sink: &mut W) -> Result<(), CsvFault>
     ensures written { OnOk result
         (Appends (W.contents sink.old) (W.contents sink.new) (flat_map row_text (map model_row rows.now))) }
     ensures front { result ≡ Err CsvFault.Write
@@ -50,7 +46,7 @@ fn write_rows<W: Sink>(
 }
 
 /// Writes the lines of the rows that are still to come, batch by batch.
-pub(crate) fn write_left<W: Sink>(
+fn write_left<W: Sink>(
     alloc: Global,
     left: &mut RowsBetween<'_>,
     sink: &mut W,
@@ -71,6 +67,30 @@ pub(crate) fn write_left<W: Sink>(
         let Some(rows) = next else {
             return Ok(());
         };
-        write_rows(alloc, rows.as_slice(), sink)?;
+        if let Err(fault) = write_rows(alloc, rows.as_slice(), sink) {
+            return Err(fault);
+        }
+    }
+}
+
+/// Writes a head, and behind it the lines of the rows that are still to come, batch by batch.
+pub(crate) fn write_behind<W: Sink>(
+    alloc: Global,
+    head: &[u8],
+    left: &mut RowsBetween<'_>,
+    sink: &mut W,
+) -> Result<(), CsvFault>
+    ensures written { OnOk result
+        (Appends (W.contents sink.old) (W.contents sink.new) (head.now ++ flat_map row_text left.old)) }
+    ensures front { result ≡ Err CsvFault.Write
+        → AppendsFront (W.contents sink.old) (W.contents sink.new) (head.now ++ flat_map row_text left.old) }
+    ensures memory { result ≡ Err CsvFault.OutOfMemory
+        → AppendsSome (W.contents sink.old) (W.contents sink.new) (head.now ++ flat_map row_text left.old) }
+    ensures fault { result ≡ Err CsvFault.Write → Rises (W.failed_calls sink.old) (W.failed_calls sink.new) }
+    ensures count { W.failed_calls sink.new ≡ count_after (is_sink_fault result) (W.failed_calls sink.old) }
+{
+    match write_text(sink, head) {
+        Ok(()) => write_left(alloc, left, sink),
+        Err(fault) => Err(fault),
     }
 }

@@ -13,14 +13,19 @@ use std::alloc::{AllocError, Global};
 #[derive(Drop)]
 pub enum Reply {
     /// The batch stands in the journals, and the packet of this number carries it.
-    Journaled { packet: u32 },
+    Journaled {
+        packet: u32,
+    },
     /// The node took the packet, sent the packet of that number, and learned the cut of that period, if it did so.
     Delivered {
         sent: Option<u32>,
         learned: Option<Period>,
     },
     /// The node began this ballot, and sent the packet of this number.
-    Started { ballot: Ballot, packet: u32 },
+    Started {
+        ballot: Ballot,
+        packet: u32,
+    },
     /// The node keeps what it kept, and has no ballot of its own any more.
     Restarted,
     /// What the file of the period is made of.

@@ -15,7 +15,7 @@ ghost use Rattle.charge_row.specs.FocusRows.{model_row};
 ghost use Rattle.focus_csv.specs.Faults.{is_sink_fault};
 ghost use Rattle.group_events.specs.Snapshots.{AppendsSome, IsExportable};
 
-use crate::pieces::{write_left, write_text};
+use crate::pieces::write_behind;
 use batch_store::Store;
 use counted_io::Sink;
 use focus_csv::{CsvFault, header_text};
@@ -169,8 +169,7 @@ impl Snapshot {
         let Ok(mut left) = self.left(alloc) else {
             return Err(CsvFault::OutOfMemory);
         };
-        write_text(sink, header_text())?;
-        write_left(alloc, &mut left, sink)
+        write_behind(alloc, header_text(), &mut left, sink)
     }
 
     /// An equal snapshot, which shares its cuts, its batches, its sheet and its issuer.

@@ -1,15 +1,15 @@
 -- What is kept stays within its limits.
-use Rattle.std.proofs.Common.{◌≡◌, ℕ, ◌+◌, ◌<◌, Bool, true, false, cond, sym, subst, arith}
+use Rattle.std.proofs.Common.{◌≡◌, ℕ, ◌≤◌, Bool, true, false, cond, sym, subst}
 use Rattle.std.proofs.lemmas.Option.{same_Some}
 use Rattle.metering_model.specs.Ballot.{Acceptor, after_prepare}
 use Rattle.metering_model.specs.Holding.{Holding}
 use Rattle.batch_store.specs.Stores.{Stored}
 use Rattle.node_kept.specs.Kept.{KeptAmong, IsBallotNumber, IsKept}
 
--- one round more
-pub started_kept : (k : KeptAmong) → IsKept k → k.kept.round < 10_000 → IsKept (record { agents = k.agents; kept = record k.kept { round = k.kept.round + 1 } })
-started_kept k is below = record {
-  round = omega arith;
+-- another round
+pub started_kept : (k : KeptAmong) (round : ℕ) → IsKept k → round ≤ 10_000 → IsKept (record { agents = k.agents; kept = record k.kept { round = round } })
+started_kept k round is within = record {
+  round = within;
   periods = is.periods;
   cuts = is.cuts;
   promised = is.promised;

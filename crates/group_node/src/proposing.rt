@@ -1,5 +1,6 @@
 //! What a node proposes.
-ghost use Rattle.std.specs.Prelude.{◌≡◌, ℕ, ◌<◌, length, if◌then◌else◌, IfOk, OnErr, Some, None, Option};
+ghost use Rattle.std.specs.Prelude.{◌≡◌, ℕ, ◌<◌, length, if◌then◌else◌, IfOk, IfSome, OnErr, Some, None, Option};
+ghost use Rattle.std.specs.List.{last_or};
 ghost use Rattle.std.specs.Option.{option_copied, option_map};
 ghost use Rattle.std.specs.Arc.{arc_value};
 ghost use Rattle.metering_model.specs.Dates.{IsBaseMonth};
@@ -30,6 +31,15 @@ fn count_promise(attempt: &mut Attempt, from: u8, vote: Option<Vote>)
 }
 
 impl Node {
+    /// The cut that the node has learned last.
+    fn last_learned(&self) -> Option<&Arc<Cut>>
+        ensures cut { option_map arc_value (option_copied result) ≡ last_or None self.now.node.kept.learned }
+        ensures size { IfSome result (λ cut. length (arc_value cut.now) ≡ self.now.agents) }
+    {
+        let kept = &self.kept;
+        kept.learned.last()
+    }
+
     /// How far what the node holds can be closed for its current period.
     fn own_front(&self, alloc: Global, base: Month, period: Period) -> Result<Cut, AllocError>
         requires base { IsBaseMonth base }
@@ -37,7 +47,7 @@ impl Node {
         ensures { IfOk result (λ cut. cut ≡ proposal_at base self.now.agents self.now.node None) }
     {
         let kept = &self.kept;
-        if let Some(cut) = kept.learned.last() {
+        if let Some(cut) = self.last_learned() {
             return kept.store.due_front(alloc, cut, period, base);
         }
         let zero = Cut::zero(alloc, kept.store.agents())?;

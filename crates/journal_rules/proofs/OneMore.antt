@@ -6,7 +6,7 @@ use Rattle.metering_model.specs.Batch.{Batch}
 use Rattle.metering_model.specs.Holding.{Holding, IsHolding, Position, held, is_batch_at, put, reading_at, reading_of}
 use Rattle.metering_model.specs.JournalRules.{is_fit_target}
 use Rattle.metering_model.proofs.BatchOrder.{place_of_batch}
-use Rattle.metering_model.proofs.HoldingLaws.{held-put_other, held-put_same, put_held}
+use Rattle.metering_model.proofs.HoldingLaws.{held-put_other, held-put_same}
 use Rattle.std.specs.Prelude.{unwrap_or}
 
 module _ (h : Holding) (b : Batch) (p : Position) (value : ℤ) where

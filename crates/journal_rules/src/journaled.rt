@@ -42,10 +42,10 @@ fn is_fit_reading(sheet: &Sheet, reading: &Reading<'_>) -> bool
 }
 
 /// Whether the record takes the value as an amendment: it is a reading, and no priced one has a negative value.
-fn takes_value(record: &Record<'_>, value: Value) -> bool
-    ensures { result ≡ is_fit_target value (reading_of (record_of «record».now)) }
+fn takes_value(what: &Record<'_>, value: Value) -> bool
+    ensures { result ≡ is_fit_target value (reading_of (record_of what.now)) }
 {
-    match record {
+    match what {
         Record::Reading(reading) => !is_priced(reading.kind) || value.millionths() >= 0,
         Record::Amend { .. } => false,
     }
@@ -138,12 +138,12 @@ impl<'a> Journaled<'a> {
     }
 
     /// The rule that a record at a place breaks.
-    fn broken_by(&self, sheet: &Sheet, place: Place, record: &Record<'_>) -> Option<BrokenRule>
+    fn broken_by(&self, sheet: &Sheet, place: Place, what: &Record<'_>) -> Option<BrokenRule>
         requires from { 1 ≤ place.agent }
         requires to { place.agent ≤ self.now.agents }
-        ensures { result ≡ broken_by sheet.now self.now.batches (position_of place) (record_of «record».now) }
+        ensures { result ≡ broken_by sheet.now self.now.batches (position_of place) (record_of what.now) }
     {
-        match record {
+        match what {
             Record::Reading(reading) => {
                 if is_fit_reading(sheet, reading) {
                     None

@@ -1,7 +1,6 @@
 use Rattle.std.proofs.Common.{◌≡◌, Some, sym, ap, subst, ◌∙◌, arith}
 use Rattle.std.proofs.lemmas.Option.{same_Some}
-use Rattle.metering_model.specs.Batch.{Batch}
-use Rattle.metering_model.specs.Holding.{held, placed, put}
+use Rattle.metering_model.specs.Holding.{held, placed}
 use Rattle.metering_model.specs.JournalRules.{first_broken}
 use Rattle.metering_model.proofs.HoldingLaws.{put_held}
 use Rattle.batch_view.specs.Batches.{batch_of}

@@ -15,7 +15,7 @@ invariant_of-self c =
       c.self.invariant.0,
       record {
         few = c.self.invariant.1.few;
-        kept = started_kept _ (subst IsKept (sym c.kept.view_is) c.self.invariant.1.kept) (omega arith);
+        kept = started_kept _ _ (subst IsKept (sym c.kept.view_is) c.self.invariant.1.kept) (omega arith);
         attempt = λ a e. subst (λ (x : Attempt). length x.promising ≡ c.self.inside.voters) (same_Some _ _ e) size;
       },
     )
