@@ -1,4 +1,4 @@
-use Rattle.std.proofs.Common.{◌≡◌, length, sym, ap, subst, arith}
+use Rattle.std.proofs.Common.{◌≡◌, length, sym, ap, subst, arith, rules}
 use Rattle.std.proofs.lemmas.List.{length-replicate}
 use Rattle.std.proofs.lemmas.Option.{same_Some}
 use Rattle.metering_model.specs.Ballot.{Attempt}
@@ -19,3 +19,6 @@ invariant_of-self c =
         attempt = λ a e. subst (λ (x : Attempt). length x.promising ≡ c.self.inside.voters) (same_Some _ _ e) size;
       },
     )
+
+pub returns-clause-ballot : goal.returns-clause-ballot
+returns-clause-ballot c = search rules
