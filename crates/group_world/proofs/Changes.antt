@@ -1,5 +1,5 @@
 -- What the parts of a world say of it, and of the world that an event leaves.
-use Rattle.std.proofs.Common.{◌≡◌, ℕ, zero, suc, ◌+◌, ◌<◌, ◌≤◌, Bool, true, false, List, [], ◌∷◌, ◌++◌, length, get_or, map, refl, sym, subst, ap, ◌∙◌, arith, Option, Some, None, Result, Ok, Err, nat_lt, nat_le, eqb, replicate}
+use Rattle.std.proofs.Common.{◌≡◌, ℕ, zero, suc, ◌<◌, ◌≤◌, Bool, true, false, List, [], ◌∷◌, ◌++◌, length, get_or, map, refl, sym, subst, ap, ◌∙◌, arith, Option, Some, None, Result, Ok, Err, nat_lt, nat_le, replicate}
 use Rattle.std.specs.Prelude.{slice_get, slice_set, ◌==◌, All}
 use Rattle.std.specs.Option.{is_some, option_map}
 use Rattle.std.specs.List.{cons_option}
@@ -13,11 +13,11 @@ use Rattle.metering_model.specs.JournalRules.{next_seq, first_broken}
 use Rattle.metering_model.specs.declared.BrokenRule.{BrokenRule}
 use Rattle.metering_model.specs.declared.Refusal.{Refusal}
 use Rattle.metering_model.specs.declared.Refusal.TheVariants.{WorldFull, WrongSeq}
-use Rattle.metering_model.specs.World.{World, Node, Packet, Good, Journal, Deliver, Start, Restart, Refused, Restarted, Reply, Delivered, Started, new_kept, wake, current_period, voter_count}
+use Rattle.metering_model.specs.World.{World, Node, Packet, Good, Journal, Deliver, Start, Restart, Restarted, Reply, Delivered, new_kept, wake, current_period, voter_count}
 use Rattle.metering_model.specs.Deliveries.{Handled, handled}
-use Rattle.metering_model.specs.Step.{Outcome, after_delivery, first_missing, on_batch, on_delivery, on_start, on_restart, or_refused, started_node, step, unless_broken}
+use Rattle.metering_model.specs.Step.{Outcome, after_delivery, first_missing, on_batch, on_delivery, or_refused, started_node, step, unless_broken}
 use Rattle.group_node.specs.Nodes.{NodeAmong}
-use Rattle.group_node.specs.Handling.{Does, Answers}
+use Rattle.group_node.specs.Handling.{Answers}
 use Rattle.group_node.specs.Packets.{IsPacketAmong}
 use Rattle.group_node.proofs.Among.{packet_of_run}
 use Rattle.group_laws.specs.EveryRun.{IsNode}
@@ -26,7 +26,7 @@ use Rattle.group_world.specs.Reached.{IsReached}
 use Rattle.group_world.specs.Inner.Members.{IsMember, AreMembers, Begins, next_ballot}
 use Rattle.group_world.specs.Inner.Allowed.{MayJournal, MayDeliver, HandsOver, MayBegin, MayTake}
 use Rattle.group_world.proofs.Lookups.{found_at}
-use Rattle.group_world.proofs.Outcomes.{wrong_seq, no_room_for_batch, journals_batch, no_room_for_answer, delivers, delivers_and_sends, starts, restarts}
+use Rattle.group_world.proofs.Outcomes.{wrong_seq, no_room_for_batch, journals_batch, delivers, delivers_and_sends, starts, restarts}
 use Rattle.group_world.proofs.Parts.{at_entry, node_here, learned_size, grows_from_before, rules_of_export}
 use Rattle.group_world.proofs.Reaching.{limits_here, still_open}
 
@@ -97,6 +97,7 @@ module _ (w : World) (k i : ℕ) (q : Packet) (n : Node) (sent : slice_get w.pac
     where
       both : {b : Bool} → b ≡ false → b ≡ true → ⊥
       both {b} e f = absurd (cc)
+
       same_two : (m : Node) (p : Packet) → ◌≡◌ {A = Option Node} (Some n) (Some m) → ◌≡◌ {A = Option Packet} (Some q) (Some p) → ◌≡◌ {A = Node × Packet} (n, q) (m, p)
       same_two m p e f = cc
 
@@ -106,6 +107,7 @@ module _ (w : World) (k i : ℕ) (q : Packet) (n : Node) (sent : slice_get w.pac
       by_option : (h : Handled) (o : Option Packet) → is_some o ≡ true → h.sends ≡ o → after_delivery w i h ≡ Err WorldFull
       by_option h None s e = absurd (cc)
       by_option h (Some p) s e = rw (e, full) refl
+
       by_sends : (h : Handled) → is_some h.sends ≡ true → after_delivery w i h ≡ Err WorldFull
       by_sends h s = by_option h h.sends s refl
 
@@ -123,10 +125,13 @@ delivered w agents base k i at ns after n m r same month stores are place low e 
   where
     found : slice_get w.nodes i ≡ Some n.node
     found = node_found w ns i n same low e
+
     member : IsMember (voter_count w) w.agents n
     member = member_here w agents i ns n same stores are low e
+
     does : handled w i n.node h.packet ≡ record { node = m.node; sends = h.sends; learns = h.learns }
     does = h.does.handles w month (sym member.stores) (sym member.votes)
+
     by_sends : (o : Option Packet) → h.sends ≡ o
         → ◌≡◌ {A = Outcome} (Delivered (option_map (λ q. length w.packets) h.sends) h.learns, record w { packets = w.packets ++ cons_option h.sends []; nodes = slice_set w.nodes i m.node }) (step w (Deliver k i))
     by_sends None s = rw (s, append-nil) (sym (ap (or_refused w) (delivers w k i h.packet n.node m.node h.was found h.learns (does ∙ ap (λ o. record { node = m.node; sends = o; learns = h.learns }) s))))
@@ -146,6 +151,7 @@ begun w i at period ns after n m r same votes place low e may h =
   where
     found : slice_get w.nodes i ≡ Some n.node
     found = node_found w ns i n same low e
+
     works : (current_period n.node ≡ period) × (period < 1_200) × (n.node.kept.round < 10_000)
     works = may.works n.node found
 

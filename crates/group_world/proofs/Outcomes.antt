@@ -1,19 +1,16 @@
 -- What an event is answered, case by case.
-use Rattle.std.proofs.Common.{◌≡◌, ℕ, ◌+◌, ◌<◌, ◌≤◌, Bool, true, false, List, [], ◌∷◌, length, refl, sym, ap, ◌∙◌, Option, Some, None, Result, Ok, Err, nat_lt, nat_le}
+use Rattle.std.proofs.Common.{◌≡◌, ℕ, ◌+◌, Bool, true, false, length, refl, Option, Some, None, Ok, Err, nat_lt, nat_le}
 use Rattle.std.specs.Prelude.{slice_get, ◌==◌}
 use Rattle.metering_model.specs.Batch.{Batch}
-use Rattle.metering_model.specs.BatchReading.{batch_in}
 use Rattle.metering_model.specs.Holding.{placed, put}
 use Rattle.metering_model.specs.JournalRules.{next_seq, first_broken}
-use Rattle.metering_model.specs.declared.BrokenRule.{BrokenRule}
 use Rattle.metering_model.specs.declared.BrokenRule.TheVariants.{BadTarget as BreaksTarget, Unpriced as BreaksPrice}
-use Rattle.metering_model.specs.declared.Refusal.{Refusal}
 use Rattle.metering_model.specs.declared.Refusal.TheVariants.{NoPacket, NoNode, NoAgent, WrongSeq, BadTarget, Unpriced, AllClosed, NoBallot, WorldFull, NotClosed, Missing}
 use Rattle.metering_model.specs.Ballot.{ballot_of}
 use Rattle.metering_model.specs.Cut.{Cut}
-use Rattle.metering_model.specs.World.{World, Node, Packet, CarriesBatch, Prepare, Journaled, Delivered, Started, Restarted, voter_count, current_period, wake, with_node_at, with_packet, next_packet}
-use Rattle.metering_model.specs.Deliveries.{Handled, handled}
-use Rattle.metering_model.specs.Step.{Outcome, on_batch, on_delivery, on_start, on_restart, started_node, snapshot, cut_before, first_missing}
+use Rattle.metering_model.specs.World.{World, Node, Packet, CarriesBatch, Prepare, Journaled, Delivered, Started, Restarted, voter_count, current_period, wake, with_node_at, with_packet}
+use Rattle.metering_model.specs.Deliveries.{handled}
+use Rattle.metering_model.specs.Step.{on_batch, on_delivery, on_start, on_restart, started_node, snapshot, cut_before, first_missing}
 use Rattle.metering_model.specs.Holding.{up_to}
 
 -- ---- a batch is journaled

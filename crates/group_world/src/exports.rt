@@ -19,12 +19,7 @@ use std::alloc::{AllocError, Global};
 use std::sync::Arc;
 
 /// The cut that a node has learned for the period before, shared; the zero cut where there is none.
-fn cut_before(
-    alloc: Global,
-    node: &Node,
-    agents: u8,
-    period: u16,
-) -> Result<Arc<Cut>, AllocError>
+fn cut_before(alloc: Global, node: &Node, agents: u8, period: u16) -> Result<Arc<Cut>, AllocError>
     requires from { 1 ≤ agents }
     requires to { agents ≤ 64 }
     ensures { IfOk result (λ cut. arc_value cut ≡ cut_before agents node.now.node.kept.learned period) }

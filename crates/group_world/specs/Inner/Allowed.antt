@@ -1,5 +1,5 @@
 -- When an event is not refused, and what it does then.
-use Rattle.std.specs.Prelude.{◌≡◌, ℕ, ◌<◌, ◌≤◌, ◌++◌, [], List, length, map, Option, Some, None, true, slice_get, Ok}
+use Rattle.std.specs.Prelude.{◌≡◌, ℕ, ◌<◌, ◌≤◌, ◌++◌, [], List, length, Option, Some, None, true, slice_get, Ok}
 use Rattle.std.specs.Option.{is_some, option_map}
 use Rattle.std.specs.List.{cons_option}
 use Rattle.metering_model.specs.Batch.{Batch}

@@ -1,4 +1,4 @@
-use Rattle.std.proofs.Common.{◌≡◌, ◌++◌, [], ◌∷◌, ◌<◌, length, map, Option, Some, None, refl, sym, ap, ◌∙◌, arith}
+use Rattle.std.proofs.Common.{◌≡◌, length, map, Some, None, refl, ap, arith}
 use Rattle.std.proofs.lemmas.List.{map-append, length-map, append-nil}
 use Rattle.metering_model.specs.World.{Delivered}
 use Rattle.group_node.specs.Packets.{packet_of}

@@ -1,6 +1,5 @@
 use Rattle.std.proofs.Common.{◌≡◌, replicate, ap, ◌∙◌, arith}
 use Rattle.metering_model.specs.World.{new_kept, wake}
-use Rattle.group_node.specs.Nodes.{NodeAmong}
 use Rattle.group_world.proofs.state.new_nodes.Goals as goal
 
 pub returns : goal.returns

@@ -1,8 +1,8 @@
-use Rattle.std.proofs.Common.{◌≡◌, ◌<◌, List, length, map, refl, arith, ap, subst, ◌∙◌, sym}
+use Rattle.std.proofs.Common.{◌<◌, length, map, refl, arith, ap, subst, ◌∙◌, sym}
 use Rattle.std.specs.Prelude.{slice_get}
 use Rattle.std.proofs.lemmas.List.{length-map}
 use Rattle.metering_model.specs.Sheet.{Sheet}
-use Rattle.metering_model.specs.World.{World, Packet}
+use Rattle.metering_model.specs.World.{World}
 use Rattle.group_node.specs.Nodes.{NodeAmong}
 use Rattle.group_node.specs.Packets.{packet_of}
 use Rattle.group_events.specs.Replies.{reply_of}
@@ -37,4 +37,4 @@ returns-clause-ok c =
     let month = sym (c.base_month-base.ensures.value ∙ ap (λ (s : Sheet). s.base) c.deref.ensures) in
     rw (← c.self.view_is)
     (delivered _ _ c.base_month-base.result c.args.packet c.args.node c.from.result c.self.inside.nodes.items (map packet_of c.hand_over.new.packets.items) c.index_mut.result.now c.hand_over.new.node (reply_of c.in_ok-reply.reply) refl month
-      refl c.self.invariant c.from.ensures low (rw (← c.from.ensures) c.index_mut.ensures.value) here c.in_ok-reply.ensures.ok)
+    refl c.self.invariant c.from.ensures low (rw (← c.from.ensures) c.index_mut.ensures.value) here c.in_ok-reply.ensures.ok)

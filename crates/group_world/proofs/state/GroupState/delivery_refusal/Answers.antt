@@ -1,4 +1,4 @@
-use Rattle.std.proofs.Common.{◌≡◌, sym, ◌∙◌}
+use Rattle.std.proofs.Common.{sym, ◌∙◌}
 use Rattle.group_node.specs.Packets.{packet_of}
 use Rattle.group_world.proofs.Changes.{among_here, may_in_silence, sends_here}
 use Rattle.group_world.proofs.state.GroupState.delivery_refusal.Goals as goal
@@ -9,4 +9,4 @@ sends-requires c = among_here c.args.self.now c.args.packet (packet_of c.in-Some
 pub returns-else-sends : goal.returns-else-sends
 returns-else-sends c =
     may_in_silence c.args.self.now c.args.packet c.args.node (packet_of c.in-Some.what.now) c.in-Some-node.taker.now.node (sym c.in-Some.ensures) (sym c.in-Some-node.ensures.node)
-      (sends_here c.args.self.now c.args.node (packet_of c.in-Some.what.now) c.in-Some-node.taker.now c.sends.result c.in-Some-node.ensures.member.votes c.sends.ensures ∙ c.if-sends.false)
+    (sends_here c.args.self.now c.args.node (packet_of c.in-Some.what.now) c.in-Some-node.taker.now c.sends.result c.in-Some-node.ensures.member.votes c.sends.ensures ∙ c.if-sends.false)

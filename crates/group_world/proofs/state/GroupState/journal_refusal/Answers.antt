@@ -1,4 +1,4 @@
-use Rattle.std.proofs.Common.{◌≡◌, ap, ◌∙◌, sym, arith}
+use Rattle.std.proofs.Common.{ap, ◌∙◌, sym, arith}
 use Rattle.metering_model.specs.Holding.{placed, put}
 use Rattle.metering_model.specs.JournalRules.{first_broken}
 use Rattle.batch_view.specs.Batches.{batch_of}

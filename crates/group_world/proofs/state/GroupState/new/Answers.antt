@@ -1,4 +1,4 @@
-use Rattle.std.proofs.Common.{◌≡◌, ◌∙◌, ap, refl}
+use Rattle.std.proofs.Common.{◌∙◌, ap, refl}
 use Rattle.group_world.proofs.Changes.{nodes_in, opening_nodes}
 use Rattle.group_world.proofs.state.GroupState.new.Goals as goal
 

@@ -10,6 +10,6 @@ returns-clause-next c =
     let same = ap (λ (w : World). w.journals) c.self.view_is in
     let found = c.first_absent.ensures in
     next_is_absent c.args.self.now.sheet c.args.self.now.journals c.args.agent c.first_absent.result c.requires.rules
-      (subst (λ h. held h c.args.agent c.first_absent.result ≡ None) same found.absent)
-      found.range.0
-      (λ seq low high. subst (λ h. is_some (held h c.args.agent seq) ≡ true) same (found.below seq low high))
+    (subst (λ h. held h c.args.agent c.first_absent.result ≡ None) same found.absent)
+    found.range.0
+    (λ seq low high. subst (λ h. is_some (held h c.args.agent seq) ≡ true) same (found.below seq low high))

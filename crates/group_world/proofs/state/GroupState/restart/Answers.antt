@@ -1,5 +1,4 @@
 use Rattle.std.proofs.Common.{refl, arith, ap}
-use Rattle.metering_model.specs.World.{World}
 use Rattle.group_node.specs.Nodes.{NodeAmong}
 use Rattle.group_world.proofs.Changes.{restarted}
 use Rattle.group_world.proofs.state.GroupState.restart.Goals as goal

@@ -1,4 +1,4 @@
-use Rattle.std.proofs.Common.{◌≡◌, length, None, ap, subst, ◌∙◌, sym}
+use Rattle.std.proofs.Common.{length, ap, subst, ◌∙◌, sym}
 use Rattle.std.specs.Arc.{arc_value}
 use Rattle.metering_model.specs.World.{voter_count}
 use Rattle.metering_model.specs.Step.{first_missing}
