@@ -1,6 +1,6 @@
 //! The records of a batch.
 
-ghost use Rattle.std.specs.Prelude.{◌≡◌, ◌≢◌, ◌≤◌, ◌∷◌, [], length, map, slice_range, IsTrue, OnOk, IfOk, IfErr, IfSome, IfNone, MatchResult, Ok, Err, true, false, ℕ, List, codes};
+ghost use Rattle.std.specs.Prelude.{◌≡◌, ◌≢◌, ◌<◌, ◌≤◌, ◌∷◌, [], length, map, slice_range, IsTrue, OnOk, IfOk, IfErr, IfSome, IfNone, MatchResult, Ok, Err, true, false, ℕ, List, codes};
 ghost use Rattle.metering_model.specs.FirstFailure.{holds_or};
 ghost use Rattle.metering_model.specs.Batch.{is_priced, is_text};
 ghost use Rattle.metering_model.specs.BatchReading.{is_same, kind_in, record_in, fields_in};
@@ -191,6 +191,24 @@ struct AmendmentFields<'a> {
     value: Field<'a>,
 }
 
+/// The first four fields, and what stands behind them, if anything does.
+#[tactic(auto, using(crate::proofs::PartLaws::some_part))]
+fn first_four<'a>(
+    rest: Field<'a>,
+) -> Option<(Field<'a>, Field<'a>, Field<'a>, Field<'a>, Field<'a>)>
+    requires { IsPlaced (lent rest) }
+    ensures none { IfNone result (length (parts_at 124 (lent rest.entry)) < 5) }
+    ensures some { IfSome result (λ p. parts_at 124 (lent rest.entry)
+        ≡ lent p.0 ∷ lent p.1 ∷ lent p.2 ∷ lent p.3 ∷ parts_at 124 (lent p.4)) }
+    ensures placed { IfSome result (λ p. IsPlaced (lent p.4)) }
+{
+    let (first, rest) = split_at_byte(rest, b'|')?;
+    let (second, rest) = split_at_byte(rest, b'|')?;
+    let (third, rest) = split_at_byte(rest, b'|')?;
+    let (fourth, rest) = split_at_byte(rest, b'|')?;
+    Some((first, second, third, fourth, rest))
+}
+
 /// The fields of a reading, if there are as many.
 #[tactic(auto, using(crate::proofs::PartLaws::some_part))]
 fn reading_fields<'a>(rest: Field<'a>) -> Option<ReadingFields<'a>>
@@ -199,10 +217,7 @@ fn reading_fields<'a>(rest: Field<'a>) -> Option<ReadingFields<'a>>
     ensures some { IfSome result (λ f. parts_at 124 (lent rest.entry) ≡ reading_parts f) }
     ensures placed { IfSome result (λ f. IsPlaced (lent f.tags)) }
 {
-    let (start, rest) = split_at_byte(rest, b'|')?;
-    let (end, rest) = split_at_byte(rest, b'|')?;
-    let (account, rest) = split_at_byte(rest, b'|')?;
-    let (resource, rest) = split_at_byte(rest, b'|')?;
+    let (start, end, account, resource, rest) = first_four(rest)?;
     let (key, rest) = split_at_byte(rest, b'|')?;
     let (value, rest) = split_at_byte(rest, b'|')?;
     let (commitment, tags) = split_at_byte(rest, b'|')?;
