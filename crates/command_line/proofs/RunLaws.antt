@@ -1,9 +1,9 @@
 -- What the status of a fault tells of the fault.
 use Rattle.std.proofs.Common.{◌≡◌, ◌≢◌, ◌⊎◌, ℕ, Result, Err, inl, inr, refl}
 use Rattle.counted_io.specs.Counts.{count_after, next_count}
-use Rattle.metering_model.specs.declared.Refusal.{Refusal}
 use Rattle.schedule_player.specs.declared.rate.PlayFault.{PlayFault}
 use Rattle.schedule_player.specs.declared.rate.PlayFault.TheVariants as play
+use Rattle.schedule_text.specs.declared.faults.ScheduleFault.TheVariants as section
 use Rattle.schedule_player.specs.Faults.{tells_of_reader, tells_of_writer}
 use Rattle.command_line.specs.declared.words.LineFault.{LineFault}
 use Rattle.command_line.specs.declared.words.LineFault.TheVariants as on_line
@@ -14,13 +14,6 @@ use Rattle.command_line.specs.Endings.{status_of}
 abbrev pub failed : PlayFault → Result (Unit {0}) PlayFault
 failed fault = Err fault
 
-pub is_refusal : (Q : Fault → Type 0) (fault : PlayFault) (status : ℕ) → status ≡ status_of (Play fault) → status ≡ 1 → Q (Play fault)
-    → (refusal : Refusal) × (fault ≡ play.Refused refusal) × Q (Play (play.Refused refusal))
-is_refusal Q play.Read status is one q = absurd (cc)
-is_refusal Q play.Write status is one q = absurd (cc)
-is_refusal Q play.OutOfMemory status is one q = absurd (cc)
-is_refusal Q (play.Refused refusal) status is one q = (refusal, refl, q)
-
 pub is_device : (Q : Fault → Type 0) (Kept : Type 0) (fault : PlayFault) (status reads_old reads writes_old writes : ℕ) → status ≡ status_of (Play fault) → status ≡ 3
     → reads ≡ count_after (tells_of_reader (failed fault)) reads_old → writes ≡ count_after (tells_of_writer (failed fault)) writes_old
     → (fault ≢ play.Write → Kept) → Q (Play fault)
@@ -28,13 +21,18 @@ pub is_device : (Q : Fault → Type 0) (Kept : Type 0) (fault : PlayFault) (stat
 is_device Q Kept play.Read status reads_old reads writes_old writes is three read wrote kept q = inl (read, wrote, kept (λ same. absurd (cc)), q)
 is_device Q Kept play.Write status reads_old reads writes_old writes is three read wrote kept q = inr (wrote, read, q)
 is_device Q Kept play.OutOfMemory status reads_old reads writes_old writes is three read wrote kept q = absurd (cc)
+is_device Q Kept (play.Schedule (section.Refused code line)) status reads_old reads writes_old writes is three read wrote kept q = absurd (cc)
+is_device Q Kept (play.Schedule section.OutOfMemory) status reads_old reads writes_old writes is three read wrote kept q = absurd (cc)
 is_device Q Kept (play.Refused refusal) status reads_old reads writes_old writes is three read wrote kept q = absurd (cc)
 
-pub is_memory : (Q : Fault → Type 0) (fault : PlayFault) (status : ℕ) → status ≡ status_of (Play fault) → status ≡ 4 → Q (Play fault) → Q (Play play.OutOfMemory)
-is_memory Q play.Read status is four q = absurd (cc)
-is_memory Q play.Write status is four q = absurd (cc)
-is_memory Q play.OutOfMemory status is four q = q
-is_memory Q (play.Refused refusal) status is four q = absurd (cc)
+pub is_memory : (Q : Fault → Type 0) (fault : PlayFault) (status : ℕ) → fault ≢ play.Schedule section.OutOfMemory
+    → status ≡ status_of (Play fault) → status ≡ 4 → Q (Play fault) → Q (Play play.OutOfMemory)
+is_memory Q play.Read status plain is four q = absurd (cc)
+is_memory Q play.Write status plain is four q = absurd (cc)
+is_memory Q play.OutOfMemory status plain is four q = q
+is_memory Q (play.Refused refusal) status plain is four q = absurd (cc)
+is_memory Q (play.Schedule (section.Refused code line)) status plain is four q = absurd (cc)
+is_memory Q (play.Schedule section.OutOfMemory) status plain is four q = absurd (plain refl)
 
 pub is_bad_line : (Q : Fault → Type 0) (fault : LineFault) (status : ℕ) → status ≡ status_of (Line fault) → status ≡ 2 → Q (Line fault)
     → (fault ≡ on_line.Line) × Q (Line on_line.Line)
@@ -53,3 +51,5 @@ never_zero (Play play.Read) status is zero = absurd (cc)
 never_zero (Play play.Write) status is zero = absurd (cc)
 never_zero (Play play.OutOfMemory) status is zero = absurd (cc)
 never_zero (Play (play.Refused refusal)) status is zero = absurd (cc)
+never_zero (Play (play.Schedule (section.Refused code line))) status is zero = absurd (cc)
+never_zero (Play (play.Schedule section.OutOfMemory)) status is zero = absurd (cc)

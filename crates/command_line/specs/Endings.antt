@@ -2,7 +2,10 @@
 use Rattle.std.specs.Prelude.{◌≡◌, ◌⊎◌, ℕ, List, ◌++◌, Option, codes}
 use Rattle.std.specs.Io.KnownBytes.{Appends}
 use Rattle.counted_io.specs.Counts.{next_count}
-use Rattle.metering_model.specs.Transcript.{line, refusal_text}
+use Rattle.metering_model.specs.Transcript.{line, refusal_text, with_number}
+use Rattle.schedule_text.specs.declared.faults.ScheduleCode.{ScheduleCode}
+use Rattle.schedule_text.specs.declared.faults.ScheduleCode.TheVariants as code
+use Rattle.schedule_text.specs.declared.faults.ScheduleFault.TheVariants as section
 use Rattle.command_line.specs.declared.words.LineFault.TheVariants as on_line
 use Rattle.schedule_player.specs.declared.rate.PlayFault.TheVariants as play
 use Rattle.command_line.specs.declared.endings.Fault.{Fault}
@@ -13,14 +16,31 @@ abbrev pub status_of : Fault → ℕ
 status_of (Line on_line.Line) = 2
 status_of (Line on_line.OutOfMemory) = 4
 status_of (Play (play.Refused refusal)) = 1
+status_of (Play (play.Schedule (section.Refused code line))) = 1
+status_of (Play (play.Schedule section.OutOfMemory)) = 4
 status_of (Play play.Read) = 3
 status_of (Play play.Write) = 3
 status_of (Play play.OutOfMemory) = 4
+
+abbrev pub section_code_text : ScheduleCode → List ℕ
+section_code_text code.Head = codes "L1"
+section_code_text code.Nodes = codes "L2"
+section_code_text code.Agents = codes "L3"
+section_code_text code.Sheet = codes "L4"
+section_code_text code.Issuer = codes "L5"
+section_code_text code.Event = codes "L6"
+section_code_text code.Lines = codes "L7"
+section_code_text code.TooLong = codes "L8"
+
+abbrev pub section_text : ScheduleCode → ℕ → List ℕ
+section_text code line = section_code_text code ++ with_number (codes " line ") line
 
 abbrev pub message_of : Fault → List ℕ
 message_of (Line on_line.Line) = codes "bad command line"
 message_of (Line on_line.OutOfMemory) = codes "out of memory"
 message_of (Play (play.Refused refusal)) = codes "refused " ++ refusal_text refusal
+message_of (Play (play.Schedule (section.Refused code line))) = codes "refused " ++ section_text code line
+message_of (Play (play.Schedule section.OutOfMemory)) = codes "out of memory"
 message_of (Play play.Read) = codes "read failed"
 message_of (Play play.Write) = codes "write failed"
 message_of (Play play.OutOfMemory) = codes "out of memory"

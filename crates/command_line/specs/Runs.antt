@@ -5,7 +5,7 @@ use Rattle.std.specs.Vec.Iter.{into_iter_items}
 use Rattle.std.specs.declared.vec.IntoIter.{IntoIter}
 use Rattle.std.specs.declared.io.Error.{Error}
 use Rattle.clap.specs.Words.{Text}
-use Rattle.metering_model.specs.declared.Refusal.{Refusal}
+use Rattle.schedule_player.specs.declared.rate.PlayFault.{PlayFault}
 use Rattle.schedule_player.specs.RateInput.{rated_file}
 use Rattle.schedule_player.specs.Charges.{IsFileOf}
 use Rattle.command_line.specs.CommandLine.{Asks}
@@ -25,6 +25,6 @@ AsksFor (Err error) command = ⊥
 abbrev pub IsDone : Command → Option (List ℕ) → Option (List ℕ) → Option (List ℕ) → Type 0
 IsDone (Rate period) known old new = (input text : List ℕ) × IsFileOf known period input text × Appends old new text
 
--- The command refuses the input so, where its bytes are known.
-abbrev pub Refuses : Command → Option (List ℕ) → Refusal → Type 0
-Refuses (Rate period) known refusal = IfSome known (λ input. rated_file period input ≡ Err refusal)
+-- The command refuses the input so, where its bytes are known: by its sections, or by its batch.
+abbrev pub Refuses : Command → Option (List ℕ) → PlayFault → Type 0
+Refuses (Rate period) known fault = IfSome known (λ input. rated_file period input ≡ Err fault)

@@ -5,10 +5,10 @@ ghost use Rattle.std.specs.Io.KnownBytes.{Appends};
 ghost use Rattle.counted_io.specs.Counts.{count_after};
 ghost use Rattle.command_line.specs.Endings.{Tells, ending_line, message_of, status_of};
 
-use crate::refusals::write_refusal;
+use crate::refusals::{write_refusal, write_section};
 use crate::words::LineFault;
 use counted_io::{Failed, Sink, write_all};
-use schedule_player::PlayFault;
+use schedule_player::{PlayFault, ScheduleFault};
 
 /// Why the program did not do what it is asked for.
 #[derive(Clone, Copy, Drop)]
@@ -23,10 +23,13 @@ fn status(fault: &Fault) -> u8
     ensures { result ≡ status_of fault.now }
 {
     match fault {
-        Fault::Play(PlayFault::Refused(_)) => 1,
+        Fault::Play(PlayFault::Refused(_))
+        | Fault::Play(PlayFault::Schedule(ScheduleFault::Refused { .. })) => 1,
         Fault::Line(LineFault::Line) => 2,
         Fault::Play(PlayFault::Read | PlayFault::Write) => 3,
-        Fault::Line(LineFault::OutOfMemory) | Fault::Play(PlayFault::OutOfMemory) => 4,
+        Fault::Line(LineFault::OutOfMemory)
+        | Fault::Play(PlayFault::OutOfMemory)
+        | Fault::Play(PlayFault::Schedule(ScheduleFault::OutOfMemory)) => 4,
     }
 }
 
@@ -42,6 +45,13 @@ fn write_message<W: Sink>(fault: &Fault, writer: &mut W) -> Result<(), Failed>
         Fault::Play(PlayFault::Read) => write_all(writer, b"read failed"),
         Fault::Play(PlayFault::Write) => write_all(writer, b"write failed"),
         Fault::Play(PlayFault::OutOfMemory) => write_all(writer, b"out of memory"),
+        Fault::Play(PlayFault::Schedule(ScheduleFault::OutOfMemory)) => {
+            write_all(writer, b"out of memory")
+        }
+        Fault::Play(PlayFault::Schedule(ScheduleFault::Refused { code, line })) => {
+            write_all(writer, b"refused ")?;
+            write_section(*code, *line, writer)
+        }
         Fault::Play(PlayFault::Refused(refusal)) => {
             write_all(writer, b"refused ")?;
             write_refusal(*refusal, writer)

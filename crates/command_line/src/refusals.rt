@@ -4,10 +4,12 @@ ghost use Rattle.std.specs.Prelude.{◌≡◌, OnOk, decimal, is_err};
 ghost use Rattle.std.specs.Io.KnownBytes.{Appends};
 ghost use Rattle.counted_io.specs.Counts.{count_after};
 ghost use Rattle.metering_model.specs.Transcript.{code_text, refusal_text, with_number};
+ghost use Rattle.command_line.specs.Endings.{section_code_text, section_text};
 
 use counted_io::{Failed, Sink, write_all};
 use itoa::Buffer;
 use metering_model::{BatchCode, BatchFault, Refusal};
+use schedule_player::ScheduleCode;
 
 fn write_number<W: Sink>(number: u32, writer: &mut W) -> Result<(), Failed>
     ensures written { OnOk result
@@ -90,4 +92,32 @@ pub fn write_refusal<W: Sink>(refusal: Refusal, writer: &mut W) -> Result<(), Fa
         Refusal::WorldFull => write_all(writer, b"G11"),
         Refusal::NoAgent => write_all(writer, b"G12"),
     }
+}
+
+fn section_code_word(code: ScheduleCode) -> &'static [u8]
+    ensures { result.now ≡ section_code_text code }
+{
+    match code {
+        ScheduleCode::Head => b"L1",
+        ScheduleCode::Nodes => b"L2",
+        ScheduleCode::Agents => b"L3",
+        ScheduleCode::Sheet => b"L4",
+        ScheduleCode::Issuer => b"L5",
+        ScheduleCode::Event => b"L6",
+        ScheduleCode::Lines => b"L7",
+        ScheduleCode::TooLong => b"L8",
+    }
+}
+
+/// Writes the code and the line of a text's first fault, as `L4 line 1`.
+///
+/// An error comes of one failed call of the writer.
+pub fn write_section<W: Sink>(code: ScheduleCode, line: u32, writer: &mut W) -> Result<(), Failed>
+    ensures written { OnOk result
+        (Appends (W.contents writer.old) (W.contents writer.new) (section_text code line)) }
+    ensures count { W.failed_calls writer.new
+        ≡ count_after (is_err result) (W.failed_calls writer.old) }
+{
+    write_all(writer, section_code_word(code))?;
+    write_numbered(b" line ", line, writer)
 }

@@ -6,11 +6,12 @@ ghost use Rattle.std.specs.declared.io.ErrorKind.TheVariants.{OutOfMemory as NoM
 ghost use Rattle.std.specs.Io.KnownBytes.{Keeps, IsAtEnd};
 ghost use Rattle.counted_io.specs.Counts.{count_after, next_count};
 ghost use Rattle.counted_io.specs.Reading.{ConsumesAtMost};
-ghost use Rattle.metering_model.specs.declared.Refusal.{Refusal};
+ghost use Rattle.schedule_text.specs.declared.faults.ScheduleFault.{ScheduleFault};
+ghost use Rattle.schedule_player.specs.declared.rate.PlayFault.{PlayFault};
 ghost use Rattle.schedule_player.specs.declared.rate.PlayFault.TheVariants as play;
 ghost use Rattle.schedule_player.specs.Faults.{tells_of_reader, tells_of_writer};
 ghost use Rattle.command_line.specs.declared.commands.Command.{Command};
-ghost use Rattle.command_line.specs.Endings.{Tells};
+ghost use Rattle.command_line.specs.Endings.{Tells, status_of};
 ghost use Rattle.command_line.specs.Runs.{AsksFor, IsDone, Refuses, words_behind_name};
 
 use crate::commands::Command;
@@ -68,12 +69,13 @@ fn carry_out<R: Source, W: Sink>(
     ensures done { OnOk result
         (IsDone command (R.remaining reader.old) (W.contents writer.old) (W.contents writer.new)) }
     ensures end { OnOk result (IsAtEnd (R.remaining reader.new)) }
-    ensures refused { (refusal : Refusal) → result ≡ Err (play.Refused refusal)
-        → Refuses command (R.remaining reader.old) refusal }
+    ensures refused { (fault : PlayFault) → result ≡ Err fault → status_of (Fault.Play fault) ≡ 1
+        → Refuses command (R.remaining reader.old) fault }
+    ensures plain_memory { result ≢ Err (play.Schedule ScheduleFault.OutOfMemory) }
     ensures kept { IfErr result (λ fault. fault ≢ play.Write
         → Keeps (W.contents writer.old) (W.contents writer.new)) }
     ensures untouched { IfErr result (λ fault. fault ≢ play.Write → writer.new ≡ writer.old) }
-    ensures read { ConsumesAtMost 65_537 (R.remaining reader.old) (R.remaining reader.new) }
+    ensures read { ConsumesAtMost 16_777_217 (R.remaining reader.old) (R.remaining reader.new) }
     ensures reads { R.failed_calls reader.new
         ≡ count_after (tells_of_reader result) (R.failed_calls reader.old) }
     ensures writes { W.failed_calls writer.new
@@ -89,7 +91,7 @@ fn carry_out<R: Source, W: Sink>(
 ///
 /// 0 says that it was done; 1 that the input is refused; 2 that the words ask for nothing, or are no
 /// text; 3 that a read or a write failed; 4 that memory was wanting. In each case but 0 a line tells
-/// of it on `errors`, as far as that takes it. At most 65,537 bytes are read, and none at 2.
+/// of it on `errors`, as far as that takes it. At most 16,777,217 bytes are read, and none at 2.
 pub fn run<R: Source, W: Sink, E: Sink>(
     alloc: Global,
     args: io::Result<Args>,
@@ -105,9 +107,9 @@ pub fn run<R: Source, W: Sink, E: Sink>(
     ensures end { result ≡ 0 → IsAtEnd (R.remaining reader.new) }
     ensures silent { result ≡ 0 → errors.new ≡ errors.old }
 
-    ensures refused { result ≡ 1 → (command : Command) × (refusal : Refusal)
-        × AsksFor args command × Refuses command (R.remaining reader.old) refusal
-        × Tells (Fault.Play (play.Refused refusal)) (E.contents errors.old) (E.contents errors.new)
+    ensures refused { result ≡ 1 → (command : Command) × (fault : PlayFault)
+        × AsksFor args command × (status_of (Fault.Play fault) ≡ 1) × Refuses command (R.remaining reader.old) fault
+        × Tells (Fault.Play fault) (E.contents errors.old) (E.contents errors.new)
         (E.failed_calls errors.old) (E.failed_calls errors.new) }
 
     ensures not_asked { result ≡ 2 → ((command : Command) → ¬ AsksFor args command)
@@ -135,7 +137,7 @@ pub fn run<R: Source, W: Sink, E: Sink>(
     ensures unwritten { result ≢ 0 → result ≢ 3 → writer.new ≡ writer.old }
     ensures calm { result ≢ 3 → (R.failed_calls reader.new ≡ R.failed_calls reader.old)
         × (W.failed_calls writer.new ≡ W.failed_calls writer.old) }
-    ensures read { ConsumesAtMost 65_537 (R.remaining reader.old) (R.remaining reader.new) }
+    ensures read { ConsumesAtMost 16_777_217 (R.remaining reader.old) (R.remaining reader.new) }
 
     // Where the process gave no words.
     ensures not_given { IfErr args (λ error.

@@ -1,3 +1,2 @@
-pub mod Charging
 pub mod Left
 pub mod Places

@@ -1,2 +1,1 @@
-pub mod OneBatch
 pub mod Inner

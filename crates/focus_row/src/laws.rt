@@ -1,58 +1,33 @@
-//! What an agent's first batch comes to. Each law is a function with an empty body.
+//! What the rows of all periods come to, passed on under these names. Each law is a function without an effect.
 
-ghost use Rattle.std.specs.Prelude.{◌≡◌, ◌≢◌, ℕ, ◌≤◌, if◌then◌else◌, List, [], map, Some, None, Ok, Err, pos};
-ghost use Rattle.std.specs.List.{filter_map};
-ghost use Rattle.metering_model.specs.Batch.{Batch};
-ghost use Rattle.metering_model.specs.BatchReading.{batch_in};
-ghost use Rattle.metering_model.specs.declared.BatchFault.{BatchFault};
+ghost use Rattle.std.specs.Prelude.{◌≡◌, ℕ, List, Some};
+ghost use Rattle.metering_model.specs.Batch.{Reading};
+ghost use Rattle.metering_model.specs.Cut.{Cut, IsAtLeast, IsGrowing, last_of};
 ghost use Rattle.metering_model.specs.Sheet.{Sheet, Issuer};
-ghost use Rattle.metering_model.specs.Holding.{placed, reading_of};
-ghost use Rattle.metering_model.specs.Front.{is_due};
-ghost use Rattle.metering_model.specs.declared.ChargeClass.TheVariants.{New};
-ghost use Rattle.metering_model.specs.Row.{row};
-ghost use Rattle.metering_model.specs.JournalRules.{first_broken};
-ghost use Rattle.metering_model.specs.declared.BrokenRule.TheVariants.{Unpriced as BreaksPrice};
-ghost use Rattle.metering_model.specs.declared.Refusal.TheVariants.{BadBatch, WrongSeq, Unpriced};
-ghost use Rattle.metering_model.specs.World.{Journal, Good, Refused, Journaled, CarriesBatch, opening, with_packet};
-ghost use Rattle.metering_model.specs.Step.{step};
-ghost use Rattle.focus_row.specs.OneBatch.{empty_sheet, journals_of, rows_alone, first_refusal};
+ghost use Rattle.metering_model.specs.Holding.{Holding, IsHolding, IsPartOf, LacksNothingUpTo, Position, reading_at};
+ghost use Rattle.metering_model.specs.ValueAtSequence.{value_at};
+ghost use Rattle.metering_model.specs.Rows.{rows};
+ghost use Rattle.metering_model.specs.Totals.{amounts_of, rows_of_place};
+ghost use Rattle.metering_model.specs.Totals as model;
+ghost use Rattle.metering_model.specs.World.{last_cut};
+ghost use Rattle.row_laws.specs.Charged.{charged_at_once};
 
-/// A batch of which no record is refused meets the rules of the journals that have it alone, and one
-/// that is refused for a price breaks the rule on prices.
-pub fn the_first_batch_meets_the_journal_rules()
-    ensures met { (base : ℕ) (b : Batch) → first_refusal b.records ≡ None →
-        first_broken (empty_sheet base) (journals_of b) (placed b) ≡ None }
-    ensures unpriced { (base : ℕ) (b : Batch) → first_refusal b.records ≡ Some BreaksPrice →
-        first_broken (empty_sheet base) (journals_of b) (placed b) ≡ Some BreaksPrice }
-{}
+/// Over growing cuts, the rows of a reading add up to what it would be charged once, at its value as of the last cut:
+/// in both quantities and all four costs.
+pub fn totals()
+    ensures { (sheet : Sheet) (issuer : Issuer) (h : Holding) (agents : ℕ) (cuts : List Cut) (at : Position) (r : Reading) →
+        IsHolding h → IsGrowing agents cuts → reading_at h at ≡ Some r →
+        model.totals (rows_of_place sheet issuer h agents cuts at)
+        ≡ amounts_of (charged_at_once sheet r (value_at h at (last_of (last_cut agents cuts) at.agent))) }
+{
+    row_laws::laws::totals();
+}
 
-/// Where no record is refused, the rows of a first batch that is due are its readings at their values,
-/// in order. One that is not due has no row.
-pub fn rows_of_a_first_batch()
-    ensures { (sheet : Sheet) (issuer : Issuer) (b : Batch) (period : ℕ) →
-        b.seq ≡ 1 → 1 ≤ b.agent → b.agent ≤ 64 → first_refusal b.records ≡ None →
-        rows_alone sheet issuer b period
-        ≡ (if is_due sheet.base period b
-        then map (λ r. row sheet issuer r period New (pos 0) r.value) (filter_map reading_of b.records)
-        else []) }
-{}
-
-/// What a world of 64 agents with no event before it answers to a text. A refusal leaves it as it was.
-pub fn a_first_batch_is_journaled()
-    ensures bad { (nodes base : ℕ) (issuer : Issuer) (text : List ℕ) (fault : BatchFault) →
-        batch_in text ≡ Err fault →
-        step (opening nodes 64 (empty_sheet base) issuer) (Journal (Good text))
-        ≡ (Refused (BadBatch fault), opening nodes 64 (empty_sheet base) issuer) }
-    ensures later { (nodes base : ℕ) (issuer : Issuer) (text : List ℕ) (b : Batch) →
-        batch_in text ≡ Ok b → b.seq ≢ 1 →
-        step (opening nodes 64 (empty_sheet base) issuer) (Journal (Good text))
-        ≡ (Refused (WrongSeq 1), opening nodes 64 (empty_sheet base) issuer) }
-    ensures unpriced { (nodes base : ℕ) (issuer : Issuer) (text : List ℕ) (b : Batch) →
-        batch_in text ≡ Ok b → b.seq ≡ 1 → first_refusal b.records ≡ Some BreaksPrice →
-        step (opening nodes 64 (empty_sheet base) issuer) (Journal (Good text))
-        ≡ (Refused Unpriced, opening nodes 64 (empty_sheet base) issuer) }
-    ensures journaled { (nodes base : ℕ) (issuer : Issuer) (text : List ℕ) (b : Batch) →
-        batch_in text ≡ Ok b → b.seq ≡ 1 → first_refusal b.records ≡ None →
-        step (opening nodes 64 (empty_sheet base) issuer) (Journal (Good text))
-        ≡ (Journaled 0, with_packet (CarriesBatch b) (record (opening nodes 64 (empty_sheet base) issuer) { journals = journals_of b })) }
-{}
+/// A smaller holding has the rows of a larger one, where it lacks nothing up to the later cut.
+pub fn rows_stay()
+    ensures { (sheet : Sheet) (issuer : Issuer) (part whole : Holding) (period : ℕ) (from to : Cut) →
+        IsHolding part → IsHolding whole → IsPartOf part whole → LacksNothingUpTo to part whole → IsAtLeast to from →
+        rows sheet issuer part period from to ≡ rows sheet issuer whole period from to }
+{
+    row_laws::laws::rows_stay();
+}

@@ -4,11 +4,9 @@
 mod between;
 pub mod laws;
 mod places;
-mod rows;
 mod whole;
 
 pub use between::{RowsBetween, rows_between};
 pub use charge_row::FocusRow;
 pub use price_sheet::Issuer;
-pub use rows::{OneBatchFault, one_batch_rows};
 pub use whole::{RowFault, rows_of};

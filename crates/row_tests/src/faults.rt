@@ -3,9 +3,9 @@
 use command_line::LineFault;
 use counted_io::{Failed, ReadFault};
 use focus_csv::CsvFault;
-use focus_row::{OneBatchFault, RowFault};
+use focus_row::RowFault;
 use metering_model::{BatchCode, BatchFault, BrokenRule, NumberFault, Refusal};
-use schedule_player::PlayFault;
+use schedule_player::{PlayFault, ScheduleCode, ScheduleFault};
 use std::test::Fail;
 
 #[test]
@@ -14,6 +14,10 @@ fn each_fault_is_told_in_its_words(rt: HostRuntime) -> Result<(), Fail> {
     let fault = BatchFault {
         code: BatchCode::Count,
         line: 1_002,
+    };
+    let section = ScheduleFault::Refused {
+        code: ScheduleCode::Sheet,
+        line: 1,
     };
     let missing = Refusal::Missing {
         agent: 64,
@@ -70,11 +74,11 @@ fn each_fault_is_told_in_its_words(rt: HostRuntime) -> Result<(), Fail> {
         (
             format!(in alloc;
                 "{}, {}, {}",
-                OneBatchFault::Broken(BrokenRule::BadTarget),
-                OneBatchFault::Broken(BrokenRule::Unpriced),
-                OneBatchFault::OutOfMemory
+                RowFault::Broken(BrokenRule::BadTarget),
+                ScheduleFault::OutOfMemory,
+                PlayFault::Schedule(section)
             )?,
-            "bad target, unpriced, out of memory",
+            "bad target, out of memory, refused L4 line 1",
         ),
         (
             format!(in alloc;

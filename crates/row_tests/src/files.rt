@@ -1,10 +1,10 @@
 //! Worked files, and sinks that fail.
 
-use crate::rows::{FIRST_RUN, first_batch, first_rows};
+use crate::rows::{FIRST_RUN, first_rows, worked};
 use batch_view::{BatchView, Record, Tags};
 use counted_io::{Counted, FakeWriter};
 use focus_csv::{CsvFault, write_file};
-use focus_row::{FocusRow, Issuer, OneBatchFault};
+use focus_row::{FocusRow, Issuer, RowFault};
 use fx_money::{Cost, Delta, Price};
 use std::test::Fail;
 
@@ -120,7 +120,7 @@ fn writer(rt: &HostRuntime) -> FakeWriter {
 #[test]
 fn the_first_run_gives_its_file(rt: HostRuntime) -> Result<(), Fail> {
     let issuer = Issuer::sample(rt.alloc())?;
-    let batch = first_batch(FIRST_RUN)?;
+    let batch = worked(rt.alloc(), FIRST_RUN)?;
     let rows = first_rows(&rt, &batch, &issuer)?;
     assert_eq!(rt; written(&rt, &rows)?, file_of(&rt, FIRST_LINES)?);
     Ok(())
@@ -183,10 +183,12 @@ fn a_refused_growth_is_a_want_of_memory(rt: HostRuntime) -> Result<(), Fail> {
     let Ok(issuer) = Issuer::sample(rt.alloc()) else {
         return Ok(());
     };
-    let batch = first_batch(FIRST_RUN)?;
+    let Ok(batch) = worked(rt.alloc(), FIRST_RUN) else {
+        return Ok(());
+    };
     match first_rows(&rt, &batch, &issuer) {
         Ok(rows) => assert!(rt; is_told(&rt, rows.get(0).ok_or("no row")?)),
-        Err(fault) => assert!(rt; matches!(fault, OneBatchFault::OutOfMemory)),
+        Err(fault) => assert!(rt; matches!(fault, RowFault::OutOfMemory)),
     }
     Ok(())
 }

@@ -5,7 +5,7 @@ use command_line::{Command, Fault, LineFault, command, ending, run};
 use counted_io::{Counted, FakeReader, FakeWriter};
 use metering_model::{BatchCode, BatchFault, Refusal};
 use period_cut::Period;
-use schedule_player::{PlayFault, rate_text};
+use schedule_player::{PlayFault, ScheduleCode, ScheduleFault, rate_text};
 use std::alloc::{AllocError, Global};
 use std::env::Args;
 use std::io;
@@ -28,14 +28,130 @@ const FIRST_FILE: &[u8] =
 const HEADER: &[u8] =
     b"BilledCost,BillingAccountId,BillingAccountName,BillingCurrency,BillingPeriodEnd,BillingPeriodStart,ChargeCategory,ChargeClass,ChargeDescription,ChargeFrequency,ChargePeriodEnd,ChargePeriodStart,CommitmentDiscountCategory,CommitmentDiscountId,CommitmentDiscountStatus,CommitmentDiscountType,ConsumedQuantity,ConsumedUnit,ContractedCost,ContractedUnitPrice,EffectiveCost,InvoiceIssuerName,ListCost,ListUnitPrice,PricingCategory,PricingQuantity,PricingUnit,ProviderName,PublisherName,ResourceId,ServiceCategory,ServiceName,SkuId,SkuPriceId,SubAccountId,Tags\n";
 
-/// The most bytes that an input may have.
-const LIMIT: usize = 65_536;
+/// The most bytes that an input may have, and a batch.
+const LIMIT: usize = 16_777_216;
+const BATCH_LIMIT: usize = 65_536;
 
 /// A batch that counts two records and has three.
 const MISCOUNTED: &[u8] = b"B1|1|1|2\n\
 C|2025-01-31T00:00:00Z|2025-02-01T00:00:00Z|acc-7||Launch credit|-2.5||\n\
 T|2025-01-31T00:00:00Z|2025-02-01T00:00:00Z|acc-7||VAT|0.475||\n\
 A|2025-01-31T00:00:00Z|2025-02-01T00:00:00Z|acc-7||Goodwill, May|-0.025||note=say \"hi\"\n";
+
+/// The section of a sheet with one price.
+const SHEET: &[u8] = b"sheet 13\n\
+base = \"2025-01\"\n\
+[[price]]\n\
+sku = \"cpu\"\n\
+price_id = \"cpu-od\"\n\
+from = \"2025-01-01\"\n\
+description = \"Virtual CPU time\"\n\
+service = \"Sample Compute\"\n\
+category = \"Compute\"\n\
+consumed_unit = \"Seconds\"\n\
+pricing_unit = \"Hours\"\n\
+per = 3600\n\
+list = \"0.1\"\n\
+contracted = \"0.08\"\n";
+
+/// The section of a sheet with a price of usage, one of requests, one of a plan, and a commitment.
+const PLANS: &[u8] = b"sheet 44\n\
+base = \"2025-01\"\n\
+[[price]]\n\
+sku = \"cpu\"\n\
+price_id = \"cpu-od\"\n\
+from = \"2025-01-01\"\n\
+description = \"Virtual CPU time\"\n\
+service = \"Sample Compute\"\n\
+category = \"Compute\"\n\
+consumed_unit = \"Seconds\"\n\
+pricing_unit = \"Hours\"\n\
+per = 3600\n\
+list = \"0.1\"\n\
+contracted = \"0.08\"\n\
+[[price]]\n\
+sku = \"ops\"\n\
+price_id = \"ops-od\"\n\
+from = \"2025-01-01\"\n\
+description = \"Object requests\"\n\
+service = \"Sample Storage\"\n\
+category = \"Storage\"\n\
+consumed_unit = \"Requests\"\n\
+pricing_unit = \"Request Pairs\"\n\
+per = 2\n\
+list = \"1\"\n\
+contracted = \"1\"\n\
+[[price]]\n\
+sku = \"cpu-plan\"\n\
+price_id = \"cpu-plan-1\"\n\
+from = \"2025-01-01\"\n\
+description = \"Virtual CPU plan\"\n\
+service = \"Sample Compute\"\n\
+category = \"Compute\"\n\
+consumed_unit = \"Plans\"\n\
+pricing_unit = \"Plans\"\n\
+per = 1\n\
+list = \"50\"\n\
+contracted = \"40\"\n\
+[[commitment]]\n\
+id = \"cm-1\"\n\
+sku = \"cpu\"\n\
+buy = \"cpu-plan\"\n\
+category = \"Usage\"\n\
+type = \"Reserved\"\n\
+rate = \"0.05\"\n";
+
+/// The section of the sample issuer.
+const ISSUER: &[u8] = b"issuer 7\n\
+provider = \"Sample Cloud\"\n\
+publisher = \"Sample Cloud\"\n\
+issuer = \"Sample Cloud Ltd\"\n\
+account_id = \"A-100\"\n\
+account_name = \"Payer\"\n\
+currency = \"USD\"\n\
+other_service = \"Billing\"\n";
+
+/// Usage with a price, and its line.
+const USAGE: &[u8] = b"B1|1|1|1\n\
+U|2025-01-10T00:00:00Z|2025-01-10T02:00:00Z|acc-7|vm-1|cpu|5400||env=prod\n";
+const USAGE_LINE: &[u8] = b"0.12,A-100,Payer,USD,2025-02-01T00:00:00Z,2025-01-01T00:00:00Z,Usage,,Virtual CPU time,Usage-Based,2025-01-10T02:00:00Z,2025-01-10T00:00:00Z,,,,,5400,Seconds,0.12,0.08,0.12,Sample Cloud Ltd,0.15,0.1,Standard,1.5,Hours,Sample Cloud,Sample Cloud,vm-1,Compute,Sample Compute,cpu,cpu-od,acc-7,\"{\"\"env\"\":\"\"prod\"\"}\"\n";
+
+/// The same, amended in its own batch.
+const AMENDED: &[u8] = b"B1|1|1|2\n\
+U|2025-01-10T00:00:00Z|2025-01-10T02:00:00Z|acc-7|vm-1|cpu|5400||env=prod\n\
+X|1|0|7200\n";
+const AMENDED_LINE: &[u8] = b"0.16,A-100,Payer,USD,2025-02-01T00:00:00Z,2025-01-01T00:00:00Z,Usage,,Virtual CPU time,Usage-Based,2025-01-10T02:00:00Z,2025-01-10T00:00:00Z,,,,,7200,Seconds,0.16,0.08,0.16,Sample Cloud Ltd,0.2,0.1,Standard,2,Hours,Sample Cloud,Sample Cloud,vm-1,Compute,Sample Compute,cpu,cpu-od,acc-7,\"{\"\"env\"\":\"\"prod\"\"}\"\n";
+
+/// The same, under a commitment.
+const COMMITTED: &[u8] = b"B1|1|1|1\n\
+U|2025-01-10T00:00:00Z|2025-01-10T02:00:00Z|acc-7|vm-1|cpu|5400|cm-1|env=prod\n";
+const COMMITTED_LINE: &[u8] = b"0,A-100,Payer,USD,2025-02-01T00:00:00Z,2025-01-01T00:00:00Z,Usage,,Virtual CPU time,Usage-Based,2025-01-10T02:00:00Z,2025-01-10T00:00:00Z,Usage,cm-1,Used,Reserved,5400,Seconds,0.12,0.08,0.075,Sample Cloud Ltd,0.15,0.1,Committed,1.5,Hours,Sample Cloud,Sample Cloud,vm-1,Compute,Sample Compute,cpu,cpu-od,acc-7,\"{\"\"env\"\":\"\"prod\"\"}\"\n";
+
+/// Both sections, and the batch of usage with a price.
+const WITH_SECTIONS: &[u8] = b"sheet 13\n\
+base = \"2025-01\"\n\
+[[price]]\n\
+sku = \"cpu\"\n\
+price_id = \"cpu-od\"\n\
+from = \"2025-01-01\"\n\
+description = \"Virtual CPU time\"\n\
+service = \"Sample Compute\"\n\
+category = \"Compute\"\n\
+consumed_unit = \"Seconds\"\n\
+pricing_unit = \"Hours\"\n\
+per = 3600\n\
+list = \"0.1\"\n\
+contracted = \"0.08\"\n\
+issuer 7\n\
+provider = \"Sample Cloud\"\n\
+publisher = \"Sample Cloud\"\n\
+issuer = \"Sample Cloud Ltd\"\n\
+account_id = \"A-100\"\n\
+account_name = \"Payer\"\n\
+currency = \"USD\"\n\
+other_service = \"Billing\"\n\
+B1|1|1|1\n\
+U|2025-01-10T00:00:00Z|2025-01-10T02:00:00Z|acc-7|vm-1|cpu|5400||env=prod\n";
 
 // The first period
 fn january() -> Result<Period, &'static str> {
@@ -49,6 +165,19 @@ fn writer(alloc: Global) -> Result<FakeWriter, AllocError> {
 
 fn bad_batch(code: BatchCode, line: u32) -> Refusal {
     Refusal::BadBatch(BatchFault { code, line })
+}
+
+fn section_fault(code: ScheduleCode, line: u32) -> PlayFault {
+    PlayFault::Schedule(ScheduleFault::Refused { code, line })
+}
+
+// The texts, one after the other
+fn joined(alloc: Global, parts: &[&[u8]]) -> Result<Vec<u8>, AllocError> {
+    let mut text = Vec::new(alloc);
+    for part in parts {
+        text.extend_from_slice(part)?;
+    }
+    Ok(text)
 }
 
 #[test]
@@ -109,15 +238,71 @@ X|1|0|-1\n",
     Ok(())
 }
 
+// What the parts, one after the other, are answered, where nothing is written
+fn fault_of(rt: &HostRuntime, parts: &[&[u8]]) -> Result<PlayFault, Fail> {
+    let mut source = Counted::new(FakeReader::new(&joined(rt.alloc(), parts)?));
+    let mut sink = Counted::new(writer(rt.alloc())?);
+    let answer = rate_text(rt.alloc(), january()?, &mut source, &mut sink);
+    assert_eq!(rt; sink.inner().calls, 0);
+    match answer {
+        Ok(()) => Err(Fail::from("it is taken")),
+        Err(fault) => Ok(fault),
+    }
+}
+
 #[test]
-fn an_input_has_at_most_65_536_bytes(rt: HostRuntime) -> Result<(), Fail> {
-    for (length, code) in [(LIMIT, BatchCode::Head), (70_000, BatchCode::TooLong)] {
+fn an_input_has_a_limit_and_so_has_a_batch(rt: HostRuntime) -> Result<(), Fail> {
+    let refused = |code| PlayFault::Refused(bad_batch(code, 1));
+    for (length, fault) in [
+        (BATCH_LIMIT, refused(BatchCode::Head)),
+        (BATCH_LIMIT + 1, refused(BatchCode::TooLong)),
+        (LIMIT, refused(BatchCode::TooLong)),
+        (LIMIT + 1, section_fault(ScheduleCode::TooLong, 1)),
+    ] {
         let bytes = vec![in rt.alloc(); b'x'; length]?;
-        let mut source = Counted::new(FakeReader::new(&bytes));
+        assert_eq!(rt; fault_of(&rt, &[bytes.as_slice()])?, fault, "{length} bytes");
+    }
+    Ok(())
+}
+
+#[test]
+fn sections_say_by_what_a_batch_is_charged(rt: HostRuntime) -> Result<(), Fail> {
+    let cases: [(&[&[u8]], &[u8]); 4] = [
+        (&[SHEET, USAGE], USAGE_LINE),
+        (&[WITH_SECTIONS], USAGE_LINE),
+        (&[SHEET, AMENDED], AMENDED_LINE),
+        (&[PLANS, ISSUER, COMMITTED], COMMITTED_LINE),
+    ];
+    for (parts, line) in cases {
+        let input = joined(rt.alloc(), parts)?;
+        let mut source = Counted::new(FakeReader::new(&input));
         let mut sink = Counted::new(writer(rt.alloc())?);
-        let answer = rate_text(rt.alloc(), january()?, &mut source, &mut sink);
-        assert_eq!(rt; answer, Err(PlayFault::Refused(bad_batch(code, 1))));
-        assert!(rt; source.inner().rest.len() + LIMIT + 1 >= length);
+        rate_text(rt.alloc(), january()?, &mut source, &mut sink)?;
+        assert_eq!(rt; sink.inner().taken, joined(rt.alloc(), &[HEADER, line])?);
+    }
+    Ok(())
+}
+
+#[test]
+fn a_refused_section_is_told_with_its_line(rt: HostRuntime) -> Result<(), Fail> {
+    let cases: [(&[&[u8]], ScheduleCode, u32); 9] = [
+        (&[b"sheet 2\nbase = \"2025-01\"\n[[price]]\n", USAGE], ScheduleCode::Sheet, 1),
+        (&[b"sheet 99\nbase = \"2025-01\"\n", USAGE], ScheduleCode::Lines, 1),
+        (&[b"sheet 0\n"], ScheduleCode::Sheet, 1),
+        (&[b"sheet 1\n\xff\n"], ScheduleCode::Sheet, 1),
+        (&[b"sheet 0"], ScheduleCode::Lines, 1),
+        (&[b"sheet 1\nbase = \"2025-01\""], ScheduleCode::Lines, 1),
+        (&[SHEET, b"issuer 101\n"], ScheduleCode::Issuer, 15),
+        (&[SHEET, b"issuer 1\ncurrency = \"usd\"\n"], ScheduleCode::Issuer, 15),
+        (&[b"issuer 2\nx\n"], ScheduleCode::Lines, 1),
+    ];
+    for (parts, code, line) in cases {
+        assert_eq!(rt; fault_of(&rt, parts)?, section_fault(code, line));
+    }
+    let head = PlayFault::Refused(bad_batch(BatchCode::Head, 1));
+    let others: [&[&[u8]]; 3] = [&[b"sheet\n"], &[ISSUER, SHEET], &[SHEET, SHEET]];
+    for parts in others {
+        assert_eq!(rt; fault_of(&rt, parts)?, head);
     }
     Ok(())
 }
@@ -177,10 +362,14 @@ fn a_refused_growth_leaves_nothing_written(rt: HostRuntime) -> Result<(), Fail> 
     let Ok(taker) = writer(rt.alloc()) else {
         return Ok(());
     };
-    let mut source = Counted::new(FakeReader::new(FIRST_RUN));
+    let mut source = Counted::new(FakeReader::new(WITH_SECTIONS));
     let mut sink = Counted::new(taker);
     match rate_text(rt.alloc(), january()?, &mut source, &mut sink) {
-        Ok(()) => assert_eq!(rt; sink.inner().taken.as_slice(), FIRST_FILE),
+        Ok(()) => {
+            let (head, lines) = sink.inner().taken.split_at(HEADER.len().min(sink.inner().taken.len()));
+            assert_eq!(rt; head, HEADER);
+            assert_eq!(rt; lines, USAGE_LINE);
+        }
         Err(fault) => {
             assert_eq!(rt; fault, PlayFault::OutOfMemory);
             assert_eq!(rt; sink.inner().calls, 0);
@@ -207,6 +396,21 @@ fn each_fault_has_its_line_and_its_status(rt: HostRuntime) -> Result<(), Fail> {
         (Fault::Play(PlayFault::Write), 3, b"focusd: write failed\n"),
         (
             Fault::Play(PlayFault::OutOfMemory),
+            4,
+            b"focusd: out of memory\n",
+        ),
+        (
+            Fault::Play(section_fault(ScheduleCode::Sheet, 1)),
+            1,
+            b"focusd: refused L4 line 1\n",
+        ),
+        (
+            Fault::Play(section_fault(ScheduleCode::TooLong, 16_777_217)),
+            1,
+            b"focusd: refused L8 line 16777217\n",
+        ),
+        (
+            Fault::Play(PlayFault::Schedule(ScheduleFault::OutOfMemory)),
             4,
             b"focusd: out of memory\n",
         ),

@@ -1,11 +1,13 @@
 //! The rows of a worked batch.
 
 ghost use Rattle.std.specs.Prelude.{◌≡◌, IfOk};
-ghost use Rattle.batch_view.specs.Batches.{batch_of};
 
-use batch_view::BatchView;
-use focus_row::{FocusRow, Issuer, OneBatchFault, one_batch_rows};
-use period_cut::{Month, Period};
+use batch_store::Store;
+use batch_view::Offer;
+use focus_row::{FocusRow, Issuer, RowFault, rows_of};
+use period_cut::{Cut, Month, Period};
+use price_sheet::Sheet;
+use std::alloc::Global;
 use std::test::Fail;
 
 /// A credit, a tax and an adjustment of January 2025.
@@ -14,35 +16,61 @@ C|2025-01-31T00:00:00Z|2025-02-01T00:00:00Z|acc-7||Launch credit|-2.5||\n\
 T|2025-01-31T00:00:00Z|2025-02-01T00:00:00Z|acc-7||VAT|0.475||\n\
 A|2025-01-31T00:00:00Z|2025-02-01T00:00:00Z|acc-7||Goodwill, May|-0.025||note=say \"hi\"\n";
 
-/// A batch that is the first of its agent.
-pub(crate) fn first_batch(bytes: &[u8]) -> Result<BatchView<'_>, Fail>
-    ensures { IfOk result (λ view. (batch_of view).seq ≡ 1) }
+/// By what a worked batch is charged, and the cut up to it.
+#[derive(Drop)]
+pub(crate) struct Worked {
+    store: Store,
+    sheet: Sheet,
+    from: Cut,
+    to: Cut,
+}
+
+/// A store of one agent that has its first batch.
+fn store_of(alloc: Global, bytes: &[u8]) -> Result<Store, Fail>
+    ensures { IfOk result (λ store. store.agents ≡ 1) }
 {
-    let view = BatchView::parse(bytes)?;
-    if view.seq() == 1 {
-        Ok(view)
-    } else {
-        Err(Fail::from("no first batch"))
+    let mut store = Store::new(alloc, 1)?;
+    let Offer::Good(batch) = Offer::read(alloc, bytes.to_vec(alloc)?)? else {
+        return Err(Fail::from("it is no batch"));
+    };
+    if batch.view().agent() != 1 {
+        return Err(Fail::from("it is of another agent"));
     }
+    store.put(batch)?;
+    Ok(store)
+}
+
+/// The first batch of an agent, charged without a price.
+pub(crate) fn worked(alloc: Global, bytes: &[u8]) -> Result<Worked, Fail> {
+    let from = Cut::zero(alloc, 1)?;
+    let mut to = Cut::zero(alloc, 1)?;
+    to.set(1, 1);
+    Ok(Worked {
+        store: store_of(alloc, bytes)?,
+        sheet: Sheet::empty(alloc, Month::of(2025, 1))?,
+        from,
+        to,
+    })
 }
 
 /// The rows of the first run in January 2025.
 pub(crate) fn first_rows<'a>(
     rt: &HostRuntime,
-    batch: &BatchView<'a>,
+    of: &'a Worked,
     issuer: &'a Issuer,
-) -> Result<Vec<FocusRow<'a>>, OneBatchFault>
-    requires { (batch_of batch.now).seq ≡ 1 }
-{
+) -> Result<Vec<FocusRow<'a>>, RowFault> {
     let january = Period::new(0).unwrap();
-    one_batch_rows(rt.alloc(), batch, issuer, Month::of(2025, 1), january)
+    if of.store.agents() != 1 || of.from.agents() != 1 || of.to.agents() != 1 || !of.to.at_least(&of.from) {
+        return Err(RowFault::OutOfMemory);
+    }
+    rows_of(rt.alloc(), &of.store, &of.sheet, issuer, january, &of.from, &of.to)
 }
 
 #[test]
 fn the_first_run_has_three_rows(rt: HostRuntime) -> Result<(), Fail> {
     let issuer = Issuer::sample(rt.alloc())?;
     assert!(rt; issuer.same(&issuer));
-    let batch = first_batch(FIRST_RUN)?;
+    let batch = worked(rt.alloc(), FIRST_RUN)?;
     let rows = first_rows(&rt, &batch, &issuer)?;
     let wanted = [
         (-2_500_000_000_000, "Launch credit"),

@@ -1,3 +1,6 @@
 pub mod Amounts
-pub mod FlatRows
+pub mod AloneLaws
+pub mod JournaledLaws
 pub mod ChargesLaws
+pub mod FrontLaws
+pub mod RatedLaws

@@ -1,23 +1,37 @@
 //! `focusd rate`: the file of one batch.
 
-ghost use Rattle.std.specs.Prelude.{◌≡◌, ◌≢◌, List, ℕ, Some, Ok, Err, IfOk, IfErr, OnOk, IfSome};
+ghost use Rattle.std.specs.Prelude.{◌≡◌, ◌≢◌, ◌≤◌, List, ℕ, [], Ok, Err, Some, None, IfOk, IfErr, IfSome, OnOk, drop, vec_len};
+ghost use Rattle.std.specs.Arc.{arc_value};
 ghost use Rattle.std.specs.Io.KnownBytes.{Appends, Keeps, IsAtEnd};
 ghost use Rattle.counted_io.specs.Counts.{Rises, count_after};
 ghost use Rattle.counted_io.specs.Reading.{ConsumesAtMost};
-ghost use Rattle.metering_model.specs.Step.{unless_broken};
-ghost use Rattle.metering_model.specs.declared.BrokenRule.{BrokenRule};
+ghost use Rattle.metering_model.specs.Cut.{zero_cut};
+ghost use Rattle.metering_model.specs.BatchReading.{batch_in};
+ghost use Rattle.metering_model.specs.Front.{front};
+ghost use Rattle.metering_model.specs.Holding.{placed, put};
+ghost use Rattle.metering_model.specs.JournalRules.{MeetsJournalRules, first_broken};
+ghost use Rattle.metering_model.specs.Sheet as model;
+ghost use Rattle.metering_model.specs.Rows.{rows};
+ghost use Rattle.metering_model.specs.File.{file};
 ghost use Rattle.metering_model.specs.declared.Refusal.{Refusal};
-ghost use Rattle.schedule_player.specs.RateInput.{file_by, rated_file};
+ghost use Rattle.batch_view.specs.Batches.{batch_of};
+ghost use Rattle.schedule_text.specs.declared.faults.ScheduleFault.{ScheduleFault};
+ghost use Rattle.schedule_player.specs.RateInput.{file_by, journaled_in, rated_file};
 ghost use Rattle.schedule_player.specs.Charges.{IsFileOf};
 ghost use Rattle.schedule_player.specs.Faults.{tells_of_reader, tells_of_writer};
 
-use batch_view::BatchView;
-use counted_io::{Input, ReadFault, Sink, Source, read_to_limit};
-use focus_csv::{CsvFault, write_file};
-use focus_row::{Issuer, OneBatchFault, one_batch_rows};
-use metering_model::{BatchCode, BatchFault, BrokenRule, Refusal};
-use period_cut::{Month, Period};
-use std::alloc::Global;
+use crate::files::file_between;
+use batch_store::Store;
+use batch_view::{Offer, OwnedBatch};
+use counted_io::{Input, ReadFault, Sink, Source, read_to_limit, write_all};
+use focus_row::Issuer;
+use journal_rules::first_broken;
+use metering_model::{BrokenRule, Refusal};
+use period_cut::{Cut, Period};
+use price_sheet::Sheet;
+use schedule_text::{ScheduleCode, ScheduleFault, rate_input};
+use std::alloc::{AllocError, Global};
+use std::sync::Arc;
 use thiserror::Error;
 
 /// Why a file was not written.
@@ -26,22 +40,31 @@ pub enum PlayFault {
     /// P1: a call of the reader failed.
     #[error("read failed")]
     Read,
+    /// P2: a section of the input is refused, or the input is too long.
+    #[error("refused {0}")]
+    Schedule(ScheduleFault),
     /// P3: a call of the writer failed.
     #[error("write failed")]
     Write,
     /// P4: a growth was refused.
     #[error("out of memory")]
     OutOfMemory,
-    /// P5: the input is refused.
+    /// P5: the batch is refused.
     #[error("refused {0}")]
     Refused(Refusal),
 }
 
-/// Reads one batch, and writes its file in a billing period, from the zero cut to its front.
+/// The agents of a group.
+const AGENTS: u8 = 64;
+
+/// The most bytes that an input may have.
+const MOST_BYTES: u32 = 16_777_216;
+
+/// Reads a text that may begin with the sections of a sheet and of an issuer and ends with a batch, and writes the
+/// batch's file in a billing period, from the zero cut to its front.
 ///
-/// The base month is 2025-01, there is no price sheet, and the issuer is the sample, which is made
-/// before anything is read. At most 65,537 bytes are read. After any fault but `Write` nothing was
-/// written.
+/// Without their sections the base month is 2025-01, there is no price, and the issuer is the sample. At most 16,777,217
+/// bytes are read. After any fault but `Write` nothing was written.
 pub fn rate_text<R: Source, W: Sink>(
     alloc: Global,
     period: Period,
@@ -53,7 +76,10 @@ pub fn rate_text<R: Source, W: Sink>(
         × IsFileOf (R.remaining reader.old) period input text
         × Appends (W.contents writer.old) (W.contents writer.new) text) }
     ensures refused { (refusal : Refusal) → result ≡ Err (PlayFault.Refused refusal)
-        → IfSome (R.remaining reader.old) (λ input. rated_file period input ≡ Err refusal) }
+        → IfSome (R.remaining reader.old) (λ input. rated_file period input ≡ Err (PlayFault.Refused refusal)) }
+    ensures section { (fault : ScheduleFault) → result ≡ Err (PlayFault.Schedule fault)
+        → IfSome (R.remaining reader.old) (λ input. rated_file period input ≡ Err (PlayFault.Schedule fault)) }
+    ensures plain_memory { result ≢ Err (PlayFault.Schedule ScheduleFault.OutOfMemory) }
     ensures read_fault { result ≡ Err PlayFault.Read
         → Rises (R.failed_calls reader.old) (R.failed_calls reader.new) }
     ensures write_fault { result ≡ Err PlayFault.Write
@@ -62,7 +88,7 @@ pub fn rate_text<R: Source, W: Sink>(
         → Keeps (W.contents writer.old) (W.contents writer.new)
         × (W.failed_calls writer.new ≡ W.failed_calls writer.old)) }
     ensures untouched { IfErr result (λ fault. fault ≢ PlayFault.Write → writer.new ≡ writer.old) }
-    ensures read { ConsumesAtMost 65_537 (R.remaining reader.old) (R.remaining reader.new) }
+    ensures read { ConsumesAtMost 16_777_217 (R.remaining reader.old) (R.remaining reader.new) }
 
     // With Ok nothing is left to read.
     ensures end { OnOk result (IsAtEnd (R.remaining reader.new)) }
@@ -73,65 +99,108 @@ pub fn rate_text<R: Source, W: Sink>(
     ensures writes { W.failed_calls writer.new
         ≡ count_after (tells_of_writer result) (W.failed_calls writer.old) }
 {
-    let Ok(issuer) = Issuer::sample(alloc) else {
-        return Err(PlayFault::OutOfMemory);
-    };
     let input = read_input(alloc, reader)?;
-    rate_batch(alloc, period, &issuer, &input, writer)
+    rate_input_text(alloc, period, input, writer)
 }
 
-// More bytes than this are no batch.
-const MOST_BYTES: u32 = 65_536;
-
-const BASE_YEAR: u16 = 2025;
-
-// All of the input
+/// All of the input.
 fn read_input<R: Source>(alloc: Global, reader: &mut R) -> Result<Vec<u8>, PlayFault>
     ensures whole { IfOk result
         (λ bytes. IfSome (R.remaining reader.old) (λ input. bytes.items ≡ input)) }
     ensures end { OnOk result (IsAtEnd (R.remaining reader.new)) }
-    ensures refused { (refusal : Refusal) → result ≡ Err (PlayFault.Refused refusal)
-        → IfSome (R.remaining reader.old)
-        (λ input. (period : ℕ) → rated_file period input ≡ Err refusal) }
+    ensures section { (fault : ScheduleFault) → result ≡ Err (PlayFault.Schedule fault)
+        → (fault ≡ ScheduleFault.Refused ScheduleCode.TooLong 1) × IfSome (R.remaining reader.old)
+        (λ input. (period : ℕ) → rated_file period input ≡ Err (PlayFault.Schedule fault)) }
     ensures fault { result ≡ Err PlayFault.Read
         → Rises (R.failed_calls reader.old) (R.failed_calls reader.new) }
-    ensures taken { ConsumesAtMost 65_537 (R.remaining reader.old) (R.remaining reader.new) }
+    ensures taken { ConsumesAtMost 16_777_217 (R.remaining reader.old) (R.remaining reader.new) }
     ensures count { R.failed_calls reader.new
         ≡ count_after (tells_of_reader result) (R.failed_calls reader.old) }
-    ensures other { result ≢ Err PlayFault.Write }
+    ensures no_write { result ≢ Err PlayFault.Write }
+    ensures no_refusal { (refusal : Refusal) → result ≢ Err (PlayFault.Refused refusal) }
 {
     match read_to_limit(alloc, reader, MOST_BYTES) {
         Ok(Input::Whole(bytes)) => Ok(bytes),
-        Ok(Input::TooLong) => {
-            let fault = BatchFault {
-                code: BatchCode::TooLong,
-                line: 1,
-            };
-            Err(PlayFault::Refused(Refusal::BadBatch(fault)))
-        }
+        Ok(Input::TooLong) => Err(PlayFault::Schedule(ScheduleFault::Refused {
+            code: ScheduleCode::TooLong,
+            line: 1,
+        })),
         Err(ReadFault::Failed) => Err(PlayFault::Read),
         Err(ReadFault::OutOfMemory) => Err(PlayFault::OutOfMemory),
     }
 }
 
-/// Writes an issuer's file of one batch, whose text is the whole input, in a billing period.
+/// What a fault of the sections comes to.
+fn fault_of_sections(fault: ScheduleFault) -> PlayFault
+    ensures section { (told : ScheduleFault) → result ≡ PlayFault.Schedule told
+        → (told ≡ fault) × (fault ≢ ScheduleFault.OutOfMemory) }
+    ensures others { (result ≢ PlayFault.Read) × (result ≢ PlayFault.Write)
+        × ((refusal : Refusal) → result ≢ PlayFault.Refused refusal) }
+{
+    match fault {
+        ScheduleFault::Refused { code, line } => {
+            PlayFault::Schedule(ScheduleFault::Refused { code, line })
+        }
+        ScheduleFault::OutOfMemory => PlayFault::OutOfMemory,
+    }
+}
+
+/// Takes the bytes before a place away. No room is asked for.
+fn drop_front(bytes: &mut Vec<u8>, from: usize)
+    requires { from ≤ vec_len bytes.old }
+    ensures { bytes.new.items ≡ drop from bytes.old.items }
+{
+    bytes.drain(..from);
+}
+
+/// Writes the file of an input that was read.
+fn rate_input_text<W: Sink>(
+    alloc: Global,
+    period: Period,
+    input: Vec<u8>,
+    writer: &mut W,
+) -> Result<(), PlayFault>
+    ensures file { OnOk result ((text : List ℕ) × IsFileOf (Some input.items) period input.items text
+        × Appends (W.contents writer.old) (W.contents writer.new) text) }
+    ensures refused { (refusal : Refusal) → result ≡ Err (PlayFault.Refused refusal)
+        → rated_file period input.items ≡ Err (PlayFault.Refused refusal) }
+    ensures section { (fault : ScheduleFault) → result ≡ Err (PlayFault.Schedule fault)
+        → (fault ≢ ScheduleFault.OutOfMemory) × (rated_file period input.items ≡ Err (PlayFault.Schedule fault)) }
+    ensures write_fault { result ≡ Err PlayFault.Write
+        → Rises (W.failed_calls writer.old) (W.failed_calls writer.new) }
+    ensures kept { IfErr result (λ fault. fault ≢ PlayFault.Write → writer.new ≡ writer.old) }
+    ensures writes { W.failed_calls writer.new
+        ≡ count_after (tells_of_writer result) (W.failed_calls writer.old) }
+    ensures no_read { result ≢ Err PlayFault.Read }
+{
+    let given = match rate_input(alloc, &input) {
+        Ok(given) => given,
+        Err(fault) => return Err(fault_of_sections(fault)),
+    };
+    let mut batch = input;
+    drop_front(&mut batch, given.batch_from);
+    rate_batch(alloc, period, &given.sheet, &given.issuer, batch, writer)
+}
+
+/// Writes the file of one batch in a billing period, from the zero cut to its front, by a sheet and an issuer. The text of
+/// the batch is the whole input.
 ///
-/// The base month is 2025-01, and there is no price sheet. Each refusal is told before any room is
-/// asked for, so want of memory hides none. After any fault but `Write` nothing was written, and
-/// `Read` is never answered.
+/// It is refused as by a group of 64 agents in which nothing has happened. Want of memory hides no fault of the text. After
+/// any fault but `Write` nothing was written, and neither `Read` nor `Schedule` is ever answered.
 pub fn rate_batch<W: Sink>(
     alloc: Global,
     period: Period,
+    sheet: &Sheet,
     issuer: &Issuer,
-    input: &[u8],
+    input: Vec<u8>,
     writer: &mut W,
 ) -> Result<(), PlayFault>
-    ensures file { OnOk result ((text : List ℕ) × (file_by issuer.now period input.now ≡ Ok text)
+    ensures file { OnOk result ((text : List ℕ) × (file_by sheet.now issuer.now period input.items ≡ Ok text)
         × Appends (W.contents writer.old) (W.contents writer.new) text) }
     ensures refused { (refusal : Refusal) → result ≡ Err (PlayFault.Refused refusal)
-        → file_by issuer.now period input.now ≡ Err refusal }
+        → file_by sheet.now issuer.now period input.items ≡ Err refusal }
     ensures memory { result ≡ Err PlayFault.OutOfMemory
-        → (text : List ℕ) × (file_by issuer.now period input.now ≡ Ok text) }
+        → batch_in input.items ≡ Ok (batch_of input.items) }
     ensures write_fault { result ≡ Err PlayFault.Write
         → Rises (W.failed_calls writer.old) (W.failed_calls writer.new) }
     ensures kept { IfErr result (λ fault. fault ≢ PlayFault.Write → writer.new ≡ writer.old) }
@@ -140,35 +209,88 @@ pub fn rate_batch<W: Sink>(
     ensures writes { W.failed_calls writer.new
         ≡ count_after (tells_of_writer result) (W.failed_calls writer.old) }
     ensures no_read { result ≢ Err PlayFault.Read }
+    ensures no_section { (fault : ScheduleFault) → result ≢ Err (PlayFault.Schedule fault) }
 {
-    let batch = match BatchView::parse(input) {
-        Ok(batch) => batch,
-        Err(fault) => return Err(PlayFault::Refused(Refusal::BadBatch(fault))),
+    let batch = match Offer::read(alloc, input) {
+        Ok(Offer::Good(batch)) => batch,
+        Ok(Offer::Bad(fault)) => return Err(PlayFault::Refused(Refusal::BadBatch(fault))),
+        Err(_) => return Err(PlayFault::OutOfMemory),
     };
-    if batch.seq() != 1 {
-        return Err(PlayFault::Refused(Refusal::WrongSeq { wanted: 1 }));
-    }
-    let rows = match one_batch_rows(alloc, &batch, issuer, Month::of(BASE_YEAR, 1), period) {
-        Ok(rows) => rows,
-        Err(fault) => return Err(fault_of_rows(fault)),
+    let text = match file_of_batch(alloc, period, sheet, issuer, batch) {
+        Ok(text) => text,
+        Err(fault) => return Err(fault),
     };
-    match write_file(alloc, &rows, writer) {
+    match write_all(writer, &text) {
         Ok(()) => Ok(()),
-        Err(CsvFault::Write) => Err(PlayFault::Write),
-        Err(CsvFault::OutOfMemory) => Err(PlayFault::OutOfMemory),
+        Err(_) => Err(PlayFault::Write),
     }
 }
 
-fn fault_of_rows(fault: OneBatchFault) -> PlayFault
-    ensures refused { (refusal : Refusal) → result ≡ PlayFault.Refused refusal
-        → (rule : BrokenRule) × (fault ≡ OneBatchFault.Broken rule)
-        × (unless_broken (Some rule) ≡ Err refusal) }
-    ensures memory { result ≡ PlayFault.OutOfMemory → fault ≡ OneBatchFault.OutOfMemory }
-    ensures others { (result ≢ PlayFault.Read) × (result ≢ PlayFault.Write) }
+/// The file of a batch, or why it is refused.
+fn file_of_batch(
+    alloc: Global,
+    period: Period,
+    sheet: &Sheet,
+    issuer: &Issuer,
+    batch: Arc<OwnedBatch>,
+) -> Result<Vec<u8>, PlayFault>
+    ensures file { IfOk result (λ text. file_by sheet.now issuer.now period (arc_value batch) ≡ Ok text.items) }
+    ensures refused { (refusal : Refusal) → result ≡ Err (PlayFault.Refused refusal)
+        → file_by sheet.now issuer.now period (arc_value batch) ≡ Err refusal }
+    ensures batch { batch_in (arc_value batch) ≡ Ok (batch_of (arc_value batch)) }
+    ensures others { (result ≢ Err PlayFault.Read) × (result ≢ Err PlayFault.Write)
+        × ((fault : ScheduleFault) → result ≢ Err (PlayFault.Schedule fault)) }
 {
-    match fault {
-        OneBatchFault::Broken(BrokenRule::BadTarget) => PlayFault::Refused(Refusal::BadTarget),
-        OneBatchFault::Broken(BrokenRule::Unpriced) => PlayFault::Refused(Refusal::Unpriced),
-        OneBatchFault::OutOfMemory => PlayFault::OutOfMemory,
+    let _bytes = batch.bytes();
+    let Ok(mut store) = Store::new(alloc, AGENTS) else {
+        return Err(PlayFault::OutOfMemory);
+    };
+    if let Some(refusal) = refusal_of(&store, sheet, &batch) {
+        return Err(PlayFault::Refused(refusal));
     }
+    let Ok(_) = store.put(batch) else {
+        return Err(PlayFault::OutOfMemory);
+    };
+    match file_to_front(alloc, &store, sheet, issuer, period) {
+        Ok(text) => Ok(text),
+        Err(_) => Err(PlayFault::OutOfMemory),
+    }
+}
+
+/// Why a group of 64 agents in which nothing has happened does not journal the batch.
+fn refusal_of(store: &Store, sheet: &Sheet, batch: &OwnedBatch) -> Option<Refusal>
+    requires { store.now ≡ record { agents = 64; batches = [] } }
+    ensures taken { result ≡ None → ((batch_of batch.now).seq ≡ 1)
+        × (first_broken sheet.now (put [] (batch_of batch.now)) (placed (batch_of batch.now)) ≡ None) }
+    ensures refused { (refusal : Refusal) → result ≡ Some refusal → (issuer : model.Issuer)
+        → journaled_in sheet.now issuer batch.now ≡ Err refusal }
+{
+    let _bytes = batch.bytes();
+    let view = batch.view();
+    if view.seq() != 1 {
+        return Some(Refusal::WrongSeq { wanted: 1 });
+    }
+    match first_broken(store, sheet, &view) {
+        Some(BrokenRule::BadTarget) => Some(Refusal::BadTarget),
+        Some(BrokenRule::Unpriced) => Some(Refusal::Unpriced),
+        None => None,
+    }
+}
+
+/// The file of all that a store has, from the zero cut to its front.
+fn file_to_front(
+    alloc: Global,
+    store: &Store,
+    sheet: &Sheet,
+    issuer: &Issuer,
+    period: Period,
+) -> Result<Vec<u8>, AllocError>
+    requires agents { store.now.agents ≡ 64 }
+    requires met { MeetsJournalRules sheet.now store.now.batches }
+    ensures { IfOk result (λ text. text.items ≡ file (rows sheet.now issuer.now store.now.batches period
+        (zero_cut 64) (front sheet.now.base store.now.batches (zero_cut 64) period))) }
+{
+    let from = Cut::zero(alloc, AGENTS)?;
+    let to = store.due_front(alloc, &from, period, sheet.base_month())?;
+    file_between(alloc, store, sheet, issuer, period, &from, &to)
 }

@@ -1,9 +1,9 @@
-use Rattle.std.proofs.Common.{ap, Err, rules}
+use Rattle.std.proofs.Common.{◌∙◌, ap, sym, refl, Err, rules}
 use Rattle.std.specs.Io.KnownBytes.{Keeps}
 use Rattle.command_line.specs.declared.endings.Fault.{Fault}
 use Rattle.command_line.specs.declared.endings.Fault.TheVariants.{Play}
 use Rattle.command_line.specs.Endings.{Tells}
-use Rattle.command_line.proofs.RunLaws.{is_refusal, is_device, is_memory, is_bad_line, is_memory_for_words, never_zero}
+use Rattle.command_line.proofs.RunLaws.{is_device, is_memory, is_bad_line, is_memory_for_words, never_zero}
 use Rattle.command_line.proofs.runs.run.Goals as goal
 
 pub returns-in-Err-carry_out-clause-done : goal.returns-in-Err-carry_out-clause-done
@@ -20,9 +20,8 @@ returns-in-Err-carry_out-clause-calm g c = search rules
 
 pub returns-in-Err-carry_out-clause-refused : goal.returns-in-Err-carry_out-clause-refused
 returns-in-Err-carry_out-clause-refused g c one =
-    let told : Fault → Type 0 = λ f. Tells f (g.E.Sink.contents c.args.errors.now) (g.E.Sink.contents c.ending.new.writer) (g.E.Sink.failed_calls c.args.errors.now) (g.E.Sink.failed_calls c.ending.new.writer) in
-    let is = is_refusal told c.in-Err-carry_out.fault c.ending.result c.ending.ensures.status one c.ending.ensures.told in
-    (c.in-Ok.command, is.0, c.in-Ok.ensures.asked, c.in-Err-carry_out.ensures.refused is.0 (ap Err is.1), is.2)
+    let status = sym c.ending.ensures.status ∙ one in
+    (c.in-Ok.command, c.in-Err-carry_out.fault, c.in-Ok.ensures.asked, status, c.in-Err-carry_out.ensures.refused c.in-Err-carry_out.fault refl status, c.ending.ensures.told)
 
 pub returns-in-Err-carry_out-clause-device : goal.returns-in-Err-carry_out-clause-device
 returns-in-Err-carry_out-clause-device g c three =
@@ -34,7 +33,7 @@ returns-in-Err-carry_out-clause-device g c three =
 pub returns-in-Err-carry_out-clause-memory : goal.returns-in-Err-carry_out-clause-memory
 returns-in-Err-carry_out-clause-memory g c four =
     let told : Fault → Type 0 = λ f. Tells f (g.E.Sink.contents c.args.errors.now) (g.E.Sink.contents c.ending.new.writer) (g.E.Sink.failed_calls c.args.errors.now) (g.E.Sink.failed_calls c.ending.new.writer) in
-    is_memory told c.in-Err-carry_out.fault c.ending.result c.ending.ensures.status four c.ending.ensures.told
+    is_memory told c.in-Err-carry_out.fault c.ending.result (λ same. c.in-Err-carry_out.ensures.plain_memory (ap Err same)) c.ending.ensures.status four c.ending.ensures.told
 
 pub returns-in-Err-clause-not_asked : goal.returns-in-Err-clause-not_asked
 returns-in-Err-clause-not_asked g c two =

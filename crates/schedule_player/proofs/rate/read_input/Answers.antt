@@ -1,23 +1,9 @@
-use Rattle.std.proofs.Common.{rules}
+use Rattle.std.proofs.Common.{sym}
+use Rattle.schedule_player.proofs.RatedLaws.{same_section, longer_known}
 use Rattle.schedule_player.proofs.rate.read_input.Goals as goal
 
-pub returns-in-Ok-Whole-clause-taken : goal.returns-in-Ok-Whole-clause-taken
-returns-in-Ok-Whole-clause-taken g c = c.read_to_limit.ensures.taken
-
-pub returns-in-Ok-TooLong-clause-taken : goal.returns-in-Ok-TooLong-clause-taken
-returns-in-Ok-TooLong-clause-taken g c = c.read_to_limit.ensures.taken
-
-pub returns-in-Err-Failed-clause-fault : goal.returns-in-Err-Failed-clause-fault
-returns-in-Err-Failed-clause-fault g c = search rules
-
-pub returns-in-Err-Failed-clause-taken : goal.returns-in-Err-Failed-clause-taken
-returns-in-Err-Failed-clause-taken g c = c.read_to_limit.ensures.taken
-
-pub returns-in-Err-Failed-clause-count : goal.returns-in-Err-Failed-clause-count
-returns-in-Err-Failed-clause-count g c = search rules
-
-pub returns-in-Err-Failed-clause-other : goal.returns-in-Err-Failed-clause-other
-returns-in-Err-Failed-clause-other g c = search rules
-
-pub returns-in-Err-OutOfMemory-clause-taken : goal.returns-in-Err-OutOfMemory-clause-taken
-returns-in-Err-OutOfMemory-clause-taken g c = c.read_to_limit.ensures.taken
+pub returns-in-Ok-TooLong-clause-section : goal.returns-in-Ok-TooLong-clause-section
+returns-in-Ok-TooLong-clause-section g c = λ fault is.
+    let same = same_section _ fault is in
+    let longer = rw c.in-Ok-TooLong.field-0-is at c.in-Ok-TooLong.ensures.answer in
+    (sym same, longer_known (g.R.Source.remaining c.args.reader.now) fault longer same)

@@ -1,0 +1,77 @@
+//! Files, rendered batch by batch.
+
+ghost use Rattle.std.specs.Prelude.{◌≡◌, ◌++◌, All, length, IfOk, OnOk, None};
+ghost use Rattle.std.specs.List.{flat_map};
+ghost use Rattle.metering_model.specs.Cut.{IsAtLeast};
+ghost use Rattle.metering_model.specs.Dates.{IsPeriod};
+ghost use Rattle.metering_model.specs.Holding.{Holding, IsHolding, IsPartOf, LacksNothingUpTo, up_to};
+ghost use Rattle.metering_model.specs.Front.{AreDueBetween};
+ghost use Rattle.metering_model.specs.Step.{first_missing};
+ghost use Rattle.metering_model.specs.JournalRules.{MeetsJournalRules};
+ghost use Rattle.metering_model.specs.Rows.{rows};
+ghost use Rattle.metering_model.specs.File.{file, row_text};
+ghost use Rattle.row_laws.specs.Due.{WereDueBefore, StartsBeforeItsPeriodEnds};
+
+use batch_store::Store;
+use focus_csv::{header_text, row_texts};
+use focus_row::{Issuer, RowsBetween, rows_between};
+use period_cut::{Cut, Period};
+use price_sheet::Sheet;
+use std::alloc::{AllocError, Global};
+
+/// Appends the lines of the rows that are still to come. Of the rows, one batch's are in memory at a time.
+fn put_batches(
+    alloc: Global,
+    left: &mut RowsBetween<'_>,
+    text: &mut Vec<u8>,
+) -> Result<(), AllocError>
+    ensures { OnOk result (text.new.items ≡ text.old.items ++ flat_map row_text left.old) }
+{
+    loop {
+        let Ok(next) = left.next_batch(alloc) else {
+            return Err(AllocError);
+        };
+        let Some(rows) = next else {
+            return Ok(());
+        };
+        let piece = row_texts(alloc, &rows)?;
+        text.extend_from_slice(&piece)?;
+    }
+}
+
+/// The file of a billing period between two cuts of what a store has: from the bytes of its batches to those of the file.
+pub fn file_between(
+    alloc: Global,
+    store: &Store,
+    sheet: &Sheet,
+    issuer: &Issuer,
+    period: Period,
+    from: &Cut,
+    to: &Cut,
+) -> Result<Vec<u8>, AllocError>
+    requires agents { length to.now ≡ store.now.agents }
+    requires grows { IsAtLeast to.now from.now }
+    requires whole { first_missing store.now.batches to.now ≡ None }
+    requires met { MeetsJournalRules sheet.now (up_to to.now store.now.batches) }
+    ensures file { IfOk result (λ text. text.items ≡ file (rows sheet.now issuer.now store.now.batches period from.now to.now)) }
+
+    // It is the file of the journals, of which the store has all up to the later cut.
+    ensures journals { (journals : Holding) → IsHolding journals → IsPartOf store.now.batches journals
+        → LacksNothingUpTo to.now store.now.batches journals
+        → IfOk result (λ text. text.items ≡ file (rows sheet.now issuer.now journals period from.now to.now)) }
+
+    // Where what is charged is due for the period, and what was charged before for an earlier one.
+    ensures starts { AreDueBetween sheet.now.base period store.now.batches from.now to.now
+        → WereDueBefore sheet.now.base period store.now.batches from.now
+        → All StartsBeforeItsPeriodEnds (rows sheet.now issuer.now store.now.batches period from.now to.now) }
+{
+    focus_row::laws::rows_stay();
+    row_laws::laws::charges_start_before_their_periods_end();
+    let _agents = store.agents();
+    let _base = sheet.base_month();
+    let mut text = Vec::new(alloc);
+    text.extend_from_slice(header_text())?;
+    let mut left = rows_between(alloc, store, sheet, issuer, period, from, to)?;
+    put_batches(alloc, &mut left, &mut text)?;
+    Ok(text)
+}
