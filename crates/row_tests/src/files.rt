@@ -1,6 +1,6 @@
 //! Worked files, and sinks that fail.
 
-use crate::rows::{FIRST_RUN, first_rows, worked};
+use crate::rows::{FIRST_RUN, first_rows, first_worked};
 use batch_view::{BatchView, Record, Tags};
 use counted_io::{Counted, FakeWriter};
 use focus_csv::{CsvFault, write_file};
@@ -120,7 +120,7 @@ fn writer(rt: &HostRuntime) -> FakeWriter {
 #[test]
 fn the_first_run_gives_its_file(rt: HostRuntime) -> Result<(), Fail> {
     let issuer = Issuer::sample(rt.alloc())?;
-    let batch = worked(rt.alloc(), FIRST_RUN)?;
+    let batch = first_worked(rt.alloc(), FIRST_RUN)?.ok_or("no first batch")?;
     let rows = first_rows(&rt, &batch, &issuer)?;
     assert_eq!(rt; written(&rt, &rows)?, file_of(&rt, FIRST_LINES)?);
     Ok(())
@@ -183,9 +183,10 @@ fn a_refused_growth_is_a_want_of_memory(rt: HostRuntime) -> Result<(), Fail> {
     let Ok(issuer) = Issuer::sample(rt.alloc()) else {
         return Ok(());
     };
-    let Ok(batch) = worked(rt.alloc(), FIRST_RUN) else {
+    let Ok(batch) = first_worked(rt.alloc(), FIRST_RUN) else {
         return Ok(());
     };
+    let batch = batch.ok_or("no first batch")?;
     match first_rows(&rt, &batch, &issuer) {
         Ok(rows) => assert!(rt; is_told(&rt, rows.get(0).ok_or("no row")?)),
         Err(fault) => assert!(rt; matches!(fault, RowFault::OutOfMemory)),

@@ -30,6 +30,7 @@ const HEADER: &[u8] =
 
 /// The most bytes that an input may have, and a batch.
 const LIMIT: usize = 16_777_216;
+
 const BATCH_LIMIT: usize = 65_536;
 
 /// A batch that counts two records and has three.
@@ -114,18 +115,24 @@ other_service = \"Billing\"\n";
 /// Usage with a price, and its line.
 const USAGE: &[u8] = b"B1|1|1|1\n\
 U|2025-01-10T00:00:00Z|2025-01-10T02:00:00Z|acc-7|vm-1|cpu|5400||env=prod\n";
-const USAGE_LINE: &[u8] = b"0.12,A-100,Payer,USD,2025-02-01T00:00:00Z,2025-01-01T00:00:00Z,Usage,,Virtual CPU time,Usage-Based,2025-01-10T02:00:00Z,2025-01-10T00:00:00Z,,,,,5400,Seconds,0.12,0.08,0.12,Sample Cloud Ltd,0.15,0.1,Standard,1.5,Hours,Sample Cloud,Sample Cloud,vm-1,Compute,Sample Compute,cpu,cpu-od,acc-7,\"{\"\"env\"\":\"\"prod\"\"}\"\n";
+
+const USAGE_LINE: &[u8] =
+    b"0.12,A-100,Payer,USD,2025-02-01T00:00:00Z,2025-01-01T00:00:00Z,Usage,,Virtual CPU time,Usage-Based,2025-01-10T02:00:00Z,2025-01-10T00:00:00Z,,,,,5400,Seconds,0.12,0.08,0.12,Sample Cloud Ltd,0.15,0.1,Standard,1.5,Hours,Sample Cloud,Sample Cloud,vm-1,Compute,Sample Compute,cpu,cpu-od,acc-7,\"{\"\"env\"\":\"\"prod\"\"}\"\n";
 
 /// The same, amended in its own batch.
 const AMENDED: &[u8] = b"B1|1|1|2\n\
 U|2025-01-10T00:00:00Z|2025-01-10T02:00:00Z|acc-7|vm-1|cpu|5400||env=prod\n\
 X|1|0|7200\n";
-const AMENDED_LINE: &[u8] = b"0.16,A-100,Payer,USD,2025-02-01T00:00:00Z,2025-01-01T00:00:00Z,Usage,,Virtual CPU time,Usage-Based,2025-01-10T02:00:00Z,2025-01-10T00:00:00Z,,,,,7200,Seconds,0.16,0.08,0.16,Sample Cloud Ltd,0.2,0.1,Standard,2,Hours,Sample Cloud,Sample Cloud,vm-1,Compute,Sample Compute,cpu,cpu-od,acc-7,\"{\"\"env\"\":\"\"prod\"\"}\"\n";
+
+const AMENDED_LINE: &[u8] =
+    b"0.16,A-100,Payer,USD,2025-02-01T00:00:00Z,2025-01-01T00:00:00Z,Usage,,Virtual CPU time,Usage-Based,2025-01-10T02:00:00Z,2025-01-10T00:00:00Z,,,,,7200,Seconds,0.16,0.08,0.16,Sample Cloud Ltd,0.2,0.1,Standard,2,Hours,Sample Cloud,Sample Cloud,vm-1,Compute,Sample Compute,cpu,cpu-od,acc-7,\"{\"\"env\"\":\"\"prod\"\"}\"\n";
 
 /// The same, under a commitment.
 const COMMITTED: &[u8] = b"B1|1|1|1\n\
 U|2025-01-10T00:00:00Z|2025-01-10T02:00:00Z|acc-7|vm-1|cpu|5400|cm-1|env=prod\n";
-const COMMITTED_LINE: &[u8] = b"0,A-100,Payer,USD,2025-02-01T00:00:00Z,2025-01-01T00:00:00Z,Usage,,Virtual CPU time,Usage-Based,2025-01-10T02:00:00Z,2025-01-10T00:00:00Z,Usage,cm-1,Used,Reserved,5400,Seconds,0.12,0.08,0.075,Sample Cloud Ltd,0.15,0.1,Committed,1.5,Hours,Sample Cloud,Sample Cloud,vm-1,Compute,Sample Compute,cpu,cpu-od,acc-7,\"{\"\"env\"\":\"\"prod\"\"}\"\n";
+
+const COMMITTED_LINE: &[u8] =
+    b"0,A-100,Payer,USD,2025-02-01T00:00:00Z,2025-01-01T00:00:00Z,Usage,,Virtual CPU time,Usage-Based,2025-01-10T02:00:00Z,2025-01-10T00:00:00Z,Usage,cm-1,Used,Reserved,5400,Seconds,0.12,0.08,0.075,Sample Cloud Ltd,0.15,0.1,Committed,1.5,Hours,Sample Cloud,Sample Cloud,vm-1,Compute,Sample Compute,cpu,cpu-od,acc-7,\"{\"\"env\"\":\"\"prod\"\"}\"\n";
 
 /// Both sections, and the batch of usage with a price.
 const WITH_SECTIONS: &[u8] = b"sheet 13\n\
@@ -240,13 +247,12 @@ X|1|0|-1\n",
 
 // What the parts, one after the other, are answered, where nothing is written
 fn fault_of(rt: &HostRuntime, parts: &[&[u8]]) -> Result<PlayFault, Fail> {
-    let mut source = Counted::new(FakeReader::new(&joined(rt.alloc(), parts)?));
+    let input = joined(rt.alloc(), parts)?;
+    let mut source = Counted::new(FakeReader::new(&input));
     let mut sink = Counted::new(writer(rt.alloc())?);
-    let answer = rate_text(rt.alloc(), january()?, &mut source, &mut sink);
-    assert_eq!(rt; sink.inner().calls, 0);
-    match answer {
-        Ok(()) => Err(Fail::from("it is taken")),
-        Err(fault) => Ok(fault),
+    match rate_text(rt.alloc(), january()?, &mut source, &mut sink) {
+        Err(fault) if sink.inner().calls == 0 => Ok(fault),
+        _ => Err(Fail::from("something was written")),
     }
 }
 
@@ -260,7 +266,11 @@ fn an_input_has_a_limit_and_so_has_a_batch(rt: HostRuntime) -> Result<(), Fail> 
         (LIMIT + 1, section_fault(ScheduleCode::TooLong, 1)),
     ] {
         let bytes = vec![in rt.alloc(); b'x'; length]?;
-        assert_eq!(rt; fault_of(&rt, &[bytes.as_slice()])?, fault, "{length} bytes");
+        assert_eq!(rt;
+            fault_of(&rt, &[bytes.as_slice()])?,
+            fault,
+            "{length} bytes"
+        );
     }
     Ok(())
 }
@@ -286,14 +296,26 @@ fn sections_say_by_what_a_batch_is_charged(rt: HostRuntime) -> Result<(), Fail> 
 #[test]
 fn a_refused_section_is_told_with_its_line(rt: HostRuntime) -> Result<(), Fail> {
     let cases: [(&[&[u8]], ScheduleCode, u32); 9] = [
-        (&[b"sheet 2\nbase = \"2025-01\"\n[[price]]\n", USAGE], ScheduleCode::Sheet, 1),
-        (&[b"sheet 99\nbase = \"2025-01\"\n", USAGE], ScheduleCode::Lines, 1),
+        (
+            &[b"sheet 2\nbase = \"2025-01\"\n[[price]]\n", USAGE],
+            ScheduleCode::Sheet,
+            1,
+        ),
+        (
+            &[b"sheet 99\nbase = \"2025-01\"\n", USAGE],
+            ScheduleCode::Lines,
+            1,
+        ),
         (&[b"sheet 0\n"], ScheduleCode::Sheet, 1),
         (&[b"sheet 1\n\xff\n"], ScheduleCode::Sheet, 1),
         (&[b"sheet 0"], ScheduleCode::Lines, 1),
         (&[b"sheet 1\nbase = \"2025-01\""], ScheduleCode::Lines, 1),
         (&[SHEET, b"issuer 101\n"], ScheduleCode::Issuer, 15),
-        (&[SHEET, b"issuer 1\ncurrency = \"usd\"\n"], ScheduleCode::Issuer, 15),
+        (
+            &[SHEET, b"issuer 1\ncurrency = \"usd\"\n"],
+            ScheduleCode::Issuer,
+            15,
+        ),
         (&[b"issuer 2\nx\n"], ScheduleCode::Lines, 1),
     ];
     for (parts, code, line) in cases {
@@ -366,7 +388,10 @@ fn a_refused_growth_leaves_nothing_written(rt: HostRuntime) -> Result<(), Fail> 
     let mut sink = Counted::new(taker);
     match rate_text(rt.alloc(), january()?, &mut source, &mut sink) {
         Ok(()) => {
-            let (head, lines) = sink.inner().taken.split_at(HEADER.len().min(sink.inner().taken.len()));
+            let (head, lines) = sink
+                .inner()
+                .taken
+                .split_at(HEADER.len().min(sink.inner().taken.len()));
             assert_eq!(rt; head, HEADER);
             assert_eq!(rt; lines, USAGE_LINE);
         }

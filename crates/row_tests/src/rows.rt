@@ -1,13 +1,11 @@
 //! The rows of a worked batch.
 
-ghost use Rattle.std.specs.Prelude.{◌≡◌, IfOk};
-
 use batch_store::Store;
 use batch_view::Offer;
 use focus_row::{FocusRow, Issuer, RowFault, rows_of};
 use period_cut::{Cut, Month, Period};
 use price_sheet::Sheet;
-use std::alloc::Global;
+use std::alloc::{AllocError, Global};
 use std::test::Fail;
 
 /// A credit, a tax and an adjustment of January 2025.
@@ -25,32 +23,24 @@ pub(crate) struct Worked {
     to: Cut,
 }
 
-/// A store of one agent that has its first batch.
-fn store_of(alloc: Global, bytes: &[u8]) -> Result<Store, Fail>
-    ensures { IfOk result (λ store. store.agents ≡ 1) }
-{
-    let mut store = Store::new(alloc, 1)?;
+/// The first batch of an agent, charged without a price; None where the bytes are no such batch.
+pub(crate) fn first_worked(alloc: Global, bytes: &[u8]) -> Result<Option<Worked>, AllocError> {
     let Offer::Good(batch) = Offer::read(alloc, bytes.to_vec(alloc)?)? else {
-        return Err(Fail::from("it is no batch"));
+        return Ok(None);
     };
     if batch.view().agent() != 1 {
-        return Err(Fail::from("it is of another agent"));
+        return Ok(None);
     }
+    let mut store = Store::new(alloc, 1)?;
     store.put(batch)?;
-    Ok(store)
-}
-
-/// The first batch of an agent, charged without a price.
-pub(crate) fn worked(alloc: Global, bytes: &[u8]) -> Result<Worked, Fail> {
-    let from = Cut::zero(alloc, 1)?;
     let mut to = Cut::zero(alloc, 1)?;
     to.set(1, 1);
-    Ok(Worked {
-        store: store_of(alloc, bytes)?,
+    Ok(Some(Worked {
+        store,
         sheet: Sheet::empty(alloc, Month::of(2025, 1))?,
-        from,
+        from: Cut::zero(alloc, 1)?,
         to,
-    })
+    }))
 }
 
 /// The rows of the first run in January 2025.
@@ -60,17 +50,29 @@ pub(crate) fn first_rows<'a>(
     issuer: &'a Issuer,
 ) -> Result<Vec<FocusRow<'a>>, RowFault> {
     let january = Period::new(0).unwrap();
-    if of.store.agents() != 1 || of.from.agents() != 1 || of.to.agents() != 1 || !of.to.at_least(&of.from) {
+    if of.store.agents() != 1
+        || of.from.agents() != 1
+        || of.to.agents() != 1
+        || !of.to.at_least(&of.from)
+    {
         return Err(RowFault::OutOfMemory);
     }
-    rows_of(rt.alloc(), &of.store, &of.sheet, issuer, january, &of.from, &of.to)
+    rows_of(
+        rt.alloc(),
+        &of.store,
+        &of.sheet,
+        issuer,
+        january,
+        &of.from,
+        &of.to,
+    )
 }
 
 #[test]
 fn the_first_run_has_three_rows(rt: HostRuntime) -> Result<(), Fail> {
     let issuer = Issuer::sample(rt.alloc())?;
     assert!(rt; issuer.same(&issuer));
-    let batch = worked(rt.alloc(), FIRST_RUN)?;
+    let batch = first_worked(rt.alloc(), FIRST_RUN)?.ok_or("no first batch")?;
     let rows = first_rows(&rt, &batch, &issuer)?;
     let wanted = [
         (-2_500_000_000_000, "Launch credit"),
