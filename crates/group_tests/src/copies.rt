@@ -12,7 +12,9 @@ fn are_events_told_apart(events: &[Event]) -> Result<bool, Fail> {
         if !copy.same(event) {
             return Ok(false);
         }
-        if let Some(other) = before && other.same(event) {
+        if let Some(other) = before
+            && other.same(event)
+        {
             return Ok(false);
         }
         before = Some(copy);

@@ -41,7 +41,10 @@ fn a_refused_growth_stops_between_events(rt: HostRuntime) -> Result<(), Fail> {
         Ok(replies) => replies,
         Err(stopped) => replies_again(rt.alloc(), &mut world, &events, stopped)?,
     };
-    let (Ok(text), Ok(wanted)) = (told(rt.alloc(), &replies), joined(rt.alloc(), WHOLE_PATH_TOLD)) else {
+    let (Ok(text), Ok(wanted)) = (
+        told(rt.alloc(), &replies),
+        joined(rt.alloc(), WHOLE_PATH_TOLD),
+    ) else {
         return Ok(());
     };
     assert_eq!(rt; text, wanted);
@@ -72,7 +75,10 @@ fn a_refused_growth_gives_no_export(rt: HostRuntime) -> Result<(), Fail> {
         Err(CsvFault::OutOfMemory) => {
             assert!(rt; wanted.as_bytes().starts_with(sink.inner().taken.as_slice()));
             assert_eq!(rt; sink.failed_calls(), 0);
-            assert_eq!(rt; file_of(rt.alloc(), &snapshot)?.as_slice(), wanted.as_bytes());
+            assert_eq!(rt;
+                file_of(rt.alloc(), &snapshot)?.as_slice(),
+                wanted.as_bytes()
+            );
         }
     }
     Ok(())

@@ -14,7 +14,10 @@ fn a_node_has_10_000_rounds(rt: HostRuntime) -> Result<(), Fail> {
     for round in 1..=10_000u32 {
         match world.step(rt.alloc(), &start)? {
             Reply::Started { ballot, packet } => {
-                assert!(rt; ballot.number() == round && packet == round - 1, "round {round}");
+                assert!(rt;
+                    ballot.number() == round && packet == round - 1,
+                    "round {round}"
+                );
             }
             _ => return Err(Fail::from("not started")),
         }

@@ -1,7 +1,8 @@
 //! Worked schedules: what is answered to each event, and the bytes of each file that is exported.
 
 use crate::samples::{
-    Do, HEADER, LINE, LINE_OF_LESS, READ, READ_LESS, WHOLE_PATH, WHOLE_PATH_TOLD, events_of, world_of,
+    Do, HEADER, LINE, LINE_OF_LESS, READ, READ_LESS, WHOLE_PATH, WHOLE_PATH_TOLD, events_of,
+    world_of,
 };
 use counted_io::Counted;
 use focus_csv::CsvFault;
@@ -217,7 +218,11 @@ fn small_schedules_have_their_replies(rt: HostRuntime) -> Result<(), Fail> {
         (1, ALONE, ALONE_TOLD),
         (3, REFUSED, REFUSED_TOLD),
     ] {
-        assert_eq!(rt; told_of(&rt, nodes, steps)?, joined(rt.alloc(), texts)?, "{nodes} nodes");
+        assert_eq!(rt;
+            told_of(&rt, nodes, steps)?,
+            joined(rt.alloc(), texts)?,
+            "{nodes} nodes"
+        );
     }
     Ok(())
 }
