@@ -1,8 +1,8 @@
 -- What texts that are written one after the other do to a sink.
-use Rattle.std.proofs.Common.{◌≡◌, ℕ, ◌+◌, List, ◌++◌, Option, length, take, sym, ap, ◌∙◌, arith, subst}
+use Rattle.std.proofs.Common.{ℕ, ◌+◌, List, ◌++◌, Option, length, take, sym, ◌∙◌, arith, subst}
 use Rattle.std.proofs.lemmas.List.{length-append, take-append-le}
 use Rattle.std.proofs.Math.Seq.{take-append-add, take-length}
-use Rattle.std.proofs.KnownBytes.{Appends-nil, Appends-trans}
+use Rattle.std.proofs.KnownBytes.{Appends-trans}
 use Rattle.std.specs.Io.KnownBytes.{Appends}
 use Rattle.counted_io.specs.Writing.{AppendsFront}
 use Rattle.group_events.specs.Snapshots.{AppendsSome}
