@@ -1,5 +1,5 @@
 -- Reading a whole schedule: the group, its sheet and its issuer, and its events, or the first fault by line.
-use Rattle.std.specs.Prelude.{ℕ, zero, suc, ◌+◌, ◌==◌, Bool, if◌then◌else◌, List, [], ◌∷◌, length, take, drop, Option, Some, None, Result, Ok, Err, ok_or, codes}
+use Rattle.std.specs.Prelude.{ℕ, zero, suc, ◌+◌, ◌==◌, if◌then◌else◌, List, [], ◌∷◌, length, take, drop, Option, Some, None, Result, Ok, ok_or, codes}
 use Rattle.std.specs.List.{position}
 use Rattle.std.specs.Option.{option_map}
 use Rattle.metering_model.specs.FirstFailure.{◌>>=◌, holds_or}
@@ -98,14 +98,20 @@ number_line code word most u = do
   n ← ok_or (number_behind word most l.0) (Refused code u.line)
   Ok (n, l.1)
 
--- What a text gives, or its first fault by line. No text has more events than bytes.
-unfoldable pub schedule_in : List ℕ → Result ReadSchedule ScheduleFault
-schedule_in text = do
+-- how many nodes and agents the group has, and what is left behind the lines that say so
+unfoldable pub group_in : List ℕ → Result (ℕ × ℕ × Unread) ScheduleFault
+group_in text = do
   u ← whole_of text
   head ← head_line u
   nodes ← number_line Nodes (codes "nodes ") 99 head
   agents ← number_line Agents (codes "agents ") 64 nodes.1
-  sheet ← sheet_section agents.1
+  Ok (nodes.0, agents.0, agents.1)
+
+-- What a text gives, or its first fault by line. No text has more events than bytes.
+unfoldable pub schedule_in : List ℕ → Result ReadSchedule ScheduleFault
+schedule_in text = do
+  group ← group_in text
+  sheet ← sheet_section group.2
   issuer ← issuer_section sheet.1
   events ← events_in (length text) issuer.1
-  Ok (record { nodes = nodes.0; agents = agents.0; sheet = sheet.0; issuer = issuer.0; events = events })
+  Ok (record { nodes = group.0; agents = group.1; sheet = sheet.0; issuer = issuer.0; events = events })
