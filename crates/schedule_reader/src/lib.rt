@@ -1,0 +1,9 @@
+//! Reading a whole schedule: a group, its sheet and its issuer, and events, or the first fault by line.
+#![tactic(auto)]
+
+mod events;
+mod lines;
+mod schedules;
+
+pub use events::Planned;
+pub use schedules::Schedule;
