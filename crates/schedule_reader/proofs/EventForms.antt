@@ -128,7 +128,7 @@ event_read u r h = cases (begins_with (codes "journal ") (left u)) h
 line_long : (l t : List ℕ) → 0 < length (line l ++ t)
 line_long l t = omega (arith, length-append (line l) t, length-append l (10 ∷ []))
 
-event_long : (e : Planned) → 0 < length (planned_text e)
+pub event_long : (e : Planned) → 0 < length (planned_text e)
 event_long (PlansJournal ls) = line_long (with_number (codes "journal ") (length ls)) (lines_text ls)
 event_long (PlansDelivery k i) = omega (arith, length-append (with_number (codes "deliver ") k ++ with_number (codes " ") i) (10 ∷ []))
 event_long (PlansStart i) = omega (arith, length-append (with_number (codes "start ") i) (10 ∷ []))

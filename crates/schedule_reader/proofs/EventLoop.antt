@@ -17,7 +17,7 @@ one_more : (found : List Planned) (e : Planned) (r : Result (List Planned) Sched
 one_more found e (Ok rest) = ap Ok (sym (append_assoc found (e ∷ []) rest))
 one_more found e (Err fault) = refl
 
-nonempty : {A : Type 0} (t : List ℕ) (x y : A) → 0 < length t → cond (is_empty t) x y ≡ y
+pub nonempty : {A : Type 0} (t : List ℕ) (x y : A) → 0 < length t → cond (is_empty t) x y ≡ y
 nonempty [] x y some = absurd (omega arith)
 nonempty (c ∷ cs) x y some = refl
 

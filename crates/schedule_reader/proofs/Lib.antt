@@ -3,3 +3,6 @@ pub mod LineForms
 pub mod EventForms
 pub mod ScheduleForms
 pub mod EventLoop
+pub mod WrittenLines
+pub mod WrittenEvents
+pub mod WrittenSchedules
