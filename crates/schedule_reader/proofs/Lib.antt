@@ -6,3 +6,4 @@ pub mod EventLoop
 pub mod WrittenLines
 pub mod WrittenEvents
 pub mod WrittenSchedules
+pub mod WorkedFaults
