@@ -1,0 +1,15 @@
+use Rattle.std.proofs.Common.{map}
+use Rattle.schedule_reader.specs.Events.{planned_of}
+use Rattle.schedule_reader.proofs.ScheduleForms.{schedule_read, schedule_taken}
+use Rattle.schedule_reader.proofs.schedules.Schedule.read.Goals as goal
+
+pub returns-in-Ok-events_in-clause-form : goal.returns-in-Ok-events_in-clause-form
+returns-in-Ok-events_in-clause-form c =
+    let text = c.args.text.now in
+    let group = c.in-Ok.parts in
+    let sheet = c.in-Ok-read_sheet.parts in
+    let issuer = c.in-Ok-read_issuer.parts in
+    let events = map planned_of c.in-Ok-events_in.events.items in
+    schedule_read text (record { nodes = group.0; agents = group.1; sheet = sheet.0; issuer = issuer.0; events = events })
+    (schedule_taken text group.0 group.1 group.2 sheet.1 issuer.1 sheet.0 issuer.0 events
+    c.in-Ok.ensures.group c.in-Ok-read_sheet.ensures.taken c.in-Ok-read_issuer.ensures.taken c.in-Ok-events_in.ensures.taken)

@@ -1,0 +1,4 @@
+pub mod Schedules
+pub mod Forms
+pub mod Events
+pub mod Inner

@@ -1,0 +1,117 @@
+-- Reading a whole schedule: the group, its sheet and its issuer, and its events, or the first fault by line.
+use Rattle.std.specs.Prelude.{ℕ, zero, suc, ◌+◌, ◌==◌, if◌then◌else◌, List, [], ◌∷◌, length, take, drop, Option, Some, None, Result, Ok, ok_or, codes}
+use Rattle.std.specs.List.{position}
+use Rattle.std.specs.Option.{option_map}
+use Rattle.metering_model.specs.FirstFailure.{◌>>=◌, holds_or}
+use Rattle.metering_model.specs.Batch.{is_empty}
+use Rattle.metering_model.specs.BatchReading.{is_same, lines_in, whole_in}
+use Rattle.metering_model.specs.Schedule.{Planned, PlansJournal, PlansDelivery, PlansStart, PlansRestart, PlansExport}
+use Rattle.metering_model.specs.Sheet as model
+use Rattle.schedule_text.specs.declared.faults.ScheduleCode.{ScheduleCode}
+use Rattle.schedule_text.specs.declared.faults.ScheduleCode.TheVariants.{Head, Nodes, Agents, Event}
+use Rattle.schedule_text.specs.declared.faults.ScheduleFault.{ScheduleFault}
+use Rattle.schedule_text.specs.declared.faults.ScheduleFault.TheVariants.{Refused}
+use Rattle.schedule_text.specs.Sections.{Unread, left, whole_of, begins_with, first_line, number_behind, section_in, sheet_section, issuer_section}
+
+-- ---- lines with numbers
+
+-- the number behind a word, from 0 to the most
+abbrev pub one_behind : List ℕ → ℕ → List ℕ → Option ℕ
+one_behind word most line = if begins_with word line then whole_in 0 most (drop (length word) line) else None
+
+abbrev pub both : Option ℕ → Option ℕ → Option (ℕ × ℕ)
+both (Some m) (Some n) = Some (m, n)
+both (Some m) None = None
+both None o = None
+
+-- the numbers before the place of a space and behind it
+abbrev pub two_at : ℕ → ℕ → List ℕ → Option ℕ → Option (ℕ × ℕ)
+two_at first second t (Some i) = both (whole_in 0 first (take i t)) (whole_in 0 second (drop (i + 1) t))
+two_at first second t None = None
+
+-- two numbers parted by the first space, each from 0 to its most
+abbrev pub two_in : ℕ → ℕ → List ℕ → Option (ℕ × ℕ)
+two_in first second t = two_at first second t (position (λ c. c == 32) t)
+
+-- the two numbers behind a word
+abbrev pub two_behind : List ℕ → ℕ → ℕ → List ℕ → Option (ℕ × ℕ)
+two_behind word first second line = if begins_with word line then two_in first second (drop (length word) line) else None
+
+-- ---- events
+
+abbrev pub or_else : Option Planned → Option Planned → Option Planned
+or_else (Some e) o = Some e
+or_else None o = o
+
+-- the event that one line is
+abbrev pub event_of_line : List ℕ → Option Planned
+event_of_line line =
+    or_else (option_map (λ n. PlansDelivery n.0 n.1) (two_behind (codes "deliver ") 999_999 98 line))
+    (or_else (option_map PlansStart (one_behind (codes "start ") 98 line))
+    (or_else (option_map PlansRestart (one_behind (codes "restart ") 98 line))
+    (option_map (λ n. PlansExport n.0 n.1) (two_behind (codes "export ") 98 1_199 line))))
+
+-- an event of one line, and what is left behind it
+unfoldable pub line_event : Unread → Result (Planned × Unread) ScheduleFault
+line_event u = do
+  l ← first_line Event u
+  e ← ok_or (event_of_line l.0) (Refused Event u.line)
+  Ok (e, l.1)
+
+-- a journal, with its lines
+unfoldable pub journal_event : Unread → Result (Planned × Unread) ScheduleFault
+journal_event u = do
+  s ← section_in Event (codes "journal ") 1_001 u
+  Ok (PlansJournal (lines_in s.text).lines, s.rest)
+
+unfoldable pub event_in : Unread → Result (Planned × Unread) ScheduleFault
+event_in u = if begins_with (codes "journal ") (left u) then journal_event u else line_event u
+
+-- events until nothing is left, and no more than so many
+unfoldable pub events_in : ℕ → Unread → Result (List Planned) ScheduleFault
+events_in zero u = Ok []
+events_in (suc most) u =
+    if is_empty (left u) then Ok []
+    else (event_in u >>= λ (e : Planned × Unread). events_in most e.1 >>= λ (es : List Planned). Ok (e.0 ∷ es))
+
+-- ---- the whole
+
+-- What is read of a schedule. The lines of its sections are no longer there.
+pub record ReadSchedule : Type 0 where
+  pub nodes : ℕ
+  pub agents : ℕ
+  pub sheet : model.Sheet
+  pub issuer : model.Issuer
+  pub events : List Planned
+
+-- what is left behind the first line
+unfoldable pub head_line : Unread → Result Unread ScheduleFault
+head_line u = do
+  l ← first_line Head u
+  _ ← holds_or (is_same l.0 (codes "SCHEDULE 1")) (Refused Head u.line)
+  Ok l.1
+
+-- the number, from 1 to the most, that a line with the word tells
+unfoldable pub number_line : ScheduleCode → List ℕ → ℕ → Unread → Result (ℕ × Unread) ScheduleFault
+number_line code word most u = do
+  l ← first_line code u
+  n ← ok_or (number_behind word most l.0) (Refused code u.line)
+  Ok (n, l.1)
+
+-- how many nodes and agents the group has, and what is left behind the lines that say so
+unfoldable pub group_in : List ℕ → Result (ℕ × ℕ × Unread) ScheduleFault
+group_in text = do
+  u ← whole_of text
+  head ← head_line u
+  nodes ← number_line Nodes (codes "nodes ") 99 head
+  agents ← number_line Agents (codes "agents ") 64 nodes.1
+  Ok (nodes.0, agents.0, agents.1)
+
+-- What a text gives, or its first fault by line. No text has more events than bytes.
+unfoldable pub schedule_in : List ℕ → Result ReadSchedule ScheduleFault
+schedule_in text = do
+  group ← group_in text
+  sheet ← sheet_section group.2
+  issuer ← issuer_section sheet.1
+  events ← events_in (length text) issuer.1
+  Ok (record { nodes = group.0; agents = group.1; sheet = sheet.0; issuer = issuer.0; events = events })

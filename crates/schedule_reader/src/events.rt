@@ -1,0 +1,143 @@
+//! The events of a schedule, one line or one journal at a time.
+
+ghost use Rattle.std.specs.Prelude.{◌≡◌, ◌≢◌, Ok, Err, map, codes, option_map, IfOk, IfErr, MatchResult};
+ghost use Rattle.metering_model.specs.Schedule.{PlansDelivery, PlansStart, PlansRestart, PlansExport};
+ghost use Rattle.schedule_reader.specs.Events.{planned_of};
+ghost use Rattle.schedule_reader.specs.Schedules.{one_behind, two_behind, event_of_line, line_event, journal_event, event_in, events_in};
+
+use crate::lines::{one_behind, two_behind};
+use schedule_text::{ScheduleCode, ScheduleFault, Unread, read_section};
+use std::alloc::Global;
+
+const LAST_NODE: u32 = 98;
+
+const LAST_PACKET: u32 = 999_999;
+
+const LAST_PERIOD: u32 = 1_199;
+
+/// An event as it stands in a schedule. What is journaled is lent from the text, and not read.
+#[derive(Clone, Copy, Drop)]
+pub enum Planned<'a> {
+    /// These lines, each with its line feed, are offered as a batch.
+    Journal(&'a [u8]),
+    /// The packet of this number reaches a node.
+    Deliver { packet: u32, node: u32 },
+    /// A node begins a ballot of its own.
+    Start { node: u32 },
+    /// A node forgets what it does not keep.
+    Restart { node: u32 },
+    /// A node is asked for the file of a period.
+    Export { node: u32, period: u32 },
+}
+
+fn delivery<'a>(line: &'a [u8]) -> Option<Planned<'a>>
+    ensures { option_map planned_of result ≡ option_map (λ n. PlansDelivery n.0 n.1) (two_behind (codes "deliver ") 999_999 98 line.now) }
+{
+    let (packet, node) = two_behind(line, b"deliver ", LAST_PACKET, LAST_NODE)?;
+    Some(Planned::Deliver { packet, node })
+}
+
+fn start<'a>(line: &'a [u8]) -> Option<Planned<'a>>
+    ensures { option_map planned_of result ≡ option_map PlansStart (one_behind (codes "start ") 98 line.now) }
+{
+    let node = one_behind(line, b"start ", LAST_NODE)?;
+    Some(Planned::Start { node })
+}
+
+fn restart<'a>(line: &'a [u8]) -> Option<Planned<'a>>
+    ensures { option_map planned_of result ≡ option_map PlansRestart (one_behind (codes "restart ") 98 line.now) }
+{
+    let node = one_behind(line, b"restart ", LAST_NODE)?;
+    Some(Planned::Restart { node })
+}
+
+fn export<'a>(line: &'a [u8]) -> Option<Planned<'a>>
+    ensures { option_map planned_of result ≡ option_map (λ n. PlansExport n.0 n.1) (two_behind (codes "export ") 98 1_199 line.now) }
+{
+    let (node, period) = two_behind(line, b"export ", LAST_NODE, LAST_PERIOD)?;
+    Some(Planned::Export { node, period })
+}
+
+/// The event that a line is, if it is one.
+fn event_of_line<'a>(line: &'a [u8]) -> Option<Planned<'a>>
+    ensures { option_map planned_of result ≡ event_of_line line.now }
+{
+    if let Some(event) = delivery(line) {
+        return Some(event);
+    }
+    if let Some(event) = start(line) {
+        return Some(event);
+    }
+    if let Some(event) = restart(line) {
+        return Some(event);
+    }
+    export(line)
+}
+
+/// The event of the next line, and what is left behind it.
+#[tactic(auto, unfolding(crate::specs::Schedules::line_event))]
+fn line_event<'a>(unread: &Unread<'a>) -> Result<(Planned<'a>, Unread<'a>), ScheduleFault>
+    ensures event { MatchResult result (λ r. line_event unread.now ≡ Ok (planned_of r.0, r.1)) (λ fault. line_event unread.now ≡ Err fault) }
+{
+    let (line, rest) = match unread.first_line(ScheduleCode::Event) {
+        Ok(parts) => parts,
+        Err(fault) => return Err(fault),
+    };
+    match event_of_line(line) {
+        Some(event) => Ok((event, rest)),
+        None => Err(ScheduleFault::Refused {
+            code: ScheduleCode::Event,
+            line: unread.line(),
+        }),
+    }
+}
+
+/// The journal that the next line opens, and what is left behind its lines.
+#[tactic(auto, unfolding(crate::specs::Schedules::journal_event))]
+fn journal_event<'a>(unread: &Unread<'a>) -> Result<(Planned<'a>, Unread<'a>), ScheduleFault>
+    ensures event { MatchResult result (λ r. journal_event unread.now ≡ Ok (planned_of r.0, r.1)) (λ fault. journal_event unread.now ≡ Err fault) }
+{
+    match read_section(unread, ScheduleCode::Event, b"journal ", 1_001) {
+        Ok(section) => Ok((Planned::Journal(section.text), section.rest)),
+        Err(fault) => Err(fault),
+    }
+}
+
+/// The next event, and what is left behind it.
+#[tactic(auto, unfolding(crate::specs::Schedules::event_in))]
+fn event_in<'a>(unread: &Unread<'a>) -> Result<(Planned<'a>, Unread<'a>), ScheduleFault>
+    ensures event { MatchResult result (λ r. event_in unread.now ≡ Ok (planned_of r.0, r.1)) (λ fault. event_in unread.now ≡ Err fault) }
+{
+    if unread.begins_with(b"journal ") {
+        journal_event(unread)
+    } else {
+        line_event(unread)
+    }
+}
+
+/// The events until nothing is left, and no more than `most`.
+pub(crate) fn events_in<'a>(
+    alloc: Global,
+    unread: Unread<'a>,
+    most: usize,
+) -> Result<Vec<Planned<'a>>, ScheduleFault>
+    ensures taken { IfOk result (λ events. events_in most unread.entry ≡ Ok (map planned_of events.items)) }
+    ensures refused { IfErr result (λ fault. fault ≢ ScheduleFault.OutOfMemory → events_in most unread.entry ≡ Err fault) }
+{
+    let mut events = Vec::new(alloc);
+    let mut here = unread;
+    for _ in 0..most {
+        if here.left().is_empty() {
+            return Ok(events);
+        }
+        let (event, rest) = match event_in(&here) {
+            Ok(parts) => parts,
+            Err(fault) => return Err(fault),
+        };
+        let Ok(_) = events.push(event) else {
+            return Err(ScheduleFault::OutOfMemory);
+        };
+        here = rest;
+    }
+    Ok(events)
+}

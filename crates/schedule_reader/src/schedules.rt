@@ -1,0 +1,131 @@
+//! A whole schedule.
+
+ghost use Rattle.std.specs.Prelude.{◌≡◌, ◌≢◌, ◌≤◌, Ok, Err, IfOk, IfErr, MatchResult, length, map, codes};
+ghost use Rattle.metering_model.specs.SheetRules.{IsSheet, IsIssuer};
+ghost use Rattle.schedule_reader.specs.Events.{planned_of};
+ghost use Rattle.schedule_reader.specs.Schedules.{head_line, number_line, group_in, schedule_in};
+ghost use Rattle.schedule_reader.specs.Forms.{IsRead};
+
+use crate::events::{Planned, events_in};
+use crate::lines::number_behind;
+use price_sheet::{Issuer, Sheet};
+use schedule_text::{ScheduleCode, ScheduleFault, Unread, read_issuer, read_sheet};
+use sheet_text::is_same;
+use std::alloc::Global;
+
+/// A schedule: how many nodes and agents the group has, by what it charges, and what happens to it, in this order.
+#[derive(Drop)]
+pub struct Schedule<'a> {
+    /// From 1 to 99.
+    pub nodes: u32,
+    /// From 1 to 64.
+    pub agents: u32,
+    pub sheet: Sheet,
+    pub issuer: Issuer,
+    pub events: Vec<Planned<'a>>,
+}
+
+/// What is left behind the first line of a schedule.
+#[tactic(auto, unfolding(crate::specs::Schedules::head_line))]
+fn head_line<'a>(unread: &Unread<'a>) -> Result<Unread<'a>, ScheduleFault>
+    ensures head { MatchResult result (λ rest. head_line unread.now ≡ Ok rest) (λ fault. head_line unread.now ≡ Err fault) }
+{
+    let (line, rest) = match unread.first_line(ScheduleCode::Head) {
+        Ok(parts) => parts,
+        Err(fault) => return Err(fault),
+    };
+    if is_same(line, b"SCHEDULE 1") {
+        Ok(rest)
+    } else {
+        Err(ScheduleFault::Refused {
+            code: ScheduleCode::Head,
+            line: unread.line(),
+        })
+    }
+}
+
+/// The number, from 1 to `most`, that the next line tells behind the word, and what is left behind it.
+#[tactic(auto, unfolding(crate::specs::Schedules::number_line))]
+fn number_line<'a>(
+    unread: &Unread<'a>,
+    code: ScheduleCode,
+    word: &[u8],
+    most: u32,
+) -> Result<(u32, Unread<'a>), ScheduleFault>
+    requires { most ≤ 1_000_000 }
+    ensures number { MatchResult result (λ r. number_line code word.now most unread.now ≡ Ok (r.0, r.1)) (λ fault. number_line code word.now most unread.now ≡ Err fault) }
+    ensures within { IfOk result (λ r. r.0 ≤ most) }
+{
+    let (line, rest) = match unread.first_line(code) {
+        Ok(parts) => parts,
+        Err(fault) => return Err(fault),
+    };
+    match number_behind(line, word, most) {
+        Some(number) => Ok((number, rest)),
+        None => Err(ScheduleFault::Refused {
+            code,
+            line: unread.line(),
+        }),
+    }
+}
+
+/// How many nodes and agents a text tells, and what is left behind the lines that say so.
+#[tactic(auto, unfolding(crate::specs::Schedules::group_in))]
+fn group_in<'a>(text: &'a [u8]) -> Result<(u32, u32, Unread<'a>), ScheduleFault>
+    ensures group { MatchResult result (λ r. group_in text.now ≡ Ok (r.0, r.1, r.2)) (λ fault. group_in text.now ≡ Err fault) }
+{
+    let whole = match Unread::whole(text) {
+        Ok(unread) => unread,
+        Err(fault) => return Err(fault),
+    };
+    let head = match head_line(&whole) {
+        Ok(unread) => unread,
+        Err(fault) => return Err(fault),
+    };
+    let (nodes, rest) = match number_line(&head, ScheduleCode::Nodes, b"nodes ", 99) {
+        Ok(parts) => parts,
+        Err(fault) => return Err(fault),
+    };
+    match number_line(&rest, ScheduleCode::Agents, b"agents ", 64) {
+        Ok((agents, rest)) => Ok((nodes, agents, rest)),
+        Err(fault) => Err(fault),
+    }
+}
+
+impl<'a> Schedule<'a> {
+    /// Reads the text of a schedule, once and from the top; journals are lent from it and not read.
+    ///
+    /// A text that is none is refused at its first fault by line, or with want of memory.
+    #[tactic(auto, unfolding(crate::specs::Schedules::schedule_in))]
+    pub fn read(alloc: Global, text: &'a [u8]) -> Result<Schedule<'a>, ScheduleFault>
+        ensures taken { IfOk result (λ s. schedule_in text.now
+            ≡ Ok (record { nodes = s.nodes; agents = s.agents; sheet = s.sheet; issuer = s.issuer; events = map planned_of s.events.items })) }
+        ensures refused { IfErr result (λ fault. fault ≢ ScheduleFault.OutOfMemory → schedule_in text.now ≡ Err fault) }
+        ensures form { IfOk result (λ s. IsRead text.now
+            (record { nodes = s.nodes; agents = s.agents; sheet = s.sheet; issuer = s.issuer; events = map planned_of s.events.items })) }
+        ensures rules { IfOk result (λ s. IsSheet s.sheet × IsIssuer s.issuer) }
+    {
+        let (nodes, agents, unread) = match group_in(text) {
+            Ok(parts) => parts,
+            Err(fault) => return Err(fault),
+        };
+        let (sheet, unread) = match read_sheet(alloc, &unread) {
+            Ok(parts) => parts,
+            Err(fault) => return Err(fault),
+        };
+        let (issuer, unread) = match read_issuer(alloc, &unread) {
+            Ok(parts) => parts,
+            Err(fault) => return Err(fault),
+        };
+        match events_in(alloc, unread, text.len()) {
+            Ok(events) => Ok(Schedule {
+                nodes,
+                agents,
+                sheet,
+                issuer,
+                events,
+            }),
+            Err(fault) => Err(fault),
+        }
+    }
+}
