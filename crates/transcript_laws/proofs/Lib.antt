@@ -1,0 +1,8 @@
+pub mod Decimals
+pub mod TextLaws
+pub mod FileLines
+pub mod FileSizes
+pub mod ReplyLines
+pub mod ShownExports
+pub mod ShownTotals
+pub mod EveryTranscript
