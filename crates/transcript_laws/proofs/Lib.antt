@@ -6,3 +6,5 @@ pub mod ReplyLines
 pub mod ShownExports
 pub mod ShownTotals
 pub mod EveryTranscript
+mod WorkedTranscripts
+mod FalseTranscripts
