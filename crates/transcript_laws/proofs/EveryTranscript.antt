@@ -2,7 +2,7 @@
 use Rattle.std.proofs.Common.{◌≡◌, ℕ, List, [], ◌∷◌, length, map, take, refl, sym, ap, subst, ◌∙◌, arith, Some, Contains}
 use Rattle.std.specs.Prelude.{slice_get}
 use Rattle.std.proofs.lemmas.List.{length-map}
-use Rattle.std.proofs.lemmas.Option.{slice_get_within}
+use Rattle.std.proofs.lemmas.Option.{same_Some, slice_get_within}
 use Rattle.metering_model.specs.BatchReading.{Lines, lines_in}
 use Rattle.metering_model.specs.Cut.{Cut, IsGrowing}
 use Rattle.metering_model.specs.Sheet.{Sheet, Issuer}
@@ -27,7 +27,7 @@ use Rattle.transcript_laws.proofs.ShownExports.{shown_is_exported, exported_is_s
 use Rattle.transcript_laws.proofs.ShownTotals.{first_grow, are_the_files}
 
 module _ (nodes agents : ℕ) (sheet : Sheet) (issuer : Issuer) (events : List Event) (limits : IsSheet sheet) (names : IsIssuer issuer) where
-  abbrev replies : List Reply
+  abbrev pub replies : List Reply
   replies = (play (opening nodes agents sheet issuer) events).0
 
   abbrev reached : World
@@ -52,7 +52,7 @@ module _ (nodes agents : ℕ) (sheet : Sheet) (issuer : Issuer) (events : List E
       lines_in (file_of s) ≡ record { lines = header_line ∷ map line_of_row (rows sheet issuer reached.journals s.period s.from s.to); rest = [] }
   lines_of_export s has = ap lines_in (file_between s has) ∙ one_line_each sheet issuer reached.journals journals_are limits names s.period s.from s.to
 
-  export_is_shown : (s : Snapshot) → Contains replies (Exported s) → IsFileShown s
+  pub export_is_shown : (s : Snapshot) → Contains replies (Exported s) → IsFileShown s
   export_is_shown s has =
       let xs = rows sheet issuer reached.journals s.period s.from s.to in
       let is = lines_of_export s has in
@@ -72,7 +72,7 @@ module _ (nodes agents : ℕ) (sheet : Sheet) (issuer : Issuer) (events : List E
 
   -- ---- the files that are shown
 
-  only : (period : ℕ) (shown : List ℕ) → Shows (transcript replies) period shown →
+  pub only : (period : ℕ) (shown : List ℕ) → Shows (transcript replies) period shown →
       (s : Snapshot) × Contains replies (Exported s) × (s.period ≡ period) × (shown ≡ file_of s)
   only period shown it = shown_is_exported replies export_is_shown period shown it
 
@@ -101,6 +101,15 @@ module _ (nodes agents : ℕ) (sheet : Sheet) (issuer : Issuer) (events : List E
       let a = only period shown it in
       subst (λ p. IsFileAt p shown) a.2 (subst (IsFileAt a.0.period) (sym a.3) (export_is_file a.0 a.1))
 
+  lines : (period : ℕ) (shown : List ℕ) (to : Cut) → Shows (transcript replies) period shown → slice_get headline.cuts period ≡ Some to →
+      lines_in shown ≡ record { lines = header_line ∷ map line_of_row (rows sheet issuer reached.journals period (cut_before agents headline.cuts period) to); rest = [] }
+  lines period shown to it at =
+      let a = files period shown it in
+      let before = cut_before agents headline.cuts period in
+      ap lines_in a.2
+      ∙ (ap (λ x. lines_in (file (rows sheet issuer reached.journals period before x))) (same_Some a.0 to (sym a.1 ∙ at))
+      ∙ one_line_each sheet issuer reached.journals journals_are limits names period before to)
+
   adds_up : (shown : List (List ℕ)) → ((period : ℕ) (one : List ℕ) → slice_get shown period ≡ Some one → Shows (transcript replies) period one) →
       sum_of_first_column shown
       ≡ Some (sum_of (λ x. x.billed) (charges_up_to sheet reached.journals (last_cut agents (take (length shown) headline.cuts))))
@@ -120,6 +129,7 @@ module _ (nodes agents : ℕ) (sheet : Sheet) (issuer : Issuer) (events : List E
     are_the_cuts = headline.are_the_cuts;
     agree = agree;
     files = files;
+    lines = lines;
     each = exported_is_shown replies export_is_shown;
     only = only;
     charged_once = headline.charged_once;

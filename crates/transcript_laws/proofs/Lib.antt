@@ -6,5 +6,6 @@ pub mod ReplyLines
 pub mod ShownExports
 pub mod ShownTotals
 pub mod EveryTranscript
+pub mod LongerTranscripts
 mod WorkedTranscripts
 mod FalseTranscripts

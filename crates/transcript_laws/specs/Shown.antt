@@ -1,11 +1,12 @@
 -- What a transcript shows whoever reads its bytes: files, each under its period, and what holds of them after every run.
-use Rattle.std.specs.Prelude.{◌≡◌, ℕ, List, ◌∷◌, ◌++◌, length, take, Some, slice_get, codes, IsTrue}
+use Rattle.std.specs.Prelude.{◌≡◌, ℕ, List, ◌∷◌, ◌++◌, length, map, take, [], Some, slice_get, codes, IsTrue}
 use Rattle.std.specs.List.{Contains, list_all}
 use Rattle.metering_model.specs.Batch.{lacks}
+use Rattle.metering_model.specs.BatchReading.{lines_in}
 use Rattle.metering_model.specs.Sheet.{Sheet, Issuer}
 use Rattle.metering_model.specs.Cut.{Cut}
 use Rattle.metering_model.specs.Rows.{rows}
-use Rattle.metering_model.specs.File.{file}
+use Rattle.metering_model.specs.File.{header_line, file}
 use Rattle.metering_model.specs.Totals.{sum_of}
 use Rattle.metering_model.specs.World.{World, Event, Snapshot, Reply, Exported, last_cut, opening}
 use Rattle.metering_model.specs.Step.{cut_before, play}
@@ -13,7 +14,7 @@ use Rattle.metering_model.specs.Transcript.{with_number, file_of, transcript}
 use Rattle.metering_model.specs.Schedule.{TextLines, lines_text}
 use Rattle.group_laws.specs.Headline.{AreTheCuts, AreChargedOnce, HoldsAfter}
 use Rattle.row_laws.specs.Charged.{charges_up_to}
-use Rattle.row_laws.specs.Columns.{sum_of_first_column}
+use Rattle.row_laws.specs.Columns.{line_of_row, sum_of_first_column}
 
 -- the line that stands above a file
 abbrev pub line_above : ℕ → ℕ → List ℕ
@@ -45,6 +46,9 @@ pub record HoldsOfBytes (nodes agents : ℕ) (sheet : Sheet) (issuer : Issuer) (
   -- a period's file is that of the journals between the period's cut and the one before it
   pub files : (period : ℕ) (shown : List ℕ) → Shows text period shown →
       (to : Cut) × (slice_get cuts period ≡ Some to) × (shown ≡ file (rows sheet issuer world.journals period (cut_before agents cuts period) to))
+  -- its lines are the header line and one line for each row between these cuts, so that `charged_once` speaks of lines
+  pub lines : (period : ℕ) (shown : List ℕ) (to : Cut) → Shows text period shown → slice_get cuts period ≡ Some to →
+      lines_in shown ≡ record { lines = header_line ∷ map line_of_row (rows sheet issuer world.journals period (cut_before agents cuts period) to); rest = [] }
   -- an export that was answered shows its file, and no other file is shown
   pub each : (s : Snapshot) → Contains replies (Exported s) → Shows text s.period (file_of s)
   pub only : (period : ℕ) (shown : List ℕ) → Shows text period shown →
