@@ -1,6 +1,6 @@
 -- The headline, of the bytes of every run's transcript.
 use Rattle.std.proofs.Common.{◌≡◌, ℕ, List, [], ◌∷◌, length, map, take, refl, sym, ap, subst, ◌∙◌, arith, Some, Contains}
-use Rattle.std.specs.Prelude.{slice_get}
+use Rattle.std.specs.Prelude.{All, slice_get}
 use Rattle.std.proofs.lemmas.List.{length-map}
 use Rattle.std.proofs.lemmas.Option.{same_Some, slice_get_within}
 use Rattle.metering_model.specs.BatchReading.{Lines, lines_in}
@@ -8,6 +8,7 @@ use Rattle.metering_model.specs.Cut.{Cut, IsGrowing}
 use Rattle.metering_model.specs.Sheet.{Sheet, Issuer}
 use Rattle.metering_model.specs.SheetRules.{IsSheet, IsIssuer}
 use Rattle.metering_model.specs.Holding.{IsHolding}
+use Rattle.metering_model.specs.Front.{AreDueBetween}
 use Rattle.metering_model.specs.Rows.{rows}
 use Rattle.metering_model.specs.File.{header_line, file}
 use Rattle.metering_model.specs.Totals.{sum_of}
@@ -18,12 +19,15 @@ use Rattle.group_laws.specs.Headline.{HoldsAfter}
 use Rattle.group_laws.proofs.EveryRun.{holds_after}
 use Rattle.row_laws.specs.Charged.{charges_up_to}
 use Rattle.row_laws.specs.Columns.{line_of_row, sum_of_first_column}
+use Rattle.row_laws.specs.Due.{StartsBeforeItsPeriodEnds}
+use Rattle.row_laws.proofs.DueLaws.{rows_start_before}
 use Rattle.row_laws.proofs.FileLaws.{one_line_each, texts_add_up}
 use Rattle.transcript_laws.specs.Shown.{Shows, HoldsOfBytes}
 use Rattle.transcript_laws.proofs.FileLines.{are_plain, file_plain}
 use Rattle.transcript_laws.proofs.FileSizes.{few_batches, few_rows}
 use Rattle.transcript_laws.proofs.ReplyLines.{IsFileShown}
 use Rattle.transcript_laws.proofs.ShownExports.{shown_is_exported, exported_is_shown}
+use Rattle.transcript_laws.proofs.InTime.{were_due}
 use Rattle.transcript_laws.proofs.ShownTotals.{first_grow, are_the_files}
 
 module _ (nodes agents : ℕ) (sheet : Sheet) (issuer : Issuer) (events : List Event) (limits : IsSheet sheet) (names : IsIssuer issuer) where
@@ -110,6 +114,20 @@ module _ (nodes agents : ℕ) (sheet : Sheet) (issuer : Issuer) (events : List E
       ∙ (ap (λ x. lines_in (file (rows sheet issuer reached.journals period before x))) (same_Some a.0 to (sym a.1 ∙ at))
       ∙ one_line_each sheet issuer reached.journals journals_are limits names period before to)
 
+  due : (period : ℕ) (to : Cut) → slice_get headline.cuts period ≡ Some to → AreDueBetween sheet.base period reached.journals (cut_before agents headline.cuts period) to
+  due period to at =
+      subst (λ x. AreDueBetween x.base period reached.journals (cut_before agents headline.cuts period) to) headline.sheet_kept
+      (subst (λ n. AreDueBetween reached.sheet.base period reached.journals (cut_before n headline.cuts period) to) headline.agents_kept
+      (headline.are_the_cuts.due period to at))
+
+  in_time : (period : ℕ) (to : Cut) → slice_get headline.cuts period ≡ Some to →
+      All StartsBeforeItsPeriodEnds (rows sheet issuer reached.journals period (cut_before agents headline.cuts period) to)
+  in_time period to at =
+      let within = slice_get_within headline.cuts period to at in
+      let most = headline.are_the_cuts.in_range in
+      rows_start_before sheet issuer reached.journals period (cut_before agents headline.cuts period) to journals_are limits.base (omega (arith, within, most))
+      (due period to at) (were_due sheet.base agents reached.journals headline.cuts due period to at)
+
   adds_up : (shown : List (List ℕ)) → ((period : ℕ) (one : List ℕ) → slice_get shown period ≡ Some one → Shows (transcript replies) period one) →
       sum_of_first_column shown
       ≡ Some (sum_of (λ x. x.billed) (charges_up_to sheet reached.journals (last_cut agents (take (length shown) headline.cuts))))
@@ -130,6 +148,7 @@ module _ (nodes agents : ℕ) (sheet : Sheet) (issuer : Issuer) (events : List E
     agree = agree;
     files = files;
     lines = lines;
+    in_time = in_time;
     each = exported_is_shown replies export_is_shown;
     only = only;
     charged_once = headline.charged_once;

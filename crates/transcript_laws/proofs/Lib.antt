@@ -5,6 +5,7 @@ pub mod FileSizes
 pub mod ReplyLines
 pub mod ShownExports
 pub mod ShownTotals
+pub mod InTime
 pub mod EveryTranscript
 pub mod LongerTranscripts
 mod WorkedTranscripts

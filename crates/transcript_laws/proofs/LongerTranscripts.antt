@@ -1,50 +1,58 @@
--- More events only add to a transcript: it goes on, and shows what it showed.
-use Rattle.std.proofs.Common.{◌≡◌, ℕ, zero, suc, List, [], ◌∷◌, ◌++◌, sym, ap, subst, ◌∙◌, Some, Contains}
-use Rattle.std.specs.Prelude.{slice_get}
+-- More events only add to a transcript, and what its whole lines show, when it is torn off, the whole of it shows.
+use Rattle.std.proofs.Common.{◌≡◌, ℕ, true, List, ◌∷◌, ◌++◌, length, sym, ap, subst, ◌∙◌, append_assoc}
+use Rattle.std.proofs.lemmas.Bool.{and_from}
 use Rattle.std.proofs.lemmas.List.Concat.{flat_map-append}
-use Rattle.std.proofs.lemmas.Option.{none-some}
 use Rattle.metering_model.specs.Sheet.{Sheet, Issuer}
 use Rattle.metering_model.specs.SheetRules.{IsSheet, IsIssuer}
-use Rattle.metering_model.specs.World.{Event, Reply, Exported, opening}
+use Rattle.metering_model.specs.World.{Event, Reply, opening}
 use Rattle.metering_model.specs.Step.{play}
 use Rattle.metering_model.specs.Transcript.{reply_text, transcript}
+use Rattle.metering_model.specs.Schedule.{TextLines, lines_text}
 use Rattle.metering_model.proofs.PlayLaws.{replies-append}
-use Rattle.group_laws.proofs.Agreed.{element_of}
-use Rattle.group_laws.proofs.EveryRun.{contains_at}
-use Rattle.transcript_laws.specs.Shown.{Shows}
-use Rattle.transcript_laws.proofs.ShownExports.{exported_is_shown}
-use Rattle.transcript_laws.proofs.EveryTranscript.{replies, export_is_shown, only}
+use Rattle.transcript_laws.specs.Shown.{line_above, Shows}
+use Rattle.transcript_laws.proofs.TextLaws.{are_whole, front_of_lines, whole_both, whole_parts}
+use Rattle.transcript_laws.proofs.ReplyLines.{transcript_lines, above_lacks_feed, lines_are_whole, transcript_is}
+use Rattle.transcript_laws.proofs.EveryTranscript.{replies, export_is_shown}
 
-play_goes_on : (nodes agents : ℕ) (sheet : Sheet) (issuer : Issuer) (events more : List Event) →
-    (rest : List Reply) × ((play (opening nodes agents sheet issuer) (events ++ more)).0 ≡ (play (opening nodes agents sheet issuer) events).0 ++ rest)
-play_goes_on nodes agents sheet issuer events more =
-    let w = opening nodes agents sheet issuer in
-    ((play (play w events).1 more).0, replies-append w events more)
+-- what lines at the front of a text show, the text shows
+shown_in_front : (ms : TextLines) (front rest : List ℕ) → are_whole ms ≡ true → lines_text ms ≡ front ++ rest →
+    (period : ℕ) (shown : List ℕ) → Shows front period shown → Shows (lines_text ms) period shown
+shown_in_front ms front rest whole e period shown it =
+    let file = line_above period (length it.lines) ∷ it.lines in
+    let outer = whole_parts (it.before ++ it.lines) it.after it.whole in
+    let inner = whole_parts it.before it.lines outer.0 in
+    let above = and_from _ _ (above_lacks_feed period (length it.lines)) inner.1 in
+    let first = whole_both (it.before ++ file) it.after (whole_both it.before file inner.0 above) outer.1 in
+    let more = front_of_lines (it.before ++ file ++ it.after) ms rest first whole (e ∙ ap (λ t. t ++ rest) it.is_text) in
+    let later = whole_parts (it.before ++ file ++ it.after) more.0 (sym (ap are_whole more.1) ∙ whole) in
+    record {
+      before = it.before;
+      lines = it.lines;
+      after = it.after ++ more.0;
+      whole = whole_both (it.before ++ it.lines) (it.after ++ more.0) outer.0 (whole_both it.after more.0 outer.1 later.1);
+      is_text = ap lines_text (more.1 ∙ append_assoc (it.before ++ file) it.after more.0);
+      is_shown = it.is_shown;
+    }
+
+pub shown_when_torn : (nodes agents : ℕ) (sheet : Sheet) (issuer : Issuer) (events : List Event) → IsSheet sheet → IsIssuer issuer →
+    (front rest : List ℕ) → transcript (play (opening nodes agents sheet issuer) events).0 ≡ front ++ rest →
+    (period : ℕ) (shown : List ℕ) → Shows front period shown →
+    Shows (transcript (play (opening nodes agents sheet issuer) events).0) period shown
+shown_when_torn nodes agents sheet issuer events limits names front rest e period shown it =
+    let now = replies nodes agents sheet issuer events limits names in
+    let is = transcript_is now (export_is_shown nodes agents sheet issuer events limits names) in
+    subst (λ t. Shows t period shown) (sym is) (shown_in_front (transcript_lines now) front rest (lines_are_whole now) (sym is ∙ e) period shown it)
 
 pub text_goes_on : (nodes agents : ℕ) (sheet : Sheet) (issuer : Issuer) (events more : List Event) → (rest : List ℕ) ×
     (transcript (play (opening nodes agents sheet issuer) (events ++ more)).0 ≡ transcript (play (opening nodes agents sheet issuer) events).0 ++ rest)
 text_goes_on nodes agents sheet issuer events more =
-    let later = play_goes_on nodes agents sheet issuer events more in
-    (transcript later.0, ap transcript later.1 ∙ flat_map-append reply_text (play (opening nodes agents sheet issuer) events).0 later.0)
-
-contained_first : (xs ys : List Reply) (r : Reply) → Contains xs r → Contains (xs ++ ys) r
-contained_first xs ys r has =
-    let at = element_of xs r has in
-    contains_at (xs ++ ys) at.0 r (get_first xs ys at.0 r at.1)
-  where
-    get_first : (xs ys : List Reply) (k : ℕ) (r : Reply) → slice_get xs k ≡ Some r → slice_get (xs ++ ys) k ≡ Some r
-    get_first [] ys k r e = absurd (none-some r e)
-    get_first (x ∷ xs) ys zero r e = e
-    get_first (x ∷ xs) ys (suc k) r e = get_first xs ys k r e
+    let w = opening nodes agents sheet issuer in
+    let later : List Reply = (play (play w events).1 more).0 in
+    (transcript later, ap transcript (replies-append w events more) ∙ flat_map-append reply_text (play w events).0 later)
 
 pub still_shown : (nodes agents : ℕ) (sheet : Sheet) (issuer : Issuer) (events more : List Event) → IsSheet sheet → IsIssuer issuer →
     (period : ℕ) (shown : List ℕ) → Shows (transcript (play (opening nodes agents sheet issuer) events).0) period shown →
     Shows (transcript (play (opening nodes agents sheet issuer) (events ++ more)).0) period shown
 still_shown nodes agents sheet issuer events more limits names period shown it =
-    let now = replies nodes agents sheet issuer events limits names in
-    let later = play_goes_on nodes agents sheet issuer events more in
-    let a = only nodes agents sheet issuer events limits names period shown it in
-    let has = subst (λ (rs : List Reply). Contains rs (Exported a.0)) (sym later.1) (contained_first now later.0 (Exported a.0) a.1) in
-    let text = transcript (replies nodes agents sheet issuer (events ++ more) limits names) in
-    let there = exported_is_shown _ (export_is_shown nodes agents sheet issuer (events ++ more) limits names) a.0 has in
-    subst (λ p. Shows text p shown) a.2 (subst (Shows text a.0.period) (sym a.3) there)
+    let goes_on = text_goes_on nodes agents sheet issuer events more in
+    shown_when_torn nodes agents sheet issuer (events ++ more) limits names (transcript (play (opening nodes agents sheet issuer) events).0) goes_on.0 goes_on.1 period shown it

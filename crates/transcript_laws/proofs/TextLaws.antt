@@ -1,5 +1,5 @@
 -- Lines and the texts that they make: lines without line feeds come back, and their feeds count them.
-use Rattle.std.proofs.Common.{◌≡◌, ℕ, ◌+◌, Bool, true, false, not, cond, List, [], ◌∷◌, ◌++◌, length, refl, sym, ap, ap₂, ◌∙◌, arith, append-nil}
+use Rattle.std.proofs.Common.{◌≡◌, ℕ, ◌+◌, Bool, true, false, not, cond, List, [], ◌∷◌, ◌++◌, length, refl, sym, ap, ap₂, ◌∙◌, arith, append_assoc, append-nil}
 use Rattle.std.specs.Prelude.{◌==◌}
 use Rattle.std.specs.List.{list_all}
 use Rattle.std.proofs.lemmas.Bool.{and_parts, and_from, not-true}
@@ -10,6 +10,7 @@ use Rattle.metering_model.specs.Batch.{lacks}
 use Rattle.metering_model.specs.BatchReading.{Lines, lines_of_parts, lines_in}
 use Rattle.metering_model.specs.Transcript.{line, line_count}
 use Rattle.metering_model.specs.Schedule.{TextLines, lines_text}
+use Rattle.metering_model.proofs.FirstByte.{before, after, before_join, after_join}
 use Rattle.metering_model.proofs.Splitting.{parts_at, parts_lack, lines_of_text, lines_give_back}
 
 -- no line has a line feed
@@ -28,6 +29,26 @@ whole_parts ls ms h = and_parts (are_whole ls) (are_whole ms) (sym (list_all-app
 -- a text has one list of lines
 pub same_lines : (ls ms : TextLines) → are_whole ls ≡ true → are_whole ms ≡ true → lines_text ls ≡ lines_text ms → ls ≡ ms
 same_lines ls ms h k e = ap (λ (x : Lines). x.lines) (sym (lines_of_text ls h) ∙ ap lines_in e ∙ lines_of_text ms k)
+
+none_is_line : (l t : List ℕ) → [] ≡ line l ++ t → ⊥
+none_is_line [] t e = cc
+none_is_line (c ∷ cs) t e = cc
+
+-- lines at the front of a text of lines are its first lines
+pub front_of_lines : (ls ms : TextLines) (rest : List ℕ) → are_whole ls ≡ true → are_whole ms ≡ true → lines_text ms ≡ lines_text ls ++ rest →
+    (ns : TextLines) × (ms ≡ ls ++ ns)
+front_of_lines [] ms rest h k e = (ms, refl)
+front_of_lines (l ∷ ls) [] rest h k e = absurd (none_is_line l (lines_text ls ++ rest) (e ∙ append_assoc (line l) (lines_text ls) rest))
+front_of_lines (l ∷ ls) (m ∷ ms) rest h k e =
+    let own = and_parts (lacks 10 l) (are_whole ls) h in
+    let others = and_parts (lacks 10 m) (are_whole ms) k in
+    let both : m ++ 10 ∷ lines_text ms ≡ l ++ 10 ∷ (lines_text ls ++ rest) =
+    sym (append_assoc m (10 ∷ []) (lines_text ms)) ∙ e ∙ append_assoc (line l) (lines_text ls) rest ∙ append_assoc l (10 ∷ []) (lines_text ls ++ rest) in
+    let first : m ≡ l = sym (before_join 10 m (lines_text ms) others.0) ∙ ap (before 10) both ∙ before_join 10 l (lines_text ls ++ rest) own.0 in
+    let next : lines_text ms ≡ lines_text ls ++ rest =
+    sym (after_join 10 m (lines_text ms) others.0) ∙ ap (after 10) both ∙ after_join 10 l (lines_text ls ++ rest) own.0 in
+    let more = front_of_lines ls ms rest own.1 others.1 next in
+    (more.0, ap₂ ◌∷◌ first more.1)
 
 -- ---- lines of any text
 

@@ -1,5 +1,5 @@
 -- What a transcript shows whoever reads its bytes: files, each under its period, and what holds of them after every run.
-use Rattle.std.specs.Prelude.{◌≡◌, ℕ, List, ◌∷◌, ◌++◌, length, map, take, [], Some, slice_get, codes, IsTrue}
+use Rattle.std.specs.Prelude.{◌≡◌, ℕ, List, ◌∷◌, ◌++◌, length, map, take, [], Some, All, slice_get, codes, IsTrue}
 use Rattle.std.specs.List.{Contains, list_all}
 use Rattle.metering_model.specs.Batch.{lacks}
 use Rattle.metering_model.specs.BatchReading.{lines_in}
@@ -15,6 +15,7 @@ use Rattle.metering_model.specs.Schedule.{TextLines, lines_text}
 use Rattle.group_laws.specs.Headline.{AreTheCuts, AreChargedOnce, HoldsAfter}
 use Rattle.row_laws.specs.Charged.{charges_up_to}
 use Rattle.row_laws.specs.Columns.{line_of_row, sum_of_first_column}
+use Rattle.row_laws.specs.Due.{StartsBeforeItsPeriodEnds}
 
 -- the line that stands above a file
 abbrev pub line_above : ℕ → ℕ → List ℕ
@@ -49,6 +50,9 @@ pub record HoldsOfBytes (nodes agents : ℕ) (sheet : Sheet) (issuer : Issuer) (
   -- its lines are the header line and one line for each row between these cuts, so that `charged_once` speaks of lines
   pub lines : (period : ℕ) (shown : List ℕ) (to : Cut) → Shows text period shown → slice_get cuts period ≡ Some to →
       lines_in shown ≡ record { lines = header_line ∷ map line_of_row (rows sheet issuer world.journals period (cut_before agents cuts period) to); rest = [] }
+  -- no row's charge starts when its billing period is over
+  pub in_time : (period : ℕ) (to : Cut) → slice_get cuts period ≡ Some to →
+      All StartsBeforeItsPeriodEnds (rows sheet issuer world.journals period (cut_before agents cuts period) to)
   -- an export that was answered shows its file, and no other file is shown
   pub each : (s : Snapshot) → Contains replies (Exported s) → Shows text s.period (file_of s)
   pub only : (period : ℕ) (shown : List ℕ) → Shows text period shown →

@@ -15,8 +15,8 @@ pub fn a_transcript_shows_one_file_a_period()
         HoldsOfBytes nodes agents sheet issuer events (transcript (play (opening nodes agents sheet issuer) events).0) }
 {}
 
-/// More events only add to a transcript, also where it was cut off between two of them: the text goes on from what it was, and
-/// shows each file that it showed.
+/// More events only add to a transcript: the text goes on from what it was, and shows each file that it showed. Of a transcript
+/// that was torn off at whichever byte, the whole lines show no file that the transcript does not show.
 pub fn a_longer_transcript_shows_the_same_files()
     ensures goes_on { (nodes agents : ℕ) (sheet : Sheet) (issuer : Issuer) (events more : List Event) → (rest : List ℕ) ×
         (transcript (play (opening nodes agents sheet issuer) (events ++ more)).0
@@ -24,4 +24,8 @@ pub fn a_longer_transcript_shows_the_same_files()
     ensures shows { (nodes agents : ℕ) (sheet : Sheet) (issuer : Issuer) (events more : List Event) → IsSheet sheet → IsIssuer issuer →
         (period : ℕ) (shown : List ℕ) → Shows (transcript (play (opening nodes agents sheet issuer) events).0) period shown →
         Shows (transcript (play (opening nodes agents sheet issuer) (events ++ more)).0) period shown }
+    ensures torn { (nodes agents : ℕ) (sheet : Sheet) (issuer : Issuer) (events : List Event) → IsSheet sheet → IsIssuer issuer →
+        (front rest : List ℕ) → transcript (play (opening nodes agents sheet issuer) events).0 ≡ front ++ rest →
+        (period : ℕ) (shown : List ℕ) → Shows front period shown →
+        Shows (transcript (play (opening nodes agents sheet issuer) events).0) period shown }
 {}
