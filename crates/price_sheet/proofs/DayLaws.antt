@@ -1,78 +1,73 @@
--- Starts that rise: how many there are up to a day, and one more among them.
-use Rattle.std.proofs.Common.{◌≡◌, ℕ, zero, suc, ◌+◌, ◌-◌, ◌<◌, ◌≤◌, Bool, true, false, List, [], ◌∷◌, length, insert, slice_get, get_or, Option, Some, None, ℤ, int_le, int_lt, if◌then◌else◌, refl, sym, ap, ◌∙◌, arith}
-use Rattle.std.specs.List.{list_all, prefix_len}
-use Rattle.std.specs.List.Sorted.{IsPartitionedBy, IsPartitionPoint}
+-- Starts that rise: those that a map has, the last one until a day, and one more among them.
+use Rattle.std.proofs.Common.{◌≡◌, ℕ, Bool, true, false, not, List, [], ◌∷◌, ◌++◌, filter, Option, Some, None, is_some, ℤ, int_le, int_lt, if◌then◌else◌, refl, arith}
+use Rattle.std.specs.List.{list_all}
+use Rattle.std.specs.Map.{lookup}
+use Rattle.std.specs.Ordering.{int_cmp, is_lt}
+use Rattle.std.specs.BTreeMap.{is_at, insert_entry}
 use Rattle.std.proofs.lemmas.Bool.{and_parts}
 use Rattle.std.proofs.lemmas.Int.{ints}
-use Rattle.std.proofs.lemmas.Option.{slice_get-get_or}
-use Rattle.std.proofs.lemmas.List.Sums.{prefix_len_is}
 use Rattle.price_sheet.specs.declared.starts.Start.{Start}
-use Rattle.price_sheet.specs.Inner.Days.{rise, begun, with_start}
+use Rattle.price_sheet.specs.Inner.Days.{starts_in, rise, begun, with_start}
 
--- ---- counting
+-- ---- where starts rise
 
--- a partition point is how many pass
-pub counted : (p : Start → Bool) (ss : List Start) (n : ℕ) (d : Start) → n ≤ length ss → IsPartitionPoint (λ s. p s ≡ true) (λ s. p s ≡ false) ss n → n ≡ prefix_len p ss
-counted p ss n d within point = sym (prefix_len_is p ss n d within (λ k low. point.0 k d (omega arith) low) (λ more. point.1 n d (omega arith) more))
+none_yet : (day : ℤ) (ss : List Start) (end : ℤ) → list_all (λ t. int_lt end t.day) ss ≡ true → int_le end day ≡ false → begun day ss ≡ None
+none_yet day [] end h late = refl
+none_yet day (s ∷ ss) end h late = grind (arith, ints, h, late)
 
-all_at : (p : Start → Bool) (ss : List Start) (j : ℕ) (d : Start) → list_all p ss ≡ true → j < length ss → p (get_or ss j d) ≡ true
-all_at p [] j d h within = absurd (omega (arith, within))
-all_at p (s ∷ ss) zero d h within = (and_parts (p s) (list_all p ss) h).0
-all_at p (s ∷ ss) (suc j) d h within = all_at p ss j d (and_parts (p s) (list_all p ss) h).1 (omega (arith, within))
+begun_from : (day : ℤ) (ss : List Start) (end : ℤ) (found : Start) → list_all (λ t. int_lt end t.day) ss ≡ true → begun day ss ≡ Some found → int_lt end found.day ≡ true
+begun_from day [] end found h is = absurd (cc)
+begun_from day (s ∷ ss) end found h is = by (begun day ss) refl (begun_from day ss end)
+  where
+    by : (rest : Option Start) → begun day ss ≡ rest → ((later : Start) → list_all (λ t. int_lt end t.day) ss ≡ true → begun day ss ≡ Some later → int_lt end later.day ≡ true) → int_lt end found.day ≡ true
+    by None e rest = grind (arith, ints, h, is, e)
+    by (Some later) e rest = grind (arith, ints, h, is, e, rest later)
 
--- a test that holds of earlier days, where it holds of a later one, parts starts that rise
-pub parted : (p : Start → Bool) → ((s t : Start) → int_le s.day t.day ≡ true → p t ≡ true → p s ≡ true) → (ss : List Start) → rise ss ≡ true → IsPartitionedBy p ss
-parted p earlier [] h i j d low within passes = absurd (omega (arith, within))
-parted p earlier (s ∷ ss) h zero zero d low within passes = passes
-parted p earlier (s ∷ ss) h zero (suc j) d low within passes = earlier s (get_or ss j d) (all_at (λ t. int_le s.day t.day) ss j d (and_parts _ _ h).0 (omega (arith, within))) passes
-parted p earlier (s ∷ ss) h (suc i) zero d low within passes = absurd (omega (arith, low))
-parted p earlier (s ∷ ss) h (suc i) (suc j) d low within passes = parted p earlier ss (and_parts _ _ h).1 i j d (omega (arith, low)) (omega (arith, within)) passes
+-- ---- the last one until a day
 
--- ---- the last one that has begun
+abbrev pub until : ℤ → List (ℤ × ℕ) → List (ℤ × ℕ)
+until day es = filter (λ e. not (is_lt (int_cmp day e.0))) es
 
-pub none_begun : (day : ℤ) (ss : List Start) → prefix_len (λ s. int_le s.day day) ss ≡ 0 → begun day ss ≡ None
-none_begun day [] h = refl
-none_begun day (s ∷ ss) h = grind (arith, h)
+pub none_until : (day : ℤ) (es : List (ℤ × ℕ)) → until day es ≡ [] → begun day (starts_in es) ≡ None
+none_until day [] h = refl
+none_until day (e ∷ es) h = grind (arith, ints, h)
 
-pub last_begun : (day : ℤ) (ss : List Start) (n : ℕ) → prefix_len (λ s. int_le s.day day) ss ≡ suc n → begun day ss ≡ slice_get ss n
-last_begun day [] n h = absurd (omega (arith, h))
-last_begun day (s ∷ ss) zero h = grind (arith, h, none_begun day ss)
-last_begun day (s ∷ []) (suc n) h = grind (arith, h)
-last_begun day (s ∷ t ∷ ss) (suc n) h = grind (arith, h, last_begun day (t ∷ ss) n)
+last_here : (day : ℤ) (d : ℤ × ℕ) (es t : List (ℤ × ℕ)) (e : ℤ × ℕ) (b : Bool) → not (is_lt (int_cmp day d.0)) ≡ b → rise (starts_in (d ∷ es)) ≡ true → until day (d ∷ es) ≡ t ++ e ∷ []
+    → ((u : List (ℤ × ℕ)) → until day es ≡ u ++ e ∷ [] → begun day (starts_in es) ≡ Some (record { day = e.0; place = e.1 })) → begun day (starts_in (d ∷ es)) ≡ Some (record { day = e.0; place = e.1 })
+last_here day d es [] e true within h is before = grind (arith, ints, is, within, none_until day es)
+last_here day d es (x ∷ t) e true within h is before = grind (arith, ints, is, within, before t)
+last_here day d es t e false past h is before = grind (arith, ints, h, is, past, before t, none_yet day (starts_in es) d.0)
 
-pub last_is_at : (day : ℤ) (ss : List Start) (n : ℕ) (d : Start) → n ≡ prefix_len (λ s. int_le s.day day) ss → n ≤ length ss → 0 < n → begun day ss ≡ Some (get_or ss (n - 1) d)
-last_is_at day ss zero d count within some = absurd (omega (arith, some))
-last_is_at day ss (suc n) d count within some =
-    let one : suc n - 1 ≡ n = omega arith in
-    rw one (last_begun day ss n (sym count) ∙ slice_get-get_or ss n d (omega (arith, within)))
+pub last_until : (day : ℤ) (es t : List (ℤ × ℕ)) (e : ℤ × ℕ) → rise (starts_in es) ≡ true → until day es ≡ t ++ e ∷ [] → begun day (starts_in es) ≡ Some (record { day = e.0; place = e.1 })
+last_until day [] [] e h is = absurd (cc)
+last_until day [] (x ∷ t) e h is = absurd (cc)
+last_until day (d ∷ es) t e h is = last_here day d es t e (not (is_lt (int_cmp day d.0))) refl h is (λ u. last_until day es u e (and_parts _ _ h).1)
 
 -- ---- one more start
 
-pub put_in : (ss : List Start) (start : Start) → insert ss (prefix_len (λ s. int_lt s.day start.day) ss) start ≡ with_start ss start
-put_in [] start = refl
-put_in (s ∷ ss) start = by (int_lt s.day start.day) refl (put_in ss start)
-  where
-    by : (b : Bool) → int_lt s.day start.day ≡ b → insert ss (prefix_len (λ s. int_lt s.day start.day) ss) start ≡ with_start ss start → insert (s ∷ ss) (prefix_len (λ s. int_lt s.day start.day) (s ∷ ss)) start ≡ with_start (s ∷ ss) start
-    by true e rest =
-        let one : 1 + prefix_len (λ s. int_lt s.day start.day) ss ≡ suc (prefix_len (λ s. int_lt s.day start.day) ss) = omega arith in
-        rw (e, one) (ap (λ rest. s ∷ rest) rest)
-    by false e rest = rw e refl
+pub put_in : (es : List (ℤ × ℕ)) (start : Start) → is_some (lookup (is_at (int_cmp start.day)) es) ≡ false → starts_in (insert_entry int_cmp es start.day start.place) ≡ with_start (starts_in es) start
+put_in [] start new = refl
+put_in (e ∷ es) start new = grind (arith, ints, new, put_in es start)
+
+found_past : (es : List (ℤ × ℕ)) (start : Start) (end : ℤ) → is_some (lookup (is_at (int_cmp start.day)) es) ≡ true → list_all (λ t. int_lt end t.day) (starts_in es) ≡ true → int_lt end start.day ≡ true
+found_past [] start end found h = absurd (cc)
+found_past (e ∷ es) start end found h = grind (arith, ints, found, h, found_past es start end)
+
+pub stays : (es : List (ℤ × ℕ)) (start : Start) → rise (starts_in es) ≡ true → is_some (lookup (is_at (int_cmp start.day)) es) ≡ true → with_start (starts_in es) start ≡ starts_in es
+stays [] start h found = absurd (cc)
+stays (e ∷ es) start h found = grind (arith, ints, h, found, found_past es start e.0, stays es start)
 
 all_put : (p : Start → Bool) (ss : List Start) (start : Start) → list_all p ss ≡ true → p start ≡ true → list_all p (with_start ss start) ≡ true
 all_put p [] start h this = grind (arith, this)
 all_put p (s ∷ ss) start h this = grind (arith, h, this, all_put p ss start)
 
-later_all : (day end : ℤ) (ss : List Start) → int_le day end ≡ true → list_all (λ t. int_le end t.day) ss ≡ true → list_all (λ t. int_le day t.day) ss ≡ true
-later_all day end [] le h = refl
-later_all day end (s ∷ ss) le h = grind (arith, ints, le, h, later_all day end ss)
+later_all : (day end : ℤ) (ss : List Start) → int_lt day end ≡ true → list_all (λ t. int_lt end t.day) ss ≡ true → list_all (λ t. int_lt day t.day) ss ≡ true
+later_all day end [] lt h = refl
+later_all day end (s ∷ ss) lt h = grind (arith, ints, lt, h, later_all day end ss)
 
 pub still_rise : (ss : List Start) (start : Start) → rise ss ≡ true → rise (with_start ss start) ≡ true
 still_rise [] start h = refl
-still_rise (s ∷ ss) start h = grind (arith, ints, h, still_rise ss start, all_put (λ t. int_le s.day t.day) ss start, later_all start.day s.day ss)
-
--- the starts after an insert at the place that was counted
-pub put_at : (ss : List Start) (start : Start) (n : ℕ) → n ≡ prefix_len (λ s. int_lt s.day start.day) ss → insert ss n start ≡ with_start ss start
-put_at ss start n count = ap (λ k. insert ss k start) count ∙ put_in ss start
+still_rise (s ∷ ss) start h = grind (arith, ints, h, still_rise ss start, all_put (λ t. int_lt s.day t.day) ss start, later_all start.day s.day ss)
 
 -- ---- the last one that has begun, with one start more
 
@@ -81,22 +76,10 @@ abbrev pub later_start : Option Start → Start → Start
 later_start None start = start
 later_start (Some found) start = if int_lt found.day start.day then start else found
 
-none_yet : (day : ℤ) (ss : List Start) (end : ℤ) → list_all (λ t. int_le end t.day) ss ≡ true → int_le end day ≡ false → begun day ss ≡ None
-none_yet day [] end h late = refl
-none_yet day (s ∷ ss) end h late = grind (arith, ints, h, late)
-
-begun_from : (day : ℤ) (ss : List Start) (end : ℤ) (found : Start) → list_all (λ t. int_le end t.day) ss ≡ true → begun day ss ≡ Some found → int_le end found.day ≡ true
-begun_from day [] end found h is = absurd (cc)
-begun_from day (s ∷ ss) end found h is = by (begun day ss) refl (begun_from day ss end)
-  where
-    by : (rest : Option Start) → begun day ss ≡ rest → ((later : Start) → list_all (λ t. int_le end t.day) ss ≡ true → begun day ss ≡ Some later → int_le end later.day ≡ true) → int_le end found.day ≡ true
-    by None e rest = grind (arith, ints, h, is, e)
-    by (Some later) e rest = grind (arith, ints, h, is, e, rest later)
-
 pub begun_with : (day : ℤ) (ss : List Start) (start : Start) → rise ss ≡ true → begun day (with_start ss start) ≡ (if int_le start.day day then Some (later_start (begun day ss) start) else begun day ss)
 begun_with day [] start h = refl
 begun_with day (s ∷ ss) start h = by (begun day ss) refl (begun_with day ss start (and_parts _ _ h).1) (none_yet day ss s.day) (begun_from day ss s.day)
   where
-    by : (rest : Option Start) → begun day ss ≡ rest → begun day (with_start ss start) ≡ (if int_le start.day day then Some (later_start (begun day ss) start) else begun day ss) → (list_all (λ t. int_le s.day t.day) ss ≡ true → int_le s.day day ≡ false → begun day ss ≡ None) → ((found : Start) → list_all (λ t. int_le s.day t.day) ss ≡ true → begun day ss ≡ Some found → int_le s.day found.day ≡ true) → begun day (with_start (s ∷ ss) start) ≡ (if int_le start.day day then Some (later_start (begun day (s ∷ ss)) start) else begun day (s ∷ ss))
+    by : (rest : Option Start) → begun day ss ≡ rest → begun day (with_start ss start) ≡ (if int_le start.day day then Some (later_start (begun day ss) start) else begun day ss) → (list_all (λ t. int_lt s.day t.day) ss ≡ true → int_le s.day day ≡ false → begun day ss ≡ None) → ((found : Start) → list_all (λ t. int_lt s.day t.day) ss ≡ true → begun day ss ≡ Some found → int_lt s.day found.day ≡ true) → begun day (with_start (s ∷ ss) start) ≡ (if int_le start.day day then Some (later_start (begun day (s ∷ ss)) start) else begun day (s ∷ ss))
     by None e step none from = grind (arith, ints, h, e, step, none)
     by (Some later) e step none from = grind (arith, ints, h, e, step, from later)
