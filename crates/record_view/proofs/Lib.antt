@@ -9,5 +9,6 @@ pub mod TagsHold
 pub mod SpanLaws
 pub mod FirstPlace
 pub mod PlainLaws
+pub mod LaneLaws
 pub mod ValueLaws
 pub mod KeptLaws

@@ -1,20 +1,61 @@
 //! Fields of plain text. A byte that is not plain is left to the exact reader.
 
-ghost use Rattle.std.specs.Prelude.{◌≡◌, ◌+◌, ◌==◌, ◌∷◌, false, length, position, IfSome, IfNone, IsTrue, is_some};
+ghost use Rattle.std.specs.Prelude.{◌≡◌, ◌≤◌, ◌+◌, ◌==◌, ◌∷◌, false, length, position, IfSome, IfNone, IsTrue, is_some};
 ghost use Rattle.std.specs.List.{list_any};
 ghost use Rattle.metering_model.specs.Dates.{stamp_in};
 ghost use Rattle.record_view.specs.Parts.{lent, parts_at};
 ghost use Rattle.record_view.specs.Inner.Placed.{IsPlaced};
-ghost use Rattle.record_view.specs.Inner.Plain.{is_plain, stops_at};
+ghost use Rattle.record_view.specs.Inner.Plain.{is_plain, stops_at, lowest_set, IsRun};
 
 use crate::fields::{Field, cut};
+use std::simd::prelude::*;
 
-/// Where the first byte stands that is not plain. (The loop is shorter where it stands alone.)
+/// So many bytes are looked at in one step.
+const LANES: usize = 16;
+
+/// The place of the lowest bit that is set, or how many bytes were looked at where none is.
+#[inline(always)]
+fn lowest_set(mask: u64) -> usize
+    ensures { result ≡ lowest_set mask }
+{
+    if mask == 0 {
+        LANES
+    } else {
+        mask.trailing_zeros() as usize
+    }
+}
+
+/// How many of the first bytes are plain before one is not: all of them tested at once.
+#[inline(always)]
+fn plain_run(text: &[u8]) -> usize
+    requires { 16 ≤ length text.now }
+    ensures { IsRun (stops_at 124) text.now 16 result }
+{
+    let lanes = u8x16::from_slice(text);
+    let stops = lanes.simd_lt(u8x16::splat(0x20)) | lanes.simd_ge(u8x16::splat(0x7C));
+    lowest_set(stops.to_bitmask())
+}
+
+/// Where the first byte stands that is not plain, byte by byte. (The loop is shorter where it stands alone.)
 #[inline(never)]
-fn first_special(text: &[u8]) -> Option<usize>
+fn first_special_by_bytes(text: &[u8]) -> Option<usize>
     ensures { result ≡ position (stops_at 124) text.now }
 {
     text.iter().position(|c| *c < 0x20 || *c >= 0x7C)
+}
+
+/// Where the first byte stands that is not plain. Where it is near, it is found in one step.
+#[inline(always)]
+fn first_special(text: &[u8]) -> Option<usize>
+    ensures { result ≡ position (stops_at 124) text.now }
+{
+    if text.len() >= LANES {
+        let run = plain_run(text);
+        if run < LANES {
+            return Some(run);
+        }
+    }
+    first_special_by_bytes(text)
 }
 
 /// Where the first byte stands that is this one, or is not plain.

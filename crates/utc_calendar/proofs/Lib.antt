@@ -1,3 +1,4 @@
 pub mod DayRange
 pub mod DayTexts
 pub mod MonthOrder
+pub mod StampTexts

@@ -1,9 +1,10 @@
 //! Moments and days of UTC, in the years 0001 to 9999.
 
-ghost use Rattle.std.specs.Prelude.{◌≡◌, ◌<◌, ◌≤◌, ◌≤ℤ◌, ◌*ℤ◌, ℤ, pos, IfSome};
+ghost use Rattle.std.specs.Prelude.{◌≡◌, ◌<◌, ◌≤◌, ◌≤ℤ◌, ◌*ℤ◌, ℤ, pos, true, false, take, slice_range, Some, IfSome, MatchOption};
+ghost use Rattle.std.specs.Option.{option_zip};
 ghost use Rattle.jiff_core.specs.Calendar.{days_from_civil};
 ghost use Rattle.jiff_core.specs.Date.{epoch_day};
-ghost use Rattle.metering_model.specs.Dates.{month_in, day_of_month, day_in, second_in, stamp_in, day_of};
+ghost use Rattle.metering_model.specs.Dates.{month_in, day_of_month, day_in, second_in, has_stamp_form, stamp_of, stamp_in, day_of};
 ghost use Rattle.utc_calendar.specs.Years.{IsMonthNumber, IsDayNumber, IsStampNumber};
 
 use crate::digits;
@@ -40,6 +41,19 @@ impl Day {
         let month = month_number(&text[..7])?;
         let day = digits::number(&text[8..10])?;
         Day::of_month(month, day)
+    }
+
+    // Reads a day as `read` does, at once where it is one that was read before.
+    #[inline(always)]
+    fn read_beside(text: &[u8], known: &[u8], day: Day) -> Option<Day>
+        requires { day_in known.now ≡ Some day }
+        ensures { result ≡ day_in text.now }
+    {
+        if text == known {
+            Some(day)
+        } else {
+            Day::read(text)
+        }
     }
 
     /// The first day of a month, which is numbered from 1.
@@ -114,11 +128,30 @@ impl Stamp {
     pub fn read(text: &[u8]) -> Option<Stamp>
         ensures { result ≡ stamp_in text.now }
     {
-        if text.len() != 20 || text[10] != b'T' || text[19] != b'Z' {
-            return None;
-        }
-        let day = Day::read(&text[..10])?;
-        let second = second_of_day(&text[11..19])?;
+        let (date, time) = date_and_time(text)?;
+        Stamp::on_day(Day::read(date)?, time)
+    }
+
+    /// Reads two stamps, each as `read` does; `None` where either is none. The day of both is found once, where it is
+    /// the same.
+    pub fn read_both(first: &[u8], second: &[u8]) -> Option<(Stamp, Stamp)>
+        ensures { result ≡ option_zip (stamp_in first.now) (stamp_in second.now) }
+    {
+        let (first_date, first_time) = date_and_time(first)?;
+        let (second_date, second_time) = date_and_time(second)?;
+        let first_day = Day::read(first_date)?;
+        let second_day = Day::read_beside(second_date, first_date, first_day)?;
+        let start = Stamp::on_day(first_day, first_time)?;
+        let end = Stamp::on_day(second_day, second_time)?;
+        Some((start, end))
+    }
+
+    // The moment of a day at a time, `HH:mm:ss`.
+    #[inline(always)]
+    fn on_day(day: Day, time: &[u8]) -> Option<Stamp>
+        ensures { result ≡ stamp_of (Some day) (second_in time.now) }
+    {
+        let second = second_of_day(time)?;
         Some(Stamp {
             seconds: i64::from(day.number) * SECONDS_PER_DAY + i64::from(second),
         })
@@ -159,7 +192,20 @@ pub fn month_number(text: &[u8]) -> Option<u32>
     Some(12 * u32::from(year) + u32::from(month) - 1)
 }
 
+// The date and the time in a text that has the form of a stamp.
+#[inline(always)]
+fn date_and_time(text: &[u8]) -> Option<(&[u8], &[u8])>
+    ensures { MatchOption result (has_stamp_form text.now ≡ false) (λ parts.
+        (has_stamp_form text.now ≡ true) × (parts.0.now ≡ take 10 text.now) × (parts.1.now ≡ slice_range text.now 11 19)) }
+{
+    if text.len() != 20 || text[10] != b'T' || text[19] != b'Z' {
+        return None;
+    }
+    Some((&text[..10], &text[11..19]))
+}
+
 // Reads `HH:mm:ss`.
+#[inline(always)]
 fn second_of_day(text: &[u8]) -> Option<u32>
     ensures value { result ≡ second_in text.now }
     ensures range { IfSome result (λ s. s < 86_400) }

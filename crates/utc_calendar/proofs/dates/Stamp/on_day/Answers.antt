@@ -1,7 +1,7 @@
 -- A second of a day of those years lies on that day.
 use Rattle.std.proofs.Common.{arith}
 use Rattle.jiff_core.proofs.SignedLemmas.{signed_arith}
-use Rattle.utc_calendar.proofs.dates.Stamp.read.Goals as goal
+use Rattle.utc_calendar.proofs.dates.Stamp.on_day.Goals as goal
 
 pub invariant_of-result : goal.invariant_of-result
 invariant_of-result c =
