@@ -1,5 +1,6 @@
 pub mod Decimals
 pub mod TextLaws
+pub mod CsvLaws
 pub mod FileLines
 pub mod FileSizes
 pub mod ReplyLines
