@@ -16,7 +16,7 @@ use Rattle.metering_model.proofs.WorkedPeriods.{correction}
 use Rattle.metering_model.proofs.WorkedSheets.{sheet_1_is_a_sheet, issuer_1_is_an_issuer}
 use Rattle.row_laws.specs.Charged.{charges_up_to}
 use Rattle.row_laws.specs.Columns.{sum_of_first_column}
-use Rattle.transcript_laws.specs.Csv.{csv_fields}
+use Rattle.transcript_laws.specs.Csv.{csv_fields, new_lines}
 use Rattle.transcript_laws.specs.Shown.{Shows, HoldsOfBytes}
 use Rattle.transcript_laws.proofs.EveryTranscript.{holds_of_bytes}
 
@@ -75,6 +75,13 @@ first_columns = refl
 -- so two hours are billed 0.16, whichever cuts were chosen
 billed_once : sum_of (λ x. x.billed) (charges_up_to sheet_1 holds.world.journals (last_cut 1 (take 2 holds.cuts))) ≡ pos 160_000_000_000
 billed_once = same_Some _ _ (sym (holds.adds_up (lines_text january ∷ lines_text february ∷ []) both_files) ∙ first_columns)
+
+-- of both lines one is new, and so there is one reading
+one_is_new : length (new_lines (lines_text january ∷ lines_text february ∷ [])) ≡ 1
+one_is_new = refl
+
+one_reading : length (charges_up_to sheet_1 holds.world.journals (last_cut 1 (take 2 holds.cuts))) ≡ 1
+one_reading = sym (holds.new_once (lines_text january ∷ lines_text february ∷ []) both_files) ∙ one_is_new
 
 -- ---- read as CSV, the lines have the header line's columns
 

@@ -1,6 +1,7 @@
 -- Reading a line of CSV, as RFC 4180 has it: the fields between commas, of which quotation marks may enclose any.
-use Rattle.std.specs.Prelude.{ℕ, ◌==◌, if◌then◌else◌, List, [], ◌∷◌}
-use Rattle.std.specs.List.{onto_first}
+use Rattle.std.specs.Prelude.{ℕ, Bool, true, false, ◌==◌, if◌then◌else◌, List, [], ◌∷◌, filter, Option, Some, slice_get}
+use Rattle.std.specs.List.{flat_map, onto_first}
+use Rattle.row_laws.specs.Columns.{data_lines}
 
 -- Where a reader stands: before a field, in one, in an enclosed one, or behind a quotation mark in that, which ends the
 -- field unless a second one follows: the two stand for one.
@@ -23,3 +24,12 @@ fields_from BehindMark (c ∷ cs) =
 -- the fields of a line without its line feed
 abbrev pub csv_fields : List ℕ → List (List ℕ)
 csv_fields line = fields_from Before line
+
+-- a field that is there, and empty
+abbrev pub is_null : Option (List ℕ) → Bool
+is_null (Some []) = true
+is_null _ = false
+
+-- of all lines behind the header lines those whose eighth field, ChargeClass, is null: they charge their readings as new
+abbrev pub new_lines : List (List ℕ) → List (List ℕ)
+new_lines texts = filter (λ line. is_null (slice_get (csv_fields line) 7)) (flat_map data_lines texts)

@@ -16,7 +16,7 @@ use Rattle.group_laws.specs.Headline.{AreTheCuts, AreChargedOnce, HoldsAfter}
 use Rattle.row_laws.specs.Charged.{charges_up_to}
 use Rattle.row_laws.specs.Columns.{line_of_row, data_lines, sum_of_first_column}
 use Rattle.row_laws.specs.Due.{StartsBeforeItsPeriodEnds}
-use Rattle.transcript_laws.specs.Csv.{csv_fields}
+use Rattle.transcript_laws.specs.Csv.{csv_fields, new_lines}
 
 -- the line that stands above a file
 abbrev pub line_above : ℕ → ℕ → List ℕ
@@ -63,8 +63,11 @@ pub record HoldsOfBytes (nodes agents : ℕ) (sheet : Sheet) (issuer : Issuer) (
       (s : Snapshot) × Contains replies (Exported s) × (s.period ≡ period) × (shown ≡ file_of s)
   -- between these cuts each reading is charged as new in one row of one period
   pub charged_once : AreChargedOnce world cuts
-  -- Where the file of each period from 0 on is shown, up to some last one, the numbers in their first columns, of each period
-  -- taken once, add up to billing each reading once, at its value as of the last of their cuts.
+  -- Where the file of each period from 0 on is shown, up to some last one, and of each period one is taken, as many lines have a
+  -- null ChargeClass as there are readings up to the last of their cuts.
+  pub new_once : (shown : List (List ℕ)) → ((period : ℕ) (one : List ℕ) → slice_get shown period ≡ Some one → Shows text period one) →
+      length (new_lines shown) ≡ length (charges_up_to sheet world.journals (last_cut agents (take (length shown) cuts)))
+  -- And the numbers in their first columns add up to billing each of these readings once, at its value as of that cut.
   pub adds_up : (shown : List (List ℕ)) → ((period : ℕ) (one : List ℕ) → slice_get shown period ≡ Some one → Shows text period one) →
       sum_of_first_column shown
       ≡ Some (sum_of (λ x. x.billed) (charges_up_to sheet world.journals (last_cut agents (take (length shown) cuts))))
