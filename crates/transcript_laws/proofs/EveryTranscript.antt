@@ -1,5 +1,5 @@
 -- The headline, of the bytes of every run's transcript.
-use Rattle.std.proofs.Common.{◌≡◌, ℕ, List, [], ◌∷◌, length, map, take, refl, sym, ap, subst, ◌∙◌, arith, Some, Contains}
+use Rattle.std.proofs.Common.{◌≡◌, ℕ, List, [], ◌∷◌, length, map, take, drop, refl, sym, ap, subst, ◌∙◌, arith, Some, Contains}
 use Rattle.std.specs.Prelude.{All, slice_get}
 use Rattle.std.proofs.lemmas.List.{length-map}
 use Rattle.std.proofs.lemmas.Option.{same_Some, slice_get_within}
@@ -10,7 +10,7 @@ use Rattle.metering_model.specs.SheetRules.{IsSheet, IsIssuer}
 use Rattle.metering_model.specs.Holding.{IsHolding}
 use Rattle.metering_model.specs.Front.{AreDueBetween}
 use Rattle.metering_model.specs.Rows.{rows}
-use Rattle.metering_model.specs.File.{header_line, file}
+use Rattle.metering_model.specs.File.{header_line, fields_of_row, file}
 use Rattle.metering_model.specs.Totals.{sum_of}
 use Rattle.metering_model.specs.World.{World, Event, Snapshot, Reply, Exported, last_cut, opening}
 use Rattle.metering_model.specs.Step.{cut_before, play}
@@ -18,11 +18,15 @@ use Rattle.metering_model.specs.Transcript.{file_of, transcript}
 use Rattle.group_laws.specs.Headline.{HoldsAfter}
 use Rattle.group_laws.proofs.EveryRun.{holds_after}
 use Rattle.row_laws.specs.Charged.{charges_up_to}
-use Rattle.row_laws.specs.Columns.{line_of_row, sum_of_first_column}
+use Rattle.row_laws.specs.Charged.{files as files_of}
+use Rattle.row_laws.specs.Columns.{line_of_row, data_lines, sum_of_first_column}
 use Rattle.row_laws.specs.Due.{StartsBeforeItsPeriodEnds}
 use Rattle.row_laws.proofs.DueLaws.{rows_start_before}
 use Rattle.row_laws.proofs.FileLaws.{one_line_each, texts_add_up}
 use Rattle.transcript_laws.specs.Shown.{Shows, HoldsOfBytes}
+use Rattle.transcript_laws.specs.Csv.{csv_fields, new_lines}
+use Rattle.transcript_laws.proofs.CsvLaws.{rows_read}
+use Rattle.transcript_laws.proofs.NewLines.{as_many_new_lines}
 use Rattle.transcript_laws.proofs.FileLines.{are_plain, file_plain}
 use Rattle.transcript_laws.proofs.FileSizes.{few_batches, few_rows}
 use Rattle.transcript_laws.proofs.ReplyLines.{IsFileShown}
@@ -114,6 +118,12 @@ module _ (nodes agents : ℕ) (sheet : Sheet) (issuer : Issuer) (events : List E
       ∙ (ap (λ x. lines_in (file (rows sheet issuer reached.journals period before x))) (same_Some a.0 to (sym a.1 ∙ at))
       ∙ one_line_each sheet issuer reached.journals journals_are limits names period before to)
 
+  fields : (period : ℕ) (shown : List ℕ) (to : Cut) → Shows (transcript replies) period shown → slice_get headline.cuts period ≡ Some to →
+      map csv_fields (data_lines shown) ≡ map fields_of_row (rows sheet issuer reached.journals period (cut_before agents headline.cuts period) to)
+  fields period shown to it at =
+      ap (λ (x : Lines). map csv_fields (drop 1 x.lines)) (lines period shown to it at)
+      ∙ rows_read (rows sheet issuer reached.journals period (cut_before agents headline.cuts period) to)
+
   due : (period : ℕ) (to : Cut) → slice_get headline.cuts period ≡ Some to → AreDueBetween sheet.base period reached.journals (cut_before agents headline.cuts period) to
   due period to at =
       subst (λ x. AreDueBetween x.base period reached.journals (cut_before agents headline.cuts period) to) headline.sheet_kept
@@ -128,12 +138,27 @@ module _ (nodes agents : ℕ) (sheet : Sheet) (issuer : Issuer) (events : List E
       rows_start_before sheet issuer reached.journals period (cut_before agents headline.cuts period) to journals_are limits.base (omega (arith, within, most))
       (due period to at) (were_due sheet.base agents reached.journals headline.cuts due period to at)
 
-  adds_up : (shown : List (List ℕ)) → ((period : ℕ) (one : List ℕ) → slice_get shown period ≡ Some one → Shows (transcript replies) period one) →
+  growing : IsGrowing agents headline.cuts
+  growing = subst (λ n. IsGrowing n headline.cuts) headline.agents_kept headline.are_the_cuts.growing
+
+  -- files of each period from 0 on, up to some last one
+  abbrev AreShown : List (List ℕ) → Type 0
+  AreShown shown = (period : ℕ) (one : List ℕ) → slice_get shown period ≡ Some one → Shows (transcript replies) period one
+
+  shown_are_files : (shown : List (List ℕ)) → AreShown shown → shown ≡ map file (files_of sheet issuer reached.journals agents (take (length shown) headline.cuts))
+  shown_are_files shown each = are_the_files sheet issuer reached.journals agents headline.cuts shown (λ p one e. files p one (each p one e))
+
+  new_once : (shown : List (List ℕ)) → AreShown shown →
+      length (new_lines shown) ≡ length (charges_up_to sheet reached.journals (last_cut agents (take (length shown) headline.cuts)))
+  new_once shown each =
+      ap (λ texts. length (new_lines texts)) (shown_are_files shown each)
+      ∙ as_many_new_lines sheet issuer reached.journals journals_are limits names agents (take (length shown) headline.cuts) (first_grow agents headline.cuts (length shown) growing)
+
+  adds_up : (shown : List (List ℕ)) → AreShown shown →
       sum_of_first_column shown
       ≡ Some (sum_of (λ x. x.billed) (charges_up_to sheet reached.journals (last_cut agents (take (length shown) headline.cuts))))
   adds_up shown each =
-      let growing = subst (λ n. IsGrowing n headline.cuts) headline.agents_kept headline.are_the_cuts.growing in
-      ap sum_of_first_column (are_the_files sheet issuer reached.journals agents headline.cuts shown (λ p one e. files p one (each p one e)))
+      ap sum_of_first_column (shown_are_files shown each)
       ∙ texts_add_up sheet issuer reached.journals journals_are limits names agents (take (length shown) headline.cuts) (first_grow agents headline.cuts (length shown) growing)
 
   pub holds_of_bytes : HoldsOfBytes nodes agents sheet issuer events (transcript replies)
@@ -148,9 +173,11 @@ module _ (nodes agents : ℕ) (sheet : Sheet) (issuer : Issuer) (events : List E
     agree = agree;
     files = files;
     lines = lines;
+    fields = fields;
     in_time = in_time;
     each = exported_is_shown replies export_is_shown;
     only = only;
     charged_once = headline.charged_once;
+    new_once = new_once;
     adds_up = adds_up;
   }

@@ -21,6 +21,7 @@ use Rattle.metering_model.proofs.Samples.{cpu, sheet_1, issuer_1, reading_1, row
 use Rattle.metering_model.proofs.WorkedPeriods.{correction}
 use Rattle.row_laws.specs.Charged.{charges_up_to}
 use Rattle.row_laws.specs.Columns.{sum_of_first_column}
+use Rattle.transcript_laws.specs.Csv.{new_lines}
 use Rattle.transcript_laws.specs.Shown.{Shows, HoldsOfBytes}
 
 -- ---- the statements by themselves, of a text, a holding and cuts that may be made up
@@ -36,13 +37,17 @@ abbrev AddUp : List ℕ → Holding → List Cut → Type 0
 AddUp text journals cuts = (shown : List (List ℕ)) → ((period : ℕ) (one : List ℕ) → slice_get shown period ≡ Some one → Shows text period one) →
     sum_of_first_column shown ≡ Some (sum_of (λ x. x.billed) (charges_up_to sheet_1 journals (last_cut 1 (take (length shown) cuts))))
 
+abbrev AreNewOnce : List ℕ → Holding → List Cut → Type 0
+AreNewOnce text journals cuts = (shown : List (List ℕ)) → ((period : ℕ) (one : List ℕ) → slice_get shown period ≡ Some one → Shows text period one) →
+    length (new_lines shown) ≡ length (charges_up_to sheet_1 journals (last_cut 1 (take (length shown) cuts)))
+
 abbrev AreExported : List ℕ → List Reply → Type 0
 AreExported text replies = (period : ℕ) (shown : List ℕ) → Shows text period shown → (s : Snapshot) × Contains replies (Exported s) × (s.period ≡ period) × (shown ≡ file_of s)
 
 -- they are those of the headline
 are_of_the_headline : (events : List Event) (text : List ℕ) (h : HoldsOfBytes 1 1 sheet_1 issuer_1 events text) →
-    Agree text × AreFiles text h.world.journals h.cuts × AddUp text h.world.journals h.cuts × AreExported text h.replies
-are_of_the_headline events text h = (h.agree, h.files, h.adds_up, h.only)
+    Agree text × AreFiles text h.world.journals h.cuts × AddUp text h.world.journals h.cuts × AreNewOnce text h.world.journals h.cuts × AreExported text h.replies
+are_of_the_headline events text h = (h.agree, h.files, h.adds_up, h.new_once, h.only)
 
 -- a text is not empty
 some_bytes : (c : ℕ) (cs : List ℕ) → c ∷ cs ≡ [] → ⊥
@@ -167,7 +172,14 @@ no_file_without_a_cut files = let it = files 0 (lines_text january) one_file_is_
 no_file_without_an_export : AreExported one_file [] → ⊥
 no_file_without_an_export exported = let it = exported 0 (lines_text january) one_file_is_shown in let within = it.1.1 in omega (arith, within)
 
--- ---- a correction that charges the whole again
+-- ---- a correction that charges the whole again, and one that does not say that it is one
+
+module _ (later : TextLines) where
+  both_are_shown : Shows (two_files january later) 0 (lines_text january) → Shows (two_files january later) 1 (lines_text later) →
+      (period : ℕ) (one : List ℕ) → slice_get (lines_text january ∷ lines_text later ∷ []) period ≡ Some one → Shows (two_files january later) period one
+  both_are_shown first second zero one e = subst (Shows (two_files january later) 0) (same_Some (lines_text january) one e) first
+  both_are_shown first second (suc zero) one e = subst (Shows (two_files january later) 1) (same_Some (lines_text later) one e) second
+  both_are_shown first second (suc (suc period)) one e = absurd (none-some one e)
 
 abbrev again : TextLines
 again = header_line ∷ codes "0.16,A-100,Payer,USD,2025-03-01T00:00:00Z,2025-02-01T00:00:00Z,Usage,Correction,Virtual CPU time,Usage-Based,2025-01-10T02:00:00Z,2025-01-10T00:00:00Z,,,,,7200,Seconds,0.16,0.08,0.16,Sample Cloud Ltd,0.2,0.1,Standard,2,Hours,Sample Cloud,Sample Cloud,vm-1,Compute,Sample Compute,cpu,cpu-od,acc-7,\"{\"\"env\"\":\"\"prod\"\"}\"" ∷ []
@@ -176,7 +188,7 @@ again = header_line ∷ codes "0.16,A-100,Payer,USD,2025-03-01T00:00:00Z,2025-02
 charging_again_does_not_add_up : AddUp (two_files january again) corrected_journals two_cuts → ⊥
 unfolding days_from_civil day_count days_of_years days_of_months worth_of decimals_of digits
 charging_again_does_not_add_up adds_up =
-    let billed : pos 280_000_000_000 ≡ pos 160_000_000_000 = same_Some _ _ (adds_up (lines_text january ∷ lines_text again ∷ []) both) in
+    let billed : pos 280_000_000_000 ≡ pos 160_000_000_000 = same_Some _ _ (adds_up (lines_text january ∷ lines_text again ∷ []) (both_are_shown again first second)) in
     omega (arith, ints)
   where
     first : Shows (two_files january again) 0 (lines_text january)
@@ -185,7 +197,18 @@ charging_again_does_not_add_up adds_up =
     second : Shows (two_files january again) 1 (lines_text again)
     second = record { before = codes "exported period 0 lines 2" ∷ january; lines = again; after = []; whole = refl; is_text = refl; is_shown = refl }
 
-    both : (period : ℕ) (one : List ℕ) → slice_get (lines_text january ∷ lines_text again ∷ []) period ≡ Some one → Shows (two_files january again) period one
-    both zero one e = subst (Shows (two_files january again) 0) (same_Some (lines_text january) one e) first
-    both (suc zero) one e = subst (Shows (two_files january again) 1) (same_Some (lines_text again) one e) second
-    both (suc (suc period)) one e = absurd (none-some one e)
+abbrev unsaid : TextLines
+unsaid = header_line ∷ codes "0.04,A-100,Payer,USD,2025-03-01T00:00:00Z,2025-02-01T00:00:00Z,Usage,,Virtual CPU time,Usage-Based,2025-01-10T02:00:00Z,2025-01-10T00:00:00Z,,,,,1800,Seconds,0.04,0.08,0.04,Sample Cloud Ltd,0.05,0.1,Standard,0.5,Hours,Sample Cloud,Sample Cloud,vm-1,Compute,Sample Compute,cpu,cpu-od,acc-7,\"{\"\"env\"\":\"\"prod\"\"}\"" ∷ []
+
+-- two lines are new, of one reading
+an_unsaid_correction_is_new_twice : AreNewOnce (two_files january unsaid) corrected_journals two_cuts → ⊥
+unfolding days_from_civil day_count days_of_years days_of_months worth_of decimals_of digits
+an_unsaid_correction_is_new_twice new_once =
+    let counts : 2 ≡ 1 = new_once (lines_text january ∷ lines_text unsaid ∷ []) (both_are_shown unsaid first second) in
+    omega (arith, counts)
+  where
+    first : Shows (two_files january unsaid) 0 (lines_text january)
+    first = record { before = []; lines = january; after = codes "exported period 1 lines 2" ∷ unsaid; whole = refl; is_text = refl; is_shown = refl }
+
+    second : Shows (two_files january unsaid) 1 (lines_text unsaid)
+    second = record { before = codes "exported period 0 lines 2" ∷ january; lines = unsaid; after = []; whole = refl; is_text = refl; is_shown = refl }

@@ -1,5 +1,7 @@
 pub mod Decimals
 pub mod TextLaws
+pub mod CsvLaws
+pub mod NewLines
 pub mod FileLines
 pub mod FileSizes
 pub mod ReplyLines

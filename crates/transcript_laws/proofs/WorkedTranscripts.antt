@@ -1,6 +1,6 @@
 -- A transcript with two files, computed: what it shows, and that its first columns add up to what is billed.
 use Rattle.std.proofs.Common.{sym, subst, ◌∙◌}
-use Rattle.std.specs.Prelude.{◌≡◌, ℕ, zero, suc, List, [], ◌∷◌, ◌++◌, map, take, Some, pos, slice_get, codes, refl}
+use Rattle.std.specs.Prelude.{◌≡◌, ℕ, zero, suc, List, [], ◌∷◌, ◌++◌, length, map, take, Some, pos, slice_get, codes, refl}
 use Rattle.std.specs.Fmt.{digits}
 use Rattle.std.proofs.lemmas.Option.{same_Some, none-some}
 use Rattle.jiff_core.specs.Calendar.{days_from_civil, day_count, days_of_years, days_of_months}
@@ -16,6 +16,7 @@ use Rattle.metering_model.proofs.WorkedPeriods.{correction}
 use Rattle.metering_model.proofs.WorkedSheets.{sheet_1_is_a_sheet, issuer_1_is_an_issuer}
 use Rattle.row_laws.specs.Charged.{charges_up_to}
 use Rattle.row_laws.specs.Columns.{sum_of_first_column}
+use Rattle.transcript_laws.specs.Csv.{csv_fields, new_lines}
 use Rattle.transcript_laws.specs.Shown.{Shows, HoldsOfBytes}
 use Rattle.transcript_laws.proofs.EveryTranscript.{holds_of_bytes}
 
@@ -74,3 +75,25 @@ first_columns = refl
 -- so two hours are billed 0.16, whichever cuts were chosen
 billed_once : sum_of (λ x. x.billed) (charges_up_to sheet_1 holds.world.journals (last_cut 1 (take 2 holds.cuts))) ≡ pos 160_000_000_000
 billed_once = same_Some _ _ (sym (holds.adds_up (lines_text january ∷ lines_text february ∷ []) both_files) ∙ first_columns)
+
+-- of both lines one is new, and so there is one reading
+one_is_new : length (new_lines (lines_text january ∷ lines_text february ∷ [])) ≡ 1
+one_is_new = refl
+
+one_reading : length (charges_up_to sheet_1 holds.world.journals (last_cut 1 (take 2 holds.cuts))) ≡ 1
+one_reading = sym (holds.new_once (lines_text january ∷ lines_text february ∷ []) both_files) ∙ one_is_new
+
+-- ---- read as CSV, the lines have the header line's columns
+
+columns : (length (csv_fields header_line) ≡ 36) × (slice_get (csv_fields header_line) 7 ≡ Some (codes "ChargeClass")) × (slice_get (csv_fields header_line) 35 ≡ Some (codes "Tags"))
+columns = (refl, refl, refl)
+
+new_in_january : slice_get (csv_fields row_1) 7 ≡ Some []
+new_in_january = refl
+
+corrected_in_february : slice_get (csv_fields corrected_row) 7 ≡ Some (codes "Correction")
+corrected_in_february = refl
+
+-- a field between quotation marks, of which the inner ones were doubled
+tags_in_january : slice_get (csv_fields row_1) 35 ≡ Some (codes "{\"env\":\"prod\"}")
+tags_in_january = refl

@@ -6,7 +6,7 @@ use Rattle.metering_model.specs.BatchReading.{lines_in}
 use Rattle.metering_model.specs.Sheet.{Sheet, Issuer}
 use Rattle.metering_model.specs.Cut.{Cut}
 use Rattle.metering_model.specs.Rows.{rows}
-use Rattle.metering_model.specs.File.{header_line, file}
+use Rattle.metering_model.specs.File.{header_line, fields_of_row, file}
 use Rattle.metering_model.specs.Totals.{sum_of}
 use Rattle.metering_model.specs.World.{World, Event, Snapshot, Reply, Exported, last_cut, opening}
 use Rattle.metering_model.specs.Step.{cut_before, play}
@@ -14,8 +14,9 @@ use Rattle.metering_model.specs.Transcript.{with_number, file_of, transcript}
 use Rattle.metering_model.specs.Schedule.{TextLines, lines_text}
 use Rattle.group_laws.specs.Headline.{AreTheCuts, AreChargedOnce, HoldsAfter}
 use Rattle.row_laws.specs.Charged.{charges_up_to}
-use Rattle.row_laws.specs.Columns.{line_of_row, sum_of_first_column}
+use Rattle.row_laws.specs.Columns.{line_of_row, data_lines, sum_of_first_column}
 use Rattle.row_laws.specs.Due.{StartsBeforeItsPeriodEnds}
+use Rattle.transcript_laws.specs.Csv.{csv_fields, new_lines}
 
 -- the line that stands above a file
 abbrev pub line_above : ℕ → ℕ → List ℕ
@@ -50,6 +51,9 @@ pub record HoldsOfBytes (nodes agents : ℕ) (sheet : Sheet) (issuer : Issuer) (
   -- its lines are the header line and one line for each row between these cuts, so that `charged_once` speaks of lines
   pub lines : (period : ℕ) (shown : List ℕ) (to : Cut) → Shows text period shown → slice_get cuts period ≡ Some to →
       lines_in shown ≡ record { lines = header_line ∷ map line_of_row (rows sheet issuer world.journals period (cut_before agents cuts period) to); rest = [] }
+  -- read as CSV, each line behind the header line gives the row's fields, in the order of the header line
+  pub fields : (period : ℕ) (shown : List ℕ) (to : Cut) → Shows text period shown → slice_get cuts period ≡ Some to →
+      map csv_fields (data_lines shown) ≡ map fields_of_row (rows sheet issuer world.journals period (cut_before agents cuts period) to)
   -- no row's charge starts when its billing period is over
   pub in_time : (period : ℕ) (to : Cut) → slice_get cuts period ≡ Some to →
       All StartsBeforeItsPeriodEnds (rows sheet issuer world.journals period (cut_before agents cuts period) to)
@@ -59,8 +63,11 @@ pub record HoldsOfBytes (nodes agents : ℕ) (sheet : Sheet) (issuer : Issuer) (
       (s : Snapshot) × Contains replies (Exported s) × (s.period ≡ period) × (shown ≡ file_of s)
   -- between these cuts each reading is charged as new in one row of one period
   pub charged_once : AreChargedOnce world cuts
-  -- Where the file of each period from 0 on is shown, up to some last one, the numbers in their first columns, of each period
-  -- taken once, add up to billing each reading once, at its value as of the last of their cuts.
+  -- Where the file of each period from 0 on is shown, up to some last one, and of each period one is taken, as many lines have a
+  -- null ChargeClass as there are readings up to the last of their cuts.
+  pub new_once : (shown : List (List ℕ)) → ((period : ℕ) (one : List ℕ) → slice_get shown period ≡ Some one → Shows text period one) →
+      length (new_lines shown) ≡ length (charges_up_to sheet world.journals (last_cut agents (take (length shown) cuts)))
+  -- And the numbers in their first columns add up to billing each of these readings once, at its value as of that cut.
   pub adds_up : (shown : List (List ℕ)) → ((period : ℕ) (one : List ℕ) → slice_get shown period ≡ Some one → Shows text period one) →
       sum_of_first_column shown
       ≡ Some (sum_of (λ x. x.billed) (charges_up_to sheet world.journals (last_cut agents (take (length shown) cuts))))

@@ -1,11 +1,16 @@
 //! The headline over every list of events, of the bytes of its transcript.
 
-ghost use Rattle.std.specs.Prelude.{◌≡◌, ℕ, List, ◌++◌};
+ghost use Rattle.std.specs.Prelude.{◌≡◌, ℕ, List, ◌∷◌, ◌++◌, map};
+ghost use Rattle.std.specs.List.{join_with_byte};
 ghost use Rattle.metering_model.specs.Sheet.{Sheet, Issuer};
 ghost use Rattle.metering_model.specs.SheetRules.{IsSheet, IsIssuer};
+ghost use Rattle.metering_model.specs.Row.{Row};
+ghost use Rattle.metering_model.specs.File.{quoted, fields_of_row};
 ghost use Rattle.metering_model.specs.World.{Event, opening};
 ghost use Rattle.metering_model.specs.Step.{play};
 ghost use Rattle.metering_model.specs.Transcript.{transcript};
+ghost use Rattle.row_laws.specs.Columns.{line_of_row};
+ghost use Rattle.transcript_laws.specs.Csv.{csv_fields};
 ghost use Rattle.transcript_laws.specs.Shown.{Shows, HoldsOfBytes};
 
 /// Whatever happens to a group, the files that its transcript shows agree, are those between neighbouring cuts, and add up.
@@ -28,4 +33,11 @@ pub fn a_longer_transcript_shows_the_same_files()
         (front rest : List ℕ) → transcript (play (opening nodes agents sheet issuer) events).0 ≡ front ++ rest →
         (period : ℕ) (shown : List ℕ) → Shows front period shown →
         Shows (transcript (play (opening nodes agents sheet issuer) events).0) period shown }
+{}
+
+/// Read as CSV, a line of fields gives just these fields, whatever bytes they have; so a row's line gives the row's fields.
+pub fn a_line_read_as_csv_gives_its_fields()
+    ensures line { (first : List ℕ) (others : List (List ℕ)) →
+        csv_fields (join_with_byte 44 (map quoted (first ∷ others))) ≡ first ∷ others }
+    ensures row { (r : Row) → csv_fields (line_of_row r) ≡ fields_of_row r }
 {}
