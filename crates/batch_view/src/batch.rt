@@ -19,6 +19,7 @@ use std::marker::Model;
 const MOST_BYTES: usize = 65_536;
 
 /// The record whose line begins at `from`, and where the next line begins.
+#[inline(always)]
 pub(crate) fn record_from(text: &[u8], from: u32) -> Result<(Record<'_>, u32), BatchCode>
     requires within { from ≤ length text.now }
     requires short { length text.now ≤ 65536 }

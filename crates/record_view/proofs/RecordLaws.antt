@@ -1,5 +1,7 @@
 -- Which record a line's fields give, by their number and their letter.
-use Rattle.std.proofs.Common.{◌≡◌, ◌≢◌, ℕ, ◌==◌, true, false, List, [], ◌∷◌, length, Ok, Err, Option, Some, None, is_some, ℤ, refl, ap, ◌∙◌, codes, ok_or}
+use Rattle.std.proofs.Common.{◌≡◌, ◌≢◌, ℕ, ◌==◌, true, false, List, [], ◌∷◌, length, Ok, Err, Option, Some, None, is_some, ℤ, refl, sym, ap, ◌∙◌, codes, ok_or}
+use Rattle.std.specs.Option.{option_zip}
+use Rattle.std.proofs.lemmas.Option.{none-some, same_Some}
 use Rattle.std.proofs.lemmas.Bool.{false≢true, and_parts, eqb-true}
 use Rattle.metering_model.specs.FirstFailure.{◌>>=◌, holds_or}
 use Rattle.metering_model.specs.declared.BatchCode.TheVariants.{Fields, Time, Text, Tags}
@@ -55,6 +57,18 @@ stamp_met t n h = by_stamp (stamp_in t) h
     by_stamp : (o : Option ℤ) → ok_or o Time ≡ Ok n → is_some o ≡ true
     by_stamp None e = absurd (cc)
     by_stamp (Some m) e = refl
+
+-- two stamps that were read together
+pub stamps_read : (s e : List ℕ) (p : ℤ × ℤ) → Some p ≡ option_zip (stamp_in s) (stamp_in e) → (stamp_step s ≡ Ok p.0) × (stamp_step e ≡ Ok p.1)
+unfolding stamp_step
+stamps_read s e p h = by_stamps (stamp_in s) (stamp_in e) h
+  where
+    by_stamps : (a b : Option ℤ) → Some p ≡ option_zip a b → (ok_or a Time ≡ Ok p.0) × (ok_or b Time ≡ Ok p.1)
+    by_stamps None b h = absurd (none-some p (sym h))
+    by_stamps (Some x) None h = absurd (none-some p (sym h))
+    by_stamps (Some x) (Some y) h =
+        let same = same_Some p (x, y) h in
+        (ap (λ q. Ok q.0) (sym same), ap (λ q. Ok q.1) (sym same))
 
 pub text_met : (t : List ℕ) → is_text t ≡ true → text_step t ≡ Ok tt
 unfolding text_step

@@ -99,6 +99,17 @@ fn read_stamp(text: &[u8]) -> Result<Stamp, BatchCode>
     Stamp::read(text).ok_or(BatchCode::Time)
 }
 
+/// Both stamps of a reading. At an error nothing is said of them.
+#[inline(always)]
+fn read_stamps(start: &[u8], end: &[u8]) -> Result<(Stamp, Stamp), BatchCode>
+    ensures { IfOk result (λ stamps. (stamp_step start.now ≡ Ok stamps.0) × (stamp_step end.now ≡ Ok stamps.1)) }
+{
+    match Stamp::read_both(start, end) {
+        Some(stamps) => Ok(stamps),
+        None => Err(BatchCode::Time),
+    }
+}
+
 #[tactic(auto, unfolding(crate::specs::Inner::RecordSteps::order_step))]
 fn check_order(start: Stamp, end: Stamp) -> Result<(), BatchCode>
     ensures { result ≡ order_step start end }
@@ -394,7 +405,7 @@ fn check_plain_commitment(kind: Kind, text: &[u8]) -> Result<(), BatchCode>
     holds_or(is_priced(kind) || text.is_empty(), BatchCode::Text)
 }
 
-/// The reading of plain plain. At an error nothing is said of them.
+/// The reading of plain fields. At an error nothing is said of them.
 #[inline(always)]
 fn plain_reading<'a>(letter: &[u8], plain: &ReadingFields<'a>) -> Result<Record<'a>, BatchCode>
     requires { ArePlainFields plain.now }
@@ -403,8 +414,7 @@ fn plain_reading<'a>(letter: &[u8], plain: &ReadingFields<'a>) -> Result<Record<
     ensures lent { IfOk result (λ r. record_texts r ≡ field_texts plain.now) }
 {
     let kind = read_kind(letter)?;
-    let start = read_stamp(plain.start.text)?;
-    let end = read_stamp(plain.end.text)?;
+    let (start, end) = read_stamps(plain.start.text, plain.end.text)?;
     check_order(start, end)?;
     check_plain_key(plain.key.text)?;
     let value = read_number(plain.value.text)?;
