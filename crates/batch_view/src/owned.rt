@@ -20,7 +20,7 @@ use crate::reading::{Unkept, keep_batch};
 use fx_money::Value;
 use metering_model::BatchFault;
 use record_view::{Span, Stamp};
-use std::alloc::{AllocError, Global};
+use std::alloc::{AllocError, AllocFailed, Global};
 use std::marker::Model;
 use std::sync::Arc;
 
@@ -57,6 +57,13 @@ impl Model for OwnedBatch {
 }
 
 impl OwnedBatch {
+    /// The bytes that were kept.
+    fn into_bytes(self) -> Vec<u8>
+        ensures { result.items ≡ self }
+    {
+        self.bytes
+    }
+
     /// The batch that is kept. Nothing is read again.
     pub fn view(&self) -> BatchView<'_>
         ensures { result ≡ self.now }
@@ -153,17 +160,20 @@ pub enum Offer {
     Bad(BatchFault),
 }
 
-/// Shares the batch with what its entries tell, where there is memory.
+/// Shares the batch with what its entries tell. Where there is no memory the bytes are handed back.
 fn keep_parts(
     alloc: Global,
     bytes: Vec<u8>,
     head: Head,
     entries: Vec<Entry>,
-) -> Result<Arc<OwnedBatch>, AllocError>
+) -> Result<Arc<OwnedBatch>, Vec<u8>>
     requires { KeepsBatch bytes.items head entries.items }
-    ensures { IfOk result (λ batch. arc_value batch ≡ bytes.items) }
+    ensures shared { IfOk result (λ batch. arc_value batch ≡ bytes.items) }
+    ensures back { IfErr result (λ back. back.items ≡ bytes.items) }
 {
-    let amendments = sorted_amendments(alloc, &entries, head.count)?;
+    let Ok(amendments) = sorted_amendments(alloc, &entries, head.count) else {
+        return Err(bytes);
+    };
     let latest = latest_start(&entries);
     let batch = OwnedBatch {
         bytes,
@@ -174,7 +184,7 @@ fn keep_parts(
     };
     match Arc::new(alloc, batch) {
         Ok(shared) => Ok(shared),
-        Err(_) => Err(AllocError),
+        Err(refused) => Err(refused.value.into_bytes()),
     }
 }
 
@@ -186,14 +196,27 @@ impl Offer {
         ensures answer { IfOk result (IsOfferOf bytes.items) }
         ensures want { IfErr result (λ _. batch_in bytes.items ≡ Ok (batch_of bytes.items)) }
     {
+        match Offer::read_or_back(alloc, bytes) {
+            Ok(offer) => Ok(offer),
+            Err(_) => Err(AllocError),
+        }
+    }
+
+    /// As `read` does, but that want of memory hands the bytes back: so whoever has more to ask of them than whether they
+    /// are a batch can ask it before want of memory is told.
+    pub fn read_or_back(alloc: Global, bytes: Vec<u8>) -> Result<Offer, AllocFailed<Vec<u8>>>
+        ensures answer { IfOk result (IsOfferOf bytes.items) }
+        ensures back { IfErr result (λ refused. refused.value.items ≡ bytes.items) }
+        ensures want { IfErr result (λ _. batch_in bytes.items ≡ Ok (batch_of bytes.items)) }
+    {
         match keep_batch(alloc, &bytes) {
             Ok((head, entries)) => match keep_parts(alloc, bytes, head, entries) {
                 Ok(batch) => Ok(Offer::Good(batch)),
-                Err(_) => Err(AllocError),
+                Err(value) => Err(AllocFailed { value }),
             },
             Err(Unkept::Fault(fault)) => Ok(Offer::Bad(fault)),
             Err(Unkept::NoMemory) => match check_batch(&bytes) {
-                Ok(_) => Err(AllocError),
+                Ok(_) => Err(AllocFailed { value: bytes }),
                 Err(fault) => Ok(Offer::Bad(fault)),
             },
         }

@@ -1,5 +1,5 @@
 -- A holding with one batch more.
-use Rattle.std.proofs.Common.{◌≡◌, ℕ, true, false, Some, None, sym, ap, subst, ◌∙◌, ℤ}
+use Rattle.std.proofs.Common.{◌≡◌, ℕ, true, false, ◌&&◌, [], Some, None, refl, sym, ap, subst, ◌∙◌, ℤ, cond, eq-eqb}
 use Rattle.std.specs.List.{slice_get}
 use Rattle.std.specs.Option.{option_and_then}
 use Rattle.metering_model.specs.Batch.{Batch}
@@ -7,7 +7,7 @@ use Rattle.metering_model.specs.Holding.{Holding, IsHolding, Position, held, is_
 use Rattle.metering_model.specs.JournalRules.{is_fit_target}
 use Rattle.metering_model.proofs.BatchOrder.{place_of_batch}
 use Rattle.metering_model.proofs.HoldingLaws.{held-put_other, held-put_same}
-use Rattle.std.specs.Prelude.{unwrap_or}
+use Rattle.std.specs.Prelude.{◌==◌, unwrap_or}
 
 module _ (h : Holding) (b : Batch) (p : Position) (value : ℤ) where
   -- what was there elsewhere is still there
@@ -37,3 +37,9 @@ module _ (h : Holding) (b : Batch) (ok : IsHolding h) where
 pub own_place : (h : Holding) (b : Batch) (agent seq : ℕ) → held h agent seq ≡ Some b → b.agent ≡ agent → b.seq ≡ seq → held h b.agent b.seq ≡ Some b
 own_place h b agent seq there is_agent is_seq =
     subst (λ a. held h a b.seq ≡ Some b) (sym is_agent) (subst (λ s. held h agent s ≡ Some b) (sym is_seq) there)
+
+-- a batch alone is at its own place
+pub alone_there : (b : Batch) → held (put [] b) b.agent b.seq ≡ Some b
+alone_there b =
+    ap (λ t. cond (t && (b.seq == b.seq)) (Some b) None) (eq-eqb b.agent b.agent refl)
+    ∙ ap (λ t. cond t (Some b) None) (eq-eqb b.seq b.seq refl)

@@ -1,16 +1,17 @@
-//! The rules of the journals, over what a store has with one batch more.
+//! The rules of the journals, over what a store has with one batch more, or over one batch alone.
 
 ghost use Rattle.std.specs.Prelude.{◌≡◌, ◌≤◌, true, false};
 ghost use Rattle.std.specs.List.{slice_get};
-ghost use Rattle.std.specs.Option.{option_and_then, option_copied};
-ghost use Rattle.metering_model.specs.Holding.{is_batch_at, placed, reading_at, reading_of};
+ghost use Rattle.std.specs.Option.{option_and_then, option_copied, option_map};
+ghost use Rattle.metering_model.specs.Holding.{held, is_batch_at, placed, reading_at, reading_of};
 ghost use Rattle.metering_model.specs.JournalRules.{is_fit_commitment, is_fit_reading, is_fit_target, comes_earlier, broken_by, first_broken};
 ghost use Rattle.batch_view.specs.Batches.{batch_of};
 ghost use Rattle.batch_view.specs.Lent.{model_reading, record_of};
 ghost use Rattle.batch_store.specs.Stores.{position_of};
+ghost use Rattle.journal_rules.specs.Inner.Journaled.{stored_in};
 
 use batch_store::{Place, Store};
-use batch_view::{BatchView, Kind, Reading, Record};
+use batch_view::{BatchView, Kind, OwnedBatch, Reading, Record};
 use charge_row::{commitment_of, is_priced, price_of};
 use fx_money::Value;
 use metering_model::BrokenRule;
@@ -68,10 +69,22 @@ fn comes_earlier(place: Place, seq: u32, index: u16) -> bool
     seq < place.seq || (seq == place.seq && index < place.index)
 }
 
-/// What a store has with one batch more. The store may have that very batch already.
+/// The batch of an agent at a sequence, where there is a store and it has one.
+fn kept_at(store: Option<&Store>, agent: u8, seq: u32) -> Option<&OwnedBatch>
+    requires from { 1 ≤ agent }
+    requires to { agent ≤ (stored_in (option_copied store)).agents }
+    ensures { option_map batch_of (option_copied result) ≡ held (stored_in (option_copied store.entry)).batches agent seq }
+{
+    match store {
+        Some(store) => store.get(agent, seq),
+        None => None,
+    }
+}
+
+/// What a store has with one batch more, or that batch alone. The store may have that very batch already.
 #[derive(Drop)]
 pub(crate) struct Journaled<'a> {
-    pub(crate) store: &'a Store,
+    pub(crate) store: Option<&'a Store>,
     pub(crate) batch: &'a BatchView<'a>,
 }
 
@@ -79,19 +92,20 @@ impl<'a> Model for Journaled<'a> {
     ghost use Rattle.std.specs.Prelude.{◌≡◌, ◌≤◌, Some};
     ghost use Rattle.metering_model.specs.Holding.{held, put};
     ghost use Rattle.batch_view.specs.Batches.{batch_of};
-    ghost use Rattle.journal_rules.specs.Inner.Journaled.{WithBatch};
+    ghost use Rattle.std.specs.Option.{option_copied};
+    ghost use Rattle.journal_rules.specs.Inner.Journaled.{WithBatch, stored_in};
 
     ghost Value = { WithBatch };
 
     ghost view = { λ j. record {
-      agents = j.store.now.agents;
-      batches = put j.store.now.batches (batch_of j.batch.now);
+      agents = (stored_in (option_copied j.store)).agents;
+      batches = put (stored_in (option_copied j.store)).batches (batch_of j.batch.now);
       batch = batch_of j.batch.now;
     } };
 
     ghost invariant = { λ j.
-        ((batch_of j.batch.now).agent ≤ j.store.now.agents)
-        × (held (put j.store.now.batches (batch_of j.batch.now)) (batch_of j.batch.now).agent (batch_of j.batch.now).seq
+        ((batch_of j.batch.now).agent ≤ (stored_in (option_copied j.store)).agents)
+        × (held (put (stored_in (option_copied j.store)).batches (batch_of j.batch.now)) (batch_of j.batch.now).agent (batch_of j.batch.now).seq
         ≡ Some (batch_of j.batch.now)) };
 }
 
@@ -111,14 +125,14 @@ impl<'a> Journaled<'a> {
         has_fit_target(self.batch, place.index, value)
     }
 
-    /// Whether the store has a reading at the place that takes the value.
+    /// Whether there is a store that has a reading at the place that takes the value.
     fn is_fit_elsewhere(&self, place: Place, value: Value) -> bool
         requires from { 1 ≤ place.agent }
         requires to { place.agent ≤ self.now.agents }
         requires elsewhere { is_batch_at place.agent place.seq self.now.batch ≡ false }
         ensures { result ≡ is_fit_target value (reading_at self.now.batches (position_of place)) }
     {
-        match self.store.get(place.agent, place.seq) {
+        match kept_at(self.store, place.agent, place.seq) {
             Some(batch) => has_fit_target(&batch.view(), place.index, value),
             None => false,
         }

@@ -6,4 +6,4 @@ mod journaled;
 mod rules;
 
 pub use held::batch_at;
-pub use rules::{first_broken, first_broken_up_to};
+pub use rules::{first_broken, first_broken_alone, first_broken_up_to};

@@ -1,7 +1,7 @@
 //! The first record that breaks a rule of the journals: of a batch that is to be journaled, and of what a store has up
 //! to a cut.
 
-ghost use Rattle.std.specs.Prelude.{◌≡◌, ◌≤◌, ◌+◌, true, None, Some, length, MatchOption};
+ghost use Rattle.std.specs.Prelude.{◌≡◌, ◌≤◌, ◌+◌, true, [], None, Some, length, MatchOption};
 ghost use Rattle.std.specs.Option.{is_some};
 ghost use Rattle.metering_model.specs.Batch.{Batch};
 ghost use Rattle.metering_model.specs.Holding.{held, placed, put, records_in_order, up_to};
@@ -26,7 +26,20 @@ pub fn first_broken(store: &Store, sheet: &Sheet, batch: &BatchView<'_>) -> Opti
     ensures { result ≡ first_broken sheet.now (put store.now.batches (batch_of batch.now)) (placed (batch_of batch.now)) }
 {
     let _agents = store.agents();
-    Journaled { store, batch }.first_broken(sheet)
+    Journaled {
+        store: Some(store),
+        batch,
+    }
+    .first_broken(sheet)
+}
+
+/// The rule that the first bad record of a batch breaks in journals that have it and no other. No store is asked for, so
+/// whoever finds no memory for one can still tell.
+pub fn first_broken_alone(sheet: &Sheet, batch: &BatchView<'_>) -> Option<BrokenRule>
+    ensures { result ≡ first_broken sheet.now (put [] (batch_of batch.now)) (placed (batch_of batch.now)) }
+{
+    let _agent = batch.agent();
+    Journaled { store: None, batch }.first_broken(sheet)
 }
 
 /// The rule that the first bad record of a batch that the store has breaks.
@@ -40,7 +53,7 @@ fn broken_in_held(store: &Store, sheet: &Sheet, agent: u8, seq: u32) -> Option<B
     let _agents = store.agents();
     let batch = batch_at(store, agent, seq);
     Journaled {
-        store,
+        store: Some(store),
         batch: &batch,
     }
     .first_broken(sheet)

@@ -6,6 +6,6 @@ use Rattle.batch_view.proofs.owned.keep_parts.Goals as goal
 
 pub invariant_of-batch : goal.invariant_of-batch
 invariant_of-batch c =
-    let all = rw c.deref.ensures.value at c.in_ok-amendments.ensures.all in
-    keeps_parts c.args.bytes.items c.args.head c.args.entries.items _ _ c.requires all c.in_ok-amendments.ensures.small c.in_ok-amendments.ensures.rising
+    let all = rw c.deref.ensures.value at c.in-Ok.ensures.all in
+    keeps_parts c.args.bytes.items c.args.head c.args.entries.items _ _ c.requires all c.in-Ok.ensures.small c.in-Ok.ensures.rising
     (λ moment. sym (ap (list_all (entry_before moment)) c.deref-2.ensures.value) ∙ c.latest_start-latest.ensures moment)

@@ -1,16 +1,17 @@
 use Rattle.std.proofs.Common.{◌≡◌, false, sym, ap, subst, ◌∙◌}
 use Rattle.std.specs.List.{slice_get}
-use Rattle.std.specs.Option.{option_and_then}
+use Rattle.std.specs.Option.{option_and_then, option_copied}
 use Rattle.metering_model.specs.Holding.{is_batch_at, reading_at, reading_of}
 use Rattle.metering_model.specs.JournalRules.{is_fit_target}
 use Rattle.batch_view.specs.Batches.{batch_of}
 use Rattle.batch_store.specs.Stores.{position_of}
+use Rattle.journal_rules.specs.Inner.Journaled.{stored_in}
 use Rattle.journal_rules.proofs.OneMore.{fit_elsewhere, unfit_elsewhere}
 use Rattle.journal_rules.proofs.journaled.Journaled.is_fit_elsewhere.Goals as goal
 
 pub returns-in-Some : goal.returns-in-Some
 returns-in-Some c =
-    let h = c.self.inside.store.now.batches in
+    let h = (stored_in (option_copied c.self.inside.store)).batches in
     let b = batch_of c.self.inside.batch.now in
     let p = position_of c.args.place in
     let other = subst (λ w. is_batch_at c.args.place.agent c.args.place.seq w.batch ≡ false) (sym c.self.view_is) c.requires.elsewhere in
@@ -21,7 +22,7 @@ returns-in-Some c =
 
 pub returns-in-None : goal.returns-in-None
 returns-in-None c =
-    let h = c.self.inside.store.now.batches in
+    let h = (stored_in (option_copied c.self.inside.store)).batches in
     let b = batch_of c.self.inside.batch.now in
     let p = position_of c.args.place in
     let other = subst (λ w. is_batch_at c.args.place.agent c.args.place.seq w.batch ≡ false) (sym c.self.view_is) c.requires.elsewhere in
