@@ -16,7 +16,7 @@ use Rattle.metering_model.proofs.Splitting.{lines_of_text}
 use Rattle.metering_model.proofs.StepLaws.{step_ok, some_step, ok_same}
 use Rattle.schedule_text.specs.declared.faults.ScheduleCode.TheVariants.{Event}
 use Rattle.schedule_text.specs.declared.faults.ScheduleFault.{ScheduleFault}
-use Rattle.schedule_text.specs.Sections.{Unread, left, begins_with, first_line, section_in}
+use Rattle.schedule_text.specs.Sections.{Unread, Section, left, begins_with, first_line, section_in}
 use Rattle.schedule_reader.specs.Schedules.{one_behind, both, two_at, two_in, two_behind, or_else, event_of_line, line_event, journal_event, event_in, events_in}
 use Rattle.schedule_reader.proofs.LineForms.{line_read, number_read, section_read}
 
@@ -114,6 +114,13 @@ journal_event_read u r h =
     let ls : (lines_in s.0.text).lines ≡ read.0 = ap (λ t. (lines_in t).lines) read.3 ∙ ap (λ x. x.lines) (lines_of_text read.0 read.1.whole) in
     let stands : Stands u (PlansJournal read.0, s.0.rest) = (read.2, read.1) in
     subst (Stands u) (ap (λ x. (PlansJournal x, s.0.rest)) (sym ls) ∙ ok_same _ _ s.2) stands
+
+-- the text of a section is whole lines
+pub section_whole : (word : List ℕ) (most : ℕ) (u : Unread) (s : Section) → most < 10 ^ 64 → section_in Event word most u ≡ Ok s → lines_text (lines_in s.text).lines ≡ s.text
+section_whole word most u s small h =
+    let read = section_read Event word most u s small h in
+    let ls : (lines_in s.text).lines ≡ read.0 = ap (λ t. (lines_in t).lines) read.3 ∙ ap (λ x. x.lines) (lines_of_text read.0 read.1.whole) in
+    ap lines_text ls ∙ sym read.3
 
 pub event_read : (u : Unread) (r : Planned × Unread) → event_in u ≡ Ok r → (left u ≡ planned_text r.0 ++ left r.1) × IsPlanned r.0
 unfolding event_in

@@ -1,7 +1,8 @@
-use Rattle.std.proofs.Common.{◌≡◌, ◌+◌, ◌-◌, ◌<◌, ◌≤◌, suc, map, length, sym, ap, ◌∙◌, arith}
+use Rattle.std.proofs.Common.{◌≡◌, ◌+◌, ◌-◌, ◌<◌, ◌≤◌, suc, map, length, sym, ap, ◌∙◌, arith, subst, All}
 use Rattle.std.proofs.lemmas.Bool.Decides.{nat_tests}
+use Rattle.std.proofs.lemmas.List.Elements.{All-push}
 use Rattle.schedule_text.specs.Sections.{left}
-use Rattle.schedule_reader.specs.Events.{planned_of}
+use Rattle.schedule_reader.specs.Events.{HasWholeLines, planned_of}
 use Rattle.schedule_reader.specs.Schedules.{events_in}
 use Rattle.schedule_reader.specs.Inner.Found.{in_front}
 use Rattle.schedule_reader.proofs.EventLoop.{found_next, found_fault, found_whole, found_end, map_more}
@@ -14,7 +15,7 @@ returns-then-is_empty-clause-taken c =
     let more : c.args.most - c.loop.counter ≡ suc k = omega (arith, c.loop-test.true) in
     let same = ap length c.left.ensures in
     let none : length (left c.loop.here) ≤ 0 = grind (arith, nat_tests, same, c.is_empty.ensures, c.if-is_empty.true) in
-    c.loop.invariant ∙ ap (λ n. in_front found (events_in n c.loop.here)) more ∙ found_whole k c.loop.here found none
+    c.loop.invariant.events ∙ ap (λ n. in_front found (events_in n c.loop.here)) more ∙ found_whole k c.loop.here found none
 
 pub returns-in-Err-clause-refused : goal.returns-in-Err-clause-refused
 returns-in-Err-clause-refused c = λ _.
@@ -23,7 +24,7 @@ returns-in-Err-clause-refused c = λ _.
     let more : c.args.most - c.loop.counter ≡ suc k = omega (arith, c.loop-test.true) in
     let same = ap length c.left.ensures in
     let some : 0 < length (left c.loop.here) = grind (arith, nat_tests, same, c.is_empty.ensures, c.if-is_empty.false) in
-    c.loop.invariant ∙ ap (λ n. in_front found (events_in n c.loop.here)) more ∙ found_fault k c.loop.here c.in-Err.fault found some c.in-Err.ensures.event
+    c.loop.invariant.events ∙ ap (λ n. in_front found (events_in n c.loop.here)) more ∙ found_fault k c.loop.here c.in-Err.fault found some c.in-Err.ensures.event
 
 pub loop-preserved : goal.loop-preserved
 loop-preserved c =
@@ -35,12 +36,15 @@ loop-preserved c =
     let event = c.in-Ok.parts.0 in
     let rest = c.in-Ok.parts.1 in
     let pushed = ap (map planned_of) c.in-Ok-push.ensures.items ∙ map_more planned_of c.loop.events.items event in
-    c.loop.invariant ∙ ap (λ n. in_front found (events_in n c.loop.here)) more
-    ∙ found_next k c.loop.here rest (planned_of event) found some c.in-Ok.ensures.event
-    ∙ ap (λ es. in_front es (events_in k rest)) (sym pushed)
+    record {
+      events = c.loop.invariant.events ∙ ap (λ n. in_front found (events_in n c.loop.here)) more
+          ∙ found_next k c.loop.here rest (planned_of event) found some c.in-Ok.ensures.event
+          ∙ ap (λ es. in_front es (events_in k rest)) (sym pushed);
+      lines = subst (All HasWholeLines) (sym c.in-Ok-push.ensures.items) (All-push HasWholeLines c.loop.events.items event c.loop.invariant.lines c.in-Ok.ensures.lines);
+    }
 
 pub returns-clause-taken : goal.returns-clause-taken
 returns-clause-taken c =
     let found = map planned_of c.loop.events.items in
     let none : c.args.most - c.loop.counter ≡ 0 = omega (arith, c.loop-test.false) in
-    c.loop.invariant ∙ ap (λ n. in_front found (events_in n c.loop.here)) none ∙ found_end c.loop.here found
+    c.loop.invariant.events ∙ ap (λ n. in_front found (events_in n c.loop.here)) none ∙ found_end c.loop.here found
