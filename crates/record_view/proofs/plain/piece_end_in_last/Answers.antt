@@ -1,5 +1,5 @@
 -- The last eight bytes hold all that are behind the first eight.
-use Rattle.std.proofs.Common.{◌≡◌, ◌≤◌, ◌+◌, ◌-◌, ℕ, List, length, take, drop, subst, sym, arith, length-drop}
+use Rattle.std.proofs.Common.{◌≤◌, ◌+◌, ◌-◌, ℕ, List, length, take, drop, subst, sym, arith, length-drop}
 use Rattle.std.proofs.lemmas.List.{take_all}
 use Rattle.record_view.specs.Inner.Plain.{stops_at, IsRun}
 use Rattle.record_view.proofs.FirstPlace.{position_is, position_none}

@@ -1,5 +1,5 @@
 -- A lane is set just where its byte is a `;`, below a space, or not below the bar.
-use Rattle.std.proofs.Common.{◌≡◌, ◌+◌, ◌≤◌, leb, ltb, eqb, cond, refl, length, arith}
+use Rattle.std.proofs.Common.{◌+◌, ◌≤◌, leb, ltb, eqb, cond, refl, length, arith}
 use Rattle.std.specs.Int.Bits.{bit_or}
 use Rattle.std.proofs.lemmas.Simd.{length-chunk, splat_is_map, zip2_of_maps}
 use Rattle.record_view.specs.Inner.Plain.{stops_at}
