@@ -1,6 +1,6 @@
 //! Fields of plain text. A byte that is not plain is left to the exact reader.
 
-ghost use Rattle.std.specs.Prelude.{◌≡◌, ◌≤◌, ◌+◌, ◌==◌, ◌∷◌, false, length, position, IfSome, IfNone, IsTrue, is_some};
+ghost use Rattle.std.specs.Prelude.{◌≡◌, ◌<◌, ◌≤◌, ◌+◌, ◌==◌, ◌∷◌, ℕ, slice_index, false, length, position, IfSome, IfNone, IsTrue, is_some};
 ghost use Rattle.std.specs.List.{list_any};
 ghost use Rattle.metering_model.specs.Dates.{stamp_in};
 ghost use Rattle.record_view.specs.Parts.{lent, parts_at};
@@ -10,16 +10,19 @@ ghost use Rattle.record_view.specs.Inner.Plain.{is_plain, stops_at, lowest_set, 
 use crate::fields::{Field, cut};
 use std::simd::prelude::*;
 
-/// So many bytes are looked at in one step.
+/// So many bytes of a field are looked at in one step.
 const LANES: usize = 16;
+
+/// So many bytes of tags are.
+const FEW_LANES: usize = 8;
 
 /// The place of the lowest bit that is set, or how many bytes were looked at where none is.
 #[inline(always)]
-fn lowest_set(mask: u64) -> usize
-    ensures { result ≡ lowest_set mask }
+fn lowest_set(mask: u64, lanes: usize) -> usize
+    ensures { result ≡ lowest_set mask lanes }
 {
     if mask == 0 {
-        LANES
+        lanes
     } else {
         mask.trailing_zeros() as usize
     }
@@ -33,7 +36,7 @@ fn plain_run(text: &[u8]) -> usize
 {
     let lanes = u8x16::from_slice(text);
     let stops = lanes.simd_lt(u8x16::splat(0x20)) | lanes.simd_ge(u8x16::splat(0x7C));
-    lowest_set(stops.to_bitmask())
+    lowest_set(stops.to_bitmask(), LANES)
 }
 
 /// Where the first byte stands that is not plain, byte by byte. (The loop is shorter where it stands alone.)
@@ -58,16 +61,73 @@ fn first_special(text: &[u8]) -> Option<usize>
     first_special_by_bytes(text)
 }
 
+/// How many of the first bytes are plain and no `;` before one is not or is one: all of them tested at once.
+#[inline(always)]
+fn piece_run(text: &[u8]) -> usize
+    requires { 8 ≤ length text.now }
+    ensures { IsRun (stops_at 59) text.now 8 result }
+{
+    let lanes = u8x8::from_slice(text);
+    let special = lanes.simd_lt(u8x8::splat(0x20)) | lanes.simd_ge(u8x8::splat(0x7C));
+    let stops = special | lanes.simd_eq(u8x8::splat(b';'));
+    lowest_set(stops.to_bitmask(), FEW_LANES)
+}
+
+/// Where the first byte stands that is `;` or is not plain, byte by byte.
+#[inline(never)]
+fn piece_end_by_bytes(text: &[u8]) -> Option<usize>
+    ensures { result ≡ position (stops_at 59) text.now }
+{
+    text.iter()
+        .position(|c| *c < 0x20 || *c >= 0x7C || *c == b';')
+}
+
+/// Where it stands in a text of which the first eight bytes were passed, and which has as many more at most.
+#[inline(always)]
+fn piece_end_in_last(text: &[u8]) -> Option<usize>
+    requires from { 8 ≤ length text.now }
+    requires to { length text.now ≤ 16 }
+    requires passed { (k : ℕ) → k < 8 → stops_at 59 (slice_index text.now k) ≡ false }
+    ensures { result ≡ position (stops_at 59) text.now }
+{
+    let behind = text.len() - FEW_LANES;
+    let run = piece_run(&text[behind..]);
+    if run < FEW_LANES {
+        Some(behind + run)
+    } else {
+        None
+    }
+}
+
+/// Where the first byte stands that is `;` or is not plain. Where it is near, it is found in one step or two.
+#[inline(always)]
+fn piece_end(text: &[u8]) -> Option<usize>
+    ensures { result ≡ position (stops_at 59) text.now }
+{
+    if text.len() >= FEW_LANES {
+        let run = piece_run(text);
+        if run < FEW_LANES {
+            return Some(run);
+        }
+        if text.len() <= 2 * FEW_LANES {
+            return piece_end_in_last(text);
+        }
+    }
+    piece_end_by_bytes(text)
+}
+
 /// Where the first byte stands that is this one, or is not plain.
 #[inline(always)]
 fn first_stop(text: &[u8], byte: u8) -> Option<usize>
     ensures { result ≡ position (stops_at byte) text.now }
 {
-    if byte == b'|' {
-        return first_special(text);
+    match byte {
+        b'|' => first_special(text),
+        b';' => piece_end(text),
+        _ => text
+            .iter()
+            .position(|c| *c < 0x20 || *c >= 0x7C || *c == byte),
     }
-    text.iter()
-        .position(|c| *c < 0x20 || *c >= 0x7C || *c == byte)
 }
 
 /// Whether each byte is plain.
