@@ -22,10 +22,10 @@ ghost use Rattle.schedule_player.specs.Faults.{tells_of_reader, tells_of_writer}
 
 use crate::files::file_between;
 use batch_store::Store;
-use batch_view::{Offer, OwnedBatch};
+use batch_view::{BatchView, Offer, OwnedBatch};
 use counted_io::{Input, ReadFault, Sink, Source, read_to_limit, write_all};
 use focus_row::Issuer;
-use journal_rules::first_broken;
+use journal_rules::first_broken_alone;
 use metering_model::{BrokenRule, Refusal};
 use period_cut::{Cut, Period};
 use price_sheet::Sheet;
@@ -185,8 +185,9 @@ fn rate_input_text<W: Sink>(
 /// Writes the file of one batch in a billing period, from the zero cut to its front, by a sheet and an issuer. The text of
 /// the batch is the whole input.
 ///
-/// It is refused as by a group of 64 agents in which nothing has happened. Want of memory hides no fault of the text. After
-/// any fault but `Write` nothing was written, and neither `Read` nor `Schedule` is ever answered.
+/// It is refused as by a group of 64 agents in which nothing has happened. Want of memory hides no refusal: it is told of a
+/// batch alone that such a group journals. After any fault but `Write` nothing was written, and neither `Read` nor
+/// `Schedule` is ever answered.
 pub fn rate_batch<W: Sink>(
     alloc: Global,
     period: Period,
@@ -200,7 +201,7 @@ pub fn rate_batch<W: Sink>(
     ensures refused { (refusal : Refusal) → result ≡ Err (PlayFault.Refused refusal)
         → file_by sheet.now issuer.now period input.items ≡ Err refusal }
     ensures memory { result ≡ Err PlayFault.OutOfMemory
-        → batch_in input.items ≡ Ok (batch_of input.items) }
+        → journaled_in sheet.now issuer.now input.items ≡ Ok (batch_of input.items) }
     ensures write_fault { result ≡ Err PlayFault.Write
         → Rises (W.failed_calls writer.old) (W.failed_calls writer.new) }
     ensures kept { IfErr result (λ fault. fault ≢ PlayFault.Write → writer.new ≡ writer.old) }
@@ -211,10 +212,10 @@ pub fn rate_batch<W: Sink>(
     ensures no_read { result ≢ Err PlayFault.Read }
     ensures no_section { (fault : ScheduleFault) → result ≢ Err (PlayFault.Schedule fault) }
 {
-    let batch = match Offer::read(alloc, input) {
+    let batch = match Offer::read_or_back(alloc, input) {
         Ok(Offer::Good(batch)) => batch,
         Ok(Offer::Bad(fault)) => return Err(PlayFault::Refused(Refusal::BadBatch(fault))),
-        Err(_) => return Err(PlayFault::OutOfMemory),
+        Err(unkept) => return Err(fault_of_unkept(sheet, &unkept.value)),
     };
     let text = match file_of_batch(alloc, period, sheet, issuer, batch) {
         Ok(text) => text,
@@ -226,7 +227,26 @@ pub fn rate_batch<W: Sink>(
     }
 }
 
-/// The file of a batch, or why it is refused.
+/// What is answered to a text for which there is no memory: why it is refused, if it is. None is taken to find out.
+fn fault_of_unkept(sheet: &Sheet, text: &[u8]) -> PlayFault
+    ensures refused { (refusal : Refusal) → result ≡ PlayFault.Refused refusal → (issuer : model.Issuer)
+        → journaled_in sheet.now issuer text.now ≡ Err refusal }
+    ensures memory { result ≡ PlayFault.OutOfMemory → (issuer : model.Issuer)
+        → journaled_in sheet.now issuer text.now ≡ Ok (batch_of text.now) }
+    ensures others { (result ≢ PlayFault.Read) × (result ≢ PlayFault.Write)
+        × ((fault : ScheduleFault) → result ≢ PlayFault.Schedule fault) }
+{
+    let view = match BatchView::parse(text) {
+        Ok(view) => view,
+        Err(fault) => return PlayFault::Refused(Refusal::BadBatch(fault)),
+    };
+    match refusal_of(sheet, &view) {
+        Some(refusal) => PlayFault::Refused(refusal),
+        None => PlayFault::OutOfMemory,
+    }
+}
+
+/// The file of a batch, or why it is refused. That is asked before any memory is.
 fn file_of_batch(
     alloc: Global,
     period: Period,
@@ -237,44 +257,57 @@ fn file_of_batch(
     ensures file { IfOk result (λ text. file_by sheet.now issuer.now period (arc_value batch) ≡ Ok text.items) }
     ensures refused { (refusal : Refusal) → result ≡ Err (PlayFault.Refused refusal)
         → file_by sheet.now issuer.now period (arc_value batch) ≡ Err refusal }
-    ensures batch { batch_in (arc_value batch) ≡ Ok (batch_of (arc_value batch)) }
+    ensures memory { result ≡ Err PlayFault.OutOfMemory
+        → journaled_in sheet.now issuer.now (arc_value batch) ≡ Ok (batch_of (arc_value batch)) }
     ensures others { (result ≢ Err PlayFault.Read) × (result ≢ Err PlayFault.Write)
         × ((fault : ScheduleFault) → result ≢ Err (PlayFault.Schedule fault)) }
 {
-    let _bytes = batch.bytes();
-    let Ok(mut store) = Store::new(alloc, AGENTS) else {
-        return Err(PlayFault::OutOfMemory);
-    };
-    if let Some(refusal) = refusal_of(&store, sheet, &batch) {
+    if let Some(refusal) = refusal_of(sheet, &batch.view()) {
         return Err(PlayFault::Refused(refusal));
     }
-    let Ok(_) = store.put(batch) else {
-        return Err(PlayFault::OutOfMemory);
-    };
-    match file_to_front(alloc, &store, sheet, issuer, period) {
+    match file_of_journaled(alloc, period, sheet, issuer, batch) {
         Ok(text) => Ok(text),
         Err(_) => Err(PlayFault::OutOfMemory),
     }
 }
 
-/// Why a group of 64 agents in which nothing has happened does not journal the batch.
-fn refusal_of(store: &Store, sheet: &Sheet, batch: &OwnedBatch) -> Option<Refusal>
-    requires { store.now ≡ record { agents = 64; batches = [] } }
-    ensures taken { result ≡ None → ((batch_of batch.now).seq ≡ 1)
-        × (first_broken sheet.now (put [] (batch_of batch.now)) (placed (batch_of batch.now)) ≡ None) }
+/// Why a group of 64 agents in which nothing has happened does not journal the batch. No memory is taken.
+fn refusal_of(sheet: &Sheet, view: &BatchView<'_>) -> Option<Refusal>
+    ensures taken { result ≡ None → ((batch_of view.now).seq ≡ 1)
+        × (first_broken sheet.now (put [] (batch_of view.now)) (placed (batch_of view.now)) ≡ None) }
+    ensures journaled { result ≡ None → (issuer : model.Issuer)
+        → journaled_in sheet.now issuer view.now ≡ Ok (batch_of view.now) }
     ensures refused { (refusal : Refusal) → result ≡ Some refusal → (issuer : model.Issuer)
-        → journaled_in sheet.now issuer batch.now ≡ Err refusal }
+        → journaled_in sheet.now issuer view.now ≡ Err refusal }
 {
-    let _bytes = batch.bytes();
-    let view = batch.view();
+    let _bytes = view.bytes();
     if view.seq() != 1 {
         return Some(Refusal::WrongSeq { wanted: 1 });
     }
-    match first_broken(store, sheet, &view) {
+    match first_broken_alone(sheet, view) {
         Some(BrokenRule::BadTarget) => Some(Refusal::BadTarget),
         Some(BrokenRule::Unpriced) => Some(Refusal::Unpriced),
         None => None,
     }
+}
+
+/// The file of a batch that such a group journals.
+fn file_of_journaled(
+    alloc: Global,
+    period: Period,
+    sheet: &Sheet,
+    issuer: &Issuer,
+    batch: Arc<OwnedBatch>,
+) -> Result<Vec<u8>, AllocError>
+    requires first { (batch_of (arc_value batch)).seq ≡ 1 }
+    requires fit { first_broken sheet.now (put [] (batch_of (arc_value batch))) (placed (batch_of (arc_value batch))) ≡ None }
+    ensures { IfOk result (λ text. file_by sheet.now issuer.now period (arc_value batch) ≡ Ok text.items) }
+{
+    let _bytes = batch.bytes();
+    let mut store = Store::new(alloc, AGENTS)?;
+    store.put(batch)?;
+    let text = file_to_front(alloc, &store, sheet, issuer, period)?;
+    Ok(text)
 }
 
 /// The file of all that a store has, from the zero cut to its front.
