@@ -1,0 +1,3 @@
+pub mod Offered
+pub mod PlayedLaws
+pub mod Texts
