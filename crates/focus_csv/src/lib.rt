@@ -9,6 +9,7 @@ ghost use Rattle.metering_model.specs.File.{file};
 ghost use Rattle.charge_row.specs.FocusRows.{model_row};
 ghost use Rattle.focus_csv.specs.Faults.{is_sink_fault};
 
+pub use appending::put_rows;
 use counted_io::{Sink, write_all};
 use focus_row::FocusRow;
 use lines::file_bytes;
@@ -16,6 +17,7 @@ pub use lines::{header_text, row_texts};
 use std::alloc::Global;
 use thiserror::Error;
 
+mod appending;
 pub mod laws;
 mod lines;
 mod made;

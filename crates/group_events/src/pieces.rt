@@ -11,9 +11,9 @@ ghost use Rattle.focus_csv.specs.Faults.{is_sink_fault};
 ghost use Rattle.group_events.specs.Snapshots.{AppendsSome};
 
 use counted_io::{Sink, write_all};
-use focus_csv::{CsvFault, row_texts};
+use focus_csv::{CsvFault, put_rows, row_texts};
 use focus_row::{FocusRow, RowsBetween};
-use std::alloc::Global;
+use std::alloc::{AllocError, Global};
 
 /// Writes a text.
 fn write_text<W: Sink>(sink: &mut W, text: &[u8]) -> Result<(), CsvFault>
@@ -93,4 +93,17 @@ pub(crate) fn write_behind<W: Sink>(
         Ok(()) => write_left(alloc, left, sink),
         Err(fault) => Err(fault),
     }
+}
+
+/// Appends a head to a text, and behind it the lines of the rows that are still to come.
+pub(crate) fn put_behind(
+    alloc: Global,
+    head: &[u8],
+    left: &mut RowsBetween<'_>,
+    text: &mut Vec<u8>,
+) -> Result<(), AllocError>
+    ensures { OnOk result (text.new.items ≡ text.old.items ++ (head.now ++ flat_map row_text left.old)) }
+{
+    text.extend_from_slice(head)?;
+    put_rows(alloc, left, text)
 }

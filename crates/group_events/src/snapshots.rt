@@ -1,6 +1,6 @@
 //! What an export is made of, its rows, and its file.
 
-ghost use Rattle.std.specs.Prelude.{◌≡◌, ◌↔◌, ◌≤◌, length, map, None, Err, IfOk, IsTrue, OnOk};
+ghost use Rattle.std.specs.Prelude.{◌≡◌, ◌↔◌, ◌≤◌, ◌++◌, length, map, None, Err, IfOk, IsTrue, OnOk};
 ghost use Rattle.std.specs.Io.KnownBytes.{Appends};
 ghost use Rattle.std.specs.Arc.{arc_value};
 ghost use Rattle.counted_io.specs.Counts.{Rises, count_after};
@@ -15,7 +15,7 @@ ghost use Rattle.charge_row.specs.FocusRows.{model_row};
 ghost use Rattle.focus_csv.specs.Faults.{is_sink_fault};
 ghost use Rattle.group_events.specs.Snapshots.{AppendsSome, IsExportable};
 
-use crate::pieces::write_behind;
+use crate::pieces::{put_behind, write_behind};
 use batch_store::Store;
 use counted_io::Sink;
 use focus_csv::{CsvFault, header_text};
@@ -170,6 +170,14 @@ impl Snapshot {
             return Err(CsvFault::OutOfMemory);
         };
         write_behind(alloc, header_text(), &mut left, sink)
+    }
+
+    /// Appends the file to a text that its caller may use again: the same bytes that `write_csv` writes.
+    pub fn put_csv(&self, alloc: Global, text: &mut Vec<u8>) -> Result<(), AllocError>
+        ensures { OnOk result (text.new.items ≡ text.old.items ++ file_of self.now) }
+    {
+        let mut left = self.left(alloc)?;
+        put_behind(alloc, header_text(), &mut left, text)
     }
 
     /// An equal snapshot, which shares its cuts, its batches, its sheet and its issuer.

@@ -1,8 +1,8 @@
 //! The events of a schedule, one line or one journal at a time.
 
-ghost use Rattle.std.specs.Prelude.{◌≡◌, ◌≢◌, Ok, Err, map, codes, option_map, IfOk, IfErr, MatchResult};
+ghost use Rattle.std.specs.Prelude.{◌≡◌, ◌≢◌, All, Ok, Err, map, codes, option_map, IfOk, IfErr, MatchResult};
 ghost use Rattle.metering_model.specs.Schedule.{PlansDelivery, PlansStart, PlansRestart, PlansExport};
-ghost use Rattle.schedule_reader.specs.Events.{planned_of};
+ghost use Rattle.schedule_reader.specs.Events.{HasWholeLines, planned_of};
 ghost use Rattle.schedule_reader.specs.Schedules.{one_behind, two_behind, event_of_line, line_event, journal_event, event_in, events_in};
 
 use crate::lines::{one_behind, two_behind};
@@ -21,41 +21,47 @@ pub enum Planned<'a> {
     /// These lines, each with its line feed, are offered as a batch.
     Journal(&'a [u8]),
     /// The packet of this number reaches a node.
-    Deliver { packet: u32, node: u32 },
+    Deliver { packet: u32, node: u8 },
     /// A node begins a ballot of its own.
-    Start { node: u32 },
+    Start { node: u8 },
     /// A node forgets what it does not keep.
-    Restart { node: u32 },
+    Restart { node: u8 },
     /// A node is asked for the file of a period.
-    Export { node: u32, period: u32 },
+    Export { node: u8, period: u16 },
 }
 
 fn delivery<'a>(line: &'a [u8]) -> Option<Planned<'a>>
     ensures { option_map planned_of result ≡ option_map (λ n. PlansDelivery n.0 n.1) (two_behind (codes "deliver ") 999_999 98 line.now) }
 {
     let (packet, node) = two_behind(line, b"deliver ", LAST_PACKET, LAST_NODE)?;
-    Some(Planned::Deliver { packet, node })
+    Some(Planned::Deliver {
+        packet,
+        node: node as u8,
+    })
 }
 
 fn start<'a>(line: &'a [u8]) -> Option<Planned<'a>>
     ensures { option_map planned_of result ≡ option_map PlansStart (one_behind (codes "start ") 98 line.now) }
 {
     let node = one_behind(line, b"start ", LAST_NODE)?;
-    Some(Planned::Start { node })
+    Some(Planned::Start { node: node as u8 })
 }
 
 fn restart<'a>(line: &'a [u8]) -> Option<Planned<'a>>
     ensures { option_map planned_of result ≡ option_map PlansRestart (one_behind (codes "restart ") 98 line.now) }
 {
     let node = one_behind(line, b"restart ", LAST_NODE)?;
-    Some(Planned::Restart { node })
+    Some(Planned::Restart { node: node as u8 })
 }
 
 fn export<'a>(line: &'a [u8]) -> Option<Planned<'a>>
     ensures { option_map planned_of result ≡ option_map (λ n. PlansExport n.0 n.1) (two_behind (codes "export ") 98 1_199 line.now) }
 {
     let (node, period) = two_behind(line, b"export ", LAST_NODE, LAST_PERIOD)?;
-    Some(Planned::Export { node, period })
+    Some(Planned::Export {
+        node: node as u8,
+        period: period as u16,
+    })
 }
 
 /// The event that a line is, if it is one.
@@ -78,6 +84,7 @@ fn event_of_line<'a>(line: &'a [u8]) -> Option<Planned<'a>>
 #[tactic(auto, unfolding(crate::specs::Schedules::line_event))]
 fn line_event<'a>(unread: &Unread<'a>) -> Result<(Planned<'a>, Unread<'a>), ScheduleFault>
     ensures event { MatchResult result (λ r. line_event unread.now ≡ Ok (planned_of r.0, r.1)) (λ fault. line_event unread.now ≡ Err fault) }
+    ensures lines { IfOk result (λ r. HasWholeLines r.0) }
 {
     let (line, rest) = match unread.first_line(ScheduleCode::Event) {
         Ok(parts) => parts,
@@ -96,6 +103,7 @@ fn line_event<'a>(unread: &Unread<'a>) -> Result<(Planned<'a>, Unread<'a>), Sche
 #[tactic(auto, unfolding(crate::specs::Schedules::journal_event))]
 fn journal_event<'a>(unread: &Unread<'a>) -> Result<(Planned<'a>, Unread<'a>), ScheduleFault>
     ensures event { MatchResult result (λ r. journal_event unread.now ≡ Ok (planned_of r.0, r.1)) (λ fault. journal_event unread.now ≡ Err fault) }
+    ensures lines { IfOk result (λ r. HasWholeLines r.0) }
 {
     match read_section(unread, ScheduleCode::Event, b"journal ", 1_001) {
         Ok(section) => Ok((Planned::Journal(section.text), section.rest)),
@@ -107,6 +115,7 @@ fn journal_event<'a>(unread: &Unread<'a>) -> Result<(Planned<'a>, Unread<'a>), S
 #[tactic(auto, unfolding(crate::specs::Schedules::event_in))]
 fn event_in<'a>(unread: &Unread<'a>) -> Result<(Planned<'a>, Unread<'a>), ScheduleFault>
     ensures event { MatchResult result (λ r. event_in unread.now ≡ Ok (planned_of r.0, r.1)) (λ fault. event_in unread.now ≡ Err fault) }
+    ensures lines { IfOk result (λ r. HasWholeLines r.0) }
 {
     if unread.begins_with(b"journal ") {
         journal_event(unread)
@@ -122,6 +131,7 @@ pub(crate) fn events_in<'a>(
     most: usize,
 ) -> Result<Vec<Planned<'a>>, ScheduleFault>
     ensures taken { IfOk result (λ events. events_in most unread.entry ≡ Ok (map planned_of events.items)) }
+    ensures lines { IfOk result (λ events. All HasWholeLines events.items) }
     ensures refused { IfErr result (λ fault. fault ≢ ScheduleFault.OutOfMemory → events_in most unread.entry ≡ Err fault) }
 {
     let mut events = Vec::new(alloc);

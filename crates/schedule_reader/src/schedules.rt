@@ -1,8 +1,8 @@
 //! A whole schedule.
 
-ghost use Rattle.std.specs.Prelude.{◌≡◌, ◌≢◌, ◌≤◌, Ok, Err, IfOk, IfErr, MatchResult, length, map, codes};
+ghost use Rattle.std.specs.Prelude.{◌≡◌, ◌≢◌, ◌≤◌, All, Ok, Err, IfOk, IfErr, MatchResult, length, map, codes};
 ghost use Rattle.metering_model.specs.SheetRules.{IsSheet, IsIssuer};
-ghost use Rattle.schedule_reader.specs.Events.{planned_of};
+ghost use Rattle.schedule_reader.specs.Events.{HasWholeLines, planned_of};
 ghost use Rattle.schedule_reader.specs.Schedules.{head_line, number_line, group_in, schedule_in};
 ghost use Rattle.schedule_reader.specs.Forms.{IsRead};
 
@@ -17,9 +17,9 @@ use std::alloc::Global;
 #[derive(Drop)]
 pub struct Schedule<'a> {
     /// From 1 to 99.
-    pub nodes: u32,
+    pub nodes: u8,
     /// From 1 to 64.
-    pub agents: u32,
+    pub agents: u8,
     pub sheet: Sheet,
     pub issuer: Issuer,
     pub events: Vec<Planned<'a>>,
@@ -71,7 +71,7 @@ fn number_line<'a>(
 
 /// How many nodes and agents a text tells, and what is left behind the lines that say so.
 #[tactic(auto, unfolding(crate::specs::Schedules::group_in))]
-fn group_in<'a>(text: &'a [u8]) -> Result<(u32, u32, Unread<'a>), ScheduleFault>
+fn group_in<'a>(text: &'a [u8]) -> Result<(u8, u8, Unread<'a>), ScheduleFault>
     ensures group { MatchResult result (λ r. group_in text.now ≡ Ok (r.0, r.1, r.2)) (λ fault. group_in text.now ≡ Err fault) }
 {
     let whole = match Unread::whole(text) {
@@ -87,7 +87,7 @@ fn group_in<'a>(text: &'a [u8]) -> Result<(u32, u32, Unread<'a>), ScheduleFault>
         Err(fault) => return Err(fault),
     };
     match number_line(&rest, ScheduleCode::Agents, b"agents ", 64) {
-        Ok((agents, rest)) => Ok((nodes, agents, rest)),
+        Ok((agents, rest)) => Ok((nodes as u8, agents as u8, rest)),
         Err(fault) => Err(fault),
     }
 }
@@ -103,6 +103,7 @@ impl<'a> Schedule<'a> {
         ensures refused { IfErr result (λ fault. fault ≢ ScheduleFault.OutOfMemory → schedule_in text.now ≡ Err fault) }
         ensures form { IfOk result (λ s. IsRead text.now
             (record { nodes = s.nodes; agents = s.agents; sheet = s.sheet; issuer = s.issuer; events = map planned_of s.events.items })) }
+        ensures lines { IfOk result (λ s. All HasWholeLines s.events.items) }
         ensures rules { IfOk result (λ s. IsSheet s.sheet × IsIssuer s.issuer) }
     {
         let (nodes, agents, unread) = match group_in(text) {

@@ -1,0 +1,3 @@
+pub mod Played
+pub mod Faults
+pub mod Inner
