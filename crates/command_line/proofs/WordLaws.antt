@@ -1,5 +1,5 @@
 -- What a parse that succeeds, or fails, says of what the words ask for.
-use Rattle.std.proofs.Common.{◌≡◌, ◌∙◌, sym, ap, ℕ, ◌<◌, ◌^◌, List, [], ◌∷◌, codes, Option, Some, None, option_map, true, refl, inl, inr, arith}
+use Rattle.std.proofs.Common.{◌≡◌, ◌≢◌, ◌∙◌, sym, ap, ℕ, ◌<◌, ◌^◌, List, [], ◌∷◌, codes, slice_index, Option, Some, None, IfSome, is_some, option_map, true, refl, inl, inr, arith}
 use Rattle.std.specs.Str.Parse.{ParsesUnsigned, ExplainsUnsignedError, HasUnsignedDigitsIfOk}
 use Rattle.clap.specs.Words.{ReadsOne, Row, Text, found_of, is_simple, kind_of, one_of, one_text, rows_of, subcommand_of, subcommand_rows_of}
 use Rattle.clap.specs.Matches.{subcommand_name_of}
@@ -13,10 +13,11 @@ use Rattle.clap.specs.declared.error.kind.ErrorKind.TheVariants.{OutOfMemory}
 use Rattle.clap.proofs.WalkLemmas.{one_text-rows}
 use Rattle.clap.proofs.OnLiterals.{clap_on_literals}
 use Rattle.std.specs.Box.{box_value}
+use Rattle.std.specs.Borrow.{Bor}
 use Rattle.metering_model.specs.Dates.{IsPeriod}
 use Rattle.command_line.specs.declared.commands.Command.{Command}
-use Rattle.command_line.specs.declared.commands.Command.TheVariants.{Rate}
-use Rattle.command_line.specs.CommandLine.{grammar_of_focusd, Asks, SpellsNumber}
+use Rattle.command_line.specs.declared.commands.Command.TheVariants.{Rate, Play}
+use Rattle.command_line.specs.CommandLine.{grammar_of_focusd, Asks, AsksForPlay, SpellsNumber}
 
 pub grammar_is_simple : is_simple grammar_of_focusd ≡ true
 unfolding clap_on_literals
@@ -34,6 +35,7 @@ only_memory (k ∷ ks) e none fault = absurd (cc)
 
 pub taken_of : (words : List Text) (command : Command) → Asks words command → fault_of grammar_of_focusd words ≡ []
 taken_of words (Rate period) asked = asked.taken
+taken_of words Play asked = asked.taken
 
 abbrev entered_of : {A : Type 0} → Option A → (A → Text) → (A → List Row) → Option (Text × List Row)
 entered_of {A} o name_of rows = let both : A → Text × List Row = λ a. (name_of a, rows a) in option_map both o
@@ -49,6 +51,33 @@ pub met : (m : ArgMatches) (name : Text) (rs : List Row) → subcommand_name_of 
     → subcommand_rows_of m ≡ Some (name, rs)
 met m name rs named has_rows =
     both_parts (out-ArgMatches m).subcommand (λ b. (out-SubCommand (box_value b)).name.now) (λ b. rows_of (found_of (out-SubCommand (box_value b)).matches)) name rs named has_rows
+
+named_of : {A : Type 0} (o : Option A) (name_of : A → Text) (rows : A → List Row) (name : Text) (rs : List Row)
+    → entered_of o name_of rows ≡ Some (name, rs) → option_map name_of o ≡ Some name
+named_of None name_of rows name rs entered = absurd (cc)
+named_of (Some a) name_of rows name rs entered = let first : Text × List Row → Text = λ p. p.0 in ap (option_map first) entered
+
+-- what is met has the name
+pub name_met : (m : ArgMatches) (name : Text) (rs : List Row) → subcommand_rows_of m ≡ Some (name, rs) → subcommand_name_of m ≡ Some name
+name_met m name rs entered =
+    named_of (out-ArgMatches m).subcommand (λ b. (out-SubCommand (box_value b)).name.now) (λ b. rows_of (found_of (out-SubCommand (box_value b)).matches)) name rs entered
+
+-- Words that ask for something meet one of the subcommands.
+pub meets_one : (words : List Text) (m : ArgMatches) (command : Command) → Asks words command → subcommand_rows_of m ≡ subcommand_of grammar_of_focusd words
+    → (subcommand_name_of m ≢ Some (codes "play")) → (subcommand_name_of m ≢ Some (codes "rate")) → ⊥
+meets_one words m (Rate period) asked same no_play no_rate = no_rate (name_met m (codes "rate") asked.rows (same ∙ asked.named))
+meets_one words m Play asked same no_play no_rate = no_play (name_met m (codes "play") asked.rows (same ∙ asked.named))
+
+-- What is met under the name `play` is asked for.
+pub asks_for_play : (words : List Text) (m : ArgMatches) (r : Option (Bor ArgMatches)) → is_some r ≡ true → (is_some r ≡ true → subcommand_name_of m ≡ Some (codes "play"))
+    → IfSome r (λ p. option_map (λ (q : Text × List Row). q.1) (subcommand_rows_of m) ≡ Some (rows_of (found_of p.now))) → fault_of grammar_of_focusd words ≡ []
+    → subcommand_rows_of m ≡ subcommand_of grammar_of_focusd words → AsksForPlay words
+asks_for_play words m None there found has_rows taken same = absurd (cc)
+asks_for_play words m (Some p) there found has_rows taken same = record {
+  taken = taken;
+  rows = rows_of (found_of p.now);
+  named = sym same ∙ met m (codes "play") (rows_of (found_of p.now)) (found there) has_rows;
+}
 
 -- what `get_one` says of a number
 abbrev pub Reads : Text → Option ℕ → Type 0
@@ -73,6 +102,17 @@ no_number f t (Some m) n given spelled small value =
     let read = value t (one_text-rows f (codes "period") ∙ given) in
     ap Some (read.0.1 ∙ spelled.1)
 
+abbrev name_of : Option (Text × List Row) → Text
+name_of None = []
+name_of (Some p) = p.0
+
+-- no subcommand has two names
+other_names : (o : Option (Text × List Row)) (rows others : List Row) → o ≡ Some (codes "rate", rows) → o ≡ Some (codes "play", others) → ⊥
+other_names o rows others one two =
+    let names : codes "rate" ≡ codes "play" = ap name_of (sym one ∙ two) in
+    let numbers : ◌≡◌ {A = ℕ} 114 112 = ap (λ (t : Text). slice_index t 0) names in
+    absurd (omega (arith, numbers))
+
 -- Words that ask for the subcommand whose rows were found ask for the number that is read there.
 pub is_read : (words : List Text) (f : Found) (r : Option ℕ) (command : Command) → Asks words command
     → subcommand_of grammar_of_focusd words ≡ Some (codes "rate", rows_of f) → ((u : Text) → one_text f (codes "period") ≡ Some u → Reads u r)
@@ -83,3 +123,4 @@ is_read words f r (Rate period) asked named value =
     let given = rw same at asked.given in
     let small : period < 2 ^ 16 = omega (arith, asked.within) in
     (period, no_number f asked.text r period given asked.spelled small value, asked.within)
+is_read words f r Play asked named value = absurd (other_names (subcommand_of grammar_of_focusd words) (rows_of f) asked.rows named asked.named)

@@ -7,7 +7,7 @@ use Rattle.clap.specs.declared.builder.action.ArgAction.TheVariants.{Set}
 use Rattle.clap.specs.declared.builder.value_parser.ValueParser.TheVariants as parser
 use Rattle.metering_model.specs.Dates.{IsPeriod}
 use Rattle.command_line.specs.declared.commands.Command.{Command}
-use Rattle.command_line.specs.declared.commands.Command.TheVariants.{Rate}
+use Rattle.command_line.specs.declared.commands.Command.TheVariants.{Rate, Play}
 
 -- `--period P`, which may not be left out: a number from 0 to 1,199
 abbrev pub period_option : Rule
@@ -25,8 +25,12 @@ rate_grammar = with_rule (new_app (codes "rate")) period_option
 abbrev pub bare_grammar : App
 bare_grammar = let a = new_app (codes "focusd") in record a { top = record a.top { no_binary_name = true; subcommand_required = true } }
 
+-- no option at all
+abbrev pub play_grammar : App
+play_grammar = new_app (codes "play")
+
 abbrev pub grammar_of_focusd : App
-grammar_of_focusd = with_subcommand bare_grammar rate_grammar.top
+grammar_of_focusd = with_subcommand (with_subcommand bare_grammar rate_grammar.top) play_grammar.top
 
 -- The text is digits, perhaps behind a plus, and they make the number.
 abbrev pub SpellsNumber : Text → ℕ → Type 0
@@ -43,6 +47,13 @@ pub record AsksForRate (words : List Text) (period : ℕ) : Type 0 where
   pub spelled : SpellsNumber text period
   pub within : IsPeriod period
 
+-- The grammar takes the words, and they name the subcommand `play`.
+pub record AsksForPlay (words : List Text) : Type 0 where
+  pub taken : fault_of grammar_of_focusd words ≡ []
+  pub rows : List Row
+  pub named : subcommand_of grammar_of_focusd words ≡ Some (codes "play", rows)
+
 -- what the words ask for
 abbrev pub Asks : List Text → Command → Type 0
 Asks words (Rate period) = AsksForRate words period
+Asks words Play = AsksForPlay words

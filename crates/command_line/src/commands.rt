@@ -7,4 +7,6 @@ use period_cut::Period;
 pub enum Command {
     /// `rate --period P`: the file of one batch in that billing period.
     Rate { period: Period },
+    /// `play`: the transcript of a schedule.
+    Play,
 }

@@ -12,13 +12,13 @@ ghost use Rattle.schedule_player.specs.declared.rate.PlayFault.TheVariants as pl
 ghost use Rattle.schedule_player.specs.Faults.{tells_of_reader, tells_of_writer};
 ghost use Rattle.command_line.specs.declared.commands.Command.{Command};
 ghost use Rattle.command_line.specs.Endings.{Tells, status_of};
-ghost use Rattle.command_line.specs.Runs.{AsksFor, IsDone, Refuses, words_behind_name};
+ghost use Rattle.command_line.specs.Runs.{AsksFor, IsDone, IsPlayedInPart, Refuses, words_behind_name};
 
 use crate::commands::Command;
 use crate::endings::{Fault, ending};
 use crate::words::{LineFault, command};
 use counted_io::{Sink, Source};
-use schedule_player::{PlayFault, rate_text};
+use schedule_player::{PlayFault, play_text, rate_text};
 use std::alloc::Global;
 use std::env::Args;
 use std::io;
@@ -72,9 +72,12 @@ fn carry_out<R: Source, W: Sink>(
     ensures refused { (fault : PlayFault) → result ≡ Err fault → status_of (Fault.Play fault) ≡ 1
         → Refuses command (R.remaining reader.old) fault }
     ensures plain_memory { result ≢ Err (play.Schedule ScheduleFault.OutOfMemory) }
-    ensures kept { IfErr result (λ fault. fault ≢ play.Write
+    ensures kept { IfErr result (λ fault. fault ≢ play.Write → fault ≢ play.OutOfMemory
         → Keeps (W.contents writer.old) (W.contents writer.new)) }
-    ensures untouched { IfErr result (λ fault. fault ≢ play.Write → writer.new ≡ writer.old) }
+    ensures untouched { IfErr result (λ fault. fault ≢ play.Write → fault ≢ play.OutOfMemory
+        → writer.new ≡ writer.old) }
+    ensures part { result ≡ Err play.OutOfMemory → (writer.new ≡ writer.old)
+        ⊎ ((command ≡ Command.Play) × IsPlayedInPart (R.remaining reader.old) (W.contents writer.old) (W.contents writer.new)) }
     ensures read { ConsumesAtMost 16_777_217 (R.remaining reader.old) (R.remaining reader.new) }
     ensures reads { R.failed_calls reader.new
         ≡ count_after (tells_of_reader result) (R.failed_calls reader.old) }
@@ -83,6 +86,7 @@ fn carry_out<R: Source, W: Sink>(
 {
     match command {
         Command::Rate { period } => rate_text(alloc, period, reader, writer),
+        Command::Play => play_text(alloc, reader, writer),
     }
 }
 
@@ -133,8 +137,14 @@ pub fn run<R: Source, W: Sink, E: Sink>(
     ensures memory { result ≡ 4
         → Tells (Fault.Play play.OutOfMemory) (E.contents errors.old) (E.contents errors.new)
         (E.failed_calls errors.old) (E.failed_calls errors.new) }
-    ensures kept { result ≢ 0 → result ≢ 3 → Keeps (W.contents writer.old) (W.contents writer.new) }
-    ensures unwritten { result ≢ 0 → result ≢ 3 → writer.new ≡ writer.old }
+
+    // Where memory is wanting, a schedule may have been played up to some event; else nothing was written.
+    ensures part { result ≡ 4 → (writer.new ≡ writer.old)
+        ⊎ (AsksFor args Command.Play
+        × IsPlayedInPart (R.remaining reader.old) (W.contents writer.old) (W.contents writer.new)) }
+    ensures kept { result ≢ 0 → result ≢ 3 → result ≢ 4
+        → Keeps (W.contents writer.old) (W.contents writer.new) }
+    ensures unwritten { result ≢ 0 → result ≢ 3 → result ≢ 4 → writer.new ≡ writer.old }
     ensures calm { result ≢ 3 → (R.failed_calls reader.new ≡ R.failed_calls reader.old)
         × (W.failed_calls writer.new ≡ W.failed_calls writer.old) }
     ensures read { ConsumesAtMost 16_777_217 (R.remaining reader.old) (R.remaining reader.new) }

@@ -1,9 +1,10 @@
 //! The words of the command line.
 
-ghost use Rattle.std.specs.Prelude.{◌≡◌, ◌≢◌, Err, IfOk, map, string_bytes};
+ghost use Rattle.std.specs.Prelude.{◌≡◌, ◌≢◌, Err, IfOk, false, map, string_bytes};
 ghost use Rattle.clap.specs.Words.{app_of, kind_of};
+ghost use Rattle.clap.specs.declared.builder.command.Command.TheViews.{out-Command};
 ghost use Rattle.command_line.specs.declared.commands.Command.{Command};
-ghost use Rattle.command_line.specs.CommandLine.{grammar_of_focusd, Asks};
+ghost use Rattle.command_line.specs.CommandLine.{grammar_of_focusd, rate_grammar, Asks};
 
 use crate::commands::Command;
 use clap::error::ErrorKind;
@@ -33,9 +34,10 @@ fn fault_of(error: &clap::Error) -> LineFault
     }
 }
 
-// `focusd rate --period P`, without the program's name
-fn grammar<'a>(alloc: Global) -> Result<clap::Command<'a>, LineFault>
-    ensures app { IfOk result (λ c. app_of c ≡ grammar_of_focusd) }
+// `rate --period P`
+fn rate_grammar<'a>(alloc: Global) -> Result<clap::Command<'a>, LineFault>
+    ensures app { IfOk result (λ c. app_of c ≡ rate_grammar) }
+    ensures local { IfOk result (λ c. (out-Command c).has_globals ≡ false) }
     ensures memory { result ≢ Err LineFault.Line }
 {
     let period = Arg::new(alloc, "period")
@@ -43,13 +45,25 @@ fn grammar<'a>(alloc: Global) -> Result<clap::Command<'a>, LineFault>
         .required(true)
         .action(ArgAction::Set)
         .value_parser(clap::value_parser!(u16).range(0..1200));
-    let Ok(rate) = clap::Command::new(alloc, "rate").arg(period) else {
-        return Err(LineFault::OutOfMemory);
-    };
+    match clap::Command::new(alloc, "rate").arg(period) {
+        Ok(rate) => Ok(rate),
+        Err(_) => Err(LineFault::OutOfMemory),
+    }
+}
+
+// The words of all commands, without the program's name
+fn grammar<'a>(alloc: Global) -> Result<clap::Command<'a>, LineFault>
+    ensures app { IfOk result (λ c. app_of c ≡ grammar_of_focusd) }
+    ensures memory { result ≢ Err LineFault.Line }
+{
+    let rate = rate_grammar(alloc)?;
     let focusd = clap::Command::new(alloc, "focusd")
         .no_binary_name(true)
         .subcommand_required(true);
-    match focusd.subcommand(rate) {
+    let Ok(rating) = focusd.subcommand(rate) else {
+        return Err(LineFault::OutOfMemory);
+    };
+    match rating.subcommand(clap::Command::new(alloc, "play")) {
         Ok(grammar) => Ok(grammar),
         Err(_) => Err(LineFault::OutOfMemory),
     }
@@ -67,6 +81,9 @@ pub fn command(alloc: Global, words: &[String]) -> Result<Command, LineFault>
         Ok(matches) => matches,
         Err(error) => return Err(fault_of(&error)),
     };
+    if matches.subcommand_matches("play").is_some() {
+        return Ok(Command::Play);
+    }
     let Some(rate) = matches.subcommand_matches("rate") else {
         return Err(LineFault::Line);
     };

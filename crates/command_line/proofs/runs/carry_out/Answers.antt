@@ -29,8 +29,8 @@ refuses period known (play.Schedule bad) one batch sections = sections bad refl
 rate_refuses : (command : Command) (period : ℕ) (known : Option (List ℕ)) (fault : PlayFault) → command ≡ Rate period → Told known period fault → Refuses command known fault
 rate_refuses command period known fault is refused = rw is refused
 
-pub returns-clause-refused : goal.returns-clause-refused
-returns-clause-refused g c fault is one =
+pub returns-in-Rate-clause-refused : goal.returns-in-Rate-clause-refused
+returns-in-Rate-clause-refused g c fault is one =
     let known = g.R.Source.remaining c.args.reader.now in
     let told = c.rate_text.ensures in
     rate_refuses c.args.command _ known fault (search rules) (refuses _ known fault one

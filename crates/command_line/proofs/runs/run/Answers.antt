@@ -3,7 +3,8 @@ use Rattle.std.specs.Io.KnownBytes.{Keeps}
 use Rattle.command_line.specs.declared.endings.Fault.{Fault}
 use Rattle.command_line.specs.declared.endings.Fault.TheVariants.{Play}
 use Rattle.command_line.specs.Endings.{Tells}
-use Rattle.command_line.proofs.RunLaws.{is_device, is_memory, is_bad_line, is_memory_for_words, never_zero}
+use Rattle.command_line.specs.Runs.{AsksFor}
+use Rattle.command_line.proofs.RunLaws.{is_device, is_memory, only_memory, part_of, is_bad_line, is_memory_for_words, never_zero}
 use Rattle.command_line.proofs.runs.run.Goals as goal
 
 pub returns-in-Err-carry_out-clause-done : goal.returns-in-Err-carry_out-clause-done
@@ -45,3 +46,8 @@ pub returns-in-Err-clause-memory : goal.returns-in-Err-clause-memory
 returns-in-Err-clause-memory g c four =
     let told : Fault → Type 0 = λ f. Tells f (g.E.Sink.contents c.args.errors.now) (g.E.Sink.contents c.ending-in-Err.new.writer) (g.E.Sink.failed_calls c.args.errors.now) (g.E.Sink.failed_calls c.ending-in-Err.new.writer) in
     is_memory_for_words told c.in-Err.fault c.ending-in-Err.result c.ending-in-Err.ensures.status four c.ending-in-Err.ensures.told
+
+pub returns-in-Err-carry_out-clause-part : goal.returns-in-Err-carry_out-clause-part
+returns-in-Err-carry_out-clause-part g c four =
+    let memory = only_memory c.in-Err-carry_out.fault c.ending.result (λ same. c.in-Err-carry_out.ensures.plain_memory (ap Err same)) c.ending.ensures.status four in
+    part_of _ _ (AsksFor c.args.args) c.in-Ok.command c.in-Ok.ensures.asked (c.in-Err-carry_out.ensures.part (ap Err memory))

@@ -1,8 +1,8 @@
-use Rattle.std.proofs.Common.{◌≡◌, ◌∙◌, sym, ap, map, string_bytes, codes, Some, refl}
+use Rattle.std.proofs.Common.{◌≡◌, ◌∙◌, sym, ap, map, string_bytes, codes, Some, is_some, true, refl, rules}
 use Rattle.clap.specs.Words.{app_of, found_of, is_simple, one_text, rows_of, subcommand_of}
 use Rattle.clap.specs.Faults.{fault_of, is_simple_and_free}
 use Rattle.metering_model.specs.Dates.{IsPeriod}
-use Rattle.command_line.proofs.WordLaws.{grammar_is_simple, grammar_is_free, only_memory, taken_of, met, spelled_number, is_read}
+use Rattle.command_line.proofs.WordLaws.{asks_for_play, grammar_is_simple, grammar_is_free, only_memory, taken_of, met, spelled_number, is_read}
 use Rattle.command_line.proofs.words.command.Goals as goal
 
 pub returns-in-Err-clause-not_asked : goal.returns-in-Err-clause-not_asked
@@ -57,3 +57,13 @@ returns-clause-not_asked c is command asked =
     let same : read.0 ≡ c.in-Some-get_one.number = cc (read.1, c.in-Some-get_one.is) in
     let within : IsPeriod c.in-Some-get_one.number = rw (← same) read.2 in
     let bad = c.in-None.ensures.valid.1 within in absurd (cc)
+
+pub returns-then-is_some-clause-asked : goal.returns-then-is_some-clause-asked
+returns-then-is_some-clause-asked c =
+    let app = c.in_ok-grammar.ensures.app in
+    let words = map string_bytes c.args.words.now in
+    let matches = c.in-Ok.ensures.matches (ap is_simple app ∙ grammar_is_simple) in
+    let kinds = c.in-Ok.ensures.kinds (ap is_simple_and_free app ∙ grammar_is_free) in
+    let yes : is_some c.subcommand_matches.result ≡ true = search rules in
+    asks_for_play words c.in-Ok.matches c.subcommand_matches.result yes c.subcommand_matches.ensures.found.0 c.subcommand_matches.ensures.rows
+    (ap (λ a. fault_of a words) (sym app) ∙ kinds) (matches.1 ∙ ap (λ a. subcommand_of a words) app)
