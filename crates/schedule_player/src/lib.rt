@@ -2,8 +2,10 @@
 #![tactic(auto)]
 
 mod files;
+mod play;
 mod rate;
 
 pub use files::file_between;
+pub use play::play_text;
 pub use rate::{PlayFault, rate_batch, rate_text};
 pub use schedule_text::{ScheduleCode, ScheduleFault};
