@@ -17,10 +17,10 @@ use Rattle.schedule_player.specs.Charges.{IsFileOf}
 use Rattle.schedule_player.proofs.ChargesLaws.{bills_batch}
 
 -- a step that fails is the answer
-first_fails : {A B E : Type 0} (r : Result A E) (f : A → Result B E) (e : E) → r ≡ Err e → (r >>= f) ≡ Err e
+pub first_fails : {A B E : Type 0} (r : Result A E) (f : A → Result B E) (e : E) → r ≡ Err e → (r >>= f) ≡ Err e
 first_fails r f e is = ap (λ x. x >>= f) is
 
-is_longer : (n most : ℕ) → most < n → nat_le n most ≡ false
+pub is_longer : (n most : ℕ) → most < n → nat_le n most ≡ false
 is_longer n most longer = cases (nat_le n most) refl
   where
     cases : (b : Bool) → nat_le n most ≡ b → nat_le n most ≡ false

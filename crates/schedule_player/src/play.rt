@@ -1,7 +1,7 @@
 //! `focusd play`: the transcript of a schedule.
 
-ghost use Rattle.std.specs.Prelude.{◌≡◌, ◌≢◌, List, ℕ, Ok, Err, IfOk, IfErr, IfSome, OnOk};
-ghost use Rattle.std.specs.Io.KnownBytes.{Appends, Keeps, IsAtEnd};
+ghost use Rattle.std.specs.Prelude.{◌≡◌, ◌≢◌, List, ℕ, Ok, Err, Some, IfOk, IfErr, IfSome, OnOk};
+ghost use Rattle.std.specs.Io.KnownBytes.{Appends, IsAtEnd};
 ghost use Rattle.counted_io.specs.Counts.{Rises, count_after};
 ghost use Rattle.counted_io.specs.Reading.{ConsumesAtMost};
 ghost use Rattle.metering_model.specs.declared.Refusal.{Refusal};
@@ -45,12 +45,28 @@ fn read_schedule<R: Source>(alloc: Global, reader: &mut R) -> Result<Vec<u8>, Pl
     }
 }
 
-/// What a fault of playing comes to.
-fn fault_of_transcript(fault: TranscriptFault) -> PlayFault {
-    match fault {
-        TranscriptFault::Schedule(fault) => PlayFault::Schedule(fault),
-        TranscriptFault::Write => PlayFault::Write,
-        TranscriptFault::OutOfMemory => PlayFault::OutOfMemory,
+/// Plays the schedule that an input is, and writes its transcript.
+fn play_input<W: Sink>(alloc: Global, input: &[u8], writer: &mut W) -> Result<(), PlayFault>
+    ensures transcript { OnOk result ((text : List ℕ) × IsTranscriptOf (Some input.now) input.now text
+        × Appends (W.contents writer.old) (W.contents writer.new) text) }
+    ensures section { (fault : ScheduleFault) → result ≡ Err (PlayFault.Schedule fault)
+        → (fault ≢ ScheduleFault.OutOfMemory) × (schedule_in input.now ≡ Err fault) }
+    ensures memory { result ≡ Err PlayFault.OutOfMemory → (text : List ℕ)
+        × IsFrontOfTranscript (Some input.now) input.now text
+        × Appends (W.contents writer.old) (W.contents writer.new) text }
+    ensures write_fault { result ≡ Err PlayFault.Write
+        → Rises (W.failed_calls writer.old) (W.failed_calls writer.new) }
+    ensures untouched { (fault : ScheduleFault) → result ≡ Err (PlayFault.Schedule fault) → writer.new ≡ writer.old }
+    ensures writes { W.failed_calls writer.new
+        ≡ count_after (tells_of_writer result) (W.failed_calls writer.old) }
+    ensures no_read { result ≢ Err PlayFault.Read }
+    ensures no_refusal { (refusal : Refusal) → result ≢ Err (PlayFault.Refused refusal) }
+{
+    match write_transcript(alloc, input, writer) {
+        Ok(()) => Ok(()),
+        Err(TranscriptFault::Schedule(fault)) => Err(PlayFault::Schedule(fault)),
+        Err(TranscriptFault::Write) => Err(PlayFault::Write),
+        Err(TranscriptFault::OutOfMemory) => Err(PlayFault::OutOfMemory),
     }
 }
 
@@ -92,8 +108,5 @@ pub fn play_text<R: Source, W: Sink>(
         ≡ count_after (tells_of_writer result) (W.failed_calls writer.old) }
 {
     let input = read_schedule(alloc, reader)?;
-    match write_transcript(alloc, &input, writer) {
-        Ok(()) => Ok(()),
-        Err(fault) => Err(fault_of_transcript(fault)),
-    }
+    play_input(alloc, &input, writer)
 }

@@ -1,11 +1,9 @@
 -- What is made of a journal's bytes is what they hand in.
 use Rattle.std.proofs.Common.{◌≡◌, ℕ, List, Result, Ok, Err, sym, ap, ◌∙◌}
-use Rattle.std.specs.Arc.{arc_value}
 use Rattle.batch_view.specs.declared.owned.Offer.{Offer}
 use Rattle.batch_view.specs.declared.owned.Offer.TheVariants as read
 use Rattle.batch_view.specs.Offers.{IsOfferOf}
 use Rattle.metering_model.specs.Batch.{Batch}
-use Rattle.metering_model.specs.BatchReading.{batch_in}
 use Rattle.metering_model.specs.declared.BatchFault.{BatchFault}
 use Rattle.metering_model.specs.World as model
 use Rattle.group_events.specs.Events.{offer_of}

@@ -1,7 +1,6 @@
-use Rattle.std.proofs.Common.{◌≡◌, ◌<◌, ◌≤◌, ◌++◌, Err, length, take, sym, ap, subst, ◌∙◌, rules, arith}
+use Rattle.std.proofs.Common.{◌<◌, ◌++◌, length, ◌∙◌, rules, arith}
 use Rattle.std.proofs.KnownBytes.{Appends-trans}
-use Rattle.transcript_writer.specs.Inner.Playing.{AppendsFirst, events_of, text_of}
-use Rattle.transcript_writer.proofs.Texts.{still_all, text_more, world_more, written_behind}
+use Rattle.transcript_writer.proofs.Texts.{still_all, text_more, world_more}
 use Rattle.transcript_writer.proofs.playing.play_events.Goals as goal
 
 pub loop-planned-preserved : goal.loop-planned-preserved

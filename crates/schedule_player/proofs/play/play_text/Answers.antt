@@ -1,0 +1,25 @@
+use Rattle.std.proofs.Common.{refl, rules}
+use Rattle.schedule_text.specs.declared.faults.ScheduleFault.TheVariants.{OutOfMemory}
+use Rattle.schedule_player.proofs.PlayedLaws.{told_of_known, of_known, front_of_known, nothing_of}
+use Rattle.schedule_player.proofs.play.play_text.Goals as goal
+
+pub returns-clause-transcript : goal.returns-clause-transcript
+returns-clause-transcript g c =
+    of_known c.play_input.result (g.R.Source.remaining c.args.reader.now) _ _ c.in_ok-input.input.items c.in_ok-input.ensures.whole
+    (rw c.deref.ensures.value at c.play_input.ensures.transcript)
+
+pub returns-clause-section : goal.returns-clause-section
+returns-clause-section g c = λ fault is.
+    told_of_known (g.R.Source.remaining c.args.reader.now) c.in_ok-input.input.items fault c.in_ok-input.ensures.whole
+    (rw c.deref.ensures.value at (c.play_input.ensures.section fault is).1)
+
+pub returns-clause-memory : goal.returns-clause-memory
+returns-clause-memory g c = λ is.
+    front_of_known (g.R.Source.remaining c.args.reader.now) _ _ c.in_ok-input.input.items c.in_ok-input.ensures.whole
+    (rw c.deref.ensures.value at (c.play_input.ensures.memory is))
+
+pub returns-in_err-input-clause-memory : goal.returns-in_err-input-clause-memory
+returns-in_err-input-clause-memory g c = λ is. nothing_of (g.R.Source.remaining c.args.reader.now) (g.W.Sink.contents c.args.writer.now)
+
+pub returns-in_err-input-clause-plain_memory : goal.returns-in_err-input-clause-plain_memory
+returns-in_err-input-clause-plain_memory g c = λ is. (c.in_err-input.ensures.section OutOfMemory (search rules)).0 refl
