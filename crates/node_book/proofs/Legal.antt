@@ -1,5 +1,6 @@
 -- Legal histories: the empty one, one more entry, and an export, which changes nothing.
 use Rattle.std.proofs.Common.{◌≡◌, List, [], ◌∷◌, ◌++◌, map, refl, sym, ap, subst, ◌∙◌, Result, Ok, Err, true}
+use Rattle.std.specs.Prelude.{OnErr}
 use Rattle.std.proofs.lemmas.List.{map-append}
 use Rattle.metering_model.specs.FirstFailure.{◌>>=◌}
 use Rattle.metering_model.specs.declared.Worker.{Worker}
@@ -56,3 +57,8 @@ export_changes_nothing w v e (Delivered sent learned) now is = absurd (cc)
 export_changes_nothing w v e (Started ballot k) now is = absurd (cc)
 export_changes_nothing w v e Restarted now is = absurd (cc)
 export_changes_nothing w v e (Refused why) now is = absurd (cc)
+
+-- what holds whatever the result, holds at its error
+pub on_err : {A E : Type 0} (r : Result A E) (P : Type 0) → P → OnErr r P
+on_err (Ok x) P p = tt
+on_err (Err why) P p = p

@@ -1,6 +1,8 @@
 -- A log at its place, and a book that agrees, put together of their parts and taken apart.
 use Rattle.std.proofs.Common.{◌≡◌, ◌↔◌, ℕ, ◌+◌, ◌≤◌, true, List, length, map, arith, sym, ap, subst, ◌∙◌, Some}
-use Rattle.std.specs.Prelude.{slice_get}
+use Rattle.std.specs.Prelude.{slice_get, Vec}
+use Rattle.std.specs.declared.alloc.Global.{Global}
+use Rattle.std.proofs.lemmas.List.{length-map}
 use Rattle.std.proofs.lemmas.Option.{same_Some, slice_get_within}
 use Rattle.metering_model.specs.World.{Event, Journal, offer_of, opening}
 use Rattle.metering_model.specs.History.{Entry}
@@ -9,6 +11,16 @@ use Rattle.node_book.specs.Agreement.{told_to, events_by, worker_at, may_do, Exp
 
 abbrev pub journal_of : List ℕ → Event
 journal_of text = Journal (offer_of text)
+
+abbrev pub texts_in : Vec (Vec ℕ Global) Global → List (List ℕ)
+texts_in texts = map (λ text. text.items) texts.items
+
+-- as many logs as workers, before and after their meaning is taken
+pub count_of_logs : {A B : Type 0} (f : A → Log) (g : B → List (List ℕ)) (xs : List A) (ys : List B) (n : ℕ) → (length (map f xs) ≡ length (map g ys) + n) ↔ (length xs ≡ length ys + n)
+count_of_logs f g xs ys n = (
+  (λ h. omega (arith, h, length-map xs f, length-map ys g)),
+  (λ h. omega (arith, h, length-map xs f, length-map ys g)),
+)
 
 module _ (plan : Plan) (history : List Entry) (place : ℕ) (log : Log) (who : log.who ≡ worker_at (length plan.journals) place) (told : told_to log.who history ≡ log.told) where
   pub log_of_agent : (mine : List (List ℕ)) → slice_get plan.journals place ≡ Some mine → (events_by log.who history ≡ map journal_of mine) ↔ IsLogAt plan history place log

@@ -5,7 +5,7 @@ use Rattle.metering_model.specs.World.{opening}
 use Rattle.group_events.specs.Events.{event_of}
 use Rattle.group_events.specs.Replies.{reply_of}
 use Rattle.node_book.specs.Kept.{entry_of}
-use Rattle.node_book.proofs.Legal.{legal_more, export_changes_nothing}
+use Rattle.node_book.proofs.Legal.{legal_more, export_changes_nothing, on_err}
 use Rattle.node_book.proofs.books.Book.act.Goals as goal
 
 pub invariant_of-self-in_err-told : goal.invariant_of-self-in_err-told
@@ -16,7 +16,7 @@ invariant_of-self-in_err-told c =
 pub returns-in_err-told-clause-err : goal.returns-in_err-told-clause-err
 returns-in_err-told-clause-err c =
     let kept = export_changes_nothing c.self.inside.world c.step.new.self (event_of c.args.event) (reply_of c.in_ok-reply.reply) c.in_ok-reply.ensures.ok c.in_err-told.ensures.want in
-    rw (c.in_ok-reserve.ensures.items, kept) c.self.view_is
+    rw (c.in_ok-reserve.ensures.items, kept) (on_err c.from_residual-in_err-told.result _ c.self.view_is)
 
 pub invariant_of-self-2 : goal.invariant_of-self-2
 invariant_of-self-2 c =
