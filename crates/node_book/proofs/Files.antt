@@ -4,13 +4,11 @@ use Rattle.std.specs.Prelude.{slice_get, if◌then◌else◌}
 use Rattle.std.specs.List.{Contains}
 use Rattle.std.proofs.lemmas.Option.{same_Some, none-some, slice_get_within, get_or_from_slice_get}
 use Rattle.metering_model.specs.declared.Worker.{Worker}
-use Rattle.metering_model.specs.World.{World, Event, Reply, Journaled, Delivered, Started, Restarted, Exported, Refused, Snapshot}
-use Rattle.metering_model.specs.Sheet.{Sheet, Issuer}
+use Rattle.metering_model.specs.World.{Reply, Journaled, Delivered, Started, Restarted, Exported, Refused, Snapshot}
 use Rattle.metering_model.specs.History.{Entry}
-use Rattle.metering_model.specs.Transcript.{file_of}
 use Rattle.group_laws.specs.Headline.{HoldsAfter}
 use Rattle.node_book.specs.Books.{Book, Told, Log, Plan, file_in}
-use Rattle.node_book.specs.Agreement.{is_same_worker, from_own, told_to, is_export_of, Agree, IsToldIn, FilesAgree}
+use Rattle.node_book.specs.Agreement.{is_same_worker, from_own, is_export_of, Agree, IsToldIn, FilesAgree}
 
 abbrev replies_of : List Entry → List Reply
 replies_of history = map (λ e. e.reply) history

@@ -1,9 +1,8 @@
 -- Legal histories: the empty one, one more entry, and an export, which changes nothing.
-use Rattle.std.proofs.Common.{◌≡◌, List, [], ◌∷◌, ◌++◌, map, refl, sym, ap, subst, ◌∙◌, Result, Ok, Err, true}
+use Rattle.std.proofs.Common.{◌≡◌, List, [], ◌∷◌, ◌++◌, map, refl, sym, ap, ◌∙◌, Result, Ok, Err, true}
 use Rattle.std.specs.Prelude.{OnErr}
 use Rattle.std.proofs.lemmas.List.{map-append}
 use Rattle.metering_model.specs.FirstFailure.{◌>>=◌}
-use Rattle.metering_model.specs.declared.Worker.{Worker}
 use Rattle.metering_model.specs.declared.Refusal.{Refusal}
 use Rattle.metering_model.specs.World.{World, Event, Journal, Deliver, Start, Restart, Export, Reply, Journaled, Delivered, Started, Restarted, Exported, Refused, Snapshot}
 use Rattle.metering_model.specs.Step.{or_refused, snapshot, step, play}

@@ -1,9 +1,9 @@
 -- Elements of lists by their place.
-use Rattle.std.proofs.Common.{◌≡◌, ℕ, zero, suc, ◌+◌, ◌<◌, List, [], ◌∷◌, length, map, drop, get_or, arith, refl, sym, ap, subst, ◌∙◌, inl, inr, Some, None, drop-cons, add-one, IsTrue, false}
+use Rattle.std.proofs.Common.{◌≡◌, ℕ, zero, suc, ◌+◌, ◌<◌, List, [], ◌∷◌, length, map, drop, get_or, arith, refl, sym, ap, subst, ◌∙◌, inl, inr, Some, drop-cons, add-one, IsTrue, false}
 use Rattle.std.specs.Prelude.{slice_get}
 use Rattle.std.specs.Option.{option_map}
 use Rattle.std.proofs.lemmas.Bool.{cases_lt}
-use Rattle.std.proofs.lemmas.Option.{same_Some, none-some, slice_get_within, slice_get_read, slice_get-map, get_or_from_slice_get}
+use Rattle.std.proofs.lemmas.Option.{same_Some, slice_get_within, slice_get_read, slice_get-map, get_or_from_slice_get}
 
 -- a test that failed did not hold
 pub no_false : {A : Type 0} → IsTrue false → A

@@ -1,5 +1,5 @@
 -- A worker's own entries, compared with a list step by step over the history.
-use Rattle.std.proofs.Common.{◌≡◌, ◌↔◌, ℕ, ◌+◌, ◌≤◌, Bool, true, false, List, [], ◌∷◌, length, drop, arith, refl, sym, ap, subst, ◌∙◌, Some, length-drop}
+use Rattle.std.proofs.Common.{◌≡◌, ◌↔◌, ℕ, ◌+◌, ◌≤◌, Bool, true, false, List, [], ◌∷◌, length, drop, arith, sym, ap, ◌∙◌, Some, length-drop}
 use Rattle.std.specs.Prelude.{slice_get, if◌then◌else◌}
 use Rattle.std.proofs.Math.Seq.{drop-length}
 use Rattle.metering_model.specs.declared.Worker.{Worker}

@@ -2,7 +2,7 @@
 use Rattle.std.specs.Prelude.{◌≡◌, ℕ, ◌+◌, ◌-◌, ◌≤◌, ◌==◌, ◌&&◌, nat_lt, nat_le, if◌then◌else◌, Bool, true, false, List, [], ◌∷◌, length, map, count_by, Some, slice_get}
 use Rattle.metering_model.specs.declared.Worker.{Worker}
 use Rattle.metering_model.specs.declared.Worker.TheVariants.{Agent, Node}
-use Rattle.metering_model.specs.World.{World, Event, Journal, Deliver, Start, Restart, Export, Reply, Journaled, Delivered, Started, Restarted, Exported, Refused, offer_of, opening}
+use Rattle.metering_model.specs.World.{Event, Journal, Deliver, Start, Restart, Export, Reply, Exported, offer_of, opening}
 use Rattle.metering_model.specs.History.{Entry}
 use Rattle.node_book.specs.Books.{Book, Told, Log, Plan, opened, file_in}
 

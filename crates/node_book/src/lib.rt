@@ -7,8 +7,6 @@ mod done;
 mod entries;
 mod logs;
 mod plans;
-#[cfg(test)]
-mod tests;
 
 pub use books::Book;
 pub use done::Done;

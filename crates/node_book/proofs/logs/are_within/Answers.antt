@@ -1,4 +1,4 @@
-use Rattle.std.proofs.Common.{◌≡◌, refl, ℕ, length, take, count_by, arith, sym, subst, ap, ◌∙◌, false}
+use Rattle.std.proofs.Common.{◌≡◌, refl, length, take, count_by, arith, sym, subst, ap, ◌∙◌, false}
 use Rattle.std.proofs.Math.Seq.{take-length}
 use Rattle.std.proofs.lemmas.List.Sums.{count_by_more_no}
 use Rattle.node_book.specs.Books.{Told}
