@@ -1,0 +1,6 @@
+pub mod Legal
+pub mod Lists
+pub mod Own
+pub mod Exports
+pub mod Parts
+pub mod Files

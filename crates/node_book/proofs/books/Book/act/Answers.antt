@@ -1,0 +1,26 @@
+use Rattle.std.proofs.Common.{map}
+use Rattle.std.proofs.lemmas.List.{map-append}
+use Rattle.std.specs.Arc.{arc_value}
+use Rattle.metering_model.specs.World.{opening}
+use Rattle.group_events.specs.Events.{event_of}
+use Rattle.group_events.specs.Replies.{reply_of}
+use Rattle.node_book.specs.Kept.{entry_of}
+use Rattle.node_book.proofs.Legal.{legal_more, export_changes_nothing, on_err}
+use Rattle.node_book.proofs.books.Book.act.Goals as goal
+
+pub invariant_of-self-in_err-told : goal.invariant_of-self-in_err-told
+invariant_of-self-in_err-told c =
+    let kept = export_changes_nothing c.self.inside.world c.step.new.self (event_of c.args.event) (reply_of c.in_ok-reply.reply) c.in_ok-reply.ensures.ok c.in_err-told.ensures.want in
+    rw (c.in_ok-reserve.ensures.items, kept) c.self.invariant
+
+pub returns-in_err-told-clause-err : goal.returns-in_err-told-clause-err
+returns-in_err-told-clause-err c =
+    let kept = export_changes_nothing c.self.inside.world c.step.new.self (event_of c.args.event) (reply_of c.in_ok-reply.reply) c.in_ok-reply.ensures.ok c.in_err-told.ensures.want in
+    rw (c.in_ok-reserve.ensures.items, kept) (on_err c.from_residual-in_err-told.result _ c.self.view_is)
+
+pub invariant_of-self-2 : goal.invariant_of-self-2
+invariant_of-self-2 c =
+    let b = c.self.inside in
+    rw (c.push_reserved.ensures.items, c.in_ok-reserve.ensures.items, map-append)
+    (legal_more (opening b.nodes b.agents (arc_value b.sheet) (arc_value b.issuer)) b.world c.step.new.self (map entry_of b.history.items)
+    (record { who = c.args.who; event = event_of c.args.event; reply = reply_of c.in_ok-reply.reply }) c.self.invariant c.in_ok-reply.ensures.ok)

@@ -1,0 +1,4 @@
+pub mod Books
+pub mod Agreement
+pub mod Kept
+pub mod Logs

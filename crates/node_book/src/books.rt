@@ -1,0 +1,127 @@
+//! A group, and the history that led it where it is.
+
+ghost use Rattle.std.specs.Prelude.{◌≡◌, ◌≤◌, ◌++◌, ◌∷◌, [], length, map, IfOk, OnErr};
+ghost use Rattle.std.specs.Arc.{arc_value};
+ghost use Rattle.metering_model.specs.World.{opening};
+ghost use Rattle.metering_model.specs.Step.{step};
+ghost use Rattle.metering_model.specs.History.{IsLegal};
+ghost use Rattle.group_laws.specs.Headline.{HoldsAfter};
+ghost use Rattle.group_events.specs.Events.{event_of};
+ghost use Rattle.group_events.specs.Replies.{reply_of};
+ghost use Rattle.node_book.specs.Books.{opened};
+ghost use Rattle.node_book.specs.Kept.{entry_of, told_of};
+
+use crate::{Entry, Receipt};
+use group_core::{Event, World, laws};
+use metering_model::Worker;
+use price_sheet::{Issuer, Sheet};
+use std::alloc::{AllocError, Global};
+use std::marker::Model;
+use std::sync::Arc;
+
+/// A group, and what was done to it since it was opened. Its type keeps that the history is legal: one thread could have
+/// made it, and it leads to the world that the book holds.
+#[derive(Drop)]
+pub struct Book {
+    pub(crate) nodes: u8,
+    pub(crate) agents: u8,
+    pub(crate) sheet: Arc<Sheet>,
+    pub(crate) issuer: Arc<Issuer>,
+    pub(crate) history: Vec<Entry>,
+    world: World,
+}
+
+impl Model for Book {
+    ghost use Rattle.std.specs.Prelude.{map};
+    ghost use Rattle.std.specs.Arc.{arc_value};
+    ghost use Rattle.metering_model.specs.World.{opening};
+    ghost use Rattle.metering_model.specs.History.{IsLegal};
+    ghost use Rattle.node_book.specs.Books as model;
+    ghost use Rattle.node_book.specs.Kept.{entry_of};
+
+    ghost Value = { model.Book };
+
+    ghost view = { λ b. record {
+      nodes = b.nodes;
+      agents = b.agents;
+      sheet = arc_value b.sheet;
+      issuer = arc_value b.issuer;
+      history = map entry_of b.history.items;
+      world = b.world;
+    } };
+
+    ghost invariant = { λ b. IsLegal (opening b.nodes b.agents (arc_value b.sheet) (arc_value b.issuer)) (map entry_of b.history.items) b.world };
+}
+
+impl Book {
+    /// A book of so many nodes and agents, in which nothing was done yet.
+    pub fn new(
+        alloc: Global,
+        nodes: u8,
+        agents: u8,
+        sheet: Arc<Sheet>,
+        issuer: Arc<Issuer>,
+    ) -> Result<Book, AllocError>
+        requires nodes_from { 1 ≤ nodes }
+        requires nodes_to { nodes ≤ 99 }
+        requires agents_from { 1 ≤ agents }
+        requires agents_to { agents ≤ 64 }
+        ensures { IfOk result (λ book. book ≡ record {
+          nodes = nodes;
+          agents = agents;
+          sheet = arc_value sheet;
+          issuer = arc_value issuer;
+          history = [];
+          world = opening nodes agents (arc_value sheet) (arc_value issuer);
+        }) }
+    {
+        let kept_sheet = Arc::try_clone(&sheet)?;
+        let kept_issuer = Arc::try_clone(&issuer)?;
+        let world = World::new(alloc, nodes, agents, sheet, issuer)?;
+        Ok(Book {
+            nodes,
+            agents,
+            sheet: kept_sheet,
+            issuer: kept_issuer,
+            history: Vec::new(alloc),
+            world,
+        })
+    }
+
+    /// What was done, in the one order in which it was done. No memory is taken.
+    pub fn history(&self) -> &[Entry]
+        ensures { map entry_of result.now ≡ self.now.history }
+    {
+        &self.history
+    }
+
+    /// The history is legal, so the headline holds of its replies, whoever was answered. The call does nothing.
+    pub fn legal(&self)
+        ensures history { IsLegal (opened self.now) self.now.history self.now.world }
+        ensures headline { HoldsAfter self.now.nodes self.now.agents self.now.sheet self.now.issuer
+            (map (λ e. e.event) self.now.history) (map (λ e. e.reply) self.now.history) self.now.world }
+    {
+        let _ = &self.history;
+        laws::runs();
+    }
+
+    /// Does one event, in one step, and writes it down at the end of the history. The receipt has its place there, and its
+    /// reply. At an error, which says that there was no memory, nothing was done.
+    pub fn act(&mut self, alloc: Global, who: Worker, event: Event) -> Result<Receipt, AllocError>
+        ensures history { IfOk result (λ _. self.new.history
+            ≡ self.old.history ++ record { who = who; event = event_of event; reply = (step self.old.world (event_of event)).0 } ∷ []) }
+        ensures world { IfOk result (λ _. self.new.world ≡ (step self.old.world (event_of event)).1) }
+        ensures group { opened self.new ≡ opened self.old }
+        ensures receipt { IfOk result (λ receipt. told_of receipt
+            ≡ record { index = length self.old.history; reply = (step self.old.world (event_of event)).0 }) }
+        ensures err { OnErr result (self.new ≡ self.old) }
+    {
+        self.history.reserve(1)?;
+        let reply = self.world.step(alloc, &event)?;
+        // Want of memory is told of an export alone, and that has changed nothing.
+        let told = reply.copy(alloc)?;
+        let index = self.history.len();
+        self.history.push_reserved(Entry { who, event, reply });
+        Ok(Receipt { index, reply: told })
+    }
+}

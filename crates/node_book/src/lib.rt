@@ -1,0 +1,16 @@
+//! The book of a group that many workers act on: each act is one step, and what was done stands in one history.
+#![tactic(auto)]
+
+mod agreeing;
+mod books;
+mod done;
+mod entries;
+mod logs;
+mod plans;
+
+pub use books::Book;
+pub use done::Done;
+pub use entries::{Entry, Receipt};
+pub use logs::Log;
+pub use metering_model::Worker;
+pub use plans::Plan;
