@@ -6,7 +6,6 @@ ghost use Rattle.std.specs.Io.KnownBytes.{Appends, Keeps, IsAtEnd};
 ghost use Rattle.counted_io.specs.Counts.{Rises, count_after};
 ghost use Rattle.counted_io.specs.Reading.{ConsumesAtMost};
 ghost use Rattle.metering_model.specs.Cut.{zero_cut};
-ghost use Rattle.metering_model.specs.BatchReading.{batch_in};
 ghost use Rattle.metering_model.specs.Front.{front};
 ghost use Rattle.metering_model.specs.Holding.{placed, put};
 ghost use Rattle.metering_model.specs.JournalRules.{MeetsJournalRules, first_broken};
