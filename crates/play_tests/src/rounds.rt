@@ -1,7 +1,7 @@
 //! Rounds of restarts, repeats and late packets: all files of a period that are shown are the same.
 
 use crate::samples::{CROSSING, CROSSING_TWICE};
-use crate::texts::{joined, schedule, schedule_of, transcript_of};
+use crate::texts::{schedule, schedule_of, transcript_of};
 use std::alloc::Global;
 use std::test::Fail;
 
@@ -28,7 +28,8 @@ fn files_in(alloc: Global, told: &str) -> Result<Vec<String>, Fail> {
 
 /// Asks each node of three for the file of period 0 behind the schedule: how many files are shown, which must be the same.
 fn files_behind(rt: &HostRuntime, input: &str) -> Result<usize, Fail> {
-    let text = joined(rt.alloc(), &[input, "export 0 0\nexport 1 0\nexport 2 0\n"])?;
+    let mut text = input.to_string(rt.alloc())?;
+    text.push_str("export 0 0\nexport 1 0\nexport 2 0\n")?;
     let told = transcript_of(rt.alloc(), text.as_bytes())?;
     let Ok(told) = std::str::from_utf8(&told) else {
         return Err(Fail::from("no text"));
@@ -56,10 +57,12 @@ fn all_files_of_a_period_are_the_same(rt: HostRuntime) -> Result<(), Fail> {
     let mut files = 0usize;
     for (place, _) in CROSSING.events.iter().enumerate() {
         let (before, behind) = CROSSING.events.split_at(place + 1);
-        let front = schedule(rt.alloc(), CROSSING.nodes, before)?;
-        let back = joined(rt.alloc(), behind)?;
         for restarts in RESTARTS {
-            let input = joined(rt.alloc(), &[&front, restarts, &back])?;
+            let mut input = schedule(rt.alloc(), CROSSING.nodes, before)?;
+            input.push_str(restarts)?;
+            for event in behind {
+                input.push_str(event)?;
+            }
             files = files.saturating_add(files_behind(&rt, &input)?);
         }
     }

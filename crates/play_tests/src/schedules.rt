@@ -72,47 +72,51 @@ fn a_cut_schedule_is_refused_at_its_line(rt: HostRuntime) -> Result<(), Fail> {
     Ok(())
 }
 
-/// Of each kind of line one that is none, or is over its limit.
+/// Of each kind of line one that is none, or is over its limit: first of the lines above the events, and then of events.
 #[test]
 fn what_is_no_schedule_is_refused_at_its_line(rt: HostRuntime) -> Result<(), Fail> {
-    let top = b"SCHEDULE 1\nnodes 99\nagents 64\n".as_slice();
-    let sheet = b"sheet 1\nbase = \"2025-01\"\n".as_slice();
-    let whole = schedule(rt.alloc(), 3, &[])?;
-    let behind = whole.as_bytes();
-    let cases: [(&[&[u8]], ScheduleCode, u32); 18] = [
-        (&[b"SCHEDULE 2\n"], ScheduleCode::Head, 1),
-        (&[b"SCHEDULE 1\nnodes 0\n"], ScheduleCode::Nodes, 2),
-        (&[b"SCHEDULE 1\nnodes 100\n"], ScheduleCode::Nodes, 2),
+    let heads: [(&str, ScheduleCode, u32); 6] = [
+        ("SCHEDULE 2\n", ScheduleCode::Head, 1),
+        ("SCHEDULE 1\nnodes 0\n", ScheduleCode::Nodes, 2),
+        ("SCHEDULE 1\nnodes 100\n", ScheduleCode::Nodes, 2),
+        ("SCHEDULE 1\nnodes 1\nagents 65\n", ScheduleCode::Agents, 3),
         (
-            &[b"SCHEDULE 1\nnodes 1\nagents 65\n"],
-            ScheduleCode::Agents,
-            3,
+            "SCHEDULE 1\nnodes 99\nagents 64\nsheet 200001\n",
+            ScheduleCode::Sheet,
+            4,
         ),
-        (&[top, b"sheet 1\n\xff\n"], ScheduleCode::Sheet, 4),
-        (&[top, b"sheet 1\nbase = 1\n"], ScheduleCode::Sheet, 4),
-        (&[top, b"sheet 200001\n"], ScheduleCode::Sheet, 4),
-        (&[top, sheet, b"issuer 1\n\xc3\n"], ScheduleCode::Issuer, 6),
-        (&[top, sheet, b"issuer 101\n"], ScheduleCode::Issuer, 6),
-        (&[behind, b"deliver 1000000 0\n"], ScheduleCode::Event, 26),
-        (&[behind, b"deliver 0 99\n"], ScheduleCode::Event, 26),
-        (&[behind, b"start 99\n"], ScheduleCode::Event, 26),
-        (&[behind, b"restart 0 0\n"], ScheduleCode::Event, 26),
         (
-            &[behind, b"start 0\nexport 0 1200\n"],
-            ScheduleCode::Event,
-            27,
+            "SCHEDULE 1\nnodes 99\nagents 64\nsheet 1\nbase = 1\n",
+            ScheduleCode::Sheet,
+            4,
         ),
-        (&[behind, b"journal 0\n"], ScheduleCode::Event, 26),
-        (&[behind, b"journal 1002\n"], ScheduleCode::Event, 26),
-        (&[behind, b"journal 2\nB1|1|1|1\n"], ScheduleCode::Lines, 26),
-        (&[behind, b"\n"], ScheduleCode::Event, 26),
     ];
-    for (parts, code, line) in cases {
-        let mut input = Vec::new(rt.alloc());
-        for part in parts {
-            input.extend_from_slice(part)?;
-        }
-        assert_eq!(rt; transcript_of(rt.alloc(), &input), Err(refused(code, line)));
+    for (text, code, line) in heads {
+        let answer = transcript_of(rt.alloc(), text.as_bytes());
+        assert_eq!(rt; answer, Err(refused(code, line)));
+    }
+    let no_utf8 = b"SCHEDULE 1\nnodes 99\nagents 64\nsheet 1\n\xff\n";
+    let answer = transcript_of(rt.alloc(), no_utf8.as_slice());
+    assert_eq!(rt; answer, Err(refused(ScheduleCode::Sheet, 4)));
+    let no_utf8 = b"SCHEDULE 1\nnodes 1\nagents 1\nsheet 1\nbase = \"2025-01\"\nissuer 1\n\xc3\n";
+    let answer = transcript_of(rt.alloc(), no_utf8.as_slice());
+    assert_eq!(rt; answer, Err(refused(ScheduleCode::Issuer, 6)));
+    let events: [(&str, ScheduleCode, u32); 9] = [
+        ("deliver 1000000 0\n", ScheduleCode::Event, 26),
+        ("deliver 0 99\n", ScheduleCode::Event, 26),
+        ("start 99\n", ScheduleCode::Event, 26),
+        ("restart 0 0\n", ScheduleCode::Event, 26),
+        ("start 0\nexport 0 1200\n", ScheduleCode::Event, 27),
+        ("journal 0\n", ScheduleCode::Event, 26),
+        ("journal 1002\n", ScheduleCode::Event, 26),
+        ("journal 2\nB1|1|1|1\n", ScheduleCode::Lines, 26),
+        ("\n", ScheduleCode::Event, 26),
+    ];
+    for (text, code, line) in events {
+        let mut input = schedule(rt.alloc(), 3, &[])?;
+        input.push_str(text)?;
+        let answer = transcript_of(rt.alloc(), input.as_bytes());
+        assert_eq!(rt; answer, Err(refused(code, line)));
     }
     Ok(())
 }
