@@ -1,4 +1,4 @@
-use Rattle.std.proofs.Common.{◌≡◌, ◌++◌, ap, ◌∙◌, subst}
+use Rattle.std.proofs.Common.{◌≡◌, ◌++◌, subst}
 use Rattle.std.specs.Prelude.{OnOk}
 use Rattle.group_events.proofs.Written.{whole_file}
 use Rattle.group_events.proofs.snapshots.Snapshot.put_csv.Goals as goal
