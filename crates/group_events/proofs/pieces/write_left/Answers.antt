@@ -7,6 +7,9 @@ use Rattle.group_events.specs.Snapshots.{AppendsSome}
 use Rattle.group_events.proofs.Written.{some_written, front_written, more_written}
 use Rattle.group_events.proofs.pieces.write_left.Goals as goal
 
+pub returns-in_default-clause-written : goal.returns-in_default-clause-written
+returns-in_default-clause-written g c = tt
+
 pub returns-in_default-clause-memory : goal.returns-in_default-clause-memory
 returns-in_default-clause-memory g c is =
     let so = c.loop-next.invariant in
