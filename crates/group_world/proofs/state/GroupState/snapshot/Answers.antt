@@ -1,4 +1,4 @@
-use Rattle.std.proofs.Common.{length, ap, subst, ◌∙◌, sym}
+use Rattle.std.proofs.Common.{length, ap, subst, ◌∙◌, sym, rules}
 use Rattle.std.specs.Arc.{arc_value}
 use Rattle.metering_model.specs.World.{voter_count}
 use Rattle.metering_model.specs.Step.{first_missing}
@@ -24,3 +24,9 @@ take_snapshot-requires c =
     let none = sym (cut ∙ held) ∙ (sym c.first_missing.ensures ∙ c.in_default-first_missing.is) in
     let may = may_take w c.args.node c.args.period c.in-Some.asked.now to c.requires.reached c.in-Some.ensures.member (sym c.in-Some.ensures.node) (sym c.in-Some-Some.ensures') none in
     subst (λ p. MayTake w.sheet w.agents p to c.in-Some.asked.now) (sym c.in-Some-Some.ensures.value) may
+
+pub returns-in-Some-first_missing : goal.returns-in-Some-first_missing
+returns-in-Some-first_missing c = search rules
+
+pub returns : goal.returns
+returns c = search rules
