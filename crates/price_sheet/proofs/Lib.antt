@@ -6,3 +6,4 @@ pub mod RowLaws
 pub mod IndexLaws
 pub mod LookLaws
 pub mod IdLaws
+pub mod BlankLaws

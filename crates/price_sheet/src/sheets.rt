@@ -1,11 +1,13 @@
 //! The price sheet.
 
-ghost use Rattle.std.specs.Prelude.{◌≡◌, ◌≢◌, ◌↔◌, ◌≤◌, Ok, Err, IfOk, IfErr, IsTrue, [], length, map};
+ghost use Rattle.std.specs.Prelude.{◌≡◌, ◌≢◌, ◌↔◌, ◌≤◌, Ok, Err, IfOk, IfErr, IsOk, IsTrue, [], length, map, codes};
 ghost use Rattle.std.specs.Option.{option_copied};
 ghost use Rattle.toml.specs.View.{table_view};
+ghost use Rattle.toml.specs.Errors.{IsBlank};
 ghost use Rattle.metering_model.specs.Dates.{IsBaseMonth};
 ghost use Rattle.metering_model.specs.SheetRules.{IsSheet};
 ghost use Rattle.metering_model.specs.PriceInForce.{price_in_force, commitment_with};
+ghost use Rattle.sheet_text.specs.Keys.{base_under};
 ghost use Rattle.price_sheet.specs.SheetReading.{prices_in, commitments_in, empty_sheet, sheet_of_rows, sheet_in, sheet_of_text};
 
 use crate::commitment_table::CommitmentTable;
@@ -42,11 +44,13 @@ impl Model for Sheet {
 }
 
 impl Sheet {
-    /// Reads a sheet from TOML, or tells the text's first fault.
+    /// Reads a sheet from TOML, or tells the text's first fault. The table that `toml` makes of the text and the rows that are
+    /// kept take memory: of a text of nothing but blanks and comments no want of it is told.
     #[tactic(auto, unfolding(crate::specs::SheetReading::sheet_of_text))]
     pub fn read(alloc: Global, text: &str) -> Result<Sheet, SheetFault>
         ensures taken { IfOk result (λ sheet. sheet_of_text text.now ≡ Ok sheet) }
         ensures refused { IfErr result (λ fault. fault ≢ SheetFault.OutOfMemory → sheet_of_text text.now ≡ Err fault) }
+        ensures want { IfErr result (λ fault. fault ≡ SheetFault.OutOfMemory → ¬ IsBlank text.now) }
         ensures rules { IfOk result IsSheet }
     {
         match toml::table_from_str(alloc, text) {
@@ -73,11 +77,12 @@ impl Sheet {
         })
     }
 
-    /// Reads a sheet from a table.
+    /// Reads a sheet from a table. No memory is taken before the base month is read.
     #[tactic(auto, using(crate::proofs::Chains::placed_fails), unfolding(crate::specs::SheetReading::sheet_in))]
     fn of_table(alloc: Global, table: &Table) -> Result<Sheet, SheetFault>
         ensures taken { IfOk result (λ sheet. sheet_in (table_view table.now) ≡ Ok sheet) }
         ensures refused { IfErr result (λ fault. fault ≢ SheetFault.OutOfMemory → sheet_in (table_view table.now) ≡ Err fault) }
+        ensures want { IfErr result (λ fault. fault ≡ SheetFault.OutOfMemory → IsOk (base_under (codes "base") (table_view table.now))) }
     {
         let base = match base_under(table, "base") {
             Ok(base) => base,

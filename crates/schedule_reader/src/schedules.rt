@@ -7,9 +7,8 @@ ghost use Rattle.schedule_reader.specs.Schedules.{head_line, number_line, group_
 ghost use Rattle.schedule_reader.specs.Forms.{IsRead};
 
 use crate::events::{Planned, events_in};
-use crate::lines::number_behind;
 use price_sheet::{Issuer, Sheet};
-use schedule_text::{ScheduleCode, ScheduleFault, Unread, read_issuer, read_sheet};
+use schedule_text::{ScheduleCode, ScheduleFault, Unread, number_behind, read_issuer, read_sheet};
 use sheet_text::is_same;
 use std::alloc::Global;
 

@@ -8,5 +8,5 @@ mod unread;
 
 pub use faults::{ScheduleCode, ScheduleFault};
 pub use rates::{RateInput, rate_input};
-pub use sections::{Section, read_issuer, read_section, read_sheet};
-pub use unread::Unread;
+pub use sections::{Section, number_behind, read_issuer, read_section, read_sheet};
+pub use unread::{Unread, behind_word};

@@ -19,8 +19,8 @@ pub struct Section<'a> {
     pub rest: Unread<'a>,
 }
 
-/// The number that stands in a line behind the word, from 1 to `most`.
-fn number_behind(line: &[u8], word: &[u8], most: u32) -> Option<u32>
+/// The number that stands in a line behind the word, from 1 to `most`, which is at most 1,000,000. No memory is taken.
+pub fn number_behind(line: &[u8], word: &[u8], most: u32) -> Option<u32>
     requires { most ≤ 1_000_000 }
     ensures value { result ≡ number_behind word.now most line.now }
     ensures within { IfSome result (λ n. n ≤ most) }

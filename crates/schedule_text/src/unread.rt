@@ -121,8 +121,8 @@ impl<'a> Unread<'a> {
     }
 }
 
-/// What stands behind the word, where the text begins with it.
-pub(crate) fn behind_word<'a>(text: &'a [u8], word: &[u8]) -> Option<&'a [u8]>
+/// What stands behind the word, where the text begins with it. No memory is taken.
+pub fn behind_word<'a>(text: &'a [u8], word: &[u8]) -> Option<&'a [u8]>
     ensures { MatchOption result (begins_with word.now text.now ≡ false)
         (λ rest. (begins_with word.now text.now ≡ true) × (rest.now ≡ drop (length word.now) text.now)) }
 {

@@ -1,6 +1,6 @@
 //! What stands under the keys of a TOML table.
 
-ghost use Rattle.std.specs.Prelude.{◌≡◌, ◌≤◌, IsTrue, IfOk, string_bytes, map, length, ok_or};
+ghost use Rattle.std.specs.Prelude.{◌≡◌, ◌≢◌, ◌≤◌, IsTrue, IfOk, IfErr, string_bytes, map, length, ok_or};
 ghost use Rattle.std.specs.List.{list_all};
 ghost use Rattle.toml.specs.View.{view, table_view, array_view};
 ghost use Rattle.metering_model.specs.Dates.{IsBaseMonth};
@@ -44,7 +44,8 @@ impl From<AllocError> for KeyFault {
 /// What stands under a key.
 #[tactic(auto, unfolding(crate::specs::Keys::value_under))]
 pub(crate) fn value_under<'a>(table: &'a Table, key: &str) -> Result<&'a Value, KeyFault>
-    ensures { Gives (λ v. view v.now) result (value_under key.now (table_view table.now)) }
+    ensures gives { Gives (λ v. view v.now) result (value_under key.now (table_view table.now)) }
+    ensures want { IfErr result (λ fault. fault ≢ KeyFault.OutOfMemory) }
 {
     match table.get(key) {
         Some(value) => Ok(value),
@@ -55,7 +56,8 @@ pub(crate) fn value_under<'a>(table: &'a Table, key: &str) -> Result<&'a Value, 
 /// The string under a key.
 #[tactic(auto, unfolding(crate::specs::Keys::text_under))]
 pub(crate) fn text_under<'a>(table: &'a Table, key: &str) -> Result<&'a str, KeyFault>
-    ensures { Gives (λ t. t.now) result (text_under key.now (table_view table.now)) }
+    ensures gives { Gives (λ t. t.now) result (text_under key.now (table_view table.now)) }
+    ensures want { IfErr result (λ fault. fault ≢ KeyFault.OutOfMemory) }
 {
     let value = value_under(table, key)?;
     match value.as_str() {
@@ -116,10 +118,11 @@ pub(crate) fn day_under(table: &Table, key: &str) -> Result<Day, KeyFault>
     }
 }
 
-/// The base month under a key.
+/// The base month under a key. No memory is taken, and want of it is never told.
 #[tactic(auto, unfolding(crate::specs::Keys::base_under))]
 pub fn base_under(table: &Table, key: &str) -> Result<Month, KeyFault>
     ensures gives { Gives (λ m. m) result (base_under key.now (table_view table.now)) }
+    ensures want { IfErr result (λ fault. fault ≢ KeyFault.OutOfMemory) }
     ensures base { IfOk result IsBaseMonth }
 {
     let text = text_under(table, key)?;
