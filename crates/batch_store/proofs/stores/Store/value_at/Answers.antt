@@ -4,9 +4,6 @@ use Rattle.batch_store.specs.Stores.{position_of}
 use Rattle.batch_store.proofs.OwnValue.{own_gives, reading-absent, reading-held, seq-within, there-where, value-where, zero-where, own-last}
 use Rattle.batch_store.proofs.stores.Store.value_at.Goals as goal
 
-pub last_amended-later-requires-clause-within : goal.last_amended-later-requires-clause-within
-last_amended-later-requires-clause-within c = (seq-within c.args.self.now.batches (position_of c.args.place) (batch_of c.in_ok-own.own.now) c.agents.ensures.stored.is_holding c.in_ok-own.ensures).1
-
 pub returns-in_err-own-clause-there : goal.returns-in_err-own-clause-there
 returns-in_err-own-clause-there c =
     there-where c.args.self.now.batches (position_of c.args.place) c.from_residual.result false (ap is_some c.from_residual.ensures) (reading-absent c.args.self.now.batches (position_of c.args.place) c.in_err-own.ensures)
