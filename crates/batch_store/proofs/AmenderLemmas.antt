@@ -1,5 +1,5 @@
 -- What an index lists of a holding, and so which of its batches amend one at a sequence.
-use Rattle.std.proofs.Common.{◌≡◌, ℕ, ◌+◌, ◌-◌, ◌*◌, ◌<◌, ◌≤◌, Bool, true, false, List, [], ◌∷◌, length, Option, Some, None, All, MatchOption, Result, Ok, Err, refl, sym, ap, subst, ◌∙◌, arith, inl, inr, get_or}
+use Rattle.std.proofs.Common.{◌≡◌, ℕ, ◌+◌, ◌-◌, ◌<◌, ◌≤◌, Bool, false, List, [], ◌∷◌, Option, Some, None, All, MatchOption, Result, Ok, Err, sym, ap, subst, ◌∙◌, arith, inl, inr, get_or}
 use Rattle.std.specs.Prelude.{◌==◌, nat_le, IsTrue, IfOk, IfErr}
 use Rattle.std.specs.List.{Contains, AllByRecursion, list_any}
 use Rattle.std.specs.List.Sorted.{IsPermutation}
@@ -17,7 +17,7 @@ use Rattle.metering_model.proofs.BatchOrder.{put_cases}
 use Rattle.batch_view.specs.declared.owned.Amendment.{Amendment}
 use Rattle.batch_view.specs.Kept.{amendments_in}
 use Rattle.batch_store.specs.Inner.Shelves.{at_seq, up_to_seq}
-use Rattle.batch_store.specs.Inner.Amenders.{pair_of, IsListed, KeepsListed, AreListed, NoneListed, IsLastListed, IsIndexOf, Spares, NoneAmends, IsLastAmender}
+use Rattle.batch_store.specs.Inner.Amenders.{pair_of, IsListed, KeepsListed, AreListed, NoneListed, IsLastListed, IsIndexOf, NoneAmends, IsLastAmender}
 
 -- ---- the last that is listed
 

@@ -1,5 +1,5 @@
 -- The batches of one agent: those counted from the first on, and those filed ahead of a gap.
-use Rattle.std.proofs.Common.{Bor, Option, ◌≡◌, ℕ, zero, suc, ◌+◌, ◌<◌, ◌≤◌, ◌⊎◌, true, false, List, [], ◌∷◌, ◌++◌, length, Some, None, refl, sym, ap, subst, ◌∙◌, arith, inl, inr, get_or, ◌-◌, length-append, append_assoc, option_map, is_some, map}
+use Rattle.std.proofs.Common.{Bor, Option, ◌≡◌, ℕ, zero, suc, ◌+◌, ◌<◌, ◌≤◌, ◌⊎◌, true, false, List, [], ◌∷◌, ◌++◌, length, Some, None, refl, sym, ap, subst, ◌∙◌, arith, inl, inr, get_or, ◌-◌, length-append, append_assoc, option_map, is_some}
 use Rattle.std.specs.Prelude.{slice_get, ◌==◌}
 use Rattle.std.specs.Ordering.{nat_cmp, match_ordering}
 use Rattle.std.specs.declared.cmp.Ordering.TheVariants.{Less, Equal, Greater}

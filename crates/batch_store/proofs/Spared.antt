@@ -1,10 +1,10 @@
 -- Batches that do not amend one give its readings no value.
-use Rattle.std.proofs.Common.{◌≡◌, ℕ, zero, suc, ◌+◌, ◌-◌, ◌<◌, ◌≤◌, Bool, true, false, List, [], ◌∷◌, map, refl, sym, ap, subst, ◌∙◌, arith, Option, Some, None, ℤ, inl, inr}
+use Rattle.std.proofs.Common.{◌≡◌, ℕ, zero, suc, ◌+◌, ◌-◌, ◌≤◌, false, List, [], ◌∷◌, map, refl, sym, ap, subst, ◌∙◌, arith, Option, Some, None, ℤ, inl, inr}
 use Rattle.std.specs.List.{Contains, enumerate_from, filter_map, cons_option, last_or}
 use Rattle.std.specs.Option.{option_or}
 use Rattle.std.proofs.lemmas.Bool.{cases_Bool, cond-false, and_parts, eqb-true}
 use Rattle.metering_model.specs.Batch.{Batch, Record, Reads, Amends}
-use Rattle.metering_model.specs.Holding.{Holding, IsHolding, Position, Placed, held, is_same_place}
+use Rattle.metering_model.specs.Holding.{Holding, IsHolding, Position, held, is_same_place}
 use Rattle.metering_model.specs.ValueAtSequence.{value_given_by}
 use Rattle.metering_model.proofs.HoldingLaws.{held_place}
 use Rattle.batch_view.specs.declared.owned.Amendment.{Amendment}

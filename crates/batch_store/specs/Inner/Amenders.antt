@@ -1,12 +1,21 @@
 -- Which later batches of an agent amend a batch, and what an index lists of them.
-use Rattle.std.specs.Prelude.{◌≡◌, ◌<◌, ◌≤◌, ℕ, ◌+◌, ◌*◌, List, Option, Some, IsTrue, All}
+use Rattle.std.specs.Prelude.{◌≡◌, ◌<◌, ◌≤◌, ℕ, ◌+◌, ◌*◌, List, [], Option, Some, None, IsTrue, All}
 use Rattle.std.specs.List.{Contains, AllByRecursion, list_any}
 use Rattle.std.specs.Ordering.{nat_cmp}
 use Rattle.std.specs.BTreeMap.{is_at}
+use Rattle.std.specs.BTreeSet.{BTreeSet}
+use Rattle.std.specs.declared.sync.Arc.{Arc}
+use Rattle.std.specs.declared.alloc.Global.{Global}
+use Rattle.std.specs.Arc.{arc_value}
 use Rattle.metering_model.specs.Batch.{Batch}
 use Rattle.metering_model.specs.Holding.{Holding}
 use Rattle.batch_view.specs.declared.owned.Amendment.{Amendment}
 use Rattle.batch_view.specs.Kept.{amendments_in}
+
+-- the pairs that an index has; one that was never written has none
+abbrev pub pairs_in : Option (Arc (BTreeSet ℕ) Global) → List ℕ
+pairs_in None = []
+pairs_in (Some pairs) = (arc_value pairs).keys
 
 -- a number that rises with the sequence of a batch, and then with that of a batch that amends it
 abbrev pub pair_of : ℕ → ℕ → ℕ

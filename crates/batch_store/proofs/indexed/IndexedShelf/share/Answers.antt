@@ -1,4 +1,4 @@
-use Rattle.std.proofs.Common.{◌≡◌, sym, subst, ◌∙◌, rules}
+use Rattle.std.proofs.Common.{◌≡◌, subst, rules}
 use Rattle.batch_store.specs.Inner.Amenders.{IsIndexOf}
 use Rattle.batch_store.specs.Inner.Shelves.{up_to_seq}
 use Rattle.batch_store.proofs.AmenderLemmas.{index_part}

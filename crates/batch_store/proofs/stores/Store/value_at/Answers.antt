@@ -1,7 +1,7 @@
 use Rattle.std.proofs.Common.{None, true, false, is_some, refl, sym, ap, ◌∙◌, arith}
 use Rattle.batch_view.specs.Batches.{batch_of}
 use Rattle.batch_store.specs.Stores.{position_of}
-use Rattle.batch_store.proofs.OwnValue.{own_gives, reading-absent, reading-held, seq-within, there-where, value-where, zero-where, own-last}
+use Rattle.batch_store.proofs.OwnValue.{own_gives, reading-absent, reading-held, there-where, value-where, zero-where, own-last}
 use Rattle.batch_store.proofs.stores.Store.value_at.Goals as goal
 
 pub returns-in_err-own-clause-there : goal.returns-in_err-own-clause-there
