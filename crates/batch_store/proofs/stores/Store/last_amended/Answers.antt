@@ -1,10 +1,13 @@
-use Rattle.std.proofs.Common.{◌∙◌, sym, arith}
+use Rattle.std.proofs.Common.{◌∙◌, sym, arith, refl}
 use Rattle.batch_view.specs.Batches.{batch_of}
 use Rattle.batch_store.specs.Stores.{position_of}
 use Rattle.batch_store.proofs.LastGiven.{found_at, passed_held, passed_absent}
 use Rattle.batch_store.proofs.Spared.{spared}
 use Rattle.batch_store.proofs.stores.Store.last_amended.Goals.{in-Some-get+else-is_some, in_default-get}
 use Rattle.batch_store.proofs.stores.Store.last_amended.Goals as goal
+
+pub loop-seq-init : goal.loop-seq-init
+loop-seq-init c = (c.requires.seq, refl)
 
 pub loop-seq-preserved : goal.loop-seq-preserved
 loop-seq-preserved c =
