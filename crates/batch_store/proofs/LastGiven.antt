@@ -1,9 +1,9 @@
 -- The last record that gives a reading a value stands in the last batch that gives it one.
-use Rattle.std.proofs.Common.{◌≡◌, ℕ, zero, suc, ◌+◌, ◌<◌, Bool, true, false, ◌&&◌, not, cond, List, [], ◌∷◌, ◌++◌, map, filter, refl, sym, ap, subst, ◌∙◌, arith, Option, Some, None, ℤ, inl, inr, is_some, min}
+use Rattle.std.proofs.Common.{◌≡◌, ℕ, zero, suc, ◌+◌, ◌<◌, Bool, true, false, ◌&&◌, not, cond, List, [], ◌∷◌, ◌++◌, map, filter, refl, sym, ap, subst, ◌∙◌, arith, Option, Some, None, ℤ, inl, inr, is_some}
 use Rattle.std.specs.Prelude.{◌-◌, ◌==◌, nat_le}
 use Rattle.std.specs.List.{enumerate_from, filter_map, last_or, list_all}
 use Rattle.std.specs.Option.{option_or, option_and_then}
-use Rattle.std.proofs.lemmas.Bool.{and_parts, cond-true, cond-false, cases_Bool, cases_lt}
+use Rattle.std.proofs.lemmas.Bool.{and_parts, cond-true, cond-false, cases_Bool}
 use Rattle.std.proofs.lemmas.Bool.Decides.{nat_tests}
 use Rattle.std.proofs.lemmas.List.Elements.{filter-append, filter_map-append}
 use Rattle.metering_model.specs.Batch.{Batch, Record}
@@ -148,22 +148,6 @@ last_given-absent h p s is at =
     given_is_pick p None h (s + 1)
     ∙ (pick-step p None h s is.in_order
     ∙ (ap (λ f. option_or (option_and_then (λ c. last_or None (filter_map (value_given_by p) (placed c))) f) (pick p None h s)) (sym at) ∙ sym (given_is_pick p None h s)))
-
-none_between : (h : Holding) (p : Position) (n k : ℕ) → IsHolding h → ((s : ℕ) → n < s → held h p.agent s ≡ None) → last_given h p (n + k) ≡ last_given h p n
-none_between h p n zero is none = let same : n + zero ≡ n = omega arith in ap (last_given h p) same
-none_between h p n (suc k) is none =
-    let next : n + suc k ≡ n + k + 1 = omega arith in
-    ap (last_given h p) next ∙ (last_given-absent h p (n + k) is (sym (none (n + k + 1) (omega arith))) ∙ none_between h p n k is none)
-
--- where no batch is above a sequence
-pub last_given-above : (h : Holding) (p : Position) (upto n : ℕ) → IsHolding h → ((s : ℕ) → n < s → held h p.agent s ≡ None) → last_given h p upto ≡ last_given h p (min upto n)
-last_given-above h p upto n is none = elim (cases_lt upto n) [
-  | inl less ↦ let same : upto ≡ min upto n = omega arith in ap (last_given h p) same
-  | inr beyond ↦
-      let far : upto ≡ n + (upto - n) = omega arith in
-      let same : n ≡ min upto n = omega arith in
-      ap (last_given h p) far ∙ (none_between h p n (upto - n) is none ∙ ap (last_given h p) same)
-]
 
 -- A search from a sequence downwards: it ends where a batch gives a value,
 pub found_at : (h : Holding) (p : Position) (upto n : ℕ) (b : Batch) (v q : Option ℤ) → IsHolding h → 0 < n → last_given h p upto ≡ last_given h p n → Some b ≡ held h p.agent n → v ≡ value_given_in b p.seq p.index → is_some v ≡ true → last_given h p upto ≡ option_or v q

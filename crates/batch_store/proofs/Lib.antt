@@ -10,4 +10,6 @@ pub mod Members
 pub mod NamedPlaces
 pub mod NamedBetween
 pub mod RisingPlaces
+pub mod AmenderLemmas
+pub mod Spared
 mod SameBatches

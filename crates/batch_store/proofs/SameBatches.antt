@@ -1,5 +1,5 @@
 -- Equal batches have equal bytes.
-use Rattle.std.proofs.Common.{◌≡◌, ℕ, List, ◌∷◌, sym, ap, ◌∙◌, Ok}
+use Rattle.std.proofs.Common.{◌≡◌, ℕ, List, sym, ap, ◌∙◌, Ok}
 use Rattle.metering_model.specs.Batch.{batch_text}
 use Rattle.metering_model.specs.BatchReading.{batch_in}
 use Rattle.metering_model.proofs.BatchLaws.{batch_read}

@@ -1,8 +1,7 @@
 -- The batches of one agent: those counted from the first on, and those filed ahead of a gap.
-use Rattle.std.proofs.Common.{Bor, Option, ◌≡◌, ℕ, zero, suc, ◌+◌, ◌<◌, ◌≤◌, ◌⊎◌, true, false, List, [], ◌∷◌, ◌++◌, length, Some, None, refl, sym, ap, subst, ◌∙◌, arith, inl, inr, get_or, ◌-◌, length-append, append_assoc, option_map, is_some, map, All}
+use Rattle.std.proofs.Common.{Bor, Option, ◌≡◌, ℕ, zero, suc, ◌+◌, ◌<◌, ◌≤◌, ◌⊎◌, true, false, List, [], ◌∷◌, ◌++◌, length, Some, None, refl, sym, ap, subst, ◌∙◌, arith, inl, inr, get_or, ◌-◌, length-append, append_assoc, option_map, is_some}
 use Rattle.std.specs.Prelude.{slice_get, ◌==◌}
-use Rattle.std.specs.Ordering.{nat_cmp, match_ordering, is_lt}
-use Rattle.std.proofs.lemmas.List.Elements.{All-head, All-tail}
+use Rattle.std.specs.Ordering.{nat_cmp, match_ordering}
 use Rattle.std.specs.declared.cmp.Ordering.TheVariants.{Less, Equal, Greater}
 use Rattle.std.specs.Map.{lookup}
 use Rattle.std.specs.BTreeMap.{is_at, insert_entry}
@@ -103,31 +102,6 @@ found_filed n s (e ∷ es) f = elim (cases_Bool (e.0 == s)) [
 pub filed_limit : (n s : ℕ) (es : List Filed) → AreFiled n es → 1_000_000 < s → at_seq (batches_filed es) s ≡ None
 filed_limit n s [] f high = refl
 filed_limit n s (e ∷ es) f high = at_past (batch_shared e.1) (batches_filed es) s (λ same. omega (arith, f.1, f.2, same)) ∙ filed_limit (e.0 + 1) s es f.3 high
-
--- above the greatest key is nothing
-pub filed_last : (n last s : ℕ) (es : List Filed) → AreFiled n es → All (λ q. is_lt (nat_cmp last q) ≡ false) (map (λ e. e.0) es) → last < s → at_seq (batches_filed es) s ≡ None
-filed_last n last s [] f all high = refl
-filed_last n last s (e ∷ es) f all high =
-    let first : e.0 ≤ last = up_to last e.0 (All-head (λ q. is_lt (nat_cmp last q) ≡ false) e.0 (map (λ e. e.0) es) all) in
-    at_past (batch_shared e.1) (batches_filed es) s (λ same. omega (arith, f.2, same, first))
-    ∙ filed_last (e.0 + 1) last s es f.3 (All-tail (λ q. is_lt (nat_cmp last q) ≡ false) e.0 (map (λ e. e.0) es) all) high
-  where
-    up_to : (last q : ℕ) → is_lt (nat_cmp last q) ≡ false → q ≤ last
-    up_to last q h = grind (arith, nat_tests)
-
-pub none_filed : (s : ℕ) (es : List Filed) → (0 < length es → ⊥) → at_seq (batches_filed es) s ≡ None
-none_filed s [] none = refl
-none_filed s (e ∷ es) none = absurd (none (omega arith))
-
--- each key is from the first on, up to the greatest sequence
-pub filed_within : (n i : ℕ) (es : List Filed) (e : Filed) → AreFiled n es → slice_get es i ≡ Some e → (n ≤ e.0) × (e.0 ≤ 1_000_000)
-filed_within n i [] e f is = absurd (cc)
-filed_within n zero (x ∷ es) e f is =
-    let same : x ≡ e = cc in
-    subst (λ (y : Filed). (n ≤ y.0) × (y.0 ≤ 1_000_000)) same (f.0, f.1)
-filed_within n (suc i) (x ∷ es) e f is =
-    let rest = filed_within (x.0 + 1) i es e f.3 is in
-    (omega (arith, rest.0, f.0), rest.1)
 
 -- where nothing is at the first sequence, all are above it
 pub filed_above : (n : ℕ) (es : List Filed) → AreFiled n es → at_seq (batches_filed es) n ≡ None → AreFiled (n + 1) es
@@ -240,11 +214,6 @@ pub none_beyond : (whole : List Shared) (ahead : List Filed) (s : ℕ) → IsShe
 none_beyond whole ahead s is high =
     let short = is.short in
     sym (is_at_ahead whole ahead s is (inr (omega arith))) ∙ (found_filed (length whole + 1) s ahead is.filed ∙ filed_limit (length whole + 1) s ahead is.filed high)
-
--- no batch is above one that has nothing above it in the map
-pub none_above : (whole : List Shared) (ahead : List Filed) (s : ℕ) → IsShelf whole ahead → length whole < s → at_seq (batches_filed ahead) s ≡ None → at_seq (on_shelf whole ahead) s ≡ None
-none_above whole ahead s is high none =
-    sym (is_at_ahead whole ahead s is (inr high)) ∙ (found_filed (length whole + 1) s ahead is.filed ∙ none)
 
 -- the first batch of the map, where it comes next, stands as well behind those without a gap
 pub moved : (whole : List Shared) (e : Filed) (es : List Filed) → IsShelf whole (e ∷ es) → e.0 ≡ length whole + 1 → IsShelf (whole ++ e.1 ∷ []) es

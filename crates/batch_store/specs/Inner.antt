@@ -3,3 +3,4 @@ pub mod Shelves
 pub mod Fronts
 pub mod Values
 pub mod Amended
+pub mod Amenders

@@ -2,7 +2,9 @@
 #![tactic(auto)]
 
 mod amended;
+mod amenders;
 mod fronts;
+mod indexed;
 pub mod laws;
 mod missing;
 mod shelf;

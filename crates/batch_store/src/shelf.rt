@@ -110,17 +110,6 @@ impl Shelf {
         MOST_BATCHES + 1
     }
 
-    /// The greatest sequence with a batch, 0 where there is none.
-    pub(crate) fn last(&self) -> u32
-        ensures none { (seq : ℕ) → result < seq → at_seq self.now seq ≡ None }
-        ensures range { result ≤ 1_000_000 }
-    {
-        match self.ahead.last_key_value() {
-            Some((seq, _)) => *seq,
-            None => self.whole.len() as u32,
-        }
-    }
-
     /// Moves the first batch of the map behind those without a gap, if it comes next and there is room for it.
     fn move_first(&mut self) -> bool
         ensures { self.new ≡ self.old }

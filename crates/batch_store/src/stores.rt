@@ -1,13 +1,14 @@
 //! A store: which batches it has, and what is added to it and shared of it.
 
-ghost use Rattle.std.specs.Prelude.{◌≡◌, ℕ, true, ◌≤◌, ◌<◌, ◌↔◌, length, IfOk, IfErr, [], None, IsTrue};
+ghost use Rattle.std.specs.Prelude.{◌≡◌, ℕ, true, ◌≤◌, ◌<◌, ◌↔◌, length, IfOk, IfErr, [], None, IsTrue, MatchOption};
 ghost use Rattle.std.specs.Option.{option_copied, option_map, is_some};
 ghost use Rattle.std.specs.Arc.{arc_value};
 ghost use Rattle.metering_model.specs.Holding.{held, put, up_to};
 ghost use Rattle.batch_view.specs.Batches.{batch_of};
 ghost use Rattle.batch_store.specs.Stores.{IsStored};
+ghost use Rattle.batch_store.specs.Inner.Amenders.{IsLastAmender, NoneAmends};
 
-use crate::shelf::Shelf;
+use crate::indexed::IndexedShelf;
 use crate::walk::{Batches, are_same};
 use batch_view::OwnedBatch;
 use period_cut::Cut;
@@ -18,7 +19,7 @@ use std::sync::Arc;
 /// The batches of 1 to 64 agents, at most one for each agent and sequence. Batches are shared, and never copied.
 #[derive(Drop)]
 pub struct Store {
-    shelves: Vec<Shelf>,
+    shelves: Vec<IndexedShelf>,
 }
 
 impl Model for Store {
@@ -41,7 +42,7 @@ impl Store {
     {
         let mut shelves = Vec::with_capacity(alloc, usize::from(agents))?;
         for _ in 0..agents {
-            shelves.push(Shelf::new(alloc))?;
+            shelves.push(IndexedShelf::new(alloc))?;
         }
         Ok(Store { shelves })
     }
@@ -102,14 +103,15 @@ impl Store {
         self.shelves[usize::from(agent) - 1].first_absent()
     }
 
-    /// The greatest sequence that an agent has a batch of, 0 where it has none.
-    pub(crate) fn last_seq(&self, agent: u8) -> u32
+    /// Of the batches of an agent behind a sequence and up to another, one such that none behind it amends the batch at the
+    /// first; None where none does.
+    pub(crate) fn last_amender(&self, agent: u8, seq: u32, upto: u32) -> Option<u32>
         requires from { 1 ≤ agent }
         requires to { agent ≤ self.now.agents }
-        ensures none { (seq : ℕ) → result < seq → held self.now.batches agent seq ≡ None }
-        ensures range { result ≤ 1_000_000 }
+        ensures { MatchOption result (NoneAmends (held self.now.batches agent) seq seq upto)
+            (IsLastAmender (held self.now.batches agent) seq upto) }
     {
-        self.shelves[usize::from(agent) - 1].last()
+        self.shelves[usize::from(agent) - 1].last_amender(seq, upto)
     }
 
     /// The batches up to a cut, shared.

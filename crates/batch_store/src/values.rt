@@ -47,24 +47,25 @@ impl Store {
         own.value_given(place.seq, place.index)
     }
 
-    /// The value that the last batch behind the reading's own and up to a sequence gives it.
+    /// The value that the last batch behind the reading's own and up to a sequence gives it. Only batches that are listed as
+    /// amending its own are looked at.
     fn last_amended(&self, place: Place, upto: u32) -> Option<Value>
         requires from { 1 ≤ place.agent }
         requires to { place.agent ≤ self.now.agents }
         requires seq { place.seq ≤ upto }
-        requires within { place.seq ≤ 1_000_000 }
         requires stored { IsStored self.now }
         ensures { last_given self.now.batches (position_of place) upto
             ≡ option_or result (last_given self.now.batches (position_of place) place.seq) }
     {
-        let last = upto.min(self.last_seq(place.agent).max(place.seq));
-        for seq in (place.seq + 1..last + 1).rev() {
+        let mut left = upto;
+        while let Some(seq) = self.last_amender(place.agent, place.seq, left) {
             if let Some(batch) = self.get(place.agent, seq) {
                 let given = batch.value_given(place.seq, place.index);
                 if given.is_some() {
                     return given;
                 }
             }
+            left = seq - 1;
         }
         None
     }

@@ -4,14 +4,14 @@ ghost use Rattle.std.specs.Prelude.{◌≡◌, ◌↔◌, IsTrue};
 ghost use Rattle.batch_view.specs.Batches.{batch_of};
 ghost use Rattle.batch_store.specs.Inner.Shelves.{on_shelves};
 
-use crate::shelf::Shelf;
+use crate::indexed::IndexedShelf;
 use batch_view::OwnedBatch;
 use std::marker::Model;
 
 /// The batches of a store that are still to come, by agent and then by sequence.
 #[derive(Drop)]
 pub struct Batches<'a> {
-    shelves: &'a [Shelf],
+    shelves: &'a [IndexedShelf],
     seq: u32,
 }
 
@@ -26,7 +26,7 @@ impl<'a> Model for Batches<'a> {
 
 impl<'a> Batches<'a> {
     /// All batches on these shelves.
-    pub(crate) fn of(shelves: &'a [Shelf]) -> Batches<'a>
+    pub(crate) fn of(shelves: &'a [IndexedShelf]) -> Batches<'a>
         ensures { result ≡ on_shelves shelves.now }
     {
         Batches { shelves, seq: 0 }

@@ -1,4 +1,4 @@
-use Rattle.std.proofs.Common.{◌≡◌, ◌↔◌, IsTrue, List, ℕ, ap, rules}
+use Rattle.std.proofs.Common.{◌≡◌, ◌↔◌, IsTrue, ap, rules}
 use Rattle.batch_view.specs.Batches.{batch_of}
 use Rattle.batch_store.proofs.SameBatches.{same_bytes}
 use Rattle.batch_store.proofs.walk.is_same.Goals as goal

@@ -1,26 +1,38 @@
-use Rattle.std.proofs.Common.{◌≡◌, ◌+◌, ◌-◌, ◌∙◌, min, ap, sym, arith}
+use Rattle.std.proofs.Common.{◌∙◌, sym, arith, refl}
 use Rattle.batch_view.specs.Batches.{batch_of}
 use Rattle.batch_store.specs.Stores.{position_of}
-use Rattle.batch_store.specs.Inner.Values.{last_given}
-use Rattle.batch_store.proofs.LastGiven.{last_given-above, found_at, passed_held, passed_absent}
+use Rattle.batch_store.proofs.LastGiven.{found_at, passed_held, passed_absent}
+use Rattle.batch_store.proofs.Spared.{spared}
+use Rattle.batch_store.proofs.stores.Store.last_amended.Goals.{in-Some-get+else-is_some, in_default-get}
 use Rattle.batch_store.proofs.stores.Store.last_amended.Goals as goal
 
 pub loop-seq-init : goal.loop-seq-init
-loop-seq-init c =
-    let last : min c.args.upto c.max.result ≡ c.min-last.result + 1 - 1 = omega arith in
-    (omega arith, last_given-above c.args.self.now.batches (position_of c.args.place) c.args.upto c.max.result c.requires.stored.is_holding (λ s high. c.last_seq.ensures.none s (omega (arith, high))) ∙ ap (last_given c.args.self.now.batches (position_of c.args.place)) last)
+loop-seq-init c = (c.requires.seq, refl)
 
 pub loop-seq-preserved : goal.loop-seq-preserved
 loop-seq-preserved c =
-    (omega arith, passed_absent c.args.self.now.batches (position_of c.args.place) c.args.upto (c.loop-seq.seq - 1) c.requires.stored.is_holding (omega arith) c.loop-seq.invariant.1 c.in_default.ensures)
-
-pub loop-seq-preserved-else-is_some : goal.loop-seq-preserved-else-is_some
-loop-seq-preserved-else-is_some c =
-    (omega arith, passed_held c.args.self.now.batches (position_of c.args.place) c.args.upto (c.loop-seq.seq - 1) (batch_of c.in-Some.batch.now) c.value_given-given.result c.requires.stored.is_holding (omega arith) c.loop-seq.invariant.1 c.in-Some.ensures c.value_given-given.ensures (sym c.is_some.ensures ∙ c.if-is_some.false))
+    let h = c.args.self.now.batches in
+    let p = position_of c.args.place in
+    let is = c.requires.stored.is_holding in
+    let behind = c.in-Some.ensures.behind in
+    let so_far = c.loop-seq.invariant.1 ∙ spared h p c.loop-seq.left c.in-Some.seq is (omega (arith, behind)) c.in-Some.ensures.within c.in-Some.ensures.none_later in
+    elim c.match-get.branch [
+      | in-Some-get+else-is_some w ↦
+          (omega (arith, behind), passed_held h p c.args.upto c.in-Some.seq (batch_of w.in-Some-get.batch.now) w.value_given-given.result is (omega (arith, behind)) so_far w.in-Some-get.ensures w.value_given-given.ensures (sym w.is_some.ensures ∙ w.if-is_some.false))
+      | in_default-get w ↦ (omega (arith, behind), passed_absent h p c.args.upto c.in-Some.seq is (omega (arith, behind)) so_far w.in_default-get.ensures)
+    ]
 
 pub returns-then-is_some : goal.returns-then-is_some
 returns-then-is_some c =
-    found_at c.args.self.now.batches (position_of c.args.place) c.args.upto (c.loop-seq.seq - 1) (batch_of c.in-Some.batch.now) c.value_given-given.result _ c.requires.stored.is_holding (omega arith) c.loop-seq.invariant.1 c.in-Some.ensures c.value_given-given.ensures (sym c.is_some.ensures ∙ c.if-is_some.true)
+    let h = c.args.self.now.batches in
+    let p = position_of c.args.place in
+    let is = c.requires.stored.is_holding in
+    let behind = c.in-Some.ensures.behind in
+    let so_far = c.loop-seq.invariant.1 ∙ spared h p c.loop-seq.left c.in-Some.seq is (omega (arith, behind)) c.in-Some.ensures.within c.in-Some.ensures.none_later in
+    found_at h p c.args.upto c.in-Some.seq (batch_of c.in-Some-get.batch.now) c.value_given-given.result _ is (omega (arith, behind)) so_far c.in-Some-get.ensures c.value_given-given.ensures (sym c.is_some.ensures ∙ c.if-is_some.true)
 
 pub returns : goal.returns
-returns c = let last : c.loop-seq.seq - 1 ≡ c.args.place.seq = omega arith in c.loop-seq.invariant.1 ∙ ap (last_given c.args.self.now.batches (position_of c.args.place)) last
+returns c =
+    let h = c.args.self.now.batches in
+    let p = position_of c.args.place in
+    c.loop-seq.invariant.1 ∙ spared h p c.loop-seq.left c.args.place.seq c.requires.stored.is_holding (omega arith) c.loop-seq.invariant.0 c.in_default.ensures

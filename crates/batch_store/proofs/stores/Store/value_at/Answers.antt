@@ -1,11 +1,8 @@
 use Rattle.std.proofs.Common.{None, true, false, is_some, refl, sym, ap, ◌∙◌, arith}
 use Rattle.batch_view.specs.Batches.{batch_of}
 use Rattle.batch_store.specs.Stores.{position_of}
-use Rattle.batch_store.proofs.OwnValue.{own_gives, reading-absent, reading-held, seq-within, there-where, value-where, zero-where, own-last}
+use Rattle.batch_store.proofs.OwnValue.{own_gives, reading-absent, reading-held, there-where, value-where, zero-where, own-last}
 use Rattle.batch_store.proofs.stores.Store.value_at.Goals as goal
-
-pub last_amended-later-requires-clause-within : goal.last_amended-later-requires-clause-within
-last_amended-later-requires-clause-within c = (seq-within c.args.self.now.batches (position_of c.args.place) (batch_of c.in_ok-own.own.now) c.agents.ensures.stored.is_holding c.in_ok-own.ensures).1
 
 pub returns-in_err-own-clause-there : goal.returns-in_err-own-clause-there
 returns-in_err-own-clause-there c =
