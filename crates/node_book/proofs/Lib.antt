@@ -4,3 +4,4 @@ pub mod Own
 pub mod Exports
 pub mod Parts
 pub mod Files
+pub mod WorkedAgreement

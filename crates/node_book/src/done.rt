@@ -8,7 +8,6 @@ ghost use Rattle.node_book.specs.Kept.{bytes_in, told_of};
 ghost use Rattle.node_book.specs.Agreement.{is_export_of};
 
 use crate::Receipt;
-use counted_io::Counted;
 use group_core::{Reply, Snapshot};
 use std::alloc::{AllocError, Global};
 use std::marker::Model;
@@ -39,11 +38,9 @@ impl Model for Done {
 fn rendered(alloc: Global, snapshot: &Snapshot) -> Result<Vec<u8>, AllocError>
     ensures { IfOk result (λ text. text.items ≡ file_of snapshot.now) }
 {
-    let mut sink = Counted::new(Vec::new(alloc));
-    match snapshot.write_csv(alloc, &mut sink) {
-        Ok(()) => Ok(sink.into_inner()),
-        Err(_) => Err(AllocError),
-    }
+    let mut text = Vec::new(alloc);
+    snapshot.put_csv(alloc, &mut text)?;
+    Ok(text)
 }
 
 /// The file of a reply, where it is an export.
@@ -93,7 +90,7 @@ impl Done {
     }
 
     /// Whether its reply is the export of that period.
-    pub(crate) fn is_export_of(&self, period: u16) -> bool
+    pub fn is_export_of(&self, period: u16) -> bool
         ensures { result ≡ is_export_of period self.now.reply }
     {
         match &self.receipt.reply {
