@@ -187,6 +187,26 @@ fn days_and_stamps_have_the_numbers_of_the_calendar(rt: HostRuntime) {
         let numbers = read.map(|stamp| (stamp.seconds(), stamp.day().number()));
         assert_eq!(rt; numbers, Some((seconds, day)), "{text}");
     }
+    for (first, second, seconds) in [
+        (
+            "2024-02-29T12:34:56Z",
+            "2024-02-29T23:59:59Z",
+            Some((1_709_210_096, 1_709_251_199)),
+        ),
+        (
+            "1969-12-31T23:59:59Z",
+            "2024-02-29T12:34:56Z",
+            Some((-1, 1_709_210_096)),
+        ),
+        ("2023-02-29T00:00:00Z", "2024-02-29T12:34:56Z", None),
+        ("2024-02-29T12:34:56Z", "2024-02-29T24:00:00Z", None),
+        ("2024-02-29T12:34:56Z", "2024-02-30T12:34:56Z", None),
+        ("2023-02-29T00:00:00Z", "2023-02-29T00:00:00Z", None),
+    ] {
+        let read = Stamp::read_both(first.as_bytes(), second.as_bytes());
+        let numbers = read.map(|(start, end)| (start.seconds(), end.seconds()));
+        assert_eq!(rt; numbers, seconds, "{first} and {second}");
+    }
     let march = Day::first_of_month(2024, 3);
     assert_eq!(rt; Day::read(b"2024-03-01"), Some(march));
     assert_eq!(rt; Stamp::read(b"2024-03-01T00:00:00Z"), Some(march.start()));
