@@ -10,11 +10,6 @@ use Rattle.charge_row.specs.FocusRows.{model_row}
 each_more : {X : Type 0} (f : X → List ℕ) (xs : List X) (x : X) → flat_map f xs ++ f x ≡ flat_map f (xs ++ x ∷ [])
 each_more f xs x = ap (λ t. flat_map f xs ++ t) (sym (append-nil (f x))) ∙ sym (flat_map-append f xs (x ∷ []))
 
--- the same of the next element of a list
-pub taken_more : {X : Type 0} (f : X → List ℕ) (xs : List X) (i : ℕ) (default : X) → i < length xs
-    → flat_map f (take i xs) ++ f (get_or xs i default) ≡ flat_map f (take (i + 1) xs)
-taken_more f xs i default lt = each_more f (take i xs) (get_or xs i default) ∙ ap (flat_map f) (sym (take_more xs i default lt))
-
 pub rows_more : (rows : List FocusRow) (i : ℕ) (row : FocusRow) → i < length rows → row ≡ get_or rows i row
     → flat_map row_text (map model_row (take i rows)) ++ row_text (model_row row) ≡ flat_map row_text (map model_row (take (i + 1) rows))
 rows_more rows i row lt is =

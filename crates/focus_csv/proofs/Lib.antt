@@ -1,4 +1,3 @@
-mod TagTexts
 mod CsvText
 mod Files
 mod Pieces

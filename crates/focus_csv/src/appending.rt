@@ -4,8 +4,9 @@ ghost use Rattle.std.specs.Prelude.{◌≡◌, ◌++◌, OnOk};
 ghost use Rattle.std.specs.List.{flat_map};
 ghost use Rattle.metering_model.specs.File.{row_text};
 
-use crate::lines::row_texts;
+use crate::lines::put_lines;
 use focus_row::RowsBetween;
+use row_line::LinePieces;
 use std::alloc::{AllocError, Global};
 
 /// Appends the lines of the rows that are still to come, in order, to a text that its caller may use again. Of the rows,
@@ -19,6 +20,7 @@ pub fn put_rows(
 ) -> Result<(), AllocError>
     ensures { OnOk result (text.new.items ≡ text.old.items ++ flat_map row_text left.old) }
 {
+    let mut pieces = LinePieces::new(alloc);
     loop {
         let Ok(next) = left.next_batch(alloc) else {
             return Err(AllocError);
@@ -26,7 +28,6 @@ pub fn put_rows(
         let Some(rows) = next else {
             return Ok(());
         };
-        let piece = row_texts(alloc, &rows)?;
-        text.extend_from_slice(&piece)?;
+        put_lines(&mut pieces, &rows, text)?;
     }
 }

@@ -20,8 +20,6 @@ use thiserror::Error;
 mod appending;
 pub mod laws;
 mod lines;
-mod made;
-mod tags;
 
 /// Why a file was not written.
 #[derive(Clone, Copy, Debug, Drop, Error)]

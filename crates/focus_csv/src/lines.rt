@@ -1,118 +1,40 @@
 //! The lines of the file.
 
-ghost use Rattle.std.specs.Prelude.{◌≡◌, ◌≤◌, ◌++◌, ◌∷◌, [], map, length, IfOk, OnOk};
+ghost use Rattle.std.specs.Prelude.{◌≡◌, ◌<◌, ◌++◌, ◌∷◌, [], length, map, slice_index_or, IfOk, OnOk};
 ghost use Rattle.std.specs.List.{flat_map};
-ghost use Rattle.std.specs.Option.{option_copied};
-ghost use Rattle.std.specs.Io.KnownBytes.{Appends};
-ghost use Rattle.metering_model.specs.File.{file, fields_of_row, header_line, row_text, text_or_null};
+ghost use Rattle.metering_model.specs.File.{file, header_line, row_text};
 ghost use Rattle.charge_row.specs.FocusRows.{model_row};
-ghost use Rattle.focus_csv.specs.Inner.Made.{AreMadeOf};
-ghost use Rattle.focus_csv.specs.Inner.Lines.{IsAtLineStart, writer_text, line_of};
 
-use crate::made::MadeTexts;
-use csv::{Writer, WriterBuilder};
 use focus_row::FocusRow;
+use row_line::LinePieces;
 use std::alloc::{AllocError, Global};
 
-/// How many columns a row has.
-const COLUMNS: usize = 36;
-
-/// The text, which is empty for null.
-fn text_or_null<'a>(text: Option<&'a [u8]>) -> &'a [u8]
-    ensures { result.now ≡ text_or_null (option_copied text.entry) }
+/// The row at a place.
+fn row_at<'a, 'b>(rows: &'a [FocusRow<'b>], i: usize) -> &'a FocusRow<'b>
+    requires { i < length rows.now }
+    ensures { result.now ≡ slice_index_or rows.now i result.now }
 {
-    match text {
-        Some(text) => text,
-        None => &[],
-    }
+    &rows[i]
 }
 
-/// The texts of a row, in the order of the columns.
-fn row_fields<'a>(row: &'a FocusRow<'a>, made: &'a MadeTexts) -> [&'a [u8]; COLUMNS]
-    requires { AreMadeOf made.now (model_row row.now) }
-    ensures { map (λ f. f.now) result ≡ fields_of_row (model_row row.now) }
-{
-    [
-        made.billed_cost.as_bytes(),
-        row.billing_account_id,
-        row.billing_account_name,
-        row.billing_currency,
-        &row.billing_period_end,
-        &row.billing_period_start,
-        row.charge_category,
-        text_or_null(row.charge_class),
-        row.charge_description,
-        row.charge_frequency,
-        row.charge_period_end,
-        row.charge_period_start,
-        text_or_null(row.commitment_discount_category),
-        text_or_null(row.commitment_discount_id),
-        text_or_null(row.commitment_discount_status),
-        text_or_null(row.commitment_discount_type),
-        made.consumed_quantity.as_bytes(),
-        text_or_null(row.consumed_unit),
-        made.contracted_cost.as_bytes(),
-        made.contracted_unit_price.as_bytes(),
-        made.effective_cost.as_bytes(),
-        row.invoice_issuer_name,
-        made.list_cost.as_bytes(),
-        made.list_unit_price.as_bytes(),
-        text_or_null(row.pricing_category),
-        made.pricing_quantity.as_bytes(),
-        text_or_null(row.pricing_unit),
-        row.provider_name,
-        row.publisher_name,
-        text_or_null(row.resource_id),
-        row.service_category,
-        row.service_name,
-        text_or_null(row.sku_id),
-        text_or_null(row.sku_price_id),
-        text_or_null(row.sub_account_id),
-        made.tags.as_slice(),
-    ]
-}
-
-/// Writes one more line.
-fn put_line(writer: &mut Writer<Vec<u8>>, fields: &[&[u8]]) -> Result<(), AllocError>
-    requires start { IsAtLineStart writer.old }
-    requires wide { 2 ≤ length fields.now }
-    ensures text { OnOk result (Appends (writer_text writer.old) (writer_text writer.new) (line_of (map (λ f. f.now) fields.now))) }
-    ensures start { OnOk result (IsAtLineStart writer.new) }
-{
-    match writer.write_fields(fields) {
-        Ok(()) => Ok(()),
-        // A vector takes all that it finds room for.
-        Err(_) => Err(AllocError),
-    }
-}
-
-/// Writes the line of a row.
-fn put_row(
-    writer: &mut Writer<Vec<u8>>,
-    made: &mut MadeTexts,
-    row: &FocusRow<'_>,
-) -> Result<(), AllocError>
-    requires { IsAtLineStart writer.old }
-    ensures text { OnOk result (Appends (writer_text writer.old) (writer_text writer.new) (row_text (model_row row.now))) }
-    ensures start { OnOk result (IsAtLineStart writer.new) }
-{
-    made.set(row)?;
-    put_line(writer, &row_fields(row, made))
-}
-
-/// Writes the lines of the rows, in order.
-fn put_rows(
-    alloc: Global,
-    writer: &mut Writer<Vec<u8>>,
+/// Appends the lines of the rows, in order. The pieces of a line are kept for the next one.
+pub(crate) fn put_lines(
+    pieces: &mut LinePieces,
     rows: &[FocusRow<'_>],
+    text: &mut Vec<u8>,
 ) -> Result<(), AllocError>
-    requires { IsAtLineStart writer.old }
-    ensures { OnOk result (Appends (writer_text writer.old) (writer_text writer.new)
-        (flat_map row_text (map model_row rows.now))) }
+    ensures { OnOk result (text.new.items ≡ text.old.items ++ flat_map row_text (map model_row rows.now)) }
 {
-    let mut made = MadeTexts::new(alloc);
-    for row in rows {
-        put_row(writer, &mut made, row)?;
+    if rows.is_empty() {
+        return Ok(());
+    }
+    let mut before = row_at(rows, 0);
+    pieces.set(before)?;
+    for i in 0..rows.len() {
+        let row = row_at(rows, i);
+        pieces.change(before, row)?;
+        pieces.put(text)?;
+        before = row;
     }
     Ok(())
 }
@@ -123,13 +45,8 @@ fn lines_behind(alloc: Global, head: &[u8], rows: &[FocusRow<'_>]) -> Result<Vec
 {
     let mut text = Vec::new(alloc);
     text.extend_from_slice(head)?;
-    let mut writer = WriterBuilder::new().from_writer(text);
-    put_rows(alloc, &mut writer, rows)?;
-    match writer.into_inner() {
-        Ok(text) => Ok(text),
-        // A vector takes all that it finds room for.
-        Err(_) => Err(AllocError),
-    }
+    put_lines(&mut LinePieces::new(alloc), rows, &mut text)?;
+    Ok(text)
 }
 
 /// The header line of every file: the names of the 36 columns in order, and a line feed.

@@ -1,0 +1,3 @@
+mod TagTexts
+mod Files
+mod LineLaws
