@@ -1,0 +1,58 @@
+//! A run from its plan to its logs.
+
+ghost use Rattle.std.specs.Prelude.{◌≡◌, ◌≤◌, length, map, vec_len, IfOk};
+ghost use Rattle.metering_model.specs.History.{IsLegal};
+ghost use Rattle.group_laws.specs.Headline.{HoldsAfter};
+ghost use Rattle.node_book.specs.Books.{opened};
+ghost use Rattle.node_book.specs.Logs.{plan_of};
+ghost use Rattle.node_book.specs.Agreement.{Agree, FilesAgree};
+
+use crate::desks::open;
+use crate::threads::{Work, run_threads};
+use crate::{Gate, Run, RunFault};
+use node_book::Plan;
+use std::alloc::Global;
+use std::sync::Wait;
+use std::thread::Threads;
+
+/// Runs a group: a thread for each node and one for each agent, round one book.
+///
+/// With Ok receipts agree: the logs have just what was done, each agent journaled its texts, and each node exported each
+/// period once. A fault is `OutOfMemory` where memory or a thread was refused, and `Mismatch` where receipts do not agree.
+pub fn run_group<R: Threads + Wait + Sync, G: Gate + Sync>(
+    rt: &R,
+    alloc: Global,
+    plan: Plan,
+    gate: &G,
+) -> Result<Run, RunFault>
+    requires nodes_from { 1 ≤ plan.nodes }
+    requires nodes_to { plan.nodes ≤ 99 }
+    requires agents_from { 1 ≤ vec_len plan.journals }
+    requires agents_to { vec_len plan.journals ≤ 64 }
+    requires periods_from { 1 ≤ plan.periods }
+    requires periods_to { plan.periods ≤ 1200 }
+    ensures plan { IfOk result (λ run. run.plan ≡ plan_of plan) }
+    ensures agree { IfOk result (λ run. Agree run.book (plan_of plan) run.logs) }
+    ensures files { IfOk result (λ run. FilesAgree run.logs) }
+    ensures history { IfOk result (λ run. IsLegal (opened run.book) run.book.history run.book.world) }
+    ensures headline { IfOk result (λ run. HoldsAfter run.book.nodes run.book.agents run.book.sheet run.book.issuer
+        (map (λ e. e.event) run.book.history) (map (λ e. e.reply) run.book.history) run.book.world) }
+{
+    let Ok((desk, inboxes)) = open(alloc, &plan) else {
+        return Err(RunFault::OutOfMemory);
+    };
+    let work = Work {
+        journals: &plan.journals,
+        periods: plan.periods,
+        turns: plan.turns,
+    };
+    let Ok(logs) = run_threads(rt, alloc, work, gate, &desk, &inboxes) else {
+        return Err(RunFault::OutOfMemory);
+    };
+    let book = desk.into_book();
+    book.legal();
+    if !book.agrees(&plan, &logs) {
+        return Err(RunFault::Mismatch);
+    }
+    Ok(Run { plan, book, logs })
+}

@@ -1,0 +1,15 @@
+//! A group that runs in threads: one for each node and each agent, round one book.
+#![tactic(auto)]
+
+mod agents;
+mod desks;
+mod gates;
+mod groups;
+mod nodes;
+mod runs;
+mod threads;
+
+pub use gates::Gate;
+pub use groups::run_group;
+pub use node_book::{Book, Done, Entry, Log, Plan, Receipt, Worker};
+pub use runs::{Run, RunFault};
