@@ -3,7 +3,7 @@
 use crate::rows::{FIRST_RUN, first_rows, first_worked};
 use batch_view::{BatchView, Record, Tags};
 use counted_io::{Counted, FakeWriter};
-use focus_csv::{CsvFault, row_texts, write_file};
+use focus_csv::{CsvFault, write_file};
 use focus_row::{FocusRow, Issuer, RowFault};
 use fx_money::{Cost, Delta, Price};
 use std::test::Fail;
@@ -176,8 +176,8 @@ fn is_told(rt: &HostRuntime, row: &FocusRow<'_>) -> bool {
     }
 }
 
-/// For runs in which a growth is refused, as `.ci/behind` makes them: rows and their texts are then there when they are asked
-/// for again, so the call that found no room changed nothing. With room for all, the sink is one that takes nothing.
+/// All room that this test asks for is asked for by the calls that it tries: with `--fail-alloc` it
+/// shows what a refused growth is told as. With memory for all, the sink is one that takes nothing.
 #[test]
 fn a_refused_growth_is_a_want_of_memory(rt: HostRuntime) -> Result<(), Fail> {
     let Ok(issuer) = Issuer::sample(rt.alloc()) else {
@@ -187,18 +187,9 @@ fn a_refused_growth_is_a_want_of_memory(rt: HostRuntime) -> Result<(), Fail> {
         return Ok(());
     };
     let batch = batch.ok_or("no first batch")?;
-    let rows = match first_rows(&rt, &batch, &issuer) {
-        Ok(rows) => rows,
-        Err(fault) => {
-            assert!(rt; matches!(fault, RowFault::OutOfMemory));
-            first_rows(&rt, &batch, &issuer)?
-        }
-    };
-    let texts = match row_texts(rt.alloc(), &rows) {
-        Ok(texts) => texts,
-        Err(_) => row_texts(rt.alloc(), &rows)?,
-    };
-    assert_eq!(rt; texts.as_slice(), FIRST_LINES);
-    assert!(rt; is_told(&rt, rows.get(0).ok_or("no row")?));
+    match first_rows(&rt, &batch, &issuer) {
+        Ok(rows) => assert!(rt; is_told(&rt, rows.get(0).ok_or("no row")?)),
+        Err(fault) => assert!(rt; matches!(fault, RowFault::OutOfMemory)),
+    }
     Ok(())
 }
