@@ -19,17 +19,6 @@ impl Gate for Open {
     fn done(&self, _node: u8, _period: u16) {}
 }
 
-/// Whether a plan is one of a group that can run.
-fn is_possible(plan: &Plan) -> bool {
-    let agents = plan.journals.len();
-    1 <= plan.nodes
-        && plan.nodes <= 99
-        && 1 <= agents
-        && agents <= 64
-        && 1 <= plan.periods
-        && plan.periods <= 1_200
-}
-
 /// A run of a group of that size.
 pub(crate) fn run_of<R: Threads + Wait + Sync, G: Gate + Sync>(
     rt: &R,
@@ -146,8 +135,11 @@ fn a_refused_growth_ends_a_run(rt: HostRuntime) -> Result<(), Fail> {
     let Ok(plan) = plan_of(rt.alloc(), size) else {
         return Ok(());
     };
-    if !is_possible(&plan) {
+    if plan.nodes < 1 || 99 < plan.nodes || plan.journals.len() < 1 || 64 < plan.journals.len() {
         return Err(Fail::from("no such group"));
+    }
+    if plan.periods < 1 || 1_200 < plan.periods {
+        return Err(Fail::from("no such periods"));
     }
     match run_group(&rt, rt.alloc(), plan, &Open) {
         Ok(run) => assert_eq!(rt; counts_of(run.logs()).files, 4),
