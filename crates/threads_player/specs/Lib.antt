@@ -1,0 +1,5 @@
+pub mod Faults
+pub mod Groups
+pub mod Reports
+pub mod Runs
+pub mod SampleSheet

@@ -1,0 +1,11 @@
+//! A group of a given size that runs in threads, and a report of what it did.
+#![tactic(auto)]
+
+mod faults;
+mod sizes;
+mod texts;
+
+pub use faults::ThreadsFault;
+pub use node_threads::RunFault;
+pub use sizes::Size;
+pub use texts::threads_text;

@@ -1,0 +1,47 @@
+//! A run, and the report of it.
+
+ghost use Rattle.std.specs.Prelude.{◌≡◌, ◌≢◌, Err, OnOk, IfErr};
+ghost use Rattle.std.specs.Io.KnownBytes.{Appends};
+ghost use Rattle.counted_io.specs.Counts.{Rises, count_after};
+ghost use Rattle.counted_io.specs.Writing.{AppendsFront};
+ghost use Rattle.node_threads.specs.Runs.{Run};
+ghost use Rattle.threads_player.specs.Faults.{tells_of_writer};
+ghost use Rattle.threads_player.specs.Groups.{IsSize};
+ghost use Rattle.threads_player.specs.Reports.{report_text};
+ghost use Rattle.threads_player.specs.Runs.{IsRunOf, IsSheetRefused};
+
+use crate::{Size, ThreadsFault};
+use counted_io::Sink;
+use node_threads::RunFault;
+use std::alloc::Global;
+use std::sync::Wait;
+use std::thread::Threads;
+
+/// Runs a group of that size, with the sample sheet and the sample issuer, and writes what came of each period: how many lines
+/// its file has, and how many nodes wrote one; and last how many entries the history has, and how many receipts the workers.
+///
+/// The report is rendered whole before the first byte of it goes out, so after any fault but `Write` nothing was written.
+pub fn threads_text<R: Threads + Wait + Sync, W: Sink>(
+    rt: &R,
+    alloc: Global,
+    size: Size,
+    writer: &mut W,
+) -> Result<(), ThreadsFault>
+    requires { IsSize size }
+
+    // With Ok just the report of a run of such a group was written.
+    ensures written { OnOk result ((run : Run) × IsRunOf size run
+        × Appends (W.contents writer.old) (W.contents writer.new) (report_text run)) }
+    ensures front { result ≡ Err ThreadsFault.Write → (run : Run) × IsRunOf size run
+        × AppendsFront (W.contents writer.old) (W.contents writer.new) (report_text run) }
+    ensures refused { result ≡ Err ThreadsFault.Refused → IsSheetRefused }
+    ensures write_fault { result ≡ Err ThreadsFault.Write
+        → Rises (W.failed_calls writer.old) (W.failed_calls writer.new) }
+    ensures untouched { IfErr result (λ fault. fault ≢ ThreadsFault.Write → writer.new ≡ writer.old) }
+
+    // `Write` comes of one failed call, and no other call fails.
+    ensures writes { W.failed_calls writer.new
+        ≡ count_after (tells_of_writer result) (W.failed_calls writer.old) }
+{
+    Err(ThreadsFault::Run(RunFault::OutOfMemory))
+}
