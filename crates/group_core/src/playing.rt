@@ -3,8 +3,7 @@
 ghost use Rattle.std.specs.Prelude.{◌≡◌, ◌<◌, [], length, map, take, IfOk, IfErr, OnOk, OnErr};
 ghost use Rattle.metering_model.specs.Step.{play};
 ghost use Rattle.group_laws.specs.Headline.{AtMostOneIsChosen};
-ghost use Rattle.group_events.specs.Events.{event_of};
-ghost use Rattle.group_events.specs.Replies.{reply_of};
+ghost use Rattle.group_world.specs.Words.{event_of, reply_of};
 ghost use Rattle.group_core.specs.Headline.{AnswersEach, AreExportsOf, ChargesOnce, ExportsAgree, ExportsStay, HasOneList, IsSameGroup, LearnsWhatIsChosen, ListGrows};
 ghost use Rattle.group_core.specs.Playing.{replies_in};
 

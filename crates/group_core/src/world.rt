@@ -6,8 +6,7 @@ ghost use Rattle.metering_model.specs.World.{node_count, opening};
 ghost use Rattle.metering_model.specs.Step.{snapshot, step};
 ghost use Rattle.group_laws.specs.Headline.{AtMostOneIsChosen};
 ghost use Rattle.group_laws.specs.EveryRun.{KeepsLimits};
-ghost use Rattle.group_events.specs.Events.{event_of};
-ghost use Rattle.group_events.specs.Replies.{reply_of};
+ghost use Rattle.group_world.specs.Words.{event_of, reply_of};
 ghost use Rattle.group_world.specs.Reached.{IsReached};
 ghost use Rattle.group_core.specs.Headline.{AreExportsOf, ChargesOnce, ExportsStay, HasOneList, IsExportOf, IsSameGroup, LearnsWhatIsChosen, ListGrows};
 

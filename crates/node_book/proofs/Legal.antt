@@ -9,7 +9,7 @@ use Rattle.metering_model.specs.Step.{or_refused, snapshot, step, play}
 use Rattle.metering_model.specs.History.{Entry, IsLegal}
 use Rattle.metering_model.proofs.PlayLaws.{play-last, replies-last}
 use Rattle.group_laws.proofs.Exports.{journal_never, delivery_never, start_never, restart_never}
-use Rattle.group_events.specs.Replies.{is_exported}
+use Rattle.group_core.specs.Words.{is_exported}
 
 pub legal_begun : (w : World) → IsLegal w [] w
 legal_begun w = record { replies = refl; world = refl }

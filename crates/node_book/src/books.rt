@@ -6,8 +6,7 @@ ghost use Rattle.metering_model.specs.World.{opening};
 ghost use Rattle.metering_model.specs.Step.{step};
 ghost use Rattle.metering_model.specs.History.{IsLegal};
 ghost use Rattle.group_laws.specs.Headline.{HoldsAfter};
-ghost use Rattle.group_events.specs.Events.{event_of};
-ghost use Rattle.group_events.specs.Replies.{reply_of};
+ghost use Rattle.group_core.specs.Words.{event_of, reply_of};
 ghost use Rattle.node_book.specs.Books.{opened};
 ghost use Rattle.node_book.specs.Kept.{entry_of, told_of};
 

@@ -2,7 +2,7 @@
 
 ghost use Rattle.std.specs.Prelude.{◌≡◌, ◌↔◌, ℕ, ◌≤◌, None, Some, false, IfOk, IsTrue, MatchOption};
 ghost use Rattle.metering_model.specs.Transcript.{file_of};
-ghost use Rattle.group_events.specs.Replies.{reply_of};
+ghost use Rattle.group_core.specs.Words.{reply_of};
 ghost use Rattle.node_book.specs.Books.{file_in};
 ghost use Rattle.node_book.specs.Kept.{bytes_in, told_of};
 ghost use Rattle.node_book.specs.Agreement.{is_export_of};
@@ -22,7 +22,7 @@ pub struct Done {
 
 impl Model for Done {
     ghost use Rattle.std.specs.Prelude.{◌≡◌};
-    ghost use Rattle.group_events.specs.Replies.{reply_of};
+    ghost use Rattle.group_core.specs.Words.{reply_of};
     ghost use Rattle.node_book.specs.Books as model;
     ghost use Rattle.node_book.specs.Books.{file_in};
     ghost use Rattle.node_book.specs.Kept.{bytes_in, told_of};

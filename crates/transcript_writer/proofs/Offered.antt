@@ -6,7 +6,7 @@ use Rattle.batch_view.specs.Offers.{IsOfferOf}
 use Rattle.metering_model.specs.Batch.{Batch}
 use Rattle.metering_model.specs.declared.BatchFault.{BatchFault}
 use Rattle.metering_model.specs.World as model
-use Rattle.group_events.specs.Events.{offer_of}
+use Rattle.group_core.specs.Words.{offer_of}
 
 abbrev by_answer : List ℕ → Result Batch BatchFault → model.Offer
 by_answer bytes r = elim r [ Ok b ↦ model.Good bytes | Err fault ↦ model.Bad fault ]

@@ -3,7 +3,7 @@
 ghost use Rattle.std.specs.Prelude.{◌≡◌, IfOk};
 ghost use Rattle.metering_model.specs.Schedule as model;
 ghost use Rattle.metering_model.specs.World as world;
-ghost use Rattle.group_events.specs.Events.{event_of, offer_of};
+ghost use Rattle.group_core.specs.Words.{event_of, offer_of};
 ghost use Rattle.schedule_reader.specs.Events.{HasWholeLines, planned_of};
 
 use batch_view::Offer;

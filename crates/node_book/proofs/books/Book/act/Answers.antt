@@ -2,8 +2,7 @@ use Rattle.std.proofs.Common.{map}
 use Rattle.std.proofs.lemmas.List.{map-append}
 use Rattle.std.specs.Arc.{arc_value}
 use Rattle.metering_model.specs.World.{opening}
-use Rattle.group_events.specs.Events.{event_of}
-use Rattle.group_events.specs.Replies.{reply_of}
+use Rattle.group_core.specs.Words.{event_of, reply_of}
 use Rattle.node_book.specs.Kept.{entry_of}
 use Rattle.node_book.proofs.Legal.{legal_more, export_changes_nothing, on_err}
 use Rattle.node_book.proofs.books.Book.act.Goals as goal
