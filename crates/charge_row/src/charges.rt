@@ -383,22 +383,3 @@ pub fn row<'a>(
     let commitment = commitment_of(sheet, reading);
     row_by(billing, price, commitment, reading, class, was, now)
 }
-
-/// The row of a credit, a tax or an adjustment that is charged whole.
-pub fn new_row<'a>(billing: &Billing<'a>, reading: &Reading<'a>) -> FocusRow<'a>
-    requires flat { is_priced reading.now.kind ≡ false }
-    ensures { (sheet : ModelSheet) (period : ℕ)
-        → ArePeriodTexts sheet.base period billing.now.start_text billing.now.end_text
-        → model_row result ≡ row sheet billing.now.issuer.now (model_reading reading.now) period New (pos 0) reading.now.value }
-{
-    let nothing = Value::new(0).unwrap();
-    row_by(
-        billing,
-        None,
-        None,
-        reading,
-        ChargeClass::New,
-        nothing,
-        reading.value,
-    )
-}
