@@ -1,7 +1,6 @@
 //! Files, rendered batch by batch.
 
-ghost use Rattle.std.specs.Prelude.{◌≡◌, ◌++◌, All, length, IfOk, OnOk, None};
-ghost use Rattle.std.specs.List.{flat_map};
+ghost use Rattle.std.specs.Prelude.{◌≡◌, All, length, IfOk, None};
 ghost use Rattle.metering_model.specs.Cut.{IsAtLeast};
 ghost use Rattle.metering_model.specs.Dates.{IsPeriod};
 ghost use Rattle.metering_model.specs.Holding.{Holding, IsHolding, IsPartOf, LacksNothingUpTo, up_to};
@@ -9,35 +8,15 @@ ghost use Rattle.metering_model.specs.Front.{AreDueBetween};
 ghost use Rattle.metering_model.specs.Step.{first_missing};
 ghost use Rattle.metering_model.specs.JournalRules.{MeetsJournalRules};
 ghost use Rattle.metering_model.specs.Rows.{rows};
-ghost use Rattle.metering_model.specs.File.{file, row_text};
+ghost use Rattle.metering_model.specs.File.{file};
 ghost use Rattle.row_laws.specs.Due.{WereDueBefore, StartsBeforeItsPeriodEnds};
 
 use batch_store::Store;
-use focus_csv::{header_text, row_texts};
-use focus_row::{Issuer, RowsBetween, rows_between};
+use focus_csv::{header_text, put_rows};
+use focus_row::{Issuer, rows_between};
 use period_cut::{Cut, Period};
 use price_sheet::Sheet;
 use std::alloc::{AllocError, Global};
-
-/// Appends the lines of the rows that are still to come. Of the rows, one batch's are in memory at a time.
-fn put_batches(
-    alloc: Global,
-    left: &mut RowsBetween<'_>,
-    text: &mut Vec<u8>,
-) -> Result<(), AllocError>
-    ensures { OnOk result (text.new.items ≡ text.old.items ++ flat_map row_text left.old) }
-{
-    loop {
-        let Ok(next) = left.next_batch(alloc) else {
-            return Err(AllocError);
-        };
-        let Some(rows) = next else {
-            return Ok(());
-        };
-        let piece = row_texts(alloc, &rows)?;
-        text.extend_from_slice(&piece)?;
-    }
-}
 
 /// The file of a billing period between two cuts of what a store has: from the bytes of its batches to those of the file.
 pub fn file_between(
@@ -72,6 +51,6 @@ pub fn file_between(
     let mut text = Vec::new(alloc);
     text.extend_from_slice(header_text())?;
     let mut left = rows_between(alloc, store, sheet, issuer, period, from, to)?;
-    put_batches(alloc, &mut left, &mut text)?;
+    put_rows(alloc, &mut left, &mut text)?;
     Ok(text)
 }

@@ -2,6 +2,7 @@
 #![tactic(auto)]
 
 mod files;
+mod input;
 mod play;
 mod rate;
 

@@ -10,40 +10,12 @@ ghost use Rattle.schedule_reader.specs.Schedules.{schedule_in};
 ghost use Rattle.transcript_writer.specs.Played.{IsFrontOfTranscript, IsTranscriptOf};
 ghost use Rattle.schedule_player.specs.Faults.{tells_of_reader, tells_of_writer};
 
+use crate::input::read_input;
 use crate::rate::PlayFault;
-use counted_io::{Input, ReadFault, Sink, Source, read_to_limit};
-use schedule_text::{ScheduleCode, ScheduleFault};
+use counted_io::{Sink, Source};
+use schedule_text::ScheduleFault;
 use std::alloc::Global;
 use transcript_writer::{TranscriptFault, write_transcript};
-
-/// The most bytes that a schedule may have.
-const MOST_BYTES: u32 = 16_777_216;
-
-/// All of the input.
-fn read_schedule<R: Source>(alloc: Global, reader: &mut R) -> Result<Vec<u8>, PlayFault>
-    ensures whole { IfOk result
-        (λ bytes. IfSome (R.remaining reader.old) (λ input. bytes.items ≡ input)) }
-    ensures end { OnOk result (IsAtEnd (R.remaining reader.new)) }
-    ensures section { (fault : ScheduleFault) → result ≡ Err (PlayFault.Schedule fault)
-        → (fault ≢ ScheduleFault.OutOfMemory) × IfSome (R.remaining reader.old) (λ input. schedule_in input ≡ Err fault) }
-    ensures fault { result ≡ Err PlayFault.Read
-        → Rises (R.failed_calls reader.old) (R.failed_calls reader.new) }
-    ensures taken { ConsumesAtMost 16_777_217 (R.remaining reader.old) (R.remaining reader.new) }
-    ensures count { R.failed_calls reader.new
-        ≡ count_after (tells_of_reader result) (R.failed_calls reader.old) }
-    ensures no_write { result ≢ Err PlayFault.Write }
-    ensures no_refusal { (refusal : Refusal) → result ≢ Err (PlayFault.Refused refusal) }
-{
-    match read_to_limit(alloc, reader, MOST_BYTES) {
-        Ok(Input::Whole(bytes)) => Ok(bytes),
-        Ok(Input::TooLong) => Err(PlayFault::Schedule(ScheduleFault::Refused {
-            code: ScheduleCode::TooLong,
-            line: 1,
-        })),
-        Err(ReadFault::Failed) => Err(PlayFault::Read),
-        Err(ReadFault::OutOfMemory) => Err(PlayFault::OutOfMemory),
-    }
-}
 
 /// Plays the schedule that an input is, and writes its transcript.
 fn play_input<W: Sink>(alloc: Global, input: &[u8], writer: &mut W) -> Result<(), PlayFault>
@@ -107,6 +79,6 @@ pub fn play_text<R: Source, W: Sink>(
     ensures writes { W.failed_calls writer.new
         ≡ count_after (tells_of_writer result) (W.failed_calls writer.old) }
 {
-    let input = read_schedule(alloc, reader)?;
+    let input = read_input(alloc, reader)?;
     play_input(alloc, &input, writer)
 }

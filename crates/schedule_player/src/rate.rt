@@ -20,15 +20,16 @@ ghost use Rattle.schedule_player.specs.Charges.{IsFileOf};
 ghost use Rattle.schedule_player.specs.Faults.{tells_of_reader, tells_of_writer};
 
 use crate::files::file_between;
+use crate::input::read_input;
 use batch_store::Store;
 use batch_view::{BatchView, Offer, OwnedBatch};
-use counted_io::{Input, ReadFault, Sink, Source, read_to_limit, write_all};
+use counted_io::{Sink, Source, write_all};
 use focus_row::Issuer;
 use journal_rules::first_broken_alone;
 use metering_model::{BrokenRule, Refusal};
 use period_cut::{Cut, Period};
 use price_sheet::Sheet;
-use schedule_text::{ScheduleCode, ScheduleFault, rate_input};
+use schedule_text::{ScheduleFault, rate_input};
 use std::alloc::{AllocError, Global};
 use std::sync::Arc;
 use thiserror::Error;
@@ -55,9 +56,6 @@ pub enum PlayFault {
 
 /// The agents of a group.
 const AGENTS: u8 = 64;
-
-/// The most bytes that an input may have.
-const MOST_BYTES: u32 = 16_777_216;
 
 /// Reads a text that may begin with the sections of a sheet and of an issuer and ends with a batch, and writes the
 /// batch's file in a billing period, from the zero cut to its front.
@@ -100,33 +98,6 @@ pub fn rate_text<R: Source, W: Sink>(
 {
     let input = read_input(alloc, reader)?;
     rate_input_text(alloc, period, input, writer)
-}
-
-/// All of the input.
-fn read_input<R: Source>(alloc: Global, reader: &mut R) -> Result<Vec<u8>, PlayFault>
-    ensures whole { IfOk result
-        (λ bytes. IfSome (R.remaining reader.old) (λ input. bytes.items ≡ input)) }
-    ensures end { OnOk result (IsAtEnd (R.remaining reader.new)) }
-    ensures section { (fault : ScheduleFault) → result ≡ Err (PlayFault.Schedule fault)
-        → (fault ≡ ScheduleFault.Refused ScheduleCode.TooLong 1) × IfSome (R.remaining reader.old)
-        (λ input. (period : ℕ) → rated_file period input ≡ Err (PlayFault.Schedule fault)) }
-    ensures fault { result ≡ Err PlayFault.Read
-        → Rises (R.failed_calls reader.old) (R.failed_calls reader.new) }
-    ensures taken { ConsumesAtMost 16_777_217 (R.remaining reader.old) (R.remaining reader.new) }
-    ensures count { R.failed_calls reader.new
-        ≡ count_after (tells_of_reader result) (R.failed_calls reader.old) }
-    ensures no_write { result ≢ Err PlayFault.Write }
-    ensures no_refusal { (refusal : Refusal) → result ≢ Err (PlayFault.Refused refusal) }
-{
-    match read_to_limit(alloc, reader, MOST_BYTES) {
-        Ok(Input::Whole(bytes)) => Ok(bytes),
-        Ok(Input::TooLong) => Err(PlayFault::Schedule(ScheduleFault::Refused {
-            code: ScheduleCode::TooLong,
-            line: 1,
-        })),
-        Err(ReadFault::Failed) => Err(PlayFault::Read),
-        Err(ReadFault::OutOfMemory) => Err(PlayFault::OutOfMemory),
-    }
 }
 
 /// What a fault of the sections comes to.

@@ -1,6 +1,6 @@
-use Rattle.std.proofs.Common.{refl, rules}
+use Rattle.std.proofs.Common.{refl, rules, sym}
 use Rattle.schedule_text.specs.declared.faults.ScheduleFault.TheVariants.{OutOfMemory}
-use Rattle.schedule_player.proofs.PlayedLaws.{told_of_known, of_known, front_of_known, nothing_of}
+use Rattle.schedule_player.proofs.PlayedLaws.{longer_schedule, plain_fault, told_of_known, of_known, front_of_known, nothing_of}
 use Rattle.schedule_player.proofs.play.play_text.Goals as goal
 
 pub returns-clause-transcript : goal.returns-clause-transcript
@@ -18,8 +18,13 @@ returns-clause-memory g c = λ is.
     front_of_known (g.R.Source.remaining c.args.reader.now) _ _ c.in_ok-input.input.items c.in_ok-input.ensures.whole
     (rw c.deref.ensures.value at (c.play_input.ensures.memory is))
 
+pub returns-in_err-input-clause-section : goal.returns-in_err-input-clause-section
+returns-in_err-input-clause-section g c = λ fault is.
+    let told = c.in_err-input.ensures.section fault (search rules) in
+    longer_schedule (g.R.Source.remaining c.args.reader.now) fault told.1 (sym told.0)
+
 pub returns-in_err-input-clause-memory : goal.returns-in_err-input-clause-memory
 returns-in_err-input-clause-memory g c = λ is. nothing_of (g.R.Source.remaining c.args.reader.now) (g.W.Sink.contents c.args.writer.now)
 
 pub returns-in_err-input-clause-plain_memory : goal.returns-in_err-input-clause-plain_memory
-returns-in_err-input-clause-plain_memory g c = λ is. (c.in_err-input.ensures.section OutOfMemory (search rules)).0 refl
+returns-in_err-input-clause-plain_memory g c = λ is. plain_fault OutOfMemory (sym (c.in_err-input.ensures.section OutOfMemory (search rules)).0) refl

@@ -1,12 +1,14 @@
-use Rattle.std.proofs.Common.{rules}
+use Rattle.std.proofs.Common.{rules, sym}
 use Rattle.schedule_text.specs.declared.faults.ScheduleFault.TheVariants.{OutOfMemory}
 use Rattle.schedule_player.specs.declared.rate.PlayFault.TheVariants.{Schedule}
-use Rattle.schedule_player.proofs.RatedLaws.{at_period}
+use Rattle.schedule_player.proofs.RatedLaws.{at_period, longer_known}
 use Rattle.schedule_player.proofs.rate.rate_text.Goals as goal
 
 pub returns-in_err-input-clause-section : goal.returns-in_err-input-clause-section
 returns-in_err-input-clause-section g c = λ fault is.
-    at_period (g.R.Source.remaining c.args.reader.now) c.args.period (Schedule fault) ((c.in_err-input.ensures.section fault (search rules)).1)
+    let known = g.R.Source.remaining c.args.reader.now in
+    let told = c.in_err-input.ensures.section fault (search rules) in
+    at_period known c.args.period (Schedule fault) (longer_known known fault told.1 (sym told.0))
 
 pub returns-in_err-input-clause-plain_memory : goal.returns-in_err-input-clause-plain_memory
 returns-in_err-input-clause-plain_memory g c = λ is.
