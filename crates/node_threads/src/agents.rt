@@ -2,8 +2,7 @@
 
 use crate::desks::{Desk, Report};
 use batch_view::Offer;
-use group_core::{Event, Reply};
-use node_book::{Done, Log, Worker};
+use node_book::{Done, Event, Log, Reply, Worker};
 use std::alloc::{AllocError, Global};
 use std::sync::Wait;
 

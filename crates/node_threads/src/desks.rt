@@ -3,8 +3,7 @@
 ghost use Rattle.std.specs.Prelude.{◌≡◌, ◌≤◌, vec_len};
 
 use crossbeam_channel::{Receiver, Sender, bounded, unbounded};
-use group_core::Event;
-use node_book::{Book, Plan, Receipt, Worker};
+use node_book::{Book, Event, Plan, Receipt, Worker};
 use std::alloc::{AllocError, Global};
 use std::sync::{Arc, Mutex, Wait};
 use std::thread;

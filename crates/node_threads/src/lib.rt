@@ -11,5 +11,5 @@ mod threads;
 
 pub use gates::Gate;
 pub use groups::run_group;
-pub use node_book::{Book, Done, Entry, Log, Plan, Receipt, Worker};
+pub use node_book::{Book, Done, Entry, Event, Log, Plan, Receipt, Reply, Worker};
 pub use runs::{Run, RunFault};

@@ -3,8 +3,7 @@
 use crate::Gate;
 use crate::desks::{Desk, Note, Report};
 use crossbeam_channel::Receiver;
-use group_core::{Event, Reply};
-use node_book::{Done, Log, Receipt, Worker};
+use node_book::{Done, Event, Log, Receipt, Reply, Worker};
 use std::alloc::{AllocError, Global};
 use std::sync::Wait;
 use std::thread;

@@ -3,8 +3,7 @@
 use crate::groups::ONE;
 use crate::samples::plan_of;
 use batch_view::Offer;
-use group_core::{Event, Reply};
-use node_threads::{Book, Done, Log, Plan, Receipt, Worker};
+use node_threads::{Book, Done, Event, Log, Plan, Receipt, Reply, Worker};
 use std::alloc::{AllocError, Global};
 use std::sync::Arc;
 use std::test::Fail;
