@@ -8,4 +8,6 @@ mod gates;
 #[cfg(test)]
 mod groups;
 #[cfg(test)]
+mod reports;
+#[cfg(test)]
 mod samples;

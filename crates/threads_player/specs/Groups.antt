@@ -1,5 +1,6 @@
 -- The group that is run: how large it may be, and what its agents journal.
-use Rattle.std.specs.Prelude.{ℕ, ◌+◌, ◌-◌, ◌*◌, ◌/◌, ◌≤◌, List, ◌++◌, map, codes, decimal, range_with_len}
+use Rattle.std.specs.Prelude.{ℕ, ◌+◌, ◌-◌, ◌*◌, ◌/◌, ◌≤◌, List, ◌++◌, map, codes}
+use Rattle.std.specs.List.{range_with_len}
 use Rattle.metering_model.specs.Dates.{day_text, stamp_text, time_text}
 use Rattle.metering_model.specs.Transcript.{line, with_number}
 use Rattle.threads_player.specs.declared.sizes.Size.{Size}

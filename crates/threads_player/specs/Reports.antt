@@ -1,6 +1,6 @@
 -- What is reported of a run.
-use Rattle.std.specs.Prelude.{ℕ, if◌then◌else◌, List, [], ◌∷◌, ◌++◌, Option, Some, None, codes, count_by, length, range_with_len}
-use Rattle.std.specs.List.{flat_map}
+use Rattle.std.specs.Prelude.{ℕ, if◌then◌else◌, List, [], ◌∷◌, ◌++◌, Option, Some, None, codes, count_by, length}
+use Rattle.std.specs.List.{flat_map, range_with_len}
 use Rattle.metering_model.specs.Transcript.{line, line_count, with_number}
 use Rattle.node_book.specs.Books.{Log, Told, file_in}
 use Rattle.node_book.specs.Agreement.{is_export_of}

@@ -1,5 +1,5 @@
 -- Which runs are reported.
-use Rattle.std.specs.Prelude.{◌≡◌, List, map, Ok, Err}
+use Rattle.std.specs.Prelude.{◌≡◌, map, Ok, Err}
 use Rattle.metering_model.specs.History.{IsLegal}
 use Rattle.group_laws.specs.Headline.{HoldsAfter}
 use Rattle.price_sheet.specs.Samples.{sample_issuer}

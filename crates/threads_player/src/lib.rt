@@ -2,6 +2,12 @@
 #![tactic(auto)]
 
 mod faults;
+mod gates;
+mod journals;
+mod numbers;
+mod plans;
+mod reports;
+mod samples;
 mod sizes;
 mod texts;
 

@@ -1,21 +1,38 @@
 //! A run, and the report of it.
 
-ghost use Rattle.std.specs.Prelude.{◌≡◌, ◌≢◌, Err, OnOk, IfErr};
+ghost use Rattle.std.specs.Prelude.{◌≡◌, ◌≢◌, Err, OnOk, IfOk, IfErr};
 ghost use Rattle.std.specs.Io.KnownBytes.{Appends};
 ghost use Rattle.counted_io.specs.Counts.{Rises, count_after};
 ghost use Rattle.counted_io.specs.Writing.{AppendsFront};
-ghost use Rattle.node_threads.specs.Runs.{Run};
+ghost use Rattle.node_threads.specs.Runs.{Run as ModelRun};
 ghost use Rattle.threads_player.specs.Faults.{tells_of_writer};
 ghost use Rattle.threads_player.specs.Groups.{IsSize};
 ghost use Rattle.threads_player.specs.Reports.{report_text};
 ghost use Rattle.threads_player.specs.Runs.{IsRunOf, IsSheetRefused};
 
+use crate::gates::Open;
+use crate::plans::plan;
+use crate::reports::report;
 use crate::{Size, ThreadsFault};
-use counted_io::Sink;
-use node_threads::RunFault;
+use counted_io::{Sink, write_all};
+use node_threads::{Run, RunFault, run_group};
 use std::alloc::Global;
 use std::sync::Wait;
 use std::thread::Threads;
+
+/// A run of a group of that size.
+fn run_of<R: Threads + Wait + Sync>(rt: &R, alloc: Global, size: Size) -> Result<Run, ThreadsFault>
+    requires { IsSize size }
+    ensures run { IfOk result (λ run. IsRunOf size run) }
+    ensures refused { result ≡ Err ThreadsFault.Refused → IsSheetRefused }
+    ensures unwritten { result ≢ Err ThreadsFault.Write }
+{
+    let plan = plan(alloc, size)?;
+    match run_group(rt, alloc, plan, &Open) {
+        Ok(run) => Ok(run),
+        Err(fault) => Err(ThreadsFault::Run(fault)),
+    }
+}
 
 /// Runs a group of that size, with the sample sheet and the sample issuer, and writes what came of each period: how many lines
 /// its file has, and how many nodes wrote one; and last how many entries the history has, and how many receipts the workers.
@@ -30,9 +47,9 @@ pub fn threads_text<R: Threads + Wait + Sync, W: Sink>(
     requires { IsSize size }
 
     // With Ok just the report of a run of such a group was written.
-    ensures written { OnOk result ((run : Run) × IsRunOf size run
+    ensures written { OnOk result ((run : ModelRun) × IsRunOf size run
         × Appends (W.contents writer.old) (W.contents writer.new) (report_text run)) }
-    ensures front { result ≡ Err ThreadsFault.Write → (run : Run) × IsRunOf size run
+    ensures front { result ≡ Err ThreadsFault.Write → (run : ModelRun) × IsRunOf size run
         × AppendsFront (W.contents writer.old) (W.contents writer.new) (report_text run) }
     ensures refused { result ≡ Err ThreadsFault.Refused → IsSheetRefused }
     ensures write_fault { result ≡ Err ThreadsFault.Write
@@ -43,5 +60,12 @@ pub fn threads_text<R: Threads + Wait + Sync, W: Sink>(
     ensures writes { W.failed_calls writer.new
         ≡ count_after (tells_of_writer result) (W.failed_calls writer.old) }
 {
-    Err(ThreadsFault::Run(RunFault::OutOfMemory))
+    let run = run_of(rt, alloc, size)?;
+    let Ok(text) = report(alloc, &run) else {
+        return Err(ThreadsFault::Run(RunFault::OutOfMemory));
+    };
+    match write_all(writer, &text) {
+        Ok(_) => Ok(()),
+        Err(_) => Err(ThreadsFault::Write),
+    }
 }

@@ -1,0 +1,3 @@
+mod LineFeeds
+mod Pieces
+mod Ranges

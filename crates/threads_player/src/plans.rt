@@ -1,0 +1,59 @@
+//! The plan of a group.
+
+ghost use Rattle.std.specs.Prelude.{◌≡◌, ◌≢◌, Ok, Err, vec_len, IfOk};
+ghost use Rattle.node_book.specs.Logs.{plan_of};
+ghost use Rattle.price_sheet.specs.Samples.{sample_issuer};
+ghost use Rattle.price_sheet.specs.SheetReading.{sheet_of_text};
+ghost use Rattle.threads_player.specs.Groups.{journals_of};
+ghost use Rattle.threads_player.specs.Runs.{IsSheetRefused};
+ghost use Rattle.threads_player.specs.SampleSheet.{sample_sheet_text};
+
+use crate::journals::journals;
+use crate::samples::sample_sheet;
+use crate::{Size, ThreadsFault};
+use node_threads::{Plan, RunFault};
+use price_sheet::{Issuer, Sheet};
+use std::alloc::{AllocError, Global};
+use std::sync::Arc;
+
+/// How often a gate is asked.
+const TURNS: u32 = 1_000_000;
+
+/// A plan with that sheet.
+fn plan_with(alloc: Global, size: Size, sheet: Sheet) -> Result<Plan, AllocError>
+    ensures agents { IfOk result (λ plan. vec_len plan.journals ≡ size.agents) }
+    ensures plan { IfOk result (λ plan. plan_of plan ≡ record {
+      nodes = size.nodes;
+      sheet = sheet;
+      issuer = sample_issuer;
+      journals = journals_of size;
+      periods = size.periods;
+    }) }
+{
+    Ok(Plan {
+        nodes: size.nodes,
+        sheet: Arc::new(alloc, sheet)?,
+        issuer: Arc::new(alloc, Issuer::sample(alloc)?)?,
+        journals: journals(alloc, size)?,
+        periods: u16::from(size.periods),
+        turns: TURNS,
+    })
+}
+
+/// The plan of a group of that size, with the sample sheet and the sample issuer.
+pub(crate) fn plan(alloc: Global, size: Size) -> Result<Plan, ThreadsFault>
+    ensures nodes { IfOk result (λ plan. (plan_of plan).nodes ≡ size.nodes) }
+    ensures sheet { IfOk result (λ plan. sheet_of_text sample_sheet_text ≡ Ok (plan_of plan).sheet) }
+    ensures issuer { IfOk result (λ plan. (plan_of plan).issuer ≡ sample_issuer) }
+    ensures journals { IfOk result (λ plan. (plan_of plan).journals ≡ journals_of size) }
+    ensures periods { IfOk result (λ plan. (plan_of plan).periods ≡ size.periods) }
+    ensures agents { IfOk result (λ plan. vec_len plan.journals ≡ size.agents) }
+    ensures refused { result ≡ Err ThreadsFault.Refused → IsSheetRefused }
+    ensures unwritten { result ≢ Err ThreadsFault.Write }
+{
+    let sheet = sample_sheet(alloc)?;
+    match plan_with(alloc, size, sheet) {
+        Ok(plan) => Ok(plan),
+        Err(_) => Err(ThreadsFault::Run(RunFault::OutOfMemory)),
+    }
+}
