@@ -29,9 +29,9 @@ __attribute__((constructor)) static void begin(void) {
     for (; *fault; fault++) left = 10 * left + (*fault - '0');
 }
 
-/* Whether this call is the one. */
+/* Whether this call is the one. Threads may ask at once. */
 static int goes_wrong(int is_growth) {
-    if (!kind || is_growth != (kind == 'g') || --left) return 0;
+    if (!kind || is_growth != (kind == 'g') || __atomic_sub_fetch(&left, 1, __ATOMIC_RELAXED)) return 0;
     syscall(NUMBER_OF_WRITE, 9, "!", 1ul);
     return 1;
 }
