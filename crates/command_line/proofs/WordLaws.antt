@@ -1,7 +1,7 @@
 -- What a parse that succeeds, or fails, says of what the words ask for.
-use Rattle.std.proofs.Common.{◌≡◌, ◌≢◌, ◌∙◌, sym, ap, ℕ, ◌<◌, ◌≤◌, ◌^◌, List, [], ◌∷◌, codes, slice_index, Option, Some, None, IfSome, is_some, option_map, true, refl, inl, inr, arith}
+use Rattle.std.proofs.Common.{◌≡◌, ◌≢◌, ◌∙◌, sym, ap, ℕ, ◌<◌, ◌^◌, List, [], ◌∷◌, codes, slice_index, Option, Some, None, IfSome, is_some, option_map, true, refl, inl, inr, arith}
 use Rattle.std.specs.Str.Parse.{ParsesUnsigned, ExplainsUnsignedError, HasUnsignedDigitsIfOk}
-use Rattle.clap.specs.Words.{ReadsOne, Row, Text, found_of, is_simple, kind_of, one_of, one_text, rows_of, subcommand_of, subcommand_rows_of}
+use Rattle.clap.specs.Words.{ReadsOne, Row, Text, found_of, is_simple, kind_of, one_text, rows_of, subcommand_of, subcommand_rows_of}
 use Rattle.clap.specs.Matches.{subcommand_name_of}
 use Rattle.clap.specs.Kinds.{Kinds, HasKind}
 use Rattle.clap.specs.Faults.{fault_of, is_simple_and_free}
@@ -18,7 +18,7 @@ use Rattle.metering_model.specs.Dates.{IsPeriod}
 use Rattle.command_line.specs.declared.commands.Command.{Command}
 use Rattle.command_line.specs.declared.commands.Command.TheVariants.{Rate, Play, Threads}
 use Rattle.threads_player.specs.declared.sizes.Size.{Size}
-use Rattle.command_line.specs.CommandLine.{grammar_of_focusd, Asks, AsksForPlay, GivesNumber, GivesSize, SpellsNumber}
+use Rattle.command_line.specs.CommandLine.{grammar_of_focusd, Asks, AsksForPlay, GivesNumber, GivesSize}
 
 pub grammar_is_simple : is_simple grammar_of_focusd ≡ true
 unfolding clap_on_literals

@@ -1,14 +1,12 @@
 use Rattle.std.proofs.Common.{◌≡◌, ◌≢◌, ℕ, List, Option, Some, None, Err, IfSome, ap, inl, inr, refl, rules}
-use Rattle.std.specs.Io.KnownBytes.{Appends, IsAtEnd, Keeps}
+use Rattle.std.specs.Io.KnownBytes.{Keeps}
 use Rattle.metering_model.specs.declared.Refusal.{Refusal}
 use Rattle.schedule_text.specs.declared.faults.ScheduleFault.{ScheduleFault}
-use Rattle.schedule_text.specs.declared.faults.ScheduleFault.TheVariants as section
 use Rattle.schedule_reader.specs.Schedules.{schedule_in}
 use Rattle.schedule_player.specs.declared.rate.PlayFault.{PlayFault}
 use Rattle.schedule_player.specs.declared.rate.PlayFault.TheVariants as play
 use Rattle.schedule_player.specs.RateInput.{rated_file}
 use Rattle.threads_player.specs.declared.faults.ThreadsFault.{ThreadsFault}
-use Rattle.threads_player.specs.declared.faults.ThreadsFault.TheVariants as threads
 use Rattle.threads_player.specs.declared.sizes.Size.{Size}
 use Rattle.threads_player.specs.Runs.{IsSheetRefused}
 use Rattle.command_line.specs.declared.commands.Command.{Command}

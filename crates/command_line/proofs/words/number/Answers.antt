@@ -1,4 +1,4 @@
-use Rattle.std.proofs.Common.{◌≡◌, ◌<◌, ◌^◌, Some, None, arith, refl}
+use Rattle.std.proofs.Common.{◌<◌, ◌^◌, Some, None, arith, refl}
 use Rattle.clap.specs.Words.{found_of, one_text}
 use Rattle.command_line.proofs.WordLaws.{no_number, one_number, some_is_not_none, spelled_number}
 use Rattle.command_line.proofs.words.number.Goals as goal
