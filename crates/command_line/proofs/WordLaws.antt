@@ -1,7 +1,7 @@
 -- What a parse that succeeds, or fails, says of what the words ask for.
 use Rattle.std.proofs.Common.{◌≡◌, ◌≢◌, ◌∙◌, sym, ap, ℕ, ◌<◌, ◌^◌, List, [], ◌∷◌, codes, slice_index, Option, Some, None, IfSome, is_some, option_map, true, refl, inl, inr, arith}
 use Rattle.std.specs.Str.Parse.{ParsesUnsigned, ExplainsUnsignedError, HasUnsignedDigitsIfOk}
-use Rattle.clap.specs.Words.{ReadsOne, Row, Text, found_of, is_simple, kind_of, one_of, one_text, rows_of, subcommand_of, subcommand_rows_of}
+use Rattle.clap.specs.Words.{ReadsOne, Row, Text, found_of, is_simple, kind_of, one_text, rows_of, subcommand_of, subcommand_rows_of}
 use Rattle.clap.specs.Matches.{subcommand_name_of}
 use Rattle.clap.specs.Kinds.{Kinds, HasKind}
 use Rattle.clap.specs.Faults.{fault_of, is_simple_and_free}
@@ -16,8 +16,9 @@ use Rattle.std.specs.Box.{box_value}
 use Rattle.std.specs.Borrow.{Bor}
 use Rattle.metering_model.specs.Dates.{IsPeriod}
 use Rattle.command_line.specs.declared.commands.Command.{Command}
-use Rattle.command_line.specs.declared.commands.Command.TheVariants.{Rate, Play}
-use Rattle.command_line.specs.CommandLine.{grammar_of_focusd, Asks, AsksForPlay, SpellsNumber}
+use Rattle.command_line.specs.declared.commands.Command.TheVariants.{Rate, Play, Threads}
+use Rattle.threads_player.specs.declared.sizes.Size.{Size}
+use Rattle.command_line.specs.CommandLine.{grammar_of_focusd, Asks, AsksForPlay, GivesNumber, GivesSize}
 
 pub grammar_is_simple : is_simple grammar_of_focusd ≡ true
 unfolding clap_on_literals
@@ -36,6 +37,7 @@ only_memory (k ∷ ks) e none fault = absurd (cc)
 pub taken_of : (words : List Text) (command : Command) → Asks words command → fault_of grammar_of_focusd words ≡ []
 taken_of words (Rate period) asked = asked.taken
 taken_of words Play asked = asked.taken
+taken_of words (Threads size) asked = asked.taken
 
 abbrev entered_of : {A : Type 0} → Option A → (A → Text) → (A → List Row) → Option (Text × List Row)
 entered_of {A} o name_of rows = let both : A → Text × List Row = λ a. (name_of a, rows a) in option_map both o
@@ -64,9 +66,10 @@ name_met m name rs entered =
 
 -- Words that ask for something meet one of the subcommands.
 pub meets_one : (words : List Text) (m : ArgMatches) (command : Command) → Asks words command → subcommand_rows_of m ≡ subcommand_of grammar_of_focusd words
-    → (subcommand_name_of m ≢ Some (codes "play")) → (subcommand_name_of m ≢ Some (codes "rate")) → ⊥
-meets_one words m (Rate period) asked same no_play no_rate = no_rate (name_met m (codes "rate") asked.rows (same ∙ asked.named))
-meets_one words m Play asked same no_play no_rate = no_play (name_met m (codes "play") asked.rows (same ∙ asked.named))
+    → (subcommand_name_of m ≢ Some (codes "play")) → (subcommand_name_of m ≢ Some (codes "threads")) → (subcommand_name_of m ≢ Some (codes "rate")) → ⊥
+meets_one words m (Rate period) asked same no_play no_threads no_rate = no_rate (name_met m (codes "rate") asked.rows (same ∙ asked.named))
+meets_one words m Play asked same no_play no_threads no_rate = no_play (name_met m (codes "play") asked.rows (same ∙ asked.named))
+meets_one words m (Threads size) asked same no_play no_threads no_rate = no_threads (name_met m (codes "threads") asked.rows (same ∙ asked.named))
 
 -- What is met under the name `play` is asked for.
 pub asks_for_play : (words : List Text) (m : ArgMatches) (r : Option (Bor ArgMatches)) → is_some r ≡ true → (is_some r ≡ true → subcommand_name_of m ≡ Some (codes "play"))
@@ -79,48 +82,84 @@ asks_for_play words m (Some p) there found has_rows taken same = record {
   named = sym same ∙ met m (codes "play") (rows_of (found_of p.now)) (found there) has_rows;
 }
 
--- what `get_one` says of a number
-abbrev pub Reads : Text → Option ℕ → Type 0
-Reads = ReadsOne (λ t r. ParsesUnsigned 16 10 t r × ExplainsUnsignedError 10 t r × HasUnsignedDigitsIfOk t r)
+-- what `get_one` says of a number of so many bits
+abbrev pub Reads : ℕ → Text → Option ℕ → Type 0
+Reads bits = ReadsOne (λ t r. ParsesUnsigned bits 10 t r × ExplainsUnsignedError 10 t r × HasUnsignedDigitsIfOk t r)
 
 -- a number that is read is spelled by a text of the option
-pub spelled_number : (f : Found) (o : Option Text) (r : Option ℕ) (n : ℕ) → one_text f (codes "period") ≡ o → r ≡ Some n
-    → (o ≡ None → r ≡ None) → ((t : Text) → o ≡ Some t → Reads t r)
-    → (t : Text) × (one_of (codes "period") (rows_of f) ≡ Some t) × SpellsNumber t n
-spelled_number f None r n is is_read none value = let gone = none refl in absurd (cc)
-spelled_number f (Some t) r n is is_read none value =
-    let read = rw is_read at (value t refl) in
-    (t, sym (one_text-rows f (codes "period")) ∙ is, (read.0.0.0, sym read.0.1))
+pub spelled_number : (bits : ℕ) (option : Text) (f : Found) (o : Option Text) (r : Option ℕ) (n : ℕ) → one_text f option ≡ o → r ≡ Some n
+    → (o ≡ None → r ≡ None) → ((t : Text) → o ≡ Some t → Reads bits t r)
+    → GivesNumber (rows_of f) option n
+spelled_number bits option f None r n is is_read none value = let gone = none refl in absurd (cc)
+spelled_number bits option f (Some t) r n is is_read none value =
+    let read = rw is_read at (value t refl) in record {
+      text = t;
+      given = sym (one_text-rows f option) ∙ is;
+      spelled = (read.0.0.0, sym read.0.1);
+    }
 
--- a text that spells a number below 2^16 is read as it
-pub no_number : (f : Found) (t : Text) (r : Option ℕ) (n : ℕ) → one_of (codes "period") (rows_of f) ≡ Some t → SpellsNumber t n → n < 2 ^ 16
-    → ((u : Text) → one_text f (codes "period") ≡ Some u → Reads u r) → r ≡ Some n
-no_number f t None n given spelled small value =
-    let failed = value t (one_text-rows f (codes "period") ∙ given) in
-    absurd (failed.1.0 (spelled.0, rw spelled.1 small))
-no_number f t (Some m) n given spelled small value =
-    let read = value t (one_text-rows f (codes "period") ∙ given) in
-    ap Some (read.0.1 ∙ spelled.1)
+-- a text that spells a number of so many bits is read as it
+pub no_number : (bits : ℕ) (option : Text) (f : Found) (r : Option ℕ) (n : ℕ) → GivesNumber (rows_of f) option n → n < 2 ^ bits
+    → ((u : Text) → one_text f option ≡ Some u → Reads bits u r) → r ≡ Some n
+no_number bits option f None n gives small value =
+    let failed = value gives.text (one_text-rows f option ∙ gives.given) in
+    absurd (failed.1.0 (gives.spelled.0, rw gives.spelled.1 small))
+no_number bits option f (Some m) n gives small value =
+    let read = value gives.text (one_text-rows f option ∙ gives.given) in
+    ap Some (read.0.1 ∙ gives.spelled.1)
 
 abbrev name_of : Option (Text × List Row) → Text
 name_of None = []
 name_of (Some p) = p.0
 
 -- no subcommand has two names
-other_names : (o : Option (Text × List Row)) (rows others : List Row) → o ≡ Some (codes "rate", rows) → o ≡ Some (codes "play", others) → ⊥
-other_names o rows others one two =
-    let names : codes "rate" ≡ codes "play" = ap name_of (sym one ∙ two) in
-    let numbers : ◌≡◌ {A = ℕ} 114 112 = ap (λ (t : Text). slice_index t 0) names in
-    absurd (omega (arith, numbers))
+other_names : (o : Option (Text × List Row)) (one two : Text) (rows others : List Row) → slice_index one 0 ≢ slice_index two 0 → o ≡ Some (one, rows) → o ≡ Some (two, others) → ⊥
+other_names o one two rows others differ is too = differ (ap (λ (t : Text). slice_index t 0) (ap name_of (sym is ∙ too)))
+
+rate_or_play : slice_index (codes "rate") 0 ≢ slice_index (codes "play") 0
+rate_or_play same = let numbers : ◌≡◌ {A = ℕ} 114 112 = same in absurd (omega (arith, numbers))
+
+threads_or_play : slice_index (codes "threads") 0 ≢ slice_index (codes "play") 0
+threads_or_play same = let numbers : ◌≡◌ {A = ℕ} 116 112 = same in absurd (omega (arith, numbers))
+
+threads_or_rate : slice_index (codes "threads") 0 ≢ slice_index (codes "rate") 0
+threads_or_rate same = let numbers : ◌≡◌ {A = ℕ} 116 114 = same in absurd (omega (arith, numbers))
 
 -- Words that ask for the subcommand whose rows were found ask for the number that is read there.
 pub is_read : (words : List Text) (f : Found) (r : Option ℕ) (command : Command) → Asks words command
-    → subcommand_of grammar_of_focusd words ≡ Some (codes "rate", rows_of f) → ((u : Text) → one_text f (codes "period") ≡ Some u → Reads u r)
+    → subcommand_of grammar_of_focusd words ≡ Some (codes "rate", rows_of f) → ((u : Text) → one_text f (codes "period") ≡ Some u → Reads 16 u r)
     → (n : ℕ) × (r ≡ Some n) × IsPeriod n
 is_read words f r (Rate period) asked named value =
     let both = ap (option_map (λ (p : Text × List Row). p.1)) (sym asked.named ∙ named) in
     let same : asked.rows ≡ rows_of f = cc in
-    let given = rw same at asked.given in
+    let gives : GivesNumber (rows_of f) (codes "period") period = record { text = asked.text; given = rw same at asked.given; spelled = asked.spelled } in
     let small : period < 2 ^ 16 = omega (arith, asked.within) in
-    (period, no_number f asked.text r period given asked.spelled small value, asked.within)
-is_read words f r Play asked named value = absurd (other_names (subcommand_of grammar_of_focusd words) (rows_of f) asked.rows named asked.named)
+    (period, no_number 16 (codes "period") f r period gives small value, asked.within)
+is_read words f r Play asked named value = absurd (other_names _ _ _ _ _ rate_or_play named asked.named)
+is_read words f r (Threads size) asked named value = absurd (other_names _ _ _ _ _ threads_or_rate asked.named named)
+
+-- Words that ask for the subcommand whose rows were found ask for a size that these give.
+pub is_given : (words : List Text) (rows : List Row) (command : Command) → Asks words command
+    → subcommand_of grammar_of_focusd words ≡ Some (codes "threads", rows) → (size : Size) × GivesSize rows size
+is_given words rows (Rate period) asked named = absurd (other_names _ _ _ _ _ threads_or_rate named asked.named)
+is_given words rows Play asked named = absurd (other_names _ _ _ _ _ threads_or_play named asked.named)
+is_given words rows (Threads size) asked named =
+    let both = ap (option_map (λ (p : Text × List Row). p.1)) (sym asked.named ∙ named) in
+    let same : asked.rows ≡ rows = cc in
+    (size, rw same at asked.given)
+
+pub some_is_not_none : (n : ℕ) → None ≡ Some n → ⊥
+some_is_not_none n same = absurd (cc)
+
+pub one_number : (m n : ℕ) → Some m ≡ Some n → m ≡ n
+one_number m n same = cc
+
+pub is_none : {A : Type 0} (o : Option A) → ((a : A) → o ≡ Some a → ⊥) → o ≡ None
+is_none None none = refl
+is_none (Some a) none = absurd (none a refl)
+
+-- Words that ask for a group ask for nothing else.
+pub asks_for_threads : (words : List Text) (command : Command) (size : Size) → Asks words command → Asks words (Threads size) → (other : Size) × (command ≡ Threads other)
+asks_for_threads words (Rate period) size asked threads = absurd (other_names _ _ _ _ _ threads_or_rate threads.named asked.named)
+asks_for_threads words Play size asked threads = absurd (other_names _ _ _ _ _ threads_or_play threads.named asked.named)
+asks_for_threads words (Threads other) size asked threads = (other, refl)

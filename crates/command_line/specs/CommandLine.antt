@@ -6,20 +6,28 @@ use Rattle.clap.specs.Faults.{fault_of}
 use Rattle.clap.specs.declared.builder.action.ArgAction.TheVariants.{Set}
 use Rattle.clap.specs.declared.builder.value_parser.ValueParser.TheVariants as parser
 use Rattle.metering_model.specs.Dates.{IsPeriod}
+use Rattle.threads_player.specs.declared.sizes.Size.{Size}
+use Rattle.threads_player.specs.Groups.{IsSize}
 use Rattle.command_line.specs.declared.commands.Command.{Command}
-use Rattle.command_line.specs.declared.commands.Command.TheVariants.{Rate, Play}
+use Rattle.command_line.specs.declared.commands.Command.TheVariants.{Rate, Play, Threads}
 
--- `--period P`, which may not be left out: a number from 0 to 1,199
-abbrev pub period_option : Rule
-period_option = record (new_rule (codes "period")) {
-  long = Some (codes "period");
+-- `--NAME N`, which may not be left out: a number from the one to the other
+abbrev pub number_option : Text → (least most : ℕ) → Rule
+number_option name least most = record (new_rule name) {
+  long = Some name;
   action = Some Set;
   required = true;
-  parser = Some (parser.Signed (pos 0) (pos 1_199));
+  parser = Some (parser.Signed (pos least) (pos most));
 }
 
 abbrev pub rate_grammar : App
-rate_grammar = with_rule (new_app (codes "rate")) period_option
+rate_grammar = with_rule (new_app (codes "rate")) (number_option (codes "period") 0 1_199)
+
+abbrev pub group_grammar : App
+group_grammar = with_rule (with_rule (new_app (codes "threads")) (number_option (codes "nodes") 1 9)) (number_option (codes "agents") 1 9)
+
+abbrev pub threads_grammar : App
+threads_grammar = with_rule (with_rule group_grammar (number_option (codes "batches") 1 99)) (number_option (codes "periods") 1 12)
 
 -- without a subcommand: the program's name is not among the words
 abbrev pub bare_grammar : App
@@ -30,11 +38,17 @@ abbrev pub play_grammar : App
 play_grammar = new_app (codes "play")
 
 abbrev pub grammar_of_focusd : App
-grammar_of_focusd = with_subcommand (with_subcommand bare_grammar rate_grammar.top) play_grammar.top
+grammar_of_focusd = with_subcommand (with_subcommand (with_subcommand bare_grammar rate_grammar.top) play_grammar.top) threads_grammar.top
 
 -- The text is digits, perhaps behind a plus, and they make the number.
 abbrev pub SpellsNumber : Text → ℕ → Type 0
 SpellsNumber t n = IsNumeral 10 (without_leading_plus t) × (digits_value 10 (without_leading_plus t) ≡ n)
+
+-- the text of the option spells the number
+pub record GivesNumber (rows : List Row) (option : Text) (number : ℕ) : Type 0 where
+  pub text : Text
+  pub given : one_of option rows ≡ Some text
+  pub spelled : SpellsNumber text number
 
 -- The grammar takes the words, they name the subcommand `rate`, and the text of its option spells the period. Of a minus
 -- zero `clap` hands on the zero alone.
@@ -53,7 +67,23 @@ pub record AsksForPlay (words : List Text) : Type 0 where
   pub rows : List Row
   pub named : subcommand_of grammar_of_focusd words ≡ Some (codes "play", rows)
 
+-- The texts of the four options spell the size, and it is one that is run.
+pub record GivesSize (rows : List Row) (size : Size) : Type 0 where
+  pub nodes : GivesNumber rows (codes "nodes") size.nodes
+  pub agents : GivesNumber rows (codes "agents") size.agents
+  pub batches : GivesNumber rows (codes "batches") size.batches
+  pub periods : GivesNumber rows (codes "periods") size.periods
+  pub within : IsSize size
+
+-- The grammar takes the words, they name the subcommand `threads`, and the texts of its options spell the size.
+pub record AsksForThreads (words : List Text) (size : Size) : Type 0 where
+  pub taken : fault_of grammar_of_focusd words ≡ []
+  pub rows : List Row
+  pub named : subcommand_of grammar_of_focusd words ≡ Some (codes "threads", rows)
+  pub given : GivesSize rows size
+
 -- what the words ask for
 abbrev pub Asks : List Text → Command → Type 0
 Asks words (Rate period) = AsksForRate words period
 Asks words Play = AsksForPlay words
+Asks words (Threads size) = AsksForThreads words size

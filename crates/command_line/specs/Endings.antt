@@ -8,10 +8,12 @@ use Rattle.schedule_text.specs.declared.faults.ScheduleCode.TheVariants as code
 use Rattle.schedule_text.specs.declared.faults.ScheduleFault.TheVariants as section
 use Rattle.command_line.specs.declared.words.LineFault.TheVariants as on_line
 use Rattle.schedule_player.specs.declared.rate.PlayFault.TheVariants as play
+use Rattle.node_threads.specs.declared.runs.RunFault.TheVariants as of_run
+use Rattle.threads_player.specs.declared.faults.ThreadsFault.TheVariants as threads
 use Rattle.command_line.specs.declared.endings.Fault.{Fault}
-use Rattle.command_line.specs.declared.endings.Fault.TheVariants.{Line, Play}
+use Rattle.command_line.specs.declared.endings.Fault.TheVariants.{Line, Play, Threads}
 
--- 1 refused input, 2 the command line, 3 a failed read or write, 4 want of memory
+-- 1 refused input or a mismatch, 2 the command line, 3 a failed read or write, 4 want of memory
 abbrev pub status_of : Fault → ℕ
 status_of (Line on_line.Line) = 2
 status_of (Line on_line.OutOfMemory) = 4
@@ -21,6 +23,10 @@ status_of (Play (play.Schedule section.OutOfMemory)) = 4
 status_of (Play play.Read) = 3
 status_of (Play play.Write) = 3
 status_of (Play play.OutOfMemory) = 4
+status_of (Threads (threads.Run of_run.OutOfMemory)) = 4
+status_of (Threads (threads.Run of_run.Mismatch)) = 1
+status_of (Threads threads.Write) = 3
+status_of (Threads threads.Refused) = 1
 
 abbrev pub section_code_text : ScheduleCode → List ℕ
 section_code_text code.Head = codes "L1"
@@ -44,6 +50,10 @@ message_of (Play (play.Schedule section.OutOfMemory)) = codes "out of memory"
 message_of (Play play.Read) = codes "read failed"
 message_of (Play play.Write) = codes "write failed"
 message_of (Play play.OutOfMemory) = codes "out of memory"
+message_of (Threads (threads.Run of_run.OutOfMemory)) = codes "out of memory"
+message_of (Threads (threads.Run of_run.Mismatch)) = codes "mismatch"
+message_of (Threads threads.Write) = codes "write failed"
+message_of (Threads threads.Refused) = codes "refused"
 
 -- the line on standard error
 abbrev pub ending_line : Fault → List ℕ

@@ -1,6 +1,7 @@
 //! What the program can be asked for.
 
 use period_cut::Period;
+use threads_player::Size;
 
 /// What the program is asked for.
 #[derive(Clone, Copy, Debug, PartialEq)]
@@ -9,4 +10,7 @@ pub enum Command {
     Rate { period: Period },
     /// `play`: the transcript of a schedule.
     Play,
+    /// `threads --nodes N --agents A --batches K --periods P`: the report of a group of that size,
+    /// run in threads.
+    Threads { size: Size },
 }

@@ -9,14 +9,17 @@ use crate::refusals::{write_refusal, write_section};
 use crate::words::LineFault;
 use counted_io::{Failed, Sink, write_all};
 use schedule_player::{PlayFault, ScheduleFault};
+use threads_player::{RunFault, ThreadsFault};
 
 /// Why the program did not do what it is asked for.
 #[derive(Clone, Copy, Drop)]
 pub enum Fault {
     /// The command line.
     Line(LineFault),
-    /// The run.
+    /// `rate` or `play`.
     Play(PlayFault),
+    /// `threads`.
+    Threads(ThreadsFault),
 }
 
 fn status(fault: &Fault) -> u8
@@ -24,12 +27,14 @@ fn status(fault: &Fault) -> u8
 {
     match fault {
         Fault::Play(PlayFault::Refused(_))
-        | Fault::Play(PlayFault::Schedule(ScheduleFault::Refused { .. })) => 1,
+        | Fault::Play(PlayFault::Schedule(ScheduleFault::Refused { .. }))
+        | Fault::Threads(ThreadsFault::Run(RunFault::Mismatch) | ThreadsFault::Refused) => 1,
         Fault::Line(LineFault::Line) => 2,
-        Fault::Play(PlayFault::Read | PlayFault::Write) => 3,
+        Fault::Play(PlayFault::Read | PlayFault::Write) | Fault::Threads(ThreadsFault::Write) => 3,
         Fault::Line(LineFault::OutOfMemory)
         | Fault::Play(PlayFault::OutOfMemory)
-        | Fault::Play(PlayFault::Schedule(ScheduleFault::OutOfMemory)) => 4,
+        | Fault::Play(PlayFault::Schedule(ScheduleFault::OutOfMemory))
+        | Fault::Threads(ThreadsFault::Run(RunFault::OutOfMemory)) => 4,
     }
 }
 
@@ -56,6 +61,12 @@ fn write_message<W: Sink>(fault: &Fault, writer: &mut W) -> Result<(), Failed>
             write_all(writer, b"refused ")?;
             write_refusal(*refusal, writer)
         }
+        Fault::Threads(ThreadsFault::Run(RunFault::OutOfMemory)) => {
+            write_all(writer, b"out of memory")
+        }
+        Fault::Threads(ThreadsFault::Run(RunFault::Mismatch)) => write_all(writer, b"mismatch"),
+        Fault::Threads(ThreadsFault::Write) => write_all(writer, b"write failed"),
+        Fault::Threads(ThreadsFault::Refused) => write_all(writer, b"refused"),
     }
 }
 
@@ -70,8 +81,8 @@ fn write_line<W: Sink>(fault: &Fault, writer: &mut W) -> Result<(), Failed>
     write_all(writer, b"\n")
 }
 
-/// Writes the line of the fault, and gives the status to end with: 1 for refused input, 2 for the
-/// command line, 3 for a failed read or write, 4 for want of memory.
+/// Writes the line of the fault, and gives the status to end with: 1 for refused input or a mismatch,
+/// 2 for the command line, 3 for a failed read or write, 4 for want of memory.
 ///
 /// The status is the same where the writer fails. It takes no memory.
 pub fn ending<W: Sink>(fault: &Fault, writer: &mut W) -> u8

@@ -1,17 +1,20 @@
 //! The words of the command line.
 
-ghost use Rattle.std.specs.Prelude.{◌≡◌, ◌≢◌, Err, IfOk, false, map, string_bytes};
-ghost use Rattle.clap.specs.Words.{app_of, kind_of};
+ghost use Rattle.std.specs.Prelude.{◌≡◌, ◌≢◌, ◌≤◌, ℕ, Err, IfOk, IfSome, None, Some, false, map, pos, string_bytes};
+ghost use Rattle.clap.specs.Words.{app_of, found_of, kind_of, rows_of, rule_of};
 ghost use Rattle.clap.specs.declared.builder.command.Command.TheViews.{out-Command};
 ghost use Rattle.command_line.specs.declared.commands.Command.{Command};
-ghost use Rattle.command_line.specs.CommandLine.{grammar_of_focusd, rate_grammar, Asks};
+ghost use Rattle.command_line.specs.CommandLine.{grammar_of_focusd, group_grammar, number_option, rate_grammar, threads_grammar, Asks, GivesNumber, GivesSize};
+ghost use Rattle.clap.specs.declared.builder.value_parser.ValueParser.TheVariants.{Signed};
 
 use crate::commands::Command;
+use clap::builder::ValueParser;
 use clap::error::ErrorKind;
-use clap::{Arg, ArgAction};
+use clap::{Arg, ArgAction, ArgMatches};
 use period_cut::Period;
 use std::alloc::Global;
 use thiserror::Error;
+use threads_player::Size;
 
 /// Why the program is not asked for anything.
 #[derive(Clone, Copy, Debug, PartialEq, Drop, Error)]
@@ -34,19 +37,62 @@ fn fault_of(error: &clap::Error) -> LineFault
     }
 }
 
+// `--NAME N`, which may not be left out
+fn number_option<'a>(alloc: Global, name: &'a str, parser: ValueParser<'a>) -> Arg<'a>
+    ensures rule { (least most : ℕ) → parser.entry ≡ Signed (pos least) (pos most)
+        → rule_of result ≡ number_option name.entry.now least most }
+    ensures local { result.global ≡ false }
+{
+    Arg::new(alloc, name)
+        .long(name)
+        .required(true)
+        .action(ArgAction::Set)
+        .value_parser(parser)
+}
+
 // `rate --period P`
 fn rate_grammar<'a>(alloc: Global) -> Result<clap::Command<'a>, LineFault>
     ensures app { IfOk result (λ c. app_of c ≡ rate_grammar) }
     ensures local { IfOk result (λ c. (out-Command c).has_globals ≡ false) }
     ensures memory { result ≢ Err LineFault.Line }
 {
-    let period = Arg::new(alloc, "period")
-        .long("period")
-        .required(true)
-        .action(ArgAction::Set)
-        .value_parser(clap::value_parser!(u16).range(0..1200));
+    let period = number_option(alloc, "period", clap::value_parser!(u16).range(0..1200));
     match clap::Command::new(alloc, "rate").arg(period) {
         Ok(rate) => Ok(rate),
+        Err(_) => Err(LineFault::OutOfMemory),
+    }
+}
+
+// `threads --nodes N --agents A`
+fn group_grammar<'a>(alloc: Global) -> Result<clap::Command<'a>, LineFault>
+    ensures app { IfOk result (λ c. app_of c ≡ group_grammar) }
+    ensures local { IfOk result (λ c. (out-Command c).has_globals ≡ false) }
+    ensures memory { result ≢ Err LineFault.Line }
+{
+    let nodes = number_option(alloc, "nodes", clap::value_parser!(u8).range(1..10));
+    let agents = number_option(alloc, "agents", clap::value_parser!(u8).range(1..10));
+    let Ok(threads) = clap::Command::new(alloc, "threads").arg(nodes) else {
+        return Err(LineFault::OutOfMemory);
+    };
+    match threads.arg(agents) {
+        Ok(group) => Ok(group),
+        Err(_) => Err(LineFault::OutOfMemory),
+    }
+}
+
+// `threads --nodes N --agents A --batches K --periods P`
+fn threads_grammar<'a>(alloc: Global) -> Result<clap::Command<'a>, LineFault>
+    ensures app { IfOk result (λ c. app_of c ≡ threads_grammar) }
+    ensures local { IfOk result (λ c. (out-Command c).has_globals ≡ false) }
+    ensures memory { result ≢ Err LineFault.Line }
+{
+    let batches = number_option(alloc, "batches", clap::value_parser!(u8).range(1..100));
+    let periods = number_option(alloc, "periods", clap::value_parser!(u8).range(1..13));
+    let Ok(group) = group_grammar(alloc)?.arg(batches) else {
+        return Err(LineFault::OutOfMemory);
+    };
+    match group.arg(periods) {
+        Ok(threads) => Ok(threads),
         Err(_) => Err(LineFault::OutOfMemory),
     }
 }
@@ -57,16 +103,49 @@ fn grammar<'a>(alloc: Global) -> Result<clap::Command<'a>, LineFault>
     ensures memory { result ≢ Err LineFault.Line }
 {
     let rate = rate_grammar(alloc)?;
+    let threads = threads_grammar(alloc)?;
     let focusd = clap::Command::new(alloc, "focusd")
         .no_binary_name(true)
         .subcommand_required(true);
     let Ok(rating) = focusd.subcommand(rate) else {
         return Err(LineFault::OutOfMemory);
     };
-    match rating.subcommand(clap::Command::new(alloc, "play")) {
+    let Ok(playing) = rating.subcommand(clap::Command::new(alloc, "play")) else {
+        return Err(LineFault::OutOfMemory);
+    };
+    match playing.subcommand(threads) {
         Ok(grammar) => Ok(grammar),
         Err(_) => Err(LineFault::OutOfMemory),
     }
+}
+
+// The number of an option, where it is one from 1 to the other
+fn number(matches: &ArgMatches<'_>, option: &str, most: u8) -> Option<u8>
+    ensures given { IfSome result (λ n. (1 ≤ n) × (n ≤ most)
+        × GivesNumber (rows_of (found_of matches.now)) option.now n) }
+    ensures not_given { result ≡ None → (n : ℕ) → 1 ≤ n → n ≤ most
+        → ¬ GivesNumber (rows_of (found_of matches.now)) option.now n }
+{
+    let number = matches.get_one::<u8>(option)?;
+    if 1 <= number && number <= most {
+        Some(number)
+    } else {
+        None
+    }
+}
+
+// The size that the options give, where it is one that is run
+fn size(matches: &ArgMatches<'_>) -> Option<Size>
+    ensures given { IfSome result (GivesSize (rows_of (found_of matches.now))) }
+    ensures not_given { result ≡ None → (size : Size)
+        → ¬ GivesSize (rows_of (found_of matches.now)) size }
+{
+    Some(Size {
+        nodes: number(matches, "nodes", 9)?,
+        agents: number(matches, "agents", 9)?,
+        batches: number(matches, "batches", 99)?,
+        periods: number(matches, "periods", 12)?,
+    })
 }
 
 /// Reads the words behind the program's name.
@@ -83,6 +162,12 @@ pub fn command(alloc: Global, words: &[String]) -> Result<Command, LineFault>
     };
     if matches.subcommand_matches("play").is_some() {
         return Ok(Command::Play);
+    }
+    if let Some(threads) = matches.subcommand_matches("threads") {
+        let Some(size) = size(threads) else {
+            return Err(LineFault::Line);
+        };
+        return Ok(Command::Threads { size });
     }
     let Some(rate) = matches.subcommand_matches("rate") else {
         return Err(LineFault::Line);

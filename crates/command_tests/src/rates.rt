@@ -10,6 +10,7 @@ use std::alloc::{AllocError, Global};
 use std::env::Args;
 use std::io;
 use std::test::Fail;
+use threads_player::{RunFault, Size, ThreadsFault};
 
 /// A batch of three readings that starts within period 0.
 const FIRST_RUN: &[u8] = b"B1|1|1|3\n\
@@ -460,6 +461,26 @@ fn each_fault_has_its_line_and_its_status(rt: HostRuntime) -> Result<(), Fail> {
             b"focusd: refused G8 agent 64 seq 1000000\n",
         ),
         (refused(Refusal::NoAgent), 1, b"focusd: refused G12\n"),
+        (
+            Fault::Threads(ThreadsFault::Run(RunFault::OutOfMemory)),
+            4,
+            b"focusd: out of memory\n",
+        ),
+        (
+            Fault::Threads(ThreadsFault::Run(RunFault::Mismatch)),
+            1,
+            b"focusd: mismatch\n",
+        ),
+        (
+            Fault::Threads(ThreadsFault::Write),
+            3,
+            b"focusd: write failed\n",
+        ),
+        (
+            Fault::Threads(ThreadsFault::Refused),
+            1,
+            b"focusd: refused\n",
+        ),
     ];
     for (fault, status, line) in cases {
         let mut errors = Counted::new(writer(rt.alloc())?.byte_by_byte());
@@ -501,6 +522,64 @@ fn a_period_is_asked_for(rt: HostRuntime) -> Result<(), Fail> {
             Some(number) => Ok(Command::Rate {
                 period: Period::new(number).ok_or("no period")?,
             }),
+            None => Err(LineFault::Line),
+        };
+        assert_eq!(rt; command(rt.alloc(), &words), wanted, "{line}");
+    }
+    Ok(())
+}
+
+fn size(nodes: u8, agents: u8, batches: u8, periods: u8) -> Option<Size> {
+    Some(Size {
+        nodes,
+        agents,
+        batches,
+        periods,
+    })
+}
+
+#[test]
+fn a_group_in_threads_is_asked_for(rt: HostRuntime) -> Result<(), Fail> {
+    for (line, wanted) in [
+        (
+            "threads --nodes 1 --agents 1 --batches 1 --periods 1",
+            size(1, 1, 1, 1),
+        ),
+        (
+            "threads --periods 12 --batches=99 --agents +9 --nodes 09",
+            size(9, 9, 99, 12),
+        ),
+        (
+            "threads --nodes 2 --agents 3 --batches 4 --periods 5",
+            size(2, 3, 4, 5),
+        ),
+        ("threads --nodes 0 --agents 1 --batches 1 --periods 1", None),
+        (
+            "threads --nodes 10 --agents 1 --batches 1 --periods 1",
+            None,
+        ),
+        (
+            "threads --nodes 1 --agents 10 --batches 1 --periods 1",
+            None,
+        ),
+        (
+            "threads --nodes 1 --agents 1 --batches 100 --periods 1",
+            None,
+        ),
+        (
+            "threads --nodes 1 --agents 1 --batches 1 --periods 13",
+            None,
+        ),
+        ("threads --nodes 1 --agents 1 --batches 1", None),
+        (
+            "threads --nodes 257 --agents 1 --batches 1 --periods 1",
+            None,
+        ),
+        ("threads", None),
+    ] {
+        let words = words_of(rt.alloc(), line)?;
+        let wanted = match wanted {
+            Some(size) => Ok(Command::Threads { size }),
             None => Err(LineFault::Line),
         };
         assert_eq!(rt; command(rt.alloc(), &words), wanted, "{line}");
@@ -586,7 +665,7 @@ fn a_run_ends_with_each_status(rt: HostRuntime) -> Result<(), Fail> {
         taker.failing = it.failing;
         let mut output = Counted::new(taker);
         let mut errors = Counted::new(writer(rt.alloc())?);
-        let status = run(rt.alloc(), args, &mut reader, &mut output, &mut errors);
+        let status = run(&rt, rt.alloc(), args, &mut reader, &mut output, &mut errors);
         assert_eq!(rt; status, it.status);
         assert_eq!(rt; output.inner().taken.as_slice(), it.output);
         assert_eq!(rt; errors.inner().taken.as_slice(), it.errors);

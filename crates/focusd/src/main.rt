@@ -8,6 +8,7 @@ use std::process::ExitCode;
 
 fn main(rt: HostRuntime) -> ExitCode {
     let status = run(
+        &rt,
         rt.alloc(),
         env::args(&rt),
         &mut Counted::new(rt.stdin()),

@@ -1,3 +1,4 @@
 pub mod RateInput
 pub mod Charges
 pub mod Faults
+pub mod Transcripts
