@@ -1,8 +1,10 @@
 //! Files of the rows between two cuts of a store.
 
 use crate::files::{USAGE_LINE, file_of, written};
+use crate::rows::{Worked, rows_again};
 use batch_store::Store;
 use batch_view::Offer;
+use focus_csv::row_texts;
 use focus_row::{Issuer, RowFault, rows_of};
 use period_cut::{Cut, Period};
 use price_sheet::Sheet;
@@ -82,19 +84,19 @@ Usage,,Virtual CPU time,Usage-Based,2025-01-10T02:00:00Z,2025-01-10T00:00:00Z,Us
 Reserved,5400,Seconds,0.12,0.08,0.075,Sample Cloud Ltd,0.15,0.1,Committed,1.5,Hours,Sample Cloud,\
 Sample Cloud,vm-1,Compute,Sample Compute,cpu,cpu-od,acc-7,\"{\"\"env\"\":\"\"prod\"\"}\"\n";
 
-/// A store of one agent with these batches, put in this order.
-fn store_of(alloc: Global, batches: &[&[u8]]) -> Result<Store, Fail> {
+/// A store of one agent with these batches, put in this order; None where one of them is no batch, or of another agent.
+fn store_of(alloc: Global, batches: &[&[u8]]) -> Result<Option<Store>, AllocError> {
     let mut store = Store::new(alloc, 1)?;
     for bytes in batches {
         let Offer::Good(batch) = Offer::read(alloc, bytes.to_vec(alloc)?)? else {
-            return Err(Fail::from("it is no batch"));
+            return Ok(None);
         };
         if store.agents() < batch.view().agent() {
-            return Err(Fail::from("it is of another agent"));
+            return Ok(None);
         }
         store.put(batch)?;
     }
-    Ok(store)
+    Ok(Some(store))
 }
 
 /// The cut of one agent with this last sequence.
@@ -162,7 +164,7 @@ fn told_between(
     to: u32,
 ) -> Result<Vec<u8>, Fail> {
     let period = Period::new(period).ok_or("no period")?;
-    let store = store_of(rt.alloc(), batches)?;
+    let store = store_of(rt.alloc(), batches)?.ok_or("no such batches")?;
     told_of_store(rt, &store, period, from, to)
 }
 
@@ -210,5 +212,38 @@ fn what_is_absent_or_breaks_a_rule_gives_no_rows(rt: HostRuntime) -> Result<(), 
         let told = told_between(&rt, batches, 0, 0, 2)?;
         assert_eq!(rt; told.as_slice(), text.as_bytes(), "{text}");
     }
+    Ok(())
+}
+
+/// A reading and its amendment, and the cuts that part them.
+fn corrected(alloc: Global) -> Result<Option<Worked>, AllocError> {
+    let Some(store) = store_of(alloc, &[READ, AMENDED])? else {
+        return Ok(None);
+    };
+    let Ok(sheet) = Sheet::read(alloc, SHEET) else {
+        return Err(AllocError);
+    };
+    Ok(Some(Worked {
+        store,
+        sheet,
+        from: cut_of(alloc, 1)?,
+        to: cut_of(alloc, 2)?,
+    }))
+}
+
+/// Rows, and then their text, are asked for again where the first call finds no memory, and come out as if it had.
+#[test]
+fn a_refused_growth_changes_no_row(rt: HostRuntime) -> Result<(), Fail> {
+    let (Ok(of), Ok(issuer)) = (corrected(rt.alloc()), Issuer::sample(rt.alloc())) else {
+        return Ok(());
+    };
+    let of = of.ok_or("no such batches")?;
+    let february = Period::new(1).ok_or("no period")?;
+    let rows = rows_again(&rt, &of, &issuer, february)?;
+    let text = match row_texts(rt.alloc(), &rows) {
+        Ok(text) => text,
+        Err(_) => row_texts(rt.alloc(), &rows)?,
+    };
+    assert_eq!(rt; text.as_slice(), UP_LINE);
     Ok(())
 }

@@ -137,24 +137,33 @@ fn usage_with_a_price_has_its_line(rt: HostRuntime) -> Result<(), Fail> {
 
 #[test]
 fn each_failed_call_of_the_sink_is_told(rt: HostRuntime) -> Result<(), Fail> {
-    for (index, _) in HEADER.iter().enumerate() {
+    let Some(row) = usage_row() else {
+        return Err(Fail::new("no row"));
+    };
+    let rows = [row];
+    let file = file_of(&rt, USAGE_LINE)?;
+    for (index, _) in file.iter().enumerate() {
         let failing = writer(&rt).byte_by_byte().failing_at(index as u64 + 1);
         let mut sink = Counted::new(failing);
-        let written = write_file(rt.alloc(), &[], &mut sink);
+        let written = write_file(rt.alloc(), &rows, &mut sink);
         assert!(rt; matches!(written, Err(CsvFault::Write)), "byte {index}");
         assert_eq!(rt; sink.failed_calls(), 1);
         assert_eq!(rt; sink.inner().calls, index as u64 + 1);
-        assert_eq!(rt; sink.inner().taken.as_slice(), &HEADER[..index]);
+        assert_eq!(rt; sink.inner().taken.as_slice(), &file[..index]);
     }
     Ok(())
 }
 
 #[test]
 fn a_sink_of_one_byte_a_call_gets_all(rt: HostRuntime) -> Result<(), Fail> {
+    let Some(row) = usage_row() else {
+        return Err(Fail::new("no row"));
+    };
+    let file = file_of(&rt, USAGE_LINE)?;
     let mut sink = Counted::new(writer(&rt).byte_by_byte());
-    write_file(rt.alloc(), &[], &mut sink)?;
-    assert_eq!(rt; sink.inner().taken.as_slice(), HEADER);
-    assert_eq!(rt; sink.inner().calls, HEADER.len() as u64);
+    write_file(rt.alloc(), &[row], &mut sink)?;
+    assert_eq!(rt; sink.inner().taken.as_slice(), file.as_slice());
+    assert_eq!(rt; sink.inner().calls, file.len() as u64);
     assert_eq!(rt; sink.failed_calls(), 0);
     Ok(())
 }

@@ -14,13 +14,13 @@ C|2025-01-31T00:00:00Z|2025-02-01T00:00:00Z|acc-7||Launch credit|-2.5||\n\
 T|2025-01-31T00:00:00Z|2025-02-01T00:00:00Z|acc-7||VAT|0.475||\n\
 A|2025-01-31T00:00:00Z|2025-02-01T00:00:00Z|acc-7||Goodwill, May|-0.025||note=say \"hi\"\n";
 
-/// By what a worked batch is charged, and the cut up to it.
+/// By what worked batches are charged, and between which cuts.
 #[derive(Drop)]
 pub(crate) struct Worked {
-    store: Store,
-    sheet: Sheet,
-    from: Cut,
-    to: Cut,
+    pub store: Store,
+    pub sheet: Sheet,
+    pub from: Cut,
+    pub to: Cut,
 }
 
 /// The first batch of an agent, charged without a price; None where the bytes are no such batch.
@@ -43,13 +43,13 @@ pub(crate) fn first_worked(alloc: Global, bytes: &[u8]) -> Result<Option<Worked>
     }))
 }
 
-/// The rows of the first run in January 2025.
-pub(crate) fn first_rows<'a>(
+/// The rows of a period.
+pub(crate) fn rows_in<'a>(
     rt: &HostRuntime,
     of: &'a Worked,
     issuer: &'a Issuer,
+    period: Period,
 ) -> Result<Vec<FocusRow<'a>>, RowFault> {
-    let january = Period::new(0).unwrap();
     if of.store.agents() != 1
         || of.from.agents() != 1
         || of.to.agents() != 1
@@ -62,10 +62,32 @@ pub(crate) fn first_rows<'a>(
         &of.store,
         &of.sheet,
         issuer,
-        january,
+        period,
         &of.from,
         &of.to,
     )
+}
+
+/// The same, asked for again where the first call finds no memory.
+pub(crate) fn rows_again<'a>(
+    rt: &HostRuntime,
+    of: &'a Worked,
+    issuer: &'a Issuer,
+    period: Period,
+) -> Result<Vec<FocusRow<'a>>, RowFault> {
+    match rows_in(rt, of, issuer, period) {
+        Ok(rows) => Ok(rows),
+        Err(_) => rows_in(rt, of, issuer, period),
+    }
+}
+
+/// The rows of the first run in January 2025.
+pub(crate) fn first_rows<'a>(
+    rt: &HostRuntime,
+    of: &'a Worked,
+    issuer: &'a Issuer,
+) -> Result<Vec<FocusRow<'a>>, RowFault> {
+    rows_in(rt, of, issuer, Period::new(0).unwrap())
 }
 
 #[test]
