@@ -28,10 +28,10 @@ module _ (plan : Plan) (history : List Entry) (place : ℕ) (log : Log) (who : l
     (λ e. record {
       who = who;
       told = told;
-      journaled = λ texts at. e ∙ ap (map journal_of) (same_Some mine texts (sym have ∙ at));
+      offered = λ texts at. e ∙ ap (map journal_of) (same_Some mine texts (sym have ∙ at));
       exported = λ ge. let lt = slice_get_within plan.journals place mine have in absurd (omega (arith, lt, ge));
     }),
-    (λ h. h.journaled mine have),
+    (λ h. h.offered mine have),
   )
 
   pub log_of_node : length plan.journals ≤ place → ExportsEach plan.periods log.told ↔ IsLogAt plan history place log
@@ -39,7 +39,7 @@ module _ (plan : Plan) (history : List Entry) (place : ℕ) (log : Log) (who : l
     (λ each. record {
       who = who;
       told = told;
-      journaled = λ texts at. let lt = slice_get_within plan.journals place texts at in absurd (omega (arith, lt, ge));
+      offered = λ texts at. let lt = slice_get_within plan.journals place texts at in absurd (omega (arith, lt, ge));
       exported = λ over. each;
     }),
     (λ h. h.exported ge),

@@ -71,12 +71,12 @@ module _ (text : List ℕ) (batches : Holding) where
   agent_log = record {
     who = refl;
     told = refl;
-    journaled = λ texts at. ap (map (λ t. Journal (offer_of t))) (same_Some (text ∷ []) texts at);
+    offered = λ texts at. ap (map (λ t. Journal (offer_of t))) (same_Some (text ∷ []) texts at);
     exported = λ over. absurd (omega (arith, over));
   }
 
   node_log : IsLogAt plan history 1 (of_node third fourth)
-  node_log = record { who = refl; told = refl; journaled = λ texts at. absurd (cc at); exported = λ over. exports }
+  node_log = record { who = refl; told = refl; offered = λ texts at. absurd (cc at); exported = λ over. exports }
 
   each_log : (place : ℕ) (log : Log) → slice_get (of_agent ∷ of_node third fourth ∷ []) place ≡ Some log → IsLogAt plan history place log
   each_log zero log at = let same = same_Some of_agent log at in subst (IsLogAt plan history 0) same agent_log

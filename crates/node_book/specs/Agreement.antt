@@ -50,12 +50,12 @@ is_export_of period _ = false
 abbrev pub ExportsEach : ℕ → List Told → Type 0
 ExportsEach periods told = (period : ℕ) → count_by (λ t. is_export_of period t.reply) told ≡ (if nat_lt period periods then 1 else 0)
 
--- The log at a place is that of the worker there, and has just what this worker was told. An agent journaled each of its
--- texts, in order, and did nothing else; a node exported each period once.
+-- The log at a place is that of the worker there, and has just what this worker was told. An agent offered each of its
+-- texts to the journals, in order, and did nothing else; a node exported each period once.
 pub record IsLogAt (plan : Plan) (history : List Entry) (place : ℕ) (log : Log) : Type 0 where
   pub who : log.who ≡ worker_at (length plan.journals) place
   pub told : told_to log.who history ≡ log.told
-  pub journaled : (texts : List (List ℕ)) → slice_get plan.journals place ≡ Some texts → events_by log.who history ≡ map (λ text. Journal (offer_of text)) texts
+  pub offered : (texts : List (List ℕ)) → slice_get plan.journals place ≡ Some texts → events_by log.who history ≡ map (λ text. Journal (offer_of text)) texts
   pub exported : length plan.journals ≤ place → ExportsEach plan.periods log.told
 
 -- The book was opened for the plan's group. There is a log of each worker, and each entry is of one of them.

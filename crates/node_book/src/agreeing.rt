@@ -89,8 +89,8 @@ fn is_next_text(texts: &[Vec<u8>], next: usize, event: &Event) -> bool
     next < texts.len() && is_journal_of(event, &texts[next])
 }
 
-/// Whether a worker journaled these texts, in order, and did nothing else.
-fn has_journaled(history: &[Entry], who: Worker, texts: &[Vec<u8>]) -> bool
+/// Whether a worker offered these texts to the journals, in order, and did nothing else.
+fn has_offered(history: &[Entry], who: Worker, texts: &[Vec<u8>]) -> bool
     ensures { IsTrue result ↔ (events_by who (map entry_of history.now) ≡ map (λ text. Journal (offer_of text.items)) texts.now) }
 {
     let mut next = 0;
@@ -151,7 +151,7 @@ fn is_log_at(history: &[Entry], plan: &Plan, place: usize, log: &Log) -> bool
         return false;
     }
     if place < plan.journals.len() {
-        has_journaled(history, log.who, &plan.journals[place])
+        has_offered(history, log.who, &plan.journals[place])
     } else {
         exports_each(&log.done, plan.periods)
     }
@@ -191,8 +191,8 @@ impl Book {
     }
 
     /// Whether these logs are just what was done, and what the plan asks: each worker of the plan, and no other, has a log of
-    /// its own entries, each once and in order; each agent journaled its texts, and each node exported each period once. No
-    /// memory is taken.
+    /// its own entries, each once and in order; each agent offered its texts to the journals, and each node exported each
+    /// period once. No memory is taken.
     ///
     /// Where they agree, all files of one period are the same bytes.
     pub fn agrees(&self, plan: &Plan, logs: &[Log]) -> bool

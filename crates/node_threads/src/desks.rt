@@ -45,7 +45,8 @@ pub(crate) struct Inboxes {
     pub main: Receiver<Report>,
 }
 
-/// The most reports that can wait: each node reports one period that no other start was made for, and each thread its end.
+/// The most reports that can wait: of each node a period that nobody waits for any more, that it is stuck, and that it has no
+/// memory; of each agent the last of these.
 fn most_reports(nodes: u8, agents: usize) -> usize {
     usize::from(nodes).saturating_mul(3).saturating_add(agents)
 }

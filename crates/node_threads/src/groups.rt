@@ -17,8 +17,8 @@ use std::thread::Threads;
 
 /// Runs a group: a thread for each node and one for each agent, round one book.
 ///
-/// With Ok receipts agree: the logs have just what was done, each agent journaled its texts, and each node exported each
-/// period once. A fault is `OutOfMemory` where memory or a thread was refused, and `Mismatch` where receipts do not agree.
+/// With Ok receipts agree: the logs have just what was done, each agent offered its texts to the journals, and each node
+/// exported each period once. A fault is `OutOfMemory` where memory or a thread was refused, and `Mismatch` where receipts do not agree.
 pub fn run_group<R: Threads + Wait + Sync, G: Gate + Sync>(
     rt: &R,
     alloc: Global,
@@ -51,7 +51,7 @@ pub fn run_group<R: Threads + Wait + Sync, G: Gate + Sync>(
     };
     let book = desk.into_book();
     book.legal();
-    if !book.agrees(&plan, &logs) {
+    if !book.agrees(&plan, logs.as_slice()) {
         return Err(RunFault::Mismatch);
     }
     Ok(Run { plan, book, logs })

@@ -8,8 +8,8 @@ use Rattle.node_book.specs.Kept.{entry_of}
 use Rattle.node_book.specs.Agreement.{events_by}
 use Rattle.node_book.proofs.Lists.{item_at, no_false}
 use Rattle.node_book.proofs.Own.{IsLeft, own_steps, own_skips, own_stops, own_ends}
-use Rattle.node_book.proofs.agreeing.has_journaled.Goals as goal
-use Rattle.node_book.proofs.agreeing.has_journaled.Goals.{then-is_same_worker+else-not-is_next_text, else-is_same_worker}
+use Rattle.node_book.proofs.agreeing.has_offered.Goals as goal
+use Rattle.node_book.proofs.agreeing.has_offered.Goals.{then-is_same_worker+else-not-is_next_text, else-is_same_worker}
 
 abbrev event_at : ℕ → Entry → Event
 event_at place e = e.event

@@ -3,7 +3,7 @@ use Rattle.metering_model.specs.World.{Journal, offer_of}
 use Rattle.node_book.specs.Kept.{entry_of}
 use Rattle.node_book.specs.Agreement.{events_by}
 use Rattle.node_book.proofs.Own.{IsLeft}
-use Rattle.node_book.proofs.agreeing.has_journaled.Given as goal
+use Rattle.node_book.proofs.agreeing.has_offered.Given as goal
 
 -- What is compared so far agrees: the lists are the same just where what is left of them is.
 abbrev pub invariant-loop-place : goal.invariant-loop-place

@@ -35,7 +35,7 @@ returns-then-place-len c =
     let same = log_of_agent plan (map entry_of c.args.history.now) c.args.place (log_of c.args.log.now) who told mine at in
     let texts : map journal_of mine ≡ map kept_journal c.deref-then-place-len.result.now =
     map-map journal_of bytes c.index.result.now.items ∙ ap (map kept_journal) (sym c.deref-then-place-len.ensures.value) in
-    ((λ t. same.0 (c.has_journaled.ensures.0 t ∙ sym texts)), (λ l. c.has_journaled.ensures.1 (same.1 l ∙ texts)))
+    ((λ t. same.0 (c.has_offered.ensures.0 t ∙ sym texts)), (λ l. c.has_offered.ensures.1 (same.1 l ∙ texts)))
 
 pub returns-else-place-len : goal.returns-else-place-len
 returns-else-place-len c =
