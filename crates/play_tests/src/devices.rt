@@ -1,6 +1,7 @@
 //! Readers and writers that fail, and growths that are refused.
 
 use crate::samples::WHOLE_PATH;
+use crate::schedules::started_again;
 use crate::texts::{joined, schedule_of};
 use counted_io::{Counted, FakeReader, FakeWriter};
 use schedule_player::{PlayFault, play_text};
@@ -12,50 +13,101 @@ fn writer(alloc: Global) -> Result<FakeWriter, AllocError> {
     Ok(FakeWriter::new(Vec::with_capacity(alloc, 4_096)?))
 }
 
-/// Whether the transcript of the whole path was written whole. Else a front of it was, and this call failed, the last one.
-fn is_written(alloc: Global, taker: FakeWriter, call: u64) -> Result<bool, Fail> {
-    let input = schedule_of(alloc, &WHOLE_PATH)?;
-    let told = joined(alloc, WHOLE_PATH.told)?;
-    let mut source = Counted::new(FakeReader::new(input.as_bytes()));
+/// A schedule, and its transcript.
+#[derive(Clone, Copy, Drop)]
+struct Worked<'a> {
+    input: &'a str,
+    told: &'a str,
+}
+
+/// Whether the transcript was written whole. Else a front of it was, and this call failed, the last one.
+fn is_written(
+    alloc: Global,
+    worked: Worked<'_>,
+    taker: FakeWriter,
+    call: u64,
+) -> Result<bool, Fail> {
+    let mut source = Counted::new(FakeReader::new(worked.input.as_bytes()));
     let mut sink = Counted::new(taker);
     let answer = play_text(alloc, &mut source, &mut sink);
     let taken = sink.inner().taken.as_slice();
-    if answer == Ok(()) && taken == told.as_bytes() && sink.failed_calls() == 0 {
+    let told = worked.told.as_bytes();
+    if answer == Ok(()) && taken == told && sink.failed_calls() == 0 {
         return Ok(true);
     }
     let is_last = sink.inner().calls == call && sink.failed_calls() == 1;
-    if answer == Err(PlayFault::Write) && is_last && told.as_bytes().starts_with(taken) {
+    if answer == Err(PlayFault::Write) && is_last && told.starts_with(taken) {
         return Ok(false);
     }
     Err(Fail::from("neither the transcript nor a front of it"))
 }
 
-/// More calls than the transcript of the whole path takes.
+/// More calls than a transcript of either test takes.
 const MANY: u64 = 40;
 
-/// A writer that fails at its kth call, and one that takes nothing from it on, until a run needs less than k calls; and one
-/// of a byte a call.
-#[test]
-fn a_writer_may_fail_at_each_call(rt: HostRuntime) -> Result<(), Fail> {
+/// Of a byte a call these first ones are tried, then each whose number they divide, and the last one.
+const FEW: u64 = 50;
+
+/// How many calls of the writer a transcript takes: from the first to the last one a run ends with a front of it where that
+/// call fails, or takes nothing as all behind it do, and no later call is made.
+fn calls_of(alloc: Global, worked: Worked<'_>) -> Result<u64, Fail> {
+    let mut calls = 0;
     let mut whole = false;
     for call in 1..=MANY {
-        let failing = writer(rt.alloc())?.failing_at(call);
-        let full = writer(rt.alloc())?.full_from(call);
-        let written = is_written(rt.alloc(), failing, call)?;
-        assert_eq!(rt; is_written(rt.alloc(), full, call)?, written);
-        assert!(rt; written || !whole, "call {call}");
+        let failing = writer(alloc)?.failing_at(call);
+        let full = writer(alloc)?.full_from(call);
+        let written = is_written(alloc, worked, failing, call)?;
+        if is_written(alloc, worked, full, call)? != written {
+            return Err(Fail::from("a call that fails and one that takes nothing differ"));
+        }
+        if whole && !written {
+            return Err(Fail::from("a run that was whole takes more calls"));
+        }
         whole = written;
+        if !whole {
+            calls = call;
+        }
     }
-    assert!(rt; whole);
-    let last = joined(rt.alloc(), WHOLE_PATH.told)?.len() as u64;
-    for call in [1, 2, 100, last, last + 1] {
+    if !whole {
+        return Err(Fail::from("no number of calls is enough"));
+    }
+    Ok(calls)
+}
+
+/// Writers that fail at their kth call: one that takes all that it is given, for each k, and one of a byte a call.
+#[test]
+fn a_writer_may_fail_at_each_call(rt: HostRuntime) -> Result<(), Fail> {
+    let input = schedule_of(rt.alloc(), &WHOLE_PATH)?;
+    let told = joined(rt.alloc(), WHOLE_PATH.told)?;
+    let worked = Worked {
+        input: &input,
+        told: &told,
+    };
+    calls_of(rt.alloc(), worked)?;
+    let last = told.len() as u64;
+    for call in 1..=last + 1 {
+        if FEW < call && call % FEW != 0 && call < last {
+            continue;
+        }
         let slow = writer(rt.alloc())?.byte_by_byte().failing_at(call);
         assert_eq!(rt;
-            is_written(rt.alloc(), slow, call)?,
+            is_written(rt.alloc(), worked, slow, call)?,
             last < call,
             "call {call}"
         );
     }
+    Ok(())
+}
+
+/// A transcript that takes more than one write, so that a failed one has others before it.
+#[test]
+fn a_later_write_may_fail(rt: HostRuntime) -> Result<(), Fail> {
+    let (input, told) = started_again(rt.alloc())?;
+    let worked = Worked {
+        input: &input,
+        told: &told,
+    };
+    assert!(rt; 1 < calls_of(rt.alloc(), worked)?);
     Ok(())
 }
 

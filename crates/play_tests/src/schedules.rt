@@ -122,7 +122,7 @@ fn what_is_no_schedule_is_refused_at_its_line(rt: HostRuntime) -> Result<(), Fai
 }
 
 /// One node, which starts a ballot again and again.
-fn started_again(alloc: Global) -> Result<(String, String), AllocError> {
+pub(crate) fn started_again(alloc: Global) -> Result<(String, String), AllocError> {
     let mut input = schedule(alloc, 1, &[])?;
     let mut told = String::new(alloc);
     for packet in 0..10_000u32 {
