@@ -7,6 +7,7 @@ use focus_row::RowFault;
 use metering_model::{BatchCode, BatchFault, BrokenRule, NumberFault, Refusal};
 use schedule_player::{PlayFault, ScheduleCode, ScheduleFault};
 use std::test::Fail;
+use threads_player::{RunFault, ThreadsFault};
 
 #[test]
 fn each_fault_is_told_in_its_words(rt: HostRuntime) -> Result<(), Fail> {
@@ -112,6 +113,16 @@ fn each_fault_is_told_in_its_words(rt: HostRuntime) -> Result<(), Fail> {
         (
             format!(in alloc; "{}, {}", LineFault::Line, LineFault::OutOfMemory)?,
             "bad command line, out of memory",
+        ),
+        (
+            format!(in alloc;
+                "{}, {}, {}, {}",
+                ThreadsFault::Run(RunFault::OutOfMemory),
+                ThreadsFault::Run(RunFault::Mismatch),
+                ThreadsFault::Write,
+                ThreadsFault::Refused
+            )?,
+            "out of memory, mismatch, write failed, refused",
         ),
     ] {
         assert_eq!(rt; told.as_str(), words);
