@@ -13,7 +13,7 @@ use Rattle.metering_model.proofs.RecordPlaces.{same_position}
 use Rattle.batch_view.specs.declared.owned.Amendment.{Amendment}
 use Rattle.batch_view.specs.Kept.{amendment_of, amendments_in}
 use Rattle.batch_store.specs.Stores.{named_by, named_between, position_of, rise, AreAmended}
-use Rattle.batch_store.specs.declared.Place.{Place}
+use Rattle.batch_store.specs.declared.RecordPlace.{RecordPlace}
 use Rattle.batch_store.specs.Inner.Amended.{Adds, IsNamedIn, IsNamedOf}
 use Rattle.batch_store.proofs.LeastAbsent.{last_of-beyond}
 use Rattle.batch_store.proofs.NamedPlaces.{Adds-none, Adds-same, Adds-onward}
@@ -145,10 +145,10 @@ named_between-into h from to before p is =
       gives = gives;
     })
 
-pub Adds-before_first : (h : Holding) (from to : Cut) (xs : List Place) → xs ≡ [] → Adds (IsNamedBefore h from to 1) [] xs
-Adds-before_first h from to xs none = subst (λ (ys : List Place). Adds (IsNamedBefore h from to 1) [] ys) (sym none) (Adds-none (IsNamedBefore h from to 1) [] (λ p is. let some = is.some in let less = is.less in omega arith))
+pub Adds-before_first : (h : Holding) (from to : Cut) (xs : List RecordPlace) → xs ≡ [] → Adds (IsNamedBefore h from to 1) [] xs
+Adds-before_first h from to xs none = subst (λ (ys : List RecordPlace). Adds (IsNamedBefore h from to 1) [] ys) (sym none) (Adds-none (IsNamedBefore h from to 1) [] (λ p is. let some = is.some in let less = is.less in omega arith))
 
-pub Adds-agent : (h : Holding) (from to : Cut) (agent low high : ℕ) (mid new : List Place) → 1 ≤ agent → low ≡ last_of from agent → high ≡ last_of to agent → Adds (IsNamedBefore h from to agent) [] mid → Adds (IsNamedOf h agent low high) mid new
+pub Adds-agent : (h : Holding) (from to : Cut) (agent low high : ℕ) (mid new : List RecordPlace) → 1 ≤ agent → low ≡ last_of from agent → high ≡ last_of to agent → Adds (IsNamedBefore h from to agent) [] mid → Adds (IsNamedOf h agent low high) mid new
     → Adds (IsNamedBefore h from to (agent + 1)) [] new
 Adds-agent h from to agent low high mid new some is_low is_high before adds = Adds-same (λ p. IsNamedBefore h from to agent p ⊎ IsNamedOf h agent low high p) (IsNamedBefore h from to (agent + 1)) [] new (Adds-onward (IsNamedBefore h from to agent) (IsNamedOf h agent low high) [] mid new before adds) later earlier
   where
@@ -167,7 +167,7 @@ Adds-agent h from to agent low high mid new some is_low is_high before adds = Ad
     ]
 
 -- The places of all agents, sorted and each once, are the ones that are amended.
-pub are_amended : (h : Holding) (from to : Cut) (before : ℕ) (old : List Place) (ps : List Position) → IsHolding h → length to < before → Adds (IsNamedBefore h from to before) [] old → ((p : Position) → Contains ps p ↔ Contains (map position_of old) p) → rise ps ≡ true → AreAmended h from to ps
+pub are_amended : (h : Holding) (from to : Cut) (before : ℕ) (old : List RecordPlace) (ps : List Position) → IsHolding h → length to < before → Adds (IsNamedBefore h from to before) [] old → ((p : Position) → Contains ps p ↔ Contains (map position_of old) p) → rise ps ≡ true → AreAmended h from to ps
 are_amended h from to before old ps is size adds same rises = record {
   each = λ p. (
     (λ has. elim ((adds p).0 ((same p).0 has)) [

@@ -12,20 +12,20 @@ use Rattle.metering_model.specs.Batch.{Batch}
 use Rattle.metering_model.specs.Holding.{Holding, Position, held}
 use Rattle.batch_view.specs.declared.owned.Amendment.{Amendment}
 use Rattle.batch_view.specs.Kept.{amendments_in, AreAmendmentsOf}
-use Rattle.batch_store.specs.declared.Place.{Place}
+use Rattle.batch_store.specs.declared.RecordPlace.{RecordPlace}
 use Rattle.batch_store.specs.Stores.{position_of}
 use Rattle.batch_store.specs.Inner.Amended.{Adds, named_place, IsNamedIn, IsNamedOf}
 use Rattle.batch_store.proofs.Members.{filter_map-into, filter_map-from, map-into, map-from}
 
 -- ---- one batch's amendments
 
-names_where : (agent upto : ℕ) (a : Amendment) (x : Place) (all : List Amendment) (p : Position) → Contains all a → named_place agent upto a ≡ Some x → position_of x ≡ p → IsNamedIn agent upto all p
+names_where : (agent upto : ℕ) (a : Amendment) (x : RecordPlace) (all : List Amendment) (p : Position) → Contains all a → named_place agent upto a ≡ Some x → position_of x ≡ p → IsNamedIn agent upto all p
 names_where agent upto a x all p has gives at = by_test (nat_le a.seq upto) refl gives
   where
-    by_test : (t : Bool) → nat_le a.seq upto ≡ t → ◌≡◌ {A = Option Place} (cond t (Some (record { agent = agent; seq = a.seq; index = a.index })) None) (Some x) → IsNamedIn agent upto all p
+    by_test : (t : Bool) → nat_le a.seq upto ≡ t → ◌≡◌ {A = Option RecordPlace} (cond t (Some (record { agent = agent; seq = a.seq; index = a.index })) None) (Some x) → IsNamedIn agent upto all p
     by_test false e gives = absurd (none-some x gives)
     by_test true e gives =
-        let is : ◌≡◌ {A = Place} (record { agent = agent; seq = a.seq; index = a.index }) x = same_Some (record { agent = agent; seq = a.seq; index = a.index }) x gives in
+        let is : ◌≡◌ {A = RecordPlace} (record { agent = agent; seq = a.seq; index = a.index }) x = same_Some (record { agent = agent; seq = a.seq; index = a.index }) x gives in
         let at' : position_of (record { agent = agent; seq = a.seq; index = a.index }) ≡ p = ap position_of is ∙ at in
         record {
           amendment = a;
@@ -45,7 +45,7 @@ named-from agent upto all p has =
 pub named-into : (agent upto : ℕ) (all : List Amendment) (p : Position) → IsNamedIn agent upto all p → Contains (map position_of (filter_map (named_place agent upto) all)) p
 named-into agent upto all p named =
     let a = named.amendment in
-    let x : Place = record { agent = agent; seq = a.seq; index = a.index } in
+    let x : RecordPlace = record { agent = agent; seq = a.seq; index = a.index } in
     let gives : named_place agent upto a ≡ Some x = cond-true (nat_le a.seq upto) (Some x) None (le-leb a.seq upto named.within) in
     let at : position_of x ≡ p = ap (λ (q : ℕ × (ℕ × ℕ)). record { agent = q.0; seq = q.1.0; index = q.1.1 }) (cc) in
     map-into position_of (filter_map (named_place agent upto) all) p (record { source = x; is_there = filter_map-into (named_place agent upto) all x (record { source = a; is_there = named.is_there; gives = gives }); gives = at })
@@ -63,15 +63,15 @@ named-sorted agent upto all bs p moved named = record {
 
 -- ---- one agent's batches
 
-pub Adds-none : (IsSo : Position → Type 0) (xs : List Place) → ((p : Position) → IsSo p → ⊥) → Adds IsSo xs xs
+pub Adds-none : (IsSo : Position → Type 0) (xs : List RecordPlace) → ((p : Position) → IsSo p → ⊥) → Adds IsSo xs xs
 Adds-none IsSo xs none = λ p. ((λ has. inl has), (λ either. elim either [ inl has ↦ has | inr so ↦ absurd (none p so) ]))
 
-pub Adds-same : (IsSo IsSuch : Position → Type 0) (old new : List Place) → Adds IsSo old new → ((p : Position) → IsSo p → IsSuch p) → ((p : Position) → IsSuch p → IsSo p) → Adds IsSuch old new
+pub Adds-same : (IsSo IsSuch : Position → Type 0) (old new : List RecordPlace) → Adds IsSo old new → ((p : Position) → IsSo p → IsSuch p) → ((p : Position) → IsSuch p → IsSo p) → Adds IsSuch old new
 Adds-same IsSo IsSuch old new adds so such =
     λ p. ((λ has. elim ((adds p).0 has) [ inl was ↦ inl was | inr is ↦ inr (so p is) ]), (λ either. (adds p).1 (elim either [ inl was ↦ inl was | inr is ↦ inr (such p is) ])))
 
 -- one addition after the other
-pub Adds-onward : (IsSo IsSuch : Position → Type 0) (old mid new : List Place) → Adds IsSo old mid → Adds IsSuch mid new → Adds (λ p. IsSo p ⊎ IsSuch p) old new
+pub Adds-onward : (IsSo IsSuch : Position → Type 0) (old mid new : List RecordPlace) → Adds IsSo old mid → Adds IsSuch mid new → Adds (λ p. IsSo p ⊎ IsSuch p) old new
 Adds-onward IsSo IsSuch old mid new first second = λ p. (
   (λ has. elim ((second p).0 has) [
     | inl was ↦ elim ((first p).0 was) [ inl was ↦ inl was | inr is ↦ inr (inl is) ]
@@ -83,7 +83,7 @@ Adds-onward IsSo IsSuch old mid new first second = λ p. (
   ])),
 )
 
-pub Adds-append : (agent upto : ℕ) (all : List Amendment) (old new : List Place) → new ≡ old ++ filter_map (named_place agent upto) all → Adds (IsNamedIn agent upto all) old new
+pub Adds-append : (agent upto : ℕ) (all : List Amendment) (old new : List RecordPlace) → new ≡ old ++ filter_map (named_place agent upto) all → Adds (IsNamedIn agent upto all) old new
 Adds-append agent upto all old new is = λ p. (
   (λ has. elim (Contains-append_cases (map position_of old) (map position_of more) p (subst (λ xs. Contains xs p) (joined) has)) [
     | inl was ↦ inl was
@@ -95,18 +95,18 @@ Adds-append agent upto all old new is = λ p. (
   ])),
 )
   where
-    more : List Place
+    more : List RecordPlace
     more = filter_map (named_place agent upto) all
 
     joined : map position_of new ≡ map position_of old ++ map position_of more
     joined = ap (map position_of) is ∙ map-append position_of old more
 
 module _ (h : Holding) (agent from : ℕ) where
-  pub Adds-first : (xs : List Place) → Adds (IsNamedOf h agent from from) xs xs
+  pub Adds-first : (xs : List RecordPlace) → Adds (IsNamedOf h agent from from) xs xs
   Adds-first xs = Adds-none (IsNamedOf h agent from from) xs (λ p named. let above = named.above in let until = named.until in omega arith)
 
   -- a batch that is absent names nothing
-  pub Adds-absent : (seq : ℕ) (old new : List Place) → None ≡ held h agent (seq + 1) → Adds (IsNamedOf h agent from seq) old new → Adds (IsNamedOf h agent from (seq + 1)) old new
+  pub Adds-absent : (seq : ℕ) (old new : List RecordPlace) → None ≡ held h agent (seq + 1) → Adds (IsNamedOf h agent from seq) old new → Adds (IsNamedOf h agent from (seq + 1)) old new
   Adds-absent seq old new absent adds = Adds-same (IsNamedOf h agent from seq) (IsNamedOf h agent from (seq + 1)) old new adds later earlier
     where
       later : (p : Position) → IsNamedOf h agent from seq p → IsNamedOf h agent from (seq + 1) p
@@ -122,7 +122,7 @@ module _ (h : Holding) (agent from : ℕ) where
       ]
 
   -- one that is held names what its amendments name
-  pub Adds-held : (seq : ℕ) (b : Batch) (all : List Amendment) (old mid new : List Place) → from ≤ seq → Some b ≡ held h agent (seq + 1) → AreAmendmentsOf b all → Adds (IsNamedOf h agent from seq) old mid → new ≡ mid ++ filter_map (named_place agent from) all
+  pub Adds-held : (seq : ℕ) (b : Batch) (all : List Amendment) (old mid new : List RecordPlace) → from ≤ seq → Some b ≡ held h agent (seq + 1) → AreAmendmentsOf b all → Adds (IsNamedOf h agent from seq) old mid → new ≡ mid ++ filter_map (named_place agent from) all
       → Adds (IsNamedOf h agent from (seq + 1)) old new
   Adds-held seq b all old mid new some at sorted adds is = Adds-same (λ p. IsNamedOf h agent from seq p ⊎ IsNamedIn agent from all p) (IsNamedOf h agent from (seq + 1)) old new (Adds-onward (IsNamedOf h agent from seq) (IsNamedIn agent from all) old mid new adds (Adds-append agent from all mid new is)) later earlier
     where
@@ -142,8 +142,8 @@ module _ (h : Holding) (agent from : ℕ) where
 
 -- ---- one amendment more
 
-module _ (agent upto : ℕ) (old now : List Place) (amendments : List Amendment) (i : ℕ) (a : Amendment) (inside : i < length amendments) (is : a ≡ get_or amendments i a) (so_far : now ≡ old ++ filter_map (named_place agent upto) (take i amendments)) where
-  one_more : (o : Option Place) → named_place agent upto a ≡ o → now ++ cons_option o [] ≡ old ++ filter_map (named_place agent upto) (take (i + 1) amendments)
+module _ (agent upto : ℕ) (old now : List RecordPlace) (amendments : List Amendment) (i : ℕ) (a : Amendment) (inside : i < length amendments) (is : a ≡ get_or amendments i a) (so_far : now ≡ old ++ filter_map (named_place agent upto) (take i amendments)) where
+  one_more : (o : Option RecordPlace) → named_place agent upto a ≡ o → now ++ cons_option o [] ≡ old ++ filter_map (named_place agent upto) (take (i + 1) amendments)
   one_more o gives =
       ap (λ xs. xs ++ cons_option o []) so_far
       ∙ (append_assoc old (filter_map (named_place agent upto) (take i amendments)) (cons_option o [])

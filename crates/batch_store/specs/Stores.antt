@@ -4,7 +4,7 @@ use Rattle.std.specs.List.{filter_map, Contains}
 use Rattle.metering_model.specs.Batch.{Record, Reads, Amends}
 use Rattle.metering_model.specs.Cut.{Cut, last_of}
 use Rattle.metering_model.specs.Holding.{Holding, IsHolding, Position, records_in_order}
-use Rattle.batch_store.specs.declared.Place.{Place}
+use Rattle.batch_store.specs.declared.RecordPlace.{RecordPlace}
 
 -- the number of agents, and their batches
 pub record Stored : Type 0 where
@@ -48,5 +48,5 @@ pub record AreAmended (h : Holding) (from to : Cut) (ps : List Position) : Type 
   pub in_order : IsTrue (rise ps)
 
 -- a place without its number types
-abbrev pub position_of : Place → Position
+abbrev pub position_of : RecordPlace → Position
 position_of p = record { agent = p.agent; seq = p.seq; index = p.index }

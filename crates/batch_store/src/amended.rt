@@ -6,14 +6,14 @@ ghost use Rattle.metering_model.specs.Cut.{IsAtLeast};
 ghost use Rattle.batch_store.specs.Stores.{AreAmended, position_of};
 ghost use Rattle.batch_store.specs.Inner.Amended.{Adds, IsNamedOf, named_place};
 
-use crate::{Place, Store};
+use crate::{RecordPlace, Store};
 use batch_view::Amendment;
 use period_cut::Cut;
 use std::alloc::{AllocError, Global};
 
 /// Adds the places up to a sequence that these amendments of an agent name.
 fn add_named(
-    places: &mut Vec<Place>,
+    places: &mut Vec<RecordPlace>,
     agent: u8,
     amendments: &[Amendment],
     upto: u32,
@@ -23,7 +23,7 @@ fn add_named(
 {
     for amendment in amendments {
         if amendment.seq <= upto {
-            places.push(Place {
+            places.push(RecordPlace {
                 agent,
                 seq: amendment.seq,
                 index: amendment.index,
@@ -35,7 +35,12 @@ fn add_named(
 
 impl Store {
     /// The places up to the cut `from` that an amendment above it and up to the cut `to` names, each once, rising.
-    pub fn amended(&self, alloc: Global, from: &Cut, to: &Cut) -> Result<Vec<Place>, AllocError>
+    pub fn amended(
+        &self,
+        alloc: Global,
+        from: &Cut,
+        to: &Cut,
+    ) -> Result<Vec<RecordPlace>, AllocError>
         requires agents { length to.now ≡ self.now.agents }
         requires grows { IsAtLeast to.now from.now }
         ensures { IfOk result (λ places. AreAmended self.now.batches from.now to.now (map position_of places.items)) }
@@ -52,7 +57,7 @@ impl Store {
     /// Adds the places up to the sequence `from` that the agent's amendments above it and up to `to` name.
     fn add_amended(
         &self,
-        places: &mut Vec<Place>,
+        places: &mut Vec<RecordPlace>,
         agent: u8,
         from: u32,
         to: u32,

@@ -17,7 +17,7 @@ pub use walk::Batches;
 
 /// Where a record stands: its agent, from 1; its batch's sequence, from 1; its index in the batch, from 0.
 #[derive(Clone, Copy, Debug, PartialEq, Eq, PartialOrd, Ord)]
-pub struct Place {
+pub struct RecordPlace {
     pub agent: u8,
     pub seq: u32,
     pub index: u16,

@@ -8,7 +8,7 @@ ghost use Rattle.batch_view.specs.Batches.{batch_of};
 ghost use Rattle.batch_store.specs.Stores.{IsStored, position_of};
 ghost use Rattle.batch_store.specs.Inner.Values.{has_reading_at, last_given};
 
-use crate::{Place, Store};
+use crate::{RecordPlace, Store};
 use batch_view::{OwnedBatch, Record};
 use fx_money::Value;
 
@@ -25,7 +25,7 @@ fn is_reading(batch: &OwnedBatch, index: u16) -> bool
 impl Store {
     /// The value of the reading at a place as of a sequence of its agent, 0 before its own; None where the store has no
     /// reading there. No memory is taken.
-    pub fn value_at(&self, place: Place, upto: u32) -> Option<Value>
+    pub fn value_at(&self, place: RecordPlace, upto: u32) -> Option<Value>
         requires from { 1 ≤ place.agent }
         requires to { place.agent ≤ self.now.agents }
         ensures there { IsSome result ↔ (is_some (reading_at self.now.batches (position_of place)) ≡ true) }
@@ -49,7 +49,7 @@ impl Store {
 
     /// The value that the last batch behind the reading's own and up to a sequence gives it. Only batches that are listed as
     /// amending its own are looked at.
-    fn last_amended(&self, place: Place, upto: u32) -> Option<Value>
+    fn last_amended(&self, place: RecordPlace, upto: u32) -> Option<Value>
         requires from { 1 ≤ place.agent }
         requires to { place.agent ≤ self.now.agents }
         requires seq { place.seq ≤ upto }

@@ -1,4 +1,3 @@
-pub mod MonthOrder
 pub mod BatchLemmas
 pub mod LineLemmas
 pub mod RecordLemmas

@@ -1,4 +1,3 @@
-pub mod Years
 pub mod Parts
 pub mod TagTexts
 pub mod Lent

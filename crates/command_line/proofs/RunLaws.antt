@@ -4,7 +4,7 @@ use Rattle.std.specs.Io.KnownBytes.{IsAtEnd}
 use Rattle.counted_io.specs.Counts.{count_after, next_count}
 use Rattle.schedule_player.specs.declared.rate.PlayFault.{PlayFault}
 use Rattle.schedule_player.specs.declared.rate.PlayFault.TheVariants as play
-use Rattle.schedule_text.specs.declared.faults.ScheduleFault.TheVariants as section
+use Rattle.input_sections.specs.declared.faults.ScheduleFault.TheVariants as section
 use Rattle.schedule_player.specs.Faults.{tells_of_reader, tells_of_writer}
 use Rattle.node_threads.specs.declared.runs.RunFault.TheVariants as of_run
 use Rattle.threads_player.specs.declared.faults.ThreadsFault.{ThreadsFault}

@@ -3,9 +3,9 @@ use Rattle.std.specs.Prelude.{◌≡◌, ◌⊎◌, ℕ, List, ◌++◌, Option,
 use Rattle.std.specs.Io.KnownBytes.{Appends}
 use Rattle.counted_io.specs.Counts.{next_count}
 use Rattle.metering_model.specs.Transcript.{line, refusal_text, with_number}
-use Rattle.schedule_text.specs.declared.faults.ScheduleCode.{ScheduleCode}
-use Rattle.schedule_text.specs.declared.faults.ScheduleCode.TheVariants as code
-use Rattle.schedule_text.specs.declared.faults.ScheduleFault.TheVariants as section
+use Rattle.input_sections.specs.declared.faults.ScheduleCode.{ScheduleCode}
+use Rattle.input_sections.specs.declared.faults.ScheduleCode.TheVariants as code
+use Rattle.input_sections.specs.declared.faults.ScheduleFault.TheVariants as section
 use Rattle.command_line.specs.declared.words.LineFault.TheVariants as on_line
 use Rattle.schedule_player.specs.declared.rate.PlayFault.TheVariants as play
 use Rattle.node_threads.specs.declared.runs.RunFault.TheVariants as of_run

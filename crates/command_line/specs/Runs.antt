@@ -5,7 +5,7 @@ use Rattle.std.specs.Vec.Iter.{into_iter_items}
 use Rattle.std.specs.declared.vec.IntoIter.{IntoIter}
 use Rattle.std.specs.declared.io.Error.{Error}
 use Rattle.clap.specs.Words.{Text}
-use Rattle.schedule_text.specs.declared.faults.ScheduleFault.{ScheduleFault}
+use Rattle.input_sections.specs.declared.faults.ScheduleFault.{ScheduleFault}
 use Rattle.schedule_reader.specs.Schedules.{schedule_in}
 use Rattle.schedule_player.specs.Transcripts.{IsTranscriptOf, IsFrontOfTranscript}
 use Rattle.schedule_player.specs.declared.rate.PlayFault.{PlayFault}

@@ -17,7 +17,7 @@ ghost use Rattle.charge_row.specs.FocusRows.{model_row};
 ghost use Rattle.focus_row.specs.Inner.Left.{MayBeCharged, record_at, rows_left};
 
 use crate::places::{is_named, next_named};
-use batch_store::{Place, Store};
+use batch_store::{RecordPlace, Store};
 use batch_view::{Reading, Record};
 use charge_row::{Billing, FocusRow, row};
 use fx_money::Value;
@@ -38,7 +38,7 @@ struct BetweenCuts<'a> {
     from: &'a Cut,
     to: &'a Cut,
     /// The places up to `from` that are amended above it and up to `to`.
-    amended: Vec<Place>,
+    amended: Vec<RecordPlace>,
 }
 
 impl<'a> Model for BetweenCuts<'a> {
@@ -75,7 +75,7 @@ impl<'a> Model for BetweenCuts<'a> {
 
 impl<'a> BetweenCuts<'a> {
     /// The value of a reading as of a sequence of its agent.
-    fn value(&self, place: Place, upto: u32) -> Value
+    fn value(&self, place: RecordPlace, upto: u32) -> Value
         requires from { 1 ≤ place.agent }
         requires to { place.agent ≤ self.now.agents }
         requires there { is_some (reading_at self.now.batches (position_of place)) ≡ true }
@@ -89,7 +89,7 @@ impl<'a> BetweenCuts<'a> {
     }
 
     /// The row of a reading above `from`: it is charged whole.
-    fn new_row(&self, place: Place, reading: &Reading<'a>) -> FocusRow<'a>
+    fn new_row(&self, place: RecordPlace, reading: &Reading<'a>) -> FocusRow<'a>
         requires from { 1 ≤ place.agent }
         requires to { place.agent ≤ self.now.agents }
         requires there { reading_at self.now.batches (position_of place) ≡ Some (model_reading reading.now) }
@@ -110,7 +110,7 @@ impl<'a> BetweenCuts<'a> {
     }
 
     /// The row of a reading up to `from` from its value there to the one at `to`, where these differ.
-    fn correction(&self, place: Place, reading: &Reading<'a>) -> Option<FocusRow<'a>>
+    fn correction(&self, place: RecordPlace, reading: &Reading<'a>) -> Option<FocusRow<'a>>
         requires from { 1 ≤ place.agent }
         requires to { place.agent ≤ self.now.agents }
         requires there { reading_at self.now.batches (position_of place) ≡ Some (model_reading reading.now) }
@@ -137,7 +137,7 @@ impl<'a> BetweenCuts<'a> {
     }
 
     /// The row of a record, where it has one.
-    fn row_of(&self, place: Place, what: &Record<'a>) -> Option<FocusRow<'a>>
+    fn row_of(&self, place: RecordPlace, what: &Record<'a>) -> Option<FocusRow<'a>>
         requires from { 1 ≤ place.agent }
         requires to { place.agent ≤ self.now.agents }
         requires there { record_at self.now.batches (position_of place) ≡ Some (record_of what.now) }
@@ -173,7 +173,7 @@ impl<'a> BetweenCuts<'a> {
         let mut rows = Vec::new(alloc);
         let mut index = 0;
         for record in batch.records() {
-            let place = Place { agent, seq, index };
+            let place = RecordPlace { agent, seq, index };
             index += 1;
             if let Some(row) = self.row_of(place, &record) {
                 if rows.push(row).is_err() {

@@ -5,10 +5,10 @@ ghost use Rattle.std.specs.List.{Contains};
 ghost use Rattle.batch_store.specs.Stores.{position_of, rise, stands_before};
 ghost use Rattle.focus_row.specs.Inner.Places.{IsFirstFrom, IsNextNamed, NoneNamed};
 
-use batch_store::Place;
+use batch_store::RecordPlace;
 
 /// By agent, then by sequence, then by index.
-pub(crate) fn stands_before(a: Place, b: Place) -> bool
+pub(crate) fn stands_before(a: RecordPlace, b: RecordPlace) -> bool
     ensures { result ≡ stands_before (position_of a) (position_of b) }
 {
     a.agent < b.agent
@@ -16,7 +16,7 @@ pub(crate) fn stands_before(a: Place, b: Place) -> bool
 }
 
 /// How many of the places stand before this one.
-fn first_from(places: &[Place], place: Place) -> usize
+fn first_from(places: &[RecordPlace], place: RecordPlace) -> usize
     requires { IsTrue (rise (map position_of places.now)) }
     ensures { IsFirstFrom (map position_of places.now) (position_of place) result }
 {
@@ -34,7 +34,7 @@ fn first_from(places: &[Place], place: Place) -> usize
 }
 
 /// Whether it is one of the places.
-pub(crate) fn is_named(places: &[Place], place: Place) -> bool
+pub(crate) fn is_named(places: &[RecordPlace], place: RecordPlace) -> bool
     requires { IsTrue (rise (map position_of places.now)) }
     ensures { IsTrue result ↔ Contains (map position_of places.now) (position_of place) }
 {
@@ -45,12 +45,12 @@ pub(crate) fn is_named(places: &[Place], place: Place) -> bool
 }
 
 /// The sequence of the agent's first batch from a sequence on that has one of the places.
-pub(crate) fn next_named(places: &[Place], agent: u8, seq: u32) -> Option<u32>
+pub(crate) fn next_named(places: &[RecordPlace], agent: u8, seq: u32) -> Option<u32>
     requires { IsTrue (rise (map position_of places.now)) }
     ensures some { IfSome result (IsNextNamed (map position_of places.now) agent seq) }
     ensures none { IfNone result (NoneNamed (map position_of places.now) agent seq) }
 {
-    let start = Place {
+    let start = RecordPlace {
         agent,
         seq,
         index: 0,

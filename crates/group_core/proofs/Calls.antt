@@ -7,9 +7,9 @@ use Rattle.metering_model.specs.World.{World, Event, Export, Exported, Reply, Sn
 use Rattle.metering_model.specs.Step.{or_refused, snapshot, step, play}
 use Rattle.metering_model.proofs.PlayLaws.{play-last, replies-last}
 use Rattle.group_laws.specs.Headline.{AtMostOneIsChosen}
-use Rattle.group_world.specs.Reached.{IsReached}
+use Rattle.group_state.specs.Reached.{IsReached}
 use Rattle.group_core.specs.Headline.{HasOneList, LearnsWhatIsChosen, ChargesOnce, IsExportOf, AreExportsOf, ExportsAgree, IsSameGroup, ListGrows, ExportsStay, AnswersEach}
-use Rattle.group_world.proofs.Reaching.{play_reached}
+use Rattle.group_state.proofs.Reaching.{play_reached}
 use Rattle.group_core.proofs.Worlds.{one_chosen_here, one_list_here, learned_here, charged_once_here}
 use Rattle.group_core.proofs.Runs.{same_group_in_run, grows_in_run, stay_in_run, exports_in_run, agree_in_run, answers_in_run}
 

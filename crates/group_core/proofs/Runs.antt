@@ -22,9 +22,9 @@ use Rattle.group_laws.proofs.Agreed.{element_of, earlier_entry, are_the_cuts, th
 use Rattle.group_laws.proofs.Asked.{one_each, asked}
 use Rattle.group_laws.proofs.Answered.{kept, only}
 use Rattle.group_laws.proofs.Exports.{IsTaken, all_taken, is_export}
-use Rattle.group_world.specs.Reached.{IsReached}
+use Rattle.group_state.specs.Reached.{IsReached}
 use Rattle.group_core.specs.Headline.{AreExportsOf, ExportsAgree, IsSameGroup, ListGrows, ExportsStay, AnswersEach}
-use Rattle.group_world.proofs.Reaching.{play_reached}
+use Rattle.group_state.proofs.Reaching.{play_reached}
 use Rattle.group_core.proofs.Worlds.{fitting_here, same_cuts, same_exports, get_in_longer}
 
 -- ---- the journals only grow

@@ -10,7 +10,7 @@ use Rattle.group_laws.proofs.Fits.{IsFitting, IsFitting-steps, IsFitting-opening
 use Rattle.group_laws.proofs.Agreed.{the_cuts, one_chosen, are_the_cuts}
 use Rattle.group_laws.proofs.Exports.{one_export}
 use Rattle.group_laws.proofs.ChargedOnce.{charged_once}
-use Rattle.group_world.specs.Reached.{IsReached}
+use Rattle.group_state.specs.Reached.{IsReached}
 use Rattle.group_core.specs.Headline.{HasOneList, LearnsWhatIsChosen, ChargesOnce, IsExportOf}
 
 -- ---- there is one list

@@ -2,7 +2,7 @@
 use Rattle.std.specs.Prelude.{List, map, Result, Ok, Err, Vec}
 use Rattle.std.specs.declared.alloc.Global.{Global}
 use Rattle.metering_model.specs.World as model
-use Rattle.group_world.specs.Words.{Reply, reply_of}
+use Rattle.group_state.specs.Words.{Reply, reply_of}
 use Rattle.group_core.specs.declared.playing.Stopped.{Stopped}
 
 abbrev pub replies_in : Result (Vec Reply Global) Stopped → List model.Reply

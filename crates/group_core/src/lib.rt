@@ -5,6 +5,6 @@ pub mod laws;
 mod playing;
 mod world;
 
-pub use group_world::{Event, Node, Packet, Reply, Snapshot};
+pub use group_state::{Event, Node, Packet, Reply, Snapshot};
 pub use playing::Stopped;
 pub use world::World;

@@ -3,12 +3,12 @@
 ghost use Rattle.std.specs.Prelude.{◌≡◌, ◌<◌, [], length, map, take, IfOk, IfErr, OnOk, OnErr};
 ghost use Rattle.metering_model.specs.Step.{play};
 ghost use Rattle.group_laws.specs.Headline.{AtMostOneIsChosen};
-ghost use Rattle.group_world.specs.Words.{event_of, reply_of};
+ghost use Rattle.group_state.specs.Words.{event_of, reply_of};
 ghost use Rattle.group_core.specs.Headline.{AnswersEach, AreExportsOf, ChargesOnce, ExportsAgree, ExportsStay, HasOneList, IsSameGroup, LearnsWhatIsChosen, ListGrows};
 ghost use Rattle.group_core.specs.Playing.{replies_in};
 
 use crate::World;
-use group_world::{Event, Reply};
+use group_state::{Event, Reply};
 use std::alloc::{AllocError, Global};
 
 /// Memory was refused, after these replies. The world stands after exactly their events.

@@ -6,11 +6,11 @@ ghost use Rattle.metering_model.specs.World.{node_count, opening};
 ghost use Rattle.metering_model.specs.Step.{snapshot, step};
 ghost use Rattle.group_laws.specs.Headline.{AtMostOneIsChosen};
 ghost use Rattle.group_laws.specs.EveryRun.{KeepsLimits};
-ghost use Rattle.group_world.specs.Words.{event_of, reply_of};
-ghost use Rattle.group_world.specs.Reached.{IsReached};
+ghost use Rattle.group_state.specs.Words.{event_of, reply_of};
+ghost use Rattle.group_state.specs.Reached.{IsReached};
 ghost use Rattle.group_core.specs.Headline.{AreExportsOf, ChargesOnce, ExportsStay, HasOneList, IsExportOf, IsSameGroup, LearnsWhatIsChosen, ListGrows};
 
-use group_world::{Event, GroupState, Reply, Snapshot};
+use group_state::{Event, GroupState, Reply, Snapshot};
 use metering_model::Refusal;
 use price_sheet::{Issuer, Sheet};
 use std::alloc::{AllocError, Global};
@@ -26,7 +26,7 @@ pub struct World {
 
 impl Model for World {
     ghost use Rattle.metering_model.specs.World as model;
-    ghost use Rattle.group_world.specs.Reached.{IsReached};
+    ghost use Rattle.group_state.specs.Reached.{IsReached};
 
     ghost Value = { model.World };
 

@@ -10,7 +10,7 @@ ghost use Rattle.batch_view.specs.Lent.{model_reading, record_of};
 ghost use Rattle.batch_store.specs.Stores.{position_of};
 ghost use Rattle.journal_rules.specs.Inner.Journaled.{stored_in};
 
-use batch_store::{Place, Store};
+use batch_store::{RecordPlace, Store};
 use batch_view::{BatchView, Kind, OwnedBatch, Reading, Record};
 use charge_row::{commitment_of, is_priced, price_of};
 use fx_money::Value;
@@ -63,7 +63,7 @@ fn has_fit_target(batch: &BatchView<'_>, index: u16, value: Value) -> bool
 }
 
 /// Whether a sequence and an index come before the place.
-fn comes_earlier(place: Place, seq: u32, index: u16) -> bool
+fn comes_earlier(place: RecordPlace, seq: u32, index: u16) -> bool
     ensures { result ≡ comes_earlier (position_of place) seq index }
 {
     seq < place.seq || (seq == place.seq && index < place.index)
@@ -111,14 +111,14 @@ impl<'a> Model for Journaled<'a> {
 
 impl<'a> Journaled<'a> {
     /// Whether the place is one of the batch itself.
-    fn is_own(&self, place: Place) -> bool
+    fn is_own(&self, place: RecordPlace) -> bool
         ensures { result ≡ is_batch_at place.agent place.seq self.now.batch }
     {
         self.batch.agent() == place.agent && self.batch.seq() == place.seq
     }
 
     /// Whether the batch itself has a reading at the place that takes the value.
-    fn is_fit_here(&self, place: Place, value: Value) -> bool
+    fn is_fit_here(&self, place: RecordPlace, value: Value) -> bool
         requires { is_batch_at place.agent place.seq self.now.batch ≡ true }
         ensures { result ≡ is_fit_target value (reading_at self.now.batches (position_of place)) }
     {
@@ -126,7 +126,7 @@ impl<'a> Journaled<'a> {
     }
 
     /// Whether there is a store that has a reading at the place that takes the value.
-    fn is_fit_elsewhere(&self, place: Place, value: Value) -> bool
+    fn is_fit_elsewhere(&self, place: RecordPlace, value: Value) -> bool
         requires from { 1 ≤ place.agent }
         requires to { place.agent ≤ self.now.agents }
         requires elsewhere { is_batch_at place.agent place.seq self.now.batch ≡ false }
@@ -139,7 +139,7 @@ impl<'a> Journaled<'a> {
     }
 
     /// Whether there is a reading at the place that takes the value.
-    fn is_fit_target(&self, place: Place, value: Value) -> bool
+    fn is_fit_target(&self, place: RecordPlace, value: Value) -> bool
         requires from { 1 ≤ place.agent }
         requires to { place.agent ≤ self.now.agents }
         ensures { result ≡ is_fit_target value (reading_at self.now.batches (position_of place)) }
@@ -152,7 +152,7 @@ impl<'a> Journaled<'a> {
     }
 
     /// The rule that a record at a place breaks.
-    fn broken_by(&self, sheet: &Sheet, place: Place, what: &Record<'_>) -> Option<BrokenRule>
+    fn broken_by(&self, sheet: &Sheet, place: RecordPlace, what: &Record<'_>) -> Option<BrokenRule>
         requires from { 1 ≤ place.agent }
         requires to { place.agent ≤ self.now.agents }
         ensures { result ≡ broken_by sheet.now self.now.batches (position_of place) (record_of what.now) }
@@ -166,7 +166,7 @@ impl<'a> Journaled<'a> {
                 }
             }
             Record::Amend { seq, index, value } => {
-                let target = Place {
+                let target = RecordPlace {
                     agent: place.agent,
                     seq: *seq,
                     index: *index,
@@ -189,7 +189,7 @@ impl<'a> Journaled<'a> {
         let _count = self.batch.count();
         let mut index = 0;
         for record in self.batch.records() {
-            let place = Place { agent, seq, index };
+            let place = RecordPlace { agent, seq, index };
             if let Some(rule) = self.broken_by(sheet, place, &record) {
                 return Some(rule);
             }

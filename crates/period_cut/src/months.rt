@@ -1,10 +1,10 @@
 //! Calendar months.
 ghost use Rattle.std.specs.Prelude.{◌≡◌, ℕ, ◌+◌, ◌-◌, ◌*◌, ◌<◌, ◌≤◌, ◌↔◌, IsTrue};
 ghost use Rattle.metering_model.specs.Dates.{month_in, month_start, month_start_text, two_digits, IsBaseMonth};
-ghost use Rattle.batch_view.specs.Years.{IsMonthNumber};
+ghost use Rattle.utc_calendar.specs.Years.{IsMonthNumber};
 
-use batch_view::dates::{Day, Stamp, month_number};
 use std::marker::Model;
+use utc_calendar::dates::{Day, Stamp, month_number};
 
 const MONTHS_PER_YEAR: u32 = 12;
 

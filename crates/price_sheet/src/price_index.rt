@@ -5,10 +5,10 @@ ghost use Rattle.price_sheet.specs.Inner.Days.{begun, with_start};
 ghost use Rattle.price_sheet.specs.Inner.Places.{found_at, starts_of, Puts, IndexesPrices};
 
 use crate::starts::{Start, Starts};
-use batch_view::Day;
 use indexmap::IndexMap;
 use sheet_text::PriceRow;
 use std::alloc::{AllocError, Global};
+use utc_calendar::Day;
 
 /// Where the prices of each SKU stand in the sheet, by day.
 #[derive(Drop)]

@@ -1,7 +1,7 @@
 //! Stores of worked batches, and of batches of 64 agents.
 
 use crate::batches::ALL_KINDS;
-use batch_store::{Place, Store};
+use batch_store::{RecordPlace, Store};
 use batch_view::{BatchView, Field, Offer, OwnedBatch, Reading, Record};
 use period_cut::{Cut, Month, Period};
 use std::alloc::{AllocError, Global};
@@ -175,7 +175,7 @@ fn what_is_absent_and_what_is_due_is_told(rt: HostRuntime) -> Result<(), Fail> {
 fn value(store: &Store, seq: u32, index: u16, upto: u32) -> Option<i64> {
     // Its clause says that there is an agent.
     let _agents = store.agents();
-    let place = Place {
+    let place = RecordPlace {
         agent: 1,
         seq,
         index,
@@ -466,7 +466,7 @@ fn names_again(store: &Store, alloc: Global) -> Result<bool, Fail> {
         Ok(places) => places,
         Err(_) => store.amended(alloc, &one, &five)?,
     };
-    let amended = Place {
+    let amended = RecordPlace {
         agent: 1,
         seq: 1,
         index: 0,

@@ -3,10 +3,10 @@ use Rattle.std.proofs.Common.{◌≡◌, ◌≢◌, ℕ, ◌<◌, List, [], leng
 use Rattle.std.specs.Io.KnownBytes.{Appends}
 use Rattle.std.proofs.KnownBytes.{Appends-nil}
 use Rattle.metering_model.specs.FirstFailure.{◌>>=◌, holds_or}
-use Rattle.schedule_text.specs.declared.faults.ScheduleCode.TheVariants.{TooLong}
-use Rattle.schedule_text.specs.declared.faults.ScheduleFault.{ScheduleFault}
-use Rattle.schedule_text.specs.declared.faults.ScheduleFault.TheVariants as faults
-use Rattle.schedule_text.specs.Sections.{Unread, whole_of}
+use Rattle.input_sections.specs.declared.faults.ScheduleCode.TheVariants.{TooLong}
+use Rattle.input_sections.specs.declared.faults.ScheduleFault.{ScheduleFault}
+use Rattle.input_sections.specs.declared.faults.ScheduleFault.TheVariants as faults
+use Rattle.input_sections.specs.Sections.{Unread, whole_of}
 use Rattle.schedule_reader.specs.Schedules.{group_in, schedule_in}
 use Rattle.transcript_writer.specs.Played.{IsTranscriptOf, IsFrontOfTranscript}
 use Rattle.schedule_player.proofs.RatedLaws.{first_fails, is_longer}

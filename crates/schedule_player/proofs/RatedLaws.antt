@@ -5,11 +5,11 @@ use Rattle.metering_model.specs.FirstFailure.{◌>>=◌, holds_or}
 use Rattle.metering_model.specs.declared.Refusal.{Refusal}
 use Rattle.metering_model.specs.SheetRules.{IsSheet, IsIssuer}
 use Rattle.std.specs.Io.KnownBytes.{Appends}
-use Rattle.schedule_text.specs.declared.faults.ScheduleCode.TheVariants.{TooLong}
-use Rattle.schedule_text.specs.declared.faults.ScheduleFault.{ScheduleFault}
-use Rattle.schedule_text.specs.declared.faults.ScheduleFault.TheVariants as faults
-use Rattle.schedule_text.specs.Sections.{Unread, whole_of}
-use Rattle.schedule_text.specs.RateInput.{RateInput, rate_input_in}
+use Rattle.input_sections.specs.declared.faults.ScheduleCode.TheVariants.{TooLong}
+use Rattle.input_sections.specs.declared.faults.ScheduleFault.{ScheduleFault}
+use Rattle.input_sections.specs.declared.faults.ScheduleFault.TheVariants as faults
+use Rattle.input_sections.specs.Sections.{Unread, whole_of}
+use Rattle.input_sections.specs.RateInput.{RateInput, rate_input_in}
 use Rattle.schedule_player.specs.declared.rate.PlayFault.{PlayFault}
 use Rattle.schedule_player.specs.declared.rate.PlayFault.TheVariants.{Schedule, Refused}
 use Rattle.schedule_player.specs.RateInput.{or_schedule, or_refused, file_by, rated_file}

@@ -10,7 +10,7 @@ use Rattle.metering_model.specs.Front.{is_due}
 use Rattle.metering_model.specs.Sheet.{Sheet}
 use Rattle.metering_model.specs.File.{header_line}
 use Rattle.row_laws.specs.Charged.{charged_at_once}
-use Rattle.schedule_text.specs.RateInput.{RateInput, rate_input_in}
+use Rattle.input_sections.specs.RateInput.{RateInput, rate_input_in}
 use Rattle.schedule_player.specs.RateInput.{rated_file}
 
 -- a reading, and the value that it has in the end

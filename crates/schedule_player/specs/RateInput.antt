@@ -13,8 +13,8 @@ use Rattle.metering_model.specs.Rows.{rows}
 use Rattle.metering_model.specs.World.{World, opening}
 use Rattle.metering_model.specs.Step.{or_bad_batch, on_batch}
 use Rattle.metering_model.specs.File.{file}
-use Rattle.schedule_text.specs.declared.faults.ScheduleFault.{ScheduleFault}
-use Rattle.schedule_text.specs.RateInput.{rate_input_in}
+use Rattle.input_sections.specs.declared.faults.ScheduleFault.{ScheduleFault}
+use Rattle.input_sections.specs.RateInput.{rate_input_in}
 use Rattle.schedule_player.specs.declared.rate.PlayFault.{PlayFault}
 use Rattle.schedule_player.specs.declared.rate.PlayFault.TheVariants.{Schedule, Refused}
 

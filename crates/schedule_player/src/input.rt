@@ -5,12 +5,12 @@ ghost use Rattle.std.specs.Io.KnownBytes.{IsAtEnd};
 ghost use Rattle.counted_io.specs.Counts.{Rises, count_after};
 ghost use Rattle.counted_io.specs.Reading.{ConsumesAtMost};
 ghost use Rattle.metering_model.specs.declared.Refusal.{Refusal};
-ghost use Rattle.schedule_text.specs.declared.faults.ScheduleFault.{ScheduleFault};
+ghost use Rattle.input_sections.specs.declared.faults.ScheduleFault.{ScheduleFault};
 ghost use Rattle.schedule_player.specs.Faults.{tells_of_reader};
 
 use crate::rate::PlayFault;
 use counted_io::{Input, ReadFault, Source, read_to_limit};
-use schedule_text::{ScheduleCode, ScheduleFault};
+use input_sections::{ScheduleCode, ScheduleFault};
 use std::alloc::Global;
 
 /// The most bytes that an input may have.

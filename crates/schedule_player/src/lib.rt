@@ -10,4 +10,4 @@ pub use files::file_between;
 pub use play::play_text;
 pub use rate::{PlayFault, rate_batch, rate_text};
 pub use schedule_reader::{Planned, Schedule};
-pub use schedule_text::{ScheduleCode, ScheduleFault};
+pub use input_sections::{ScheduleCode, ScheduleFault};

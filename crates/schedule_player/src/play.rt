@@ -5,7 +5,7 @@ ghost use Rattle.std.specs.Io.KnownBytes.{Appends, IsAtEnd};
 ghost use Rattle.counted_io.specs.Counts.{Rises, count_after};
 ghost use Rattle.counted_io.specs.Reading.{ConsumesAtMost};
 ghost use Rattle.metering_model.specs.declared.Refusal.{Refusal};
-ghost use Rattle.schedule_text.specs.declared.faults.ScheduleFault.{ScheduleFault};
+ghost use Rattle.input_sections.specs.declared.faults.ScheduleFault.{ScheduleFault};
 ghost use Rattle.schedule_reader.specs.Schedules.{schedule_in};
 ghost use Rattle.transcript_writer.specs.Played.{IsFrontOfTranscript, IsTranscriptOf};
 ghost use Rattle.schedule_player.specs.Faults.{tells_of_reader, tells_of_writer};
@@ -13,7 +13,7 @@ ghost use Rattle.schedule_player.specs.Faults.{tells_of_reader, tells_of_writer}
 use crate::input::read_input;
 use crate::rate::PlayFault;
 use counted_io::{Sink, Source};
-use schedule_text::ScheduleFault;
+use input_sections::ScheduleFault;
 use std::alloc::Global;
 use transcript_writer::{TranscriptFault, write_transcript};
 

@@ -14,9 +14,9 @@ use Rattle.metering_model.specs.Transcript.{line, with_number}
 use Rattle.metering_model.proofs.FieldLaws.{same_read, whole_read}
 use Rattle.metering_model.proofs.Splitting.{lines_of_text}
 use Rattle.metering_model.proofs.StepLaws.{step_ok, some_step, ok_same}
-use Rattle.schedule_text.specs.declared.faults.ScheduleCode.TheVariants.{Event}
-use Rattle.schedule_text.specs.declared.faults.ScheduleFault.{ScheduleFault}
-use Rattle.schedule_text.specs.Sections.{Unread, Section, left, begins_with, first_line, section_in}
+use Rattle.input_sections.specs.declared.faults.ScheduleCode.TheVariants.{Event}
+use Rattle.input_sections.specs.declared.faults.ScheduleFault.{ScheduleFault}
+use Rattle.input_sections.specs.Sections.{Unread, Section, left, begins_with, first_line, section_in}
 use Rattle.schedule_reader.specs.Schedules.{one_behind, both, two_at, two_in, two_behind, or_else, event_of_line, line_event, journal_event, event_in, events_in}
 use Rattle.schedule_reader.proofs.LineForms.{line_read, number_read, section_read}
 

@@ -3,8 +3,8 @@ use Rattle.std.proofs.Common.{◌≡◌, ℕ, map, suc, ◌<◌, ◌≤◌, cond
 use Rattle.metering_model.specs.Batch.{is_empty}
 use Rattle.metering_model.specs.FirstFailure.{◌>>=◌}
 use Rattle.metering_model.specs.Schedule.{Planned}
-use Rattle.schedule_text.specs.declared.faults.ScheduleFault.{ScheduleFault}
-use Rattle.schedule_text.specs.Sections.{Unread, left}
+use Rattle.input_sections.specs.declared.faults.ScheduleFault.{ScheduleFault}
+use Rattle.input_sections.specs.Sections.{Unread, left}
 use Rattle.schedule_reader.specs.Schedules.{event_in, events_in}
 use Rattle.schedule_reader.specs.Inner.Found.{in_front}
 

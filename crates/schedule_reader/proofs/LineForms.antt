@@ -14,10 +14,10 @@ use Rattle.metering_model.specs.Transcript.{line, with_number}
 use Rattle.metering_model.proofs.FieldLaws.{same_read, whole_read}
 use Rattle.metering_model.proofs.Splitting.{parts_at, parts_lack, lines_give_back}
 use Rattle.metering_model.proofs.StepLaws.{step_ok, some_step, test_step, ok_same}
-use Rattle.schedule_text.specs.declared.faults.ScheduleCode.{ScheduleCode}
-use Rattle.schedule_text.specs.declared.faults.ScheduleFault.{ScheduleFault}
-use Rattle.schedule_text.specs.Sections.{Unread, Section, left, lines_left, first_of, first_line, begins_with, number_behind, section_of, section_in, told, read_as}
-use Rattle.schedule_text.proofs.LineLaws.{text_of_front}
+use Rattle.input_sections.specs.declared.faults.ScheduleCode.{ScheduleCode}
+use Rattle.input_sections.specs.declared.faults.ScheduleFault.{ScheduleFault}
+use Rattle.input_sections.specs.Sections.{Unread, Section, left, lines_left, first_of, first_line, begins_with, number_behind, section_of, section_in, told, read_as}
+use Rattle.input_sections.proofs.LineLaws.{text_of_front}
 
 -- ---- lines hold no line feed
 

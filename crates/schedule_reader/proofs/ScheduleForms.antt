@@ -12,10 +12,10 @@ use Rattle.metering_model.proofs.FieldLaws.{same_read}
 use Rattle.metering_model.proofs.StepLaws.{step_ok, some_step, test_step, ok_same, ok_step_from}
 use Rattle.price_sheet.specs.SheetReading.{sheet_of_text}
 use Rattle.sheet_text.specs.IssuerReading.{issuer_of_text}
-use Rattle.schedule_text.specs.declared.faults.ScheduleCode.{ScheduleCode}
-use Rattle.schedule_text.specs.declared.faults.ScheduleCode.TheVariants.{Head, Nodes, Agents, Sheet, Issuer, TooLong}
-use Rattle.schedule_text.specs.declared.faults.ScheduleFault.TheVariants.{Refused}
-use Rattle.schedule_text.specs.Sections.{Unread, left, whole_of, first_line, number_behind, section_in, read_as, sheet_section, issuer_section}
+use Rattle.input_sections.specs.declared.faults.ScheduleCode.{ScheduleCode}
+use Rattle.input_sections.specs.declared.faults.ScheduleCode.TheVariants.{Head, Nodes, Agents, Sheet, Issuer, TooLong}
+use Rattle.input_sections.specs.declared.faults.ScheduleFault.TheVariants.{Refused}
+use Rattle.input_sections.specs.Sections.{Unread, left, whole_of, first_line, number_behind, section_in, read_as, sheet_section, issuer_section}
 use Rattle.schedule_reader.specs.Schedules.{ReadSchedule, head_line, number_line, group_in, events_in, schedule_in}
 use Rattle.schedule_reader.specs.Forms.{IsReadOf, IsRead}
 use Rattle.schedule_reader.proofs.LineForms.{line_read, number_read, section_read, reader_took}

@@ -4,9 +4,9 @@ use Rattle.std.specs.Prelude.{nat_le}
 use Rattle.std.proofs.lemmas.Bool.Decides.{nat_tests}
 use Rattle.metering_model.specs.FirstFailure.{◌>>=◌, holds_or}
 use Rattle.metering_model.specs.Schedule.{lines_text}
-use Rattle.schedule_text.specs.declared.faults.ScheduleCode.TheVariants.{Nodes, Issuer, TooLong}
-use Rattle.schedule_text.specs.declared.faults.ScheduleFault.TheVariants.{Refused}
-use Rattle.schedule_text.specs.Sections.{Unread, whole_of, section_in, issuer_section}
+use Rattle.input_sections.specs.declared.faults.ScheduleCode.TheVariants.{Nodes, Issuer, TooLong}
+use Rattle.input_sections.specs.declared.faults.ScheduleFault.TheVariants.{Refused}
+use Rattle.input_sections.specs.Sections.{Unread, whole_of, section_in, issuer_section}
 use Rattle.schedule_reader.specs.Schedules.{group_in, head_line, number_line, schedule_in}
 
 -- ---- a text that is too long

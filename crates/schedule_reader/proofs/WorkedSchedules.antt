@@ -1,9 +1,9 @@
 -- Lines and texts of schedules, read as worked examples.
 use Rattle.std.proofs.Common.{◌≡◌, ℕ, List, [], ◌∷◌, Some, None, Ok, Err, refl, codes}
 use Rattle.metering_model.specs.Schedule.{PlansDelivery, PlansStart, PlansRestart, PlansExport, PlansJournal, lines_text}
-use Rattle.schedule_text.specs.declared.faults.ScheduleCode.TheVariants.{Head, Nodes, Agents, Sheet, Event, Lines}
-use Rattle.schedule_text.specs.declared.faults.ScheduleFault.TheVariants.{Refused}
-use Rattle.schedule_text.specs.Sections.{Unread, section_in, sheet_section}
+use Rattle.input_sections.specs.declared.faults.ScheduleCode.TheVariants.{Head, Nodes, Agents, Sheet, Event, Lines}
+use Rattle.input_sections.specs.declared.faults.ScheduleFault.TheVariants.{Refused}
+use Rattle.input_sections.specs.Sections.{Unread, section_in, sheet_section}
 use Rattle.schedule_reader.specs.Schedules.{event_of_line, event_in, journal_event, line_event, events_in, group_in, head_line, number_line, schedule_in}
 
 a_delivery : event_of_line (codes "deliver 12 3") ≡ Some (PlansDelivery 12 3)

@@ -17,8 +17,8 @@ use Rattle.metering_model.proofs.FieldLaws.{whole_written}
 use Rattle.metering_model.proofs.NumberLaws.{decimal_bytes}
 use Rattle.metering_model.proofs.Splitting.{lines_of_text, list_all_weaker, list_all_both}
 use Rattle.metering_model.proofs.StepLaws.{ok_step_from, some_step_from}
-use Rattle.schedule_text.specs.declared.faults.ScheduleCode.TheVariants.{Event}
-use Rattle.schedule_text.specs.Sections.{Unread, left, begins_with, first_line, section_in}
+use Rattle.input_sections.specs.declared.faults.ScheduleCode.TheVariants.{Event}
+use Rattle.input_sections.specs.Sections.{Unread, left, begins_with, first_line, section_in}
 use Rattle.schedule_reader.specs.Schedules.{one_behind, both, two_at, two_in, two_behind, or_else, event_of_line, line_event, journal_event, event_in, events_in}
 use Rattle.schedule_reader.proofs.WrittenLines.{line_written, begins_written, number_written, number_lacks_feed, section_written}
 use Rattle.schedule_reader.proofs.EventForms.{event_long}

@@ -12,9 +12,9 @@ use Rattle.metering_model.specs.Transcript.{line, with_number}
 use Rattle.metering_model.proofs.FieldBytes.{decimal_is_inner, inner_lacks_feed}
 use Rattle.metering_model.proofs.FieldLaws.{whole_written}
 use Rattle.metering_model.proofs.Splitting.{cut_first, list_all_both}
-use Rattle.schedule_text.specs.declared.faults.ScheduleCode.{ScheduleCode}
-use Rattle.schedule_text.specs.Sections.{Unread, Section, left, lines_left, first_of, first_line, begins_with, section_of, section_in}
-use Rattle.schedule_text.proofs.SectionLaws.{section_read}
+use Rattle.input_sections.specs.declared.faults.ScheduleCode.{ScheduleCode}
+use Rattle.input_sections.specs.Sections.{Unread, Section, left, lines_left, first_of, first_line, begins_with, section_of, section_in}
+use Rattle.input_sections.proofs.SectionLaws.{section_read}
 use Rattle.schedule_reader.proofs.LineForms.{left_behind}
 
 -- ---- lines at the front of a text

@@ -12,11 +12,11 @@ use Rattle.metering_model.specs.Transcript.{line, with_number}
 use Rattle.metering_model.proofs.StepLaws.{ok_step_from, some_step_from, test_step_from}
 use Rattle.price_sheet.specs.SheetReading.{sheet_of_text}
 use Rattle.sheet_text.specs.IssuerReading.{issuer_of_text}
-use Rattle.schedule_text.specs.declared.faults.ScheduleCode.{ScheduleCode}
-use Rattle.schedule_text.specs.declared.faults.ScheduleCode.TheVariants.{Head, Nodes, Agents, Sheet, Issuer, TooLong}
-use Rattle.schedule_text.specs.declared.faults.ScheduleFault.TheVariants.{Refused}
-use Rattle.schedule_text.specs.Sections.{Unread, left, whole_of, first_line, number_behind, section_in, read_as, sheet_section, issuer_section}
-use Rattle.schedule_text.proofs.ReadLaws.{read_well}
+use Rattle.input_sections.specs.declared.faults.ScheduleCode.{ScheduleCode}
+use Rattle.input_sections.specs.declared.faults.ScheduleCode.TheVariants.{Head, Nodes, Agents, Sheet, Issuer, TooLong}
+use Rattle.input_sections.specs.declared.faults.ScheduleFault.TheVariants.{Refused}
+use Rattle.input_sections.specs.Sections.{Unread, left, whole_of, first_line, number_behind, section_in, read_as, sheet_section, issuer_section}
+use Rattle.input_sections.proofs.ReadLaws.{read_well}
 use Rattle.schedule_reader.specs.Schedules.{ReadSchedule, head_line, number_line, group_in, schedule_in}
 use Rattle.schedule_reader.specs.Forms.{IsReadOf, IsRead}
 use Rattle.schedule_reader.proofs.WrittenLines.{line_written, number_written, number_lacks_feed, section_written}

@@ -7,11 +7,11 @@ use Rattle.metering_model.specs.Batch.{is_empty}
 use Rattle.metering_model.specs.BatchReading.{is_same, lines_in, whole_in}
 use Rattle.metering_model.specs.Schedule.{Planned, PlansJournal, PlansDelivery, PlansStart, PlansRestart, PlansExport}
 use Rattle.metering_model.specs.Sheet as model
-use Rattle.schedule_text.specs.declared.faults.ScheduleCode.{ScheduleCode}
-use Rattle.schedule_text.specs.declared.faults.ScheduleCode.TheVariants.{Head, Nodes, Agents, Event}
-use Rattle.schedule_text.specs.declared.faults.ScheduleFault.{ScheduleFault}
-use Rattle.schedule_text.specs.declared.faults.ScheduleFault.TheVariants.{Refused}
-use Rattle.schedule_text.specs.Sections.{Unread, left, whole_of, begins_with, first_line, number_behind, section_in, sheet_section, issuer_section}
+use Rattle.input_sections.specs.declared.faults.ScheduleCode.{ScheduleCode}
+use Rattle.input_sections.specs.declared.faults.ScheduleCode.TheVariants.{Head, Nodes, Agents, Event}
+use Rattle.input_sections.specs.declared.faults.ScheduleFault.{ScheduleFault}
+use Rattle.input_sections.specs.declared.faults.ScheduleFault.TheVariants.{Refused}
+use Rattle.input_sections.specs.Sections.{Unread, left, whole_of, begins_with, first_line, number_behind, section_in, sheet_section, issuer_section}
 
 -- ---- lines with numbers
 

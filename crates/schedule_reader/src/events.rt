@@ -6,7 +6,7 @@ ghost use Rattle.schedule_reader.specs.Events.{HasWholeLines, planned_of};
 ghost use Rattle.schedule_reader.specs.Schedules.{one_behind, two_behind, event_of_line, line_event, journal_event, event_in, events_in};
 
 use crate::lines::{one_behind, two_behind};
-use schedule_text::{ScheduleCode, ScheduleFault, Unread, read_section};
+use input_sections::{ScheduleCode, ScheduleFault, Unread, read_section};
 use std::alloc::Global;
 
 const LAST_NODE: u32 = 98;

@@ -4,7 +4,7 @@ ghost use Rattle.std.specs.Prelude.{◌≡◌, ◌≤◌, IfSome};
 ghost use Rattle.schedule_reader.specs.Schedules.{one_behind, two_behind, two_in};
 
 use record_view::{find_byte, read_whole};
-use schedule_text::behind_word;
+use input_sections::behind_word;
 
 /// The number behind the word, from 0 to `most`.
 pub(crate) fn one_behind(line: &[u8], word: &[u8], most: u32) -> Option<u32>

@@ -8,7 +8,7 @@ ghost use Rattle.schedule_reader.specs.Forms.{IsRead};
 
 use crate::events::{Planned, events_in};
 use price_sheet::{Issuer, Sheet};
-use schedule_text::{ScheduleCode, ScheduleFault, Unread, number_behind, read_issuer, read_sheet};
+use input_sections::{ScheduleCode, ScheduleFault, Unread, number_behind, read_issuer, read_sheet};
 use sheet_text::is_same;
 use std::alloc::Global;
 

@@ -9,13 +9,13 @@ ghost use Rattle.metering_model.specs.BatchReading.{is_same};
 ghost use Rattle.sheet_text.specs.Keys.{value_under, text_under, label_under, day_under, base_under, price_under, per_under, service_category_in, service_category_under, commitment_category_in, commitment_category_under, tables_in, rows_in, rows_under};
 ghost use Rattle.sheet_text.specs.Gives.{Gives};
 
-use batch_view::Day;
 use fx_money::Price;
 use metering_model::{CommitmentCategory, ServiceCategory};
 use period_cut::Month;
 use std::alloc::{AllocError, Global};
 use toml::value::Array;
 use toml::{Table, Value};
+use utc_calendar::Day;
 
 /// The rows that a table of a sheet may have.
 const MOST_ROWS: usize = 10_000;

@@ -9,12 +9,12 @@ ghost use Rattle.sheet_text.specs.Gives.{Gives};
 use crate::keys::{
     KeyFault, day_under, label_under, per_under, price_under, service_category_under,
 };
-use batch_view::Day;
 use fx_money::Price;
 use metering_model::ServiceCategory;
 use std::alloc::Global;
 use std::marker::Model;
 use toml::Table;
+use utc_calendar::Day;
 
 /// A price of a SKU from a day on.
 #[derive(Drop)]

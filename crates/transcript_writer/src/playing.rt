@@ -6,7 +6,7 @@ ghost use Rattle.counted_io.specs.Counts.{Rises, count_after};
 ghost use Rattle.metering_model.specs.Schedule.{event_of};
 ghost use Rattle.metering_model.specs.Step.{step};
 ghost use Rattle.metering_model.specs.Transcript.{reply_text};
-ghost use Rattle.schedule_text.specs.declared.faults.ScheduleFault.{ScheduleFault};
+ghost use Rattle.input_sections.specs.declared.faults.ScheduleFault.{ScheduleFault};
 ghost use Rattle.schedule_reader.specs.Events.{HasWholeLines, planned_of};
 ghost use Rattle.transcript_writer.specs.Faults.{tells_of_writer};
 ghost use Rattle.transcript_writer.specs.Inner.Playing.{AppendsFirst, events_of, text_of};

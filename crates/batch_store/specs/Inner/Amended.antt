@@ -5,15 +5,15 @@ use Rattle.metering_model.specs.Batch.{Batch}
 use Rattle.metering_model.specs.Holding.{Holding, Position, held}
 use Rattle.batch_view.specs.declared.owned.Amendment.{Amendment}
 use Rattle.batch_view.specs.Kept.{amendments_in}
-use Rattle.batch_store.specs.declared.Place.{Place}
+use Rattle.batch_store.specs.declared.RecordPlace.{RecordPlace}
 use Rattle.batch_store.specs.Stores.{position_of}
 
 -- the list has what it had, and the places that are so, and no more
-abbrev pub Adds : (Position → Type 0) → List Place → List Place → Type 0
+abbrev pub Adds : (Position → Type 0) → List RecordPlace → List RecordPlace → Type 0
 Adds IsSo old new = (p : Position) → Contains (map position_of new) p ↔ (Contains (map position_of old) p ⊎ IsSo p)
 
 -- the place that an agent's amendment names, where its sequence is within the limit
-abbrev pub named_place : ℕ → ℕ → Amendment → Option Place
+abbrev pub named_place : ℕ → ℕ → Amendment → Option RecordPlace
 named_place agent upto a = if nat_le a.seq upto then Some (record { agent = agent; seq = a.seq; index = a.index }) else None
 
 -- one of an agent's amendments names the place, whose sequence is within the limit

@@ -1,7 +1,7 @@
 use Rattle.std.proofs.Common.{◌≡◌, ◌≢◌, ℕ, List, Option, Some, None, Err, IfSome, ap, inl, inr, refl, rules}
 use Rattle.std.specs.Io.KnownBytes.{Keeps}
 use Rattle.metering_model.specs.declared.Refusal.{Refusal}
-use Rattle.schedule_text.specs.declared.faults.ScheduleFault.{ScheduleFault}
+use Rattle.input_sections.specs.declared.faults.ScheduleFault.{ScheduleFault}
 use Rattle.schedule_reader.specs.Schedules.{schedule_in}
 use Rattle.schedule_player.specs.declared.rate.PlayFault.{PlayFault}
 use Rattle.schedule_player.specs.declared.rate.PlayFault.TheVariants as play

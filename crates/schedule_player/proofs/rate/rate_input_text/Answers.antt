@@ -1,5 +1,5 @@
 use Rattle.std.proofs.Common.{Err, drop, sym, ap, ◌∙◌, rules}
-use Rattle.schedule_text.specs.RateInput.{RateInput}
+use Rattle.input_sections.specs.RateInput.{RateInput}
 use Rattle.schedule_player.specs.RateInput.{or_refused}
 use Rattle.schedule_player.proofs.RatedLaws.{rated_badly, rated_well, filed_input}
 use Rattle.schedule_player.proofs.rate.rate_input_text.Goals as goal

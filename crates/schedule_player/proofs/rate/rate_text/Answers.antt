@@ -1,5 +1,5 @@
 use Rattle.std.proofs.Common.{rules, sym}
-use Rattle.schedule_text.specs.declared.faults.ScheduleFault.TheVariants.{OutOfMemory}
+use Rattle.input_sections.specs.declared.faults.ScheduleFault.TheVariants.{OutOfMemory}
 use Rattle.schedule_player.specs.declared.rate.PlayFault.TheVariants.{Schedule}
 use Rattle.schedule_player.proofs.RatedLaws.{at_period, longer_known}
 use Rattle.schedule_player.proofs.rate.rate_text.Goals as goal

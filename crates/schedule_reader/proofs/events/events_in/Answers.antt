@@ -1,7 +1,7 @@
 use Rattle.std.proofs.Common.{◌≡◌, ◌+◌, ◌-◌, ◌<◌, ◌≤◌, suc, map, length, sym, ap, ◌∙◌, arith, subst, All}
 use Rattle.std.proofs.lemmas.Bool.Decides.{nat_tests}
 use Rattle.std.proofs.lemmas.List.Elements.{All-push}
-use Rattle.schedule_text.specs.Sections.{left}
+use Rattle.input_sections.specs.Sections.{left}
 use Rattle.schedule_reader.specs.Events.{HasWholeLines, planned_of}
 use Rattle.schedule_reader.specs.Schedules.{events_in}
 use Rattle.schedule_reader.specs.Inner.Found.{in_front}

@@ -1,6 +1,6 @@
 use Rattle.std.proofs.Common.{◌≡◌, ◌+◌, List, ap, subst, sym, ◌∙◌, arith}
 use Rattle.batch_view.specs.Batches.{batch_of}
-use Rattle.batch_store.specs.declared.Place.{Place}
+use Rattle.batch_store.specs.declared.RecordPlace.{RecordPlace}
 use Rattle.batch_store.specs.Inner.Amended.{Adds, IsNamedOf}
 use Rattle.batch_store.proofs.NamedPlaces.{Adds-first, Adds-absent, Adds-held}
 use Rattle.batch_store.proofs.stores.Store.add_amended.Goals.{in-Some+in_ok-add_named, in_default}
@@ -15,7 +15,7 @@ loop-seq-preserved c = elim c.match-get.branch [
       (ap (λ v. v.items) w.places-is ∙ w.in_ok-add_named.ensures)
   | in_default w ↦
       let kept = Adds-absent c.args.self.now.batches c.args.agent c.args.from c.loop-seq.seq c.args.places.now.items c.loop-seq.places.items w.in_default.ensures c.loop-seq.invariant in
-      subst (λ (xs : List Place). Adds (IsNamedOf c.args.self.now.batches c.args.agent c.args.from (c.loop-seq.seq + 1)) c.args.places.now.items xs) (sym (ap (λ v. v.items) w.places-is)) kept
+      subst (λ (xs : List RecordPlace). Adds (IsNamedOf c.args.self.now.batches c.args.agent c.args.from (c.loop-seq.seq + 1)) c.args.places.now.items xs) (sym (ap (λ v. v.items) w.places-is)) kept
 ]
 
 pub returns : goal.returns

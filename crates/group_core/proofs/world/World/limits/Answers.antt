@@ -1,4 +1,4 @@
-use Rattle.group_world.proofs.Reaching.{limits_here}
+use Rattle.group_state.proofs.Reaching.{limits_here}
 use Rattle.group_core.proofs.world.World.limits.Goals as goal
 
 pub returns : goal.returns

@@ -2,8 +2,8 @@ use Rattle.std.proofs.Common.{sym, subst}
 use Rattle.std.specs.Arc.{arc_value}
 use Rattle.metering_model.specs.Sheet.{Sheet}
 use Rattle.metering_model.specs.Dates.{IsBaseMonth}
-use Rattle.group_world.specs.Reached.{IsReached}
-use Rattle.group_world.proofs.Reaching.{opening_reached}
+use Rattle.group_state.specs.Reached.{IsReached}
+use Rattle.group_state.proofs.Reaching.{opening_reached}
 use Rattle.group_core.proofs.world.World.new.Goals as goal
 
 pub invariant_of-result : goal.invariant_of-result

@@ -1,6 +1,6 @@
 use Rattle.std.proofs.Common.{map, arith, length-append}
 use Rattle.std.proofs.lemmas.List.{map-append}
-use Rattle.group_world.specs.Words.{event_of, reply_of}
+use Rattle.group_state.specs.Words.{event_of, reply_of}
 use Rattle.group_core.proofs.Calls.{play_next}
 use Rattle.group_core.proofs.world.World.play_on.Goals as goal
 

@@ -1,6 +1,6 @@
 use Rattle.std.proofs.Common.{◌≡◌, length, take, map}
 use Rattle.metering_model.specs.Step.{play}
-use Rattle.group_world.specs.Words.{event_of, reply_of}
+use Rattle.group_state.specs.Words.{event_of, reply_of}
 use Rattle.group_core.proofs.world.World.play_on.Given as goal
 
 -- What is done so far is the run of the events so far.

@@ -1,6 +1,6 @@
 use Rattle.std.proofs.Common.{subst}
 use Rattle.metering_model.specs.World.{World}
-use Rattle.group_world.specs.Words.{event_of, reply_of}
+use Rattle.group_state.specs.Words.{event_of, reply_of}
 use Rattle.group_core.specs.Headline.{IsSameGroup, ListGrows, ExportsStay}
 use Rattle.group_core.proofs.Calls.{reached_after_call, exports_of_call, same_group_after_call, grows_in_call, stay_in_call}
 use Rattle.group_core.proofs.world.World.step.Goals as goal

@@ -1,0 +1,104 @@
+//! A node exports a period.
+
+ghost use Rattle.std.specs.Prelude.{◌≡◌, ◌≤◌, IfOk};
+ghost use Rattle.std.specs.Arc.{arc_value};
+ghost use Rattle.metering_model.specs.Holding.{up_to};
+ghost use Rattle.metering_model.specs.World.{Export};
+ghost use Rattle.metering_model.specs.Step.{cut_before, snapshot, step};
+ghost use Rattle.group_events.specs.Replies.{reply_of};
+ghost use Rattle.group_state.specs.Reached.{IsReached};
+ghost use Rattle.group_state.specs.Inner.Allowed.{MayTake};
+
+use crate::GroupState;
+use group_events::{Reply, Snapshot};
+use group_node::Node;
+use metering_model::Refusal;
+use period_cut::{Cut, Period};
+use price_sheet::{Issuer, Sheet};
+use std::alloc::{AllocError, Global};
+use std::sync::Arc;
+
+/// The cut that a node has learned for the period before, shared; the zero cut where there is none.
+fn cut_before(alloc: Global, node: &Node, agents: u8, period: u16) -> Result<Arc<Cut>, AllocError>
+    requires from { 1 ≤ agents }
+    requires to { agents ≤ 64 }
+    ensures { IfOk result (λ cut. arc_value cut ≡ cut_before agents node.now.node.kept.learned period) }
+{
+    let before = if period == 0 {
+        None
+    } else {
+        node.learned(period - 1)
+    };
+    match before {
+        Some(cut) => Arc::try_clone(cut),
+        None => {
+            let zero = Cut::zero(alloc, agents)?;
+            match Arc::new(alloc, zero) {
+                Ok(cut) => Ok(cut),
+                Err(_) => Err(AllocError),
+            }
+        }
+    }
+}
+
+impl GroupState {
+    /// What the file of a period is made of at a node that has each batch up to its cut.
+    fn take_snapshot(
+        &self,
+        alloc: Global,
+        node: &Node,
+        period: Period,
+        to: &Arc<Cut>,
+    ) -> Result<Snapshot, AllocError>
+        requires { MayTake self.now.sheet self.now.agents period (arc_value to.now) node.now }
+        ensures { IfOk result (λ taken. taken ≡ record {
+          period = period;
+          from = cut_before self.now.agents node.now.node.kept.learned period;
+          to = arc_value to.now;
+          batches = up_to (arc_value to.now) node.now.node.kept.holding;
+          sheet = self.now.sheet;
+          issuer = self.now.issuer;
+        }) }
+    {
+        let from = cut_before(alloc, node, self.journals.agents(), period.number())?;
+        let to = Arc::try_clone(to)?;
+        let sheet = Arc::try_clone(&self.sheet)?;
+        let issuer = Arc::try_clone(&self.issuer)?;
+        Snapshot::of(alloc, period, from, to, node.store(), sheet, issuer)
+    }
+
+    /// What the file of a period is made of, as a node has learned it; or why the node can't tell. Nothing changes.
+    pub fn snapshot(
+        &self,
+        alloc: Global,
+        node: u8,
+        period: u16,
+    ) -> Result<Result<Snapshot, Refusal>, AllocError>
+        requires reached { IsReached self.now }
+        ensures { IfOk result (λ answer. answer ≡ snapshot self.now node period) }
+    {
+        let Some(asked) = self.node(node) else {
+            return Ok(Err(Refusal::NoNode));
+        };
+        let learned = asked.current_period();
+        let (Some(of), Some(to)) = (Period::new(period), asked.learned(period)) else {
+            return Ok(Err(Refusal::NotClosed { learned }));
+        };
+        if let Some((agent, seq)) = asked.store().first_missing(to) {
+            return Ok(Err(Refusal::Missing { agent, seq }));
+        }
+        let taken = self.take_snapshot(alloc, asked, of, to)?;
+        Ok(Ok(taken))
+    }
+
+    /// Answers with what [`GroupState::snapshot`] gives.
+    pub fn export(&self, alloc: Global, node: u8, period: u16) -> Result<Reply, AllocError>
+        requires reached { IsReached self.now }
+        ensures { IfOk result (λ reply. (reply_of reply, self.now) ≡ step self.now (Export node period)) }
+    {
+        match self.snapshot(alloc, node, period)? {
+            Ok(snapshot) => Ok(Reply::Exported(snapshot)),
+            Err(refusal) => Ok(Reply::Refused(refusal)),
+        }
+    }
+}

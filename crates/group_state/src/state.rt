@@ -1,0 +1,121 @@
+//! The world as it stands.
+
+ghost use Rattle.std.specs.Prelude.{◌≡◌, ◌≤◌, IfOk, IfSome, length, nat_lt, replicate, slice_get};
+ghost use Rattle.std.specs.Option.{option_copied, option_map};
+ghost use Rattle.std.specs.Arc.{arc_value};
+ghost use Rattle.metering_model.specs.World.{new_kept, opening, wake};
+ghost use Rattle.group_node.specs.Packets.{packet_of};
+ghost use Rattle.group_state.specs.Inner.Members.{IsMember};
+
+use batch_store::Store;
+use group_node::{Node, Packet};
+use price_sheet::{Issuer, Sheet};
+use std::alloc::{AllocError, Global};
+use std::marker::Model;
+use std::sync::Arc;
+
+/// No packet is sent once there are so many.
+pub(crate) const MOST_PACKETS: usize = 1_000_000;
+
+/// What a group is at one moment: the sheet and the issuer, the batches that were journaled, the packets that were ever
+/// sent, by number, and the nodes. Packets, journals and nodes share batches and cuts, and never copy one.
+#[derive(Drop)]
+pub struct GroupState {
+    pub(crate) sheet: Arc<Sheet>,
+    pub(crate) issuer: Arc<Issuer>,
+    pub(crate) journals: Store,
+    pub(crate) packets: Vec<Packet>,
+    pub(crate) nodes: Vec<Node>,
+}
+
+impl Model for GroupState {
+    ghost use Rattle.std.specs.Prelude.{map};
+    ghost use Rattle.std.specs.Arc.{arc_value};
+    ghost use Rattle.metering_model.specs.World.{World};
+    ghost use Rattle.group_node.specs.Packets.{packet_of};
+    ghost use Rattle.group_state.specs.Inner.Members.{AreMembers};
+
+    ghost Value = { World };
+
+    ghost view = { λ s. record {
+      sheet = arc_value s.sheet;
+      issuer = arc_value s.issuer;
+      agents = s.journals.agents;
+      journals = s.journals.batches;
+      packets = map packet_of s.packets.items;
+      nodes = map (λ n. n.node) s.nodes.items;
+    } };
+
+    ghost invariant = { λ s. AreMembers s.journals.agents s.nodes.items };
+}
+
+/// So many nodes of a group with so many agents, which have begun nothing and hold nothing.
+fn new_nodes(alloc: Global, nodes: u8, agents: u8) -> Result<Vec<Node>, AllocError>
+    requires nodes_to { nodes ≤ 99 }
+    requires from { 1 ≤ agents }
+    requires to { agents ≤ 64 }
+    ensures { IfOk result (λ made. made.items ≡ replicate nodes (record { voters = nodes; agents = agents; node = wake new_kept })) }
+{
+    let mut made = Vec::with_capacity(alloc, usize::from(nodes))?;
+    for _ in 0..nodes {
+        made.push(Node::new(alloc, nodes, agents)?)?;
+    }
+    Ok(made)
+}
+
+impl GroupState {
+    /// A group of so many nodes and agents, with empty journals, before any event.
+    pub fn new(
+        alloc: Global,
+        nodes: u8,
+        agents: u8,
+        sheet: Arc<Sheet>,
+        issuer: Arc<Issuer>,
+    ) -> Result<GroupState, AllocError>
+        requires nodes_from { 1 ≤ nodes }
+        requires nodes_to { nodes ≤ 99 }
+        requires agents_from { 1 ≤ agents }
+        requires agents_to { agents ≤ 64 }
+        ensures { IfOk result (λ state. state ≡ opening nodes agents (arc_value sheet) (arc_value issuer)) }
+    {
+        let journals = Store::new(alloc, agents)?;
+        let made = new_nodes(alloc, nodes, agents)?;
+        Ok(GroupState {
+            sheet,
+            issuer,
+            journals,
+            packets: Vec::new(alloc),
+            nodes: made,
+        })
+    }
+
+    /// The packet of that number.
+    pub(crate) fn packet(&self, packet: u32) -> Option<&Packet>
+        ensures { option_map packet_of (option_copied result) ≡ slice_get self.now.packets packet }
+    {
+        self.packets.get(packet as usize)
+    }
+
+    /// The node of that number.
+    pub(crate) fn node(&self, node: u8) -> Option<&Node>
+        ensures node { option_map (λ n. n.node) (option_copied result) ≡ slice_get self.now.nodes node }
+        ensures member { IfSome result (λ n. IsMember (length self.now.nodes) self.now.agents n.now) }
+    {
+        self.nodes.get(usize::from(node))
+    }
+
+    /// Whether one packet more may be sent.
+    pub(crate) fn has_room(&self) -> bool
+        ensures { result ≡ nat_lt (length self.now.packets) 1_000_000 }
+    {
+        self.packets.len() < MOST_PACKETS
+    }
+
+    /// The number of agents.
+    pub(crate) fn agents(&self) -> u8
+        ensures value { result ≡ self.now.agents }
+        ensures range { (1 ≤ result) × (result ≤ 64) }
+    {
+        self.journals.agents()
+    }
+}

@@ -1,8 +1,0 @@
-use Rattle.std.proofs.Common.{rules}
-use Rattle.group_world.proofs.state.GroupState.export.Goals as goal
-
-pub returns-in-Ok : goal.returns-in-Ok
-returns-in-Ok c = search rules
-
-pub returns-in-Err : goal.returns-in-Err
-returns-in-Err c = search rules

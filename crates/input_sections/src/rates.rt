@@ -1,0 +1,95 @@
+//! The input of a rating: a sheet and an issuer, each if it is there, and a batch.
+
+ghost use Rattle.std.specs.Prelude.{◌≡◌, ◌≢◌, ◌≤◌, Ok, Err, IfOk, IfErr, drop, length, codes};
+ghost use Rattle.metering_model.specs.SheetRules.{IsSheet, IsIssuer};
+ghost use Rattle.input_sections.specs.RateInput.{default_sheet, if_begun, rate_input_in};
+ghost use Rattle.input_sections.specs.Sections.{sheet_section, issuer_section};
+ghost use Rattle.price_sheet.specs.Samples.{sample_issuer};
+
+use crate::faults::ScheduleFault;
+use crate::sections::{read_issuer, read_sheet};
+use crate::unread::Unread;
+use period_cut::Month;
+use price_sheet::{Issuer, Sheet};
+use std::alloc::Global;
+
+const BASE_YEAR: u16 = 2025;
+
+/// What a rating is given: by what is charged, and where in the text the batch begins.
+#[derive(Drop)]
+pub struct RateInput {
+    pub sheet: Sheet,
+    pub issuer: Issuer,
+    pub batch_from: usize,
+}
+
+/// The sheet, if a section is there, or else one without rows whose base month is 2025-01.
+fn sheet_or_default<'a>(
+    alloc: Global,
+    unread: Unread<'a>,
+) -> Result<(Sheet, Unread<'a>), ScheduleFault>
+    ensures taken { IfOk result (λ r. if_begun (codes "sheet ") sheet_section default_sheet unread.entry ≡ Ok (r.0, r.1)) }
+    ensures refused { IfErr result (λ fault. fault ≢ ScheduleFault.OutOfMemory
+        → if_begun (codes "sheet ") sheet_section default_sheet unread.entry ≡ Err fault) }
+    ensures rules { IfOk result (λ r. IsSheet r.0) }
+    ensures text { IfOk result (λ r. r.1.text ≡ unread.entry.text) }
+{
+    if unread.begins_with(b"sheet ") {
+        return read_sheet(alloc, &unread);
+    }
+    match Sheet::empty(alloc, Month::of(BASE_YEAR, 1)) {
+        Ok(sheet) => Ok((sheet, unread)),
+        Err(_) => Err(ScheduleFault::OutOfMemory),
+    }
+}
+
+/// The issuer, if a section is there, or else the sample.
+fn issuer_or_sample<'a>(
+    alloc: Global,
+    unread: Unread<'a>,
+) -> Result<(Issuer, Unread<'a>), ScheduleFault>
+    ensures taken { IfOk result (λ r. if_begun (codes "issuer ") issuer_section sample_issuer unread.entry ≡ Ok (r.0, r.1)) }
+    ensures refused { IfErr result (λ fault. fault ≢ ScheduleFault.OutOfMemory
+        → if_begun (codes "issuer ") issuer_section sample_issuer unread.entry ≡ Err fault) }
+    ensures rules { IfOk result (λ r. IsIssuer r.0) }
+    ensures text { IfOk result (λ r. r.1.text ≡ unread.entry.text) }
+{
+    if unread.begins_with(b"issuer ") {
+        return read_issuer(alloc, &unread);
+    }
+    match Issuer::sample(alloc) {
+        Ok(issuer) => Ok((issuer, unread)),
+        Err(_) => Err(ScheduleFault::OutOfMemory),
+    }
+}
+
+/// Reads what a rating is given: a text that may begin with the section of a sheet, then with that of an issuer, and
+/// of which all the rest is a batch, which is not read here.
+///
+/// Without their sections the sheet has base month 2025-01 and no rows, and the issuer is the sample.
+#[tactic(auto, unfolding(crate::specs::RateInput::rate_input_in))]
+pub fn rate_input(alloc: Global, text: &[u8]) -> Result<RateInput, ScheduleFault>
+    ensures taken { IfOk result (λ r. rate_input_in text.now
+        ≡ Ok (record { sheet = r.sheet; issuer = r.issuer; batch = drop r.batch_from text.now })) }
+    ensures within { IfOk result (λ r. r.batch_from ≤ length text.now) }
+    ensures refused { IfErr result (λ fault. fault ≢ ScheduleFault.OutOfMemory → rate_input_in text.now ≡ Err fault) }
+    ensures rules { IfOk result (λ r. IsSheet r.sheet × IsIssuer r.issuer) }
+{
+    let unread = match Unread::whole(text) {
+        Ok(unread) => unread,
+        Err(fault) => return Err(fault),
+    };
+    let (sheet, unread) = match sheet_or_default(alloc, unread) {
+        Ok(parts) => parts,
+        Err(fault) => return Err(fault),
+    };
+    let (issuer, unread) = match issuer_or_sample(alloc, unread) {
+        Ok(parts) => parts,
+        Err(fault) => return Err(fault),
+    };
+    Ok(RateInput {
+        sheet,
+        issuer,
+        batch_from: unread.from(),
+    })
+}

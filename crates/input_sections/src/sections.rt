@@ -1,0 +1,180 @@
+//! Sections of a text: a line that says how many lines follow, and these.
+
+ghost use Rattle.std.specs.Prelude.{◌≡◌, ◌≢◌, ◌≤◌, Ok, Err, IfOk, IfErr, IfSome, MatchResult};
+ghost use Rattle.metering_model.specs.SheetRules.{IsSheet, IsIssuer};
+ghost use Rattle.input_sections.specs.Sections.{number_behind, section_in, read_as, sheet_section, issuer_section};
+ghost use Rattle.price_sheet.specs.SheetReading.{sheet_of_text};
+ghost use Rattle.sheet_text.specs.IssuerReading.{issuer_of_text};
+
+use crate::faults::{ScheduleCode, ScheduleFault};
+use crate::unread::{Unread, behind_word};
+use price_sheet::{Issuer, IssuerFault, Sheet, SheetFault};
+use record_view::read_whole;
+use std::alloc::Global;
+
+/// A section: the text of its lines, each with its line feed, and what is left behind it.
+#[derive(Drop)]
+pub struct Section<'a> {
+    pub text: &'a [u8],
+    pub rest: Unread<'a>,
+}
+
+/// The number that stands in a line behind the word, from 1 to `most`, which is at most 1,000,000. No memory is taken.
+pub fn number_behind(line: &[u8], word: &[u8], most: u32) -> Option<u32>
+    requires { most ≤ 1_000_000 }
+    ensures value { result ≡ number_behind word.now most line.now }
+    ensures within { IfSome result (λ n. n ≤ most) }
+{
+    read_whole(behind_word(line, word)?, 1, most)
+}
+
+/// Reads the section that a line with the word and a number from 1 to `most` opens.
+///
+/// The code is told where that line is absent or of another form. Each fault is told of that line.
+#[tactic(auto, unfolding(crate::specs::Sections::section_in))]
+pub fn read_section<'a>(
+    unread: &Unread<'a>,
+    code: ScheduleCode,
+    word: &[u8],
+    most: u32,
+) -> Result<Section<'a>, ScheduleFault>
+    requires { most ≤ 1_000_000 }
+    ensures section { MatchResult result
+        (λ s. section_in code word.now most unread.now ≡ Ok (record { text = s.text.now; rest = s.rest }))
+        (λ fault. section_in code word.now most unread.now ≡ Err fault) }
+    ensures text { IfOk result (λ s. s.rest.text ≡ unread.now.text) }
+{
+    let line = unread.line();
+    let (opening, below) = match unread.first_line(code) {
+        Ok(parts) => parts,
+        Err(fault) => return Err(fault),
+    };
+    let Some(count) = number_behind(opening, word, most) else {
+        return Err(ScheduleFault::Refused { code, line });
+    };
+    let Some(rest) = below.behind_lines(count) else {
+        return Err(ScheduleFault::Refused {
+            code: ScheduleCode::Lines,
+            line,
+        });
+    };
+    let left = below.left();
+    Ok(Section {
+        text: &left[..rest.from() - below.from()],
+        rest,
+    })
+}
+
+/// What a sheet's fault comes to where its section opens at a line.
+fn told_of_sheet(fault: SheetFault, line: u32) -> ScheduleFault
+    ensures { result ≢ ScheduleFault.OutOfMemory
+        → (fault ≢ SheetFault.OutOfMemory) × (result ≡ ScheduleFault.Refused ScheduleCode.Sheet line) }
+{
+    match fault {
+        SheetFault::OutOfMemory => ScheduleFault::OutOfMemory,
+        SheetFault::NotToml
+        | SheetFault::Missing(_)
+        | SheetFault::BadValue(_)
+        | SheetFault::Duplicate(_)
+        | SheetFault::UnknownSku(_) => ScheduleFault::Refused {
+            code: ScheduleCode::Sheet,
+            line,
+        },
+    }
+}
+
+/// What an issuer's fault comes to where its section opens at a line.
+fn told_of_issuer(fault: IssuerFault, line: u32) -> ScheduleFault
+    ensures { result ≢ ScheduleFault.OutOfMemory
+        → (fault ≢ IssuerFault.OutOfMemory) × (result ≡ ScheduleFault.Refused ScheduleCode.Issuer line) }
+{
+    match fault {
+        IssuerFault::OutOfMemory => ScheduleFault::OutOfMemory,
+        IssuerFault::NotToml | IssuerFault::Missing | IssuerFault::BadValue => {
+            ScheduleFault::Refused {
+                code: ScheduleCode::Issuer,
+                line,
+            }
+        }
+    }
+}
+
+/// The sheet of a section that opens at a line.
+fn sheet_of(alloc: Global, text: &[u8], line: u32) -> Result<Sheet, ScheduleFault>
+    ensures taken { IfOk result (λ sheet. read_as sheet_of_text (ScheduleFault.Refused ScheduleCode.Sheet line) text.now ≡ Ok sheet) }
+    ensures refused { IfErr result (λ fault. fault ≢ ScheduleFault.OutOfMemory
+        → read_as sheet_of_text (ScheduleFault.Refused ScheduleCode.Sheet line) text.now ≡ Err fault) }
+    ensures rules { IfOk result IsSheet }
+{
+    let Ok(text) = str::from_utf8(text) else {
+        return Err(ScheduleFault::Refused {
+            code: ScheduleCode::Sheet,
+            line,
+        });
+    };
+    match Sheet::read(alloc, text) {
+        Ok(sheet) => Ok(sheet),
+        Err(fault) => Err(told_of_sheet(fault, line)),
+    }
+}
+
+/// The issuer of a section that opens at a line.
+fn issuer_of(alloc: Global, text: &[u8], line: u32) -> Result<Issuer, ScheduleFault>
+    ensures taken { IfOk result (λ issuer. read_as issuer_of_text (ScheduleFault.Refused ScheduleCode.Issuer line) text.now ≡ Ok issuer) }
+    ensures refused { IfErr result (λ fault. fault ≢ ScheduleFault.OutOfMemory
+        → read_as issuer_of_text (ScheduleFault.Refused ScheduleCode.Issuer line) text.now ≡ Err fault) }
+    ensures rules { IfOk result IsIssuer }
+{
+    let Ok(text) = str::from_utf8(text) else {
+        return Err(ScheduleFault::Refused {
+            code: ScheduleCode::Issuer,
+            line,
+        });
+    };
+    match Issuer::read(alloc, text) {
+        Ok(issuer) => Ok(issuer),
+        Err(fault) => Err(told_of_issuer(fault, line)),
+    }
+}
+
+/// Reads a section of up to 200,000 lines that is a price sheet.
+#[tactic(auto, unfolding(crate::specs::Sections::sheet_section))]
+pub fn read_sheet<'a>(
+    alloc: Global,
+    unread: &Unread<'a>,
+) -> Result<(Sheet, Unread<'a>), ScheduleFault>
+    ensures taken { IfOk result (λ r. sheet_section unread.now ≡ Ok (r.0, r.1)) }
+    ensures refused { IfErr result (λ fault. fault ≢ ScheduleFault.OutOfMemory → sheet_section unread.now ≡ Err fault) }
+    ensures rules { IfOk result (λ r. IsSheet r.0) }
+    ensures text { IfOk result (λ r. r.1.text ≡ unread.now.text) }
+{
+    let section = match read_section(unread, ScheduleCode::Sheet, b"sheet ", 200_000) {
+        Ok(section) => section,
+        Err(fault) => return Err(fault),
+    };
+    match sheet_of(alloc, section.text, unread.line()) {
+        Ok(sheet) => Ok((sheet, section.rest)),
+        Err(fault) => Err(fault),
+    }
+}
+
+/// Reads a section of up to 100 lines that is an issuer.
+#[tactic(auto, unfolding(crate::specs::Sections::issuer_section))]
+pub fn read_issuer<'a>(
+    alloc: Global,
+    unread: &Unread<'a>,
+) -> Result<(Issuer, Unread<'a>), ScheduleFault>
+    ensures taken { IfOk result (λ r. issuer_section unread.now ≡ Ok (r.0, r.1)) }
+    ensures refused { IfErr result (λ fault. fault ≢ ScheduleFault.OutOfMemory → issuer_section unread.now ≡ Err fault) }
+    ensures rules { IfOk result (λ r. IsIssuer r.0) }
+    ensures text { IfOk result (λ r. r.1.text ≡ unread.now.text) }
+{
+    let section = match read_section(unread, ScheduleCode::Issuer, b"issuer ", 100) {
+        Ok(section) => section,
+        Err(fault) => return Err(fault),
+    };
+    match issuer_of(alloc, section.text, unread.line()) {
+        Ok(issuer) => Ok((issuer, section.rest)),
+        Err(fault) => Err(fault),
+    }
+}
