@@ -1,0 +1,4 @@
+pub mod FirstPlace
+pub mod LineFeeds
+pub mod Texts
+pub mod WholeLaws

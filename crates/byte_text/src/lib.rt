@@ -1,0 +1,14 @@
+//! Texts as bytes: finding and counting bytes, whole numbers read and put, and the words of a refusal.
+#![tactic(auto)]
+
+mod finding;
+mod lines;
+mod numbers;
+mod refusals;
+mod wholes;
+
+pub use finding::{find_byte, is_same, line_count};
+pub use lines::Line;
+pub use numbers::{put_if_any, put_number, put_numbered, put_two_digits};
+pub use refusals::{code_word, refusal_line};
+pub use wholes::{read_whole, whole_up_to};
