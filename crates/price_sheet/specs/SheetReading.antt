@@ -33,24 +33,32 @@ price_place rows = places.Price (length rows + 1)
 abbrev pub commitment_place : List Commitment → Place
 commitment_place rows = places.Commitment (length rows + 1)
 
--- the row of one more table, which has not both SKU and day of an earlier row
-unfoldable pub next_price : List PriceRow → Members → Result PriceRow SheetFault
-next_price rows table = do
-  row ← at_place (price_place rows) (price_row_in table)
+-- what was read of one more table: a row that has not both SKU and day of an earlier one, or a fault
+abbrev pub placed_price : List PriceRow → Result PriceRow KeyFault → Result PriceRow SheetFault
+placed_price rows read = do
+  row ← at_place (price_place rows) read
   _ ← holds_or (not (list_any (has_same_key row) rows)) (faults.Duplicate (price_place rows))
   Ok row
+
+-- the row of one more table
+unfoldable pub next_price : List PriceRow → Members → Result PriceRow SheetFault
+next_price rows table = placed_price rows (price_row_in table)
 
 -- whether some row prices the SKU
 abbrev pub prices_sku : List PriceRow → List ℕ → Bool
 prices_sku prices sku = list_any (λ p. is_same p.sku sku) prices
 
--- the commitment of one more table, whose id no earlier one has, and whose two SKUs are priced
-unfoldable pub next_commitment : List PriceRow → List Commitment → Members → Result Commitment SheetFault
-next_commitment prices rows table = do
-  row ← at_place (commitment_place rows) (commitment_in table)
+-- what was read of one more table: a commitment whose id no earlier one has, and whose two SKUs are priced, or a fault
+abbrev pub placed_commitment : List PriceRow → List Commitment → Result Commitment KeyFault → Result Commitment SheetFault
+placed_commitment prices rows read = do
+  row ← at_place (commitment_place rows) read
   _ ← holds_or (not (list_any (has_same_id row) rows)) (faults.Duplicate (commitment_place rows))
   _ ← holds_or (prices_sku prices row.sku && prices_sku prices row.buy) (faults.UnknownSku (commitment_place rows))
   Ok row
+
+-- the commitment of one more table
+unfoldable pub next_commitment : List PriceRow → List Commitment → Members → Result Commitment SheetFault
+next_commitment prices rows table = placed_commitment prices rows (commitment_in table)
 
 -- the rows that were read, and behind them those of the tables
 abbrev pub prices_in : List PriceRow → List Members → Result (List PriceRow) SheetFault

@@ -6,13 +6,13 @@ ghost use Rattle.std.specs.List.{list_any};
 ghost use Rattle.toml.specs.View.{table_view};
 ghost use Rattle.metering_model.specs.BatchReading.{is_same};
 ghost use Rattle.metering_model.specs.SheetRules.{has_same_id};
-ghost use Rattle.price_sheet.specs.SheetReading.{next_commitment, commitments_in};
+ghost use Rattle.price_sheet.specs.SheetReading.{next_commitment, placed_commitment, commitments_in};
 ghost use Rattle.price_sheet.specs.Inner.Places.{found_at, IndexesIds};
 
 use crate::places::fault_at;
 use crate::price_table::PriceTable;
 use indexmap::IndexMap;
-use sheet_text::{Commitment, Place, SheetFault};
+use sheet_text::{Commitment, KeyFault, Place, SheetFault};
 use std::alloc::{AllocError, Global};
 use std::marker::Model;
 use toml::Table;
@@ -115,8 +115,33 @@ fn is_named_before(rows: &[Commitment], places: &IndexMap<Vec<u8>, u16>, row: &C
     places.contains_key(row.id().as_bytes())
 }
 
+/// What was read of one more table, told of its place: the commitment, or its first fault. No memory is taken, so want of it
+/// is told only where reading met it.
+fn placed_commitment(
+    prices: &PriceTable,
+    rows: &[Commitment],
+    places: &IndexMap<Vec<u8>, u16>,
+    read: Result<Commitment, KeyFault>,
+) -> Result<Commitment, SheetFault>
+    requires few { length rows.now < 10_000 }
+    requires indexed { IndexesIds rows.now places.now.entries }
+    ensures { result ≡ placed_commitment prices.now rows.now read }
+{
+    let place = Place::Commitment(rows.len() as u16 + 1);
+    let row = match read {
+        Ok(row) => row,
+        Err(fault) => return Err(fault_at(place, fault)),
+    };
+    if is_named_before(rows, places, &row) {
+        return Err(SheetFault::Duplicate(place));
+    }
+    if !prices.has_sku(row.sku().as_bytes()) || !prices.has_sku(row.buy().as_bytes()) {
+        return Err(SheetFault::UnknownSku(place));
+    }
+    Ok(row)
+}
+
 /// The commitment of one more table.
-#[tactic(auto, using(crate::proofs::Chains::placed_fails), unfolding(crate::specs::SheetReading::next_commitment))]
 fn next_commitment(
     alloc: Global,
     prices: &PriceTable,
@@ -131,18 +156,7 @@ fn next_commitment(
     ensures refused { IfErr result (λ fault. fault ≢ SheetFault.OutOfMemory
         → next_commitment prices.now rows.now (table_view table.now) ≡ Err fault) }
 {
-    let place = Place::Commitment(rows.len() as u16 + 1);
-    let row = match Commitment::read(alloc, table) {
-        Ok(row) => row,
-        Err(fault) => return Err(fault_at(place, fault)),
-    };
-    if is_named_before(rows, places, &row) {
-        return Err(SheetFault::Duplicate(place));
-    }
-    if !prices.has_sku(row.sku().as_bytes()) || !prices.has_sku(row.buy().as_bytes()) {
-        return Err(SheetFault::UnknownSku(place));
-    }
-    Ok(row)
+    placed_commitment(prices, rows, places, Commitment::read(alloc, table))
 }
 
 fn same_rows(left: &[Commitment], right: &[Commitment]) -> bool

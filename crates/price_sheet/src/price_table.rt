@@ -7,12 +7,12 @@ ghost use Rattle.toml.specs.View.{table_view};
 ghost use Rattle.metering_model.specs.BatchReading.{is_same};
 ghost use Rattle.metering_model.specs.SheetRules.{has_same_key};
 ghost use Rattle.metering_model.specs.PriceInForce.{latest};
-ghost use Rattle.price_sheet.specs.SheetReading.{next_price, prices_sku, prices_in};
+ghost use Rattle.price_sheet.specs.SheetReading.{next_price, placed_price, prices_sku, prices_in};
 ghost use Rattle.price_sheet.specs.Inner.Places.{IndexesPrices};
 
 use crate::places::fault_at;
 use crate::price_index::PriceIndex;
-use sheet_text::{Place, PriceRow, SheetFault};
+use sheet_text::{KeyFault, Place, PriceRow, SheetFault};
 use std::alloc::Global;
 use std::marker::Model;
 use toml::Table;
@@ -119,8 +119,29 @@ fn is_priced_before(rows: &[PriceRow], index: &PriceIndex, row: &PriceRow) -> bo
     }
 }
 
+/// What was read of one more table, told of its place: the row, or its first fault. No memory is taken, so want of it is told
+/// only where reading met it.
+fn placed_price(
+    rows: &[PriceRow],
+    index: &PriceIndex,
+    read: Result<PriceRow, KeyFault>,
+) -> Result<PriceRow, SheetFault>
+    requires few { length rows.now < 10_000 }
+    requires indexed { IndexesPrices rows.now index.now.starts.entries }
+    ensures { result ≡ placed_price rows.now read }
+{
+    let place = Place::Price(rows.len() as u16 + 1);
+    let row = match read {
+        Ok(row) => row,
+        Err(fault) => return Err(fault_at(place, fault)),
+    };
+    if is_priced_before(rows, index, &row) {
+        return Err(SheetFault::Duplicate(place));
+    }
+    Ok(row)
+}
+
 /// The row of one more table.
-#[tactic(auto, using(crate::proofs::Chains::placed_fails), unfolding(crate::specs::SheetReading::next_price))]
 fn next_price(
     alloc: Global,
     rows: &[PriceRow],
@@ -133,15 +154,7 @@ fn next_price(
     ensures refused { IfErr result (λ fault. fault ≢ SheetFault.OutOfMemory
         → next_price rows.now (table_view table.now) ≡ Err fault) }
 {
-    let place = Place::Price(rows.len() as u16 + 1);
-    let row = match PriceRow::read(alloc, table) {
-        Ok(row) => row,
-        Err(fault) => return Err(fault_at(place, fault)),
-    };
-    if is_priced_before(rows, index, &row) {
-        return Err(SheetFault::Duplicate(place));
-    }
-    Ok(row)
+    placed_price(rows, index, PriceRow::read(alloc, table))
 }
 
 fn same_rows(left: &[PriceRow], right: &[PriceRow]) -> bool

@@ -1,4 +1,3 @@
-pub mod Texts
 pub mod Tables
 pub mod KeyLaws
 pub mod RowLaws

@@ -5,10 +5,10 @@ ghost use Rattle.std.specs.List.{list_all};
 ghost use Rattle.toml.specs.View.{view, table_view, array_view};
 ghost use Rattle.metering_model.specs.Dates.{IsBaseMonth};
 ghost use Rattle.metering_model.specs.SheetRules.{is_printable, is_label};
-ghost use Rattle.metering_model.specs.BatchReading.{is_same};
 ghost use Rattle.sheet_text.specs.Keys.{value_under, text_under, label_under, day_under, base_under, price_under, per_under, service_category_in, service_category_under, commitment_category_in, commitment_category_under, tables_in, rows_in, rows_under};
 ghost use Rattle.sheet_text.specs.Gives.{Gives};
 
+use byte_text::is_same;
 use fx_money::Price;
 use metering_model::{CommitmentCategory, ServiceCategory};
 use period_cut::Month;
@@ -64,14 +64,6 @@ pub(crate) fn text_under<'a>(table: &'a Table, key: &str) -> Result<&'a str, Key
         Some(text) => Ok(text),
         None => Err(KeyFault::BadValue),
     }
-}
-
-/// Whether two texts are the same bytes.
-#[tactic(auto, using(crate::proofs::Texts::same_is))]
-pub fn is_same(left: &[u8], right: &[u8]) -> bool
-    ensures { result ≡ is_same left.now right.now }
-{
-    left == right
 }
 
 /// Whether no byte of it is a control character of ASCII.
