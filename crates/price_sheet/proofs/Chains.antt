@@ -1,5 +1,5 @@
 -- A step whose fault is told of a place.
-use Rattle.std.proofs.Common.{◌≡◌, ◌≢◌, Result, Ok, Err, IfOk, IfErr, refl, sym, ap, subst, ◌∙◌}
+use Rattle.std.proofs.Common.{◌≡◌, ◌≢◌, Result, Ok, Err, IfOk, IfErr, refl, sym, ap, ◌∙◌}
 use Rattle.sheet_text.specs.declared.keys.KeyFault.{KeyFault}
 use Rattle.sheet_text.specs.declared.keys.KeyFault.TheVariants as key_faults
 use Rattle.sheet_text.specs.declared.faults.Place.{Place}

@@ -125,7 +125,8 @@ fn placed_commitment(
 ) -> Result<Commitment, SheetFault>
     requires few { length rows.now < 10_000 }
     requires indexed { IndexesIds rows.now places.now.entries }
-    ensures { result ≡ placed_commitment prices.now rows.now read }
+    ensures answer { result ≡ placed_commitment prices.now rows.now read }
+    ensures new { IfOk result (λ row. list_any (has_same_id row) rows.now ≡ false) }
 {
     let place = Place::Commitment(rows.len() as u16 + 1);
     let row = match read {

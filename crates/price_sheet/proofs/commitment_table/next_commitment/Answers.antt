@@ -1,21 +1,13 @@
--- A commitment whose id is new, and whose two SKUs are priced.
-use Rattle.std.proofs.Common.{rules}
-use Rattle.price_sheet.specs.SheetReading.{next_commitment}
-use Rattle.price_sheet.proofs.Chains.{placed_fails}
+-- A commitment is told as what was read of its table.
+use Rattle.std.proofs.Common.{refl}
+use Rattle.price_sheet.specs.SheetReading.{placed_commitment, next_commitment}
+use Rattle.price_sheet.proofs.Chains.{taken_as, refused_as}
 use Rattle.price_sheet.proofs.commitment_table.next_commitment.Goals as goal
 
 pub returns-clause-taken : goal.returns-clause-taken
 unfolding next_commitment
-returns-clause-taken c = search rules
+returns-clause-taken c = taken_as (placed_commitment c.args.prices.now c.args.rows.now) _ _ _ refl c.read.ensures c.placed_commitment.ensures.answer
 
-pub returns-in-Err-clause-refused : goal.returns-in-Err-clause-refused
+pub returns-clause-refused : goal.returns-clause-refused
 unfolding next_commitment
-returns-in-Err-clause-refused c = search (rules, placed_fails)
-
-pub returns-then-is_named_before-clause-refused : goal.returns-then-is_named_before-clause-refused
-unfolding next_commitment
-returns-then-is_named_before-clause-refused c = search rules
-
-pub returns-then-not-has_sku-clause-refused : goal.returns-then-not-has_sku-clause-refused
-unfolding next_commitment
-returns-then-not-has_sku-clause-refused c = search rules
+returns-clause-refused c = refused_as (placed_commitment c.args.prices.now c.args.rows.now) _ _ _ refl c.read.ensures c.placed_commitment.ensures.answer

@@ -1,0 +1,15 @@
+-- A commitment whose id is new, and whose two SKUs are priced.
+use Rattle.std.proofs.Common.{rules}
+use Rattle.price_sheet.proofs.commitment_table.placed_commitment.Goals as goal
+
+pub returns-in-Err-clause-answer : goal.returns-in-Err-clause-answer
+returns-in-Err-clause-answer c = search rules
+
+pub returns-then-is_named_before-clause-answer : goal.returns-then-is_named_before-clause-answer
+returns-then-is_named_before-clause-answer c = search rules
+
+pub returns-then-not-has_sku-clause-answer : goal.returns-then-not-has_sku-clause-answer
+returns-then-not-has_sku-clause-answer c = search rules
+
+pub returns-clause-answer : goal.returns-clause-answer
+returns-clause-answer c = search rules
