@@ -1,6 +1,6 @@
 //! A store: which batches it has, and what is added to it and shared of it.
 
-ghost use Rattle.std.specs.Prelude.{◌≡◌, ℕ, true, ◌≤◌, ◌<◌, ◌↔◌, length, IfOk, IfErr, [], None, IsTrue, MatchOption};
+ghost use Rattle.std.specs.Prelude.{◌≡◌, ℕ, true, ◌≤◌, ◌<◌, ◌↔◌, length, IfOk, IfErr, [], None, Some, IsTrue, MatchOption};
 ghost use Rattle.std.specs.Option.{option_copied, option_map, is_some};
 ghost use Rattle.std.specs.Arc.{arc_value};
 ghost use Rattle.metering_model.specs.Holding.{held, put, up_to};
@@ -10,7 +10,7 @@ ghost use Rattle.batch_store.specs.Inner.Amenders.{IsLastAmender, NoneAmends};
 
 use crate::indexed::IndexedShelf;
 use crate::walk::{Batches, are_same};
-use batch_view::OwnedBatch;
+use batch_view::{BatchView, OwnedBatch};
 use period_cut::Cut;
 use std::alloc::{AllocError, Global};
 use std::marker::Model;
@@ -76,6 +76,18 @@ impl Store {
         ensures { option_map batch_of (option_copied result) ≡ held self.now.batches agent seq }
     {
         self.shelves[usize::from(agent) - 1].get(seq)
+    }
+
+    /// The batch of an agent at a sequence that is there. No memory is taken.
+    pub fn batch_at(&self, agent: u8, seq: u32) -> BatchView<'_>
+        requires from { 1 ≤ agent }
+        requires to { agent ≤ self.now.agents }
+        requires there { is_some (held self.now.batches agent seq) ≡ true }
+        ensures held { held self.now.batches agent seq ≡ Some (batch_of result) }
+        ensures agent { (batch_of result).agent ≡ agent }
+        ensures seq { (batch_of result).seq ≡ seq }
+    {
+        self.get(agent, seq).unwrap().view()
     }
 
     /// The batches, by agent and then by sequence. No memory is taken.

@@ -31,8 +31,8 @@ impl Store {
         ensures there { IsSome result ↔ (is_some (reading_at self.now.batches (position_of place)) ≡ true) }
         ensures value { IfSome result (λ value. value ≡ value_at self.now.batches (position_of place) upto) }
     {
-        // Its clause says that the batches are a holding.
-        let _ = self.agents();
+        // For the proof alone: its clause says that the agents are 1 to 64, and their batches a holding.
+        let _agents = self.agents();
         let own = self.get(place.agent, place.seq)?;
         if !is_reading(own, place.index) {
             return None;

@@ -14,10 +14,10 @@ ghost use Rattle.charge_row.specs.PeriodTexts.{ArePeriodTexts};
 use crate::columns::FocusRow;
 use batch_view::{Kind, Reading};
 use fx_money::{Price, Value};
-use metering_model::{ChargeClass, CommitmentCategory, PricedKind, ServiceCategory};
+use metering_model::{ChargeClass, CommitmentCategory, ServiceCategory};
 use period_cut::{Month, Period};
 use price_sheet::{Commitment, Issuer, PriceRow, Sheet};
-use rating::{Rated, rate, rate_flat};
+use rating::{Rated, commitment_of, price_of, priced_kind, rate, rate_flat};
 
 /// What all rows of a billing period share: who bills, and the period's start and end.
 #[derive(Clone, Copy)]
@@ -40,50 +40,6 @@ impl<'a> Billing<'a> {
             end_text: period.end_text(base),
         }
     }
-}
-
-// ---- the price and the commitment
-
-/// A kind that is charged by a price.
-fn priced_kind(kind: Kind) -> Option<PricedKind>
-    ensures { result ≡ priced_kind kind }
-{
-    match kind {
-        Kind::Usage => Some(PricedKind::Usage),
-        Kind::Purchase => Some(PricedKind::Purchase),
-        Kind::Credit | Kind::Tax | Kind::Adjustment => None,
-    }
-}
-
-/// Whether a price charges readings of this kind.
-pub fn is_priced(kind: Kind) -> bool
-    ensures { result ≡ is_priced kind }
-{
-    match kind {
-        Kind::Usage | Kind::Purchase => true,
-        Kind::Credit | Kind::Tax | Kind::Adjustment => false,
-    }
-}
-
-/// The price in force on the day that the reading starts, where its kind is charged by one.
-pub fn price_of<'a>(sheet: &'a Sheet, reading: &Reading<'_>) -> Option<&'a PriceRow>
-    ensures { option_copied result ≡ price_of sheet.now (model_reading reading.now) }
-{
-    if !is_priced(reading.kind) {
-        return None;
-    }
-    sheet.price(reading.key.text, reading.start.day())
-}
-
-/// The commitment that the reading names, where its kind is charged by a price.
-pub fn commitment_of<'a>(sheet: &'a Sheet, reading: &Reading<'_>) -> Option<&'a Commitment>
-    ensures { option_copied result ≡ commitment_of sheet.now (model_reading reading.now) }
-{
-    if !is_priced(reading.kind) {
-        return None;
-    }
-    let id = or_null(reading.commitment.text)?;
-    sheet.commitment(id)
 }
 
 /// What a reading costs, from an old value to a new one.

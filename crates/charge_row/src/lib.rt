@@ -4,5 +4,5 @@
 mod charges;
 mod columns;
 
-pub use charges::{Billing, commitment_of, is_priced, price_of, row};
+pub use charges::{Billing, row};
 pub use columns::FocusRow;

@@ -21,7 +21,6 @@ use batch_store::{RecordPlace, Store};
 use batch_view::{Reading, Record};
 use charge_row::{Billing, FocusRow, row};
 use fx_money::Value;
-use journal_rules::batch_at;
 use metering_model::ChargeClass;
 use period_cut::{Cut, Period};
 use price_sheet::{Issuer, Sheet};
@@ -168,7 +167,8 @@ impl<'a> BetweenCuts<'a> {
         requires within { seq ≤ last_of self.now.to agent }
         ensures { IfOk result (λ rows. map model_row rows.items ++ rows_left self.now agent (seq + 1) ≡ rows_left self.now agent seq) }
     {
-        let batch = batch_at(self.store, agent, seq);
+        let batch = self.store.batch_at(agent, seq);
+        // For the proof alone: its clause says that a batch has at most 1,000 records.
         let _count = batch.count();
         let mut rows = Vec::new(alloc);
         let mut index = 0;
@@ -311,6 +311,7 @@ pub fn rows_between<'a>(
     ensures { IfOk result (λ left. left ≡ rows sheet.now issuer.now store.now.batches period from.now to.now) }
 {
     let amended = store.amended(alloc, from, to)?;
+    // For the proof alone: its clause says that the agents are 1 to 64, and their batches a holding.
     let _agents = store.agents();
     let cuts = BetweenCuts {
         store,

@@ -61,6 +61,7 @@ pub fn rows_of<'a>(
     ensures memory { result ≡ Err RowFault.OutOfMemory → (first_missing store.now.batches to.now ≡ None)
         × MeetsJournalRules sheet.now (up_to to.now store.now.batches) }
 {
+    // For the proof alone: its clause says that the agents are 1 to 64, and their batches a holding.
     let _agents = store.agents();
     if let Some((agent, seq)) = store.first_missing(to) {
         return Err(RowFault::Missing { agent, seq });

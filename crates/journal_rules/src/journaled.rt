@@ -12,11 +12,11 @@ ghost use Rattle.journal_rules.specs.Inner.Journaled.{stored_in};
 
 use batch_store::{RecordPlace, Store};
 use batch_view::{BatchView, Kind, OwnedBatch, Reading, Record};
-use charge_row::{commitment_of, is_priced, price_of};
+use byte_text::is_same;
 use fx_money::Value;
 use metering_model::BrokenRule;
 use price_sheet::{Commitment, Sheet};
-use sheet_text::is_same;
+use rating::{commitment_of, is_priced, price_of};
 use std::marker::Model;
 
 /// Whether the reading names no commitment, or one that fits it: usage its SKU, a purchase the SKU that buys it.
@@ -186,6 +186,7 @@ impl<'a> Journaled<'a> {
     {
         let agent = self.batch.agent();
         let seq = self.batch.seq();
+        // For the proof alone: its clause says that a batch has at most 1,000 records.
         let _count = self.batch.count();
         let mut index = 0;
         for record in self.batch.records() {

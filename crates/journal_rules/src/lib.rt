@@ -1,9 +1,7 @@
 //! The rules of the journals: which record of what a store has, or of a batch that is to be put into it, breaks one first.
 #![tactic(auto)]
 
-mod held;
 mod journaled;
 mod rules;
 
-pub use held::batch_at;
 pub use rules::{first_broken, first_broken_alone, first_broken_up_to};

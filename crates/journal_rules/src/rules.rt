@@ -10,7 +10,6 @@ ghost use Rattle.metering_model.specs.JournalRules.{first_broken};
 ghost use Rattle.batch_view.specs.Batches.{batch_of};
 ghost use Rattle.journal_rules.specs.Inner.Left.{broken_left};
 
-use crate::held::batch_at;
 use crate::journaled::Journaled;
 use batch_store::Store;
 use batch_view::BatchView;
@@ -25,6 +24,7 @@ pub fn first_broken(store: &Store, sheet: &Sheet, batch: &BatchView<'_>) -> Opti
     requires new { held store.now.batches (batch_of batch.now).agent (batch_of batch.now).seq ≡ None }
     ensures { result ≡ first_broken sheet.now (put store.now.batches (batch_of batch.now)) (placed (batch_of batch.now)) }
 {
+    // For the proof alone: its clause says that the agents are 1 to 64, and their batches a holding.
     let _agents = store.agents();
     Journaled {
         store: Some(store),
@@ -38,6 +38,7 @@ pub fn first_broken(store: &Store, sheet: &Sheet, batch: &BatchView<'_>) -> Opti
 pub fn first_broken_alone(sheet: &Sheet, batch: &BatchView<'_>) -> Option<BrokenRule>
     ensures { result ≡ first_broken sheet.now (put [] (batch_of batch.now)) (placed (batch_of batch.now)) }
 {
+    // For the proof alone: its clause says that the agent is one of 64.
     let _agent = batch.agent();
     Journaled { store: None, batch }.first_broken(sheet)
 }
@@ -50,8 +51,9 @@ fn broken_in_held(store: &Store, sheet: &Sheet, agent: u8, seq: u32) -> Option<B
     ensures { (b : Batch) → held store.now.batches agent seq ≡ Some b
         → result ≡ first_broken sheet.now store.now.batches (placed b) }
 {
+    // For the proof alone: its clause says that the agents are 1 to 64, and their batches a holding.
     let _agents = store.agents();
-    let batch = batch_at(store, agent, seq);
+    let batch = store.batch_at(agent, seq);
     Journaled {
         store: Some(store),
         batch: &batch,
@@ -70,6 +72,7 @@ fn broken_of_agent(store: &Store, sheet: &Sheet, to: &Cut, agent: u8) -> Option<
         ≡ broken_left sheet.now store.now.batches to.now (agent + 1) 1)
         (λ rule. broken_left sheet.now store.now.batches to.now agent 1 ≡ Some rule) }
 {
+    // For the proof alone: its clause says that the agents are 1 to 64, and their batches a holding.
     let _agents = store.agents();
     let last = to.get(agent);
     for seq in 1..last + 1 {

@@ -1,10 +1,13 @@
-//! What a charge costs: quantities rounded half to even, and costs that are exact products.
+//! What a charge costs: the price and the commitment of a reading, quantities rounded half to even, and costs that are
+//! exact products.
 #![tactic(auto)]
 
 mod charges;
+mod prices;
 mod quantities;
 mod rated;
 
 pub use charges::rate;
 pub use metering_model::PricedKind;
+pub use prices::{commitment_of, is_priced, price_of, priced_kind};
 pub use rated::{Rated, rate_flat};
