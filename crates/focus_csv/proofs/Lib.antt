@@ -1,4 +1,7 @@
 mod CsvText
-mod Files
-mod Pieces
+mod FilePieces
+mod LineLaws
+mod OneMore
 mod ReadBack
+mod RowTexts
+mod TagTexts

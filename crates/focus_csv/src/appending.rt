@@ -5,8 +5,8 @@ ghost use Rattle.std.specs.List.{flat_map};
 ghost use Rattle.metering_model.specs.File.{row_text};
 
 use crate::lines::put_lines;
+use crate::pieces::LinePieces;
 use focus_row::RowsBetween;
-use row_line::LinePieces;
 use std::alloc::{AllocError, Global};
 
 /// Appends the lines of the rows that are still to come, in order, to a text that its caller may use again. Of the rows,

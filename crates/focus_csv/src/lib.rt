@@ -18,8 +18,13 @@ use std::alloc::Global;
 use thiserror::Error;
 
 mod appending;
+mod fields;
 pub mod laws;
 mod lines;
+mod numbers;
+mod pieces;
+mod tags;
+mod texts;
 
 /// Why a file was not written.
 #[derive(Clone, Copy, Debug, Drop, Error)]

@@ -5,8 +5,8 @@ ghost use Rattle.std.specs.List.{flat_map};
 ghost use Rattle.metering_model.specs.File.{file, header_line, row_text};
 ghost use Rattle.charge_row.specs.FocusRows.{model_row};
 
+use crate::pieces::LinePieces;
 use focus_row::FocusRow;
-use row_line::LinePieces;
 use std::alloc::{AllocError, Global};
 
 /// The row at a place.

@@ -1,4 +1,4 @@
-use Rattle.focus_csv.proofs.Pieces.{more, all_pieces}
+use Rattle.focus_csv.proofs.FilePieces.{more, all_pieces}
 use Rattle.focus_csv.proofs.laws.a_file_is_written_in_pieces.Goals as goal
 
 pub returns-clause-next : goal.returns-clause-next

@@ -2,7 +2,7 @@
 use Rattle.std.proofs.Common.{◌++◌, ap, ◌∙◌, append_assoc}
 use Rattle.metering_model.specs.File.{row_text}
 use Rattle.charge_row.specs.FocusRows.{model_row}
-use Rattle.focus_csv.proofs.Files.{rows_more}
+use Rattle.focus_csv.proofs.RowTexts.{rows_more}
 use Rattle.focus_csv.proofs.lines.put_lines.Goals as goal
 
 pub loop-i-preserved : goal.loop-i-preserved

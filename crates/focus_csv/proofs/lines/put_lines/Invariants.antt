@@ -3,7 +3,7 @@ use Rattle.std.proofs.Common.{◌≡◌, ◌++◌, map, take}
 use Rattle.std.specs.List.{flat_map}
 use Rattle.metering_model.specs.File.{row_text}
 use Rattle.charge_row.specs.FocusRows.{model_row}
-use Rattle.row_line.specs.Lines.{AreOf}
+use Rattle.focus_csv.specs.Inner.Pieces.{AreOf}
 use Rattle.focus_csv.proofs.lines.put_lines.Given as goal
 
 abbrev pub invariant-loop-i : goal.invariant-loop-i

@@ -1,0 +1,37 @@
+-- The pieces of a line that are those of a row.
+use Rattle.std.specs.Prelude.{◌≡◌, [], ◌∷◌, string_bytes}
+use Rattle.metering_model.specs.NumberText.{spelling}
+use Rattle.metering_model.specs.File.{json_object, price_or_null, quantity_or_null, quoted}
+use Rattle.metering_model.specs.Row.{Row}
+use Rattle.focus_csv.specs.declared.pieces.LinePieces.{LinePieces}
+use Rattle.focus_csv.specs.declared.texts.TextPieces.{TextPieces}
+use Rattle.focus_csv.specs.declared.numbers.NumberPieces.{NumberPieces}
+use Rattle.focus_csv.specs.Inner.Runs.{behind, head_columns, moment_columns, unit_columns, issuer_columns, category_columns, pricing_columns, resource_columns, service_columns, account_columns}
+
+pub record AreTextsOf (p : TextPieces) (r : Row) : Type 0 where
+  pub head : p.head.items ≡ behind (head_columns r)
+  pub moment : p.moment.items ≡ behind (moment_columns r)
+  pub unit : p.unit.items ≡ behind (unit_columns r)
+  pub issuer : p.issuer.items ≡ behind (issuer_columns r)
+  pub category : p.category.items ≡ behind (category_columns r)
+  pub pricing : p.pricing.items ≡ behind (pricing_columns r)
+  pub resource : p.resource.items ≡ behind (resource_columns r)
+  pub service : p.service.items ≡ behind (service_columns r)
+  pub account : p.account.items ≡ behind (account_columns r)
+
+-- The first number stands at the beginning of a line, and so without a comma.
+pub record AreNumbersOf (p : NumberPieces) (r : Row) : Type 0 where
+  pub billed_cost : string_bytes p.billed_cost ≡ quoted (spelling 12 r.billed_cost)
+  pub consumed_quantity : string_bytes p.consumed_quantity ≡ behind (quantity_or_null r.consumed_quantity ∷ [])
+  pub contracted_cost : string_bytes p.contracted_cost ≡ behind (spelling 12 r.contracted_cost ∷ [])
+  pub contracted_unit_price : string_bytes p.contracted_unit_price ≡ behind (price_or_null r.contracted_unit_price ∷ [])
+  pub effective_cost : string_bytes p.effective_cost ≡ behind (spelling 12 r.effective_cost ∷ [])
+  pub list_cost : string_bytes p.list_cost ≡ behind (spelling 12 r.list_cost ∷ [])
+  pub list_unit_price : string_bytes p.list_unit_price ≡ behind (price_or_null r.list_unit_price ∷ [])
+  pub pricing_quantity : string_bytes p.pricing_quantity ≡ behind (quantity_or_null r.pricing_quantity ∷ [])
+
+-- Put behind one another they are the line of the row.
+pub record AreOf (p : LinePieces) (r : Row) : Type 0 where
+  pub numbers : AreNumbersOf p.numbers r
+  pub texts : AreTextsOf p.texts r
+  pub tags : p.tags.items ≡ behind (json_object r.tags ∷ [])

@@ -1,0 +1,118 @@
+//! Fields of a line, as a reader of CSV takes them back.
+
+ghost use Rattle.std.specs.Prelude.{◌≡◌, ◌||◌, ◌==◌, ◌∷◌, [], ◌++◌, if◌then◌else◌, map, OnOk, IsTrue};
+ghost use Rattle.std.specs.List.{flat_map, list_any};
+ghost use Rattle.metering_model.specs.File.{marked, quoted};
+ghost use Rattle.focus_csv.specs.Inner.Runs.{behind};
+
+use std::alloc::AllocError;
+
+/// Whether a reader of CSV would cut a field.
+fn is_cut(field: &[u8]) -> bool
+    ensures { result ≡ list_any (λ c. (c == 44) || (c == 34) || (c == 13) || (c == 10)) field.now }
+{
+    field
+        .iter()
+        .any(|c| *c == b',' || *c == b'"' || *c == b'\r' || *c == b'\n')
+}
+
+/// Appends a byte, and a quotation mark twice.
+fn put_doubled_byte(text: &mut Vec<u8>, byte: u8) -> Result<(), AllocError>
+    ensures { OnOk result (text.new.items ≡ text.old.items ++ (if byte == 34 then 34 ∷ byte ∷ [] else byte ∷ [])) }
+{
+    if byte == b'"' {
+        text.push(b'"')?;
+    }
+    text.push(byte)?;
+    Ok(())
+}
+
+/// Appends a field with each quotation mark twice.
+fn put_doubled(text: &mut Vec<u8>, field: &[u8]) -> Result<(), AllocError>
+    ensures { OnOk result (text.new.items ≡ text.old.items ++ marked (λ c. c == 34) 34 field.now) }
+{
+    for byte in field {
+        put_doubled_byte(text, *byte)?;
+    }
+    Ok(())
+}
+
+/// Appends a field between quotation marks.
+fn put_enclosed(text: &mut Vec<u8>, field: &[u8]) -> Result<(), AllocError>
+    ensures { OnOk result (text.new.items ≡ text.old.items ++ (34 ∷ marked (λ c. c == 34) 34 field.now ++ 34 ∷ [])) }
+{
+    text.push(b'"')?;
+    put_doubled(text, field)?;
+    text.push(b'"')?;
+    Ok(())
+}
+
+/// Appends a field, between quotation marks where it would be cut.
+fn put_field(text: &mut Vec<u8>, field: &[u8]) -> Result<(), AllocError>
+    ensures { OnOk result (text.new.items ≡ text.old.items ++ quoted field.now) }
+{
+    if is_cut(field) {
+        put_enclosed(text, field)
+    } else {
+        text.extend_from_slice(field)
+    }
+}
+
+/// Appends a comma and a field.
+fn put_next(text: &mut Vec<u8>, field: &[u8]) -> Result<(), AllocError>
+    ensures { OnOk result (text.new.items ≡ text.old.items ++ 44 ∷ quoted field.now) }
+{
+    text.push(b',')?;
+    put_field(text, field)
+}
+
+/// Makes a piece that of these fields, each behind a comma.
+pub(crate) fn set_piece(piece: &mut Vec<u8>, fields: &[&[u8]]) -> Result<(), AllocError>
+    ensures { OnOk result (piece.new.items ≡ behind (map (λ f. f.now) fields.now)) }
+{
+    piece.clear();
+    for field in fields {
+        put_next(piece, *field)?;
+    }
+    Ok(())
+}
+
+/// Whether texts are the same.
+fn are_same(some: &[&[u8]], others: &[&[u8]]) -> bool
+    ensures { IsTrue result → map (λ f. f.now) some.now ≡ map (λ f. f.now) others.now }
+{
+    if some.len() != others.len() {
+        return false;
+    }
+    for i in 0..some.len() {
+        if some[i] != others[i] {
+            return false;
+        }
+    }
+    true
+}
+
+/// Makes the piece of some fields that of others, if these differ.
+pub(crate) fn change_piece(
+    piece: &mut Vec<u8>,
+    before: &[&[u8]],
+    fields: &[&[u8]],
+) -> Result<(), AllocError>
+    requires { piece.old.items ≡ behind (map (λ f. f.now) before.now) }
+    ensures { OnOk result (piece.new.items ≡ behind (map (λ f. f.now) fields.now)) }
+{
+    if are_same(before, fields) {
+        return Ok(());
+    }
+    set_piece(piece, fields)
+}
+
+/// Appends pieces, one behind the other.
+pub(crate) fn put_pieces(text: &mut Vec<u8>, pieces: &[&[u8]]) -> Result<(), AllocError>
+    ensures { OnOk result (text.new.items ≡ text.old.items ++ flat_map (λ t. t) (map (λ p. p.now) pieces.now)) }
+{
+    for piece in pieces {
+        text.extend_from_slice(*piece)?;
+    }
+    Ok(())
+}

@@ -1,0 +1,247 @@
+//! The pieces of numbers. One is spelled again only where it is another than in the row before.
+
+ghost use Rattle.std.specs.Prelude.{◌≡◌, ◌∷◌, [], string_bytes, OnOk};
+ghost use Rattle.metering_model.specs.NumberText.{spelling};
+ghost use Rattle.metering_model.specs.File.{quantity_or_null, price_or_null, quoted};
+ghost use Rattle.charge_row.specs.FocusRows.{model_row};
+ghost use Rattle.focus_csv.specs.Inner.Runs.{behind};
+ghost use Rattle.focus_csv.specs.Inner.Pieces.{AreNumbersOf};
+
+use charge_row::FocusRow;
+use fx_money::{Cost, Delta, Price};
+use std::alloc::{AllocError, Global};
+
+/// The numbers of a line, all but the first behind a comma.
+#[derive(Drop)]
+pub(crate) struct NumberPieces {
+    pub(crate) billed_cost: String,
+    pub(crate) consumed_quantity: String,
+    pub(crate) contracted_cost: String,
+    pub(crate) contracted_unit_price: String,
+    pub(crate) effective_cost: String,
+    pub(crate) list_cost: String,
+    pub(crate) list_unit_price: String,
+    pub(crate) pricing_quantity: String,
+}
+
+/// Makes the text a comma.
+fn begin(text: &mut String) -> Result<(), AllocError>
+    ensures { OnOk result (string_bytes text.new ≡ 44 ∷ []) }
+{
+    text.clear();
+    text.push_str(",")
+}
+
+// ---- costs
+
+/// Makes the text that of the cost that begins a line.
+fn set_first(text: &mut String, cost: Cost) -> Result<(), AllocError>
+    ensures { OnOk result (string_bytes text.new ≡ quoted (spelling 12 cost)) }
+{
+    let _units = cost.units();
+    text.clear();
+    cost.write_to(text)
+}
+
+/// Makes the text of a cost that of another, if it is another.
+fn change_first(text: &mut String, before: Cost, cost: Cost) -> Result<(), AllocError>
+    requires { string_bytes text.old ≡ quoted (spelling 12 before) }
+    ensures { OnOk result (string_bytes text.new ≡ quoted (spelling 12 cost)) }
+{
+    if before.units() == cost.units() {
+        return Ok(());
+    }
+    set_first(text, cost)
+}
+
+/// Makes the text that of a cost, by copying the spelling of an equal one if that is at hand.
+fn set_cost(text: &mut String, cost: Cost, other: Cost, spelled: &String) -> Result<(), AllocError>
+    requires { string_bytes spelled.now ≡ quoted (spelling 12 other) }
+    ensures { OnOk result (string_bytes text.new ≡ behind (spelling 12 cost ∷ [])) }
+{
+    begin(text)?;
+    if cost.units() == other.units() {
+        text.push_str(spelled.as_str())
+    } else {
+        cost.write_to(text)
+    }
+}
+
+/// Makes the text of a cost that of another, if it is another.
+fn change_cost(
+    text: &mut String,
+    before: Cost,
+    cost: Cost,
+    other: Cost,
+    spelled: &String,
+) -> Result<(), AllocError>
+    requires before { string_bytes text.old ≡ behind (spelling 12 before ∷ []) }
+    requires spelled { string_bytes spelled.now ≡ quoted (spelling 12 other) }
+    ensures { OnOk result (string_bytes text.new ≡ behind (spelling 12 cost ∷ [])) }
+{
+    if before.units() == cost.units() {
+        return Ok(());
+    }
+    set_cost(text, cost, other, spelled)
+}
+
+// ---- quantities
+
+/// Makes the text that of a quantity, and nothing but the comma for null.
+fn set_quantity(text: &mut String, quantity: Option<Delta>) -> Result<(), AllocError>
+    ensures { OnOk result (string_bytes text.new ≡ behind (quantity_or_null quantity ∷ [])) }
+{
+    begin(text)?;
+    match quantity {
+        Some(quantity) => {
+            let _millionths = quantity.millionths();
+            quantity.write_to(text)
+        }
+        None => Ok(()),
+    }
+}
+
+/// Makes the text of a quantity that of another, if it is another.
+fn change_quantity(
+    text: &mut String,
+    before: Option<Delta>,
+    quantity: Option<Delta>,
+) -> Result<(), AllocError>
+    requires { string_bytes text.old ≡ behind (quantity_or_null before ∷ []) }
+    ensures { OnOk result (string_bytes text.new ≡ behind (quantity_or_null quantity ∷ [])) }
+{
+    match (before, quantity) {
+        (Some(before), Some(quantity)) if before.millionths() == quantity.millionths() => Ok(()),
+        _ => set_quantity(text, quantity),
+    }
+}
+
+// ---- unit prices
+
+/// Makes the text that of a unit price, and nothing but the comma for null.
+fn set_price(text: &mut String, price: Option<Price>) -> Result<(), AllocError>
+    ensures { OnOk result (string_bytes text.new ≡ behind (price_or_null price ∷ [])) }
+{
+    begin(text)?;
+    match price {
+        Some(price) => {
+            let _millionths = price.millionths();
+            price.write_to(text)
+        }
+        None => Ok(()),
+    }
+}
+
+/// Makes the text of a unit price that of another, if it is another.
+fn change_price(
+    text: &mut String,
+    before: Option<Price>,
+    price: Option<Price>,
+) -> Result<(), AllocError>
+    requires { string_bytes text.old ≡ behind (price_or_null before ∷ []) }
+    ensures { OnOk result (string_bytes text.new ≡ behind (price_or_null price ∷ [])) }
+{
+    match (before, price) {
+        (Some(before), Some(price)) if before.millionths() == price.millionths() => Ok(()),
+        _ => set_price(text, price),
+    }
+}
+
+// ---- all of a row
+
+impl NumberPieces {
+    /// Pieces of no row.
+    pub(crate) fn new(alloc: Global) -> NumberPieces {
+        NumberPieces {
+            billed_cost: String::new(alloc),
+            consumed_quantity: String::new(alloc),
+            contracted_cost: String::new(alloc),
+            contracted_unit_price: String::new(alloc),
+            effective_cost: String::new(alloc),
+            list_cost: String::new(alloc),
+            list_unit_price: String::new(alloc),
+            pricing_quantity: String::new(alloc),
+        }
+    }
+
+    /// Makes the pieces those of a row.
+    pub(crate) fn set(&mut self, row: &FocusRow<'_>) -> Result<(), AllocError>
+        ensures { OnOk result (AreNumbersOf self.new (model_row row.now)) }
+    {
+        let billed = row.billed_cost;
+        set_first(&mut self.billed_cost, billed)?;
+        let spelled = &self.billed_cost;
+        set_cost(
+            &mut self.contracted_cost,
+            row.contracted_cost,
+            billed,
+            spelled,
+        )?;
+        set_cost(
+            &mut self.effective_cost,
+            row.effective_cost,
+            billed,
+            spelled,
+        )?;
+        set_cost(&mut self.list_cost, row.list_cost, billed, spelled)?;
+        set_quantity(&mut self.consumed_quantity, row.consumed_quantity)?;
+        set_quantity(&mut self.pricing_quantity, row.pricing_quantity)?;
+        set_price(&mut self.contracted_unit_price, row.contracted_unit_price)?;
+        set_price(&mut self.list_unit_price, row.list_unit_price)
+    }
+
+    /// Makes the pieces of a row those of another, where these differ.
+    pub(crate) fn change(
+        &mut self,
+        before: &FocusRow<'_>,
+        row: &FocusRow<'_>,
+    ) -> Result<(), AllocError>
+        requires { AreNumbersOf self.old (model_row before.now) }
+        ensures { OnOk result (AreNumbersOf self.new (model_row row.now)) }
+    {
+        let billed = row.billed_cost;
+        change_first(&mut self.billed_cost, before.billed_cost, billed)?;
+        let spelled = &self.billed_cost;
+        change_cost(
+            &mut self.contracted_cost,
+            before.contracted_cost,
+            row.contracted_cost,
+            billed,
+            spelled,
+        )?;
+        change_cost(
+            &mut self.effective_cost,
+            before.effective_cost,
+            row.effective_cost,
+            billed,
+            spelled,
+        )?;
+        change_cost(
+            &mut self.list_cost,
+            before.list_cost,
+            row.list_cost,
+            billed,
+            spelled,
+        )?;
+        change_quantity(
+            &mut self.consumed_quantity,
+            before.consumed_quantity,
+            row.consumed_quantity,
+        )?;
+        change_quantity(
+            &mut self.pricing_quantity,
+            before.pricing_quantity,
+            row.pricing_quantity,
+        )?;
+        change_price(
+            &mut self.contracted_unit_price,
+            before.contracted_unit_price,
+            row.contracted_unit_price,
+        )?;
+        change_price(
+            &mut self.list_unit_price,
+            before.list_unit_price,
+            row.list_unit_price,
+        )
+    }
+}

@@ -1,3 +1,0 @@
-mod TagTexts
-mod Files
-mod LineLaws

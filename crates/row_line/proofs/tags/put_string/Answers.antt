@@ -1,5 +1,0 @@
-use Rattle.std.proofs.Common.{rules, append_assoc}
-use Rattle.row_line.proofs.tags.put_string.Goals as goal
-
-pub returns : goal.returns
-returns c = search (rules, append_assoc)

@@ -1,3 +1,0 @@
-pub mod Columns
-pub mod Lines
-pub mod Inner
