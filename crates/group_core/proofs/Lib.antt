@@ -1,3 +1,4 @@
+pub mod Unchanged
 pub mod Worlds
 pub mod Runs
 pub mod Calls

@@ -16,3 +16,8 @@ reply_of (Refused refusal) = model.Refused refusal
 abbrev pub is_exported : model.Reply → Bool
 is_exported (model.Exported s) = true
 is_exported _ = false
+
+-- whether nothing was done
+abbrev pub is_refused : model.Reply → Bool
+is_refused (model.Refused refusal) = true
+is_refused _ = false

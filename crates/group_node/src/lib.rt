@@ -9,5 +9,6 @@ mod packets;
 mod proposing;
 mod voting;
 
+pub use node_kept::Kept;
 pub use nodes::Node;
 pub use packets::{Handled, Packet};

@@ -10,5 +10,5 @@ mod state;
 mod steps;
 
 pub use group_events::{Event, Reply, Snapshot};
-pub use group_node::{Node, Packet};
+pub use group_node::{Kept, Node, Packet};
 pub use state::GroupState;

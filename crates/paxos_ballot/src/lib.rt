@@ -9,8 +9,6 @@ mod ballots;
 pub mod laws;
 mod node_set;
 mod tally;
-#[cfg(test)]
-mod tests;
 
 pub use acceptor::{Acceptor, PrepareStep};
 pub use attempt::{Attempt, PromiseStep};
