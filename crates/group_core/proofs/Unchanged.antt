@@ -1,14 +1,14 @@
 -- What a refused event, and an answered export, leave: the world as it was.
-use Rattle.std.proofs.Common.{◌≡◌, ℕ, ◌+◌, true, Option, Some, None, Result, Ok, Err, IfOk, refl, sym, subst, nat_lt, nat_le, ok_or}
+use Rattle.std.proofs.Common.{◌≡◌, ℕ, true, Option, Some, None, Result, Ok, Err, IfOk, refl, sym, subst, nat_lt, nat_le, ok_or}
 use Rattle.std.specs.Prelude.{◌==◌, slice_get}
 use Rattle.metering_model.specs.FirstFailure.{◌>>=◌, holds_or}
 use Rattle.metering_model.specs.declared.Refusal.{Refusal}
-use Rattle.metering_model.specs.declared.Refusal.TheVariants.{BadBatch, WrongSeq, NoPacket, NoNode, NoAgent, AllClosed, NoBallot}
+use Rattle.metering_model.specs.declared.Refusal.TheVariants.{WrongSeq, NoPacket, NoNode, NoAgent, AllClosed, NoBallot}
 use Rattle.metering_model.specs.Batch.{Batch}
 use Rattle.metering_model.specs.BatchReading.{batch_in}
 use Rattle.metering_model.specs.Holding.{placed, put}
 use Rattle.metering_model.specs.JournalRules.{next_seq, first_broken}
-use Rattle.metering_model.specs.World.{World, Packet, Offer, Good, Bad, Event, Journal, Deliver, Start, Restart, Export, Reply, Journaled, Delivered, Started, Restarted, Exported, current_period, next_packet, with_node_at, with_packet}
+use Rattle.metering_model.specs.World.{World, Packet, Offer, Good, Bad, Event, Journal, Deliver, Start, Restart, Export, Reply, Delivered, current_period, next_packet, with_node_at, with_packet}
 use Rattle.metering_model.specs.Deliveries.{Handled, handled}
 use Rattle.metering_model.specs.Step.{Outcome, on_batch, on_journal, on_delivery, on_start, on_restart, on_export, after_delivery, or_refused, or_bad_batch, unless_broken, snapshot, step}
 use Rattle.group_state.specs.Words.{is_exported, is_refused}

@@ -50,6 +50,7 @@ impl World {
         requires agents_to { agents ≤ 64 }
         ensures { IfOk result (λ world. world ≡ opening nodes agents (arc_value sheet) (arc_value issuer)) }
     {
+        // For the proof alone: its clause says that the month may be a base month.
         let _ = sheet.base_month();
         let state = GroupState::new(alloc, nodes, agents, sheet, issuer)?;
         Ok(World { state })
@@ -59,6 +60,7 @@ impl World {
     pub fn reached(&self)
         ensures { IsReached self.now }
     {
+        // For the proof alone: with the field comes what the type keeps of it.
         let _ = &self.state;
     }
 

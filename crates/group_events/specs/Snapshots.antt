@@ -1,6 +1,5 @@
--- Which snapshots have a file, and what may stand in a sink when its writer had no memory.
-use Rattle.std.specs.Prelude.{◌≡◌, ℕ, ◌≤◌, List, length, take, Option, None}
-use Rattle.std.specs.Io.KnownBytes.{Appends}
+-- Which snapshots have a file.
+use Rattle.std.specs.Prelude.{◌≡◌, None}
 use Rattle.metering_model.specs.Cut.{IsAtLeast}
 use Rattle.metering_model.specs.Holding.{up_to}
 use Rattle.metering_model.specs.JournalRules.{MeetsJournalRules}
@@ -14,7 +13,3 @@ pub record IsExportable (s : Snapshot) : Type 0 where
   pub whole : first_missing s.batches s.to ≡ None
   pub met : MeetsJournalRules s.sheet s.batches
   pub within : up_to s.to s.batches ≡ s.batches
-
--- Known contents grew by a front of the bytes, which may be all of them.
-abbrev pub AppendsSome : Option (List ℕ) → Option (List ℕ) → List ℕ → Type 0
-AppendsSome old new bytes = (taken : ℕ) × (taken ≤ length bytes) × Appends old new (take taken bytes)

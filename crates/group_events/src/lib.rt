@@ -2,7 +2,6 @@
 #![tactic(auto)]
 
 mod events;
-mod pieces;
 mod replies;
 mod snapshots;
 

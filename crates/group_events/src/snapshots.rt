@@ -1,25 +1,14 @@
-//! What an export is made of, its rows, and its file.
+//! What an export is made of.
 
-ghost use Rattle.std.specs.Prelude.{◌≡◌, ◌↔◌, ◌≤◌, ◌++◌, length, map, None, Err, IfOk, IsTrue, OnOk};
-ghost use Rattle.std.specs.Io.KnownBytes.{Appends};
+ghost use Rattle.std.specs.Prelude.{◌≡◌, ◌↔◌, length, None, IfOk, IsTrue};
 ghost use Rattle.std.specs.Arc.{arc_value};
-ghost use Rattle.counted_io.specs.Counts.{Rises, count_after};
-ghost use Rattle.counted_io.specs.Writing.{AppendsFront};
 ghost use Rattle.metering_model.specs.Cut.{IsAtLeast};
 ghost use Rattle.metering_model.specs.Holding.{up_to};
 ghost use Rattle.metering_model.specs.JournalRules.{MeetsJournalRules};
-ghost use Rattle.metering_model.specs.Rows.{rows};
 ghost use Rattle.metering_model.specs.Step.{first_missing};
-ghost use Rattle.metering_model.specs.Transcript.{file_of};
-ghost use Rattle.charge_row.specs.FocusRows.{model_row};
-ghost use Rattle.focus_csv.specs.Faults.{is_sink_fault};
-ghost use Rattle.group_events.specs.Snapshots.{AppendsSome, IsExportable};
+ghost use Rattle.group_events.specs.Snapshots.{IsExportable};
 
-use crate::pieces::{put_behind, write_behind};
 use batch_store::Store;
-use counted_io::Sink;
-use focus_csv::{CsvFault, header_text};
-use focus_row::{FocusRow, RowsBetween, rows_between};
 use period_cut::{Cut, Period};
 use price_sheet::{Issuer, Sheet};
 use std::alloc::{AllocError, Global};
@@ -28,7 +17,7 @@ use std::sync::Arc;
 
 /// What the file of a period is made of: the cut before the period, the period's own, and the batches up to it, shared.
 ///
-/// Nothing is missing of these batches and they meet the rules of the journals, so no call of a snapshot refuses.
+/// Nothing is missing of these batches and they meet the rules of the journals: so who makes the file has nothing to refuse.
 #[derive(Drop)]
 pub struct Snapshot {
     period: Period,
@@ -125,59 +114,25 @@ impl Snapshot {
         &self.to
     }
 
-    /// The rows of the file that are to come: all of them.
-    fn left(&self, alloc: Global) -> Result<RowsBetween<'_>, AllocError>
-        ensures { IfOk result (λ left. left
-            ≡ rows self.now.sheet self.now.issuer self.now.batches self.now.period self.now.from self.now.to) }
+    /// The batches up to the cut, in a store of as many agents as the cut has entries.
+    pub fn batches(&self) -> &Store
+        ensures { result.now ≡ record { agents = length self.now.to; batches = self.now.batches } }
     {
-        rows_between(
-            alloc,
-            &self.batches,
-            &self.sheet,
-            &self.issuer,
-            self.period,
-            &self.from,
-            &self.to,
-        )
+        &self.batches
     }
 
-    /// All rows of the file, in journal order.
-    pub fn rows(&self, alloc: Global) -> Result<Vec<FocusRow<'_>>, AllocError>
-        ensures { IfOk result (λ all. map model_row all.items
-            ≡ rows self.now.sheet self.now.issuer self.now.batches self.now.period self.now.from self.now.to) }
+    /// The sheet by which the period is charged.
+    pub fn sheet(&self) -> &Sheet
+        ensures { result.now ≡ self.now.sheet }
     {
-        let mut left = self.left(alloc)?;
-        left.rest(alloc)
+        &self.sheet
     }
 
-    /// Writes the file: the header line, and a line for each row, batch by batch. The rows of one batch are in memory
-    /// at a time, and their text.
-    ///
-    /// `Write` comes only from a failed call of the sink, and that is the only one: a front of the file that is not all
-    /// of it went out. At want of memory no call failed, and a front of the file went out.
-    pub fn write_csv<W: Sink>(&self, alloc: Global, sink: &mut W) -> Result<(), CsvFault>
-        ensures written { OnOk result (Appends (W.contents sink.old) (W.contents sink.new) (file_of self.now)) }
-        ensures front { result ≡ Err CsvFault.Write
-            → AppendsFront (W.contents sink.old) (W.contents sink.new) (file_of self.now) }
-        ensures fault { result ≡ Err CsvFault.Write
-            → Rises (W.failed_calls sink.old) (W.failed_calls sink.new) }
-        ensures memory { result ≡ Err CsvFault.OutOfMemory
-            → AppendsSome (W.contents sink.old) (W.contents sink.new) (file_of self.now) }
-        ensures count { W.failed_calls sink.new
-            ≡ count_after (is_sink_fault result) (W.failed_calls sink.old) }
+    /// The issuer that the file names.
+    pub fn issuer(&self) -> &Issuer
+        ensures { result.now ≡ self.now.issuer }
     {
-        let Ok(mut left) = self.left(alloc) else {
-            return Err(CsvFault::OutOfMemory);
-        };
-        write_behind(alloc, header_text(), &mut left, sink)
-    }
-
-    /// Appends the file to a text that its caller may use again: the same bytes that `write_csv` writes.
-    pub fn put_csv(&self, alloc: Global, text: &mut Vec<u8>) -> Result<(), AllocError>
-        ensures { OnOk result (text.new.items ≡ text.old.items ++ file_of self.now) }
-    {
-        let mut left = self.left(alloc)?;
-        put_behind(alloc, header_text(), &mut left, text)
+        &self.issuer
     }
 
     /// An equal snapshot, which shares its cuts, its batches, its sheet and its issuer.

@@ -123,7 +123,7 @@ impl GroupState {
             Offer::Good(batch) => batch,
             Offer::Bad(fault) => return Ok(Reply::Refused(Refusal::BadBatch(*fault))),
         };
-        // Its clause says that the bytes are a batch.
+        // For the proof alone: its clause says that the bytes are a batch.
         let _ = batch.bytes();
         if let Some(refusal) = self.journal_refusal(batch) {
             return Ok(Reply::Refused(refusal));

@@ -1,5 +1,5 @@
-use Rattle.group_events.proofs.Fronts.{front_behind, some_behind}
-use Rattle.group_events.proofs.pieces.write_behind.Goals as goal
+use Rattle.export_file.proofs.Fronts.{front_behind, some_behind}
+use Rattle.export_file.proofs.pieces.write_behind.Goals as goal
 
 pub returns-in-Ok-clause-front : goal.returns-in-Ok-clause-front
 returns-in-Ok-clause-front g c is = front_behind _ _ _ _ _ c.in-Ok.ensures.written (c.write_left.ensures.front is)

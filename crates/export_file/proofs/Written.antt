@@ -7,8 +7,8 @@ use Rattle.std.proofs.KnownBytes.{Appends-trans}
 use Rattle.counted_io.specs.Writing.{AppendsFront}
 use Rattle.metering_model.specs.Row.{Row}
 use Rattle.metering_model.specs.File.{file, header_line, row_text}
-use Rattle.group_events.specs.Snapshots.{AppendsSome}
-use Rattle.group_events.proofs.Fronts.{front_behind, front_within, some_within}
+use Rattle.export_file.specs.Fronts.{AppendsSome}
+use Rattle.export_file.proofs.Fronts.{front_behind, front_within, some_within}
 
 texts : (written rest all : List Row) → written ++ rest ≡ all → flat_map row_text written ++ flat_map row_text rest ≡ flat_map row_text all
 texts written rest all split = sym (flat_map-append row_text written rest) ∙ ap (flat_map row_text) split

@@ -2,9 +2,9 @@ use Rattle.std.proofs.Common.{subst}
 use Rattle.std.specs.Prelude.{OnOk}
 use Rattle.std.specs.Io.KnownBytes.{Appends}
 use Rattle.counted_io.specs.Writing.{AppendsFront}
-use Rattle.group_events.specs.Snapshots.{AppendsSome}
-use Rattle.group_events.proofs.Written.{whole_file}
-use Rattle.group_events.proofs.snapshots.Snapshot.write_csv.Goals as goal
+use Rattle.export_file.specs.Fronts.{AppendsSome}
+use Rattle.export_file.proofs.Written.{whole_file}
+use Rattle.export_file.proofs.SnapshotExportFile.write_csv.Goals as goal
 
 pub returns-clause-written : goal.returns-clause-written
 returns-clause-written g c =

@@ -5,7 +5,7 @@ use Rattle.std.proofs.Math.Seq.{take-append-add, take-length}
 use Rattle.std.proofs.KnownBytes.{Appends-trans}
 use Rattle.std.specs.Io.KnownBytes.{Appends}
 use Rattle.counted_io.specs.Writing.{AppendsFront}
-use Rattle.group_events.specs.Snapshots.{AppendsSome}
+use Rattle.export_file.specs.Fronts.{AppendsSome}
 
 module _ (a b c : Option (List ℕ)) (xs ys : List ℕ) where
   -- a front behind a whole text is a front of both

@@ -3,7 +3,7 @@ use Rattle.std.specs.List.{flat_map}
 use Rattle.std.specs.Io.KnownBytes.{Appends}
 use Rattle.metering_model.specs.Row.{Row}
 use Rattle.metering_model.specs.File.{row_text}
-use Rattle.group_events.proofs.pieces.write_left.Given as goal
+use Rattle.export_file.proofs.pieces.write_left.Given as goal
 
 -- Some rows were written, and the others are left; no call failed.
 abbrev pub invariant-loop-next : goal.invariant-loop-next

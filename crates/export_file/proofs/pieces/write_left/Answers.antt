@@ -3,9 +3,9 @@ use Rattle.std.specs.Prelude.{IfSome}
 use Rattle.std.specs.List.{flat_map}
 use Rattle.metering_model.specs.File.{row_text}
 use Rattle.charge_row.specs.FocusRows.{model_row}
-use Rattle.group_events.specs.Snapshots.{AppendsSome}
-use Rattle.group_events.proofs.Written.{some_written, front_written, more_written}
-use Rattle.group_events.proofs.pieces.write_left.Goals as goal
+use Rattle.export_file.specs.Fronts.{AppendsSome}
+use Rattle.export_file.proofs.Written.{some_written, front_written, more_written}
+use Rattle.export_file.proofs.pieces.write_left.Goals as goal
 
 pub returns-in_default-clause-written : goal.returns-in_default-clause-written
 returns-in_default-clause-written g c = tt

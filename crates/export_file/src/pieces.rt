@@ -8,7 +8,7 @@ ghost use Rattle.counted_io.specs.Writing.{AppendsFront};
 ghost use Rattle.metering_model.specs.File.{row_text};
 ghost use Rattle.charge_row.specs.FocusRows.{model_row};
 ghost use Rattle.focus_csv.specs.Faults.{is_sink_fault};
-ghost use Rattle.group_events.specs.Snapshots.{AppendsSome};
+ghost use Rattle.export_file.specs.Fronts.{AppendsSome};
 
 use counted_io::{Sink, write_all};
 use focus_csv::{CsvFault, put_rows, row_texts};

@@ -1,7 +1,7 @@
 use Rattle.std.proofs.Common.{◌≡◌, ◌++◌, subst}
 use Rattle.std.specs.Prelude.{OnOk}
-use Rattle.group_events.proofs.Written.{whole_file}
-use Rattle.group_events.proofs.snapshots.Snapshot.put_csv.Goals as goal
+use Rattle.export_file.proofs.Written.{whole_file}
+use Rattle.export_file.proofs.SnapshotExportFile.put_csv.Goals as goal
 
 pub returns : goal.returns
 returns c =

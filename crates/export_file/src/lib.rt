@@ -1,0 +1,91 @@
+//! The file of an export: its rows, and its bytes.
+#![tactic(auto)]
+
+mod pieces;
+
+ghost use Rattle.std.specs.Prelude.{◌≡◌, ◌++◌, Err, IfOk, OnOk, map};
+ghost use Rattle.std.specs.Io.KnownBytes.{Appends};
+ghost use Rattle.counted_io.specs.Counts.{Rises, count_after};
+ghost use Rattle.counted_io.specs.Writing.{AppendsFront};
+ghost use Rattle.metering_model.specs.Rows.{rows};
+ghost use Rattle.metering_model.specs.Transcript.{file_of};
+ghost use Rattle.metering_model.specs.World as model;
+ghost use Rattle.charge_row.specs.FocusRows.{model_row};
+ghost use Rattle.focus_csv.specs.Faults.{is_sink_fault};
+ghost use Rattle.export_file.specs.Fronts.{AppendsSome};
+
+use counted_io::Sink;
+use focus_csv::{CsvFault, header_text};
+use focus_row::{FocusRow, RowsBetween, rows_between};
+use group_events::Snapshot;
+use pieces::{put_behind, write_behind};
+use std::alloc::{AllocError, Global};
+
+/// What has the rows and the bytes of a period's file: a [`Snapshot`].
+pub trait ExportFile {
+    ghost taken: { Self → model.Snapshot };
+
+    /// All rows of the file, in journal order.
+    fn rows(&self, alloc: Global) -> Result<Vec<FocusRow<'_>>, AllocError>
+        ensures { IfOk result (λ all. map model_row all.items
+            ≡ rows (taken self.now).sheet (taken self.now).issuer (taken self.now).batches (taken self.now).period
+                (taken self.now).from (taken self.now).to) };
+
+    /// Writes the file: the header line, and a line for each row, batch by batch. The rows of one batch are in memory
+    /// at a time, and their text.
+    ///
+    /// `Write` comes only from a failed call of the sink, and that is the only one: a front of the file that is not all
+    /// of it went out. At want of memory no call failed, and a front of the file went out.
+    fn write_csv<W: Sink>(&self, alloc: Global, sink: &mut W) -> Result<(), CsvFault>
+        ensures written { OnOk result (Appends (W.contents sink.old) (W.contents sink.new) (file_of (taken self.now))) }
+        ensures front { result ≡ Err CsvFault.Write
+            → AppendsFront (W.contents sink.old) (W.contents sink.new) (file_of (taken self.now)) }
+        ensures fault { result ≡ Err CsvFault.Write
+            → Rises (W.failed_calls sink.old) (W.failed_calls sink.new) }
+        ensures memory { result ≡ Err CsvFault.OutOfMemory
+            → AppendsSome (W.contents sink.old) (W.contents sink.new) (file_of (taken self.now)) }
+        ensures count { W.failed_calls sink.new
+            ≡ count_after (is_sink_fault result) (W.failed_calls sink.old) };
+
+    /// Appends the file to a text that its caller may use again: the same bytes that `write_csv` writes.
+    fn put_csv(&self, alloc: Global, text: &mut Vec<u8>) -> Result<(), AllocError>
+        ensures { OnOk result (text.new.items ≡ text.old.items ++ file_of (taken self.now)) };
+}
+
+/// The rows of the file that are to come: all of them.
+fn rows_of(alloc: Global, snapshot: &Snapshot) -> Result<RowsBetween<'_>, AllocError>
+    ensures { IfOk result (λ left. left
+        ≡ rows snapshot.now.sheet snapshot.now.issuer snapshot.now.batches snapshot.now.period snapshot.now.from snapshot.now.to) }
+{
+    let to = snapshot.to();
+    rows_between(
+        alloc,
+        snapshot.batches(),
+        snapshot.sheet(),
+        snapshot.issuer(),
+        snapshot.period(),
+        snapshot.from(),
+        to,
+    )
+}
+
+impl ExportFile for Snapshot {
+    ghost taken = { λ s. s };
+
+    fn rows(&self, alloc: Global) -> Result<Vec<FocusRow<'_>>, AllocError> {
+        let mut left = rows_of(alloc, self)?;
+        left.rest(alloc)
+    }
+
+    fn write_csv<W: Sink>(&self, alloc: Global, sink: &mut W) -> Result<(), CsvFault> {
+        let Ok(mut left) = rows_of(alloc, self) else {
+            return Err(CsvFault::OutOfMemory);
+        };
+        write_behind(alloc, header_text(), &mut left, sink)
+    }
+
+    fn put_csv(&self, alloc: Global, text: &mut Vec<u8>) -> Result<(), AllocError> {
+        let mut left = rows_of(alloc, self)?;
+        put_behind(alloc, header_text(), &mut left, text)
+    }
+}
