@@ -5,6 +5,7 @@ pub mod laws;
 mod playing;
 mod world;
 
+pub use export_file::ExportFile;
 pub use group_state::{Event, Kept, Node, Packet, Reply, Snapshot};
 pub use metering_model::Refusal;
 pub use playing::Stopped;

@@ -4,7 +4,7 @@ use crate::samples::{HEADER, LINE, WHOLE_PATH, events_of, world_of};
 use crate::schedules::joined;
 use counted_io::{Counted, FakeWriter};
 use focus_csv::CsvFault;
-use group_core::{Snapshot, World};
+use group_core::{ExportFile, Snapshot, World};
 use std::alloc::Global;
 use std::test::Fail;
 

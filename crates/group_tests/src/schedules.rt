@@ -6,7 +6,7 @@ use crate::samples::{
 };
 use counted_io::Counted;
 use focus_csv::CsvFault;
-use group_core::{Reply, Snapshot};
+use group_core::{ExportFile, Reply, Snapshot};
 use period_cut::Period;
 use std::alloc::{AllocError, Global};
 use std::test::Fail;

@@ -6,6 +6,7 @@ ghost use Rattle.group_events.specs.Replies.{reply_of};
 
 use crate::refusals::put_refusal;
 use crate::texts::{line_count, put_if_any, put_numbered};
+use export_file::ExportFile;
 use group_events::{Reply, Snapshot};
 use metering_model::Refusal;
 use paxos_ballot::Ballot;

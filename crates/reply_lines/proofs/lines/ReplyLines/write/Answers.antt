@@ -1,6 +1,6 @@
 use Rattle.std.proofs.Common.{◌≡◌, ◌++◌, rules, subst}
 use Rattle.counted_io.specs.Writing.{AppendsFront}
-use Rattle.group_events.proofs.Fronts.{front_behind}
+use Rattle.export_file.proofs.Fronts.{front_behind}
 use Rattle.reply_lines.proofs.Results.{on_err}
 use Rattle.reply_lines.proofs.lines.ReplyLines.write.Goals as goal
 
