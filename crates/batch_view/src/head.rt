@@ -5,8 +5,9 @@ ghost use Rattle.metering_model.specs.BatchReading.{fields_in, head_in, batch_in
 ghost use Rattle.batch_view.specs.Inner.Lines.{head_line, BeginsWithHead};
 
 use crate::lines::next_line;
+use byte_text::{find_byte, read_whole};
 use metering_model::{BatchCode, BatchFault};
-use record_view::{Span, find_byte, read_whole};
+use record_view::Span;
 
 const BAR: u8 = b'|';
 

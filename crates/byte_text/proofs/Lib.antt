@@ -1,4 +1,6 @@
 pub mod FirstPlace
 pub mod LineFeeds
+pub mod LineLemmas
+pub mod SplitLemmas
 pub mod Texts
 pub mod WholeLaws

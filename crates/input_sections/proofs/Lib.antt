@@ -1,3 +1,4 @@
 pub mod LineLaws
 pub mod ReadLaws
 pub mod SectionLaws
+pub mod ToldLaws

@@ -7,7 +7,7 @@ use Rattle.metering_model.specs.BatchReading.{lines_in}
 use Rattle.metering_model.specs.Schedule.{lines_text}
 use Rattle.metering_model.proofs.FieldLaws.{same_read}
 use Rattle.metering_model.proofs.Splitting.{lines_give_back}
-use Rattle.batch_view.proofs.LineLemmas.{lines_at_feed, lines_without_feed}
+use Rattle.byte_text.proofs.LineLemmas.{lines_at_feed, lines_without_feed}
 use Rattle.input_sections.specs.declared.faults.ScheduleCode.{ScheduleCode}
 use Rattle.input_sections.specs.declared.faults.ScheduleFault.TheVariants.{Refused}
 use Rattle.input_sections.specs.Sections.{Unread, begins_with, left, first_of, first_line, code_of_end}

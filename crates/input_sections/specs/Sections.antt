@@ -81,6 +81,11 @@ read_as read fault text = do
   _ ← holds_or (is_utf8 text) fault
   told fault (read text)
 
+-- the section stands there, and its text is such a one
+abbrev pub HasText : (List ℕ → Type 0) → Result Section ScheduleFault → Type 0
+HasText fits (Ok s) = fits s.text
+HasText fits (Err fault) = ⊥
+
 -- a sheet, and an issuer, in a section of its own
 unfoldable pub sheet_section : Unread → Result (model.Sheet × Unread) ScheduleFault
 sheet_section u = do

@@ -1,9 +1,9 @@
 //! The input of a rating: a sheet and an issuer, each if it is there, and a batch.
 
-ghost use Rattle.std.specs.Prelude.{◌≡◌, ◌≢◌, ◌≤◌, Ok, Err, IfOk, IfErr, drop, length, codes};
+ghost use Rattle.std.specs.Prelude.{◌≡◌, ◌≢◌, ◌≤◌, Ok, Err, IfOk, IfErr, IsOk, drop, length, codes};
 ghost use Rattle.metering_model.specs.SheetRules.{IsSheet, IsIssuer};
 ghost use Rattle.input_sections.specs.RateInput.{default_sheet, if_begun, rate_input_in};
-ghost use Rattle.input_sections.specs.Sections.{sheet_section, issuer_section};
+ghost use Rattle.input_sections.specs.Sections.{sheet_section, issuer_section, whole_of};
 ghost use Rattle.price_sheet.specs.Samples.{sample_issuer};
 
 use crate::faults::ScheduleFault;
@@ -73,6 +73,7 @@ pub fn rate_input(alloc: Global, text: &[u8]) -> Result<RateInput, ScheduleFault
         ≡ Ok (record { sheet = r.sheet; issuer = r.issuer; batch = drop r.batch_from text.now })) }
     ensures within { IfOk result (λ r. r.batch_from ≤ length text.now) }
     ensures refused { IfErr result (λ fault. fault ≢ ScheduleFault.OutOfMemory → rate_input_in text.now ≡ Err fault) }
+    ensures want { IfErr result (λ fault. fault ≡ ScheduleFault.OutOfMemory → IsOk (whole_of text.now)) }
     ensures rules { IfOk result (λ r. IsSheet r.sheet × IsIssuer r.issuer) }
 {
     let unread = match Unread::whole(text) {

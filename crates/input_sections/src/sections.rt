@@ -1,15 +1,18 @@
 //! Sections of a text: a line that says how many lines follow, and these.
 
-ghost use Rattle.std.specs.Prelude.{◌≡◌, ◌≢◌, ◌≤◌, Ok, Err, IfOk, IfErr, IfSome, MatchResult};
+ghost use Rattle.std.specs.Prelude.{◌≡◌, ◌≢◌, ◌≤◌, Ok, Err, IfOk, IfErr, IfSome, MatchResult, codes};
+ghost use Rattle.std.specs.Str.{IsUtf8};
+ghost use Rattle.toml.specs.Errors.{IsBlank};
 ghost use Rattle.metering_model.specs.SheetRules.{IsSheet, IsIssuer};
-ghost use Rattle.input_sections.specs.Sections.{number_behind, section_in, read_as, sheet_section, issuer_section};
+ghost use Rattle.input_sections.specs.Sections.{HasText, number_behind, section_in, read_as, sheet_section, issuer_section};
+ghost use Rattle.input_sections.specs.Inner.Told.{told_of_sheet, told_of_issuer};
 ghost use Rattle.price_sheet.specs.SheetReading.{sheet_of_text};
 ghost use Rattle.sheet_text.specs.IssuerReading.{issuer_of_text};
 
 use crate::faults::{ScheduleCode, ScheduleFault};
 use crate::unread::{Unread, behind_word};
+use byte_text::read_whole;
 use price_sheet::{Issuer, IssuerFault, Sheet, SheetFault};
-use record_view::read_whole;
 use std::alloc::Global;
 
 /// A section: the text of its lines, each with its line feed, and what is left behind it.
@@ -43,6 +46,7 @@ pub fn read_section<'a>(
         (λ s. section_in code word.now most unread.now ≡ Ok (record { text = s.text.now; rest = s.rest }))
         (λ fault. section_in code word.now most unread.now ≡ Err fault) }
     ensures text { IfOk result (λ s. s.rest.text ≡ unread.now.text) }
+    ensures want { IfErr result (λ fault. fault ≢ ScheduleFault.OutOfMemory) }
 {
     let line = unread.line();
     let (opening, below) = match unread.first_line(code) {
@@ -65,10 +69,9 @@ pub fn read_section<'a>(
     })
 }
 
-/// What a sheet's fault comes to where its section opens at a line.
+/// What a sheet's fault is told as, where its section opens at a line.
 fn told_of_sheet(fault: SheetFault, line: u32) -> ScheduleFault
-    ensures { result ≢ ScheduleFault.OutOfMemory
-        → (fault ≢ SheetFault.OutOfMemory) × (result ≡ ScheduleFault.Refused ScheduleCode.Sheet line) }
+    ensures { result ≡ told_of_sheet fault line }
 {
     match fault {
         SheetFault::OutOfMemory => ScheduleFault::OutOfMemory,
@@ -83,10 +86,9 @@ fn told_of_sheet(fault: SheetFault, line: u32) -> ScheduleFault
     }
 }
 
-/// What an issuer's fault comes to where its section opens at a line.
+/// What an issuer's fault is told as, where its section opens at a line.
 fn told_of_issuer(fault: IssuerFault, line: u32) -> ScheduleFault
-    ensures { result ≢ ScheduleFault.OutOfMemory
-        → (fault ≢ IssuerFault.OutOfMemory) × (result ≡ ScheduleFault.Refused ScheduleCode.Issuer line) }
+    ensures { result ≡ told_of_issuer fault line }
 {
     match fault {
         IssuerFault::OutOfMemory => ScheduleFault::OutOfMemory,
@@ -104,6 +106,7 @@ fn sheet_of(alloc: Global, text: &[u8], line: u32) -> Result<Sheet, ScheduleFaul
     ensures taken { IfOk result (λ sheet. read_as sheet_of_text (ScheduleFault.Refused ScheduleCode.Sheet line) text.now ≡ Ok sheet) }
     ensures refused { IfErr result (λ fault. fault ≢ ScheduleFault.OutOfMemory
         → read_as sheet_of_text (ScheduleFault.Refused ScheduleCode.Sheet line) text.now ≡ Err fault) }
+    ensures want { IfErr result (λ fault. fault ≡ ScheduleFault.OutOfMemory → IsUtf8 text.now × ¬ IsBlank text.now) }
     ensures rules { IfOk result IsSheet }
 {
     let Ok(text) = str::from_utf8(text) else {
@@ -123,6 +126,7 @@ fn issuer_of(alloc: Global, text: &[u8], line: u32) -> Result<Issuer, ScheduleFa
     ensures taken { IfOk result (λ issuer. read_as issuer_of_text (ScheduleFault.Refused ScheduleCode.Issuer line) text.now ≡ Ok issuer) }
     ensures refused { IfErr result (λ fault. fault ≢ ScheduleFault.OutOfMemory
         → read_as issuer_of_text (ScheduleFault.Refused ScheduleCode.Issuer line) text.now ≡ Err fault) }
+    ensures want { IfErr result (λ fault. fault ≡ ScheduleFault.OutOfMemory → IsUtf8 text.now) }
     ensures rules { IfOk result IsIssuer }
 {
     let Ok(text) = str::from_utf8(text) else {
@@ -137,7 +141,8 @@ fn issuer_of(alloc: Global, text: &[u8], line: u32) -> Result<Issuer, ScheduleFa
     }
 }
 
-/// Reads a section of up to 200,000 lines that is a price sheet.
+/// Reads a section of up to 200,000 lines that is a price sheet. Want of memory is told only of a section that is UTF-8 and not
+/// blank.
 #[tactic(auto, unfolding(crate::specs::Sections::sheet_section))]
 pub fn read_sheet<'a>(
     alloc: Global,
@@ -145,6 +150,8 @@ pub fn read_sheet<'a>(
 ) -> Result<(Sheet, Unread<'a>), ScheduleFault>
     ensures taken { IfOk result (λ r. sheet_section unread.now ≡ Ok (r.0, r.1)) }
     ensures refused { IfErr result (λ fault. fault ≢ ScheduleFault.OutOfMemory → sheet_section unread.now ≡ Err fault) }
+    ensures want { IfErr result (λ fault. fault ≡ ScheduleFault.OutOfMemory
+        → HasText (λ text. IsUtf8 text × ¬ IsBlank text) (section_in ScheduleCode.Sheet (codes "sheet ") 200_000 unread.now)) }
     ensures rules { IfOk result (λ r. IsSheet r.0) }
     ensures text { IfOk result (λ r. r.1.text ≡ unread.now.text) }
 {
@@ -158,7 +165,7 @@ pub fn read_sheet<'a>(
     }
 }
 
-/// Reads a section of up to 100 lines that is an issuer.
+/// Reads a section of up to 100 lines that is an issuer. Want of memory is told only of a section that is UTF-8.
 #[tactic(auto, unfolding(crate::specs::Sections::issuer_section))]
 pub fn read_issuer<'a>(
     alloc: Global,
@@ -166,6 +173,8 @@ pub fn read_issuer<'a>(
 ) -> Result<(Issuer, Unread<'a>), ScheduleFault>
     ensures taken { IfOk result (λ r. issuer_section unread.now ≡ Ok (r.0, r.1)) }
     ensures refused { IfErr result (λ fault. fault ≢ ScheduleFault.OutOfMemory → issuer_section unread.now ≡ Err fault) }
+    ensures want { IfErr result (λ fault. fault ≡ ScheduleFault.OutOfMemory
+        → HasText IsUtf8 (section_in ScheduleCode.Issuer (codes "issuer ") 100 unread.now)) }
     ensures rules { IfOk result (λ r. IsIssuer r.0) }
     ensures text { IfOk result (λ r. r.1.text ≡ unread.now.text) }
 {

@@ -1,13 +1,12 @@
 //! What is left of a text.
 
-ghost use Rattle.std.specs.Prelude.{◌≡◌, ◌+◌, ◌<◌, ◌≤◌, length, drop, true, false, IfOk, MatchOption, MatchResult};
+ghost use Rattle.std.specs.Prelude.{◌≡◌, ◌≢◌, ◌+◌, ◌<◌, ◌≤◌, length, drop, true, false, IfOk, IfErr, MatchOption, MatchResult};
 ghost use Rattle.metering_model.specs.BatchReading.{lines_in};
 ghost use Rattle.input_sections.specs.Inner.Lines.{IsPast};
 ghost use Rattle.input_sections.specs.Sections.{begins_with, code_of_end, first_line, left, lines_left, section_of, whole_of};
 
 use crate::faults::{ScheduleCode, ScheduleFault};
-use record_view::find_byte;
-use sheet_text::is_same;
+use byte_text::{find_byte, is_same};
 use std::marker::Model;
 
 /// The most bytes that a text may have.
@@ -41,7 +40,8 @@ impl<'a> Model for Unread<'a> {
 impl<'a> Unread<'a> {
     /// All of a text. One of more bytes than a text may have is refused at its line 1.
     pub fn whole(text: &'a [u8]) -> Result<Unread<'a>, ScheduleFault>
-        ensures { MatchResult result (λ u. whole_of text.now ≡ Ok u) (λ fault. whole_of text.now ≡ Err fault) }
+        ensures whole { MatchResult result (λ u. whole_of text.now ≡ Ok u) (λ fault. whole_of text.now ≡ Err fault) }
+        ensures want { IfErr result (λ fault. fault ≢ ScheduleFault.OutOfMemory) }
     {
         if text.len() > MOST_BYTES {
             return Err(ScheduleFault::Refused {
@@ -91,6 +91,7 @@ impl<'a> Unread<'a> {
     pub fn first_line(&self, code: ScheduleCode) -> Result<(&'a [u8], Unread<'a>), ScheduleFault>
         ensures line { MatchResult result (λ parts. first_line code self.now ≡ Ok (parts.0.now, parts.1)) (λ fault. first_line code self.now ≡ Err fault) }
         ensures text { IfOk result (λ parts. parts.1.text ≡ self.now.text) }
+        ensures want { IfErr result (λ fault. fault ≢ ScheduleFault.OutOfMemory) }
     {
         let left = self.left();
         let Some(length) = find_byte(left, b'\n') else {

@@ -1,13 +1,11 @@
 pub mod PartLaws
 pub mod TagLaws
-pub mod WholeLaws
 pub mod KindLaws
 pub mod LentLaws
 pub mod RecordLaws
 pub mod LineLaws
 pub mod TagsHold
 pub mod SpanLaws
-pub mod FirstPlace
 pub mod PlainLaws
 pub mod LaneLaws
 pub mod ValueLaws

@@ -13,7 +13,7 @@ use Rattle.metering_model.proofs.DateLaws.{stamp_read}
 use Rattle.metering_model.proofs.FieldBytes.{is_inner, stamp_is_inner}
 use Rattle.record_view.specs.Inner.Plain.{is_plain, is_plain_byte, stops_at}
 use Rattle.record_view.proofs.PartLaws.{found_any, found_at}
-use Rattle.record_view.proofs.FirstPlace.{position_is}
+use Rattle.byte_text.proofs.FirstPlace.{position_is}
 
 -- ---- one byte
 

@@ -6,8 +6,6 @@ ghost use Rattle.metering_model.specs.Batch.{is_text};
 ghost use Rattle.record_view.specs.Parts.{lent, part_before, part_after, parts_at};
 ghost use Rattle.record_view.specs.Inner.Placed.{IsPlaced, front_of, back_of};
 
-use memchr::memchr;
-
 /// A place in the bytes of a batch, from `from` (included) to `to` (not included).
 #[derive(Clone, Copy, PartialEq, Eq, Debug)]
 pub struct Span {
@@ -36,14 +34,7 @@ pub(crate) fn field_at<'a>(source: &'a [u8], span: Span) -> Field<'a>
     }
 }
 
-/// Where the first such byte stands. This is quick where it stands far from the front.
-pub fn find_byte(text: &[u8], byte: u8) -> Option<usize>
-    ensures { result ≡ position (λ c. c == byte) text.now }
-{
-    memchr(byte, text)
-}
-
-/// The same, quick where the byte stands near the front.
+/// Where the first such byte stands. This is quick where it stands near the front.
 fn first_place(text: &[u8], byte: u8) -> Option<usize>
     ensures { result ≡ position (λ c. c == byte) text.now }
 {

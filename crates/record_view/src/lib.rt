@@ -1,14 +1,13 @@
 //! One usage record, read where its line lies: no text is copied, and reading takes no memory.
 #![tactic(auto)]
 
-pub use fields::{Field, Span, find_byte};
+pub use fields::{Field, Span};
 pub use kept::{Numbers, kept_reading};
 pub use metering_model::{BatchCode, Kind};
 pub use records::{Reading, Record, read_record};
 pub use spans::field_spans;
 pub use tags::Tags;
 pub use utc_calendar::{Day, Stamp, calendar, dates};
-pub use wholes::read_whole;
 
 mod fields;
 mod kept;
@@ -18,4 +17,3 @@ mod plain;
 mod records;
 mod spans;
 mod tags;
-mod wholes;

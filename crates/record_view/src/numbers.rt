@@ -4,7 +4,7 @@ ghost use Rattle.std.specs.Prelude.{◌≡◌};
 ghost use Rattle.std.specs.Result.{result_ok};
 ghost use Rattle.metering_model.specs.NumberText.{value_in};
 
-use crate::wholes::whole_up_to;
+use byte_text::whole_up_to;
 use fx_money::Value;
 
 /// The millionths of one whole.

@@ -16,7 +16,7 @@ use crate::fields::{Field, Span, field_at, is_text, split_at_byte};
 use crate::numbers::read_value;
 use crate::plain::{split_plain, split_stamp};
 use crate::tags::{Tags, are_plain_tags};
-use crate::wholes::read_whole;
+use byte_text::read_whole;
 use fx_money::Value;
 use metering_model::{BatchCode, Kind};
 use utc_calendar::Stamp;

@@ -89,6 +89,7 @@ fn event_of_line<'a>(line: &'a [u8]) -> Option<Planned<'a>>
 #[tactic(auto, unfolding(crate::specs::Schedules::line_event))]
 fn line_event<'a>(unread: &Unread<'a>) -> Result<(Planned<'a>, Unread<'a>), ScheduleFault>
     ensures event { MatchResult result (λ r. line_event unread.now ≡ Ok (planned_of r.0, r.1)) (λ fault. line_event unread.now ≡ Err fault) }
+    ensures want { IfErr result (λ fault. fault ≢ ScheduleFault.OutOfMemory) }
     ensures lines { IfOk result (λ r. HasWholeLines r.0) }
 {
     let (line, rest) = match unread.first_line(ScheduleCode::Event) {
@@ -108,6 +109,7 @@ fn line_event<'a>(unread: &Unread<'a>) -> Result<(Planned<'a>, Unread<'a>), Sche
 #[tactic(auto, unfolding(crate::specs::Schedules::journal_event))]
 fn journal_event<'a>(unread: &Unread<'a>) -> Result<(Planned<'a>, Unread<'a>), ScheduleFault>
     ensures event { MatchResult result (λ r. journal_event unread.now ≡ Ok (planned_of r.0, r.1)) (λ fault. journal_event unread.now ≡ Err fault) }
+    ensures want { IfErr result (λ fault. fault ≢ ScheduleFault.OutOfMemory) }
     ensures lines { IfOk result (λ r. HasWholeLines r.0) }
 {
     match read_section(unread, ScheduleCode::Event, b"journal ", 1_001) {
@@ -120,6 +122,7 @@ fn journal_event<'a>(unread: &Unread<'a>) -> Result<(Planned<'a>, Unread<'a>), S
 #[tactic(auto, unfolding(crate::specs::Schedules::event_in))]
 fn event_in<'a>(unread: &Unread<'a>) -> Result<(Planned<'a>, Unread<'a>), ScheduleFault>
     ensures event { MatchResult result (λ r. event_in unread.now ≡ Ok (planned_of r.0, r.1)) (λ fault. event_in unread.now ≡ Err fault) }
+    ensures want { IfErr result (λ fault. fault ≢ ScheduleFault.OutOfMemory) }
     ensures lines { IfOk result (λ r. HasWholeLines r.0) }
 {
     if unread.begins_with(b"journal ") {

@@ -3,7 +3,7 @@
 ghost use Rattle.std.specs.Prelude.{◌≡◌, ◌≤◌, IfSome};
 ghost use Rattle.schedule_reader.specs.Schedules.{one_behind, two_behind, two_in};
 
-use record_view::{find_byte, read_whole};
+use byte_text::{find_byte, read_whole};
 use input_sections::behind_word;
 
 /// The number behind the word, from 0 to `most`.

@@ -1,15 +1,15 @@
 //! A whole schedule.
 
-ghost use Rattle.std.specs.Prelude.{◌≡◌, ◌≢◌, ◌≤◌, All, Ok, Err, IfOk, IfErr, MatchResult, length, map, codes};
+ghost use Rattle.std.specs.Prelude.{◌≡◌, ◌≢◌, ◌≤◌, All, Ok, Err, IfOk, IfErr, IsOk, MatchResult, length, map, codes};
 ghost use Rattle.metering_model.specs.SheetRules.{IsSheet, IsIssuer};
 ghost use Rattle.schedule_reader.specs.Events.{HasWholeLines, planned_of};
 ghost use Rattle.schedule_reader.specs.Schedules.{head_line, number_line, group_in, schedule_in};
 ghost use Rattle.schedule_reader.specs.Forms.{IsRead};
 
 use crate::events::{Planned, events_in};
-use price_sheet::{Issuer, Sheet};
+use byte_text::is_same;
 use input_sections::{ScheduleCode, ScheduleFault, Unread, number_behind, read_issuer, read_sheet};
-use sheet_text::is_same;
+use price_sheet::{Issuer, Sheet};
 use std::alloc::Global;
 
 /// A schedule: how many nodes and agents the group has, by what it charges, and what happens to it, in this order.
@@ -28,6 +28,7 @@ pub struct Schedule<'a> {
 #[tactic(auto, unfolding(crate::specs::Schedules::head_line))]
 fn head_line<'a>(unread: &Unread<'a>) -> Result<Unread<'a>, ScheduleFault>
     ensures head { MatchResult result (λ rest. head_line unread.now ≡ Ok rest) (λ fault. head_line unread.now ≡ Err fault) }
+    ensures want { IfErr result (λ fault. fault ≢ ScheduleFault.OutOfMemory) }
 {
     let (line, rest) = match unread.first_line(ScheduleCode::Head) {
         Ok(parts) => parts,
@@ -54,6 +55,7 @@ fn number_line<'a>(
     requires { most ≤ 1_000_000 }
     ensures number { MatchResult result (λ r. number_line code word.now most unread.now ≡ Ok (r.0, r.1)) (λ fault. number_line code word.now most unread.now ≡ Err fault) }
     ensures within { IfOk result (λ r. r.0 ≤ most) }
+    ensures want { IfErr result (λ fault. fault ≢ ScheduleFault.OutOfMemory) }
 {
     let (line, rest) = match unread.first_line(code) {
         Ok(parts) => parts,
@@ -72,6 +74,7 @@ fn number_line<'a>(
 #[tactic(auto, unfolding(crate::specs::Schedules::group_in))]
 fn group_in<'a>(text: &'a [u8]) -> Result<(u8, u8, Unread<'a>), ScheduleFault>
     ensures group { MatchResult result (λ r. group_in text.now ≡ Ok (r.0, r.1, r.2)) (λ fault. group_in text.now ≡ Err fault) }
+    ensures want { IfErr result (λ fault. fault ≢ ScheduleFault.OutOfMemory) }
 {
     let whole = match Unread::whole(text) {
         Ok(unread) => unread,
@@ -100,6 +103,7 @@ impl<'a> Schedule<'a> {
         ensures taken { IfOk result (λ s. schedule_in text.now
             ≡ Ok (record { nodes = s.nodes; agents = s.agents; sheet = s.sheet; issuer = s.issuer; events = map planned_of s.events.items })) }
         ensures refused { IfErr result (λ fault. fault ≢ ScheduleFault.OutOfMemory → schedule_in text.now ≡ Err fault) }
+        ensures want { IfErr result (λ fault. fault ≡ ScheduleFault.OutOfMemory → IsOk (group_in text.now)) }
         ensures form { IfOk result (λ s. IsRead text.now
             (record { nodes = s.nodes; agents = s.agents; sheet = s.sheet; issuer = s.issuer; events = map planned_of s.events.items })) }
         ensures lines { IfOk result (λ s. All HasWholeLines s.events.items) }

@@ -1,7 +1,7 @@
 -- None is found exactly where the text has none.
-use Rattle.std.proofs.Common.{◌≡◌, Bool, true, false, not, is_some, refl, sym, ap, ◌∙◌}
+use Rattle.std.proofs.Common.{◌≡◌, Bool, true, false, not, is_some, sym, ap, ◌∙◌}
 use Rattle.std.specs.List.{list_any}
-use Rattle.record_view.proofs.FirstPlace.{first_byte}
+use Rattle.byte_text.proofs.FirstPlace.{first_byte}
 use Rattle.record_view.proofs.PartLaws.{found_any}
 use Rattle.batch_view.specs.Inner.Entries.{is_quoted}
 use Rattle.batch_view.proofs.entries.is_unquoted.Goals as goal

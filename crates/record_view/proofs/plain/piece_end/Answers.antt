@@ -1,7 +1,7 @@
 -- A run that ends among the first eight bytes ends at the first that stops it, and else it has passed them.
 use Rattle.std.proofs.Common.{sym, arith}
 use Rattle.record_view.specs.Inner.Plain.{stops_at}
-use Rattle.record_view.proofs.FirstPlace.{position_is}
+use Rattle.byte_text.proofs.FirstPlace.{position_is}
 use Rattle.record_view.proofs.plain.piece_end.Goals as goal
 
 pub returns-then-run-lt-FEW_LANES : goal.returns-then-run-lt-FEW_LANES

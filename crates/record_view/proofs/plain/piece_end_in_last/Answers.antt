@@ -2,7 +2,7 @@
 use Rattle.std.proofs.Common.{◌≤◌, ◌+◌, ◌-◌, ℕ, List, length, take, drop, subst, sym, arith, length-drop}
 use Rattle.std.proofs.lemmas.List.{take_all}
 use Rattle.record_view.specs.Inner.Plain.{stops_at, IsRun}
-use Rattle.record_view.proofs.FirstPlace.{position_is, position_none}
+use Rattle.byte_text.proofs.FirstPlace.{position_is, position_none}
 use Rattle.record_view.proofs.LaneLaws.{both_before, both_here}
 use Rattle.record_view.proofs.plain.piece_end_in_last.Goals as goal
 

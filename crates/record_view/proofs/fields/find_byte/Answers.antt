@@ -1,5 +1,0 @@
-use Rattle.record_view.proofs.FirstPlace.{first_byte}
-use Rattle.record_view.proofs.fields.find_byte.Goals as goal
-
-pub returns : goal.returns
-returns c = first_byte _ c.args.text.now c.memchr.result c.memchr.ensures
