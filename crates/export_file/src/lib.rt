@@ -73,7 +73,7 @@ impl ExportFile for Snapshot {
     ghost taken = { λ s. s };
 
     fn rows(&self, alloc: Global) -> Result<Vec<FocusRow<'_>>, AllocError> {
-        let mut left = rows_of(alloc, self)?;
+        let left = rows_of(alloc, self)?;
         left.rest(alloc)
     }
 

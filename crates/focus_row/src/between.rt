@@ -273,9 +273,9 @@ impl<'a> RowsBetween<'a> {
         Ok(None)
     }
 
-    /// All rows that are still to come.
-    pub fn rest(&mut self, alloc: Global) -> Result<Vec<FocusRow<'a>>, AllocError>
-        ensures { IfOk result (λ all. map model_row all.items ≡ self.old) }
+    /// All rows that are still to come. It takes itself by value, so want of memory leaves none that is half taken.
+    pub fn rest(mut self, alloc: Global) -> Result<Vec<FocusRow<'a>>, AllocError>
+        ensures { IfOk result (λ all. map model_row all.items ≡ self.entry) }
     {
         let mut all = Vec::new(alloc);
         loop {

@@ -69,7 +69,7 @@ pub fn rows_of<'a>(
     if let Some(rule) = first_broken_up_to(store, sheet, to) {
         return Err(RowFault::Broken(rule));
     }
-    let Ok(mut left) = rows_between(alloc, store, sheet, issuer, period, from, to) else {
+    let Ok(left) = rows_between(alloc, store, sheet, issuer, period, from, to) else {
         return Err(RowFault::OutOfMemory);
     };
     match left.rest(alloc) {
