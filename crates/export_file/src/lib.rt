@@ -29,7 +29,7 @@ pub trait ExportFile {
     fn rows(&self, alloc: Global) -> Result<Vec<FocusRow<'_>>, AllocError>
         ensures { IfOk result (λ all. map model_row all.items
             ≡ rows (taken self.now).sheet (taken self.now).issuer (taken self.now).batches (taken self.now).period
-                (taken self.now).from (taken self.now).to) };
+            (taken self.now).from (taken self.now).to) };
 
     /// Writes the file: the header line, and a line for each row, batch by batch. The rows of one batch are in memory
     /// at a time, and their text.
