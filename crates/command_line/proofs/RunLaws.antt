@@ -2,8 +2,8 @@
 use Rattle.std.proofs.Common.{◌≡◌, ◌≢◌, ◌⊎◌, ◌≤◌, ℕ, List, Option, Result, Err, codes, inl, inr, refl, arith}
 use Rattle.std.specs.Io.KnownBytes.{IsAtEnd}
 use Rattle.counted_io.specs.Counts.{count_after, next_count}
-use Rattle.schedule_player.specs.declared.rate.PlayFault.{PlayFault}
-use Rattle.schedule_player.specs.declared.rate.PlayFault.TheVariants as play
+use Rattle.schedule_player.specs.declared.PlayFault.{PlayFault}
+use Rattle.schedule_player.specs.declared.PlayFault.TheVariants as play
 use Rattle.input_sections.specs.declared.faults.ScheduleFault.TheVariants as section
 use Rattle.schedule_player.specs.Faults.{tells_of_reader, tells_of_writer}
 use Rattle.node_threads.specs.declared.runs.RunFault.TheVariants as of_run

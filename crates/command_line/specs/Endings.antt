@@ -7,7 +7,7 @@ use Rattle.input_sections.specs.declared.faults.ScheduleCode.{ScheduleCode}
 use Rattle.input_sections.specs.declared.faults.ScheduleCode.TheVariants as code
 use Rattle.input_sections.specs.declared.faults.ScheduleFault.TheVariants as section
 use Rattle.command_line.specs.declared.words.LineFault.TheVariants as on_line
-use Rattle.schedule_player.specs.declared.rate.PlayFault.TheVariants as play
+use Rattle.schedule_player.specs.declared.PlayFault.TheVariants as play
 use Rattle.node_threads.specs.declared.runs.RunFault.TheVariants as of_run
 use Rattle.threads_player.specs.declared.faults.ThreadsFault.TheVariants as threads
 use Rattle.command_line.specs.declared.endings.Fault.{Fault}

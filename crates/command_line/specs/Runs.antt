@@ -8,8 +8,8 @@ use Rattle.clap.specs.Words.{Text}
 use Rattle.input_sections.specs.declared.faults.ScheduleFault.{ScheduleFault}
 use Rattle.schedule_reader.specs.Schedules.{schedule_in}
 use Rattle.schedule_player.specs.Transcripts.{IsTranscriptOf, IsFrontOfTranscript}
-use Rattle.schedule_player.specs.declared.rate.PlayFault.{PlayFault}
-use Rattle.schedule_player.specs.declared.rate.PlayFault.TheVariants as play
+use Rattle.schedule_player.specs.declared.PlayFault.{PlayFault}
+use Rattle.schedule_player.specs.declared.PlayFault.TheVariants as play
 use Rattle.schedule_player.specs.RateInput.{rated_file}
 use Rattle.schedule_player.specs.Charges.{IsFileOf}
 use Rattle.node_threads.specs.Runs.{Run}

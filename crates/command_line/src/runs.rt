@@ -6,7 +6,7 @@ ghost use Rattle.std.specs.declared.io.ErrorKind.TheVariants.{OutOfMemory as NoM
 ghost use Rattle.std.specs.Io.KnownBytes.{Keeps, IsAtEnd};
 ghost use Rattle.counted_io.specs.Counts.{next_count};
 ghost use Rattle.counted_io.specs.Reading.{ConsumesAtMost};
-ghost use Rattle.schedule_player.specs.declared.rate.PlayFault.TheVariants as play;
+ghost use Rattle.schedule_player.specs.declared.PlayFault.TheVariants as play;
 ghost use Rattle.threads_player.specs.declared.sizes.Size.{Size};
 ghost use Rattle.threads_player.specs.Groups.{IsSize};
 ghost use Rattle.command_line.specs.declared.commands.Command.{Command};

@@ -1,7 +1,5 @@
-pub mod Amounts
-pub mod AloneLaws
-pub mod JournaledLaws
-pub mod ChargesLaws
-pub mod FrontLaws
-pub mod RatedLaws
+pub mod Offered
 pub mod PlayedLaws
+pub mod Results
+pub mod Texts
+pub mod TranscriptLaws

@@ -2,14 +2,15 @@
 use Rattle.std.proofs.Common.{◌≡◌, ◌≢◌, ℕ, ◌<◌, List, [], length, Option, Some, None, Result, Ok, Err, OnOk, IfSome, inl, refl, sym, ap, ◌∙◌}
 use Rattle.std.specs.Io.KnownBytes.{Appends}
 use Rattle.std.proofs.KnownBytes.{Appends-nil}
+use Rattle.counted_io.specs.Writing.{AppendsFront}
 use Rattle.metering_model.specs.FirstFailure.{◌>>=◌, holds_or}
 use Rattle.input_sections.specs.declared.faults.ScheduleCode.TheVariants.{TooLong}
 use Rattle.input_sections.specs.declared.faults.ScheduleFault.{ScheduleFault}
 use Rattle.input_sections.specs.declared.faults.ScheduleFault.TheVariants as faults
 use Rattle.input_sections.specs.Sections.{Unread, whole_of}
 use Rattle.schedule_reader.specs.Schedules.{group_in, schedule_in}
-use Rattle.transcript_writer.specs.Played.{IsTranscriptOf, IsFrontOfTranscript}
-use Rattle.schedule_player.proofs.RatedLaws.{first_fails, is_longer}
+use Rattle.schedule_player.specs.Transcripts.{IsTranscriptOf, IsFrontOfTranscript}
+use Rattle.batch_player.proofs.RatedLaws.{first_fails, is_longer}
 
 too_long : (input : List ℕ) → 16_777_216 < length input → schedule_in input ≡ Err (faults.Refused TooLong 1)
 unfolding schedule_in group_in
@@ -34,17 +35,22 @@ pub told_of_known : (known : Option (List ℕ)) (input : List ℕ) (fault : Sche
 told_of_known None input fault same told = tt
 told_of_known (Some bytes) input fault same told = ap schedule_in (sym same) ∙ told
 
+-- so is the transcript
+transcript_of_known : (known : Option (List ℕ)) (input text : List ℕ) → IfSome known (λ bytes. input ≡ bytes) → IsTranscriptOf (Some input) input text
+    → IsTranscriptOf known input text
+transcript_of_known known input text same is =
+    record { is_input = same; schedule = is.schedule; is_read = is.is_read; form = is.form; is_transcript = is.is_transcript; headline = is.headline }
+
 pub of_known : {T E : Type 0} (r : Result T E) (known old new : Option (List ℕ)) (input : List ℕ) → IfSome known (λ bytes. input ≡ bytes)
     → OnOk r ((text : List ℕ) × IsTranscriptOf (Some input) input text × Appends old new text)
     → OnOk r ((given text : List ℕ) × IsTranscriptOf known given text × Appends old new text)
-of_known (Ok x) known old new input same played =
-    let is = played.1 in (
-      input,
-      played.0,
-      record { is_input = same; schedule = is.schedule; is_read = is.is_read; form = is.form; is_transcript = is.is_transcript; headline = is.headline },
-      played.2,
-    )
+of_known (Ok x) known old new input same played = (input, played.0, transcript_of_known known input played.0 same played.1, played.2)
 of_known (Err e) known old new input same played = tt
+
+pub cut_of_known : (known old new : Option (List ℕ)) (input : List ℕ) → IfSome known (λ bytes. input ≡ bytes)
+    → (text : List ℕ) × IsTranscriptOf (Some input) input text × AppendsFront old new text
+    → (given text : List ℕ) × IsTranscriptOf known given text × AppendsFront old new text
+cut_of_known known old new input same played = (input, played.0, transcript_of_known known input played.0 same played.1, played.2)
 
 pub front_of_known : (known old new : Option (List ℕ)) (input : List ℕ) → IfSome known (λ bytes. input ≡ bytes)
     → (text : List ℕ) × IsFrontOfTranscript (Some input) input text × Appends old new text

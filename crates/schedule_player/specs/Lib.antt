@@ -1,4 +1,5 @@
+pub mod Transcripts
 pub mod RateInput
 pub mod Charges
 pub mod Faults
-pub mod Transcripts
+pub mod Inner

@@ -1,13 +1,13 @@
 //! What the program plays: texts in, texts out, between a source and a sink.
 #![tactic(auto)]
 
-mod files;
-mod input;
+mod events;
+mod lines;
 mod play;
-mod rate;
+mod playing;
+mod words;
 
-pub use files::file_between;
-pub use play::play_text;
-pub use rate::{PlayFault, rate_batch, rate_text};
-pub use schedule_reader::{Planned, Schedule};
+pub use batch_player::{PlayFault, file_between, rate_batch, rate_text};
 pub use input_sections::{ScheduleCode, ScheduleFault};
+pub use play::play_text;
+pub use schedule_reader::{Planned, Schedule};

@@ -1,26 +1,94 @@
 //! `focusd play`: the transcript of a schedule.
 
-ghost use Rattle.std.specs.Prelude.{◌≡◌, ◌≢◌, List, ℕ, Ok, Err, Some, IfOk, IfErr, IfSome, OnOk};
-ghost use Rattle.std.specs.Io.KnownBytes.{Appends, IsAtEnd};
+ghost use Rattle.std.specs.Prelude.{◌≡◌, ◌≢◌, ◌≤◌, ◌⊎◌, List, ℕ, All, Ok, Err, Some, IfOk, IfErr, IfSome, OnOk};
+ghost use Rattle.std.specs.Io.KnownBytes.{Appends, IsAtEnd, Keeps};
 ghost use Rattle.counted_io.specs.Counts.{Rises, count_after};
 ghost use Rattle.counted_io.specs.Reading.{ConsumesAtMost};
+ghost use Rattle.counted_io.specs.Writing.{AppendsFront};
 ghost use Rattle.metering_model.specs.declared.Refusal.{Refusal};
+ghost use Rattle.metering_model.specs.World.{opening};
+ghost use Rattle.metering_model.specs.Transcript.{transcript};
 ghost use Rattle.input_sections.specs.declared.faults.ScheduleFault.{ScheduleFault};
 ghost use Rattle.schedule_reader.specs.Schedules.{schedule_in};
-ghost use Rattle.transcript_writer.specs.Played.{IsFrontOfTranscript, IsTranscriptOf};
-ghost use Rattle.schedule_player.specs.Faults.{tells_of_reader, tells_of_writer};
+ghost use Rattle.schedule_reader.specs.Events.{HasWholeLines};
+ghost use Rattle.batch_player.specs.Faults.{tells_of_reader, tells_of_writer};
+ghost use Rattle.schedule_player.specs.Transcripts.{IsFrontOfTranscript, IsTranscriptOf, replies_to};
+ghost use Rattle.schedule_player.specs.Inner.Playing.{AppendsFirst, read_of};
 
-use crate::input::read_input;
-use crate::rate::PlayFault;
+use crate::playing::play_events;
+use batch_player::{PlayFault, read_input};
 use counted_io::{Sink, Source};
+use group_core::World;
 use input_sections::ScheduleFault;
-use std::alloc::Global;
-use transcript_writer::{TranscriptFault, write_transcript};
+use price_sheet::{Issuer, Sheet};
+use schedule_reader::Schedule;
+use std::alloc::{AllocError, Global};
+use std::sync::Arc;
+
+/// A group before any event, by a sheet and an issuer that all its nodes share.
+fn opening_world(
+    alloc: Global,
+    nodes: u8,
+    agents: u8,
+    sheet: Sheet,
+    issuer: Issuer,
+) -> Result<World, AllocError>
+    requires nodes { (1 ≤ nodes) × (nodes ≤ 99) }
+    requires agents { (1 ≤ agents) × (agents ≤ 64) }
+    ensures { IfOk result (λ world. world ≡ opening nodes agents sheet issuer) }
+{
+    let Ok(sheet) = Arc::new(alloc, sheet) else {
+        return Err(AllocError);
+    };
+    let Ok(issuer) = Arc::new(alloc, issuer) else {
+        return Err(AllocError);
+    };
+    World::new(alloc, nodes, agents, sheet, issuer)
+}
+
+/// Plays a schedule that was read, and writes its transcript.
+fn play_schedule<W: Sink>(
+    alloc: Global,
+    schedule: Schedule<'_>,
+    writer: &mut W,
+) -> Result<(), PlayFault>
+    requires nodes { (1 ≤ schedule.nodes) × (schedule.nodes ≤ 99) }
+    requires agents { (1 ≤ schedule.agents) × (schedule.agents ≤ 64) }
+    requires lines { All HasWholeLines schedule.events.items }
+    ensures played { OnOk result (Appends (W.contents writer.old) (W.contents writer.new) (transcript (replies_to (read_of schedule.entry) (read_of schedule.entry).events))) }
+    ensures front { result ≡ Err PlayFault.Write → AppendsFront (W.contents writer.old) (W.contents writer.new) (transcript (replies_to (read_of schedule.entry) (read_of schedule.entry).events)) }
+    ensures memory { result ≡ Err PlayFault.OutOfMemory → Keeps (W.contents writer.old) (W.contents writer.new) ⊎ AppendsFirst (W.contents writer.old) (W.contents writer.new) (opening schedule.entry.nodes schedule.entry.agents schedule.entry.sheet schedule.entry.issuer) schedule.entry.events.items }
+    ensures fault { result ≡ Err PlayFault.Write → Rises (W.failed_calls writer.old) (W.failed_calls writer.new) }
+    ensures count { W.failed_calls writer.new ≡ count_after (tells_of_writer result) (W.failed_calls writer.old) }
+    ensures others { (result ≢ Err PlayFault.Read) × ((fault : ScheduleFault) → result ≢ Err (PlayFault.Schedule fault))
+        × ((refusal : Refusal) → result ≢ Err (PlayFault.Refused refusal)) }
+{
+    let Schedule {
+        nodes,
+        agents,
+        sheet,
+        issuer,
+        events,
+    } = schedule;
+    let Ok(world) = opening_world(alloc, nodes, agents, sheet, issuer) else {
+        return Err(PlayFault::OutOfMemory);
+    };
+    let Ok(done) = play_events(alloc, world, &events, writer) else {
+        return Err(PlayFault::Write);
+    };
+    if done == events.len() {
+        Ok(())
+    } else {
+        Err(PlayFault::OutOfMemory)
+    }
+}
 
 /// Plays the schedule that an input is, and writes its transcript.
 fn play_input<W: Sink>(alloc: Global, input: &[u8], writer: &mut W) -> Result<(), PlayFault>
     ensures transcript { OnOk result ((text : List ℕ) × IsTranscriptOf (Some input.now) input.now text
         × Appends (W.contents writer.old) (W.contents writer.new) text) }
+    ensures front { result ≡ Err PlayFault.Write → (text : List ℕ) × IsTranscriptOf (Some input.now) input.now text
+        × AppendsFront (W.contents writer.old) (W.contents writer.new) text }
     ensures section { (fault : ScheduleFault) → result ≡ Err (PlayFault.Schedule fault)
         → (fault ≢ ScheduleFault.OutOfMemory) × (schedule_in input.now ≡ Err fault) }
     ensures memory { result ≡ Err PlayFault.OutOfMemory → (text : List ℕ)
@@ -34,19 +102,18 @@ fn play_input<W: Sink>(alloc: Global, input: &[u8], writer: &mut W) -> Result<()
     ensures no_read { result ≢ Err PlayFault.Read }
     ensures no_refusal { (refusal : Refusal) → result ≢ Err (PlayFault.Refused refusal) }
 {
-    match write_transcript(alloc, input, writer) {
-        Ok(()) => Ok(()),
-        Err(TranscriptFault::Schedule(fault)) => Err(PlayFault::Schedule(fault)),
-        Err(TranscriptFault::Write) => Err(PlayFault::Write),
-        Err(TranscriptFault::OutOfMemory) => Err(PlayFault::OutOfMemory),
+    match Schedule::read(alloc, input) {
+        Ok(schedule) => play_schedule(alloc, schedule, writer),
+        Err(fault) => Err(PlayFault::from(fault)),
     }
 }
 
 /// Plays the schedule that a reader gives, and writes its transcript: a line for each event's reply, and behind the line of
 /// an export its file.
 ///
-/// At most 16,777,217 bytes are read, and all of them before the first event. Where memory is refused, the transcript of the
-/// events before was written, or nothing; after any other fault but `Write` nothing was. `Refused` is never answered.
+/// At most 16,777,217 bytes are read, and all of them before the first event. Where memory is refused, the transcript of some
+/// first events was written, or nothing; after `Write` a front of the transcript, and after any other fault nothing. `Refused`
+/// is never answered.
 pub fn play_text<R: Source, W: Sink>(
     alloc: Global,
     reader: &mut R,
@@ -56,6 +123,11 @@ pub fn play_text<R: Source, W: Sink>(
     ensures transcript { OnOk result ((input text : List ℕ)
         × IsTranscriptOf (R.remaining reader.old) input text
         × Appends (W.contents writer.old) (W.contents writer.new) text) }
+
+    // After `Write` a front of it was, and never all of it.
+    ensures front { result ≡ Err PlayFault.Write → (input text : List ℕ)
+        × IsTranscriptOf (R.remaining reader.old) input text
+        × AppendsFront (W.contents writer.old) (W.contents writer.new) text }
     ensures section { (fault : ScheduleFault) → result ≡ Err (PlayFault.Schedule fault)
         → IfSome (R.remaining reader.old) (λ input. schedule_in input ≡ Err fault) }
     ensures memory { result ≡ Err PlayFault.OutOfMemory → (input text : List ℕ)

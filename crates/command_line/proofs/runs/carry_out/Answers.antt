@@ -3,8 +3,8 @@ use Rattle.std.specs.Io.KnownBytes.{Keeps}
 use Rattle.metering_model.specs.declared.Refusal.{Refusal}
 use Rattle.input_sections.specs.declared.faults.ScheduleFault.{ScheduleFault}
 use Rattle.schedule_reader.specs.Schedules.{schedule_in}
-use Rattle.schedule_player.specs.declared.rate.PlayFault.{PlayFault}
-use Rattle.schedule_player.specs.declared.rate.PlayFault.TheVariants as play
+use Rattle.schedule_player.specs.declared.PlayFault.{PlayFault}
+use Rattle.schedule_player.specs.declared.PlayFault.TheVariants as play
 use Rattle.schedule_player.specs.RateInput.{rated_file}
 use Rattle.threads_player.specs.declared.faults.ThreadsFault.{ThreadsFault}
 use Rattle.threads_player.specs.declared.sizes.Size.{Size}

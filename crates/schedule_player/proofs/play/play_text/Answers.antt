@@ -1,12 +1,17 @@
 use Rattle.std.proofs.Common.{refl, rules, sym}
 use Rattle.input_sections.specs.declared.faults.ScheduleFault.TheVariants.{OutOfMemory}
-use Rattle.schedule_player.proofs.PlayedLaws.{longer_schedule, plain_fault, told_of_known, of_known, front_of_known, nothing_of}
+use Rattle.schedule_player.proofs.PlayedLaws.{longer_schedule, plain_fault, told_of_known, of_known, cut_of_known, front_of_known, nothing_of}
 use Rattle.schedule_player.proofs.play.play_text.Goals as goal
 
 pub returns-clause-transcript : goal.returns-clause-transcript
 returns-clause-transcript g c =
     of_known c.play_input.result (g.R.Source.remaining c.args.reader.now) _ _ c.in_ok-input.input.items c.in_ok-input.ensures.whole
     (rw c.deref.ensures.value at c.play_input.ensures.transcript)
+
+pub returns-clause-front : goal.returns-clause-front
+returns-clause-front g c = λ is.
+    cut_of_known (g.R.Source.remaining c.args.reader.now) _ _ c.in_ok-input.input.items c.in_ok-input.ensures.whole
+    (rw c.deref.ensures.value at (c.play_input.ensures.front is))
 
 pub returns-clause-section : goal.returns-clause-section
 returns-clause-section g c = λ fault is.

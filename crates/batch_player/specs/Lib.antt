@@ -1,0 +1,4 @@
+pub mod RateInput
+pub mod Charges
+pub mod Faults
+pub mod Inner

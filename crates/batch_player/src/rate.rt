@@ -1,0 +1,274 @@
+//! `focusd rate`: the file of one batch.
+
+ghost use Rattle.std.specs.Prelude.{◌≡◌, ◌≢◌, ◌≤◌, List, ℕ, [], Ok, Err, Some, None, IfOk, IfErr, IfSome, OnOk, drop, vec_len};
+ghost use Rattle.std.specs.Arc.{arc_value};
+ghost use Rattle.std.specs.Io.KnownBytes.{Appends, Keeps, IsAtEnd};
+ghost use Rattle.counted_io.specs.Counts.{Rises, count_after};
+ghost use Rattle.counted_io.specs.Reading.{ConsumesAtMost};
+ghost use Rattle.counted_io.specs.Writing.{AppendsFront};
+ghost use Rattle.metering_model.specs.Cut.{zero_cut};
+ghost use Rattle.metering_model.specs.Front.{front};
+ghost use Rattle.metering_model.specs.Holding.{placed, put};
+ghost use Rattle.metering_model.specs.JournalRules.{MeetsJournalRules, first_broken};
+ghost use Rattle.metering_model.specs.Sheet as model;
+ghost use Rattle.metering_model.specs.Rows.{rows};
+ghost use Rattle.metering_model.specs.File.{file};
+ghost use Rattle.metering_model.specs.declared.Refusal.{Refusal};
+ghost use Rattle.batch_view.specs.Batches.{batch_of};
+ghost use Rattle.input_sections.specs.declared.faults.ScheduleFault.{ScheduleFault};
+ghost use Rattle.batch_player.specs.RateInput.{file_by, journaled_in, rated_file};
+ghost use Rattle.batch_player.specs.Charges.{IsFileOf};
+ghost use Rattle.batch_player.specs.Faults.{tells_of_reader, tells_of_writer};
+
+use crate::PlayFault;
+use crate::files::file_between;
+use crate::input::read_input;
+use batch_store::Store;
+use batch_view::{BatchView, Offer, OwnedBatch};
+use counted_io::{Sink, Source, write_all};
+use focus_row::Issuer;
+use input_sections::{ScheduleFault, rate_input};
+use journal_rules::first_broken_alone;
+use metering_model::{BrokenRule, Refusal};
+use period_cut::{Cut, Period};
+use price_sheet::Sheet;
+use std::alloc::{AllocError, Global};
+use std::sync::Arc;
+
+/// The agents of a group.
+const AGENTS: u8 = 64;
+
+/// Reads a text that may begin with the sections of a sheet and of an issuer and ends with a batch, and writes the
+/// batch's file in a billing period, from the zero cut to its front.
+///
+/// Without their sections the base month is 2025-01, there is no price, and the issuer is the sample. At most 16,777,217
+/// bytes are read. After any fault but `Write` nothing was written, and after that a front of the file.
+pub fn rate_text<R: Source, W: Sink>(
+    alloc: Global,
+    period: Period,
+    reader: &mut R,
+    writer: &mut W,
+) -> Result<(), PlayFault>
+    // With Ok just the file of the input was written.
+    ensures file { OnOk result ((input text : List ℕ)
+        × IsFileOf (R.remaining reader.old) period input text
+        × Appends (W.contents writer.old) (W.contents writer.new) text) }
+
+    // After `Write` a front of it was, and never all of it.
+    ensures front { result ≡ Err PlayFault.Write → (input text : List ℕ)
+        × IsFileOf (R.remaining reader.old) period input text
+        × AppendsFront (W.contents writer.old) (W.contents writer.new) text }
+    ensures refused { (refusal : Refusal) → result ≡ Err (PlayFault.Refused refusal)
+        → IfSome (R.remaining reader.old) (λ input. rated_file period input ≡ Err (PlayFault.Refused refusal)) }
+    ensures section { (fault : ScheduleFault) → result ≡ Err (PlayFault.Schedule fault)
+        → IfSome (R.remaining reader.old) (λ input. rated_file period input ≡ Err (PlayFault.Schedule fault)) }
+    ensures plain_memory { result ≢ Err (PlayFault.Schedule ScheduleFault.OutOfMemory) }
+    ensures read_fault { result ≡ Err PlayFault.Read
+        → Rises (R.failed_calls reader.old) (R.failed_calls reader.new) }
+    ensures write_fault { result ≡ Err PlayFault.Write
+        → Rises (W.failed_calls writer.old) (W.failed_calls writer.new) }
+    ensures kept { IfErr result (λ fault. fault ≢ PlayFault.Write
+        → Keeps (W.contents writer.old) (W.contents writer.new)
+        × (W.failed_calls writer.new ≡ W.failed_calls writer.old)) }
+    ensures untouched { IfErr result (λ fault. fault ≢ PlayFault.Write → writer.new ≡ writer.old) }
+    ensures read { ConsumesAtMost 16_777_217 (R.remaining reader.old) (R.remaining reader.new) }
+
+    // With Ok nothing is left to read.
+    ensures end { OnOk result (IsAtEnd (R.remaining reader.new)) }
+
+    // `Read` and `Write` come of one failed call each, and no other call fails.
+    ensures reads { R.failed_calls reader.new
+        ≡ count_after (tells_of_reader result) (R.failed_calls reader.old) }
+    ensures writes { W.failed_calls writer.new
+        ≡ count_after (tells_of_writer result) (W.failed_calls writer.old) }
+{
+    let input = read_input(alloc, reader)?;
+    rate_input_text(alloc, period, input, writer)
+}
+
+/// Takes the bytes before a place away. No room is asked for.
+fn drop_front(bytes: &mut Vec<u8>, from: usize)
+    requires { from ≤ vec_len bytes.old }
+    ensures { bytes.new.items ≡ drop from bytes.old.items }
+{
+    bytes.drain(..from);
+}
+
+/// Writes the file of an input that was read.
+fn rate_input_text<W: Sink>(
+    alloc: Global,
+    period: Period,
+    input: Vec<u8>,
+    writer: &mut W,
+) -> Result<(), PlayFault>
+    ensures file { OnOk result ((text : List ℕ) × IsFileOf (Some input.items) period input.items text
+        × Appends (W.contents writer.old) (W.contents writer.new) text) }
+    ensures front { result ≡ Err PlayFault.Write → (text : List ℕ) × IsFileOf (Some input.items) period input.items text
+        × AppendsFront (W.contents writer.old) (W.contents writer.new) text }
+    ensures refused { (refusal : Refusal) → result ≡ Err (PlayFault.Refused refusal)
+        → rated_file period input.items ≡ Err (PlayFault.Refused refusal) }
+    ensures section { (fault : ScheduleFault) → result ≡ Err (PlayFault.Schedule fault)
+        → (fault ≢ ScheduleFault.OutOfMemory) × (rated_file period input.items ≡ Err (PlayFault.Schedule fault)) }
+    ensures write_fault { result ≡ Err PlayFault.Write
+        → Rises (W.failed_calls writer.old) (W.failed_calls writer.new) }
+    ensures kept { IfErr result (λ fault. fault ≢ PlayFault.Write → writer.new ≡ writer.old) }
+    ensures writes { W.failed_calls writer.new
+        ≡ count_after (tells_of_writer result) (W.failed_calls writer.old) }
+    ensures no_read { result ≢ Err PlayFault.Read }
+{
+    let given = match rate_input(alloc, &input) {
+        Ok(given) => given,
+        Err(fault) => return Err(PlayFault::from(fault)),
+    };
+    let mut batch = input;
+    drop_front(&mut batch, given.batch_from);
+    rate_batch(alloc, period, &given.sheet, &given.issuer, batch, writer)
+}
+
+/// Writes the file of one batch in a billing period, from the zero cut to its front, by a sheet and an issuer. The text of
+/// the batch is the whole input.
+///
+/// It is refused as by a group of 64 agents in which nothing has happened. Want of memory hides no refusal: it is told of a
+/// batch alone that such a group journals. After any fault but `Write` nothing was written, and after that a front of the
+/// file. Neither `Read` nor `Schedule` is ever answered.
+pub fn rate_batch<W: Sink>(
+    alloc: Global,
+    period: Period,
+    sheet: &Sheet,
+    issuer: &Issuer,
+    input: Vec<u8>,
+    writer: &mut W,
+) -> Result<(), PlayFault>
+    ensures file { OnOk result ((text : List ℕ) × (file_by sheet.now issuer.now period input.items ≡ Ok text)
+        × Appends (W.contents writer.old) (W.contents writer.new) text) }
+    ensures front { result ≡ Err PlayFault.Write → (text : List ℕ) × (file_by sheet.now issuer.now period input.items ≡ Ok text)
+        × AppendsFront (W.contents writer.old) (W.contents writer.new) text }
+    ensures refused { (refusal : Refusal) → result ≡ Err (PlayFault.Refused refusal)
+        → file_by sheet.now issuer.now period input.items ≡ Err refusal }
+    ensures memory { result ≡ Err PlayFault.OutOfMemory
+        → journaled_in sheet.now issuer.now input.items ≡ Ok (batch_of input.items) }
+    ensures write_fault { result ≡ Err PlayFault.Write
+        → Rises (W.failed_calls writer.old) (W.failed_calls writer.new) }
+    ensures kept { IfErr result (λ fault. fault ≢ PlayFault.Write → writer.new ≡ writer.old) }
+
+    // `Write` comes of one failed call, and no other call fails.
+    ensures writes { W.failed_calls writer.new
+        ≡ count_after (tells_of_writer result) (W.failed_calls writer.old) }
+    ensures no_read { result ≢ Err PlayFault.Read }
+    ensures no_section { (fault : ScheduleFault) → result ≢ Err (PlayFault.Schedule fault) }
+{
+    let batch = match Offer::read_or_back(alloc, input) {
+        Ok(Offer::Good(batch)) => batch,
+        Ok(Offer::Bad(fault)) => return Err(PlayFault::Refused(Refusal::BadBatch(fault))),
+        Err(unkept) => return Err(fault_of_unkept(sheet, &unkept.value)),
+    };
+    let text = match file_of_batch(alloc, period, sheet, issuer, batch) {
+        Ok(text) => text,
+        Err(fault) => return Err(fault),
+    };
+    match write_all(writer, &text) {
+        Ok(()) => Ok(()),
+        Err(_) => Err(PlayFault::Write),
+    }
+}
+
+/// What is answered to a text for which there is no memory: why it is refused, if it is. None is taken to find out.
+fn fault_of_unkept(sheet: &Sheet, text: &[u8]) -> PlayFault
+    ensures refused { (refusal : Refusal) → result ≡ PlayFault.Refused refusal → (issuer : model.Issuer)
+        → journaled_in sheet.now issuer text.now ≡ Err refusal }
+    ensures memory { result ≡ PlayFault.OutOfMemory → (issuer : model.Issuer)
+        → journaled_in sheet.now issuer text.now ≡ Ok (batch_of text.now) }
+    ensures others { (result ≢ PlayFault.Read) × (result ≢ PlayFault.Write)
+        × ((fault : ScheduleFault) → result ≢ PlayFault.Schedule fault) }
+{
+    let view = match BatchView::parse(text) {
+        Ok(view) => view,
+        Err(fault) => return PlayFault::Refused(Refusal::BadBatch(fault)),
+    };
+    match refusal_of(sheet, &view) {
+        Some(refusal) => PlayFault::Refused(refusal),
+        None => PlayFault::OutOfMemory,
+    }
+}
+
+/// The file of a batch, or why it is refused. That is asked before any memory is.
+fn file_of_batch(
+    alloc: Global,
+    period: Period,
+    sheet: &Sheet,
+    issuer: &Issuer,
+    batch: Arc<OwnedBatch>,
+) -> Result<Vec<u8>, PlayFault>
+    ensures file { IfOk result (λ text. file_by sheet.now issuer.now period (arc_value batch) ≡ Ok text.items) }
+    ensures refused { (refusal : Refusal) → result ≡ Err (PlayFault.Refused refusal)
+        → file_by sheet.now issuer.now period (arc_value batch) ≡ Err refusal }
+    ensures memory { result ≡ Err PlayFault.OutOfMemory
+        → journaled_in sheet.now issuer.now (arc_value batch) ≡ Ok (batch_of (arc_value batch)) }
+    ensures others { (result ≢ Err PlayFault.Read) × (result ≢ Err PlayFault.Write)
+        × ((fault : ScheduleFault) → result ≢ Err (PlayFault.Schedule fault)) }
+{
+    if let Some(refusal) = refusal_of(sheet, &batch.view()) {
+        return Err(PlayFault::Refused(refusal));
+    }
+    match file_of_journaled(alloc, period, sheet, issuer, batch) {
+        Ok(text) => Ok(text),
+        Err(_) => Err(PlayFault::OutOfMemory),
+    }
+}
+
+/// Why a group of 64 agents in which nothing has happened does not journal the batch. No memory is taken.
+fn refusal_of(sheet: &Sheet, view: &BatchView<'_>) -> Option<Refusal>
+    ensures taken { result ≡ None → ((batch_of view.now).seq ≡ 1)
+        × (first_broken sheet.now (put [] (batch_of view.now)) (placed (batch_of view.now)) ≡ None) }
+    ensures journaled { result ≡ None → (issuer : model.Issuer)
+        → journaled_in sheet.now issuer view.now ≡ Ok (batch_of view.now) }
+    ensures refused { (refusal : Refusal) → result ≡ Some refusal → (issuer : model.Issuer)
+        → journaled_in sheet.now issuer view.now ≡ Err refusal }
+{
+    let _bytes = view.bytes();
+    if view.seq() != 1 {
+        return Some(Refusal::WrongSeq { wanted: 1 });
+    }
+    match first_broken_alone(sheet, view) {
+        Some(BrokenRule::BadTarget) => Some(Refusal::BadTarget),
+        Some(BrokenRule::Unpriced) => Some(Refusal::Unpriced),
+        None => None,
+    }
+}
+
+/// The file of a batch that such a group journals.
+fn file_of_journaled(
+    alloc: Global,
+    period: Period,
+    sheet: &Sheet,
+    issuer: &Issuer,
+    batch: Arc<OwnedBatch>,
+) -> Result<Vec<u8>, AllocError>
+    requires first { (batch_of (arc_value batch)).seq ≡ 1 }
+    requires fit { first_broken sheet.now (put [] (batch_of (arc_value batch))) (placed (batch_of (arc_value batch))) ≡ None }
+    ensures { IfOk result (λ text. file_by sheet.now issuer.now period (arc_value batch) ≡ Ok text.items) }
+{
+    let _bytes = batch.bytes();
+    let mut store = Store::new(alloc, AGENTS)?;
+    store.put(batch)?;
+    let text = file_to_front(alloc, &store, sheet, issuer, period)?;
+    Ok(text)
+}
+
+/// The file of all that a store has, from the zero cut to its front.
+fn file_to_front(
+    alloc: Global,
+    store: &Store,
+    sheet: &Sheet,
+    issuer: &Issuer,
+    period: Period,
+) -> Result<Vec<u8>, AllocError>
+    requires agents { store.now.agents ≡ 64 }
+    requires met { MeetsJournalRules sheet.now store.now.batches }
+    ensures { IfOk result (λ text. text.items ≡ file (rows sheet.now issuer.now store.now.batches period
+        (zero_cut 64) (front sheet.now.base store.now.batches (zero_cut 64) period))) }
+{
+    let from = Cut::zero(alloc, AGENTS)?;
+    let to = store.due_front(alloc, &from, period, sheet.base_month())?;
+    file_between(alloc, store, sheet, issuer, period, &from, &to)
+}

@@ -1,0 +1,77 @@
+-- What was written of a schedule, as what was written of the input that it was read from.
+use Rattle.std.proofs.Common.{◌≡◌, ℕ, ◌<◌, ◌≤◌, ◌⊎◌, List, [], length, map, take, Option, Some, None, Result, Ok, Err, OnOk, inl, inr, refl, sym, subst, ◌∙◌, arith, ⊎_elim}
+use Rattle.std.specs.Io.KnownBytes.{Appends, Keeps}
+use Rattle.std.proofs.lemmas.List.{append-nil, length-map, take-map}
+use Rattle.counted_io.specs.Writing.{AppendsFront}
+use Rattle.metering_model.specs.SheetRules.{IsSheet, IsIssuer}
+use Rattle.metering_model.specs.Schedule as model
+use Rattle.metering_model.specs.World.{opening}
+use Rattle.metering_model.specs.Transcript.{transcript}
+use Rattle.schedule_reader.specs.declared.schedules.Schedule.{Schedule}
+use Rattle.schedule_reader.specs.Events.{planned_of}
+use Rattle.schedule_reader.specs.Schedules.{schedule_in}
+use Rattle.schedule_reader.specs.Forms.{IsRead}
+use Rattle.transcript_laws.proofs.EveryTranscript.{holds_of_bytes}
+use Rattle.schedule_player.specs.Transcripts.{IsTranscriptOf, IsTranscriptOfFirst, IsFrontOfTranscript, replies_to}
+use Rattle.schedule_player.specs.Inner.Playing.{AppendsFirst, events_of, read_of, text_of}
+
+kept_appends : (old new : Option (List ℕ)) → Keeps old new → Appends old new []
+kept_appends None new kept = tt
+kept_appends (Some xs) None kept = absurd kept
+kept_appends (Some xs) (Some ys) kept = kept ∙ sym (append-nil xs)
+
+module _ (input : List ℕ) (s : Schedule) (taken : schedule_in input ≡ Ok (read_of s)) (form : IsRead input (read_of s)) (rules : IsSheet s.sheet × IsIssuer s.issuer) where
+  whole : IsTranscriptOf (Some input) input (transcript (replies_to (read_of s) (read_of s).events))
+  whole = record {
+    is_input = refl;
+    schedule = read_of s;
+    is_read = taken;
+    form = form;
+    is_transcript = refl;
+    headline = holds_of_bytes s.nodes s.agents s.sheet s.issuer (events_of s.events.items) rules.0 rules.1;
+  }
+
+  pub played_input : {T E : Type 0} (r : Result T E) (old new : Option (List ℕ)) → OnOk r (Appends old new (transcript (replies_to (read_of s) (read_of s).events)))
+      → OnOk r ((text : List ℕ) × IsTranscriptOf (Some input) input text × Appends old new text)
+  played_input (Ok x) old new written = (transcript (replies_to (read_of s) (read_of s).events), whole, written)
+  played_input (Err e) old new written = tt
+
+  pub front_of_whole : (old new : Option (List ℕ)) → AppendsFront old new (transcript (replies_to (read_of s) (read_of s).events))
+      → (text : List ℕ) × IsTranscriptOf (Some input) input text × AppendsFront old new text
+  front_of_whole old new front = (transcript (replies_to (read_of s) (read_of s).events), whole, front)
+
+  first_of : (done : ℕ) → done < length s.events.items → IsTranscriptOfFirst (read_of s) done (text_of (opening s.nodes s.agents s.sheet s.issuer) (events_of (take done s.events.items)))
+  first_of done within =
+      let same : take done (map planned_of s.events.items) ≡ map planned_of (take done s.events.items) = take-map planned_of done s.events.items in
+      let P = λ (events : List model.Planned). IsTranscriptOfFirst (read_of s) done (transcript (replies_to (read_of s) events)) in
+      subst P same (record {
+        within = omega (arith, within, length-map s.events.items planned_of);
+        is_transcript = refl;
+        headline = holds_of_bytes s.nodes s.agents s.sheet s.issuer (map model.event_of (take done (map planned_of s.events.items))) rules.0 rules.1;
+      })
+
+  pub front_of_input : (old new : Option (List ℕ))
+      → Keeps old new ⊎ AppendsFirst old new (opening s.nodes s.agents s.sheet s.issuer) s.events.items
+      → (text : List ℕ) × IsFrontOfTranscript (Some input) input text × Appends old new text
+  front_of_input old new =
+      ⊎_elim
+      (λ kept. ([], record { is_input = refl; is_front = inl refl }, kept_appends old new kept))
+      (λ first. (
+        text_of (opening s.nodes s.agents s.sheet s.issuer) (events_of (take first.0 s.events.items)),
+        record {
+          is_input = refl;
+          is_front = inr (record { schedule = read_of s; is_read = taken; form = form; done = first.0; is_first = first_of first.0 first.1 });
+        },
+        first.2,
+      ))
+
+-- nothing of an input was played
+pub none_of_input : (input : List ℕ) (old new : Option (List ℕ)) → Keeps old new → (text : List ℕ) × IsFrontOfTranscript (Some input) input text × Appends old new text
+none_of_input input old new kept = ([], record { is_input = refl; is_front = inl refl }, kept_appends old new kept)
+
+-- the numbers of nodes and agents of a schedule that was read
+pub nodes_within : (input : List ℕ) (s : Schedule) → IsRead input (read_of s) → (1 ≤ s.nodes) × (s.nodes ≤ 99)
+nodes_within input s is = (omega (arith, is.1.nodes, is.1.form.nodes.0), omega (arith, is.1.nodes, is.1.form.nodes.1))
+
+pub agents_within : (input : List ℕ) (s : Schedule) → IsRead input (read_of s) → (1 ≤ s.agents) × (s.agents ≤ 64)
+agents_within input s is = (omega (arith, is.1.agents, is.1.form.agents.0), omega (arith, is.1.agents, is.1.form.agents.1))

@@ -1,0 +1,26 @@
+use Rattle.std.proofs.Common.{sym, ap, ◌∙◌, rules}
+use Rattle.std.proofs.KnownBytes.{Keeps-refl}
+use Rattle.batch_player.proofs.RatedLaws.{told_plain}
+use Rattle.schedule_player.proofs.TranscriptLaws.{agents_within, front_of_input, front_of_whole, nodes_within, none_of_input, played_input}
+use Rattle.schedule_player.proofs.play.play_input.Goals as goal
+
+pub play_schedule-requires-clause-nodes : goal.play_schedule-requires-clause-nodes
+play_schedule-requires-clause-nodes g c = nodes_within c.args.input.now c.in-Ok.schedule c.in-Ok.ensures.form
+
+pub play_schedule-requires-clause-agents : goal.play_schedule-requires-clause-agents
+play_schedule-requires-clause-agents g c = agents_within c.args.input.now c.in-Ok.schedule c.in-Ok.ensures.form
+
+pub returns-in-Ok-clause-transcript : goal.returns-in-Ok-clause-transcript
+returns-in-Ok-clause-transcript g c =
+    played_input c.args.input.now c.in-Ok.schedule c.in-Ok.ensures.taken c.in-Ok.ensures.form c.in-Ok.ensures.rules c.play_schedule.result _ _ c.play_schedule.ensures.played
+
+pub returns-in-Ok-clause-front : goal.returns-in-Ok-clause-front
+returns-in-Ok-clause-front g c = λ is.
+    front_of_whole c.args.input.now c.in-Ok.schedule c.in-Ok.ensures.taken c.in-Ok.ensures.form c.in-Ok.ensures.rules _ _ (c.play_schedule.ensures.front is)
+
+pub returns-in-Ok-clause-memory : goal.returns-in-Ok-clause-memory
+returns-in-Ok-clause-memory g c = λ is.
+    front_of_input c.args.input.now c.in-Ok.schedule c.in-Ok.ensures.taken c.in-Ok.ensures.form c.in-Ok.ensures.rules _ _ (c.play_schedule.ensures.memory is)
+
+pub returns-in-Err-clause-memory : goal.returns-in-Err-clause-memory
+returns-in-Err-clause-memory g c = λ is. none_of_input c.args.input.now _ _ (Keeps-refl (g.W.Sink.contents c.args.writer.now))

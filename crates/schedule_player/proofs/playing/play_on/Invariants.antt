@@ -1,0 +1,10 @@
+use Rattle.std.proofs.Common.{◌≡◌}
+use Rattle.schedule_player.specs.Inner.Playing.{IsTold, world_after}
+use Rattle.schedule_player.proofs.playing.play_on.Given as goal
+
+-- Of the transcript of the events so far some was written, and the rest waits; the world is that after them, and no call failed.
+abbrev pub invariant-loop-done : goal.invariant-loop-done
+invariant-loop-done g l =
+    IsTold (g.W.Sink.contents l.fn.writer) (g.W.Sink.contents l.writer) l.lines l.fn.world l.events l.done
+    × (l.world ≡ world_after l.fn.world l.events l.done)
+    × (g.W.Sink.failed_calls l.writer ≡ g.W.Sink.failed_calls l.fn.writer)

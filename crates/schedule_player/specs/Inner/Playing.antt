@@ -1,0 +1,38 @@
+-- What a schedule stands for, and what stands when playing stops.
+use Rattle.std.specs.Prelude.{◌≡◌, ℕ, ◌+◌, ◌<◌, ◌⊎◌, List, ◌++◌, Option, length, map, take}
+use Rattle.std.specs.Io.KnownBytes.{Appends}
+use Rattle.metering_model.specs.World.{World, Event}
+use Rattle.metering_model.specs.Step.{play}
+use Rattle.metering_model.specs.Schedule as model
+use Rattle.metering_model.specs.Transcript.{transcript}
+use Rattle.schedule_reader.specs.declared.events.Planned.{Planned}
+use Rattle.schedule_reader.specs.declared.schedules.Schedule.{Schedule}
+use Rattle.schedule_reader.specs.Events.{planned_of}
+use Rattle.schedule_reader.specs.Schedules.{ReadSchedule}
+
+abbrev pub read_of : Schedule → ReadSchedule
+read_of s = record { nodes = s.nodes; agents = s.agents; sheet = s.sheet; issuer = s.issuer; events = map planned_of s.events.items }
+
+-- what happens to the group, by the model
+abbrev pub events_of : List Planned → List Event
+events_of events = map model.event_of (map planned_of events)
+
+-- the transcript of these events from this world on
+abbrev pub text_of : World → List Event → List ℕ
+text_of w events = transcript (play w events).0
+
+-- the world after the first of these events, so many
+abbrev pub world_after : World → List Planned → ℕ → World
+world_after w events done = (play w (events_of (take done events))).1
+
+-- The world is that after so many events. Where the reply to the next one found no room, it may be that after this one too.
+abbrev pub IsWorldAfter : World → List Planned → ℕ → World → Type 0
+IsWorldAfter w events done v = (v ≡ world_after w events done) ⊎ ((done < length events) × (v ≡ world_after w events (done + 1)))
+
+-- Of the transcript of so many events known contents grew by a front, and all the rest of it waits.
+abbrev pub IsTold : Option (List ℕ) → Option (List ℕ) → List ℕ → World → List Planned → ℕ → Type 0
+IsTold old new waits w events done = (written : List ℕ) × Appends old new written × (written ++ waits ≡ text_of w (events_of (take done events)))
+
+-- Known contents grew by the transcript of the first of these events, and not of all.
+abbrev pub AppendsFirst : Option (List ℕ) → Option (List ℕ) → World → List Planned → Type 0
+AppendsFirst old new w events = (done : ℕ) × (done < length events) × Appends old new (text_of w (events_of (take done events)))

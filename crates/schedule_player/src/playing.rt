@@ -1,0 +1,101 @@
+//! The events of a schedule, one after the other, and the lines of their replies.
+
+ghost use Rattle.std.specs.Prelude.{◌≡◌, ◌≤◌, ◌⊎◌, ◌++◌, [], ℕ, List, All, length, take, is_err, IfOk, OnOk, OnErr};
+ghost use Rattle.std.specs.Io.KnownBytes.{Appends};
+ghost use Rattle.counted_io.specs.Counts.{Rises, count_after};
+ghost use Rattle.counted_io.specs.Writing.{AppendsFront};
+ghost use Rattle.metering_model.specs.Schedule.{event_of};
+ghost use Rattle.metering_model.specs.Step.{step};
+ghost use Rattle.metering_model.specs.Transcript.{reply_text};
+ghost use Rattle.schedule_reader.specs.Events.{HasWholeLines, planned_of};
+ghost use Rattle.schedule_player.specs.Inner.Playing.{IsTold, IsWorldAfter, events_of, text_of};
+
+use crate::events::event_of;
+use crate::lines::ReplyLines;
+use counted_io::{Failed, Sink};
+use group_core::World;
+use schedule_reader::Planned;
+use std::alloc::{AllocError, Global};
+
+/// Does one event, and puts the text of its reply behind what waits. Where memory is refused, nothing of it waits.
+fn play_event(
+    alloc: Global,
+    world: &mut World,
+    planned: &Planned<'_>,
+    lines: &mut ReplyLines,
+) -> Result<(), AllocError>
+    requires { HasWholeLines planned.now }
+    ensures text { OnOk result (lines.new ≡ lines.old ++ reply_text (step world.old (event_of (planned_of planned.now))).0) }
+    ensures world { OnOk result (world.new ≡ (step world.old (event_of (planned_of planned.now))).1) }
+    ensures kept { OnErr result (lines.new ≡ lines.old) }
+
+    // The event is done or not.
+    ensures left { OnErr result ((world.new ≡ world.old) ⊎ (world.new ≡ (step world.old (event_of (planned_of planned.now))).1)) }
+{
+    let event = event_of(alloc, planned)?;
+    let reply = world.step(alloc, &event)?;
+    lines.add(alloc, &reply)
+}
+
+/// Writes what waits, if it is much.
+fn write_many<W: Sink>(lines: &mut ReplyLines, writer: &mut W) -> Result<(), Failed>
+    ensures written { OnOk result ((written : List ℕ) × (written ++ lines.new ≡ lines.old) × Appends (W.contents writer.old) (W.contents writer.new) written) }
+    ensures front { OnErr result (AppendsFront (W.contents writer.old) (W.contents writer.new) lines.old) }
+    ensures fault { OnErr result (Rises (W.failed_calls writer.old) (W.failed_calls writer.new)) }
+    ensures count { W.failed_calls writer.new ≡ count_after (is_err result) (W.failed_calls writer.old) }
+{
+    if lines.are_many() {
+        lines.write(writer)
+    } else {
+        Ok(())
+    }
+}
+
+/// Does the events in turn, as long as memory is found, and answers how many were done. What a transcript says of their replies
+/// was written, or waits.
+fn play_on<W: Sink>(
+    alloc: Global,
+    world: &mut World,
+    events: &[Planned<'_>],
+    lines: &mut ReplyLines,
+    writer: &mut W,
+) -> Result<usize, Failed>
+    requires whole { All HasWholeLines events.now }
+    requires none_wait { lines.old ≡ [] }
+    ensures within { IfOk result (λ done. done ≤ length events.now) }
+    ensures world { IfOk result (λ done. IsWorldAfter world.old events.now done world.new) }
+    ensures told { IfOk result (λ done. IsTold (W.contents writer.old) (W.contents writer.new) lines.new world.old events.now done) }
+    ensures front { OnErr result (AppendsFront (W.contents writer.old) (W.contents writer.new) (text_of world.old (events_of events.now))) }
+    ensures fault { OnErr result (Rises (W.failed_calls writer.old) (W.failed_calls writer.new)) }
+    ensures count { W.failed_calls writer.new ≡ count_after (is_err result) (W.failed_calls writer.old) }
+{
+    for (done, planned) in events.iter().enumerate() {
+        let Ok(()) = play_event(alloc, world, planned, lines) else {
+            return Ok(done);
+        };
+        write_many(lines, writer)?;
+    }
+    Ok(events.len())
+}
+
+/// Does the events in turn, as long as memory is found, and writes just what a transcript says of the replies of those that were
+/// done. It answers how many these are.
+pub(crate) fn play_events<W: Sink>(
+    alloc: Global,
+    world: World,
+    events: &[Planned<'_>],
+    writer: &mut W,
+) -> Result<usize, Failed>
+    requires { All HasWholeLines events.now }
+    ensures within { IfOk result (λ done. done ≤ length events.now) }
+    ensures played { IfOk result (λ done. Appends (W.contents writer.old) (W.contents writer.new) (text_of world (events_of (take done events.now)))) }
+    ensures front { OnErr result (AppendsFront (W.contents writer.old) (W.contents writer.new) (text_of world (events_of events.now))) }
+    ensures fault { OnErr result (Rises (W.failed_calls writer.old) (W.failed_calls writer.new)) }
+    ensures count { W.failed_calls writer.new ≡ count_after (is_err result) (W.failed_calls writer.old) }
+{
+    let mut world = world;
+    let mut lines = ReplyLines::new(alloc);
+    let done = play_on(alloc, &mut world, events, &mut lines, writer)?;
+    lines.write(writer)?;
+    Ok(done)
+}

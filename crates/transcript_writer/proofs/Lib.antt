@@ -1,3 +1,0 @@
-pub mod Offered
-pub mod PlayedLaws
-pub mod Texts

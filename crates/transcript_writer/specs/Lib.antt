@@ -1,3 +1,0 @@
-pub mod Played
-pub mod Faults
-pub mod Inner
