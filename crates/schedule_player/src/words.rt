@@ -86,7 +86,11 @@ fn put_words(
     ensures { OnOk result ((line.new.items ++ 10 ∷ []) ++ file.new.items ≡ reply_text (reply_of reply.now)) }
 {
     match reply {
-        Reply::Journaled { packet } => put_numbered(line, b"journaled packet ", u128::from(*packet)),
+        Reply::Journaled { packet } => put_numbered(
+            line,
+            b"journaled packet ",
+            u128::from(*packet),
+        ),
         Reply::Delivered { sent, learned } => put_delivered(line, *sent, *learned),
         Reply::Started { ballot, packet } => put_started(line, *ballot, *packet),
         Reply::Restarted => line.extend_from_slice(b"restarted"),

@@ -1,6 +1,4 @@
-use Rattle.std.proofs.Common.{sym, ap, ◌∙◌, rules}
 use Rattle.std.proofs.KnownBytes.{Keeps-refl}
-use Rattle.batch_player.proofs.RatedLaws.{told_plain}
 use Rattle.schedule_player.proofs.TranscriptLaws.{agents_within, front_of_input, front_of_whole, nodes_within, none_of_input, played_input}
 use Rattle.schedule_player.proofs.play.play_input.Goals as goal
 
