@@ -190,7 +190,7 @@ impl Book {
             && self.issuer.same(&plan.issuer)
     }
 
-    /// Whether these logs are just what was done, and what the plan asks: each worker of the plan, and no other, has a log of
+    /// Whether these logs are just what the history has, and what the plan asks: each worker of the plan, and no other, has a log of
     /// its own entries, each once and in order; each agent offered its texts to the journals, and each node exported each
     /// period once. No memory is taken.
     ///

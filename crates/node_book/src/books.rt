@@ -1,12 +1,12 @@
 //! A group, and the history that led it where it is.
 
-ghost use Rattle.std.specs.Prelude.{◌≡◌, ◌≤◌, ◌++◌, ◌∷◌, [], length, map, IfOk, OnErr};
+ghost use Rattle.std.specs.Prelude.{◌≡◌, ◌≤◌, ◌++◌, ◌∷◌, [], length, map, true, IfOk, OnErr};
 ghost use Rattle.std.specs.Arc.{arc_value};
 ghost use Rattle.metering_model.specs.World.{opening};
 ghost use Rattle.metering_model.specs.Step.{step};
 ghost use Rattle.metering_model.specs.History.{IsLegal};
 ghost use Rattle.group_laws.specs.Headline.{HoldsAfter};
-ghost use Rattle.group_core.specs.Words.{event_of, reply_of};
+ghost use Rattle.group_core.specs.Words.{event_of, is_exported, is_refused, reply_of};
 ghost use Rattle.node_book.specs.Books.{opened};
 ghost use Rattle.node_book.specs.Kept.{entry_of, told_of};
 
@@ -105,11 +105,14 @@ impl Book {
     }
 
     /// Does one event, in one step, and writes it down at the end of the history. The receipt has its place there, and its
-    /// reply. At an error, which says that there was no memory, nothing was done.
+    /// reply. A refused event, and an export that is answered, leave the world as it was. At an error, which says that there
+    /// was no memory, nothing was done.
     pub fn act(&mut self, alloc: Global, who: Worker, event: Event) -> Result<Receipt, AllocError>
         ensures history { IfOk result (λ _. self.new.history
             ≡ self.old.history ++ record { who = who; event = event_of event; reply = (step self.old.world (event_of event)).0 } ∷ []) }
         ensures world { IfOk result (λ _. self.new.world ≡ (step self.old.world (event_of event)).1) }
+        ensures refused { IfOk result (λ receipt. is_refused (told_of receipt).reply ≡ true → self.new.world ≡ self.old.world) }
+        ensures exported { IfOk result (λ receipt. is_exported (told_of receipt).reply ≡ true → self.new.world ≡ self.old.world) }
         ensures group { opened self.new ≡ opened self.old }
         ensures receipt { IfOk result (λ receipt. told_of receipt
             ≡ record { index = length self.old.history; reply = (step self.old.world (event_of event)).0 }) }
