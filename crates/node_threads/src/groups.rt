@@ -17,7 +17,7 @@ use std::thread::Threads;
 
 /// Runs a group: a thread for each node and one for each agent, round one book.
 ///
-/// With Ok receipts agree: the logs have just what was done, each agent offered its texts to the journals, and each node
+/// With Ok receipts agree: all logs agree with the book's history, each agent offered its texts to the journals, and each node
 /// exported each period once. A fault is `OutOfMemory` where memory or a thread was refused, and `Mismatch` where receipts do not agree.
 pub fn run_group<R: Threads + Wait + Sync, G: Gate + Sync>(
     rt: &R,

@@ -45,7 +45,7 @@ impl Run {
         &self.book
     }
 
-    /// What each worker brought back: first the agents, numbered from 1, then the nodes, numbered from 0.
+    /// The logs, which agree with the book's history: first the agents', numbered from 1, then the nodes, numbered from 0.
     pub fn logs(&self) -> &[Log]
         ensures { map log_of result.now ≡ self.now.logs }
     {

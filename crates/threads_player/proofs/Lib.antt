@@ -1,3 +1,2 @@
-mod LineFeeds
 mod Pieces
 mod Ranges

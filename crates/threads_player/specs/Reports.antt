@@ -2,8 +2,7 @@
 use Rattle.std.specs.Prelude.{ℕ, if◌then◌else◌, List, [], ◌∷◌, ◌++◌, Option, Some, None, codes, count_by, length}
 use Rattle.std.specs.List.{flat_map, range_with_len}
 use Rattle.metering_model.specs.Transcript.{line, line_count, with_number}
-use Rattle.node_book.specs.Books.{Log, Told, file_in}
-use Rattle.node_book.specs.Agreement.{is_export_of}
+use Rattle.node_threads.specs.Words.{Log, Told, file_in, is_export_of}
 use Rattle.node_threads.specs.Runs.{Run}
 
 -- what all workers were told, worker by worker

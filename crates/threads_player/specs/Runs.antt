@@ -4,10 +4,9 @@ use Rattle.metering_model.specs.History.{IsLegal}
 use Rattle.group_laws.specs.Headline.{HoldsAfter}
 use Rattle.price_sheet.specs.Samples.{sample_issuer}
 use Rattle.price_sheet.specs.SheetReading.{sheet_of_text}
-use Rattle.sheet_text.specs.declared.faults.SheetFault.{SheetFault}
-use Rattle.node_book.specs.Books.{opened}
-use Rattle.node_book.specs.Agreement.{Agree, FilesAgree}
-use Rattle.node_threads.specs.Runs.{Run}
+use Rattle.price_sheet.specs.declared.SheetFault.{SheetFault}
+use Rattle.node_threads.specs.Words.{Agree, FilesAgree, opened}
+pub use Rattle.node_threads.specs.Runs.{Run}
 use Rattle.threads_player.specs.declared.sizes.Size.{Size}
 use Rattle.threads_player.specs.Groups.{journals_of}
 use Rattle.threads_player.specs.SampleSheet.{sample_sheet_text}

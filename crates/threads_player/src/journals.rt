@@ -5,7 +5,7 @@ ghost use Rattle.std.specs.List.{range_with_len};
 ghost use Rattle.threads_player.specs.Groups.{batch_text, hour_text, journals_of, month_of, reading_text};
 
 use crate::Size;
-use crate::numbers::{put_numbered, put_two_digits};
+use byte_text::{put_numbered, put_two_digits};
 use std::alloc::{AllocError, Global};
 
 /// The month of 2025, counted from 1, in which an agent's batch of that sequence falls due.

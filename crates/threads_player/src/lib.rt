@@ -1,10 +1,9 @@
-//! A group of a given size that runs in threads, and a report of what it did.
+//! A group of a given size that runs in threads, and a report of its book's history and the logs that agree with it.
 #![tactic(auto)]
 
 mod faults;
 mod gates;
 mod journals;
-mod numbers;
 mod plans;
 mod reports;
 mod samples;

@@ -1,7 +1,7 @@
 //! The plan of a group.
 
 ghost use Rattle.std.specs.Prelude.{◌≡◌, ◌≢◌, Ok, Err, vec_len, IfOk};
-ghost use Rattle.node_book.specs.Logs.{plan_of};
+ghost use Rattle.node_threads.specs.Words.{plan_of};
 ghost use Rattle.price_sheet.specs.Samples.{sample_issuer};
 ghost use Rattle.price_sheet.specs.SheetReading.{sheet_of_text};
 ghost use Rattle.threads_player.specs.Groups.{journals_of};

@@ -2,22 +2,13 @@
 
 ghost use Rattle.std.specs.Prelude.{◌≡◌, ◌++◌, List, codes, length, map, IfOk, MatchOption, OnOk};
 ghost use Rattle.std.specs.List.{flat_map, range_with_len};
-ghost use Rattle.metering_model.specs.Transcript.{line, line_count, with_number};
-ghost use Rattle.node_book.specs.Books.{Told, file_in};
-ghost use Rattle.node_book.specs.Logs.{log_of};
+ghost use Rattle.metering_model.specs.Transcript.{line, with_number};
+ghost use Rattle.node_threads.specs.Words.{Told, file_in, log_of};
 ghost use Rattle.threads_player.specs.Reports.{files_of, lines_in, lines_of, period_text, report_text, told_in};
 
-use crate::numbers::put_numbered;
-use memchr::memchr_iter;
+use byte_text::{line_count, put_numbered};
 use node_threads::{Done, Log, Run};
 use std::alloc::{AllocError, Global};
-
-/// How many lines a text has, each with its line feed.
-fn line_count(text: &[u8]) -> usize
-    ensures { result ≡ line_count text.now }
-{
-    memchr_iter(b'\n', text).count()
-}
 
 /// How many lines the file of a receipt has, and 0 where there is none.
 fn lines_in(done: &Done) -> usize

@@ -1,6 +1,6 @@
 -- The files of the logs so far; a log has fewer than 2^64.
 use Rattle.std.proofs.Common.{◌≡◌, ◌*◌, ◌≤◌, map, take}
-use Rattle.node_book.specs.Logs.{log_of}
+use Rattle.node_threads.specs.Words.{log_of}
 use Rattle.threads_player.specs.Reports.{files_of, told_in}
 use Rattle.threads_player.proofs.reports.files_of.Given as goal
 

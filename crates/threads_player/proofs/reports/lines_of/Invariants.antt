@@ -1,6 +1,6 @@
 -- No file of the period was met: the first one is among the logs still to come.
 use Rattle.std.proofs.Common.{◌≡◌, map, drop}
-use Rattle.node_book.specs.Logs.{log_of}
+use Rattle.node_threads.specs.Words.{log_of}
 use Rattle.threads_player.specs.Reports.{lines_of, told_in}
 use Rattle.threads_player.proofs.reports.lines_of.Given as goal
 

@@ -1,5 +1,5 @@
 use Rattle.std.proofs.Common.{◌++◌, map, ap, ◌∙◌, append_assoc}
-use Rattle.node_book.specs.Logs.{log_of}
+use Rattle.node_threads.specs.Words.{log_of}
 use Rattle.threads_player.specs.Reports.{period_text, told_in}
 use Rattle.threads_player.proofs.Ranges.{texts_more}
 use Rattle.threads_player.proofs.reports.put_periods.Goals as goal

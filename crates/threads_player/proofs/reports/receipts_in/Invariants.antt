@@ -1,6 +1,6 @@
 -- The receipts of the logs so far; a log has fewer than 2^64.
 use Rattle.std.proofs.Common.{◌≡◌, ◌*◌, ◌≤◌, length, map, take}
-use Rattle.node_book.specs.Logs.{log_of}
+use Rattle.node_threads.specs.Words.{log_of}
 use Rattle.threads_player.specs.Reports.{told_in}
 use Rattle.threads_player.proofs.reports.receipts_in.Given as goal
 
