@@ -1,15 +1,24 @@
--- What the status of a fault tells of the fault.
-use Rattle.std.proofs.Common.{◌≡◌, ◌≢◌, ◌⊎◌, ◌≤◌, ℕ, List, Option, Result, Err, codes, inl, inr, refl, arith}
-use Rattle.std.specs.Io.KnownBytes.{IsAtEnd}
+-- What the status of a fault tells of the fault, and what a run leaves.
+use Rattle.std.proofs.Common.{◌≡◌, ◌≢◌, ◌⊎◌, ◌≤◌, ◌++◌, length, ◌∙◌, sym, ap, subst, ℕ, List, [], String, Option, Some, None, Result, Ok, Err, IfErr, inl, inr, refl, arith}
+use Rattle.std.specs.Io.KnownBytes.{Appends, IsAtEnd}
+use Rattle.std.specs.IoError.{error_kind}
+use Rattle.std.specs.declared.io.Error.{Error}
+use Rattle.std.specs.declared.io.ErrorKind.TheVariants.{OutOfMemory as NoMemory}
+use Rattle.std.specs.declared.vec.IntoIter.{IntoIter}
 use Rattle.counted_io.specs.Counts.{count_after, next_count}
+use Rattle.counted_io.specs.Reading.{ConsumesAtMost}
+use Rattle.counted_io.specs.Writing.{AppendsFront}
+use Rattle.counted_io.specs.declared.reading.Source.{Ghosts as SourceOf}
+use Rattle.counted_io.specs.declared.writing.Sink.{Ghosts as SinkOf}
 use Rattle.schedule_player.specs.declared.PlayFault.{PlayFault}
 use Rattle.schedule_player.specs.declared.PlayFault.TheVariants as play
 use Rattle.input_sections.specs.declared.faults.ScheduleFault.TheVariants as section
 use Rattle.schedule_player.specs.Faults.{tells_of_reader, tells_of_writer}
-use Rattle.node_threads.specs.declared.runs.RunFault.TheVariants as of_run
+use Rattle.threads_player.specs.declared.RunFault.TheVariants as of_run
 use Rattle.threads_player.specs.declared.faults.ThreadsFault.{ThreadsFault}
 use Rattle.threads_player.specs.declared.faults.ThreadsFault.TheVariants as threads
 use Rattle.threads_player.specs.Faults.{tells_of_writer as threads_wrote}
+use Rattle.threads_player.specs.Runs.{IsSheetRefused}
 use Rattle.threads_player.specs.declared.sizes.Size.{Size}
 use Rattle.command_line.specs.declared.words.LineFault.{LineFault}
 use Rattle.command_line.specs.declared.words.LineFault.TheVariants as on_line
@@ -17,8 +26,10 @@ use Rattle.command_line.specs.declared.commands.Command.{Command}
 use Rattle.command_line.specs.declared.commands.Command.TheVariants.{Rate, Play as PlaySchedule, Threads as RunThreads}
 use Rattle.command_line.specs.declared.endings.Fault.{Fault}
 use Rattle.command_line.specs.declared.endings.Fault.TheVariants.{Line, Play, Threads}
-use Rattle.command_line.specs.Endings.{message_of, status_of}
-use Rattle.command_line.specs.Runs.{IsDone}
+use Rattle.command_line.specs.Endings.{Tells, ending_line, status_of}
+use Rattle.command_line.specs.Runs.{AsksFor, Ends, IsDone, IsPlayedInPart, Refuses, words_behind_name}
+use Rattle.command_line.specs.Inner.Outcomes.{ComesTo, IsEnding, Leaves}
+use Rattle.command_line.proofs.WordLaws.{asks_for_threads}
 
 abbrev pub failed : PlayFault → Result (Unit {0}) PlayFault
 failed fault = Err fault
@@ -26,44 +37,44 @@ failed fault = Err fault
 abbrev pub not_run : ThreadsFault → Result (Unit {0}) ThreadsFault
 not_run fault = Err fault
 
--- one call failed, of the reader or of the writer, and the message tells of which
-abbrev pub IsDevice : Type 0 → (message : List ℕ) → (reads_old reads writes_old writes : ℕ) → Type 0
-IsDevice Kept message reads_old reads writes_old writes =
-    ((message ≡ codes "read failed") × (reads ≡ next_count reads_old) × (writes ≡ writes_old) × Kept)
-    ⊎ ((message ≡ codes "write failed") × (writes ≡ next_count writes_old) × (reads ≡ reads_old))
+-- one call failed, of the reader or of the writer, and the line tells of which
+abbrev IsDevice : Type 0 → (line : List ℕ) → (reads reads' writes writes' : ℕ) → Type 0
+IsDevice Same line reads reads' writes writes' =
+    ((line ≡ ending_line (Play play.Read)) × (reads' ≡ next_count reads) × Same)
+    ⊎ ((line ≡ ending_line (Play play.Write)) × (writes' ≡ next_count writes) × (reads' ≡ reads))
 
 -- ---- `rate` and `play`
 
-pub is_device : (Kept : Type 0) (fault : PlayFault) (reads_old reads writes_old writes : ℕ)
-    → reads ≡ count_after (tells_of_reader (failed fault)) reads_old → writes ≡ count_after (tells_of_writer (failed fault)) writes_old
-    → (fault ≢ play.Write → fault ≢ play.OutOfMemory → Kept) → status_of (Play fault) ≡ 3
-    → IsDevice Kept (message_of (Play fault)) reads_old reads writes_old writes
-is_device Kept play.Read reads_old reads writes_old writes read wrote kept three = inl (refl, read, wrote, kept (λ same. absurd (cc)) (λ same. absurd (cc)))
-is_device Kept play.Write reads_old reads writes_old writes read wrote kept three = inr (refl, wrote, read)
-is_device Kept play.OutOfMemory reads_old reads writes_old writes read wrote kept three = absurd (cc)
-is_device Kept (play.Refused refusal) reads_old reads writes_old writes read wrote kept three = absurd (cc)
-is_device Kept (play.Schedule (section.Refused code line)) reads_old reads writes_old writes read wrote kept three = absurd (cc)
-is_device Kept (play.Schedule section.OutOfMemory) reads_old reads writes_old writes read wrote kept three = absurd (cc)
+is_device : (Same : Type 0) (fault : PlayFault) (reads reads' writes writes' : ℕ)
+    → reads' ≡ count_after (tells_of_reader (failed fault)) reads → writes' ≡ count_after (tells_of_writer (failed fault)) writes
+    → (fault ≢ play.Write → fault ≢ play.OutOfMemory → Same) → status_of (Play fault) ≡ 3
+    → IsDevice Same (ending_line (Play fault)) reads reads' writes writes'
+is_device Same play.Read reads reads' writes writes' read wrote same three = inl (refl, read, same (λ is. absurd (cc)) (λ is. absurd (cc)))
+is_device Same play.Write reads reads' writes writes' read wrote same three = inr (refl, wrote, read)
+is_device Same play.OutOfMemory reads reads' writes writes' read wrote same three = absurd (cc)
+is_device Same (play.Refused refusal) reads reads' writes writes' read wrote same three = absurd (cc)
+is_device Same (play.Schedule (section.Refused code line)) reads reads' writes writes' read wrote same three = absurd (cc)
+is_device Same (play.Schedule section.OutOfMemory) reads reads' writes writes' read wrote same three = absurd (cc)
 
-pub is_calm : (fault : PlayFault) (reads_old reads writes_old writes : ℕ)
-    → reads ≡ count_after (tells_of_reader (failed fault)) reads_old → writes ≡ count_after (tells_of_writer (failed fault)) writes_old
-    → status_of (Play fault) ≢ 3 → (reads ≡ reads_old) × (writes ≡ writes_old)
-is_calm play.Read reads_old reads writes_old writes read wrote other = absurd (other refl)
-is_calm play.Write reads_old reads writes_old writes read wrote other = absurd (other refl)
-is_calm play.OutOfMemory reads_old reads writes_old writes read wrote other = (read, wrote)
-is_calm (play.Refused refusal) reads_old reads writes_old writes read wrote other = (read, wrote)
-is_calm (play.Schedule bad) reads_old reads writes_old writes read wrote other = (read, wrote)
+is_calm : (fault : PlayFault) (reads reads' writes writes' : ℕ)
+    → reads' ≡ count_after (tells_of_reader (failed fault)) reads → writes' ≡ count_after (tells_of_writer (failed fault)) writes
+    → status_of (Play fault) ≢ 3 → (reads' ≡ reads) × (writes' ≡ writes)
+is_calm play.Read reads reads' writes writes' read wrote other = absurd (other refl)
+is_calm play.Write reads reads' writes writes' read wrote other = absurd (other refl)
+is_calm play.OutOfMemory reads reads' writes writes' read wrote other = (read, wrote)
+is_calm (play.Refused refusal) reads reads' writes writes' read wrote other = (read, wrote)
+is_calm (play.Schedule bad) reads reads' writes writes' read wrote other = (read, wrote)
 
 -- what holds but at want of memory and a failed write
-pub but_at_3_and_4 : (Kept : Type 0) (fault : PlayFault) → (fault ≢ play.Write → fault ≢ play.OutOfMemory → Kept)
-    → status_of (Play fault) ≢ 3 → status_of (Play fault) ≢ 4 → Kept
-but_at_3_and_4 Kept play.Read kept not_3 not_4 = absurd (not_3 refl)
-but_at_3_and_4 Kept play.Write kept not_3 not_4 = absurd (not_3 refl)
-but_at_3_and_4 Kept play.OutOfMemory kept not_3 not_4 = absurd (not_4 refl)
-but_at_3_and_4 Kept (play.Refused refusal) kept not_3 not_4 = kept (λ same. absurd (cc)) (λ same. absurd (cc))
-but_at_3_and_4 Kept (play.Schedule bad) kept not_3 not_4 = kept (λ same. absurd (cc)) (λ same. absurd (cc))
+but_at_3_and_4 : (Same : Type 0) (fault : PlayFault) → (fault ≢ play.Write → fault ≢ play.OutOfMemory → Same)
+    → status_of (Play fault) ≢ 3 → status_of (Play fault) ≢ 4 → Same
+but_at_3_and_4 Same play.Read same not_3 not_4 = absurd (not_3 refl)
+but_at_3_and_4 Same play.Write same not_3 not_4 = absurd (not_3 refl)
+but_at_3_and_4 Same play.OutOfMemory same not_3 not_4 = absurd (not_4 refl)
+but_at_3_and_4 Same (play.Refused refusal) same not_3 not_4 = same (λ is. absurd (cc)) (λ is. absurd (cc))
+but_at_3_and_4 Same (play.Schedule bad) same not_3 not_4 = same (λ is. absurd (cc)) (λ is. absurd (cc))
 
-pub only_memory : (fault : PlayFault) → fault ≢ play.Schedule section.OutOfMemory → status_of (Play fault) ≡ 4 → fault ≡ play.OutOfMemory
+only_memory : (fault : PlayFault) → fault ≢ play.Schedule section.OutOfMemory → status_of (Play fault) ≡ 4 → fault ≡ play.OutOfMemory
 only_memory play.Read plain four = absurd (cc)
 only_memory play.Write plain four = absurd (cc)
 only_memory play.OutOfMemory plain four = refl
@@ -71,7 +82,7 @@ only_memory (play.Refused refusal) plain four = absurd (cc)
 only_memory (play.Schedule (section.Refused code line)) plain four = absurd (cc)
 only_memory (play.Schedule section.OutOfMemory) plain four = absurd (plain refl)
 
-pub is_no_line : (fault : PlayFault) → status_of (Play fault) ≢ 2
+is_no_line : (fault : PlayFault) → status_of (Play fault) ≢ 2
 is_no_line play.Read two = absurd (cc)
 is_no_line play.Write two = absurd (cc)
 is_no_line play.OutOfMemory two = absurd (cc)
@@ -79,50 +90,78 @@ is_no_line (play.Refused refusal) two = absurd (cc)
 is_no_line (play.Schedule (section.Refused code line)) two = absurd (cc)
 is_no_line (play.Schedule section.OutOfMemory) two = absurd (cc)
 
+pub comes_to : {W : Type 0} (sink : SinkOf W) (command : Command) (fault : PlayFault) (known : Option (List ℕ)) (reads reads' : ℕ) (writer writer' : W)
+    → reads' ≡ count_after (tells_of_reader (failed fault)) reads
+    → sink.failed_calls writer' ≡ count_after (tells_of_writer (failed fault)) (sink.failed_calls writer)
+    → (fault ≢ play.Write → fault ≢ play.OutOfMemory → writer' ≡ writer)
+    → (status_of (Play fault) ≡ 1 → Refuses command known (Play fault))
+    → fault ≢ play.Schedule section.OutOfMemory
+    → (fault ≡ play.OutOfMemory → (writer' ≡ writer) ⊎ ((command ≡ PlaySchedule) × IsPlayedInPart known (sink.contents writer) (sink.contents writer')))
+    → ComesTo sink command (Play fault) known reads reads' writer writer'
+comes_to sink command fault known reads reads' writer writer' read wrote same refused plain part = record {
+  understood = is_no_line fault;
+  refused = refused;
+  device = is_device (writer' ≡ writer) fault _ _ _ _ read wrote same;
+  calm = is_calm fault _ _ _ _ read wrote;
+  unwritten = but_at_3_and_4 (writer' ≡ writer) fault same;
+  part = λ four. part (only_memory fault plain four);
+}
+
 -- ---- `threads`
 
-pub threads_no_line : (fault : ThreadsFault) → status_of (Threads fault) ≢ 2
+threads_no_line : (fault : ThreadsFault) → status_of (Threads fault) ≢ 2
 threads_no_line threads.Write two = absurd (cc)
 threads_no_line threads.Refused two = absurd (cc)
 threads_no_line (threads.Run of_run.OutOfMemory) two = absurd (cc)
 threads_no_line (threads.Run of_run.Mismatch) two = absurd (cc)
 
-pub threads_device : (Kept : Type 0) (fault : ThreadsFault) (reads writes_old writes : ℕ)
-    → writes ≡ count_after (threads_wrote (not_run fault)) writes_old → status_of (Threads fault) ≡ 3
-    → IsDevice Kept (message_of (Threads fault)) reads reads writes_old writes
-threads_device Kept threads.Write reads writes_old writes wrote three = inr (refl, wrote, refl)
-threads_device Kept threads.Refused reads writes_old writes wrote three = absurd (cc)
-threads_device Kept (threads.Run of_run.OutOfMemory) reads writes_old writes wrote three = absurd (cc)
-threads_device Kept (threads.Run of_run.Mismatch) reads writes_old writes wrote three = absurd (cc)
+threads_device : (Same : Type 0) (fault : ThreadsFault) (reads writes writes' : ℕ)
+    → writes' ≡ count_after (threads_wrote (not_run fault)) writes → status_of (Threads fault) ≡ 3
+    → IsDevice Same (ending_line (Threads fault)) reads reads writes writes'
+threads_device Same threads.Write reads writes writes' wrote three = inr (refl, wrote, refl)
+threads_device Same threads.Refused reads writes writes' wrote three = absurd (cc)
+threads_device Same (threads.Run of_run.OutOfMemory) reads writes writes' wrote three = absurd (cc)
+threads_device Same (threads.Run of_run.Mismatch) reads writes writes' wrote three = absurd (cc)
 
-pub threads_calm : (fault : ThreadsFault) (writes_old writes : ℕ) → writes ≡ count_after (threads_wrote (not_run fault)) writes_old
-    → status_of (Threads fault) ≢ 3 → writes ≡ writes_old
-threads_calm threads.Write writes_old writes wrote other = absurd (other refl)
-threads_calm threads.Refused writes_old writes wrote other = wrote
-threads_calm (threads.Run fault) writes_old writes wrote other = wrote
+threads_calm : (fault : ThreadsFault) (writes writes' : ℕ) → writes' ≡ count_after (threads_wrote (not_run fault)) writes
+    → status_of (Threads fault) ≢ 3 → writes' ≡ writes
+threads_calm threads.Write writes writes' wrote other = absurd (other refl)
+threads_calm threads.Refused writes writes' wrote other = wrote
+threads_calm (threads.Run fault) writes writes' wrote other = wrote
 
-pub not_write : (fault : ThreadsFault) → status_of (Threads fault) ≢ 3 → fault ≢ threads.Write
+not_write : (fault : ThreadsFault) → status_of (Threads fault) ≢ 3 → fault ≢ threads.Write
 not_write threads.Write other = absurd (other refl)
 not_write threads.Refused other = λ same. absurd (cc)
 not_write (threads.Run fault) other = λ same. absurd (cc)
 
-pub not_write_at_4 : (fault : ThreadsFault) → status_of (Threads fault) ≡ 4 → fault ≢ threads.Write
-not_write_at_4 threads.Write four = absurd (cc)
-not_write_at_4 threads.Refused four = λ same. absurd (cc)
-not_write_at_4 (threads.Run fault) four = λ same. absurd (cc)
+not_3_at_4 : (status : ℕ) → status ≡ 4 → status ≢ 3
+not_3_at_4 status four three = absurd (omega (arith, four, three))
 
 -- a group is refused for what came of it, or for its sheet
-pub threads_refused : (Sheet : Type 0) (fault : ThreadsFault) → (fault ≡ threads.Refused → Sheet) → status_of (Threads fault) ≡ 1
+threads_refused : (Sheet : Type 0) (fault : ThreadsFault) → (fault ≡ threads.Refused → Sheet) → status_of (Threads fault) ≡ 1
     → (Threads fault ≡ Threads (threads.Run of_run.Mismatch)) ⊎ ((Threads fault ≡ Threads threads.Refused) × Sheet)
 threads_refused Sheet threads.Write sheet one = absurd (cc)
 threads_refused Sheet threads.Refused sheet one = inr (refl, sheet refl)
 threads_refused Sheet (threads.Run of_run.OutOfMemory) sheet one = absurd (cc)
 threads_refused Sheet (threads.Run of_run.Mismatch) sheet one = inl refl
 
+pub threads_come_to : {W : Type 0} (sink : SinkOf W) (size : Size) (fault : ThreadsFault) (known : Option (List ℕ)) (reads : ℕ) (writer writer' : W)
+    → sink.failed_calls writer' ≡ count_after (threads_wrote (not_run fault)) (sink.failed_calls writer)
+    → (fault ≢ threads.Write → writer' ≡ writer) → (fault ≡ threads.Refused → IsSheetRefused)
+    → ComesTo sink (RunThreads size) (Threads fault) known reads reads writer writer'
+threads_come_to sink size fault known reads writer writer' wrote same sheet = record {
+  understood = threads_no_line fault;
+  refused = threads_refused IsSheetRefused fault sheet;
+  device = threads_device (writer' ≡ writer) fault _ _ _ wrote;
+  calm = λ other. (refl, threads_calm fault _ _ wrote other);
+  unwritten = λ not_3 not_4. same (not_write fault not_3);
+  part = λ four. inl (same (not_write fault (not_3_at_4 (status_of (Threads fault)) four)));
+}
+
 -- ---- the whole run
 
 -- at 4 it is want of memory that is told
-pub tells_memory : (Told : List ℕ → Type 0) (fault : Fault) → status_of fault ≡ 4 → Told (message_of fault) → Told (codes "out of memory")
+tells_memory : (Told : List ℕ → Type 0) (fault : Fault) → status_of fault ≡ 4 → Told (ending_line fault) → Told (ending_line (Play play.OutOfMemory))
 tells_memory Told (Line on_line.Line) four told = absurd (cc)
 tells_memory Told (Line on_line.OutOfMemory) four told = told
 tells_memory Told (Play play.Read) four told = absurd (cc)
@@ -137,31 +176,26 @@ tells_memory Told (Threads (threads.Run of_run.OutOfMemory)) four told = told
 tells_memory Told (Threads (threads.Run of_run.Mismatch)) four told = absurd (cc)
 
 -- which of the two failed is told
-pub tells_device : (Told : List ℕ → Type 0) (Kept : Type 0) (message : List ℕ) (reads_old reads writes_old writes : ℕ)
-    → IsDevice Kept message reads_old reads writes_old writes → Told message
-    → ((reads ≡ next_count reads_old) × (writes ≡ writes_old) × Kept × Told (codes "read failed")) ⊎ ((writes ≡ next_count writes_old) × (reads ≡ reads_old) × Told (codes "write failed"))
-tells_device Told Kept message reads_old reads writes_old writes (inl is) told = inl (is.1, is.2, is.3, rw is.0 at told)
-tells_device Told Kept message reads_old reads writes_old writes (inr is) told = inr (is.1, is.2, rw is.0 at told)
+tells_device : (Told : List ℕ → Type 0) (Same : Type 0) (line : List ℕ) (reads reads' writes writes' : ℕ)
+    → IsDevice Same line reads reads' writes writes' → Told line
+    → (((reads' ≡ next_count reads) × Same) × Told (ending_line (Play play.Read))) ⊎ (((writes' ≡ next_count writes) × (reads' ≡ reads)) × Told (ending_line (Play play.Write)))
+tells_device Told Same line reads reads' writes writes' (inl is) told = inl ((is.1, is.2), subst Told is.0 told)
+tells_device Told Same line reads reads' writes writes' (inr is) told = inr ((is.1, is.2), subst Told is.0 told)
 
 -- what is written in part was asked to be played
-pub part_of : (Same Part : Type 0) (Asked : Command → Type 0) (command : Command) → Asked command → Same ⊎ ((command ≡ PlaySchedule) × Part) → Same ⊎ (Asked PlaySchedule × Part)
+part_of : (Same Part : Type 0) (Asked : Command → Type 0) (command : Command) → Asked command → Same ⊎ ((command ≡ PlaySchedule) × Part) → Same ⊎ (Asked PlaySchedule × Part)
 part_of Same Part Asked command asked (inl same) = inl same
-part_of Same Part Asked command asked (inr both) = let now : Asked PlaySchedule = rw both.0 at asked in inr (now, both.1)
-
-pub is_bad_line : (Q : Fault → Type 0) (fault : LineFault) (status : ℕ) → status ≡ status_of (Line fault) → status ≡ 2 → Q (Line fault)
-    → (fault ≡ on_line.Line) × Q (Line on_line.Line)
-is_bad_line Q on_line.Line status is two q = (refl, q)
-is_bad_line Q on_line.OutOfMemory status is two q = absurd (cc)
+part_of Same Part Asked command asked (inr both) = inr (subst Asked both.0 asked, both.1)
 
 -- what is done reads all, but where a group was asked for
-pub at_end_of : (Asked : Command → Type 0) (command : Command) (known left old new : Option (List ℕ)) → Asked command → IsDone command known left old new
+at_end_of : (Asked : Command → Type 0) (command : Command) (known left old new : Option (List ℕ)) → Asked command → IsDone command known left old new
     → ((size : Size) → Asked (RunThreads size) → ⊥) → IsAtEnd left
 at_end_of Asked (Rate period) known left old new asked done other = done.1
 at_end_of Asked PlaySchedule known left old new asked done other = done.1
 at_end_of Asked (RunThreads size) known left old new asked done other = absurd (other size asked)
 
 -- every fault ends with a status from 1 to 4
-pub in_range : (fault : Fault) → (1 ≤ status_of fault) × (status_of fault ≤ 4)
+in_range : (fault : Fault) → (1 ≤ status_of fault) × (status_of fault ≤ 4)
 in_range (Line on_line.Line) = (omega arith, omega arith)
 in_range (Line on_line.OutOfMemory) = (omega arith, omega arith)
 in_range (Play play.Read) = (omega arith, omega arith)
@@ -175,6 +209,122 @@ in_range (Threads threads.Refused) = (omega arith, omega arith)
 in_range (Threads (threads.Run of_run.OutOfMemory)) = (omega arith, omega arith)
 in_range (Threads (threads.Run of_run.Mismatch)) = (omega arith, omega arith)
 
+-- reading nothing takes no byte
+pub nothing_read : (known : Option (List ℕ)) → ConsumesAtMost 16_777_217 known known
+nothing_read None = let nothing : (taken : List ℕ) × ⊤ × (length taken ≤ 16_777_217) = ([], tt, omega arith) in nothing
+nothing_read (Some bytes) = let nothing : (taken : List ℕ) × (bytes ≡ taken ++ bytes) × (length taken ≤ 16_777_217) = ([], refl, omega arith) in nothing
+
 -- no fault ends with 0
-pub never_zero : (fault : Fault) (status : ℕ) → status ≡ status_of fault → status ≡ 0 → ⊥
+never_zero : (fault : Fault) (status : ℕ) → status ≡ status_of fault → status ≡ 0 → ⊥
 never_zero fault status is zero = let from = (in_range fault).0 in absurd (omega (arith, is, zero, from))
+
+-- Words that ask for something else do not ask for a group.
+pub asks_for_no_threads : {A B : Type 0} (args : Result (IntoIter (String A) B) Error) (command : Command) → ((size : Size) → command ≢ RunThreads size)
+    → AsksFor args command → (size : Size) → AsksFor args (RunThreads size) → ⊥
+asks_for_no_threads (Ok given) command other asked size threads =
+    let is = asks_for_threads (words_behind_name given) command size asked threads in other is.0 is.1
+asks_for_no_threads (Err error) command other asked size threads = absurd asked
+
+-- what asks for something was given
+given_of : {A B : Type 0} (args : Result (IntoIter (String A) B) Error) (command : Command) (P : Error → Type 0) → AsksFor args command → IfErr args P
+given_of (Ok given) command P asked = tt
+given_of (Err error) command P asked = absurd asked
+
+-- A run whose words ask for a command leaves what this one leaves.
+pub ends : {R W E A B : Type 0} (source : SourceOf R) (sink : SinkOf W) (telling : SinkOf E) (args : Result (IntoIter (String A) B) Error) (command : Command) (outcome : Result (Unit {0}) Fault) (status : ℕ) (reader reader' : R) (writer writer' : W) (errors errors' : E)
+    → AsksFor args command
+    → Leaves sink command outcome (source.remaining reader) (source.remaining reader') (source.failed_calls reader) (source.failed_calls reader') writer writer'
+    → IsEnding telling outcome status errors errors'
+    → ConsumesAtMost 16_777_217 (source.remaining reader) (source.remaining reader')
+    → ((size : Size) → AsksFor args (RunThreads size) → reader' ≡ reader)
+    → Ends source sink telling args status reader reader' writer writer' errors errors'
+ends source sink telling args command (Ok x) status reader reader' writer writer' errors errors' asked leaves ending read unread =
+    let zero = ending.0 in
+    record {
+      range = omega (arith, zero);
+      done = λ is. (command, asked, leaves.done);
+      end = λ is none. at_end_of (AsksFor args) command _ _ _ _ asked leaves.done none;
+      silent = λ is. ending.1;
+      refused = λ is. absurd (omega (arith, zero, is));
+      not_asked = λ is. absurd (omega (arith, zero, is));
+      untouched = λ is. absurd (omega (arith, zero, is));
+      device = λ is. absurd (omega (arith, zero, is));
+      calm = λ is. leaves.calm;
+      memory = λ is. absurd (omega (arith, zero, is));
+      part = λ is. absurd (omega (arith, zero, is));
+      unwritten = λ not_0 not_3 not_4. absurd (not_0 zero);
+      read = read;
+      unread = unread;
+      not_given = given_of args command _ asked;
+    }
+ends source sink telling args command (Err fault) status reader reader' writer writer' errors errors' asked leaves ending read unread =
+    let same = ending.0 in
+    let told : List ℕ → Type 0 = λ line. (Appends (telling.contents errors) (telling.contents errors') line × (telling.failed_calls errors' ≡ telling.failed_calls errors)) ⊎ (AppendsFront (telling.contents errors) (telling.contents errors') line × (telling.failed_calls errors' ≡ next_count (telling.failed_calls errors))) in
+    record {
+      range = let to = (in_range fault).1 in omega (arith, same, to);
+      done = λ is. absurd (never_zero fault status same is);
+      end = λ is. absurd (never_zero fault status same is);
+      silent = λ is. absurd (never_zero fault status same is);
+      refused = λ is. let one = sym same ∙ is in (command, fault, asked, one, leaves.refused one, ending.1);
+      not_asked = λ is. absurd (leaves.understood (sym same ∙ is));
+      untouched = λ is. absurd (leaves.understood (sym same ∙ is));
+      device = λ is. (command, asked, tells_device told (writer' ≡ writer) (ending_line fault) _ _ _ _ (leaves.device (sym same ∙ is)) ending.1);
+      calm = λ other. leaves.calm (λ is. other (same ∙ is));
+      memory = λ is. tells_memory told fault (sym same ∙ is) ending.1;
+      part = λ is. part_of _ _ (AsksFor args) command asked (leaves.part (sym same ∙ is));
+      unwritten = λ not_0 not_3 not_4. leaves.unwritten (λ is. not_3 (same ∙ is)) (λ is. not_4 (same ∙ is));
+      read = read;
+      unread = unread;
+      not_given = given_of args command _ asked;
+    }
+
+-- what the words are said to be where none were given
+missing_of : {A B : Type 0} (args : Result (IntoIter (String A) B) Error) (fault : LineFault) (status : ℕ) → status ≡ status_of (Line fault)
+    → IfErr args (λ error. (error_kind error ≡ NoMemory → fault ≡ on_line.OutOfMemory) × (error_kind error ≢ NoMemory → fault ≡ on_line.Line))
+    → IfErr args (λ error. (error_kind error ≡ NoMemory → status ≡ 4) × (error_kind error ≢ NoMemory → status ≡ 2))
+missing_of (Ok given) fault status same missing = tt
+missing_of (Err error) fault status same missing = (
+  (λ no_memory. same ∙ ap (λ (f : LineFault). status_of (Line f)) (missing.0 no_memory)),
+  (λ other. same ∙ ap (λ (f : LineFault). status_of (Line f)) (missing.1 other)),
+)
+
+-- A run whose words ask for nothing, or could not be had, tells that alone.
+pub ends_at_words : {R W E A B : Type 0} (source : SourceOf R) (sink : SinkOf W) (telling : SinkOf E) (args : Result (IntoIter (String A) B) Error) (fault : LineFault) (status : ℕ) (reader : R) (writer : W) (errors errors' : E)
+    → status ≡ status_of (Line fault) → Tells telling (Line fault) errors errors'
+    → (fault ≡ on_line.Line → (command : Command) → ¬ AsksFor args command)
+    → IfErr args (λ error. (error_kind error ≡ NoMemory → fault ≡ on_line.OutOfMemory) × (error_kind error ≢ NoMemory → fault ≡ on_line.Line))
+    → Ends source sink telling args status reader reader writer writer errors errors'
+ends_at_words source sink telling args on_line.Line status reader writer errors errors' same told unasked missing = record {
+  range = omega (arith, same);
+  done = λ is. absurd (omega (arith, same, is));
+  end = λ is. absurd (omega (arith, same, is));
+  silent = λ is. absurd (omega (arith, same, is));
+  refused = λ is. absurd (omega (arith, same, is));
+  not_asked = λ is. (unasked refl, told);
+  untouched = λ is. refl;
+  device = λ is. absurd (omega (arith, same, is));
+  calm = λ other. (refl, refl);
+  memory = λ is. absurd (omega (arith, same, is));
+  part = λ is. inl refl;
+  unwritten = λ not_0 not_3 not_4. refl;
+  read = nothing_read (source.remaining reader);
+  unread = λ size asked. refl;
+  not_given = missing_of args on_line.Line status same missing;
+}
+ends_at_words source sink telling args on_line.OutOfMemory status reader writer errors errors' same told unasked missing = record {
+  range = omega (arith, same);
+  done = λ is. absurd (omega (arith, same, is));
+  end = λ is. absurd (omega (arith, same, is));
+  silent = λ is. absurd (omega (arith, same, is));
+  refused = λ is. absurd (omega (arith, same, is));
+  not_asked = λ is. absurd (omega (arith, same, is));
+  untouched = λ is. refl;
+  device = λ is. absurd (omega (arith, same, is));
+  calm = λ other. (refl, refl);
+  memory = λ is. told;
+  part = λ is. inl refl;
+  unwritten = λ not_0 not_3 not_4. refl;
+  read = nothing_read (source.remaining reader);
+  unread = λ size asked. refl;
+  not_given = missing_of args on_line.OutOfMemory status same missing;
+}

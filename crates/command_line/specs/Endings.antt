@@ -1,14 +1,16 @@
 -- How the program ends at a fault.
-use Rattle.std.specs.Prelude.{◌≡◌, ◌⊎◌, ℕ, List, ◌++◌, Option, codes}
+use Rattle.std.specs.Prelude.{◌≡◌, ◌⊎◌, ℕ, List, ◌++◌, codes}
 use Rattle.std.specs.Io.KnownBytes.{Appends}
 use Rattle.counted_io.specs.Counts.{next_count}
+use Rattle.counted_io.specs.Writing.{AppendsFront}
+use Rattle.counted_io.specs.declared.writing.Sink.{Ghosts as SinkOf}
 use Rattle.metering_model.specs.Transcript.{line, refusal_text, with_number}
 use Rattle.input_sections.specs.declared.faults.ScheduleCode.{ScheduleCode}
 use Rattle.input_sections.specs.declared.faults.ScheduleCode.TheVariants as code
 use Rattle.input_sections.specs.declared.faults.ScheduleFault.TheVariants as section
 use Rattle.command_line.specs.declared.words.LineFault.TheVariants as on_line
 use Rattle.schedule_player.specs.declared.PlayFault.TheVariants as play
-use Rattle.node_threads.specs.declared.runs.RunFault.TheVariants as of_run
+use Rattle.threads_player.specs.declared.RunFault.TheVariants as of_run
 use Rattle.threads_player.specs.declared.faults.ThreadsFault.TheVariants as threads
 use Rattle.command_line.specs.declared.endings.Fault.{Fault}
 use Rattle.command_line.specs.declared.endings.Fault.TheVariants.{Line, Play, Threads}
@@ -59,6 +61,8 @@ message_of (Threads threads.Refused) = codes "refused"
 abbrev pub ending_line : Fault → List ℕ
 ending_line fault = line (codes "focusd: " ++ message_of fault)
 
--- The line of the fault was written and no call failed, or one call did.
-abbrev pub Tells : Fault → Option (List ℕ) → Option (List ℕ) → ℕ → ℕ → Type 0
-Tells fault old new failed_old failed_new = (Appends old new (ending_line fault) × (failed_new ≡ failed_old)) ⊎ (failed_new ≡ next_count failed_old)
+-- The line of the fault was written and no call failed; or one call did, and of the line a front was written and never all.
+abbrev pub Tells : {E : Type 0} → SinkOf E → Fault → (errors errors' : E) → Type 0
+Tells sink fault errors errors' =
+    (Appends (sink.contents errors) (sink.contents errors') (ending_line fault) × (sink.failed_calls errors' ≡ sink.failed_calls errors))
+    ⊎ (AppendsFront (sink.contents errors) (sink.contents errors') (ending_line fault) × (sink.failed_calls errors' ≡ next_count (sink.failed_calls errors)))

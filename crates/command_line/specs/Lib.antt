@@ -1,3 +1,4 @@
 pub mod CommandLine
 pub mod Endings
 pub mod Runs
+pub mod Inner

@@ -1,10 +1,16 @@
 -- What a run of the program takes and leaves.
-use Rattle.std.specs.Prelude.{◌≡◌, ◌⊎◌, ℕ, List, String, Option, Result, Ok, Err, IfSome, map, drop, string_bytes}
+use Rattle.std.specs.Prelude.{◌≡◌, ◌≢◌, ◌≤◌, ◌⊎◌, ℕ, List, String, Option, Result, Ok, Err, IfSome, IfErr, map, drop, string_bytes}
 use Rattle.std.specs.Io.KnownBytes.{Appends, IsAtEnd}
+use Rattle.std.specs.IoError.{error_kind}
+use Rattle.std.specs.declared.io.ErrorKind.TheVariants.{OutOfMemory as NoMemory}
 use Rattle.std.specs.Vec.Iter.{into_iter_items}
 use Rattle.std.specs.declared.vec.IntoIter.{IntoIter}
 use Rattle.std.specs.declared.io.Error.{Error}
 use Rattle.clap.specs.Words.{Text}
+use Rattle.counted_io.specs.Counts.{next_count}
+use Rattle.counted_io.specs.Reading.{ConsumesAtMost}
+use Rattle.counted_io.specs.declared.reading.Source.{Ghosts as SourceOf}
+use Rattle.counted_io.specs.declared.writing.Sink.{Ghosts as SinkOf}
 use Rattle.input_sections.specs.declared.faults.ScheduleFault.{ScheduleFault}
 use Rattle.schedule_reader.specs.Schedules.{schedule_in}
 use Rattle.schedule_player.specs.Transcripts.{IsTranscriptOf, IsFrontOfTranscript}
@@ -12,12 +18,15 @@ use Rattle.schedule_player.specs.declared.PlayFault.{PlayFault}
 use Rattle.schedule_player.specs.declared.PlayFault.TheVariants as play
 use Rattle.schedule_player.specs.RateInput.{rated_file}
 use Rattle.schedule_player.specs.Charges.{IsFileOf}
-use Rattle.node_threads.specs.Runs.{Run}
-use Rattle.node_threads.specs.declared.runs.RunFault.TheVariants as of_run
+use Rattle.threads_player.specs.Runs.{Run}
+use Rattle.threads_player.specs.declared.RunFault.TheVariants as of_run
 use Rattle.threads_player.specs.declared.faults.ThreadsFault.TheVariants as threads
+use Rattle.threads_player.specs.declared.sizes.Size.{Size}
 use Rattle.threads_player.specs.Reports.{report_text}
 use Rattle.threads_player.specs.Runs.{IsRunOf, IsSheetRefused}
 use Rattle.command_line.specs.CommandLine.{Asks}
+use Rattle.command_line.specs.Endings.{Tells, status_of}
+use Rattle.command_line.specs.declared.words.LineFault.TheVariants as on_line
 use Rattle.command_line.specs.declared.endings.Fault.{Fault}
 use Rattle.command_line.specs.declared.endings.Fault.TheVariants as of_fault
 use Rattle.command_line.specs.declared.commands.Command.{Command}
@@ -49,3 +58,38 @@ Refuses (Threads size) known fault = (fault ≡ of_fault.Threads (threads.Run of
 -- Nothing was written but the transcript of the first events of the schedule that the input is.
 abbrev pub IsPlayedInPart : Option (List ℕ) → Option (List ℕ) → Option (List ℕ) → Type 0
 IsPlayedInPart known old new = (input text : List ℕ) × IsFrontOfTranscript known input text × Appends old new text
+
+-- One call of the reader failed, and the writer is as it was.
+abbrev pub ReaderFailed : {R W : Type 0} → SourceOf R → (reader reader' : R) (writer writer' : W) → Type 0
+ReaderFailed source reader reader' writer writer' = (source.failed_calls reader' ≡ next_count (source.failed_calls reader)) × (writer' ≡ writer)
+
+-- One call of the writer failed, and none of the reader.
+abbrev pub WriterFailed : {R W : Type 0} → SourceOf R → SinkOf W → (reader reader' : R) (writer writer' : W) → Type 0
+WriterFailed source sink reader reader' writer writer' = (sink.failed_calls writer' ≡ next_count (sink.failed_calls writer)) × (source.failed_calls reader' ≡ source.failed_calls reader)
+
+-- What a run leaves of the reader, the writer and the sink of its errors, by the status that it ends with.
+pub record Ends {R W E A B : Type 0} (source : SourceOf R) (sink : SinkOf W) (telling : SinkOf E) (args : Result (IntoIter (String A) B) Error) (status : ℕ) (reader reader' : R) (writer writer' : W) (errors errors' : E) : Type 0 where
+  pub range : status ≤ 4
+  -- 0: what was asked for was written whole, and nothing else; only a group in threads leaves the input where it is.
+  pub done : status ≡ 0 → (command : Command) × AsksFor args command × IsDone command (source.remaining reader) (source.remaining reader') (sink.contents writer) (sink.contents writer')
+  pub end : status ≡ 0 → ((size : Size) → ¬ AsksFor args (Threads size)) → IsAtEnd (source.remaining reader')
+  pub silent : status ≡ 0 → errors' ≡ errors
+  -- 1: what was asked for is refused so.
+  pub refused : status ≡ 1 → (command : Command) × (fault : Fault) × AsksFor args command × (status_of fault ≡ 1) × Refuses command (source.remaining reader) fault × Tells telling fault errors errors'
+  -- 2: nothing was asked for.
+  pub not_asked : status ≡ 2 → ((command : Command) → ¬ AsksFor args command) × Tells telling (of_fault.Line on_line.Line) errors errors'
+  pub untouched : status ≡ 2 → reader' ≡ reader
+  -- 3: one call failed, and no other.
+  pub device : status ≡ 3 → (command : Command) × AsksFor args command
+      × ((ReaderFailed source reader reader' writer writer' × Tells telling (of_fault.Play play.Read) errors errors')
+      ⊎ (WriterFailed source sink reader reader' writer writer' × Tells telling (of_fault.Play play.Write) errors errors'))
+  pub calm : status ≢ 3 → (source.failed_calls reader' ≡ source.failed_calls reader) × (sink.failed_calls writer' ≡ sink.failed_calls writer)
+  -- 4: memory was wanting; a schedule may have been played up to some event.
+  pub memory : status ≡ 4 → Tells telling (of_fault.Play play.OutOfMemory) errors errors'
+  pub part : status ≡ 4 → (writer' ≡ writer) ⊎ (AsksFor args Play × IsPlayedInPart (source.remaining reader) (sink.contents writer) (sink.contents writer'))
+  -- But at these nothing was written. A group in threads takes nothing of the input, however it ends.
+  pub unwritten : status ≢ 0 → status ≢ 3 → status ≢ 4 → writer' ≡ writer
+  pub read : ConsumesAtMost 16_777_217 (source.remaining reader) (source.remaining reader')
+  pub unread : (size : Size) → AsksFor args (Threads size) → reader' ≡ reader
+  -- where the process gave no words
+  pub not_given : IfErr args (λ error. (error_kind error ≡ NoMemory → status ≡ 4) × (error_kind error ≢ NoMemory → status ≡ 2))

@@ -1,13 +1,12 @@
 //! How the program ends at a fault: its line on standard error, and its status.
 
-ghost use Rattle.std.specs.Prelude.{◌≡◌, OnOk, is_err};
-ghost use Rattle.std.specs.Io.KnownBytes.{Appends};
-ghost use Rattle.counted_io.specs.Counts.{count_after};
+ghost use Rattle.std.specs.Prelude.{◌≡◌, ◌+◌, ◌≤◌, ◌++◌, length};
 ghost use Rattle.command_line.specs.Endings.{Tells, ending_line, message_of, status_of};
 
-use crate::refusals::{write_refusal, write_section};
+use crate::refusals::put_section;
 use crate::words::LineFault;
-use counted_io::{Failed, Sink, write_all};
+use byte_text::{Line, refusal_line};
+use counted_io::{Sink, write_all};
 use schedule_player::{PlayFault, ScheduleFault};
 use threads_player::{RunFault, ThreadsFault};
 
@@ -38,58 +37,53 @@ fn status(fault: &Fault) -> u8
     }
 }
 
-fn write_message<W: Sink>(fault: &Fault, writer: &mut W) -> Result<(), Failed>
-    ensures written { OnOk result
-        (Appends (W.contents writer.old) (W.contents writer.new) (message_of fault.now)) }
-    ensures count { W.failed_calls writer.new
-        ≡ count_after (is_err result) (W.failed_calls writer.old) }
+// Appends what is told of the fault: at most "refused " and the 44 bytes of a refusal.
+fn put_message(line: &mut Line, fault: &Fault)
+    requires room { length line.old + 52 ≤ 64 }
+    ensures put { line.new ≡ line.old ++ message_of fault.now }
+    ensures room { length line.new ≤ length line.old + 52 }
 {
     match fault {
-        Fault::Line(LineFault::Line) => write_all(writer, b"bad command line"),
-        Fault::Line(LineFault::OutOfMemory) => write_all(writer, b"out of memory"),
-        Fault::Play(PlayFault::Read) => write_all(writer, b"read failed"),
-        Fault::Play(PlayFault::Write) => write_all(writer, b"write failed"),
-        Fault::Play(PlayFault::OutOfMemory) => write_all(writer, b"out of memory"),
-        Fault::Play(PlayFault::Schedule(ScheduleFault::OutOfMemory)) => {
-            write_all(writer, b"out of memory")
+        Fault::Line(LineFault::Line) => line.put(b"bad command line"),
+        Fault::Line(LineFault::OutOfMemory)
+        | Fault::Play(PlayFault::OutOfMemory)
+        | Fault::Play(PlayFault::Schedule(ScheduleFault::OutOfMemory))
+        | Fault::Threads(ThreadsFault::Run(RunFault::OutOfMemory)) => line.put(b"out of memory"),
+        Fault::Play(PlayFault::Read) => line.put(b"read failed"),
+        Fault::Play(PlayFault::Write) | Fault::Threads(ThreadsFault::Write) => {
+            line.put(b"write failed");
         }
-        Fault::Play(PlayFault::Schedule(ScheduleFault::Refused { code, line })) => {
-            write_all(writer, b"refused ")?;
-            write_section(*code, *line, writer)
+        Fault::Play(PlayFault::Schedule(ScheduleFault::Refused { code, line: at })) => {
+            line.put(b"refused ");
+            put_section(line, *code, *at);
         }
         Fault::Play(PlayFault::Refused(refusal)) => {
-            write_all(writer, b"refused ")?;
-            write_refusal(*refusal, writer)
+            line.put(b"refused ");
+            line.put(refusal_line(*refusal).as_slice());
         }
-        Fault::Threads(ThreadsFault::Run(RunFault::OutOfMemory)) => {
-            write_all(writer, b"out of memory")
-        }
-        Fault::Threads(ThreadsFault::Run(RunFault::Mismatch)) => write_all(writer, b"mismatch"),
-        Fault::Threads(ThreadsFault::Write) => write_all(writer, b"write failed"),
-        Fault::Threads(ThreadsFault::Refused) => write_all(writer, b"refused"),
+        Fault::Threads(ThreadsFault::Run(RunFault::Mismatch)) => line.put(b"mismatch"),
+        Fault::Threads(ThreadsFault::Refused) => line.put(b"refused"),
     }
 }
 
-fn write_line<W: Sink>(fault: &Fault, writer: &mut W) -> Result<(), Failed>
-    ensures written { OnOk result
-        (Appends (W.contents writer.old) (W.contents writer.new) (ending_line fault.now)) }
-    ensures count { W.failed_calls writer.new
-        ≡ count_after (is_err result) (W.failed_calls writer.old) }
+fn line_of(fault: &Fault) -> Line
+    ensures { result ≡ ending_line fault.now }
 {
-    write_all(writer, b"focusd: ")?;
-    write_message(fault, writer)?;
-    write_all(writer, b"\n")
+    let mut line = Line::new();
+    line.put(b"focusd: ");
+    put_message(&mut line, fault);
+    line.put(b"\n");
+    line
 }
 
-/// Writes the line of the fault, and gives the status to end with: 1 for refused input or a mismatch,
+/// Writes the line of the fault in one piece, and gives the status to end with: 1 for refused input or a mismatch,
 /// 2 for the command line, 3 for a failed read or write, 4 for want of memory.
 ///
 /// The status is the same where the writer fails. It takes no memory.
 pub fn ending<W: Sink>(fault: &Fault, writer: &mut W) -> u8
     ensures status { result ≡ status_of fault.now }
-    ensures told { Tells fault.now (W.contents writer.old) (W.contents writer.new)
-        (W.failed_calls writer.old) (W.failed_calls writer.new) }
+    ensures told { Tells W.Sink fault.now writer.old writer.new }
 {
-    let _ = write_line(fault, writer);
+    let _ = write_all(writer, line_of(fault).as_slice());
     status(fault)
 }

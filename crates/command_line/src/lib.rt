@@ -10,5 +10,5 @@ mod words;
 
 pub use commands::Command;
 pub use endings::{Fault, ending};
-pub use runs::run;
+pub use runs::{run, run_alone};
 pub use words::{LineFault, command};

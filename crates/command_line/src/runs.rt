@@ -1,30 +1,27 @@
 //! A run of the program, from what the process gave to the status that it ends with.
 
-ghost use Rattle.std.specs.Prelude.{◌≡◌, ◌≢◌, ◌≤◌, ◌⊎◌, Err, IfOk, IfErr, OnOk, codes, map, string_bytes};
+ghost use Rattle.std.specs.Prelude.{◌≡◌, ◌≢◌, ℕ, List, Option, Err, IfOk, IfErr, IsErr, map, string_bytes};
 ghost use Rattle.std.specs.IoError.{error_kind};
 ghost use Rattle.std.specs.declared.io.ErrorKind.TheVariants.{OutOfMemory as NoMemory};
-ghost use Rattle.std.specs.Io.KnownBytes.{Keeps, IsAtEnd};
-ghost use Rattle.counted_io.specs.Counts.{next_count};
 ghost use Rattle.counted_io.specs.Reading.{ConsumesAtMost};
-ghost use Rattle.schedule_player.specs.declared.PlayFault.TheVariants as play;
 ghost use Rattle.threads_player.specs.declared.sizes.Size.{Size};
 ghost use Rattle.threads_player.specs.Groups.{IsSize};
 ghost use Rattle.command_line.specs.declared.commands.Command.{Command};
-ghost use Rattle.command_line.specs.declared.endings.Fault.{Fault};
-ghost use Rattle.command_line.specs.Endings.{Tells, message_of, status_of};
-ghost use Rattle.command_line.specs.Runs.{AsksFor, IsDone, IsPlayedInPart, Refuses, words_behind_name};
+ghost use Rattle.command_line.specs.Runs.{AsksFor, Ends, words_behind_name};
+ghost use Rattle.command_line.specs.Inner.Outcomes.{IsEnding, Leaves};
 
 use crate::commands::Command;
 use crate::endings::{Fault, ending};
 use crate::words::{LineFault, command};
 use counted_io::{Sink, Source};
+use period_cut::Period;
 use schedule_player::{play_text, rate_text};
 use std::alloc::Global;
 use std::env::Args;
 use std::io;
 use std::sync::Wait;
 use std::thread::Threads;
-use threads_player::threads_text;
+use threads_player::{Size, threads_text};
 
 // The words behind the program's name. Words that are no text are a bad command line.
 fn words(alloc: Global, args: io::Result<Args>) -> Result<Vec<String>, LineFault>
@@ -62,58 +59,90 @@ fn asked(alloc: Global, args: io::Result<Args>) -> Result<Command, LineFault>
     }
 }
 
-// What the command asks for
-fn carry_out<T: Threads + Wait + Sync, R: Source, W: Sink>(
-    rt: &T,
+fn rate<R: Source, W: Sink>(
     alloc: Global,
-    command: Command,
+    period: Period,
     reader: &mut R,
     writer: &mut W,
 ) -> Result<(), Fault>
-    requires { (size : Size) → command ≡ Command.Threads size → IsSize size }
-    ensures done { OnOk result (IsDone command (R.remaining reader.old) (R.remaining reader.new)
-        (W.contents writer.old) (W.contents writer.new)) }
-    ensures refused { IfErr result (λ fault. status_of fault ≡ 1
-        → Refuses command (R.remaining reader.old) fault) }
-
-    ensures understood { IfErr result (λ fault. status_of fault ≢ 2) }
-
-    // One call failed, where the status is 3, and else none.
-    ensures device { IfErr result (λ fault. status_of fault ≡ 3
-        → ((message_of fault ≡ codes "read failed")
-        × (R.failed_calls reader.new ≡ next_count (R.failed_calls reader.old))
-        × (W.failed_calls writer.new ≡ W.failed_calls writer.old)
-        × Keeps (W.contents writer.old) (W.contents writer.new))
-        ⊎ ((message_of fault ≡ codes "write failed")
-        × (W.failed_calls writer.new ≡ next_count (W.failed_calls writer.old))
-        × (R.failed_calls reader.new ≡ R.failed_calls reader.old))) }
-    ensures calm { IfErr result (λ fault. status_of fault ≢ 3
-        → (R.failed_calls reader.new ≡ R.failed_calls reader.old)
-        × (W.failed_calls writer.new ≡ W.failed_calls writer.old)) }
-    ensures served { OnOk result ((R.failed_calls reader.new ≡ R.failed_calls reader.old)
-        × (W.failed_calls writer.new ≡ W.failed_calls writer.old)) }
-    ensures kept { IfErr result (λ fault. status_of fault ≢ 3 → status_of fault ≢ 4
-        → Keeps (W.contents writer.old) (W.contents writer.new)) }
-    ensures untouched { IfErr result (λ fault. status_of fault ≢ 3 → status_of fault ≢ 4
-        → writer.new ≡ writer.old) }
-    ensures part { IfErr result (λ fault. status_of fault ≡ 4 → (writer.new ≡ writer.old)
-        ⊎ ((command ≡ Command.Play) × IsPlayedInPart (R.remaining reader.old) (W.contents writer.old) (W.contents writer.new))) }
+    ensures outcome { Leaves W.Sink (Command.Rate period) result
+        (R.remaining reader.old) (R.remaining reader.new)
+        (R.failed_calls reader.old) (R.failed_calls reader.new) writer.old writer.new }
     ensures read { ConsumesAtMost 16_777_217 (R.remaining reader.old) (R.remaining reader.new) }
-    ensures unread { (size : Size) → command ≡ Command.Threads size → reader.new ≡ reader.old }
 {
-    match command {
-        Command::Rate { period } => match rate_text(alloc, period, reader, writer) {
-            Ok(()) => Ok(()),
-            Err(fault) => Err(Fault::Play(fault)),
-        },
-        Command::Play => match play_text(alloc, reader, writer) {
-            Ok(()) => Ok(()),
-            Err(fault) => Err(Fault::Play(fault)),
-        },
-        Command::Threads { size } => match threads_text(rt, alloc, size, writer) {
-            Ok(()) => Ok(()),
-            Err(fault) => Err(Fault::Threads(fault)),
-        },
+    match rate_text(alloc, period, reader, writer) {
+        Ok(()) => Ok(()),
+        Err(fault) => Err(Fault::Play(fault)),
+    }
+}
+
+fn play<R: Source, W: Sink>(alloc: Global, reader: &mut R, writer: &mut W) -> Result<(), Fault>
+    ensures outcome { Leaves W.Sink Command.Play result
+        (R.remaining reader.old) (R.remaining reader.new)
+        (R.failed_calls reader.old) (R.failed_calls reader.new) writer.old writer.new }
+    ensures read { ConsumesAtMost 16_777_217 (R.remaining reader.old) (R.remaining reader.new) }
+{
+    match play_text(alloc, reader, writer) {
+        Ok(()) => Ok(()),
+        Err(fault) => Err(Fault::Play(fault)),
+    }
+}
+
+// The group takes nothing of the input, whatever that is.
+fn threads<T: Threads + Wait + Sync, W: Sink>(
+    rt: &T,
+    alloc: Global,
+    size: Size,
+    writer: &mut W,
+) -> Result<(), Fault>
+    requires { IsSize size }
+    ensures outcome { (known : Option (List ℕ)) (reads : ℕ)
+        → Leaves W.Sink (Command.Threads size) result known known reads reads writer.old writer.new }
+{
+    match threads_text(rt, alloc, size, writer) {
+        Ok(()) => Ok(()),
+        Err(fault) => Err(Fault::Threads(fault)),
+    }
+}
+
+// The status of what came of a command, which is told where it is a fault
+fn ended<E: Sink>(outcome: Result<(), Fault>, errors: &mut E) -> u8
+    ensures ending { IsEnding E.Sink outcome result errors.old errors.new }
+{
+    match outcome {
+        Ok(()) => 0,
+        Err(fault) => ending(&fault, errors),
+    }
+}
+
+/// Does what the arguments ask for, of which the first is the program's name, but for a group in
+/// threads: where they ask for one nothing is done, and its size is the error.
+///
+/// The status is that of [`run`], and so is what is read, written and told.
+pub fn run_alone<R: Source, W: Sink, E: Sink>(
+    alloc: Global,
+    args: io::Result<Args>,
+    reader: &mut R,
+    writer: &mut W,
+    errors: &mut E,
+) -> Result<u8, Size>
+    ensures ended { IfOk result (λ status. Ends R.Source W.Sink E.Sink args status
+        reader.old reader.new writer.old writer.new errors.old errors.new) }
+
+    // Threads are asked for, and all that was lent is as it was.
+    ensures threads { IfErr result (λ size. AsksFor args (Command.Threads size)) }
+    ensures untouched { IsErr result
+        → (reader.new ≡ reader.old) × (writer.new ≡ writer.old) × (errors.new ≡ errors.old) }
+
+    // Where they are asked for, only want of memory comes before.
+    ensures only_memory { IfOk result (λ status. (size : Size) → AsksFor args (Command.Threads size)
+        → status ≡ 4) }
+{
+    match asked(alloc, args) {
+        Ok(Command::Rate { period }) => { Ok(ended(rate(alloc, period, reader, writer), errors)) }
+        Ok(Command::Play) => Ok(ended(play(alloc, reader, writer), errors)),
+        Ok(Command::Threads { size }) => Err(size),
+        Err(fault) => Ok(ending(&Fault::Line(fault), errors)),
     }
 }
 
@@ -123,7 +152,8 @@ fn carry_out<T: Threads + Wait + Sync, R: Source, W: Sink>(
 /// 0 says that it was done; 1 that the input is refused, or that a run in threads came to a mismatch;
 /// 2 that the words ask for nothing, or are no text; 3 that a read or a write failed; 4 that memory
 /// was wanting. In each case but 0 a line tells of it on `errors`, as far as that takes it. At most
-/// 16,777,217 bytes are read, and none at 2 or by `threads`.
+/// 16,777,217 bytes are read, and none at 2 or by `threads`. What is no group in threads is done by
+/// [`run_alone`], which no thread can keep from returning.
 pub fn run<T: Threads + Wait + Sync, R: Source, W: Sink, E: Sink>(
     rt: &T,
     alloc: Global,
@@ -132,67 +162,11 @@ pub fn run<T: Threads + Wait + Sync, R: Source, W: Sink, E: Sink>(
     writer: &mut W,
     errors: &mut E,
 ) -> u8
-    ensures range { result ≤ 4 }
-
-    // What was asked for was written whole, and nothing else.
-    ensures done { result ≡ 0 → (command : Command) × AsksFor args command
-        × IsDone command (R.remaining reader.old) (R.remaining reader.new)
-        (W.contents writer.old) (W.contents writer.new) }
-    ensures end { result ≡ 0 → ((size : Size) → ¬ AsksFor args (Command.Threads size))
-        → IsAtEnd (R.remaining reader.new) }
-    ensures silent { result ≡ 0 → errors.new ≡ errors.old }
-
-    ensures refused { result ≡ 1 → (command : Command) × (fault : Fault)
-        × AsksFor args command × (status_of fault ≡ 1) × Refuses command (R.remaining reader.old) fault
-        × Tells fault (E.contents errors.old) (E.contents errors.new)
-        (E.failed_calls errors.old) (E.failed_calls errors.new) }
-
-    ensures not_asked { result ≡ 2 → ((command : Command) → ¬ AsksFor args command)
-        × Tells (Fault.Line LineFault.Line) (E.contents errors.old) (E.contents errors.new)
-        (E.failed_calls errors.old) (E.failed_calls errors.new) }
-    ensures untouched { result ≡ 2 → reader.new ≡ reader.old }
-
-    // One call failed, of the reader or of the writer, and standard output is as it was where it was
-    // one of the reader.
-    ensures device { result ≡ 3 → (command : Command) × AsksFor args command
-        × (((R.failed_calls reader.new ≡ next_count (R.failed_calls reader.old))
-        × (W.failed_calls writer.new ≡ W.failed_calls writer.old)
-        × Keeps (W.contents writer.old) (W.contents writer.new)
-        × Tells (Fault.Play play.Read) (E.contents errors.old) (E.contents errors.new)
-        (E.failed_calls errors.old) (E.failed_calls errors.new))
-        ⊎ ((W.failed_calls writer.new ≡ next_count (W.failed_calls writer.old))
-        × (R.failed_calls reader.new ≡ R.failed_calls reader.old)
-        × Tells (Fault.Play play.Write) (E.contents errors.old) (E.contents errors.new)
-        (E.failed_calls errors.old) (E.failed_calls errors.new))) }
-
-    ensures memory { result ≡ 4
-        → Tells (Fault.Play play.OutOfMemory) (E.contents errors.old) (E.contents errors.new)
-        (E.failed_calls errors.old) (E.failed_calls errors.new) }
-
-    // Where memory is wanting, a schedule may have been played up to some event; else nothing was written.
-    ensures part { result ≡ 4 → (writer.new ≡ writer.old)
-        ⊎ (AsksFor args Command.Play
-        × IsPlayedInPart (R.remaining reader.old) (W.contents writer.old) (W.contents writer.new)) }
-    ensures kept { result ≢ 0 → result ≢ 3 → result ≢ 4
-        → Keeps (W.contents writer.old) (W.contents writer.new) }
-    ensures unwritten { result ≢ 0 → result ≢ 3 → result ≢ 4 → writer.new ≡ writer.old }
-    ensures calm { result ≢ 3 → (R.failed_calls reader.new ≡ R.failed_calls reader.old)
-        × (W.failed_calls writer.new ≡ W.failed_calls writer.old) }
-    ensures read { ConsumesAtMost 16_777_217 (R.remaining reader.old) (R.remaining reader.new) }
-
-    // A group in threads takes nothing of the input, however it ends.
-    ensures unread { (size : Size) → AsksFor args (Command.Threads size) → reader.new ≡ reader.old }
-
-    // Where the process gave no words.
-    ensures not_given { IfErr args (λ error.
-        (error_kind error ≡ NoMemory → result ≡ 4)
-        × (error_kind error ≢ NoMemory → result ≡ 2)) }
+    ensures ended { Ends R.Source W.Sink E.Sink args result
+        reader.old reader.new writer.old writer.new errors.old errors.new }
 {
-    match asked(alloc, args) {
-        Ok(command) => match carry_out(rt, alloc, command, reader, writer) {
-            Ok(()) => 0,
-            Err(fault) => ending(&fault, errors),
-        },
-        Err(fault) => ending(&Fault::Line(fault), errors),
+    match run_alone(alloc, args, reader, writer, errors) {
+        Ok(status) => status,
+        Err(size) => ended(threads(rt, alloc, size, writer), errors),
     }
 }

@@ -1,0 +1,38 @@
+-- What came of a command, before anything is told of it.
+use Rattle.std.specs.Prelude.{◌≡◌, ◌≢◌, ◌⊎◌, ℕ, List, Option, Result, Ok, Err}
+use Rattle.std.specs.Io.KnownBytes.{Appends}
+use Rattle.counted_io.specs.Counts.{next_count}
+use Rattle.counted_io.specs.Reading.{ConsumesAtMost}
+use Rattle.counted_io.specs.declared.writing.Sink.{Ghosts as SinkOf}
+use Rattle.schedule_player.specs.declared.PlayFault.TheVariants as play
+use Rattle.command_line.specs.Endings.{Tells, ending_line, status_of}
+use Rattle.command_line.specs.Runs.{IsDone, IsPlayedInPart, Refuses}
+use Rattle.command_line.specs.declared.commands.Command.{Command}
+use Rattle.command_line.specs.declared.commands.Command.TheVariants.{Play}
+use Rattle.command_line.specs.declared.endings.Fault.{Fault}
+use Rattle.command_line.specs.declared.endings.Fault.TheVariants as of_fault
+
+-- The command was done: of the reader are what was known and left, and how many calls failed, of the writer all.
+pub record Does {W : Type 0} (sink : SinkOf W) (command : Command) (known left : Option (List ℕ)) (reads reads' : ℕ) (writer writer' : W) : Type 0 where
+  pub done : IsDone command known left (sink.contents writer) (sink.contents writer')
+  pub calm : (reads' ≡ reads) × (sink.failed_calls writer' ≡ sink.failed_calls writer)
+
+-- The command came to the fault.
+pub record ComesTo {W : Type 0} (sink : SinkOf W) (command : Command) (fault : Fault) (known : Option (List ℕ)) (reads reads' : ℕ) (writer writer' : W) : Type 0 where
+  pub understood : status_of fault ≢ 2
+  pub refused : status_of fault ≡ 1 → Refuses command known fault
+  pub device : status_of fault ≡ 3
+      → ((ending_line fault ≡ ending_line (of_fault.Play play.Read)) × (reads' ≡ next_count reads) × (writer' ≡ writer))
+      ⊎ ((ending_line fault ≡ ending_line (of_fault.Play play.Write)) × (sink.failed_calls writer' ≡ next_count (sink.failed_calls writer)) × (reads' ≡ reads))
+  pub calm : status_of fault ≢ 3 → (reads' ≡ reads) × (sink.failed_calls writer' ≡ sink.failed_calls writer)
+  pub unwritten : status_of fault ≢ 3 → status_of fault ≢ 4 → writer' ≡ writer
+  pub part : status_of fault ≡ 4 → (writer' ≡ writer) ⊎ ((command ≡ Play) × IsPlayedInPart known (sink.contents writer) (sink.contents writer'))
+
+abbrev pub Leaves : {W : Type 0} → SinkOf W → Command → Result (Unit {0}) Fault → (known left : Option (List ℕ)) (reads reads' : ℕ) (writer writer' : W) → Type 0
+Leaves sink command (Ok done) known left reads reads' writer writer' = Does sink command known left reads reads' writer writer'
+Leaves sink command (Err fault) known left reads reads' writer writer' = ComesTo sink command fault known reads reads' writer writer'
+
+-- the status of what came of a command, which is told where it is a fault
+abbrev pub IsEnding : {E : Type 0} → SinkOf E → Result (Unit {0}) Fault → ℕ → (errors errors' : E) → Type 0
+IsEnding sink (Ok done) status errors errors' = (status ≡ 0) × (errors' ≡ errors)
+IsEnding sink (Err fault) status errors errors' = (status ≡ status_of fault) × Tells sink fault errors errors'
