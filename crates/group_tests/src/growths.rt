@@ -5,7 +5,7 @@ use crate::samples::{HEADER, LINE, WHOLE_PATH, WHOLE_PATH_TOLD, events_of, world
 use crate::schedules::{file_of, joined, told};
 use counted_io::{Counted, FakeWriter};
 use focus_csv::CsvFault;
-use group_core::{Event, Reply, Stopped, World};
+use group_core::{Event, ExportFile, Reply, Stopped, World};
 use std::alloc::Global;
 use std::test::Fail;
 
