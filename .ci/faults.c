@@ -4,7 +4,8 @@
    g  a growth is refused
    f  a read or a write fails
    i  a read or a write is interrupted
-   s  a read or a write moves one byte alone  */
+   s  a read or a write moves one byte alone
+   z  a write takes nothing  */
 
 typedef unsigned long size;
 
@@ -53,7 +54,8 @@ int posix_memalign(void **made, size to, size n) {
 }
 
 static long moved(long number, int file, const void *bytes, size count) {
-    if (goes_wrong(0)) {
+    if ((kind != 'z' || number == NUMBER_OF_WRITE) && goes_wrong(0)) {
+        if (kind == 'z') return 0;
         if (kind != 's') {
             *__errno_location() = kind == 'i' ? INTERRUPTED : FAILED;
             return -1;

@@ -1,7 +1,7 @@
 #!/usr/bin/env python3
 # Makes the case greatest-batch: a batch of 1,000 records, of all kinds, under commitments, with texts that CSV or JSON has
-# to quote, and amended in the batch itself, and what its file must be, by docs/formats.md alone. The gate doesn't run it.
-# Run it in the folder of the case: it writes stdin and stdout.
+# to quote, and amended in the batch itself, and what its file must be, by docs/formats.md alone. The gate doesn't run it, but
+# .ci/schedules takes the making of a row from here. Run it in the folder of the case: it writes stdin and stdout.
 import json
 import random
 
@@ -27,6 +27,7 @@ COMMITMENTS = [
 ]
 ISSUER = [('provider', 'Cloud "One"'), ('publisher', 'Publisher, Inc'), ('issuer', 'Issuer Ltd'), ('account_id', 'A-1'),
           ('account_name', 'Payer'), ('currency', 'EUR'), ('other_service', 'Billing, other')]
+JANUARY = '2025-01-01T00:00:00Z', '2025-02-01T00:00:00Z'
 
 
 def toml(text):
@@ -65,18 +66,18 @@ def half_to_even(number, per):
     return low + (1 if 2 * rest > per or (2 * rest == per and low % 2 == 1) else 0)
 
 
-def price_on(sku, day):
-    rows = [p for p in PRICES if p[0] == sku and p[2] <= day]
-    return max(rows, key=lambda p: p[2])
+def price_on(prices, sku, day):
+    rows = [p for p in prices if p[0] == sku and p[2] <= day]
+    return max(rows, key=lambda p: p[2], default=None)
 
 
-def row(reading, value):
+# Of a reading whose value goes from one to another, in a period with these bounds.
+def row(reading, was, now, bounds, prices, commitments, issuer):
     kind, start, end, account, resource, key, _, commitment, tags = reading
-    issuer = dict(ISSUER)
     c = dict.fromkeys(HEAD, '')
     c.update(BillingAccountId=issuer['account_id'], BillingAccountName=issuer['account_name'],
-             BillingCurrency=issuer['currency'], BillingPeriodStart='2025-01-01T00:00:00Z',
-             BillingPeriodEnd='2025-02-01T00:00:00Z', ChargePeriodStart=start, ChargePeriodEnd=end,
+             BillingCurrency=issuer['currency'], BillingPeriodStart=bounds[0],
+             BillingPeriodEnd=bounds[1], ChargePeriodStart=start, ChargePeriodEnd=end,
              InvoiceIssuerName=issuer['issuer'], ProviderName=issuer['provider'], PublisherName=issuer['publisher'],
              ResourceId=resource, SubAccountId=account)
     c['ChargeCategory'] = dict(U='Usage', P='Purchase', C='Credit', T='Tax', A='Adjustment')[kind]
@@ -85,15 +86,15 @@ def row(reading, value):
     c['Tags'] = json.dumps(dict(pairs), separators=(',', ':'), ensure_ascii=False)
     if kind in 'CTA':
         for cost in 'BilledCost ContractedCost EffectiveCost ListCost'.split():
-            c[cost] = spelled(value, 6)
+            c[cost] = spelled(now - was, 6)
         c.update(ChargeDescription=key, ServiceCategory='Other', ServiceName=issuer['other_service'])
         return c
     sku, price_id, _, description, service, category, consumed_unit, pricing_unit, per, listed, contracted = \
-        price_on(key, start[:10])
-    quantity = half_to_even(value, per)
+        price_on(prices, key, start[:10])
+    quantity = half_to_even(now, per) - half_to_even(was, per)
     of_list, of_contract = millionths(listed) * quantity, millionths(contracted) * quantity
     billed = effective = of_contract
-    bought = [k for k in COMMITMENTS if k[0] == commitment]
+    bought = [k for k in commitments if k[0] == commitment]
     if bought:
         identity, _, _, discount, sort, rate = bought[0]
         c.update(CommitmentDiscountCategory=discount, CommitmentDiscountId=identity, CommitmentDiscountType=sort)
@@ -107,7 +108,7 @@ def row(reading, value):
              ContractedUnitPrice=contracted, ListUnitPrice=listed, PricingQuantity=spelled(quantity, 6),
              PricingUnit=pricing_unit, ServiceCategory=category, ServiceName=service, SkuId=sku, SkuPriceId=price_id)
     if kind == 'U':
-        c.update(ConsumedQuantity=spelled(value, 6), ConsumedUnit=consumed_unit)
+        c.update(ConsumedQuantity=spelled(now - was, 6), ConsumedUnit=consumed_unit)
     return c
 
 
@@ -168,8 +169,9 @@ def main():
         out.write(','.join(HEAD) + '\n')
         for index, record in enumerate(made):
             if record[0] != 'X':
-                c = row(record, values[index])
+                c = row(record, 0, values[index], JANUARY, PRICES, COMMITMENTS, dict(ISSUER))
                 out.write(','.join(field(c[name]) for name in HEAD) + '\n')
 
 
-main()
+if __name__ == '__main__':
+    main()

@@ -1,10 +1,8 @@
-//! Tests of a group by public calls alone: worked schedules, limits, devices and refused growths.
+//! Tests of a group, of its book and of its threads, by public calls alone.
 #![tactic(auto)]
 
 #[cfg(test)]
-mod copies;
-#[cfg(test)]
-mod exports;
+mod gates;
 #[cfg(test)]
 mod growths;
 #[cfg(test)]
@@ -12,4 +10,4 @@ mod limits;
 #[cfg(test)]
 mod samples;
 #[cfg(test)]
-mod schedules;
+mod worlds;

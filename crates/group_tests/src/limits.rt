@@ -1,31 +1,11 @@
-//! Where a group ends: rounds of a node, and packets of the world.
+//! A group that has sent all its packets.
 
-use crate::samples::{Do, event_of, world_of};
+use crate::samples::{Do, event_of, rules};
 use batch_view::Offer;
 use group_core::{Event, Reply, World};
 use metering_model::Refusal;
 use std::alloc::Global;
 use std::test::Fail;
-
-#[test]
-fn a_node_has_10_000_rounds(rt: HostRuntime) -> Result<(), Fail> {
-    let mut world = world_of(rt.alloc(), 1)?;
-    let start = event_of(rt.alloc(), Do::Start(0))?;
-    for round in 1..=10_000u32 {
-        match world.step(rt.alloc(), &start)? {
-            Reply::Started { ballot, packet } => {
-                assert!(rt;
-                    ballot.number() == round && packet == round - 1,
-                    "round {round}"
-                );
-            }
-            _ => return Err(Fail::from("not started")),
-        }
-    }
-    let last = world.step(rt.alloc(), &start)?;
-    assert!(rt; last.same(&Reply::Refused(Refusal::NoBallot)));
-    Ok(())
-}
 
 /// What is answered to the journaling of an agent's batch without records.
 fn journal(world: &mut World, alloc: Global, seq: u32) -> Result<Reply, Fail> {
@@ -37,7 +17,8 @@ fn journal(world: &mut World, alloc: Global, seq: u32) -> Result<Reply, Fail> {
 /// All but one of the packets carry a batch.
 #[test]
 fn a_world_has_1_000_000_packets(rt: HostRuntime) -> Result<(), Fail> {
-    let mut world = world_of(rt.alloc(), 1)?;
+    let (sheet, issuer) = rules(rt.alloc())?;
+    let mut world = World::new(rt.alloc(), 1, 1, sheet, issuer)?;
     let start = event_of(rt.alloc(), Do::Start(0))?;
     let begun = world.step(rt.alloc(), &start)?;
     assert!(rt; matches!(begun, Reply::Started { .. }));

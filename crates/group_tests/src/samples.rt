@@ -1,7 +1,8 @@
-//! What the worked schedules have in common: the sheet, the issuer, the batches, and the lines of files.
+//! What the tests have in common: sheet and issuer, the worked events with their answers, and the worked file.
 
 use batch_view::Offer;
-use group_core::{Event, World};
+use group_core::{Event, Reply, World};
+use node_threads::Plan;
 use price_sheet::{Issuer, Sheet};
 use std::alloc::{AllocError, Global};
 use std::sync::Arc;
@@ -34,89 +35,31 @@ other_service = "Billing"
 pub(crate) const READ: &str =
     "B1|1|1|1\nU|2025-01-10T00:00:00Z|2025-01-10T02:00:00Z|acc-7|vm-1|cpu|5400||env=prod\n";
 
-/// The agent's second batch, with a reading of less.
-pub(crate) const READ_LESS: &str =
-    "B1|1|2|1\nU|2025-01-10T00:00:00Z|2025-01-10T02:00:00Z|acc-7|vm-1|cpu|3600||env=prod\n";
-
-pub(crate) const HEADER: &str = "BilledCost,BillingAccountId,BillingAccountName,BillingCurrency,\
+/// Its file in January 2025.
+pub(crate) const FILE: &str = "BilledCost,BillingAccountId,BillingAccountName,BillingCurrency,\
 BillingPeriodEnd,BillingPeriodStart,ChargeCategory,ChargeClass,ChargeDescription,ChargeFrequency,\
 ChargePeriodEnd,ChargePeriodStart,CommitmentDiscountCategory,CommitmentDiscountId,\
 CommitmentDiscountStatus,CommitmentDiscountType,ConsumedQuantity,ConsumedUnit,ContractedCost,\
 ContractedUnitPrice,EffectiveCost,InvoiceIssuerName,ListCost,ListUnitPrice,PricingCategory,\
 PricingQuantity,PricingUnit,ProviderName,PublisherName,ResourceId,ServiceCategory,ServiceName,\
-SkuId,SkuPriceId,SubAccountId,Tags\n";
-
-/// The line of the worked reading in January 2025.
-pub(crate) const LINE: &str = "0.12,A-100,Payer,USD,2025-02-01T00:00:00Z,2025-01-01T00:00:00Z,\
+SkuId,SkuPriceId,SubAccountId,Tags\n\
+0.12,A-100,Payer,USD,2025-02-01T00:00:00Z,2025-01-01T00:00:00Z,\
 Usage,,Virtual CPU time,Usage-Based,2025-01-10T02:00:00Z,2025-01-10T00:00:00Z,,,,,5400,Seconds,\
 0.12,0.08,0.12,Sample Cloud Ltd,0.15,0.1,Standard,1.5,Hours,Sample Cloud,Sample Cloud,vm-1,\
 Compute,Sample Compute,cpu,cpu-od,acc-7,\"{\"\"env\"\":\"\"prod\"\"}\"\n";
 
-/// The line of the reading of less, in the same period.
-pub(crate) const LINE_OF_LESS: &str = "0.08,A-100,Payer,USD,2025-02-01T00:00:00Z,\
-2025-01-01T00:00:00Z,Usage,,Virtual CPU time,Usage-Based,2025-01-10T02:00:00Z,\
-2025-01-10T00:00:00Z,,,,,3600,Seconds,0.08,0.08,0.08,Sample Cloud Ltd,0.1,0.1,Standard,1,Hours,\
-Sample Cloud,Sample Cloud,vm-1,Compute,Sample Compute,cpu,cpu-od,acc-7,\
-\"{\"\"env\"\":\"\"prod\"\"}\"\n";
-
-/// One event, with a batch by its text.
+/// One event of the worked ones.
 #[derive(Clone, Copy, Drop)]
 pub(crate) enum Do {
-    Journal(&'static str),
+    Journal,
     Deliver(u32, u8),
     Start(u8),
-    Restart(u8),
-    Export(u8, u16),
+    Export(u8),
 }
 
-/// A group of one agent, with the worked sheet and issuer.
-pub(crate) fn world_of(alloc: Global, nodes: u8) -> Result<World, &'static str> {
-    if nodes < 1 || 99 < nodes {
-        return Err("too many nodes");
-    }
-    let Ok(sheet) = Sheet::read(alloc, SHEET) else {
-        return Err("no sheet");
-    };
-    let Ok(issuer) = Issuer::read(alloc, ISSUER) else {
-        return Err("no issuer");
-    };
-    let (Ok(sheet), Ok(issuer)) = (Arc::new(alloc, sheet), Arc::new(alloc, issuer)) else {
-        return Err("no room for sheet and issuer");
-    };
-    match World::new(alloc, nodes, 1, sheet, issuer) {
-        Ok(world) => Ok(world),
-        Err(_) => Err("no room for a group"),
-    }
-}
-
-/// What is handed in by a text.
-fn offer_of(alloc: Global, text: &str) -> Result<Offer, AllocError> {
-    Offer::read(alloc, text.as_bytes().to_vec(alloc)?)
-}
-
-/// The event.
-pub(crate) fn event_of(alloc: Global, step: Do) -> Result<Event, AllocError> {
-    match step {
-        Do::Journal(text) => Ok(Event::Journal(offer_of(alloc, text)?)),
-        Do::Deliver(packet, node) => Ok(Event::Deliver { packet, node }),
-        Do::Start(node) => Ok(Event::Start { node }),
-        Do::Restart(node) => Ok(Event::Restart { node }),
-        Do::Export(node, period) => Ok(Event::Export { node, period }),
-    }
-}
-
-/// The events.
-pub(crate) fn events_of(alloc: Global, steps: &[Do]) -> Result<Vec<Event>, AllocError> {
-    let mut events = Vec::new(alloc);
-    for step in steps {
-        events.push(event_of(alloc, *step)?)?;
-    }
-    Ok(events)
-}
-
-/// The whole path of a worked reading: journaled, delivered to two nodes of three, agreed on, and exported by both.
+/// A worked reading is journaled, delivered to two nodes of three, agreed on, and exported by both.
 pub(crate) const WHOLE_PATH: &[Do] = &[
-    Do::Journal(READ),
+    Do::Journal,
     Do::Deliver(0, 0),
     Do::Deliver(0, 1),
     Do::Start(0),
@@ -128,20 +71,108 @@ pub(crate) const WHOLE_PATH: &[Do] = &[
     Do::Deliver(4, 1),
     Do::Deliver(5, 0),
     Do::Deliver(6, 0),
-    Do::Export(0, 0),
+    Do::Export(0),
     Do::Deliver(5, 1),
     Do::Deliver(6, 1),
-    Do::Export(1, 0),
+    Do::Export(1),
 ];
 
-/// What is answered to the whole path.
-pub(crate) const WHOLE_PATH_TOLD: &[&str] = &[
-    "journaled packet 0\ndelivered\ndelivered\nstarted ballot 3 packet 1\ndelivered sent 2\n",
-    "delivered sent 3\ndelivered\ndelivered sent 4\ndelivered sent 5\ndelivered sent 6\ndelivered\n",
-    "delivered learned 0\nexported period 0 lines 2\n",
-    HEADER,
-    LINE,
-    "delivered\ndelivered learned 0\nexported period 0 lines 2\n",
-    HEADER,
-    LINE,
+/// The packets that its replies name.
+pub(crate) const WHOLE_PATH_SENT: &[Option<u32>] = &[
+    Some(0),
+    None,
+    None,
+    Some(1),
+    Some(2),
+    Some(3),
+    None,
+    Some(4),
+    Some(5),
+    Some(6),
+    None,
+    None,
+    None,
+    None,
+    None,
+    None,
 ];
+
+/// The sheet and the issuer of all groups. Both are right, so an error is want of memory, here and below.
+pub(crate) fn rules(alloc: Global) -> Result<(Arc<Sheet>, Arc<Issuer>), AllocError> {
+    let Ok(sheet) = Sheet::read(alloc, SHEET) else {
+        return Err(AllocError);
+    };
+    let Ok(issuer) = Issuer::read(alloc, ISSUER) else {
+        return Err(AllocError);
+    };
+    match (Arc::new(alloc, sheet), Arc::new(alloc, issuer)) {
+        (Ok(sheet), Ok(issuer)) => Ok((sheet, issuer)),
+        _ => Err(AllocError),
+    }
+}
+
+/// A group of three nodes and one agent.
+pub(crate) fn world(alloc: Global) -> Result<World, AllocError> {
+    let (sheet, issuer) = rules(alloc)?;
+    World::new(alloc, 3, 1, sheet, issuer)
+}
+
+/// The event, of period 0 where it is an export.
+pub(crate) fn event_of(alloc: Global, step: Do) -> Result<Event, AllocError> {
+    match step {
+        Do::Journal => {
+            let offer = Offer::read(alloc, READ.as_bytes().to_vec(alloc)?)?;
+            Ok(Event::Journal(offer))
+        }
+        Do::Deliver(packet, node) => Ok(Event::Deliver { packet, node }),
+        Do::Start(node) => Ok(Event::Start { node }),
+        Do::Export(node) => Ok(Event::Export { node, period: 0 }),
+    }
+}
+
+/// The events of the whole path.
+pub(crate) fn whole_path(alloc: Global) -> Result<Vec<Event>, AllocError> {
+    let mut events = Vec::new(alloc);
+    for step in WHOLE_PATH {
+        events.push(event_of(alloc, *step)?)?;
+    }
+    Ok(events)
+}
+
+/// The packet that a reply names.
+pub(crate) fn packet_in(reply: &Reply) -> Option<u32> {
+    match reply {
+        Reply::Journaled { packet } => Some(*packet),
+        Reply::Started { packet, .. } => Some(*packet),
+        Reply::Delivered { sent, .. } => *sent,
+        _ => None,
+    }
+}
+
+/// Those of all replies, in turn.
+pub(crate) fn packets_in(alloc: Global, replies: &[Reply]) -> Result<Vec<Option<u32>>, AllocError> {
+    let mut packets = Vec::new(alloc);
+    for reply in replies {
+        packets.push(packet_in(reply))?;
+    }
+    Ok(packets)
+}
+
+/// A plan of that many nodes, with one agent that has two batches of January and as many periods. A gate is asked 1,000,000
+/// times at most.
+pub(crate) fn plan_of(alloc: Global, nodes: u8, periods: u16) -> Result<Plan, AllocError> {
+    let (sheet, issuer) = rules(alloc)?;
+    let mut texts = Vec::new(alloc);
+    texts.push(READ.as_bytes().to_vec(alloc)?)?;
+    texts.push(b"B1|1|2|1\nX|1|0|3600\n".to_vec(alloc)?)?;
+    let mut journals = Vec::new(alloc);
+    journals.push(texts)?;
+    Ok(Plan {
+        nodes,
+        sheet,
+        issuer,
+        journals,
+        periods,
+        turns: 1_000_000,
+    })
+}

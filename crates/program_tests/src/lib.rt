@@ -1,0 +1,13 @@
+//! Tests of what stands behind the program, by public calls alone: words, the texts of faults, files and refused growths.
+#![tactic(auto)]
+
+#[cfg(test)]
+mod faults;
+#[cfg(test)]
+mod files;
+#[cfg(test)]
+mod growths;
+#[cfg(test)]
+mod samples;
+#[cfg(test)]
+mod words;
