@@ -4,8 +4,7 @@ use crate::samples::{AMENDED, CORRECTION, HEADER, LINE, READ, SHEET};
 use batch_store::Store;
 use batch_view::Offer;
 use counted_io::Counted;
-use focus_row::Issuer;
-use journal_rules::first_broken_up_to;
+use focus_row::{Issuer, rows_of};
 use period_cut::{Cut, Period};
 use price_sheet::Sheet;
 use schedule_player::{file_between, rate_batch};
@@ -34,6 +33,25 @@ fn cut_of(alloc: Global, seq: u32) -> Result<Cut, AllocError> {
     Ok(cut)
 }
 
+/// The file between two cuts. That there are rows between them shows that no batch is missing and that no rule is broken.
+fn told_between(
+    alloc: Global,
+    store: &Store,
+    sheet: &Sheet,
+    issuer: &Issuer,
+    period: Period,
+    cuts: (&Cut, &Cut),
+) -> Result<Vec<u8>, Fail> {
+    let (from, to) = cuts;
+    if store.agents() != 1 || to.agents() != 1 || from.agents() != 1 || !to.at_least(from) {
+        return Err(Fail::from("no such cuts"));
+    }
+    let Ok(_rows) = rows_of(alloc, store, sheet, issuer, period, from, to) else {
+        return Err(Fail::from("no rows"));
+    };
+    Ok(file_between(alloc, store, sheet, issuer, period, from, to)?)
+}
+
 /// Above the first batch its amendment alone is charged, as a correction in the next period.
 #[test]
 fn a_file_begins_behind_its_first_cut(rt: HostRuntime) -> Result<(), Fail> {
@@ -44,16 +62,7 @@ fn a_file_begins_behind_its_first_cut(rt: HostRuntime) -> Result<(), Fail> {
         let period = Period::new(number).ok_or("no period")?;
         let from = cut_of(rt.alloc(), seq)?;
         let to = cut_of(rt.alloc(), (seq + 1).min(2))?;
-        if store.agents() != 1 || to.agents() != 1 || !to.at_least(&from) {
-            return Err(Fail::from("no such cuts"));
-        }
-        if store.first_missing(&to).is_some() {
-            return Err(Fail::from("a batch is missing"));
-        }
-        if first_broken_up_to(&store, &sheet, &to).is_some() {
-            return Err(Fail::from("a rule is broken"));
-        }
-        let text = file_between(rt.alloc(), &store, &sheet, &issuer, period, &from, &to)?;
+        let text = told_between(rt.alloc(), &store, &sheet, &issuer, period, (&from, &to))?;
         let Some(lines) = text.as_slice().strip_prefix(HEADER) else {
             return Err(Fail::from("no header"));
         };
