@@ -1,3 +1,4 @@
+use Rattle.std.proofs.Common.{refl}
 use Rattle.std.proofs.KnownBytes.{Keeps-refl}
 use Rattle.schedule_player.proofs.TranscriptLaws.{agents_within, front_of_input, front_of_whole, nodes_within, none_of_input, played_input}
 use Rattle.schedule_player.proofs.play.play_input.Goals as goal
@@ -22,3 +23,6 @@ returns-in-Ok-clause-memory g c = λ is.
 
 pub returns-in-Err-clause-memory : goal.returns-in-Err-clause-memory
 returns-in-Err-clause-memory g c = λ is. none_of_input c.args.input.now _ _ (Keeps-refl (g.W.Sink.contents c.args.writer.now))
+
+pub returns-in-Err-clause-untouched : goal.returns-in-Err-clause-untouched
+returns-in-Err-clause-untouched g c = λ fault is. refl

@@ -1,4 +1,4 @@
-use Rattle.std.proofs.Common.{◌+◌, ◌<◌, ◌++◌, length, ◌∙◌, rules, arith}
+use Rattle.std.proofs.Common.{◌+◌, ◌<◌, ◌++◌, length, ap, ◌∙◌, rules, arith}
 use Rattle.std.proofs.KnownBytes.{Appends-trans}
 use Rattle.schedule_player.specs.Inner.Playing.{IsTold}
 use Rattle.schedule_player.proofs.Results.{on_err}
@@ -28,6 +28,11 @@ returns-in_default-clause-world g c =
     let i = c.loop-done.done in
     let within : i < length events = search (rules, arith) in
     world_left c.args.world.now c.loop-done.world c.play_event.new.world events i _ within c.loop-done.invariant.1 c.in_default.ensures.left
+
+pub returns-in_default-clause-told : goal.returns-in_default-clause-told
+returns-in_default-clause-told g c =
+    let so = c.loop-done.invariant in
+    (so.0.0, so.0.1, ap (λ t. so.0.0 ++ t) c.in_default.ensures.kept ∙ so.0.2)
 
 pub returns-in_err-write_many-clause-front : goal.returns-in_err-write_many-clause-front
 returns-in_err-write_many-clause-front g c =
