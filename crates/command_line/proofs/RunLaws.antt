@@ -211,7 +211,7 @@ in_range (Threads (threads.Run of_run.Mismatch)) = (omega arith, omega arith)
 
 -- reading nothing takes no byte
 pub nothing_read : (known : Option (List ℕ)) → ConsumesAtMost 16_777_217 known known
-nothing_read None = let nothing : (taken : List ℕ) × ⊤ × (length taken ≤ 16_777_217) = ([], tt, omega arith) in nothing
+nothing_read None = let nothing : (taken : List ℕ) × Unit {0} × (length taken ≤ 16_777_217) = ([], tt, omega arith) in nothing
 nothing_read (Some bytes) = let nothing : (taken : List ℕ) × (bytes ≡ taken ++ bytes) × (length taken ≤ 16_777_217) = ([], refl, omega arith) in nothing
 
 -- no fault ends with 0
@@ -268,7 +268,7 @@ ends source sink telling args command (Err fault) status reader reader' writer w
       refused = λ is. let one = sym same ∙ is in (command, fault, asked, one, leaves.refused one, ending.1);
       not_asked = λ is. absurd (leaves.understood (sym same ∙ is));
       untouched = λ is. absurd (leaves.understood (sym same ∙ is));
-      device = λ is. (command, asked, tells_device told (writer' ≡ writer) (ending_line fault) _ _ _ _ (leaves.device (sym same ∙ is)) ending.1);
+      device = λ is. (command, asked, tells_device told (writer' ≡ writer) (ending_line fault) (source.failed_calls reader) (source.failed_calls reader') (sink.failed_calls writer) (sink.failed_calls writer') (leaves.device (sym same ∙ is)) ending.1);
       calm = λ other. leaves.calm (λ is. other (same ∙ is));
       memory = λ is. tells_memory told fault (sym same ∙ is) ending.1;
       part = λ is. part_of _ _ (AsksFor args) command asked (leaves.part (sym same ∙ is));
@@ -278,21 +278,29 @@ ends source sink telling args command (Err fault) status reader reader' writer w
       not_given = given_of args command _ asked;
     }
 
+abbrev pub not_asked : LineFault → Result Command LineFault
+not_asked fault = Err fault
+
+same_fault : (one other : LineFault) → not_asked one ≡ not_asked other → one ≡ other
+same_fault one other same = cc
+
 -- what the words are said to be where none were given
-missing_of : {A B : Type 0} (args : Result (IntoIter (String A) B) Error) (fault : LineFault) (status : ℕ) → status ≡ status_of (Line fault)
-    → IfErr args (λ error. (error_kind error ≡ NoMemory → fault ≡ on_line.OutOfMemory) × (error_kind error ≢ NoMemory → fault ≡ on_line.Line))
+abbrev pub IsMissing : {A B : Type 0} → Result (IntoIter (String A) B) Error → LineFault → Type 0
+IsMissing args fault = IfErr args (λ error. (error_kind error ≡ NoMemory → not_asked fault ≡ not_asked on_line.OutOfMemory) × (error_kind error ≢ NoMemory → not_asked fault ≡ not_asked on_line.Line))
+
+missing_of : {A B : Type 0} (args : Result (IntoIter (String A) B) Error) (fault : LineFault) (status : ℕ) → status ≡ status_of (Line fault) → IsMissing args fault
     → IfErr args (λ error. (error_kind error ≡ NoMemory → status ≡ 4) × (error_kind error ≢ NoMemory → status ≡ 2))
 missing_of (Ok given) fault status same missing = tt
 missing_of (Err error) fault status same missing = (
-  (λ no_memory. same ∙ ap (λ (f : LineFault). status_of (Line f)) (missing.0 no_memory)),
-  (λ other. same ∙ ap (λ (f : LineFault). status_of (Line f)) (missing.1 other)),
+  (λ no_memory. same ∙ ap (λ (f : LineFault). status_of (Line f)) (same_fault fault on_line.OutOfMemory (missing.0 no_memory))),
+  (λ other. same ∙ ap (λ (f : LineFault). status_of (Line f)) (same_fault fault on_line.Line (missing.1 other))),
 )
 
 -- A run whose words ask for nothing, or could not be had, tells that alone.
 pub ends_at_words : {R W E A B : Type 0} (source : SourceOf R) (sink : SinkOf W) (telling : SinkOf E) (args : Result (IntoIter (String A) B) Error) (fault : LineFault) (status : ℕ) (reader : R) (writer : W) (errors errors' : E)
     → status ≡ status_of (Line fault) → Tells telling (Line fault) errors errors'
     → (fault ≡ on_line.Line → (command : Command) → ¬ AsksFor args command)
-    → IfErr args (λ error. (error_kind error ≡ NoMemory → fault ≡ on_line.OutOfMemory) × (error_kind error ≢ NoMemory → fault ≡ on_line.Line))
+    → IsMissing args fault
     → Ends source sink telling args status reader reader writer writer errors errors'
 ends_at_words source sink telling args on_line.Line status reader writer errors errors' same told unasked missing = record {
   range = omega (arith, same);
@@ -328,3 +336,13 @@ ends_at_words source sink telling args on_line.OutOfMemory status reader writer 
   unread = λ size asked. refl;
   not_given = missing_of args on_line.OutOfMemory status same missing;
 }
+
+-- What was lent may have another name where nothing was done to it before.
+pub ends_from : {R W E A B : Type 0} (source : SourceOf R) (sink : SinkOf W) (telling : SinkOf E) (args : Result (IntoIter (String A) B) Error) (status : ℕ) (reader reader₀ reader' : R) (writer writer₀ writer' : W) (errors errors₀ errors' : E)
+    → reader ≡ reader₀ → writer ≡ writer₀ → errors ≡ errors₀
+    → Ends source sink telling args status reader reader' writer writer' errors errors'
+    → Ends source sink telling args status reader₀ reader' writer₀ writer' errors₀ errors'
+ends_from {R} {W} {E} source sink telling args status reader reader₀ reader' writer writer₀ writer' errors errors₀ errors' same_reader same_writer same_errors done =
+    subst (λ (r : R). Ends source sink telling args status r reader' writer₀ writer' errors₀ errors') same_reader
+    (subst (λ (w : W). Ends source sink telling args status reader reader' w writer' errors₀ errors') same_writer
+    (subst (λ (e : E). Ends source sink telling args status reader reader' writer writer' e errors') same_errors done))

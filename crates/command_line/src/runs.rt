@@ -138,11 +138,14 @@ pub fn run_alone<R: Source, W: Sink, E: Sink>(
     ensures only_memory { IfOk result (λ status. (size : Size) → AsksFor args (Command.Threads size)
         → status ≡ 4) }
 {
-    match asked(alloc, args) {
-        Ok(Command::Rate { period }) => { Ok(ended(rate(alloc, period, reader, writer), errors)) }
-        Ok(Command::Play) => Ok(ended(play(alloc, reader, writer), errors)),
-        Ok(Command::Threads { size }) => Err(size),
-        Err(fault) => Ok(ending(&Fault::Line(fault), errors)),
+    let command = match asked(alloc, args) {
+        Ok(command) => command,
+        Err(fault) => return Ok(ending(&Fault::Line(fault), errors)),
+    };
+    match command {
+        Command::Rate { period } => Ok(ended(rate(alloc, period, reader, writer), errors)),
+        Command::Play => Ok(ended(play(alloc, reader, writer), errors)),
+        Command::Threads { size } => Err(size),
     }
 }
 

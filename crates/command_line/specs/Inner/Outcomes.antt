@@ -1,8 +1,6 @@
 -- What came of a command, before anything is told of it.
 use Rattle.std.specs.Prelude.{◌≡◌, ◌≢◌, ◌⊎◌, ℕ, List, Option, Result, Ok, Err}
-use Rattle.std.specs.Io.KnownBytes.{Appends}
 use Rattle.counted_io.specs.Counts.{next_count}
-use Rattle.counted_io.specs.Reading.{ConsumesAtMost}
 use Rattle.counted_io.specs.declared.writing.Sink.{Ghosts as SinkOf}
 use Rattle.schedule_player.specs.declared.PlayFault.TheVariants as play
 use Rattle.command_line.specs.Endings.{Tells, ending_line, status_of}

@@ -1,4 +1,4 @@
-use Rattle.std.proofs.Common.{◌≡◌, ◌≢◌, ℕ, List, Option, Err, IfSome, ap, inl, refl}
+use Rattle.std.proofs.Common.{◌≡◌, ℕ, List, Option, Err, IfSome, ap, inl, refl}
 use Rattle.metering_model.specs.declared.Refusal.{Refusal}
 use Rattle.input_sections.specs.declared.faults.ScheduleFault.{ScheduleFault}
 use Rattle.schedule_player.specs.declared.PlayFault.{PlayFault}
