@@ -12,8 +12,7 @@ ghost use Rattle.metering_model.specs.File.{file};
 ghost use Rattle.row_laws.specs.Due.{WereDueBefore, StartsBeforeItsPeriodEnds};
 
 use batch_store::Store;
-use focus_csv::{header_text, put_rows};
-use focus_row::{Issuer, rows_between};
+use focus_csv::{Issuer, header_text, put_rows, rows_between};
 use period_cut::{Cut, Period};
 use price_sheet::Sheet;
 use std::alloc::{AllocError, Global};
@@ -44,7 +43,7 @@ pub fn file_between(
         → WereDueBefore sheet.now.base period store.now.batches from.now
         → All StartsBeforeItsPeriodEnds (rows sheet.now issuer.now store.now.batches period from.now to.now) }
 {
-    focus_row::laws::rows_stay();
+    row_laws::laws::rows_stay();
     row_laws::laws::charges_start_before_their_periods_end();
     let _agents = store.agents();
     let _base = sheet.base_month();

@@ -26,7 +26,7 @@ use crate::input::read_input;
 use batch_store::Store;
 use batch_view::{BatchView, Offer, OwnedBatch};
 use counted_io::{Sink, Source, write_all};
-use focus_row::Issuer;
+use focus_csv::Issuer;
 use input_sections::{ScheduleFault, rate_input};
 use journal_rules::first_broken_alone;
 use metering_model::{BrokenRule, Refusal};

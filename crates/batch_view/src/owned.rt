@@ -17,7 +17,7 @@ use crate::batch::{BatchView, check_batch};
 use crate::entries::{Entry, Found, entry_at, field_total, plain_flag};
 use crate::head::Head;
 use crate::reading::{Unkept, keep_batch};
-use fx_money::Value;
+use record_view::Value;
 use metering_model::BatchFault;
 use record_view::{Span, Stamp};
 use std::alloc::{AllocError, AllocFailed, Global};

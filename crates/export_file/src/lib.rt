@@ -10,13 +10,12 @@ ghost use Rattle.counted_io.specs.Writing.{AppendsFront};
 ghost use Rattle.metering_model.specs.Rows.{rows};
 ghost use Rattle.metering_model.specs.Transcript.{file_of};
 ghost use Rattle.metering_model.specs.World as model;
-ghost use Rattle.charge_row.specs.FocusRows.{model_row};
+ghost use Rattle.focus_csv.specs.Rows.{model_row};
 ghost use Rattle.focus_csv.specs.Faults.{is_sink_fault};
 ghost use Rattle.export_file.specs.Fronts.{AppendsSome};
 
 use counted_io::Sink;
-use focus_csv::{CsvFault, header_text};
-use focus_row::{FocusRow, RowsBetween, rows_between};
+use focus_csv::{CsvFault, FocusRow, RowsBetween, header_text, rows_between};
 use group_events::Snapshot;
 use pieces::{put_behind, write_behind};
 use std::alloc::{AllocError, Global};

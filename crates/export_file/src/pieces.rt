@@ -6,13 +6,12 @@ ghost use Rattle.std.specs.Io.KnownBytes.{Appends};
 ghost use Rattle.counted_io.specs.Counts.{Rises, count_after};
 ghost use Rattle.counted_io.specs.Writing.{AppendsFront};
 ghost use Rattle.metering_model.specs.File.{row_text};
-ghost use Rattle.charge_row.specs.FocusRows.{model_row};
+ghost use Rattle.focus_csv.specs.Rows.{model_row};
 ghost use Rattle.focus_csv.specs.Faults.{is_sink_fault};
 ghost use Rattle.export_file.specs.Fronts.{AppendsSome};
 
 use counted_io::{Sink, write_all};
-use focus_csv::{CsvFault, put_rows, row_texts};
-use focus_row::{FocusRow, RowsBetween};
+use focus_csv::{CsvFault, FocusRow, RowsBetween, put_rows, row_texts};
 use std::alloc::{AllocError, Global};
 
 /// Writes a text.

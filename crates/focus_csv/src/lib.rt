@@ -11,7 +11,7 @@ ghost use Rattle.focus_csv.specs.Faults.{is_sink_fault};
 
 pub use appending::put_rows;
 use counted_io::{Sink, write_all};
-use focus_row::FocusRow;
+pub use focus_row::{FocusRow, Issuer, IssuerFault, RowsBetween, rows_between};
 use lines::file_bytes;
 pub use lines::{header_text, row_texts};
 use std::alloc::Global;

@@ -20,10 +20,10 @@ use crate::places::{is_named, next_named};
 use batch_store::{RecordPlace, Store};
 use batch_view::{Reading, Record};
 use charge_row::{Billing, FocusRow, row};
-use fx_money::Value;
+use batch_view::Value;
 use metering_model::ChargeClass;
 use period_cut::{Cut, Period};
-use price_sheet::{Issuer, Sheet};
+use charge_row::{Issuer, Sheet};
 use std::alloc::{AllocError, Global};
 use std::marker::Model;
 

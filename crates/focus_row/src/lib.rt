@@ -8,5 +8,5 @@ mod whole;
 
 pub use between::{RowsBetween, rows_between};
 pub use charge_row::FocusRow;
-pub use price_sheet::{Issuer, IssuerFault};
+pub use charge_row::{Issuer, IssuerFault};
 pub use whole::{RowFault, rows_of};

@@ -15,7 +15,7 @@ use charge_row::FocusRow;
 use journal_rules::first_broken_up_to;
 use metering_model::BrokenRule;
 use period_cut::{Cut, Period};
-use price_sheet::{Issuer, Sheet};
+use charge_row::{Issuer, Sheet};
 use std::alloc::Global;
 use thiserror::Error;
 

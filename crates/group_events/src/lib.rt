@@ -6,5 +6,7 @@ mod replies;
 mod snapshots;
 
 pub use events::Event;
+pub use paxos_ballot::Ballot;
+pub use period_cut::Period;
 pub use replies::Reply;
 pub use snapshots::Snapshot;

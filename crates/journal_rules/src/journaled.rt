@@ -13,9 +13,9 @@ ghost use Rattle.journal_rules.specs.Inner.Journaled.{stored_in};
 use batch_store::{RecordPlace, Store};
 use batch_view::{BatchView, Kind, OwnedBatch, Reading, Record};
 use byte_text::is_same;
-use fx_money::Value;
+use batch_view::Value;
 use metering_model::BrokenRule;
-use price_sheet::{Commitment, Sheet};
+use rating::{Commitment, Sheet};
 use rating::{commitment_of, is_priced, price_of};
 use std::marker::Model;
 

@@ -13,7 +13,7 @@ ghost use Rattle.node_book.specs.Kept.{entry_of, told_of};
 use crate::{Entry, Receipt};
 use group_core::{Event, World, laws};
 use metering_model::Worker;
-use price_sheet::{Issuer, Sheet};
+use group_core::{Issuer, Sheet};
 use std::alloc::{AllocError, Global};
 use std::marker::Model;
 use std::sync::Arc;

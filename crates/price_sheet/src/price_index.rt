@@ -8,7 +8,7 @@ use crate::starts::{Start, Starts};
 use indexmap::IndexMap;
 use sheet_text::PriceRow;
 use std::alloc::{AllocError, Global};
-use utc_calendar::Day;
+use sheet_text::Day;
 
 /// Where the prices of each SKU stand in the sheet, by day.
 #[derive(Drop)]

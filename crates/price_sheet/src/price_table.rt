@@ -16,7 +16,7 @@ use sheet_text::{KeyFault, Place, PriceRow, SheetFault};
 use std::alloc::Global;
 use std::marker::Model;
 use toml::Table;
-use utc_calendar::Day;
+use sheet_text::Day;
 
 /// The rows of prices in the order of the sheet, with their places by SKU and day.
 #[derive(Drop)]

@@ -6,7 +6,7 @@ ghost use Rattle.price_sheet.specs.Inner.Days.{begun, with_start};
 use std::alloc::{AllocError, Global};
 use std::collections::BTreeMap;
 use std::marker::Model;
-use utc_calendar::Day;
+use sheet_text::Day;
 
 /// From the day on the price at this place of the sheet holds. Places are counted from 0.
 #[derive(Clone, Copy)]

@@ -1,13 +1,11 @@
 //! The texts of faults.
 
-use command_line::LineFault;
+use command_line::{LineFault, PlayFault, RunFault, ScheduleCode, ScheduleFault, ThreadsFault};
 use counted_io::{Failed, ReadFault};
 use focus_csv::CsvFault;
 use focus_row::RowFault;
 use metering_model::{BatchCode, BatchFault, BrokenRule, NumberFault, Refusal};
-use schedule_player::{PlayFault, ScheduleCode, ScheduleFault};
 use std::test::Fail;
-use threads_player::{RunFault, ThreadsFault};
 
 #[test]
 fn each_fault_is_told_in_its_words(rt: HostRuntime) -> Result<(), Fail> {

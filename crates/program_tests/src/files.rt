@@ -1,13 +1,13 @@
 //! Files by calls that no word of the program asks for.
 
 use crate::samples::{AMENDED, CORRECTION, HEADER, LINE, READ, SHEET};
+use batch_player::{file_between, rate_batch};
 use batch_store::Store;
 use batch_view::Offer;
 use counted_io::Counted;
 use focus_row::{Issuer, rows_of};
 use period_cut::{Cut, Period};
 use price_sheet::Sheet;
-use schedule_player::{file_between, rate_batch};
 use std::alloc::{AllocError, Global};
 use std::test::Fail;
 

@@ -1,9 +1,9 @@
 //! Growths that are refused, each in turn behind the gate: what is told then, and what went out.
 
 use crate::samples::{EVENTS, HEADER, LINE, READ, REPLIES, SECTIONS};
+use command_line::{PlayFault, play_text, rate_text};
 use counted_io::{Counted, FakeReader, FakeWriter};
 use period_cut::Period;
-use schedule_player::{PlayFault, play_text, rate_text};
 use std::alloc::{AllocError, Global};
 use std::test::Fail;
 

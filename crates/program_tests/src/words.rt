@@ -1,10 +1,9 @@
 //! The words that the program is given.
 
-use command_line::{Command, LineFault, command};
+use command_line::{Command, LineFault, Size, command};
 use period_cut::Period;
 use std::alloc::{AllocError, Global};
 use std::test::Fail;
-use threads_player::Size;
 
 fn words_of(alloc: Global, line: &str) -> Result<Vec<String>, AllocError> {
     let mut words = Vec::new(alloc);

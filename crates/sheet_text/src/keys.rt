@@ -15,7 +15,7 @@ use period_cut::Month;
 use std::alloc::{AllocError, Global};
 use toml::value::Array;
 use toml::{Table, Value};
-use utc_calendar::Day;
+use period_cut::Day;
 
 /// The rows that a table of a sheet may have.
 const MOST_ROWS: usize = 10_000;

@@ -14,7 +14,7 @@ use metering_model::ServiceCategory;
 use std::alloc::Global;
 use std::marker::Model;
 use toml::Table;
-use utc_calendar::Day;
+use period_cut::Day;
 
 /// A price of a SKU from a day on.
 #[derive(Drop)]

@@ -2,7 +2,7 @@ use Rattle.std.proofs.Common.{◌≡◌, ◌++◌, map, sym, ap, subst, ◌∙�
 use Rattle.std.specs.Prelude.{IfSome}
 use Rattle.std.specs.List.{flat_map}
 use Rattle.metering_model.specs.File.{row_text}
-use Rattle.charge_row.specs.FocusRows.{model_row}
+use Rattle.focus_csv.specs.Rows.{model_row}
 use Rattle.export_file.specs.Fronts.{AppendsSome}
 use Rattle.export_file.proofs.Written.{some_written, front_written, more_written}
 use Rattle.export_file.proofs.pieces.write_left.Goals as goal
