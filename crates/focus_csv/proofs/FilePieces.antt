@@ -1,5 +1,5 @@
 -- A file grows behind its header line.
-use Rattle.std.proofs.Common.{◌≡◌, List, [], ◌∷◌, ◌++◌, refl, sym, ap, ◌∙◌, append_assoc}
+use Rattle.std.proofs.Common.{◌≡◌, ℕ, List, [], ◌∷◌, ◌++◌, refl, sym, ap, ◌∙◌, append_assoc}
 use Rattle.std.specs.List.{flat_map}
 use Rattle.std.proofs.lemmas.Grind.{flat_map-append}
 use Rattle.metering_model.specs.Row.{Row}
@@ -20,3 +20,13 @@ pub all_pieces : (pieces : List (List Row)) → (header_line ++ 10 ∷ []) ++ fl
 all_pieces pieces =
     append_assoc header_line (10 ∷ []) (flat_map (flat_map row_text) pieces)
     ∙ ap (λ t. header_line ++ 10 ∷ t) (texts_of pieces)
+
+-- the lines of rows behind a text that ends with the header line
+pub file_behind : (old head text new : List ℕ) (rows : List Row) → head ≡ header_line ++ 10 ∷ [] → text ≡ old ++ head
+    → new ≡ text ++ flat_map row_text rows → new ≡ old ++ file rows
+file_behind old head text new rows is_header begun is =
+    let lines = flat_map row_text rows in
+    is
+    ∙ ap (λ t. t ++ lines) (begun ∙ ap (λ h. old ++ h) is_header)
+    ∙ append_assoc old (header_line ++ 10 ∷ []) lines
+    ∙ ap (λ t. old ++ t) (append_assoc header_line (10 ∷ []) lines)

@@ -9,22 +9,24 @@ ghost use Rattle.metering_model.specs.File.{file};
 ghost use Rattle.charge_row.specs.FocusRows.{model_row};
 ghost use Rattle.focus_csv.specs.Faults.{is_sink_fault};
 
-pub use appending::put_rows;
-use counted_io::{Sink, write_all};
+use counted_io::Sink;
+pub use files::{put_file, put_rows, write_rows};
 pub use focus_row::{FocusRow, Issuer, IssuerFault, RowsBetween, rows_between};
 use lines::file_bytes;
 pub use lines::{header_text, row_texts};
 use std::alloc::Global;
 use thiserror::Error;
+use writing::write_text;
 
-mod appending;
 mod fields;
+mod files;
 pub mod laws;
 mod lines;
 mod numbers;
 mod pieces;
 mod tags;
 mod texts;
+mod writing;
 
 /// Why a file was not written.
 #[derive(Clone, Copy, Debug, Drop, Error)]
@@ -59,8 +61,5 @@ pub fn write_file<W: Sink>(
     let Ok(bytes) = file_bytes(alloc, rows) else {
         return Err(CsvFault::OutOfMemory);
     };
-    match write_all(sink, bytes.as_slice()) {
-        Ok(()) => Ok(()),
-        Err(_) => Err(CsvFault::Write),
-    }
+    write_text(sink, bytes.as_slice())
 }

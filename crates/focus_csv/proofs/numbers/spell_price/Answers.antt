@@ -5,7 +5,7 @@ use Rattle.metering_model.specs.NumberText.{spelling}
 use Rattle.metering_model.specs.File.{price_or_null}
 use Rattle.focus_csv.specs.Inner.Runs.{behind}
 use Rattle.focus_csv.proofs.LineLaws.{number_behind}
-use Rattle.focus_csv.proofs.numbers.set_price.Goals as goal
+use Rattle.focus_csv.proofs.numbers.spell_price.Goals as goal
 
 pub returns-in-Some : goal.returns-in-Some
 returns-in-Some c =
