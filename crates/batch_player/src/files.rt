@@ -12,7 +12,7 @@ ghost use Rattle.metering_model.specs.File.{file};
 ghost use Rattle.row_laws.specs.Due.{WereDueBefore, StartsBeforeItsPeriodEnds};
 
 use batch_store::Store;
-use focus_csv::{Issuer, header_text, put_rows, rows_between};
+use focus_csv::{Issuer, put_file, rows_between};
 use period_cut::{Cut, Period};
 use price_sheet::Sheet;
 use std::alloc::{AllocError, Global};
@@ -48,8 +48,7 @@ pub fn file_between(
     let _agents = store.agents();
     let _base = sheet.base_month();
     let mut text = Vec::new(alloc);
-    text.extend_from_slice(header_text())?;
-    let mut left = rows_between(alloc, store, sheet, issuer, period, from, to)?;
-    put_rows(alloc, &mut left, &mut text)?;
+    let left = rows_between(alloc, store, sheet, issuer, period, from, to)?;
+    put_file(alloc, left, &mut text)?;
     Ok(text)
 }

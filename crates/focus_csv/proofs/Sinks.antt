@@ -5,37 +5,11 @@ use Rattle.std.proofs.Math.Seq.{take-append-add, take-length}
 use Rattle.std.proofs.KnownBytes.{Appends-nil, Appends-trans}
 use Rattle.std.specs.Io.KnownBytes.{Appends}
 use Rattle.counted_io.specs.Writing.{AppendsFront, AppendsSome}
+use Rattle.counted_io.proofs.Fronts.{front_behind, front_within, some_within}
 
 -- nothing was written
 pub none_written : (a : Option (List ℕ)) (all : List ℕ) → AppendsSome a a all
 none_written a all = (0, omega arith, Appends-nil a)
-
-module _ (a b : Option (List ℕ)) (xs ys : List ℕ) where
-  -- a front of a text is one of the text with more behind it
-  front_within : AppendsFront a b xs → AppendsFront a b (xs ++ ys)
-  front_within front =
-      let short = front.1 in (
-        front.0,
-        omega (arith, length-append xs ys, short),
-        subst (Appends a b) (sym (take-append-le front.0 xs ys (omega (arith, short)))) front.2,
-      )
-
-  -- a whole text is a front of the text with more behind it
-  some_within : Appends a b xs → AppendsSome a b (xs ++ ys)
-  some_within all = (
-    length xs,
-    omega (arith, length-append xs ys),
-    subst (Appends a b) (sym (take-append-le (length xs) xs ys (omega arith) ∙ take-length xs)) all,
-  )
-
--- a front behind a whole text is a front of both
-front_behind : (a b c : Option (List ℕ)) (xs ys : List ℕ) → Appends a b xs → AppendsFront b c ys → AppendsFront a c (xs ++ ys)
-front_behind a b c xs ys before after =
-    let short = after.1 in (
-      length xs + after.0,
-      omega (arith, length-append xs ys, short),
-      subst (Appends a c) (sym (take-append-add xs ys after.0)) (Appends-trans a b c xs (take after.0 ys) before after.2),
-    )
 
 -- Behind what was written comes the next text, and then the rest of all.
 module _ (a b c : Option (List ℕ)) (written next rest all slice : List ℕ) (is : written ++ (next ++ rest) ≡ all) (same : slice ≡ next) (before : Appends a b written) where

@@ -4,8 +4,7 @@ use Rattle.std.proofs.lemmas.List.{length-append, take-append-le}
 use Rattle.std.proofs.Math.Seq.{take-append-add, take-length}
 use Rattle.std.proofs.KnownBytes.{Appends-trans}
 use Rattle.std.specs.Io.KnownBytes.{Appends}
-use Rattle.counted_io.specs.Writing.{AppendsFront}
-use Rattle.export_file.specs.Fronts.{AppendsSome}
+use Rattle.counted_io.specs.Writing.{AppendsFront, AppendsSome}
 
 module _ (a b c : Option (List ℕ)) (xs ys : List ℕ) where
   -- a front behind a whole text is a front of both
