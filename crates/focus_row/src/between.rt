@@ -18,12 +18,10 @@ ghost use Rattle.focus_row.specs.Inner.Left.{MayBeCharged, record_at, rows_left}
 
 use crate::places::{is_named, next_named};
 use batch_store::{RecordPlace, Store};
-use batch_view::{Reading, Record};
-use charge_row::{Billing, FocusRow, row};
-use batch_view::Value;
+use batch_view::{Reading, Record, Value};
+use charge_row::{Billing, FocusRow, Issuer, Sheet, row};
 use metering_model::ChargeClass;
 use period_cut::{Cut, Period};
-use charge_row::{Issuer, Sheet};
 use std::alloc::{AllocError, Global};
 use std::marker::Model;
 

@@ -7,6 +7,5 @@ mod places;
 mod whole;
 
 pub use between::{RowsBetween, rows_between};
-pub use charge_row::FocusRow;
-pub use charge_row::{Issuer, IssuerFault};
+pub use charge_row::{FocusRow, Issuer, IssuerFault};
 pub use whole::{RowFault, rows_of};

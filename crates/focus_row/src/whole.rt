@@ -11,11 +11,10 @@ ghost use Rattle.charge_row.specs.FocusRows.{model_row};
 
 use crate::between::rows_between;
 use batch_store::Store;
-use charge_row::FocusRow;
+use charge_row::{FocusRow, Issuer, Sheet};
 use journal_rules::first_broken_up_to;
 use metering_model::BrokenRule;
 use period_cut::{Cut, Period};
-use charge_row::{Issuer, Sheet};
 use std::alloc::Global;
 use thiserror::Error;
 

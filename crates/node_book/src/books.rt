@@ -11,9 +11,8 @@ ghost use Rattle.node_book.specs.Books.{opened};
 ghost use Rattle.node_book.specs.Kept.{entry_of, told_of};
 
 use crate::{Entry, Receipt};
-use group_core::{Event, World, laws};
+use group_core::{Event, Issuer, Sheet, World, laws};
 use metering_model::Worker;
-use group_core::{Issuer, Sheet};
 use std::alloc::{AllocError, Global};
 use std::marker::Model;
 use std::sync::Arc;
