@@ -1,0 +1,156 @@
+//! A store that is filled and asked where memory runs out.
+
+use batch_store::{RecordPlace, Store};
+use batch_view::{Offer, OwnedBatch};
+use period_cut::{Cut, Month, Period};
+use std::alloc::{AllocError, Global};
+use std::sync::Arc;
+use std::test::Fail;
+
+/// Usage of January 2025.
+pub(crate) const READ: &[u8] =
+    b"B1|1|1|1\nU|2025-01-10T00:00:00Z|2025-01-10T02:00:00Z|acc-7|vm-1|cpu|5400||env=prod\n";
+
+/// Its value, given anew.
+pub(crate) const AMENDED: &[u8] = b"B1|1|2|1\nX|1|0|7200\n";
+
+const AMENDED_TWICE: &[u8] = b"B1|1|3|2\nX|1|0|3600\nX|1|0|5400\n";
+
+/// Amendments behind a gap, so many that the list of what they and the others name grows twice.
+const AHEAD: &[u8] = b"B1|1|5|3\nX|1|0|7200\nX|1|0|3600\nX|1|0|5400\n";
+
+/// What comes of these bytes.
+fn offered(alloc: Global, bytes: &[u8]) -> Result<Offer, AllocError> {
+    Offer::read(alloc, bytes.to_vec(alloc)?)
+}
+
+/// The batch of these bytes, which are read again where the first call finds no memory.
+fn batch_again(alloc: Global, bytes: &[u8]) -> Result<Arc<OwnedBatch>, Fail> {
+    let offer = match offered(alloc, bytes) {
+        Ok(offer) => offer,
+        Err(_) => offered(alloc, bytes)?,
+    };
+    match offer {
+        Offer::Good(batch) => Ok(batch),
+        Offer::Bad(_) => Err(Fail::from("it is no batch")),
+    }
+}
+
+/// The least sequence that the first agent has no batch of.
+fn first_absent(store: &Store) -> u32 {
+    // Its clause says that there is an agent.
+    let _agents = store.agents();
+    store.first_absent(1)
+}
+
+/// Whether the first agent has a batch of this sequence.
+fn has(store: &Store, seq: u32) -> bool {
+    // Its clause says that there is an agent.
+    let _agents = store.agents();
+    store.get(1, seq).is_some()
+}
+
+/// Puts a batch, again where the first call finds no memory, and tells whether it was added and nothing had changed
+/// by then.
+fn is_put_again(store: &mut Store, batch: Arc<OwnedBatch>) -> Result<bool, Fail> {
+    let seq = batch.view().seq();
+    if store.agents() < batch.view().agent() {
+        return Err(Fail::from("it is of another agent"));
+    }
+    let absent = first_absent(store);
+    let other = Arc::try_clone(&batch)?;
+    match store.put(batch) {
+        Ok(added) => Ok(added),
+        Err(_) => {
+            let unchanged = !has(store, seq) && first_absent(store) == absent;
+            Ok(unchanged && store.put(other)?)
+        }
+    }
+}
+
+/// The cut of one agent with this last sequence.
+pub(crate) fn cut_of(alloc: Global, seq: u32) -> Result<Cut, AllocError> {
+    let mut cut = Cut::zero(alloc, 1)?;
+    cut.set(1, seq.min(1_000_000));
+    Ok(cut)
+}
+
+/// The same as a copy, each made again where the first call finds no memory.
+fn cut_again(alloc: Global, seq: u32) -> Result<Cut, AllocError> {
+    let cut = match cut_of(alloc, seq) {
+        Ok(cut) => cut,
+        Err(_) => cut_of(alloc, seq)?,
+    };
+    match cut.copy(alloc) {
+        Ok(copy) => Ok(copy),
+        Err(_) => cut.copy(alloc),
+    }
+}
+
+/// Whether a part is shared up to the batch behind the gap, asked for again where the first call finds no memory.
+fn shares_again(store: &Store, alloc: Global) -> Result<bool, Fail> {
+    let five = cut_again(alloc, 5)?;
+    if store.agents() != 1 || five.agents() != 1 {
+        return Err(Fail::from("other agents"));
+    }
+    let part = match store.share(alloc, &five) {
+        Ok(part) => part,
+        Err(_) => store.share(alloc, &five)?,
+    };
+    Ok(first_absent(&part) == 4 && has(&part, 5))
+}
+
+/// Whether the store can be closed up to the gap, asked again where the first call finds no memory.
+fn closes_again(store: &Store, alloc: Global) -> Result<bool, Fail> {
+    let january = Period::new(0).ok_or("no period")?;
+    let base = Month::of(2025, 1);
+    let zero = cut_again(alloc, 0)?;
+    if store.agents() != 1 || zero.agents() != 1 {
+        return Err(Fail::from("other agents"));
+    }
+    let front = match store.due_front(alloc, &zero, january, base) {
+        Ok(front) => front,
+        Err(_) => store.due_front(alloc, &zero, january, base)?,
+    };
+    Ok(front.same(&cut_again(alloc, 3)?))
+}
+
+/// Whether the one place that is amended is told, asked for again where the first call finds no memory.
+fn names_again(store: &Store, alloc: Global) -> Result<bool, Fail> {
+    let one = cut_again(alloc, 1)?;
+    let five = cut_again(alloc, 5)?;
+    if store.agents() != 1 || one.agents() != 1 || five.agents() != 1 || !five.at_least(&one) {
+        return Err(Fail::from("no such cuts"));
+    }
+    let places = match store.amended(alloc, &one, &five) {
+        Ok(places) => places,
+        Err(_) => store.amended(alloc, &one, &five)?,
+    };
+    let amended = RecordPlace {
+        agent: 1,
+        seq: 1,
+        index: 0,
+    };
+    Ok(places.as_slice() == [amended].as_slice())
+}
+
+/// Each call that may find no memory is made again where it does: with each growth refused in turn the answers of the
+/// second call show that the first has changed nothing.
+#[test]
+fn a_refused_growth_of_a_store_changes_nothing(rt: HostRuntime) -> Result<(), Fail> {
+    let alloc = rt.alloc();
+    let mut store = match Store::new(alloc, 1) {
+        Ok(store) => store,
+        Err(_) => Store::new(alloc, 1)?,
+    };
+    let mut all = true;
+    for bytes in [AHEAD, AMENDED_TWICE, READ, AMENDED] {
+        let batch = batch_again(alloc, bytes)?;
+        all = is_put_again(&mut store, batch)? && all;
+    }
+    all = shares_again(&store, alloc)? && all;
+    all = closes_again(&store, alloc)? && all;
+    all = names_again(&store, alloc)? && all;
+    assert!(rt; all && first_absent(&store) == 4);
+    Ok(())
+}
