@@ -11,11 +11,7 @@ ghost use Rattle.metering_model.specs.Rows.{rows};
 ghost use Rattle.metering_model.specs.File.{file};
 ghost use Rattle.row_laws.specs.Due.{WereDueBefore, StartsBeforeItsPeriodEnds};
 
-use batch_store::Store;
-use focus_csv::{header_text, put_rows};
-use focus_row::{Issuer, rows_between};
-use period_cut::{Cut, Period};
-use price_sheet::Sheet;
+use focus_csv::{Cut, Issuer, Period, Sheet, Store, put_file, rows_between};
 use std::alloc::{AllocError, Global};
 
 /// The file of a billing period between two cuts of what a store has: from the bytes of its batches to those of the file.
@@ -44,13 +40,13 @@ pub fn file_between(
         → WereDueBefore sheet.now.base period store.now.batches from.now
         → All StartsBeforeItsPeriodEnds (rows sheet.now issuer.now store.now.batches period from.now to.now) }
 {
-    focus_row::laws::rows_stay();
+    row_laws::laws::rows_stay();
     row_laws::laws::charges_start_before_their_periods_end();
+    // For the proof alone: their clauses say that the agents are 1 to 64, their batches a holding, and the month a base month.
     let _agents = store.agents();
     let _base = sheet.base_month();
     let mut text = Vec::new(alloc);
-    text.extend_from_slice(header_text())?;
-    let mut left = rows_between(alloc, store, sheet, issuer, period, from, to)?;
-    put_rows(alloc, &mut left, &mut text)?;
+    let left = rows_between(alloc, store, sheet, issuer, period, from, to)?;
+    put_file(alloc, left, &mut text)?;
     Ok(text)
 }

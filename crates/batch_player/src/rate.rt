@@ -23,15 +23,12 @@ ghost use Rattle.batch_player.specs.Faults.{tells_of_reader, tells_of_writer};
 use crate::PlayFault;
 use crate::files::file_between;
 use crate::input::read_input;
-use batch_store::Store;
 use batch_view::{BatchView, Offer, OwnedBatch};
 use counted_io::{Sink, Source, write_all};
-use focus_row::Issuer;
+use focus_csv::{Cut, Issuer, Period, Sheet, Store};
 use input_sections::{ScheduleFault, rate_input};
 use journal_rules::first_broken_alone;
 use metering_model::{BrokenRule, Refusal};
-use period_cut::{Cut, Period};
-use price_sheet::Sheet;
 use std::alloc::{AllocError, Global};
 use std::sync::Arc;
 
@@ -162,10 +159,7 @@ pub fn rate_batch<W: Sink>(
         Ok(Offer::Bad(fault)) => return Err(PlayFault::Refused(Refusal::BadBatch(fault))),
         Err(unkept) => return Err(fault_of_unkept(sheet, &unkept.value)),
     };
-    let text = match file_of_batch(alloc, period, sheet, issuer, batch) {
-        Ok(text) => text,
-        Err(fault) => return Err(fault),
-    };
+    let text = file_of_batch(alloc, period, sheet, issuer, batch)?;
     match write_all(writer, &text) {
         Ok(()) => Ok(()),
         Err(_) => Err(PlayFault::Write),
@@ -185,7 +179,7 @@ fn fault_of_unkept(sheet: &Sheet, text: &[u8]) -> PlayFault
         Ok(view) => view,
         Err(fault) => return PlayFault::Refused(Refusal::BadBatch(fault)),
     };
-    match refusal_of(sheet, &view) {
+    match first_refusal(sheet, &view) {
         Some(refusal) => PlayFault::Refused(refusal),
         None => PlayFault::OutOfMemory,
     }
@@ -207,7 +201,7 @@ fn file_of_batch(
     ensures others { (result ≢ Err PlayFault.Read) × (result ≢ Err PlayFault.Write)
         × ((fault : ScheduleFault) → result ≢ Err (PlayFault.Schedule fault)) }
 {
-    if let Some(refusal) = refusal_of(sheet, &batch.view()) {
+    if let Some(refusal) = first_refusal(sheet, &batch.view()) {
         return Err(PlayFault::Refused(refusal));
     }
     match file_of_journaled(alloc, period, sheet, issuer, batch) {
@@ -217,7 +211,7 @@ fn file_of_batch(
 }
 
 /// Why a group of 64 agents in which nothing has happened does not journal the batch. No memory is taken.
-fn refusal_of(sheet: &Sheet, view: &BatchView<'_>) -> Option<Refusal>
+fn first_refusal(sheet: &Sheet, view: &BatchView<'_>) -> Option<Refusal>
     ensures taken { result ≡ None → ((batch_of view.now).seq ≡ 1)
         × (first_broken sheet.now (put [] (batch_of view.now)) (placed (batch_of view.now)) ≡ None) }
     ensures journaled { result ≡ None → (issuer : model.Issuer)
@@ -225,6 +219,7 @@ fn refusal_of(sheet: &Sheet, view: &BatchView<'_>) -> Option<Refusal>
     ensures refused { (refusal : Refusal) → result ≡ Some refusal → (issuer : model.Issuer)
         → journaled_in sheet.now issuer view.now ≡ Err refusal }
 {
+    // For the proof alone: its clause says that the bytes are a batch.
     let _bytes = view.bytes();
     if view.seq() != 1 {
         return Some(Refusal::WrongSeq { wanted: 1 });
@@ -248,6 +243,7 @@ fn file_of_journaled(
     requires fit { first_broken sheet.now (put [] (batch_of (arc_value batch))) (placed (batch_of (arc_value batch))) ≡ None }
     ensures { IfOk result (λ text. file_by sheet.now issuer.now period (arc_value batch) ≡ Ok text.items) }
 {
+    // For the proof alone: its clause says that the bytes are a batch.
     let _bytes = batch.bytes();
     let mut store = Store::new(alloc, AGENTS)?;
     store.put(batch)?;

@@ -1,5 +1,5 @@
 -- What writing does to a sink.
-use Rattle.std.specs.Prelude.{ℕ, ◌<◌, ◌&&◌, ◌==◌, not, Bool, true, List, length, take, Option, Result, Ok, Err}
+use Rattle.std.specs.Prelude.{ℕ, ◌<◌, ◌≤◌, ◌&&◌, ◌==◌, not, Bool, true, List, length, take, Option, Result, Ok, Err}
 use Rattle.std.specs.Io.KnownBytes.{Appends}
 
 -- a write failed: at an error, and where it took nothing of something
@@ -10,3 +10,7 @@ is_failed_write (Err error) bytes = true
 -- known contents grew by a front of the bytes, which is not all of them
 abbrev pub AppendsFront : Option (List ℕ) → Option (List ℕ) → List ℕ → Type 0
 AppendsFront old new bytes = (taken : ℕ) × (taken < length bytes) × Appends old new (take taken bytes)
+
+-- known contents grew by a front of the bytes, or by all of them
+abbrev pub AppendsSome : Option (List ℕ) → Option (List ℕ) → List ℕ → Type 0
+AppendsSome old new bytes = (taken : ℕ) × (taken ≤ length bytes) × Appends old new (take taken bytes)

@@ -110,7 +110,7 @@ impl Write for FakeWriter {
             ⊎ (vec_capacity self.old.taken < vec_len self.old.taken + length bytes.now)) }
         ensures told_failing { self.new.failing ≡ self.old.failing }
         ensures told_full { self.new.full_from ≡ self.old.full_from }
-        ensures told_pieces { self.new.byte_by_byte ≡ self.old.byte_by_byte }
+        ensures told_bytes { self.new.byte_by_byte ≡ self.old.byte_by_byte }
     {
         self.calls = self.calls.saturating_add(1);
         if is_call(self.failing, self.calls) {
@@ -247,7 +247,7 @@ impl Read for FakeReader<'_> {
         ensures kept { OnErr result (self.new.rest.now ≡ self.old.rest.now) }
         ensures told_failing { self.new.failing ≡ self.old.failing }
         ensures told_pausing { self.new.pausing ≡ self.old.pausing }
-        ensures told_pieces { self.new.byte_by_byte ≡ self.old.byte_by_byte }
+        ensures told_bytes { self.new.byte_by_byte ≡ self.old.byte_by_byte }
     {
         self.calls = self.calls.saturating_add(1);
         if is_call(self.failing, self.calls) {

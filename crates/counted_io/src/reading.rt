@@ -48,7 +48,7 @@ pub enum ReadFault {
 }
 
 /// The most bytes that one call asks for.
-const PIECE: usize = 64 * 1024;
+const BLOCK: usize = 64 * 1024;
 
 /// Reads until the source ends, or until one byte more than `limit` bytes has come.
 ///
@@ -74,7 +74,7 @@ pub fn read_to_limit<S: Source>(
     let mut bytes = Vec::new(alloc);
     let mut filled = 0;
     while filled < most {
-        let count = read_piece(source, &mut bytes, filled, most)?;
+        let count = read_block(source, &mut bytes, filled, most)?;
         if count == 0 {
             bytes.truncate(filled);
             return Ok(Input::Whole(bytes));
@@ -85,7 +85,7 @@ pub fn read_to_limit<S: Source>(
 }
 
 // One read behind the `filled` bytes.
-fn read_piece<S: Source>(
+fn read_block<S: Source>(
     source: &mut S,
     bytes: &mut Vec<u8>,
     filled: usize,
@@ -121,8 +121,8 @@ fn make_room(bytes: &mut Vec<u8>, filled: usize, most: usize) -> Result<(), Allo
     ensures front { take filled bytes.new.items ≡ take filled bytes.old.items }
 {
     if filled == bytes.len() {
-        let piece = PIECE.min(most - filled);
-        bytes.resize(filled + piece, 0)?;
+        let block = BLOCK.min(most - filled);
+        bytes.resize(filled + block, 0)?;
     }
     Ok(())
 }

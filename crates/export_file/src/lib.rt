@@ -1,24 +1,19 @@
 //! The file of an export: its rows, and its bytes.
 #![tactic(auto)]
 
-mod pieces;
-
-ghost use Rattle.std.specs.Prelude.{◌≡◌, ◌++◌, Err, IfOk, OnOk, map};
+ghost use Rattle.std.specs.Prelude.{◌≡◌, ◌++◌, Err, IfOk, OnOk, OnErr, map};
 ghost use Rattle.std.specs.Io.KnownBytes.{Appends};
 ghost use Rattle.counted_io.specs.Counts.{Rises, count_after};
-ghost use Rattle.counted_io.specs.Writing.{AppendsFront};
+ghost use Rattle.counted_io.specs.Writing.{AppendsFront, AppendsSome};
 ghost use Rattle.metering_model.specs.Rows.{rows};
 ghost use Rattle.metering_model.specs.Transcript.{file_of};
 ghost use Rattle.metering_model.specs.World as model;
-ghost use Rattle.charge_row.specs.FocusRows.{model_row};
+ghost use Rattle.focus_csv.specs.Rows.{model_row};
 ghost use Rattle.focus_csv.specs.Faults.{is_sink_fault};
-ghost use Rattle.export_file.specs.Fronts.{AppendsSome};
 
 use counted_io::Sink;
-use focus_csv::{CsvFault, header_text};
-use focus_row::{FocusRow, RowsBetween, rows_between};
+use focus_csv::{CsvFault, FocusRow, RowsBetween, put_file, rows_between, write_rows};
 use group_events::Snapshot;
-use pieces::{put_behind, write_behind};
 use std::alloc::{AllocError, Global};
 
 /// What has the rows and the bytes of a period's file: a [`Snapshot`].
@@ -47,9 +42,11 @@ pub trait ExportFile {
         ensures count { W.failed_calls sink.new
             ≡ count_after (is_sink_fault result) (W.failed_calls sink.old) };
 
-    /// Appends the file to a text that its caller may use again: the same bytes that `write_csv` writes.
+    /// Appends the file to a text that its caller may use again: the same bytes that `write_csv` writes. At want of memory
+    /// the text is as before.
     fn put_csv(&self, alloc: Global, text: &mut Vec<u8>) -> Result<(), AllocError>
-        ensures { OnOk result (text.new.items ≡ text.old.items ++ file_of (taken self.now)) };
+        ensures put { OnOk result (text.new.items ≡ text.old.items ++ file_of (taken self.now)) }
+        ensures kept { OnErr result (text.new.items ≡ text.old.items) };
 }
 
 /// The rows of the file that are to come: all of them.
@@ -78,14 +75,14 @@ impl ExportFile for Snapshot {
     }
 
     fn write_csv<W: Sink>(&self, alloc: Global, sink: &mut W) -> Result<(), CsvFault> {
-        let Ok(mut left) = rows_of(alloc, self) else {
+        let Ok(left) = rows_of(alloc, self) else {
             return Err(CsvFault::OutOfMemory);
         };
-        write_behind(alloc, header_text(), &mut left, sink)
+        write_rows(alloc, left, sink)
     }
 
     fn put_csv(&self, alloc: Global, text: &mut Vec<u8>) -> Result<(), AllocError> {
-        let mut left = rows_of(alloc, self)?;
-        put_behind(alloc, header_text(), &mut left, text)
+        let left = rows_of(alloc, self)?;
+        put_file(alloc, left, text)
     }
 }

@@ -1,7 +1,9 @@
+mod BeginningLaws
 mod CsvText
-mod FilePieces
+mod FileParts
 mod LineLaws
 mod OneMore
 mod ReadBack
 mod RowTexts
+mod Sinks
 mod TagTexts

@@ -3,8 +3,8 @@ use Rattle.std.proofs.Common.{◌≡◌, ℕ, ◌+◌, ◌<◌, List, [], ◌∷
 use Rattle.std.specs.List.{flat_map}
 use Rattle.std.proofs.lemmas.List.{map-append, take_more}
 use Rattle.metering_model.specs.File.{row_text}
-use Rattle.charge_row.specs.declared.columns.FocusRow.{FocusRow}
-use Rattle.charge_row.specs.FocusRows.{model_row}
+use Rattle.focus_row.specs.Rows.{FocusRow}
+use Rattle.focus_row.specs.Rows.{model_row}
 use Rattle.focus_csv.proofs.OneMore.{each_more}
 
 pub rows_more : (rows : List FocusRow) (i : ℕ) (row : FocusRow) → i < length rows → row ≡ get_or rows i row

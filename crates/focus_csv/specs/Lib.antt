@@ -1,3 +1,4 @@
 pub mod Columns
 pub mod Faults
 pub mod Inner
+pub mod Rows

@@ -1,8 +1,9 @@
 //! Fields of a line, as a reader of CSV takes them back.
 
-ghost use Rattle.std.specs.Prelude.{◌≡◌, ◌||◌, ◌==◌, ◌∷◌, [], ◌++◌, if◌then◌else◌, map, OnOk, IsTrue};
+ghost use Rattle.std.specs.Prelude.{◌≡◌, ◌||◌, ◌==◌, ◌∷◌, [], ◌++◌, if◌then◌else◌, map, OnOk, OnErr, IsTrue};
 ghost use Rattle.std.specs.List.{flat_map, list_any};
 ghost use Rattle.metering_model.specs.File.{marked, quoted};
+ghost use Rattle.focus_csv.specs.Inner.Beginnings.{BeginsWith};
 ghost use Rattle.focus_csv.specs.Inner.Runs.{behind};
 
 use std::alloc::AllocError;
@@ -67,7 +68,7 @@ fn put_next(text: &mut Vec<u8>, field: &[u8]) -> Result<(), AllocError>
 }
 
 /// Makes a piece that of these fields, each behind a comma.
-pub(crate) fn set_piece(piece: &mut Vec<u8>, fields: &[&[u8]]) -> Result<(), AllocError>
+pub(crate) fn make_piece(piece: &mut Vec<u8>, fields: &[&[u8]]) -> Result<(), AllocError>
     ensures { OnOk result (piece.new.items ≡ behind (map (λ f. f.now) fields.now)) }
 {
     piece.clear();
@@ -92,24 +93,26 @@ fn are_same(some: &[&[u8]], others: &[&[u8]]) -> bool
     true
 }
 
-/// Makes the piece of some fields that of others, if these differ.
-pub(crate) fn change_piece(
+/// Makes a piece that of these fields. One that is kept is of the fields before, and stays where these are the same.
+pub(crate) fn set_piece(
     piece: &mut Vec<u8>,
+    is_kept: bool,
     before: &[&[u8]],
     fields: &[&[u8]],
 ) -> Result<(), AllocError>
-    requires { piece.old.items ≡ behind (map (λ f. f.now) before.now) }
+    requires { IsTrue is_kept → piece.old.items ≡ behind (map (λ f. f.now) before.now) }
     ensures { OnOk result (piece.new.items ≡ behind (map (λ f. f.now) fields.now)) }
 {
-    if are_same(before, fields) {
+    if is_kept && are_same(before, fields) {
         return Ok(());
     }
-    set_piece(piece, fields)
+    make_piece(piece, fields)
 }
 
-/// Appends pieces, one behind the other.
+/// Appends pieces, one behind the other. At want of memory the text is as before, or has some of them behind it.
 pub(crate) fn put_pieces(text: &mut Vec<u8>, pieces: &[&[u8]]) -> Result<(), AllocError>
-    ensures { OnOk result (text.new.items ≡ text.old.items ++ flat_map (λ t. t) (map (λ p. p.now) pieces.now)) }
+    ensures put { OnOk result (text.new.items ≡ text.old.items ++ flat_map (λ t. t) (map (λ p. p.now) pieces.now)) }
+    ensures begins { OnErr result (BeginsWith text.new.items text.old.items) }
 {
     for piece in pieces {
         text.extend_from_slice(*piece)?;

@@ -8,13 +8,13 @@ ghost use Rattle.metering_model.specs.Row.{Row};
 ghost use Rattle.metering_model.specs.File.{file, fields_of_row, header_line, row_text};
 ghost use Rattle.focus_csv.specs.Columns.{column_names};
 
-/// The header line, and behind it the texts of pieces in order, is the file of the rows of all pieces.
-pub fn a_file_is_written_in_pieces()
+/// The header line, and behind it the texts of parts in order, is the file of the rows of all parts.
+pub fn a_file_is_written_in_parts()
     ensures begun { header_line ++ 10 ∷ [] ≡ file [] }
-    ensures next { (written piece : List Row) →
-        file written ++ flat_map row_text piece ≡ file (written ++ piece) }
-    ensures whole { (pieces : List (List Row)) →
-        (header_line ++ 10 ∷ []) ++ flat_map (flat_map row_text) pieces ≡ file (flat_map (λ piece. piece) pieces) }
+    ensures next { (written part : List Row) →
+        file written ++ flat_map row_text part ≡ file (written ++ part) }
+    ensures whole { (parts : List (List Row)) →
+        (header_line ++ 10 ∷ []) ++ flat_map (flat_map row_text) parts ≡ file (flat_map (λ part. part) parts) }
 {}
 
 /// A reader of CSV with its usual settings gives of every file the 36 names, and then just the fields of

@@ -6,25 +6,29 @@ ghost use Rattle.std.specs.Io.KnownBytes.{Appends};
 ghost use Rattle.counted_io.specs.Counts.{Rises, count_after};
 ghost use Rattle.counted_io.specs.Writing.{AppendsFront};
 ghost use Rattle.metering_model.specs.File.{file};
-ghost use Rattle.charge_row.specs.FocusRows.{model_row};
+ghost use Rattle.focus_row.specs.Rows.{model_row};
 ghost use Rattle.focus_csv.specs.Faults.{is_sink_fault};
 
-pub use appending::put_rows;
-use counted_io::{Sink, write_all};
-use focus_row::FocusRow;
+use counted_io::Sink;
+pub use files::{put_file, write_rows};
+pub use focus_row::{
+    Cut, FocusRow, Issuer, IssuerFault, Period, RowsBetween, Sheet, Store, rows_between,
+};
 use lines::file_bytes;
 pub use lines::{header_text, row_texts};
 use std::alloc::Global;
 use thiserror::Error;
+use writing::write_text;
 
-mod appending;
 mod fields;
+mod files;
 pub mod laws;
 mod lines;
 mod numbers;
 mod pieces;
 mod tags;
 mod texts;
+mod writing;
 
 /// Why a file was not written.
 #[derive(Clone, Copy, Debug, Drop, Error)]
@@ -59,8 +63,5 @@ pub fn write_file<W: Sink>(
     let Ok(bytes) = file_bytes(alloc, rows) else {
         return Err(CsvFault::OutOfMemory);
     };
-    match write_all(sink, bytes.as_slice()) {
-        Ok(()) => Ok(()),
-        Err(_) => Err(CsvFault::Write),
-    }
+    write_text(sink, bytes.as_slice())
 }

@@ -1,9 +1,10 @@
 //! The lines of the file.
 
-ghost use Rattle.std.specs.Prelude.{◌≡◌, ◌<◌, ◌++◌, ◌∷◌, [], length, map, slice_index_or, IfOk, OnOk};
+ghost use Rattle.std.specs.Prelude.{◌≡◌, ◌<◌, ◌++◌, ◌∷◌, [], length, map, slice_index_or, IfOk, OnOk, OnErr};
 ghost use Rattle.std.specs.List.{flat_map};
 ghost use Rattle.metering_model.specs.File.{file, header_line, row_text};
-ghost use Rattle.charge_row.specs.FocusRows.{model_row};
+ghost use Rattle.focus_row.specs.Rows.{model_row};
+ghost use Rattle.focus_csv.specs.Inner.Beginnings.{BeginsWith};
 
 use crate::pieces::LinePieces;
 use focus_row::FocusRow;
@@ -17,22 +18,24 @@ fn row_at<'a, 'b>(rows: &'a [FocusRow<'b>], i: usize) -> &'a FocusRow<'b>
     &rows[i]
 }
 
-/// Appends the lines of the rows, in order. The pieces of a line are kept for the next one.
+/// Appends the lines of the rows, in order. The pieces of a line are kept for the next one. At want of memory the text
+/// is as before, or has some of the lines behind it.
 pub(crate) fn put_lines(
     pieces: &mut LinePieces,
     rows: &[FocusRow<'_>],
     text: &mut Vec<u8>,
 ) -> Result<(), AllocError>
-    ensures { OnOk result (text.new.items ≡ text.old.items ++ flat_map row_text (map model_row rows.now)) }
+    ensures put { OnOk result (text.new.items ≡ text.old.items ++ flat_map row_text (map model_row rows.now)) }
+    ensures begins { OnErr result (BeginsWith text.new.items text.old.items) }
 {
     if rows.is_empty() {
         return Ok(());
     }
+    pieces.forget();
     let mut before = row_at(rows, 0);
-    pieces.set(before)?;
     for i in 0..rows.len() {
         let row = row_at(rows, i);
-        pieces.change(before, row)?;
+        pieces.set(before, row)?;
         pieces.put(text)?;
         before = row;
     }
@@ -65,7 +68,7 @@ pub fn header_text() -> &'static [u8]
 
 /// The text of the rows without a header line: a line for each row, in order.
 ///
-/// So a file can be written in pieces: `header_text`, and then the texts of its rows, as many at a
+/// So a file can be written in parts: `header_text`, and then the texts of its rows, as many at a
 /// time as the caller likes. Its only fault is want of memory.
 pub fn row_texts(alloc: Global, rows: &[FocusRow<'_>]) -> Result<Vec<u8>, AllocError>
     ensures { IfOk result (λ v. v.items ≡ flat_map row_text (map model_row rows.now)) }

@@ -1,13 +1,13 @@
 //! The pieces of numbers. One is spelled again only where it is another than in the row before.
 
-ghost use Rattle.std.specs.Prelude.{◌≡◌, ◌∷◌, [], string_bytes, OnOk};
+ghost use Rattle.std.specs.Prelude.{◌≡◌, ◌∷◌, [], string_bytes, IsTrue, OnOk};
 ghost use Rattle.metering_model.specs.NumberText.{spelling};
 ghost use Rattle.metering_model.specs.File.{quantity_or_null, price_or_null, quoted};
-ghost use Rattle.charge_row.specs.FocusRows.{model_row};
+ghost use Rattle.focus_row.specs.Rows.{model_row};
 ghost use Rattle.focus_csv.specs.Inner.Runs.{behind};
-ghost use Rattle.focus_csv.specs.Inner.Pieces.{AreNumbersOf};
+ghost use Rattle.focus_csv.specs.Inner.Pieces.{AreNumbersOf, number_bytes};
 
-use charge_row::FocusRow;
+use focus_row::FocusRow;
 use fx_money::{Cost, Delta, Price};
 use std::alloc::{AllocError, Global};
 
@@ -34,31 +34,43 @@ fn begin(text: &mut String) -> Result<(), AllocError>
 
 // ---- costs
 
-/// Makes the text that of the cost that begins a line.
-fn set_first(text: &mut String, cost: Cost) -> Result<(), AllocError>
+fn is_same_cost(before: Cost, cost: Cost) -> bool
+    ensures { IsTrue result → before ≡ cost }
+{
+    before.units() == cost.units()
+}
+
+/// Makes the text that of the cost that begins a line. One that is kept is of the cost before.
+fn set_first(text: &mut String, is_kept: bool, before: Cost, cost: Cost) -> Result<(), AllocError>
+    requires { IsTrue is_kept → string_bytes text.old ≡ quoted (spelling 12 before) }
     ensures { OnOk result (string_bytes text.new ≡ quoted (spelling 12 cost)) }
 {
+    if is_kept && is_same_cost(before, cost) {
+        return Ok(());
+    }
+    // For the proof alone: its clause says how great a cost can be.
     let _units = cost.units();
     text.clear();
     cost.write_to(text)
 }
 
-/// Makes the text of a cost that of another, if it is another.
-fn change_first(text: &mut String, before: Cost, cost: Cost) -> Result<(), AllocError>
-    requires { string_bytes text.old ≡ quoted (spelling 12 before) }
-    ensures { OnOk result (string_bytes text.new ≡ quoted (spelling 12 cost)) }
-{
-    if before.units() == cost.units() {
-        return Ok(());
-    }
-    set_first(text, cost)
-}
-
-/// Makes the text that of a cost, by copying the spelling of an equal one if that is at hand.
-fn set_cost(text: &mut String, cost: Cost, other: Cost, spelled: &String) -> Result<(), AllocError>
-    requires { string_bytes spelled.now ≡ quoted (spelling 12 other) }
+/// Makes the text that of a cost, by copying the spelling of an equal one if that is at hand. One that is kept is of
+/// the cost before.
+fn set_cost(
+    text: &mut String,
+    is_kept: bool,
+    before: Cost,
+    cost: Cost,
+    other: Cost,
+    spelled: &String,
+) -> Result<(), AllocError>
+    requires kept { IsTrue is_kept → string_bytes text.old ≡ behind (spelling 12 before ∷ []) }
+    requires spelled { string_bytes spelled.now ≡ quoted (spelling 12 other) }
     ensures { OnOk result (string_bytes text.new ≡ behind (spelling 12 cost ∷ [])) }
 {
+    if is_kept && is_same_cost(before, cost) {
+        return Ok(());
+    }
     begin(text)?;
     if cost.units() == other.units() {
         text.push_str(spelled.as_str())
@@ -67,33 +79,16 @@ fn set_cost(text: &mut String, cost: Cost, other: Cost, spelled: &String) -> Res
     }
 }
 
-/// Makes the text of a cost that of another, if it is another.
-fn change_cost(
-    text: &mut String,
-    before: Cost,
-    cost: Cost,
-    other: Cost,
-    spelled: &String,
-) -> Result<(), AllocError>
-    requires before { string_bytes text.old ≡ behind (spelling 12 before ∷ []) }
-    requires spelled { string_bytes spelled.now ≡ quoted (spelling 12 other) }
-    ensures { OnOk result (string_bytes text.new ≡ behind (spelling 12 cost ∷ [])) }
-{
-    if before.units() == cost.units() {
-        return Ok(());
-    }
-    set_cost(text, cost, other, spelled)
-}
-
 // ---- quantities
 
 /// Makes the text that of a quantity, and nothing but the comma for null.
-fn set_quantity(text: &mut String, quantity: Option<Delta>) -> Result<(), AllocError>
+fn spell_quantity(text: &mut String, quantity: Option<Delta>) -> Result<(), AllocError>
     ensures { OnOk result (string_bytes text.new ≡ behind (quantity_or_null quantity ∷ [])) }
 {
     begin(text)?;
     match quantity {
         Some(quantity) => {
+            // For the proof alone: its clause says how great a quantity can be.
             let _millionths = quantity.millionths();
             quantity.write_to(text)
         }
@@ -101,30 +96,35 @@ fn set_quantity(text: &mut String, quantity: Option<Delta>) -> Result<(), AllocE
     }
 }
 
-/// Makes the text of a quantity that of another, if it is another.
-fn change_quantity(
+/// Makes the text that of a quantity. One that is kept is of the quantity before, and stays where that is there and the
+/// same.
+fn set_quantity(
     text: &mut String,
+    is_kept: bool,
     before: Option<Delta>,
     quantity: Option<Delta>,
 ) -> Result<(), AllocError>
-    requires { string_bytes text.old ≡ behind (quantity_or_null before ∷ []) }
+    requires { IsTrue is_kept → string_bytes text.old ≡ behind (quantity_or_null before ∷ []) }
     ensures { OnOk result (string_bytes text.new ≡ behind (quantity_or_null quantity ∷ [])) }
 {
-    match (before, quantity) {
-        (Some(before), Some(quantity)) if before.millionths() == quantity.millionths() => Ok(()),
-        _ => set_quantity(text, quantity),
+    match (is_kept, before, quantity) {
+        (true, Some(before), Some(quantity)) if before.millionths() == quantity.millionths() => {
+            Ok(())
+        }
+        _ => spell_quantity(text, quantity),
     }
 }
 
 // ---- unit prices
 
 /// Makes the text that of a unit price, and nothing but the comma for null.
-fn set_price(text: &mut String, price: Option<Price>) -> Result<(), AllocError>
+fn spell_price(text: &mut String, price: Option<Price>) -> Result<(), AllocError>
     ensures { OnOk result (string_bytes text.new ≡ behind (price_or_null price ∷ [])) }
 {
     begin(text)?;
     match price {
         Some(price) => {
+            // For the proof alone: its clause says how great a price can be.
             let _millionths = price.millionths();
             price.write_to(text)
         }
@@ -132,26 +132,30 @@ fn set_price(text: &mut String, price: Option<Price>) -> Result<(), AllocError>
     }
 }
 
-/// Makes the text of a unit price that of another, if it is another.
-fn change_price(
+/// Makes the text that of a unit price. One that is kept is of the price before, and stays where that is there and the
+/// same.
+fn set_price(
     text: &mut String,
+    is_kept: bool,
     before: Option<Price>,
     price: Option<Price>,
 ) -> Result<(), AllocError>
-    requires { string_bytes text.old ≡ behind (price_or_null before ∷ []) }
+    requires { IsTrue is_kept → string_bytes text.old ≡ behind (price_or_null before ∷ []) }
     ensures { OnOk result (string_bytes text.new ≡ behind (price_or_null price ∷ [])) }
 {
-    match (before, price) {
-        (Some(before), Some(price)) if before.millionths() == price.millionths() => Ok(()),
-        _ => set_price(text, price),
+    match (is_kept, before, price) {
+        (true, Some(before), Some(price)) if before.millionths() == price.millionths() => Ok(()),
+        _ => spell_price(text, price),
     }
 }
 
 // ---- all of a row
 
 impl NumberPieces {
-    /// Pieces of no row.
-    pub(crate) fn new(alloc: Global) -> NumberPieces {
+    /// Pieces of no row, all of them empty.
+    pub(crate) fn new(alloc: Global) -> NumberPieces
+        ensures { number_bytes result ≡ [] }
+    {
         NumberPieces {
             billed_cost: String::new(alloc),
             consumed_quantity: String::new(alloc),
@@ -164,82 +168,64 @@ impl NumberPieces {
         }
     }
 
-    /// Makes the pieces those of a row.
-    pub(crate) fn set(&mut self, row: &FocusRow<'_>) -> Result<(), AllocError>
-        ensures { OnOk result (AreNumbersOf self.new (model_row row.now)) }
-    {
-        let billed = row.billed_cost;
-        set_first(&mut self.billed_cost, billed)?;
-        let spelled = &self.billed_cost;
-        set_cost(
-            &mut self.contracted_cost,
-            row.contracted_cost,
-            billed,
-            spelled,
-        )?;
-        set_cost(
-            &mut self.effective_cost,
-            row.effective_cost,
-            billed,
-            spelled,
-        )?;
-        set_cost(&mut self.list_cost, row.list_cost, billed, spelled)?;
-        set_quantity(&mut self.consumed_quantity, row.consumed_quantity)?;
-        set_quantity(&mut self.pricing_quantity, row.pricing_quantity)?;
-        set_price(&mut self.contracted_unit_price, row.contracted_unit_price)?;
-        set_price(&mut self.list_unit_price, row.list_unit_price)
-    }
-
-    /// Makes the pieces of a row those of another, where these differ.
-    pub(crate) fn change(
+    /// Makes the pieces those of a row, and only those again that differ from the row before, if they are kept from it.
+    pub(crate) fn set(
         &mut self,
+        are_kept: bool,
         before: &FocusRow<'_>,
         row: &FocusRow<'_>,
     ) -> Result<(), AllocError>
-        requires { AreNumbersOf self.old (model_row before.now) }
+        requires { IsTrue are_kept → AreNumbersOf self.old (model_row before.now) }
         ensures { OnOk result (AreNumbersOf self.new (model_row row.now)) }
     {
         let billed = row.billed_cost;
-        change_first(&mut self.billed_cost, before.billed_cost, billed)?;
+        set_first(&mut self.billed_cost, are_kept, before.billed_cost, billed)?;
         let spelled = &self.billed_cost;
-        change_cost(
+        set_cost(
             &mut self.contracted_cost,
+            are_kept,
             before.contracted_cost,
             row.contracted_cost,
             billed,
             spelled,
         )?;
-        change_cost(
+        set_cost(
             &mut self.effective_cost,
+            are_kept,
             before.effective_cost,
             row.effective_cost,
             billed,
             spelled,
         )?;
-        change_cost(
+        set_cost(
             &mut self.list_cost,
+            are_kept,
             before.list_cost,
             row.list_cost,
             billed,
             spelled,
         )?;
-        change_quantity(
+        set_quantity(
             &mut self.consumed_quantity,
+            are_kept,
             before.consumed_quantity,
             row.consumed_quantity,
         )?;
-        change_quantity(
+        set_quantity(
             &mut self.pricing_quantity,
+            are_kept,
             before.pricing_quantity,
             row.pricing_quantity,
         )?;
-        change_price(
+        set_price(
             &mut self.contracted_unit_price,
+            are_kept,
             before.contracted_unit_price,
             row.contracted_unit_price,
         )?;
-        change_price(
+        set_price(
             &mut self.list_unit_price,
+            are_kept,
             before.list_unit_price,
             row.list_unit_price,
         )

@@ -1,19 +1,20 @@
 //! The pieces of one line, kept for the next.
 
-ghost use Rattle.std.specs.Prelude.{◌≡◌, [], ◌∷◌, ◌++◌, map, OnOk};
+ghost use Rattle.std.specs.Prelude.{◌≡◌, [], ◌∷◌, ◌++◌, map, false, IsTrue, OnOk, OnErr};
 ghost use Rattle.std.specs.List.{flat_map};
 ghost use Rattle.metering_model.specs.NumberText.{spelling};
 ghost use Rattle.metering_model.specs.Row.{Row};
 ghost use Rattle.metering_model.specs.File.{json_object, quoted, row_text};
-ghost use Rattle.charge_row.specs.FocusRows.{model_row};
+ghost use Rattle.focus_row.specs.Rows.{model_row};
+ghost use Rattle.focus_csv.specs.Inner.Beginnings.{BeginsWith};
+ghost use Rattle.focus_csv.specs.Inner.Pieces.{AreOf, line_bytes};
 ghost use Rattle.focus_csv.specs.Inner.Runs.{behind, line_runs};
-ghost use Rattle.focus_csv.specs.Inner.Pieces.{AreOf};
 
-use crate::fields::{put_pieces, set_piece};
+use crate::fields::{make_piece, put_pieces};
 use crate::numbers::NumberPieces;
 use crate::tags::set_tags;
 use crate::texts::TextPieces;
-use charge_row::FocusRow;
+use focus_row::FocusRow;
 use std::alloc::{AllocError, Global};
 
 /// The pieces of the line of a row. Most columns of a row are those of the row before it, and such a piece is not made
@@ -25,20 +26,33 @@ pub(crate) struct LinePieces {
     /// The tags as a JSON object, before it is quoted.
     json: Vec<u8>,
     tags: Vec<u8>,
+    /// Whether they are those of the row before.
+    are_kept: bool,
 }
 
 /// How many pieces stand behind the first number.
 const PIECES: usize = 17;
 
 impl LinePieces {
-    /// Pieces of no row.
-    pub(crate) fn new(alloc: Global) -> LinePieces {
+    /// Pieces of no row, all of them empty.
+    pub(crate) fn new(alloc: Global) -> LinePieces
+        ensures empty { line_bytes result ≡ [] }
+        ensures forgotten { result.are_kept ≡ false }
+    {
         LinePieces {
             numbers: NumberPieces::new(alloc),
             texts: TextPieces::new(alloc),
             json: Vec::new(alloc),
             tags: Vec::new(alloc),
+            are_kept: false,
         }
+    }
+
+    /// Has the next row's pieces all made, whatever they are now.
+    pub(crate) fn forget(&mut self)
+        ensures { self.new ≡ record self.old { are_kept = false } }
+    {
+        self.are_kept = false;
     }
 
     /// Makes the piece of the tags.
@@ -46,33 +60,30 @@ impl LinePieces {
         ensures tags { OnOk result (self.new.tags.items ≡ behind (json_object (model_row row.now).tags ∷ [])) }
         ensures numbers { self.new.numbers ≡ self.old.numbers }
         ensures texts { self.new.texts ≡ self.old.texts }
+        ensures kept { self.new.are_kept ≡ self.old.are_kept }
     {
         set_tags(&mut self.json, row.tags)?;
-        set_piece(&mut self.tags, &[self.json.as_slice()])
+        make_piece(&mut self.tags, &[self.json.as_slice()])
     }
 
-    /// Makes the pieces those of a row. The only fault is want of memory.
-    pub(crate) fn set(&mut self, row: &FocusRow<'_>) -> Result<(), AllocError>
-        ensures { OnOk result (AreOf self.new (model_row row.now)) }
-    {
-        self.numbers.set(row)?;
-        self.texts.set(row)?;
-        self.set_tags(row)
-    }
-
-    /// Makes the pieces of a row those of another, and makes only those again that differ. The only fault is want of
-    /// memory.
-    pub(crate) fn change(
+    /// Makes the pieces those of a row, and only those again that differ from the row before, if they are kept from it.
+    /// At want of memory they are forgotten.
+    pub(crate) fn set(
         &mut self,
         before: &FocusRow<'_>,
         row: &FocusRow<'_>,
     ) -> Result<(), AllocError>
-        requires { AreOf self.old (model_row before.now) }
-        ensures { OnOk result (AreOf self.new (model_row row.now)) }
+        requires { IsTrue self.old.are_kept → AreOf self.old (model_row before.now) }
+        ensures of { OnOk result (AreOf self.new (model_row row.now)) }
+        ensures forgotten { OnErr result (self.new.are_kept ≡ false) }
     {
-        self.numbers.change(before, row)?;
-        self.texts.change(before, row)?;
-        self.set_tags(row)
+        let are_kept = self.are_kept;
+        self.are_kept = false;
+        self.numbers.set(are_kept, before, row)?;
+        self.texts.set(are_kept, before, row)?;
+        self.set_tags(row)?;
+        self.are_kept = true;
+        Ok(())
     }
 
     /// All pieces but the first number.
@@ -100,13 +111,29 @@ impl LinePieces {
         ]
     }
 
-    /// Appends the line. At want of memory some of it may stand behind the text.
-    pub(crate) fn put(&self, text: &mut Vec<u8>) -> Result<(), AllocError>
-        ensures { OnOk result ((r : Row) → AreOf self.now r → text.new.items ≡ text.old.items ++ row_text r) }
+    /// Appends the line. At want of memory the text is as before, or has some of the line behind it.
+    fn append(&self, text: &mut Vec<u8>) -> Result<(), AllocError>
+        ensures put { OnOk result ((r : Row) → AreOf self.now r → text.new.items ≡ text.old.items ++ row_text r) }
+        ensures begins { OnErr result (BeginsWith text.new.items text.old.items) }
     {
         text.extend_from_slice(self.numbers.billed_cost.as_bytes())?;
         put_pieces(text, &self.behind_first())?;
         text.push(b'\n')?;
         Ok(())
+    }
+
+    /// Appends the line. At want of memory the text is as before.
+    pub(crate) fn put(&self, text: &mut Vec<u8>) -> Result<(), AllocError>
+        ensures put { OnOk result ((r : Row) → AreOf self.now r → text.new.items ≡ text.old.items ++ row_text r) }
+        ensures kept { OnErr result (text.new.items ≡ text.old.items) }
+    {
+        let begin = text.len();
+        match self.append(text) {
+            Ok(()) => Ok(()),
+            Err(error) => {
+                text.truncate(begin);
+                Err(error)
+            }
+        }
     }
 }

@@ -1,14 +1,14 @@
 //! The pieces of texts, which a row lends.
 
-ghost use Rattle.std.specs.Prelude.{◌≡◌, map, OnOk};
+ghost use Rattle.std.specs.Prelude.{◌≡◌, [], map, IsTrue, OnOk};
 ghost use Rattle.std.specs.Option.{option_copied};
 ghost use Rattle.metering_model.specs.File.{text_or_null};
-ghost use Rattle.charge_row.specs.FocusRows.{model_row};
+ghost use Rattle.focus_row.specs.Rows.{model_row};
 ghost use Rattle.focus_csv.specs.Inner.Runs.{behind, head_columns, moment_columns, unit_columns, issuer_columns, category_columns, pricing_columns, resource_columns, service_columns, account_columns};
-ghost use Rattle.focus_csv.specs.Inner.Pieces.{AreTextsOf};
+ghost use Rattle.focus_csv.specs.Inner.Pieces.{AreTextsOf, text_bytes};
 
-use crate::fields::{change_piece, set_piece};
-use charge_row::FocusRow;
+use crate::fields::set_piece;
+use focus_row::FocusRow;
 use std::alloc::{AllocError, Global};
 
 /// The pieces between the numbers, each with a comma before each of its fields.
@@ -129,8 +129,10 @@ fn account<'a>(row: &'a FocusRow<'a>) -> [&'a [u8]; 1]
 }
 
 impl TextPieces {
-    /// Pieces of no row.
-    pub(crate) fn new(alloc: Global) -> TextPieces {
+    /// Pieces of no row, all of them empty.
+    pub(crate) fn new(alloc: Global) -> TextPieces
+        ensures { text_bytes result ≡ [] }
+    {
         TextPieces {
             head: Vec::new(alloc),
             moment: Vec::new(alloc),
@@ -144,38 +146,34 @@ impl TextPieces {
         }
     }
 
-    /// Makes the pieces those of a row.
-    pub(crate) fn set(&mut self, row: &FocusRow<'_>) -> Result<(), AllocError>
-        ensures { OnOk result (AreTextsOf self.new (model_row row.now)) }
-    {
-        set_piece(&mut self.head, &head(row))?;
-        set_piece(&mut self.moment, &moment(row))?;
-        set_piece(&mut self.unit, &unit(row))?;
-        set_piece(&mut self.issuer, &issuer(row))?;
-        set_piece(&mut self.category, &category(row))?;
-        set_piece(&mut self.pricing, &pricing(row))?;
-        set_piece(&mut self.resource, &resource(row))?;
-        set_piece(&mut self.service, &service(row))?;
-        set_piece(&mut self.account, &account(row))
-    }
-
-    /// Makes the pieces of a row those of another, where these differ.
-    pub(crate) fn change(
+    /// Makes the pieces those of a row, and only those again that differ from the row before, if they are kept from it.
+    pub(crate) fn set(
         &mut self,
+        are_kept: bool,
         before: &FocusRow<'_>,
         row: &FocusRow<'_>,
     ) -> Result<(), AllocError>
-        requires { AreTextsOf self.old (model_row before.now) }
+        requires { IsTrue are_kept → AreTextsOf self.old (model_row before.now) }
         ensures { OnOk result (AreTextsOf self.new (model_row row.now)) }
     {
-        change_piece(&mut self.head, &head(before), &head(row))?;
-        change_piece(&mut self.moment, &moment(before), &moment(row))?;
-        change_piece(&mut self.unit, &unit(before), &unit(row))?;
-        change_piece(&mut self.issuer, &issuer(before), &issuer(row))?;
-        change_piece(&mut self.category, &category(before), &category(row))?;
-        change_piece(&mut self.pricing, &pricing(before), &pricing(row))?;
-        change_piece(&mut self.resource, &resource(before), &resource(row))?;
-        change_piece(&mut self.service, &service(before), &service(row))?;
-        change_piece(&mut self.account, &account(before), &account(row))
+        set_piece(&mut self.head, are_kept, &head(before), &head(row))?;
+        set_piece(&mut self.moment, are_kept, &moment(before), &moment(row))?;
+        set_piece(&mut self.unit, are_kept, &unit(before), &unit(row))?;
+        set_piece(&mut self.issuer, are_kept, &issuer(before), &issuer(row))?;
+        set_piece(
+            &mut self.category,
+            are_kept,
+            &category(before),
+            &category(row),
+        )?;
+        set_piece(&mut self.pricing, are_kept, &pricing(before), &pricing(row))?;
+        set_piece(
+            &mut self.resource,
+            are_kept,
+            &resource(before),
+            &resource(row),
+        )?;
+        set_piece(&mut self.service, are_kept, &service(before), &service(row))?;
+        set_piece(&mut self.account, are_kept, &account(before), &account(row))
     }
 }

@@ -3,7 +3,7 @@ use Rattle.std.proofs.Common.{◌≡◌, ℕ, zero, suc, ◌+◌, ◌<◌, ◌�
 use Rattle.std.specs.Prelude.{All, if◌then◌else◌, slice_get, ◌≤ℤ◌}
 use Rattle.std.specs.List.{filter_map, cons_option, Contains}
 use Rattle.std.specs.Option.{option_and_then}
-use Rattle.std.proofs.lemmas.Bool.{cond-false, cases_lt, cases_eq, and_parts, leb-true, le-ltb}
+use Rattle.std.proofs.lemmas.Bool.{cond-true, cond-false, cases_lt, cases_eq, and_parts, leb-true, le-ltb}
 use Rattle.std.proofs.lemmas.Bool.Decides.{nat_tests}
 use Rattle.std.proofs.lemmas.Int.{ints}
 use Rattle.std.proofs.lemmas.List.{map-append}
@@ -12,7 +12,8 @@ use Rattle.metering_model.specs.Batch.{Batch, Record, Reading, Reads, Amends, is
 use Rattle.metering_model.specs.Cut.{Cut, last_of}
 use Rattle.metering_model.specs.Holding.{Holding, IsHolding, Position, Placed, placed, held, records_in_order, up_to, reading_at, reading_of}
 use Rattle.metering_model.specs.ValueAtSequence.{value_at}
-use Rattle.metering_model.specs.Row.{Row}
+use Rattle.metering_model.specs.declared.ChargeClass.TheVariants.{Correction}
+use Rattle.metering_model.specs.Row.{Row, row}
 use Rattle.metering_model.specs.Rows.{PlacedRow, differ, row_of, row_of_reading, placed_row, rows}
 use Rattle.metering_model.proofs.AgreementLaws.{last_of_grows, value_at-up_to}
 use Rattle.metering_model.proofs.HoldingLaws.{IsHolding-up_to, held-up_to}
@@ -60,6 +61,19 @@ module _ (s : Between) (may : MayBeCharged s) where
       let same : differ was now ≡ false = ap (differ was) (sym (same_at_both s.batches s.from s.to p may.grows low unnamed)) ∙ same_itself was in
       sym (cond-false (nat_lt (last_of s.from p.agent) p.seq) _ _ (le-ltb (last_of s.from p.agent) p.seq low)
       ∙ cond-false (differ was now) _ None same)
+
+-- a reading up to the earlier cut whose values differ is corrected from the one to the other
+pub row_corrected : (s : Between) (p : Position) (r : Reading) (was now : ℤ) (charged : Row) → p.seq ≤ last_of s.from p.agent
+    → was ≡ value_at s.batches p (last_of s.from p.agent) → now ≡ value_at s.batches p (last_of s.to p.agent) → differ was now ≡ true
+    → charged ≡ row s.sheet s.issuer r s.period Correction was now → Some charged ≡ row_of_reading s.sheet s.issuer s.batches s.period s.from s.to p r
+row_corrected s p r was now charged low is_was is_now other is =
+    let from = value_at s.batches p (last_of s.from p.agent) in
+    let to = value_at s.batches p (last_of s.to p.agent) in
+    let apart : differ from to ≡ true = subst (λ v. differ v to ≡ true) is_was (subst (λ v. differ was v ≡ true) is_now other) in
+    let at_cuts : charged ≡ row s.sheet s.issuer r s.period Correction from to =
+    subst (λ v. charged ≡ row s.sheet s.issuer r s.period Correction v to) is_was (subst (λ v. charged ≡ row s.sheet s.issuer r s.period Correction was v) is_now is) in
+    sym (cond-false (nat_lt (last_of s.from p.agent) p.seq) _ _ (le-ltb (last_of s.from p.agent) p.seq low)
+    ∙ (cond-true (differ from to) _ None apart ∙ ap Some (sym at_cuts)))
 
 -- ---- what a batch gives
 

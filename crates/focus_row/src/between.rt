@@ -17,13 +17,10 @@ ghost use Rattle.charge_row.specs.FocusRows.{model_row};
 ghost use Rattle.focus_row.specs.Inner.Left.{MayBeCharged, record_at, rows_left};
 
 use crate::places::{is_named, next_named};
-use batch_store::{RecordPlace, Store};
-use batch_view::{Reading, Record};
-use charge_row::{Billing, FocusRow, row};
-use fx_money::Value;
+use batch_store::{Cut, Period, RecordPlace, Store};
+use batch_view::{Reading, Record, Value};
+use charge_row::{Billing, FocusRow, Issuer, Sheet, row};
 use metering_model::ChargeClass;
-use period_cut::{Cut, Period};
-use price_sheet::{Issuer, Sheet};
 use std::alloc::{AllocError, Global};
 use std::marker::Model;
 

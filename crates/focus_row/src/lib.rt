@@ -6,7 +6,8 @@ pub mod laws;
 mod places;
 mod whole;
 
+pub use batch_store::{Cut, Period, Store};
+pub use batch_view::Tags;
 pub use between::{RowsBetween, rows_between};
-pub use charge_row::FocusRow;
-pub use price_sheet::{Issuer, IssuerFault};
+pub use charge_row::{FocusRow, Issuer, IssuerFault, Sheet};
 pub use whole::{RowFault, rows_of};

@@ -1,4 +1,6 @@
-use Rattle.std.proofs.Common.{rules}
+use Rattle.std.proofs.Common.{◌∙◌, subst, rules}
+use Rattle.std.specs.Prelude.{OnOk}
+use Rattle.std.specs.Io.KnownBytes.{Appends}
 use Rattle.focus_csv.proofs.write_file.Goals as goal
 
 pub returns-in_default-clause-kept : goal.returns-in_default-clause-kept
@@ -7,17 +9,16 @@ returns-in_default-clause-kept c = search rules
 pub returns-in_default-clause-count : goal.returns-in_default-clause-count
 returns-in_default-clause-count c = search rules
 
-pub returns-in-Ok-write_all-clause-front : goal.returns-in-Ok-write_all-clause-front
-returns-in-Ok-write_all-clause-front c = search rules
+pub returns-clause-front : goal.returns-clause-front
+returns-clause-front c = search rules
 
-pub returns-in-Ok-write_all-clause-fault : goal.returns-in-Ok-write_all-clause-fault
-returns-in-Ok-write_all-clause-fault c = search rules
-
-pub returns-in-Ok-write_all-clause-count : goal.returns-in-Ok-write_all-clause-count
-returns-in-Ok-write_all-clause-count c = search rules
-
-pub returns-clause-count : goal.returns-clause-count
-returns-clause-count c = search rules
+pub returns-clause-fault : goal.returns-clause-fault
+returns-clause-fault c = search rules
 
 pub returns-clause-kept : goal.returns-clause-kept
 returns-clause-kept c = search rules
+
+pub returns-clause-written : goal.returns-clause-written
+returns-clause-written g c =
+    subst (λ t. OnOk c.write_text.result (Appends (g.W.Sink.contents c.args.sink.now) (g.W.Sink.contents c.write_text.new.sink) t))
+    (c.as_slice.ensures.value ∙ c.in-Ok.ensures) c.write_text.ensures.written

@@ -1,5 +1,5 @@
 -- The pieces of a line that are those of a row.
-use Rattle.std.specs.Prelude.{◌≡◌, [], ◌∷◌, string_bytes}
+use Rattle.std.specs.Prelude.{◌≡◌, ℕ, List, [], ◌∷◌, ◌++◌, string_bytes}
 use Rattle.metering_model.specs.NumberText.{spelling}
 use Rattle.metering_model.specs.File.{json_object, price_or_null, quantity_or_null, quoted}
 use Rattle.metering_model.specs.Row.{Row}
@@ -7,6 +7,22 @@ use Rattle.focus_csv.specs.declared.pieces.LinePieces.{LinePieces}
 use Rattle.focus_csv.specs.declared.texts.TextPieces.{TextPieces}
 use Rattle.focus_csv.specs.declared.numbers.NumberPieces.{NumberPieces}
 use Rattle.focus_csv.specs.Inner.Runs.{behind, head_columns, moment_columns, unit_columns, issuer_columns, category_columns, pricing_columns, resource_columns, service_columns, account_columns}
+
+-- all bytes of the pieces of texts
+abbrev pub text_bytes : TextPieces → List ℕ
+text_bytes p =
+    p.head.items ++ p.moment.items ++ p.unit.items ++ p.issuer.items ++ p.category.items ++ p.pricing.items ++ p.resource.items
+    ++ p.service.items ++ p.account.items
+
+-- all bytes of the pieces of numbers
+abbrev pub number_bytes : NumberPieces → List ℕ
+number_bytes p =
+    string_bytes p.billed_cost ++ string_bytes p.consumed_quantity ++ string_bytes p.contracted_cost ++ string_bytes p.contracted_unit_price
+    ++ string_bytes p.effective_cost ++ string_bytes p.list_cost ++ string_bytes p.list_unit_price ++ string_bytes p.pricing_quantity
+
+-- all bytes of the pieces of a line
+abbrev pub line_bytes : LinePieces → List ℕ
+line_bytes p = number_bytes p.numbers ++ text_bytes p.texts ++ p.json.items ++ p.tags.items
 
 pub record AreTextsOf (p : TextPieces) (r : Row) : Type 0 where
   pub head : p.head.items ≡ behind (head_columns r)

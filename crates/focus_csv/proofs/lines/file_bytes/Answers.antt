@@ -3,7 +3,7 @@ use Rattle.std.proofs.Common.{◌++◌, ◌∷◌, [], map, ap, ◌∙◌, appen
 use Rattle.std.specs.List.{flat_map}
 use Rattle.std.proofs.lemmas.Result.{IfOk-weaker}
 use Rattle.metering_model.specs.File.{header_line, row_text}
-use Rattle.charge_row.specs.FocusRows.{model_row}
+use Rattle.focus_row.specs.Rows.{model_row}
 use Rattle.focus_csv.proofs.lines.file_bytes.Goals as goal
 
 pub returns : goal.returns

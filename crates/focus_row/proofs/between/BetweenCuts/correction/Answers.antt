@@ -1,10 +1,16 @@
-use Rattle.std.proofs.Common.{sym, subst, map, rules}
+use Rattle.std.proofs.Common.{◌≡◌, true, sym, subst, map, rules}
 use Rattle.std.proofs.lemmas.Bool.{both_ways}
 use Rattle.std.specs.List.{Contains}
+use Rattle.metering_model.specs.Cut.{last_of}
+use Rattle.metering_model.specs.ValueAtSequence.{value_at}
+use Rattle.metering_model.specs.declared.ChargeClass.TheVariants.{Correction}
+use Rattle.metering_model.specs.Row.{row}
+use Rattle.metering_model.specs.Rows.{differ}
 use Rattle.batch_view.specs.Lent.{model_reading}
 use Rattle.batch_store.specs.Stores.{AreAmended, position_of}
+use Rattle.charge_row.specs.FocusRows.{model_row}
 use Rattle.focus_row.specs.Inner.Left.{Between, MayBeCharged}
-use Rattle.focus_row.proofs.StopLaws.{no_row_unnamed}
+use Rattle.focus_row.proofs.StopLaws.{no_row_unnamed, row_corrected}
 use Rattle.focus_row.proofs.between.BetweenCuts.correction.Goals as goal
 
 pub returns-then-not-is_named : goal.returns-then-not-is_named
@@ -19,10 +25,20 @@ returns-then-not-is_named c =
     (c.is_named.ensures.1 (subst (λ xs. Contains (map position_of xs) place) (sym c.deref.ensures.value) ((am.each place).1 has))))
 
 pub row-requires-clause-was : goal.row-requires-clause-was
-row-requires-clause-was c priced = c.value-was.ensures.not_negative (model_reading c.args.reading.now) c.requires.there priced
+row-requires-clause-was c priced = search (rules, c.value-was.ensures.not_negative (model_reading c.args.reading.now) c.requires.there priced)
 
 pub row-requires-clause-value : goal.row-requires-clause-value
 row-requires-clause-value c priced = c.value-now.ensures.not_negative (model_reading c.args.reading.now) c.requires.there priced
 
 pub returns : goal.returns
-returns c = search rules
+returns c =
+    let s = c.args.self.now in
+    let place = position_of c.args.place in
+    let reading = model_reading c.args.reading.now in
+    let was : c.value-was.result ≡ value_at s.batches place (last_of s.from place.agent) = search rules in
+    let now : c.value-now.result ≡ value_at s.batches place (last_of s.to place.agent) = search rules in
+    let other : differ c.value-was.result c.value-now.result ≡ true = search rules in
+    let charged : model_row c.row.result ≡ row s.sheet s.issuer reading s.period Correction c.value-was.result c.value-now.result =
+    subst (λ (b : Between). model_row c.row.result ≡ row b.sheet b.issuer reading b.period Correction c.value-was.result c.value-now.result) c.self.view_is
+    (c.row.ensures c.self.inside.period c.self.invariant.1) in
+    row_corrected s place reading _ _ _ c.requires.within was now other charged

@@ -18,7 +18,7 @@ returns-in-Some-clause-within c =
     let low : c.in-Some.named ≤ last_of s.from agent = (skip_to_named s may ps am agent c.args.seq c.in-Some.named next).0 in
     let grows : last_of s.from agent ≤ last_of s.to agent = grows_at s may agent in
     let from : c.get-from.result ≡ last_of s.from agent = c.get-from.ensures.value ∙ ap (λ (b : Between). last_of b.from agent) c.self.view_is in
-    (next.not_before, omega arith, omega (arith, c.get-from.ensures.within))
+    (omega (arith, next.not_before), omega arith, omega (arith, c.get-from.ensures.within))
 
 pub returns-in-Some-clause-some : goal.returns-in-Some-clause-some
 returns-in-Some-clause-some c =

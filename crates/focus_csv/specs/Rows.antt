@@ -1,0 +1,2 @@
+-- What a row stands for, passed on, so that who writes a file needs no name of a crate below.
+pub use Rattle.focus_row.specs.Rows.{model_row}
