@@ -12,6 +12,7 @@ mod stores;
 mod values;
 mod walk;
 
+pub use period_cut::{Cut, Month, Period};
 pub use stores::Store;
 pub use walk::Batches;
 

@@ -9,8 +9,7 @@ ghost use Rattle.batch_store.specs.Stores.{IsStored, position_of};
 ghost use Rattle.batch_store.specs.Inner.Values.{has_reading_at, last_given};
 
 use crate::{RecordPlace, Store};
-use batch_view::{OwnedBatch, Record};
-use fx_money::Value;
+use batch_view::{OwnedBatch, Record, Value};
 
 /// Whether the record at that index of the batch is a reading.
 fn is_reading(batch: &OwnedBatch, index: u16) -> bool

@@ -9,10 +9,9 @@ ghost use Rattle.batch_view.specs.Inner.Lines.{lines_from, first_record, IsBehin
 ghost use Rattle.batch_view.specs.Inner.Entries.{field_total, FitsRecord, FlagsPlain, flag, is_quoted, IsEntryAt, KeepsRecord, AreEntries};
 
 use crate::batch::record_from;
-use fx_money::Value;
 use memchr::memchr3;
 use metering_model::{BatchCode, BatchFault, Kind};
-use record_view::{Numbers, Record, Span, Stamp, field_spans, kept_reading};
+use record_view::{Numbers, Record, Span, Stamp, Value, field_spans, kept_reading};
 use std::alloc::Global;
 
 /// What a record is, without its texts.

@@ -4,7 +4,9 @@
 pub use batch::{BatchView, Records};
 pub use metering_model::{BatchCode, BatchFault, Kind};
 pub use owned::{Amendment, Offer, OwnedBatch};
-pub use record_view::{Day, Field, Reading, Record, Span, Stamp, Tags, calendar, dates, laws};
+pub use record_view::{
+    Day, Field, Reading, Record, Span, Stamp, Tags, Value, calendar, dates, laws,
+};
 
 mod amendments;
 mod batch;

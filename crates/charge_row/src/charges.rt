@@ -16,8 +16,10 @@ use batch_view::{Kind, Reading};
 use fx_money::{Price, Value};
 use metering_model::{ChargeClass, CommitmentCategory, ServiceCategory};
 use period_cut::{Month, Period};
-use price_sheet::{Commitment, Issuer, PriceRow, Sheet};
-use rating::{Rated, commitment_of, price_of, priced_kind, rate, rate_flat};
+use rating::{
+    Commitment, Issuer, PriceRow, Rated, Sheet, commitment_of, price_of, priced_kind, rate,
+    rate_flat,
+};
 
 /// What all rows of a billing period share: who bills, and the period's start and end.
 #[derive(Clone, Copy)]

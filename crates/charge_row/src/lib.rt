@@ -6,3 +6,4 @@ mod columns;
 
 pub use charges::{Billing, row};
 pub use columns::FocusRow;
+pub use rating::{Issuer, IssuerFault, Sheet};

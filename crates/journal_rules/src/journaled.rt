@@ -11,12 +11,10 @@ ghost use Rattle.batch_store.specs.Stores.{position_of};
 ghost use Rattle.journal_rules.specs.Inner.Journaled.{stored_in};
 
 use batch_store::{RecordPlace, Store};
-use batch_view::{BatchView, Kind, OwnedBatch, Reading, Record};
+use batch_view::{BatchView, Kind, OwnedBatch, Reading, Record, Value};
 use byte_text::is_same;
-use fx_money::Value;
 use metering_model::BrokenRule;
-use price_sheet::{Commitment, Sheet};
-use rating::{commitment_of, is_priced, price_of};
+use rating::{Commitment, Sheet, commitment_of, is_priced, price_of};
 use std::marker::Model;
 
 /// Whether the reading names no commitment, or one that fits it: usage its SKU, a purchase the SKU that buys it.

@@ -11,11 +11,10 @@ ghost use Rattle.batch_view.specs.Batches.{batch_of};
 ghost use Rattle.journal_rules.specs.Inner.Left.{broken_left};
 
 use crate::journaled::Journaled;
-use batch_store::Store;
+use batch_store::{Cut, Store};
 use batch_view::BatchView;
 use metering_model::BrokenRule;
-use period_cut::Cut;
-use price_sheet::Sheet;
+use rating::Sheet;
 
 /// The rule that the first bad record of a batch breaks, in the journals that have it too: of one that the store has not,
 /// and that is to be put into it. An amendment may name a reading of the batch itself. No memory is taken.

@@ -9,3 +9,4 @@ mod periods;
 pub use cuts::Cut;
 pub use months::Month;
 pub use periods::Period;
+pub use utc_calendar::Day;

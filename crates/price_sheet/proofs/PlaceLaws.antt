@@ -4,7 +4,7 @@ use Rattle.std.specs.Cmp.Lexicographic.{bytes_decides, nat_list_eq_equiv}
 use Rattle.std.specs.Map.{KeepsOthers}
 use Rattle.std.specs.HashMap.{HashMap, UpdatesBy}
 use Rattle.metering_model.specs.BatchReading.{is_same}
-use Rattle.byte_text.proofs.Texts.{same_is}
+use Rattle.sheet_text.proofs.Texts.{same_is}
 use Rattle.price_sheet.specs.Inner.Places.{found_at, Puts}
 
 pub same_texts : (xs ys : List ℕ) → is_same xs ys ≡ true → xs ≡ ys

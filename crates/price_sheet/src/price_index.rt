@@ -6,9 +6,8 @@ ghost use Rattle.price_sheet.specs.Inner.Places.{found_at, starts_of, Puts, Inde
 
 use crate::starts::{Start, Starts};
 use indexmap::IndexMap;
-use sheet_text::PriceRow;
+use sheet_text::{Day, PriceRow};
 use std::alloc::{AllocError, Global};
-use utc_calendar::Day;
 
 /// Where the prices of each SKU stand in the sheet, by day.
 #[derive(Drop)]

@@ -12,11 +12,10 @@ ghost use Rattle.price_sheet.specs.Inner.Places.{IndexesPrices};
 
 use crate::places::fault_at;
 use crate::price_index::PriceIndex;
-use sheet_text::{KeyFault, Place, PriceRow, SheetFault};
+use sheet_text::{Day, KeyFault, Place, PriceRow, SheetFault};
 use std::alloc::Global;
 use std::marker::Model;
 use toml::Table;
-use utc_calendar::Day;
 
 /// The rows of prices in the order of the sheet, with their places by SKU and day.
 #[derive(Drop)]

@@ -13,12 +13,10 @@ ghost use Rattle.price_sheet.specs.SheetReading.{prices_in, commitments_in, empt
 use crate::commitment_table::CommitmentTable;
 use crate::places::fault_at;
 use crate::price_table::PriceTable;
-use period_cut::Month;
-use sheet_text::{Commitment, Place, PriceRow, SheetFault, base_under, rows_under};
+use sheet_text::{Commitment, Day, Month, Place, PriceRow, SheetFault, base_under, rows_under};
 use std::alloc::{AllocError, Global};
 use std::marker::Model;
 use toml::Table;
-use utc_calendar::Day;
 
 /// Prices and commitments, in the order of the sheet, and the month that period 0 bills.
 #[derive(Drop)]

@@ -3,10 +3,10 @@
 ghost use Rattle.std.specs.Prelude.{◌≡◌, [], ◌∷◌, IfOk, OnOk};
 ghost use Rattle.price_sheet.specs.Inner.Days.{begun, with_start};
 
+use sheet_text::Day;
 use std::alloc::{AllocError, Global};
 use std::collections::BTreeMap;
 use std::marker::Model;
-use utc_calendar::Day;
 
 /// From the day on the price at this place of the sheet holds. Places are counted from 0.
 #[derive(Clone, Copy)]

@@ -9,7 +9,7 @@ use Rattle.record_view.specs.declared.records.Reading.{Reading}
 use Rattle.record_view.specs.declared.records.Record as lent_record
 use Rattle.record_view.specs.Parts.{LentText, lent, AreLentApart}
 use Rattle.record_view.specs.TagTexts.{tag_of, tags_at}
-use Rattle.record_view.specs.Inner.TagPieces.{are_tags}
+use Rattle.record_view.specs.Inner.TagParts.{are_tags}
 use Rattle.record_view.specs.Inner.Placed.{texts_of}
 use Rattle.record_view.specs.Inner.KeptFields.{LiesWithin, StandsAt, HasTags, IsLentAtSpans}
 use Rattle.record_view.specs.declared.fields.Field.{Field}

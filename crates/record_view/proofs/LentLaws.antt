@@ -6,12 +6,12 @@ use Rattle.std.proofs.lemmas.List.{take-take, drop-drop, drop-take, length-take-
 use Rattle.record_view.specs.Parts.{LentText, lent, IsLent, AreLentApart, part_before, part_after, parts_at}
 use Rattle.record_view.specs.Inner.Placed.{IsPlaced}
 use Rattle.record_view.specs.TagTexts.{lent_tag, tags_at}
-use Rattle.record_view.specs.Inner.TagPieces.{are_tags}
+use Rattle.record_view.specs.Inner.TagParts.{are_tags}
 use Rattle.record_view.specs.declared.records.ReadingFields.{ReadingFields}
 use Rattle.record_view.specs.Lent.{tag_texts}
 use Rattle.record_view.specs.Inner.LineFields.{reading_parts, field_texts}
 use Rattle.record_view.proofs.PartLaws.{within_any, parts_whole, parts_split}
-use Rattle.record_view.proofs.TagLaws.{AllHaveEquals, all_have_equals, tags_rise, tags_of_empty, tags_of_pieces_at}
+use Rattle.record_view.proofs.TagLaws.{AllHaveEquals, all_have_equals, tags_rise, tags_of_empty, tags_of_parts_at}
 
 -- ---- parts of a lent text
 
@@ -125,7 +125,7 @@ lent_to : (source : List ℕ) (from a b : ℕ) (ts : List LentText) → a ≤ b 
 lent_to source from a b [] le h = h
 lent_to source from a b (t ∷ ts) le h = (h.0, h.1, omega (arith, h.2), lent_to source (t.to + 1) a b ts le h.3)
 
--- each lent piece gives a lent key and a lent value
+-- each lent part gives a lent key and a lent value
 lent_pairs : (source : List ℕ) (from to : ℕ) (ps : List LentText) → AllHaveEquals ps → AreLentApart source from to ps
     → AreLentApart source from to (flat_map tag_texts (map lent_tag ps))
 lent_pairs source from to [] pairs h = tt
@@ -144,8 +144,8 @@ tags_lent source from to t h ok begins ends = by_length (length t.text) refl
     by_length (suc n) e =
         let some : 0 < length t.text = omega arith in
         let pairs = all_have_equals [] (parts_at 59 t) (sym (tags_rise t some) ∙ ok) in
-        let pieces = lent_to source from t.to to (parts_at 59 t) ends (lent_from source from t.from t.to (parts_at 59 t) begins (parts_lent source 59 t h)) in
-        subst (λ ts. AreLentApart source from to (flat_map tag_texts ts)) (sym (tags_of_pieces_at t some)) (lent_pairs source from to (parts_at 59 t) pairs pieces)
+        let parts = lent_to source from t.to to (parts_at 59 t) ends (lent_from source from t.from t.to (parts_at 59 t) begins (parts_lent source 59 t h)) in
+        subst (λ ts. AreLentApart source from to (flat_map tag_texts ts)) (sym (tags_of_parts_at t some)) (lent_pairs source from to (parts_at 59 t) pairs parts)
 
 -- ---- the fields of a reading
 

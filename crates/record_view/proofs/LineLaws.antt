@@ -12,7 +12,7 @@ use Rattle.record_view.specs.declared.fields.Field.{Field}
 use Rattle.record_view.specs.declared.fields.Span.{Span}
 use Rattle.record_view.specs.Parts.{LentText, lent, IsLent, AreLentApart, parts_at}
 use Rattle.record_view.specs.Inner.Placed.{texts_of}
-use Rattle.record_view.specs.Inner.TagPieces.{are_tags}
+use Rattle.record_view.specs.Inner.TagParts.{are_tags}
 use Rattle.record_view.specs.Lent.{record_of, record_texts, IsLentRecord, fields_at, lent_fields}
 use Rattle.record_view.specs.Inner.LineFields.{reading_parts, amendment_parts, field_texts, record_of_reading, record_of_amendment}
 use Rattle.record_view.proofs.TagLaws.{texts_of_parts}

@@ -1,4 +1,4 @@
--- A text is tags if each of its pieces is one, with a key above that of the piece before it.
+-- A text is tags if each of its parts is one, with a key above that of the part before it.
 use Rattle.std.proofs.Common.{◌≡◌, ℕ, ◌+◌, ◌<◌, ◌==◌, ◌&&◌, Bool, true, false, not, cond, Option, Some, None, is_some, List, [], ◌∷◌, map, length, refl, sym, ap, subst, ◌∙◌, arith}
 use Rattle.std.specs.List.{list_any, before_first, after_first, slice_split}
 use Rattle.std.specs.Option.{option_map}
@@ -9,7 +9,7 @@ use Rattle.metering_model.specs.BatchReading.{is_equals_sign, tag_in, tags_in, w
 use Rattle.record_view.specs.Parts.{LentText, placed_from, parts_at}
 use Rattle.record_view.specs.Inner.Placed.{IsPlaced, texts_of}
 use Rattle.record_view.specs.TagTexts.{tag_of, lent_tag, unless_empty, tags_at}
-use Rattle.record_view.specs.Inner.TagPieces.{are_tags, key_in, if_above, rise_from, IsFirstPiece}
+use Rattle.record_view.specs.Inner.TagParts.{are_tags, key_in, if_above, rise_from, IsFirstPart}
 use Rattle.record_view.proofs.PartLaws.{parts_whole}
 
 -- ---- one tag
@@ -62,10 +62,10 @@ rises_first : (t : Tag) (ts : List Tag) → keys_rise (t ∷ ts) ≡ rises t.key
 rises_first t [] = refl
 rises_first t (u ∷ us) = ap (λ b. is_below t.key u.key && b) (rises_first u us)
 
-abbrev tags_of_pieces : List LentText → Option (List Tag)
-tags_of_pieces ps = all_some (map tag_in (texts_of ps))
+abbrev tags_of_parts : List LentText → Option (List Tag)
+tags_of_parts ps = all_some (map tag_in (texts_of ps))
 
--- one piece more, by whether it is a tag, whether its key is above the last, and what the others are
+-- one part more, by whether it is a tag, whether its key is above the last, and what the others are
 rise_step : (last : List ℕ) (t : Tag) (ps : List LentText) (b : Bool) (rest : Option (List Tag)) → rise_from (Some t.key) ps ≡ rises_if t.key rest
     → rise_from (cond b (Some t.key) None) ps ≡ cond b (rises_if t.key rest) false
 rise_step last t ps true rest h = h
@@ -83,19 +83,19 @@ rises_with last t (Some ts) = as_and (is_below last t.key)
     as_and true = refl
     as_and false = refl
 
-pub rise_is : (last : List ℕ) (ps : List LentText) → rise_from (Some last) ps ≡ rises_if last (tags_of_pieces ps)
+pub rise_is : (last : List ℕ) (ps : List LentText) → rise_from (Some last) ps ≡ rises_if last (tags_of_parts ps)
 rise_is last [] = refl
 rise_is last (p ∷ ps) = by_tag (tag_in p.text) (λ t. rise_is t.key ps)
   where
-    by_tag : (o : Option Tag) → ((t : Tag) → rise_from (Some t.key) ps ≡ rises_if t.key (tags_of_pieces ps))
-        → rise_from (if_above last (option_map (λ t. t.key) o)) ps ≡ rises_if last (with_first o (tags_of_pieces ps))
+    by_tag : (o : Option Tag) → ((t : Tag) → rise_from (Some t.key) ps ≡ rises_if t.key (tags_of_parts ps))
+        → rise_from (if_above last (option_map (λ t. t.key) o)) ps ≡ rises_if last (with_first o (tags_of_parts ps))
     by_tag None rest = refl
-    by_tag (Some t) rest = rise_step last t ps (is_below last t.key) (tags_of_pieces ps) (rest t) ∙ rises_with last t (tags_of_pieces ps)
+    by_tag (Some t) rest = rise_step last t ps (is_below last t.key) (tags_of_parts ps) (rest t) ∙ rises_with last t (tags_of_parts ps)
 
--- the first key is above nothing, so the pieces rise from there
-tags_if_rising : (ps : List LentText) → is_some (if_rising (tags_of_pieces ps)) ≡ rise_from (Some []) ps
+-- the first key is above nothing, so the parts rise from there
+tags_if_rising : (ps : List LentText) → is_some (if_rising (tags_of_parts ps)) ≡ rise_from (Some []) ps
 tags_if_rising [] = refl
-tags_if_rising (p ∷ ps) = by_tag (tag_in p.text) (λ t h. above_nothing t.key (tag_parts p.text t h).some) (tags_of_pieces ps) ∙ sym (rise_is [] (p ∷ ps))
+tags_if_rising (p ∷ ps) = by_tag (tag_in p.text) (λ t h. above_nothing t.key (tag_parts p.text t h).some) (tags_of_parts ps) ∙ sym (rise_is [] (p ∷ ps))
   where
     is_test : (b : Bool) (ts : List Tag) → is_some (cond b (Some ts) None) ≡ b
     is_test true ts = refl
@@ -119,7 +119,7 @@ pub texts_of_parts : (byte : ℕ) (t : LentText) → texts_of (parts_at byte t) 
 unfolding parts_at
 texts_of_parts byte t = texts_placed t.from (slice_split (λ c. c == byte) t.text)
 
--- a text with a byte is tags if its pieces rise
+-- a text with a byte is tags if its parts rise
 tags_rise_of : (cs : List ℕ) (from to : ℕ) → 0 < length cs → are_tags cs ≡ rise_from (Some []) (parts_at 59 (record { text = cs; from = from; to = to }))
 unfolding are_tags
 tags_rise_of [] from to some = absurd (omega arith)
@@ -143,9 +143,9 @@ tags_of_empty t h = by_text t.text h
     by_text [] h = refl
     by_text (c ∷ cs) h = absurd (omega arith)
 
-pub tags_of_pieces_at : (t : LentText) → 0 < length t.text → tags_at t ≡ map lent_tag (parts_at 59 t)
+pub tags_of_parts_at : (t : LentText) → 0 < length t.text → tags_at t ≡ map lent_tag (parts_at 59 t)
 unfolding tags_at
-tags_of_pieces_at t some = by_text t.text some
+tags_of_parts_at t some = by_text t.text some
   where
     by_text : (cs : List ℕ) → 0 < length cs → unless_empty cs (map lent_tag (parts_at 59 t)) ≡ map lent_tag (parts_at 59 t)
     by_text [] h = absurd (omega arith)
@@ -161,9 +161,9 @@ rising_all (Some ts) h = by_test (keys_rise ts) h
     by_test true h = (refl, refl)
     by_test false h = absurd (false≢true h)
 
-all_tags : (ps : List LentText) → is_some (tags_of_pieces ps) ≡ true → tags_of_pieces ps ≡ Some (map tag_of (map lent_tag ps))
+all_tags : (ps : List LentText) → is_some (tags_of_parts ps) ≡ true → tags_of_parts ps ≡ Some (map tag_of (map lent_tag ps))
 all_tags [] h = refl
-all_tags (p ∷ ps) h = by_tag (tag_in p.text) (tags_of_pieces ps) (λ t e. (tag_parts p.text t e).is) (all_tags ps) h
+all_tags (p ∷ ps) h = by_tag (tag_in p.text) (tags_of_parts ps) (λ t e. (tag_parts p.text t e).is) (all_tags ps) h
   where
     by_tag : (o : Option Tag) (rest : Option (List Tag)) → ((t : Tag) → o ≡ Some t → t ≡ tag_at p.text)
         → (is_some rest ≡ true → rest ≡ Some (map tag_of (map lent_tag ps)))
@@ -178,9 +178,9 @@ unfolding are_tags tags_at
 tags_read_of [] from to h = refl
 tags_read_of (c ∷ cs) from to h =
     let t : LentText = record { text = c ∷ cs; from = from; to = to } in
-    let pieces = ap (λ ts. if_rising (all_some (map tag_in ts))) (texts_of_parts 59 t) in
-    let rising = rising_all (tags_of_pieces (parts_at 59 t)) (ap is_some pieces ∙ h) in
-    sym pieces ∙ rising.1 ∙ all_tags (parts_at 59 t) rising.0
+    let parts = ap (λ ts. if_rising (all_some (map tag_in ts))) (texts_of_parts 59 t) in
+    let rising = rising_all (tags_of_parts (parts_at 59 t)) (ap is_some parts ∙ h) in
+    sym parts ∙ rising.1 ∙ all_tags (parts_at 59 t) rising.0
 
 -- the tags of a text are the model's
 pub tags_read : (t : LentText) → are_tags t.text ≡ true → tags_in t.text ≡ Some (map tag_of (tags_at t))
@@ -214,44 +214,44 @@ unfolding parts_at
 some_behind last [] from to h = absurd (false≢true h)
 some_behind last (c ∷ cs) from to h = omega arith
 
--- a piece that is followed by others
-pub first_piece : (t piece rest : LentText) → 0 < length t.text → are_tags t.text ≡ true → parts_at 59 t ≡ piece ∷ parts_at 59 rest → IsFirstPiece t piece rest
-first_piece t piece rest some h e =
-    by_tag (tag_in piece.text) refl (sym (ap (λ ps. rise_from (Some []) ps) e) ∙ sym (tags_rise t some) ∙ h)
+-- a part that is followed by others
+pub first_part : (t part rest : LentText) → 0 < length t.text → are_tags t.text ≡ true → parts_at 59 t ≡ part ∷ parts_at 59 rest → IsFirstPart t part rest
+first_part t part rest some h e =
+    by_tag (tag_in part.text) refl (sym (ap (λ ps. rise_from (Some []) ps) e) ∙ sym (tags_rise t some) ∙ h)
   where
     behind : (key : List ℕ) → rise_from (Some key) (parts_at 59 rest) ≡ true → (are_tags rest.text ≡ true) × (tags_at rest ≡ map lent_tag (parts_at 59 rest))
     behind key rises =
         let more : 0 < length rest.text = some_behind key rest.text rest.from rest.to rises in
-        (tags_rise rest more ∙ rise_lower key (parts_at 59 rest) rises, tags_of_pieces_at rest more)
+        (tags_rise rest more ∙ rise_lower key (parts_at 59 rest) rises, tags_of_parts_at rest more)
 
-    by_test : (tag : Tag) → tag_in piece.text ≡ Some tag → (b : Bool) → rise_from (cond b (Some tag.key) None) (parts_at 59 rest) ≡ true → IsFirstPiece t piece rest
+    by_test : (tag : Tag) → tag_in part.text ≡ Some tag → (b : Bool) → rise_from (cond b (Some tag.key) None) (parts_at 59 rest) ≡ true → IsFirstPart t part rest
     by_test tag is true rises =
         let others = behind tag.key rises in
         record {
-          has_equals = (tag_parts piece.text tag is).has_equals;
+          has_equals = (tag_parts part.text tag is).has_equals;
           others = others.0;
-          tags = tags_of_pieces_at t some ∙ ap (map lent_tag) e ∙ ap (λ ts. lent_tag piece ∷ ts) (sym others.1);
+          tags = tags_of_parts_at t some ∙ ap (map lent_tag) e ∙ ap (λ ts. lent_tag part ∷ ts) (sym others.1);
         }
     by_test tag is false rises = absurd (false≢true rises)
 
-    by_tag : (o : Option Tag) → tag_in piece.text ≡ o → rise_from (if_above [] (option_map (λ t. t.key) o)) (parts_at 59 rest) ≡ true → IsFirstPiece t piece rest
+    by_tag : (o : Option Tag) → tag_in part.text ≡ o → rise_from (if_above [] (option_map (λ t. t.key) o)) (parts_at 59 rest) ≡ true → IsFirstPart t part rest
     by_tag None is rises = absurd (false≢true rises)
     by_tag (Some tag) is rises = by_test tag is (is_below [] tag.key) rises
 
--- the last piece
-pub last_piece : (t rest : LentText) → 0 < length t.text → are_tags t.text ≡ true → parts_at 59 t ≡ t ∷ [] → length rest.text ≡ 0 → IsFirstPiece t t rest
-last_piece t rest some h e empty =
+-- the last part
+pub last_part : (t rest : LentText) → 0 < length t.text → are_tags t.text ≡ true → parts_at 59 t ≡ t ∷ [] → length rest.text ≡ 0 → IsFirstPart t t rest
+last_part t rest some h e empty =
     by_tag (tag_in t.text) refl (sym (ap (λ ps. rise_from (Some []) ps) e) ∙ sym (tags_rise t some) ∙ h)
   where
-    by_tag : (o : Option Tag) → tag_in t.text ≡ o → rise_from (if_above [] (option_map (λ t. t.key) o)) [] ≡ true → IsFirstPiece t t rest
+    by_tag : (o : Option Tag) → tag_in t.text ≡ o → rise_from (if_above [] (option_map (λ t. t.key) o)) [] ≡ true → IsFirstPart t t rest
     by_tag None is rises = absurd (false≢true rises)
     by_tag (Some tag) is rises = record {
       has_equals = (tag_parts t.text tag is).has_equals;
       others = no_tags rest.text empty;
-      tags = tags_of_pieces_at t some ∙ ap (map lent_tag) e ∙ ap (λ ts. lent_tag t ∷ ts) (sym (tags_of_empty rest empty));
+      tags = tags_of_parts_at t some ∙ ap (map lent_tag) e ∙ ap (λ ts. lent_tag t ∷ ts) (sym (tags_of_empty rest empty));
     }
 
--- ---- each piece of tags has its `=`
+-- ---- each part of tags has its `=`
 
 abbrev pub AllHaveEquals : List LentText → Type 0
 AllHaveEquals [] = Unit {0}
@@ -271,7 +271,7 @@ all_have_equals last (p ∷ ps) h = by_tag (tag_in p.text) refl (λ key. all_hav
     by_tag None is others rises = absurd (false≢true rises)
     by_tag (Some tag) is others rises = by_test tag is others (is_below last tag.key) rises
 
--- the last piece rises above the key before it just if it is a tag with a key above that one
+-- the last part rises above the key before it just if it is a tag with a key above that one
 pub last_rises : (last : List ℕ) (t : LentText) → IsPlaced t → list_any (λ c. c == 59) t.text ≡ false
     → rise_from (Some last) (parts_at 59 t) ≡ is_some (if_above last (key_in t.text))
 last_rises last t placed none = ap (rise_from (Some last)) (parts_whole 59 t placed none) ∙ at_end (if_above last (key_in t.text))

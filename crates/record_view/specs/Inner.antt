@@ -1,6 +1,6 @@
 pub mod Placed
 pub mod Plain
-pub mod TagPieces
+pub mod TagParts
 pub mod RecordSteps
 pub mod LineFields
 pub mod KeptFields

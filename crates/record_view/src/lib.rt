@@ -2,6 +2,7 @@
 #![tactic(auto)]
 
 pub use fields::{Field, Span};
+pub use fx_money::Value;
 pub use kept::{Numbers, kept_reading};
 pub use metering_model::{BatchCode, Kind};
 pub use records::{Reading, Record, read_record};

@@ -63,7 +63,7 @@ fn first_special(text: &[u8]) -> Option<usize>
 
 /// How many of the first bytes are plain and no `;` before one is not or is one: all of them tested at once.
 #[inline(always)]
-fn piece_run(text: &[u8]) -> usize
+fn part_run(text: &[u8]) -> usize
     requires { 8 ≤ length text.now }
     ensures { IsRun (stops_at 59) text.now 8 result }
 {
@@ -75,7 +75,7 @@ fn piece_run(text: &[u8]) -> usize
 
 /// Where the first byte stands that is `;` or is not plain, byte by byte.
 #[inline(never)]
-fn piece_end_by_bytes(text: &[u8]) -> Option<usize>
+fn part_end_by_bytes(text: &[u8]) -> Option<usize>
     ensures { result ≡ position (stops_at 59) text.now }
 {
     text.iter()
@@ -84,14 +84,14 @@ fn piece_end_by_bytes(text: &[u8]) -> Option<usize>
 
 /// Where it stands in a text of which the first eight bytes were passed, and which has as many more at most.
 #[inline(always)]
-fn piece_end_in_last(text: &[u8]) -> Option<usize>
+fn part_end_in_last(text: &[u8]) -> Option<usize>
     requires from { 8 ≤ length text.now }
     requires to { length text.now ≤ 16 }
     requires passed { (k : ℕ) → k < 8 → stops_at 59 (slice_index text.now k) ≡ false }
     ensures { result ≡ position (stops_at 59) text.now }
 {
     let behind = text.len() - FEW_LANES;
-    let run = piece_run(&text[behind..]);
+    let run = part_run(&text[behind..]);
     if run < FEW_LANES {
         Some(behind + run)
     } else {
@@ -101,19 +101,19 @@ fn piece_end_in_last(text: &[u8]) -> Option<usize>
 
 /// Where the first byte stands that is `;` or is not plain. Where it is near, it is found in one step or two.
 #[inline(always)]
-fn piece_end(text: &[u8]) -> Option<usize>
+fn part_end(text: &[u8]) -> Option<usize>
     ensures { result ≡ position (stops_at 59) text.now }
 {
     if text.len() >= FEW_LANES {
-        let run = piece_run(text);
+        let run = part_run(text);
         if run < FEW_LANES {
             return Some(run);
         }
         if text.len() <= 2 * FEW_LANES {
-            return piece_end_in_last(text);
+            return part_end_in_last(text);
         }
     }
-    piece_end_by_bytes(text)
+    part_end_by_bytes(text)
 }
 
 /// Where the first byte stands that is this one, or is not plain.
@@ -123,7 +123,7 @@ fn first_stop(text: &[u8], byte: u8) -> Option<usize>
 {
     match byte {
         b'|' => first_special(text),
-        b';' => piece_end(text),
+        b';' => part_end(text),
         _ => text
             .iter()
             .position(|c| *c < 0x20 || *c >= 0x7C || *c == byte),

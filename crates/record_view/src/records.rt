@@ -7,7 +7,7 @@ ghost use Rattle.metering_model.specs.BatchReading.{is_same, kind_in, record_in,
 ghost use Rattle.record_view.specs.Parts.{LentText, AreLentApart, lent, parts_at};
 ghost use Rattle.record_view.specs.Inner.Placed.{IsPlaced, texts_of};
 ghost use Rattle.record_view.specs.TagTexts.{tag_of, tags_at};
-ghost use Rattle.record_view.specs.Inner.TagPieces.{are_tags};
+ghost use Rattle.record_view.specs.Inner.TagParts.{are_tags};
 ghost use Rattle.record_view.specs.Inner.RecordSteps.{kind_step, stamp_step, order_step, text_step, key_step, value_step, sign_step, commitment_step, tags_step, whole_step};
 ghost use Rattle.record_view.specs.Lent.{lent_tags, reading_tags, record_of, record_texts, lent_fields, IsLentRecord};
 ghost use Rattle.record_view.specs.Inner.LineFields.{reading_parts, amendment_parts, field_texts, record_of_reading, record_of_amendment, HaveStamps, ArePlainFields};

@@ -9,7 +9,7 @@ ghost use Rattle.record_view.specs.Parts.{lent, parts_at};
 ghost use Rattle.record_view.specs.Inner.Placed.{IsPlaced};
 ghost use Rattle.record_view.specs.Inner.Plain.{is_plain};
 ghost use Rattle.record_view.specs.TagTexts.{tag_of, tags_at};
-ghost use Rattle.record_view.specs.Inner.TagPieces.{are_tags, key_in, if_above, rise_from, IsFirstPiece};
+ghost use Rattle.record_view.specs.Inner.TagParts.{are_tags, key_in, if_above, rise_from, IsFirstPart};
 
 use crate::fields::{Field, Span, is_text, split_at_byte};
 use crate::plain::{is_plain, split_plain};
@@ -23,12 +23,12 @@ pub struct Tags<'a> {
 }
 
 /// The key of a tag, if the text has one.
-fn text_key<'a>(piece: Field<'a>) -> Option<&'a [u8]>
-    requires placed { IsPlaced (lent piece) }
-    requires text { IsTrue (is_text piece.text.now) }
-    ensures { option_copied result ≡ key_in piece.entry.text.now }
+fn text_key<'a>(part: Field<'a>) -> Option<&'a [u8]>
+    requires placed { IsPlaced (lent part) }
+    requires text { IsTrue (is_text part.text.now) }
+    ensures { option_copied result ≡ key_in part.entry.text.now }
 {
-    let (key, _) = split_at_byte(piece, b'=')?;
+    let (key, _) = split_at_byte(part, b'=')?;
     if key.text.is_empty() {
         None
     } else {
@@ -37,12 +37,12 @@ fn text_key<'a>(piece: Field<'a>) -> Option<&'a [u8]>
 }
 
 /// The key of a tag, if the bytes are one.
-fn tag_key<'a>(piece: Field<'a>) -> Option<&'a [u8]>
-    requires { IsPlaced (lent piece) }
-    ensures { option_copied result ≡ key_in piece.entry.text.now }
+fn tag_key<'a>(part: Field<'a>) -> Option<&'a [u8]>
+    requires { IsPlaced (lent part) }
+    ensures { option_copied result ≡ key_in part.entry.text.now }
 {
-    if is_text(piece.text) {
-        text_key(piece)
+    if is_text(part.text) {
+        text_key(part)
     } else {
         None
     }
@@ -56,23 +56,23 @@ fn is_below(first: &[u8], second: &[u8]) -> bool
 }
 
 /// The key of a tag, if the text is one and the key is above the last one.
-fn key_above<'a>(last: &[u8], piece: Field<'a>) -> Option<&'a [u8]>
-    requires { IsPlaced (lent piece) }
-    ensures { option_copied result ≡ if_above last.now (key_in piece.entry.text.now) }
+fn key_above<'a>(last: &[u8], part: Field<'a>) -> Option<&'a [u8]>
+    requires { IsPlaced (lent part) }
+    ensures { option_copied result ≡ if_above last.now (key_in part.entry.text.now) }
 {
-    let key = tag_key(piece)?;
+    let key = tag_key(part)?;
     if is_below(last, key) { Some(key) } else { None }
 }
 
-/// Whether the pieces between `;` are tags whose keys rise.
+/// Whether the parts between `;` are tags whose keys rise.
 fn keys_rise(text: Field<'_>) -> bool
     requires { IsPlaced (lent text) }
     ensures { result ≡ rise_from (Some []) (parts_at 59 (lent text.entry)) }
 {
     let mut last: &[u8] = &[];
     let mut rest = text;
-    while let Some((piece, after)) = split_at_byte(rest, b';') {
-        match key_above(last, piece) {
+    while let Some((part, after)) = split_at_byte(rest, b';') {
+        match key_above(last, part) {
             Some(key) => last = key,
             None => return false,
         }
@@ -91,16 +91,16 @@ fn are_tags(text: Field<'_>) -> bool
 
 /// The key of a tag of plain bytes, if it is above the last one.
 #[tactic(auto, using(crate::proofs::PlainLaws::plain_text))]
-fn plain_key_above<'a>(last: &[u8], piece: Field<'a>) -> Option<&'a [u8]>
-    requires placed { IsPlaced (lent piece) }
-    requires plain { IsTrue (is_plain piece.text.now) }
-    ensures { option_copied result ≡ if_above last.now (key_in piece.entry.text.now) }
+fn plain_key_above<'a>(last: &[u8], part: Field<'a>) -> Option<&'a [u8]>
+    requires placed { IsPlaced (lent part) }
+    requires plain { IsTrue (is_plain part.text.now) }
+    ensures { option_copied result ≡ if_above last.now (key_in part.entry.text.now) }
 {
-    let key = text_key(piece)?;
+    let key = text_key(part)?;
     if is_below(last, key) { Some(key) } else { None }
 }
 
-/// Whether all bytes are plain, and the pieces between `;` are tags whose keys rise.
+/// Whether all bytes are plain, and the parts between `;` are tags whose keys rise.
 fn plain_keys_rise(text: Field<'_>) -> bool
     requires { IsPlaced (lent text) }
     ensures rise { IsTrue result → IsTrue (rise_from (Some []) (parts_at 59 (lent text.entry))) }
@@ -108,8 +108,8 @@ fn plain_keys_rise(text: Field<'_>) -> bool
 {
     let mut last: &[u8] = &[];
     let mut rest = text;
-    while let Some((piece, after)) = split_plain(rest, b';') {
-        match plain_key_above(last, piece) {
+    while let Some((part, after)) = split_plain(rest, b';') {
+        match plain_key_above(last, part) {
             Some(key) => last = key,
             None => return false,
         }
@@ -146,13 +146,13 @@ fn end_of<'a>(text: Field<'a>) -> Field<'a>
     }
 }
 
-/// The first of the pieces between `;`, and what stands behind it.
-fn first_piece<'a>(text: Field<'a>) -> (Field<'a>, Field<'a>)
+/// The first of the parts between `;`, and what stands behind it.
+fn first_part<'a>(text: Field<'a>) -> (Field<'a>, Field<'a>)
     requires placed { IsPlaced (lent text) }
     requires some { 0 < length text.text.now }
     requires tags { IsTrue (are_tags text.text.now) }
     ensures placed { IsPlaced (lent result.0) × IsPlaced (lent result.1) }
-    ensures first { IsFirstPiece (lent text.entry) (lent result.0) (lent result.1) }
+    ensures first { IsFirstPart (lent text.entry) (lent result.0) (lent result.1) }
 {
     match split_at_byte(text, b';') {
         Some(parts) => parts,
@@ -194,8 +194,8 @@ impl<'a> Tags<'a> {
         if self.rest.text.is_empty() {
             return None;
         }
-        let (piece, rest) = first_piece(self.rest);
-        let pair = split_at_byte(piece, b'=')?;
+        let (part, rest) = first_part(self.rest);
+        let pair = split_at_byte(part, b'=')?;
         Some((pair, Tags { rest }))
     }
 }

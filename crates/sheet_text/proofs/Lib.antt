@@ -1,4 +1,5 @@
 pub mod Tables
+pub mod Texts
 pub mod KeyLaws
 pub mod RowLaws
 pub mod Chains

@@ -11,11 +11,10 @@ ghost use Rattle.sheet_text.specs.Gives.{Gives};
 use byte_text::is_same;
 use fx_money::Price;
 use metering_model::{CommitmentCategory, ServiceCategory};
-use period_cut::Month;
+use period_cut::{Day, Month};
 use std::alloc::{AllocError, Global};
 use toml::value::Array;
 use toml::{Table, Value};
-use utc_calendar::Day;
 
 /// The rows that a table of a sheet may have.
 const MOST_ROWS: usize = 10_000;

@@ -7,10 +7,10 @@ mod issuers;
 mod keys;
 mod prices;
 
-pub use byte_text::is_same;
 pub use commitments::Commitment;
 pub use faults::{IssuerFault, Place, SheetFault};
 pub use issuers::Issuer;
 pub use keys::{KeyFault, base_under, rows_under};
 pub use metering_model::{CommitmentCategory, ServiceCategory};
+pub use period_cut::{Day, Month};
 pub use prices::PriceRow;

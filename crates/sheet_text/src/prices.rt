@@ -11,10 +11,10 @@ use crate::keys::{
 };
 use fx_money::Price;
 use metering_model::ServiceCategory;
+use period_cut::Day;
 use std::alloc::Global;
 use std::marker::Model;
 use toml::Table;
-use utc_calendar::Day;
 
 /// A price of a SKU from a day on.
 #[derive(Drop)]

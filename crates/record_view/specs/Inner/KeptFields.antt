@@ -8,7 +8,7 @@ use Rattle.record_view.specs.declared.records.Reading.{Reading}
 use Rattle.record_view.specs.Parts.{lent}
 use Rattle.record_view.specs.TagTexts.{tags_at}
 use Rattle.record_view.specs.Lent.{reading_tags}
-use Rattle.record_view.specs.Inner.TagPieces.{are_tags}
+use Rattle.record_view.specs.Inner.TagParts.{are_tags}
 
 abbrev pub LiesWithin : List ℕ → Span → Type 0
 LiesWithin source s = (s.from ≤ s.to) × (s.to ≤ length source)

@@ -11,7 +11,7 @@ use Rattle.record_view.specs.Parts.{LentText, lent}
 use Rattle.record_view.specs.Inner.Placed.{IsPlaced}
 use Rattle.record_view.specs.TagTexts.{tags_at}
 use Rattle.record_view.specs.Lent.{tag_texts}
-use Rattle.record_view.specs.Inner.TagPieces.{are_tags}
+use Rattle.record_view.specs.Inner.TagParts.{are_tags}
 use Rattle.record_view.specs.Inner.RecordSteps.{reading_in, amendment_in}
 
 abbrev pub reading_parts : ReadingFields → List LentText

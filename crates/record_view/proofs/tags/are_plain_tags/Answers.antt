@@ -1,4 +1,4 @@
--- The empty text is tags without bars, and another one is if its pieces rise.
+-- The empty text is tags without bars, and another one is if its parts rise.
 use Rattle.std.proofs.Common.{◌<◌, ◌==◌, length, ◌∙◌, sym, ap, arith}
 use Rattle.std.specs.List.{list_any}
 use Rattle.std.proofs.lemmas.Bool.{eqb-true, eqb-false}

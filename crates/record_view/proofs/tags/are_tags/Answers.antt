@@ -1,4 +1,4 @@
--- The empty text is tags, and another one is if its pieces rise.
+-- The empty text is tags, and another one is if its parts rise.
 use Rattle.std.proofs.Common.{◌<◌, length, ◌∙◌, sym, arith}
 use Rattle.std.proofs.lemmas.Bool.{eqb-true, eqb-false}
 use Rattle.record_view.specs.Parts.{lent}

@@ -1,4 +1,4 @@
--- The last piece is plain and has no `;`, so it is the only one that is left.
+-- The last part is plain and has no `;`, so it is the only one that is left.
 use Rattle.std.proofs.Common.{◌≡◌, Option, Some, None, is_some, Bor, refl, ◌∙◌, sym, ap}
 use Rattle.std.specs.Option.{option_copied}
 use Rattle.record_view.specs.Parts.{lent}
@@ -16,13 +16,13 @@ copied_some {A = A} o k e = sym (ap is_some e) ∙ both o
 pub returns-then-is_plain-clause-rise : goal.returns-then-is_plain-clause-rise
 returns-then-is_plain-clause-rise c = λ yes.
     let plain = sym c.is_plain.ensures ∙ c.if-is_plain.true in
-    let rest = lent c.loop-piece.rest in
-    sym c.loop-piece.invariant.rises
-    ∙ last_rises c.loop-piece.last.now rest c.loop-piece.invariant.placed (c.in_default.ensures.none plain)
+    let rest = lent c.loop-part.rest in
+    sym c.loop-part.invariant.rises
+    ∙ last_rises c.loop-part.last.now rest c.loop-part.invariant.placed (c.in_default.ensures.none plain)
     ∙ copied_some c.plain_key_above-then-is_plain.result _ c.plain_key_above-then-is_plain.ensures
     ∙ sym c.is_some.ensures
     ∙ yes
 
 pub returns-then-is_plain-clause-bars : goal.returns-then-is_plain-clause-bars
 returns-then-is_plain-clause-bars c = λ yes.
-    c.loop-piece.invariant.bars ∙ plain_no_bar c.loop-piece.rest.text.now (sym c.is_plain.ensures ∙ c.if-is_plain.true)
+    c.loop-part.invariant.bars ∙ plain_no_bar c.loop-part.rest.text.now (sym c.is_plain.ensures ∙ c.if-is_plain.true)

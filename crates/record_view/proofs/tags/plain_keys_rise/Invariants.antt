@@ -1,17 +1,17 @@
--- The pieces that are left rise from above the last key just if all of them rise, and they have all the bars.
+-- The parts that are left rise from above the last key just if all of them rise, and they have all the bars.
 use Rattle.std.proofs.Common.{◌≡◌, ◌==◌, [], Some, length}
 use Rattle.std.specs.List.{list_any}
 use Rattle.record_view.specs.Parts.{lent, parts_at}
 use Rattle.record_view.specs.Inner.Placed.{IsPlaced}
-use Rattle.record_view.specs.Inner.TagPieces.{rise_from}
+use Rattle.record_view.specs.Inner.TagParts.{rise_from}
 use Rattle.record_view.proofs.tags.plain_keys_rise.Given as goal
 
-abbrev pub invariant-loop-piece : goal.invariant-loop-piece
-invariant-loop-piece l = record {
+abbrev pub invariant-loop-part : goal.invariant-loop-part
+invariant-loop-part l = record {
   placed : IsPlaced (lent l.rest);
   rises : rise_from (Some l.last) (parts_at 59 (lent l.rest)) ≡ rise_from (Some []) (parts_at 59 (lent l.text));
   bars : list_any (λ c. c == 124) l.text.text.now ≡ list_any (λ c. c == 124) l.rest.text.now;
 }
 
-abbrev pub decreases-loop-piece : goal.decreases-loop-piece
-decreases-loop-piece l = length l.rest.text.now
+abbrev pub decreases-loop-part : goal.decreases-loop-part
+decreases-loop-part l = length l.rest.text.now

@@ -5,7 +5,7 @@ use Rattle.std.proofs.lemmas.Simd.{length-chunk, splat_is_map, zip2_of_maps}
 use Rattle.record_view.specs.Inner.Plain.{stops_at}
 use Rattle.record_view.proofs.LaneLaws.{itself, run_is}
 use lib.Lanes.{chunk}
-use Rattle.record_view.proofs.plain.piece_run.Goals as goal
+use Rattle.record_view.proofs.plain.part_run.Goals as goal
 
 pub returns : goal.returns
 returns c =

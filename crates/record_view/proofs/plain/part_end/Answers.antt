@@ -2,9 +2,9 @@
 use Rattle.std.proofs.Common.{sym, arith}
 use Rattle.record_view.specs.Inner.Plain.{stops_at}
 use Rattle.byte_text.proofs.FirstPlace.{position_is}
-use Rattle.record_view.proofs.plain.piece_end.Goals as goal
+use Rattle.record_view.proofs.plain.part_end.Goals as goal
 
 pub returns-then-run-lt-FEW_LANES : goal.returns-then-run-lt-FEW_LANES
 returns-then-run-lt-FEW_LANES c =
-    let run = c.piece_run-run.ensures in
-    sym (position_is (stops_at 59) c.args.text.now c.piece_run-run.result (omega arith) run.before (run.here (omega arith)))
+    let run = c.part_run-run.ensures in
+    sym (position_is (stops_at 59) c.args.text.now c.part_run-run.result (omega arith) run.before (run.here (omega arith)))

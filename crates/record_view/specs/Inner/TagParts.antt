@@ -1,4 +1,4 @@
--- Tags, piece by piece.
+-- Tags, part by part.
 use Rattle.std.specs.Prelude.{◌≡◌, ℕ, ◌==◌, Bool, true, false, List, [], ◌∷◌, Option, Some, None, is_some, if◌then◌else◌}
 use Rattle.std.specs.List.{list_any}
 use Rattle.std.specs.Option.{option_map}
@@ -25,8 +25,8 @@ rise_from None ts = false
 rise_from (Some last) [] = true
 rise_from (Some last) (t ∷ ts) = rise_from (if_above last (key_in t.text)) ts
 
--- what the first piece of tags is, and what stands behind it
-pub record IsFirstPiece (t piece rest : LentText) : Type 0 where
-  pub has_equals : list_any (λ c. c == 61) piece.text ≡ true
+-- what the first part of tags is, and what stands behind it
+pub record IsFirstPart (t part rest : LentText) : Type 0 where
+  pub has_equals : list_any (λ c. c == 61) part.text ≡ true
   pub others : are_tags rest.text ≡ true
-  pub tags : tags_at t ≡ lent_tag piece ∷ tags_at rest
+  pub tags : tags_at t ≡ lent_tag part ∷ tags_at rest

@@ -1,0 +1,2 @@
+-- Texts that are the same, passed on.
+pub use Rattle.byte_text.proofs.Texts.{same_is}
