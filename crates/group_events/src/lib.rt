@@ -5,6 +5,9 @@ mod events;
 mod replies;
 mod snapshots;
 
+pub use batch_store::{Cut, Month, Period, Store};
 pub use events::Event;
+pub use paxos_ballot::Ballot;
+pub use price_sheet::{Issuer, Sheet};
 pub use replies::Reply;
 pub use snapshots::Snapshot;

@@ -7,10 +7,9 @@ ghost use Rattle.metering_model.specs.World.{current_period, new_kept, wake};
 ghost use Rattle.metering_model.specs.Step.{started_node};
 ghost use Rattle.group_node.specs.Nodes.{IsNodeAmong};
 
-use batch_store::Store;
+use batch_store::{Cut, Store};
 use node_kept::{Kept, Parts};
 use paxos_ballot::{Acceptor, Attempt, Ballot, Tally};
-use period_cut::Cut;
 use std::alloc::{AllocError, Global};
 use std::marker::Model;
 use std::sync::Arc;

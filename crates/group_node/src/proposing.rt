@@ -16,9 +16,8 @@ ghost use Rattle.group_node.specs.Inner.Proposing.{proposal_at, accept_at, await
 use crate::nodes::Node;
 use crate::packets::Packet;
 use crate::voting::share_vote;
-use batch_store::Store;
+use batch_store::{Cut, Month, Period, Store};
 use paxos_ballot::{Attempt, Ballot, Vote};
-use period_cut::{Cut, Month, Period};
 use std::alloc::{AllocError, Global};
 use std::sync::Arc;
 

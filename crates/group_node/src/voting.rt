@@ -9,8 +9,8 @@ ghost use Rattle.group_node.specs.Handling.{Does};
 
 use crate::nodes::Node;
 use crate::packets::Packet;
+use batch_store::{Cut, Period};
 use paxos_ballot::{Ballot, Vote};
-use period_cut::{Cut, Period};
 use std::alloc::AllocError;
 use std::sync::Arc;
 

@@ -1,16 +1,17 @@
 -- What an event is answered, case by case.
-use Rattle.std.proofs.Common.{◌≡◌, ℕ, ◌+◌, Bool, true, false, length, refl, Option, Some, None, Ok, Err, nat_lt, nat_le}
+use Rattle.std.proofs.Common.{◌≡◌, ℕ, ◌+◌, Bool, true, false, length, refl, sym, Option, Some, None, Ok, Err, nat_lt, nat_le}
 use Rattle.std.specs.Prelude.{slice_get, ◌==◌}
 use Rattle.metering_model.specs.Batch.{Batch}
 use Rattle.metering_model.specs.Holding.{placed, put}
 use Rattle.metering_model.specs.JournalRules.{next_seq, first_broken}
 use Rattle.metering_model.specs.declared.BrokenRule.TheVariants.{BadTarget as BreaksTarget, Unpriced as BreaksPrice}
+use Rattle.metering_model.specs.declared.Refusal.{Refusal}
 use Rattle.metering_model.specs.declared.Refusal.TheVariants.{NoPacket, NoNode, NoAgent, WrongSeq, BadTarget, Unpriced, AllClosed, NoBallot, WorldFull, NotClosed, Missing}
 use Rattle.metering_model.specs.Ballot.{ballot_of}
 use Rattle.metering_model.specs.Cut.{Cut}
-use Rattle.metering_model.specs.World.{World, Node, Packet, CarriesBatch, Prepare, Journaled, Delivered, Started, Restarted, voter_count, current_period, wake, with_node_at, with_packet}
+use Rattle.metering_model.specs.World.{World, Node, Packet, CarriesBatch, Prepare, Journaled, Delivered, Started, Restarted, Exported, Refused, Export, Snapshot, voter_count, current_period, wake, with_node_at, with_packet}
 use Rattle.metering_model.specs.Deliveries.{handled}
-use Rattle.metering_model.specs.Step.{on_batch, on_delivery, on_start, on_restart, started_node, snapshot, cut_before, first_missing}
+use Rattle.metering_model.specs.Step.{Outcome, on_batch, on_delivery, on_start, on_restart, started_node, snapshot, cut_before, first_missing, step}
 use Rattle.metering_model.specs.Holding.{up_to}
 
 -- ---- a batch is journaled
@@ -107,3 +108,10 @@ module _ (w : World) (i p : ℕ) where
         → snapshot w i p
         ≡ Ok (record { period = p; from = cut_before w.agents n.kept.learned p; to = to; batches = up_to to n.kept.holding; sheet = w.sheet; issuer = w.issuer })
     exports to e f = rw (found, e, f) refl
+
+  -- the reply to it is the snapshot, or why there is none, and the world stays
+  pub exported_told : (s : Snapshot) → snapshot w i p ≡ Ok s → ◌≡◌ {A = Outcome} (Exported s, w) (step w (Export i p))
+  exported_told s e = sym (rw e refl)
+
+  pub refused_told : (refusal : Refusal) → snapshot w i p ≡ Err refusal → ◌≡◌ {A = Outcome} (Refused refusal, w) (step w (Export i p))
+  refused_told refusal e = sym (rw e refl)

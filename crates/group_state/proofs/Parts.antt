@@ -1,14 +1,14 @@
 -- What the parts of a reached world keep.
-use Rattle.std.proofs.Common.{◌≡◌, ℕ, zero, suc, ◌<◌, ◌≤◌, true, List, [], ◌∷◌, length, arith, sym, subst, ap, ◌∙◌, Option, Some, None}
+use Rattle.std.proofs.Common.{◌≡◌, ℕ, zero, suc, ◌-◌, ◌<◌, ◌≤◌, true, List, [], ◌∷◌, length, arith, refl, sym, subst, ap, ◌∙◌, Option, Some, None}
 use Rattle.std.specs.Prelude.{slice_get, unwrap_or, All}
 use Rattle.std.specs.Option.{is_some}
 use Rattle.std.proofs.lemmas.Option.{same_Some, none-some}
 use Rattle.std.proofs.lemmas.List.Elements.{All-head, All-tail}
-use Rattle.metering_model.specs.Sheet.{Sheet}
+use Rattle.metering_model.specs.Sheet.{Sheet, Issuer}
 use Rattle.metering_model.specs.Cut.{Cut, IsAtLeast, GrowsFrom, IsGrowing, zero_cut}
 use Rattle.metering_model.specs.Holding.{Holding, IsHolding, IsPartOf, AgreeUpTo, held, up_to}
 use Rattle.metering_model.specs.JournalRules.{MeetsJournalRules, next_seq}
-use Rattle.metering_model.specs.World.{World, Node, Packet, voter_count}
+use Rattle.metering_model.specs.World.{World, Node, Packet, Snapshot, voter_count}
 use Rattle.metering_model.specs.Step.{cut_before, first_missing}
 use Rattle.metering_model.proofs.HoldingLaws.{same_up_to, held-up_to}
 use Rattle.metering_model.proofs.Journals.{next_not_held}
@@ -71,3 +71,22 @@ module _ (sheet : Sheet) (h journals : Holding) (to : Cut) (is_holding : IsHoldi
 -- none of them is missing
 pub export_lacks_nothing : (h : Holding) (to : Cut) → first_missing h to ≡ None → first_missing (up_to to h) to ≡ None
 export_lacks_nothing h to none = nothing_missing (up_to to h) to (λ agent seq some low. ap is_some (held-up_to to h agent seq low) ∙ held-up_to_where h to none agent seq some low)
+
+-- the cut that was learned for the period before
+pub learned_before : (agents p : ℕ) (cuts : List Cut) (cut : Cut) → 1 ≤ p → slice_get cuts (p - 1) ≡ Some cut → cut ≡ cut_before agents cuts p
+learned_before agents zero cuts cut from found = absurd (omega (arith, from))
+learned_before agents (suc q) cuts cut from found =
+    let back : suc q - 1 ≡ q = omega arith in
+    sym (ap (λ o. unwrap_or o (zero_cut agents)) (sym (ap (slice_get cuts) back) ∙ found))
+
+-- and the zero cut where there is none
+pub none_before : (agents p : ℕ) (cuts : List Cut) → (1 ≤ p → slice_get cuts (p - 1) ≡ None) → zero_cut agents ≡ cut_before agents cuts p
+none_before agents zero cuts none = refl
+none_before agents (suc q) cuts none =
+    let back : suc q - 1 ≡ q = omega arith in
+    sym (ap (λ o. unwrap_or o (zero_cut agents)) (sym (ap (slice_get cuts) back) ∙ none (omega arith)))
+
+-- snapshots of the same parts are the same
+pub same_parts : (period : ℕ) (f from t to : Cut) (h holding : Holding) (s sheet : Sheet) (i issuer : Issuer) → f ≡ from → t ≡ to → h ≡ holding → s ≡ sheet → i ≡ issuer
+    → ◌≡◌ {A = Snapshot} (record { period = period; from = f; to = t; batches = up_to t h; sheet = s; issuer = i }) (record { period = period; from = from; to = to; batches = up_to to holding; sheet = sheet; issuer = issuer })
+same_parts period f from t to h holding s sheet i issuer a b c d e = cc

@@ -10,10 +10,9 @@ ghost use Rattle.group_state.specs.Reached.{IsReached};
 ghost use Rattle.group_state.specs.Inner.Allowed.{HandsOver, MayDeliver};
 
 use crate::GroupState;
-use group_events::Reply;
+use group_events::{Month, Reply};
 use group_node::{Node, Packet};
 use metering_model::Refusal;
-use period_cut::Month;
 use std::alloc::{AllocError, Global};
 
 /// Hands packet k to node i, and adds what it sends to the packets. Room for that is made first.

@@ -10,11 +10,9 @@ ghost use Rattle.group_state.specs.Reached.{IsReached};
 ghost use Rattle.group_state.specs.Inner.Allowed.{MayTake};
 
 use crate::GroupState;
-use group_events::{Reply, Snapshot};
+use group_events::{Cut, Issuer, Period, Reply, Sheet, Snapshot};
 use group_node::Node;
 use metering_model::Refusal;
-use period_cut::{Cut, Period};
-use price_sheet::{Issuer, Sheet};
 use std::alloc::{AllocError, Global};
 use std::sync::Arc;
 

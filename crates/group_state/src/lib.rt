@@ -9,6 +9,7 @@ mod starts;
 mod state;
 mod steps;
 
-pub use group_events::{Event, Reply, Snapshot};
+pub use batch_view::Offer;
+pub use group_events::{Ballot, Event, Period, Reply, Snapshot};
 pub use group_node::{Kept, Node, Packet};
 pub use state::GroupState;

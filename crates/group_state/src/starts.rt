@@ -12,10 +12,9 @@ ghost use Rattle.group_state.specs.Inner.Members.{Begins};
 
 use crate::GroupState;
 use crate::state::MOST_PACKETS;
-use group_events::Reply;
+use group_events::{Period, Reply};
 use group_node::{Node, Packet};
 use metering_model::Refusal;
-use period_cut::Period;
 use std::alloc::{AllocError, Global};
 
 /// A node begins no more ballots than this.

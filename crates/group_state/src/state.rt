@@ -8,8 +8,8 @@ ghost use Rattle.group_node.specs.Packets.{packet_of};
 ghost use Rattle.group_state.specs.Inner.Members.{IsMember};
 
 use batch_store::Store;
+use group_events::{Issuer, Sheet};
 use group_node::{Node, Packet};
-use price_sheet::{Issuer, Sheet};
 use std::alloc::{AllocError, Global};
 use std::marker::Model;
 use std::sync::Arc;

@@ -11,9 +11,8 @@ ghost use Rattle.node_book.specs.Books.{opened};
 ghost use Rattle.node_book.specs.Kept.{entry_of, told_of};
 
 use crate::{Entry, Receipt};
-use group_core::{Event, World, laws};
+use group_core::{Event, Issuer, Sheet, World, laws};
 use metering_model::Worker;
-use price_sheet::{Issuer, Sheet};
 use std::alloc::{AllocError, Global};
 use std::marker::Model;
 use std::sync::Arc;
@@ -100,6 +99,7 @@ impl Book {
         ensures headline { HoldsAfter self.now.nodes self.now.agents self.now.sheet self.now.issuer
             (map (λ e. e.event) self.now.history) (map (λ e. e.reply) self.now.history) self.now.world }
     {
+        // For the proof alone: with the field comes what the type keeps of it.
         let _ = &self.history;
         laws::runs();
     }

@@ -11,7 +11,7 @@ mod plans;
 pub use books::Book;
 pub use done::Done;
 pub use entries::{Entry, Receipt};
-pub use group_core::{Event, Reply};
+pub use group_core::{Event, Offer, Reply};
 pub use logs::Log;
 pub use metering_model::Worker;
 pub use plans::Plan;

@@ -1,6 +1,6 @@
 //! What a group is to do.
 
-use price_sheet::{Issuer, Sheet};
+use group_core::{Issuer, Sheet};
 use std::sync::Arc;
 
 /// What a group is to do: how many nodes it has, its sheet and its issuer, the texts of each agent's batches in order, how

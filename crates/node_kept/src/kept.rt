@@ -2,9 +2,8 @@
 ghost use Rattle.std.specs.Prelude.{◌≡◌};
 ghost use Rattle.node_kept.specs.Kept.{IsKept};
 
-use batch_store::Store;
+use batch_store::{Cut, Store};
 use paxos_ballot::Acceptor;
-use period_cut::Cut;
 use std::marker::Model;
 use std::sync::Arc;
 

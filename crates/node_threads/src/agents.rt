@@ -1,8 +1,7 @@
 //! What an agent's thread does.
 
 use crate::desks::{Desk, Report};
-use batch_view::Offer;
-use node_book::{Done, Event, Log, Reply, Worker};
+use node_book::{Done, Event, Log, Offer, Reply, Worker};
 use std::alloc::{AllocError, Global};
 use std::sync::Wait;
 

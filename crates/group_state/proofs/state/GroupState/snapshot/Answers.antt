@@ -1,9 +1,10 @@
-use Rattle.std.proofs.Common.{length, ap, subst, ◌∙◌, sym, rules}
+use Rattle.std.proofs.Common.{length, ap, subst, ◌∙◌, sym, Ok}
 use Rattle.std.specs.Arc.{arc_value}
 use Rattle.metering_model.specs.World.{voter_count}
 use Rattle.metering_model.specs.Step.{first_missing}
 use Rattle.batch_store.specs.Stores.{Stored}
 use Rattle.group_state.specs.Inner.Allowed.{MayTake}
+use Rattle.group_state.proofs.Outcomes.{exports, missing}
 use Rattle.group_state.proofs.Parts.{node_here, learned_size}
 use Rattle.group_state.proofs.Changes.{may_take}
 use Rattle.group_state.proofs.state.GroupState.snapshot.Goals as goal
@@ -26,7 +27,22 @@ take_snapshot-requires c =
     subst (λ p. MayTake w.sheet w.agents p to c.in-Some.asked.now) (sym c.in-Some-Some.ensures.value) may
 
 pub returns-in-Some-first_missing : goal.returns-in-Some-first_missing
-returns-in-Some-first_missing c = search rules
+returns-in-Some-first_missing c =
+    let w = c.args.self.now in
+    let n = c.in-Some.asked.now.node in
+    let to = arc_value c.in-Some-Some.to.now in
+    let cut = ap (λ t. first_missing c.store.result.now.batches t) c.deref.ensures in
+    let held = ap (λ (s : Stored). first_missing s.batches to) c.store.ensures in
+    let some = sym (cut ∙ held) ∙ (sym c.first_missing.ensures ∙ c.in-Some-first_missing.is) in
+    sym (missing w c.args.node c.args.period n (sym c.in-Some.ensures.node) to (c.in-Some-first_missing.agent, c.in-Some-first_missing.seq) (sym c.in-Some-Some.ensures') some)
 
 pub returns : goal.returns
-returns c = search rules
+returns c =
+    let w = c.args.self.now in
+    let n = c.in-Some.asked.now.node in
+    let to = arc_value c.in-Some-Some.to.now in
+    let cut = ap (λ t. first_missing c.store.result.now.batches t) c.deref.ensures in
+    let held = ap (λ (s : Stored). first_missing s.batches to) c.store.ensures in
+    let none = sym (cut ∙ held) ∙ (sym c.first_missing.ensures ∙ c.in_default-first_missing.is) in
+    let taken = rw c.in-Some-Some.ensures.value at c.in_ok-taken.ensures in
+    ap Ok taken ∙ sym (exports w c.args.node c.args.period n (sym c.in-Some.ensures.node) to (sym c.in-Some-Some.ensures') none)

@@ -1,8 +1,12 @@
-use Rattle.std.proofs.Common.{map}
+use Rattle.std.proofs.Common.{List, [], ◌∷◌, ◌++◌, map, ap, ap₂, ◌∙◌}
 use Rattle.std.proofs.lemmas.List.{map-append}
 use Rattle.std.specs.Arc.{arc_value}
-use Rattle.metering_model.specs.World.{opening}
+use Rattle.metering_model.specs.declared.Worker.{Worker}
+use Rattle.metering_model.specs.History.{Entry}
+use Rattle.metering_model.specs.Step.{Outcome, step}
+use Rattle.metering_model.specs.World.{Event, Reply, opening}
 use Rattle.group_core.specs.Words.{event_of, reply_of}
+use Rattle.node_book.specs.Books.{Book}
 use Rattle.node_book.specs.Kept.{entry_of}
 use Rattle.node_book.proofs.Legal.{legal_more, on_err}
 use Rattle.node_book.proofs.books.Book.act.Goals as goal
@@ -23,3 +27,12 @@ invariant_of-self-2 c =
     rw (c.push_reserved.ensures.items, c.in_ok-reserve.ensures.items, map-append)
     (legal_more (opening b.nodes b.agents (arc_value b.sheet) (arc_value b.issuer)) b.world c.step.new.self (map entry_of b.history.items)
     (record { who = c.args.who; event = event_of c.args.event; reply = reply_of c.in_ok-reply.reply }) c.self.invariant c.in_ok-reply.ensures.ok)
+
+abbrev written : Worker → Event → List Entry → Reply → List Entry
+written who event before reply = before ++ record { who = who; event = event; reply = reply } ∷ []
+
+pub returns-clause-history : goal.returns-clause-history
+returns-clause-history c =
+    let before = ap (λ (b : Book). b.history) c.self.view_is in
+    let told = ap (λ (o : Outcome). o.0) c.in_ok-reply.ensures.ok ∙ ap (λ (b : Book). (step b.world (event_of c.args.event)).0) c.self.view_is in
+    rw (c.push_reserved.ensures.items, c.in_ok-reserve.ensures.items, map-append) (ap₂ (written c.args.who (event_of c.args.event)) before told)
