@@ -12,7 +12,7 @@ use Rattle.counted_io.specs.Reading.{ConsumesAtMost}
 use Rattle.counted_io.specs.declared.reading.Source.{Ghosts as SourceOf}
 use Rattle.counted_io.specs.declared.writing.Sink.{Ghosts as SinkOf}
 use Rattle.input_sections.specs.declared.faults.ScheduleFault.{ScheduleFault}
-use Rattle.schedule_reader.specs.Schedules.{schedule_in}
+use Rattle.schedule_player.specs.Schedules.{schedule_in}
 use Rattle.schedule_player.specs.Transcripts.{IsTranscriptOf, IsFrontOfTranscript}
 use Rattle.schedule_player.specs.declared.PlayFault.{PlayFault}
 use Rattle.schedule_player.specs.declared.PlayFault.TheVariants as play

@@ -76,7 +76,7 @@ fn line_of(fault: &Fault) -> Line
     line
 }
 
-/// Writes the line of the fault in one piece, and gives the status to end with: 1 for refused input or a mismatch,
+/// Writes the line of the fault in one write, and gives the status to end with: 1 for refused input or a mismatch,
 /// 2 for the command line, 3 for a failed read or write, 4 for want of memory.
 ///
 /// The status is the same where the writer fails. It takes no memory.

@@ -11,4 +11,6 @@ mod words;
 pub use commands::Command;
 pub use endings::{Fault, ending};
 pub use runs::{run, run_alone};
+pub use schedule_player::{PlayFault, ScheduleCode, ScheduleFault, play_text, rate_text};
+pub use threads_player::{RunFault, Size, ThreadsFault};
 pub use words::{LineFault, command};

@@ -5,7 +5,7 @@ use Rattle.std.proofs.KnownBytes.{Appends-trans}
 use Rattle.std.proofs.lemmas.List.{append-nil, map-append, map_more, take-append-drop, take_all}
 use Rattle.std.proofs.lemmas.Grind.{flat_map-append}
 use Rattle.counted_io.specs.Writing.{AppendsFront}
-use Rattle.export_file.proofs.Fronts.{front_behind, front_within}
+use Rattle.counted_io.proofs.Fronts.{front_behind, front_within}
 use Rattle.metering_model.specs.World.{World, Event}
 use Rattle.metering_model.specs.Schedule as model
 use Rattle.metering_model.specs.Step.{play, step}

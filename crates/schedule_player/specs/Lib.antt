@@ -3,3 +3,4 @@ pub mod RateInput
 pub mod Charges
 pub mod Faults
 pub mod Inner
+pub mod Schedules

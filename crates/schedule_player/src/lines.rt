@@ -5,11 +5,11 @@ ghost use Rattle.std.specs.Io.KnownBytes.{Appends};
 ghost use Rattle.counted_io.specs.Counts.{Rises, count_after};
 ghost use Rattle.counted_io.specs.Writing.{AppendsFront};
 ghost use Rattle.metering_model.specs.Transcript.{reply_text};
-ghost use Rattle.group_events.specs.Replies.{reply_of};
+ghost use Rattle.group_core.specs.Words.{reply_of};
 
 use crate::words::set_words;
 use counted_io::{Failed, Sink, write_all};
-use group_events::Reply;
+use group_core::Reply;
 use std::alloc::{AllocError, Global};
 use std::marker::Model;
 

@@ -2,14 +2,11 @@
 
 ghost use Rattle.std.specs.Prelude.{◌≡◌, ◌++◌, ◌∷◌, [], codes, OnOk};
 ghost use Rattle.metering_model.specs.Transcript.{file_of, if_any, line_count, refusal_text, reply_text, with_number};
-ghost use Rattle.group_events.specs.Replies.{reply_of};
+ghost use Rattle.group_core.specs.Words.{reply_of};
 
 use byte_text::{line_count, put_if_any, put_numbered, refusal_line};
-use export_file::ExportFile;
-use group_events::{Reply, Snapshot};
+use group_core::{Ballot, ExportFile, Period, Reply, Snapshot};
 use metering_model::Refusal;
-use paxos_ballot::Ballot;
-use period_cut::Period;
 use std::alloc::{AllocError, Global};
 
 /// Appends which period a node learned, where it learned one.

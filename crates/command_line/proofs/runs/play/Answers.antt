@@ -1,7 +1,7 @@
 use Rattle.std.proofs.Common.{◌≡◌, ◌≢◌, ℕ, List, Option, Err, IfSome, ap, inr, refl}
 use Rattle.metering_model.specs.declared.Refusal.{Refusal}
 use Rattle.input_sections.specs.declared.faults.ScheduleFault.{ScheduleFault}
-use Rattle.schedule_reader.specs.Schedules.{schedule_in}
+use Rattle.schedule_player.specs.Schedules.{schedule_in}
 use Rattle.schedule_player.specs.declared.PlayFault.{PlayFault}
 use Rattle.schedule_player.specs.declared.PlayFault.TheVariants as play
 use Rattle.command_line.specs.declared.commands.Command.TheVariants.{Play as PlaySchedule}

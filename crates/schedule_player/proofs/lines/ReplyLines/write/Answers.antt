@@ -1,6 +1,6 @@
 use Rattle.std.proofs.Common.{◌≡◌, ◌++◌, rules, subst}
 use Rattle.counted_io.specs.Writing.{AppendsFront}
-use Rattle.export_file.proofs.Fronts.{front_behind}
+use Rattle.counted_io.proofs.Fronts.{front_behind}
 use Rattle.schedule_player.proofs.Results.{on_err}
 use Rattle.schedule_player.proofs.lines.ReplyLines.write.Goals as goal
 
