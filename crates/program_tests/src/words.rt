@@ -1,10 +1,9 @@
 //! The words that the program is given.
 
-use command_line::{Command, LineFault, command};
-use period_cut::Period;
+use command_line::{Command, LineFault, Size, command};
+use focus_row::Period;
 use std::alloc::{AllocError, Global};
 use std::test::Fail;
-use threads_player::Size;
 
 fn words_of(alloc: Global, line: &str) -> Result<Vec<String>, AllocError> {
     let mut words = Vec::new(alloc);
@@ -14,80 +13,76 @@ fn words_of(alloc: Global, line: &str) -> Result<Vec<String>, AllocError> {
     Ok(words)
 }
 
+/// The first of the lines whose words ask for something else.
+fn first_other<'a>(
+    alloc: Global,
+    lines: &'a str,
+    wanted: Result<Command, LineFault>,
+) -> Result<Option<&'a str>, AllocError> {
+    for line in lines.lines() {
+        let words = words_of(alloc, line)?;
+        if command(alloc, &words) != wanted {
+            return Ok(Some(line));
+        }
+    }
+    Ok(None)
+}
+
 #[test]
 fn a_period_is_asked_for(rt: HostRuntime) -> Result<(), Fail> {
-    for (line, number) in [
-        ("rate --period 0", Some(0)),
-        ("rate --period=1199", Some(1_199)),
-        ("rate --period +7", Some(7)),
-        ("rate --period 007", Some(7)),
-        ("rate --period=-0", Some(0)),
-        ("rate --period -1", None),
-        ("rate --period 65536", None),
-        ("rate --period 0 --period 0", None),
-        ("rate --help", None),
-        ("--version", None),
-        ("help", None),
-        ("focusd rate --period 0", None),
+    for (lines, number) in [
+        ("rate --period 0\nrate --period=-0", 0),
+        ("rate --period +7\nrate --period 007", 7),
+        ("rate --period=1199", 1_199),
     ] {
-        let words = words_of(rt.alloc(), line)?;
-        let wanted = match number {
-            Some(number) => Ok(Command::Rate {
-                period: Period::new(number).ok_or("no period")?,
-            }),
-            None => Err(LineFault::Line),
-        };
-        assert_eq!(rt; command(rt.alloc(), &words), wanted, "{line}");
+        let period = Period::new(number).ok_or("no period")?;
+        let other = first_other(rt.alloc(), lines, Ok(Command::Rate { period }))?;
+        assert_eq!(rt; other, None);
     }
     Ok(())
 }
 
-/// The words that ask for a group in threads, and how many nodes, agents, batches and periods it has.
-const THREADS: &[(&str, Option<(u8, u8, u8, u8)>)] = &[
-    (
-        "threads --nodes 1 --agents 1 --batches 1 --periods 1",
-        Some((1, 1, 1, 1)),
-    ),
-    (
-        "threads --periods 12 --batches=99 --agents +9 --nodes 09",
-        Some((9, 9, 99, 12)),
-    ),
-    (
-        "threads --nodes 2 --agents 3 --batches 4 --periods 5",
-        Some((2, 3, 4, 5)),
-    ),
-    ("threads --nodes 0 --agents 1 --batches 1 --periods 1", None),
-    (
-        "threads --nodes 1 --agents 10 --batches 1 --periods 1",
-        None,
-    ),
-    (
-        "threads --nodes 1 --agents 1 --batches 100 --periods 1",
-        None,
-    ),
-    (
-        "threads --nodes 257 --agents 1 --batches 1 --periods 1",
-        None,
-    ),
-    ("threads", None),
-];
+/// Whether the words ask for a group in threads of so many nodes, agents, batches and periods.
+fn asks_for_group(alloc: Global, line: &str, wanted: [u8; 4]) -> Result<bool, AllocError> {
+    let [nodes, agents, batches, periods] = wanted;
+    let size = Size {
+        nodes,
+        agents,
+        batches,
+        periods,
+    };
+    Ok(first_other(alloc, line, Ok(Command::Threads { size }))?.is_none())
+}
 
 #[test]
 fn a_group_in_threads_is_asked_for(rt: HostRuntime) -> Result<(), Fail> {
-    for (line, wanted) in THREADS {
-        let words = words_of(rt.alloc(), line)?;
-        let wanted = match *wanted {
-            Some((nodes, agents, batches, periods)) => Ok(Command::Threads {
-                size: Size {
-                    nodes,
-                    agents,
-                    batches,
-                    periods,
-                },
-            }),
-            None => Err(LineFault::Line),
-        };
-        assert_eq!(rt; command(rt.alloc(), &words), wanted, "{line}");
-    }
+    let least = "threads --nodes 1 --agents 1 --batches 1 --periods 1";
+    assert!(rt; asks_for_group(rt.alloc(), least, [1, 1, 1, 1])?);
+    let greatest = "threads --periods 12 --batches=99 --agents +9 --nodes 09";
+    assert!(rt; asks_for_group(rt.alloc(), greatest, [9, 9, 99, 12])?);
+    let other = "threads --nodes 2 --agents 3 --batches 4 --periods 5";
+    assert!(rt; asks_for_group(rt.alloc(), other, [2, 3, 4, 5])?);
+    Ok(())
+}
+
+/// The words that ask for nothing, a line each.
+const NOTHING: &str = "rate --period -1
+rate --period 65536
+rate --period 0 --period 0
+rate --help
+--version
+help
+focusd rate --period 0
+threads --nodes 0 --agents 1 --batches 1 --periods 1
+threads --nodes 1 --agents 10 --batches 1 --periods 1
+threads --nodes 1 --agents 1 --batches 100 --periods 1
+threads --nodes 257 --agents 1 --batches 1 --periods 1
+threads
+";
+
+#[test]
+fn other_words_ask_for_nothing(rt: HostRuntime) -> Result<(), Fail> {
+    let other = first_other(rt.alloc(), NOTHING, Err(LineFault::Line))?;
+    assert_eq!(rt; other, None);
     Ok(())
 }

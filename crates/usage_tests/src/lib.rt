@@ -1,16 +1,12 @@
-//! Tests from usage to rows, by public calls alone, and no code.
+//! Tests from usage to the files of its charges, by public calls alone, and no code.
 #![tactic(auto)]
 
 #[cfg(test)]
-mod batches;
-#[cfg(test)]
 mod devices;
 #[cfg(test)]
-mod issuers;
+mod files;
 #[cfg(test)]
 mod numbers;
-#[cfg(test)]
-mod samples;
 #[cfg(test)]
 mod sheets;
 #[cfg(test)]

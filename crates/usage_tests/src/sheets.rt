@@ -1,70 +1,76 @@
-//! The worked sheet, texts that are no sheet, and as many rows as a sheet may have.
+//! A sheet and an issuer where memory runs out.
 
-use crate::samples::{ISSUER, SHEET};
-use period_cut::Month;
-use price_sheet::{Issuer, IssuerFault, Place, Sheet, SheetFault};
-use std::test::Fail;
+use price_sheet::{Issuer, IssuerFault, Sheet, SheetFault};
+use std::alloc::Global;
+use worked_texts::ISSUER;
 
-#[test]
-fn a_sheet_is_read_and_looked_up(rt: HostRuntime) -> Result<(), Fail> {
-    let sheet = Sheet::read(rt.alloc(), SHEET)?;
-    let ops = sheet.commitment(b"cm-1").ok_or("no commitment")?;
-    assert_eq!(rt; (ops.buy(), ops.kind()), ("cpu-plan", "Reserved"));
-    let base_alone = Sheet::read(rt.alloc(), "base = \"2025-01\"")?;
-    let empty = Sheet::empty(rt.alloc(), Month::of(2025, 1))?;
-    assert!(rt; empty.same(&base_alone) && !empty.same(&sheet));
-    Ok(())
-}
-
-#[test]
-fn a_text_that_is_no_sheet_is_told_as_what_it_is(rt: HostRuntime) -> Result<(), Fail> {
-    assert_eq!(rt;
-        Sheet::read(rt.alloc(), "[[").err(),
-        Some(SheetFault::NotToml)
-    );
-    let no_base = Sheet::read(rt.alloc(), "price = []").err();
-    assert_eq!(rt; no_base, Some(SheetFault::Missing(Place::Top)));
-    let no_month = Sheet::read(rt.alloc(), "base = \"1999-12\"").err();
-    assert_eq!(rt; no_month, Some(SheetFault::BadValue(Place::Top)));
-    Ok(())
-}
-
-/// The last keys of a price.
-const PRICE: &str = r#"price_id = "p"
+/// Prices of two units, one of them from two days, and what a plan commits to.
+const PLANS: &str = r#"base = "2025-01"
+[[price]]
+sku = "ops"
+price_id = "ops-od"
 from = "2025-01-01"
-description = "d"
-service = "s"
-category = "Other"
-consumed_unit = "u"
-pricing_unit = "u"
+description = "Object requests"
+service = "Sample Storage"
+category = "Storage"
+consumed_unit = "Requests"
+pricing_unit = "Request Pairs"
+per = 2
+list = "1"
+contracted = "1"
+[[price]]
+sku = "ops"
+price_id = "ops-od-2"
+from = "2025-02-01"
+description = "Object requests"
+service = "Sample Storage"
+category = "Storage"
+consumed_unit = "Requests"
+pricing_unit = "Request Pairs"
+per = 2
+list = "2"
+contracted = "2"
+[[price]]
+sku = "ops-plan"
+price_id = "ops-plan-1"
+from = "2025-01-01"
+description = "Request plan"
+service = "Sample Storage"
+category = "Storage"
+consumed_unit = "Plans"
+pricing_unit = "Plans"
 per = 1
-list = "0"
-contracted = "0"
+list = "50"
+contracted = "40"
+[[commitment]]
+id = "cm-1"
+sku = "ops"
+buy = "ops-plan"
+category = "Usage"
+type = "Reserved"
+rate = "0.5"
 "#;
 
-#[test]
-fn a_table_has_10_000_rows_at_most(rt: HostRuntime) -> Result<(), Fail> {
-    let mut text = String::from_str(rt.alloc(), "base = \"2025-01\"\n")?;
-    for i in 0..10_000 {
-        write!(text, "[[price]]\nsku = \"s{i}\"\n{PRICE}")?;
+/// Whether the sheet is read, or want of memory is told.
+fn is_sheet(alloc: Global) -> bool {
+    match Sheet::read(alloc, PLANS) {
+        Ok(sheet) => sheet.commitment(b"cm-1").is_some(),
+        Err(fault) => fault == SheetFault::OutOfMemory,
     }
-    assert_eq!(rt; Sheet::read(rt.alloc(), text.as_str()).err(), None);
-    write!(text, "[[price]]\nsku = \"s0\"\n{PRICE}")?;
-    let fault = Sheet::read(rt.alloc(), text.as_str()).err();
-    assert_eq!(rt; fault, Some(SheetFault::BadValue(Place::Top)));
-    Ok(())
 }
 
-/// All room that this test asks for is asked for by the two calls that it tries.
+/// Whether the sample issuer is read, or want of memory is told.
+fn is_sample(alloc: Global, sample: &Issuer) -> bool {
+    match Issuer::read(alloc, ISSUER) {
+        Ok(issuer) => issuer.same(sample),
+        Err(fault) => fault == IssuerFault::OutOfMemory,
+    }
+}
+
 #[test]
-fn a_refused_growth_leaves_no_sheet_or_no_issuer(rt: HostRuntime) -> Result<(), Fail> {
-    match Sheet::read(rt.alloc(), SHEET) {
-        Ok(sheet) => assert!(rt; sheet.commitment(b"cm-1").is_some()),
-        Err(fault) => assert_eq!(rt; fault, SheetFault::OutOfMemory),
+fn a_refused_growth_leaves_no_sheet_or_no_issuer(rt: HostRuntime) {
+    assert!(rt; is_sheet(rt.alloc()));
+    if let Ok(sample) = Issuer::sample(rt.alloc()) {
+        assert!(rt; is_sample(rt.alloc(), &sample));
     }
-    match Issuer::read(rt.alloc(), ISSUER) {
-        Ok(issuer) => assert_eq!(rt; issuer.other_service(), "Billing"),
-        Err(fault) => assert_eq!(rt; fault, IssuerFault::OutOfMemory),
-    }
-    Ok(())
 }

@@ -1,26 +1,20 @@
 //! A store that is filled and asked where memory runs out.
 
-use batch_store::{RecordPlace, Store};
+use batch_store::{Cut, Month, Period, RecordPlace, Store};
 use batch_view::{Offer, OwnedBatch};
-use period_cut::{Cut, Month, Period};
 use std::alloc::{AllocError, Global};
 use std::sync::Arc;
 use std::test::Fail;
+use worked_texts::{AMENDED, READ};
 
-/// Usage of January 2025.
-pub(crate) const READ: &[u8] =
-    b"B1|1|1|1\nU|2025-01-10T00:00:00Z|2025-01-10T02:00:00Z|acc-7|vm-1|cpu|5400||env=prod\n";
-
-/// Its value, given anew.
-pub(crate) const AMENDED: &[u8] = b"B1|1|2|1\nX|1|0|7200\n";
-
+/// Two amendments in turn, of which the last gives back the value that was read.
 const AMENDED_TWICE: &[u8] = b"B1|1|3|2\nX|1|0|3600\nX|1|0|5400\n";
 
 /// Amendments behind a gap, so many that the list of what they and the others name grows twice.
 const AHEAD: &[u8] = b"B1|1|5|3\nX|1|0|7200\nX|1|0|3600\nX|1|0|5400\n";
 
 /// What comes of these bytes.
-fn offered(alloc: Global, bytes: &[u8]) -> Result<Offer, AllocError> {
+pub(crate) fn offered(alloc: Global, bytes: &[u8]) -> Result<Offer, AllocError> {
     Offer::read(alloc, bytes.to_vec(alloc)?)
 }
 

@@ -1,0 +1,136 @@
+//! Rows and their texts where memory runs out, and files where sinks fail.
+
+use crate::stores::{cut_of, offered};
+use batch_store::Store;
+use batch_view::Offer;
+use counted_io::{Counted, FakeWriter};
+use focus_csv::{CsvFault, row_texts, write_file};
+use focus_row::{Cut, FocusRow, Issuer, Period, RowFault, Sheet, rows_of};
+use std::alloc::{AllocError, Global};
+use std::test::Fail;
+use worked_texts::{AMENDED, CORRECTION, HEADER, READ, SHEET};
+
+/// By what usage and its amendment are charged, and the cuts that part them.
+#[derive(Drop)]
+struct Charged {
+    store: Store,
+    sheet: Sheet,
+    issuer: Issuer,
+    from: Cut,
+    to: Cut,
+}
+
+/// Puts the batch of these bytes, where they are one of the store's agents.
+fn put(store: &mut Store, alloc: Global, bytes: &[u8]) -> Result<bool, AllocError> {
+    let Offer::Good(batch) = offered(alloc, bytes)? else {
+        return Ok(false);
+    };
+    if store.agents() < batch.view().agent() {
+        return Ok(false);
+    }
+    store.put(batch)
+}
+
+/// Usage and its amendment.
+fn worked_store(alloc: Global) -> Result<Store, AllocError> {
+    let mut store = Store::new(alloc, 1)?;
+    put(&mut store, alloc, READ)?;
+    put(&mut store, alloc, AMENDED)?;
+    Ok(store)
+}
+
+/// None where memory runs out.
+fn corrected(alloc: Global) -> Option<Charged> {
+    Some(Charged {
+        store: worked_store(alloc).ok()?,
+        sheet: Sheet::read(alloc, SHEET).ok()?,
+        issuer: Issuer::sample(alloc).ok()?,
+        from: cut_of(alloc, 1).ok()?,
+        to: cut_of(alloc, 2).ok()?,
+    })
+}
+
+/// The rows between the two cuts, in February.
+fn rows_in(alloc: Global, of: &Charged) -> Result<Vec<FocusRow<'_>>, RowFault> {
+    let is_apart = of.from.agents() == 1 && of.to.agents() == 1 && of.to.at_least(&of.from);
+    let (Some(february), 1, true) = (Period::new(1), of.store.agents(), is_apart) else {
+        return Err(RowFault::Missing { agent: 1, seq: 1 });
+    };
+    rows_of(
+        alloc, &of.store, &of.sheet, &of.issuer, february, &of.from, &of.to,
+    )
+}
+
+/// The same, asked for again where the first call finds no memory.
+fn rows_again(alloc: Global, of: &Charged) -> Result<Vec<FocusRow<'_>>, RowFault> {
+    match rows_in(alloc, of) {
+        Ok(rows) => Ok(rows),
+        Err(_) => rows_in(alloc, of),
+    }
+}
+
+/// The texts of rows, asked for again where the first call finds no memory.
+fn texts_again(alloc: Global, rows: &[FocusRow<'_>]) -> Result<Vec<u8>, AllocError> {
+    match row_texts(alloc, rows) {
+        Ok(text) => Ok(text),
+        Err(_) => row_texts(alloc, rows),
+    }
+}
+
+/// Whether a sink that takes nothing is told as such, or want of memory before any call of it.
+fn is_told(alloc: Global, rows: &[FocusRow<'_>]) -> bool {
+    let mut sink = Counted::new(FakeWriter::new(Vec::new(alloc)).full_from(1));
+    match write_file(alloc, rows, &mut sink) {
+        Ok(()) => false,
+        Err(CsvFault::Write) => sink.failed_calls() == 1,
+        Err(CsvFault::OutOfMemory) => sink.inner().calls == 0,
+    }
+}
+
+/// Whether a sink that takes a byte a call, and fails behind these bytes of the file, is given just them; behind all of
+/// them it is not called again.
+fn is_front(alloc: Global, rows: &[FocusRow<'_>], front: &[u8], is_whole: bool) -> bool {
+    let device = FakeWriter::new(Vec::new(alloc)).byte_by_byte();
+    let mut sink = Counted::new(device.failing_at(front.len() as u64 + 1));
+    let is_written = write_file(alloc, rows, &mut sink).is_ok();
+    let failed = sink.failed_calls();
+    is_written == is_whole
+        && sink.inner().taken.as_slice() == front
+        && sink.inner().calls == (front.len() as u64).saturating_add(failed)
+        && failed == if is_whole { 0 } else { 1 }
+}
+
+/// The first count of bytes such that a sink which fails behind them has been given others.
+fn first_other_front(alloc: Global, rows: &[FocusRow<'_>]) -> Result<Option<usize>, AllocError> {
+    let mut file = HEADER.to_vec(alloc)?;
+    file.extend_from_slice(CORRECTION)?;
+    for length in 0..=file.len() {
+        if !is_front(alloc, rows, &file[..length], length == file.len()) {
+            return Ok(Some(length));
+        }
+    }
+    Ok(None)
+}
+
+/// Rows, and then their texts, are asked for again where the first call finds no memory, and come out as if it had.
+#[test]
+fn a_refused_growth_changes_no_row(rt: HostRuntime) -> Result<(), Fail> {
+    let Some(of) = corrected(rt.alloc()) else {
+        return Ok(());
+    };
+    let rows = rows_again(rt.alloc(), &of)?;
+    let text = texts_again(rt.alloc(), &rows)?;
+    assert_eq!(rt; text.as_slice(), CORRECTION);
+    assert!(rt; is_told(rt.alloc(), &rows));
+    Ok(())
+}
+
+#[test]
+fn a_file_goes_out_up_to_a_failed_call(rt: HostRuntime) -> Result<(), Fail> {
+    let Some(of) = corrected(rt.alloc()) else {
+        return Err(Fail::from("nothing is charged"));
+    };
+    let rows = rows_in(rt.alloc(), &of)?;
+    assert_eq!(rt; first_other_front(rt.alloc(), &rows)?, None);
+    Ok(())
+}
