@@ -36,6 +36,6 @@ HasAgents-steps = record {
   restarts = λ w i n h found. agents_after w i (wake n.kept) None h;
 }
 
-pub has_agents : (nodes agents : ℕ) (sheet : Sheet) (issuer : Issuer) (events : List Event) → HasAgents (play (opening nodes agents sheet issuer) events).1
-has_agents nodes agents sheet issuer events =
-    play_kept HasAgents HasAgents-steps events (opening nodes agents sheet issuer) (record { each = λ agent seq b is. absurd (none-some b is) })
+pub has_agents : (voters observers agents : ℕ) (sheet : Sheet) (issuer : Issuer) (events : List Event) → HasAgents (play (opening voters observers agents sheet issuer) events).1
+has_agents voters observers agents sheet issuer events =
+    play_kept HasAgents HasAgents-steps events (opening voters observers agents sheet issuer) (record { each = λ agent seq b is. absurd (none-some b is) })

@@ -5,11 +5,11 @@ use Rattle.std.proofs.lemmas.Bool.{cases_Bool, eqb-true}
 use Rattle.std.proofs.lemmas.Option.{same_Some, none-some}
 use Rattle.metering_model.specs.FirstFailure.{◌>>=◌, holds_or}
 use Rattle.metering_model.specs.declared.Refusal.{Refusal}
-use Rattle.metering_model.specs.declared.Refusal.TheVariants.{NoNode, NoPacket, NoAgent, WrongSeq, AllClosed, NoBallot}
+use Rattle.metering_model.specs.declared.Refusal.TheVariants.{NoNode, NoPacket, NoAgent, WrongSeq, AllClosed, NoBallot, Observer}
 use Rattle.metering_model.specs.Batch.{Batch}
 use Rattle.metering_model.specs.Holding.{held, put, placed, is_batch_at}
 use Rattle.metering_model.specs.JournalRules.{MeetsJournalRules, next_seq, first_broken}
-use Rattle.metering_model.specs.World.{World, Node, Packet, Offer, Event, Journal, Deliver, Start, Restart, Export, Reply, Journaled, Delivered, current_period, with_node_at, with_packet, next_packet}
+use Rattle.metering_model.specs.World.{World, Node, Packet, Offer, Event, Journal, Deliver, Start, Restart, Export, Reply, Journaled, Delivered, votes, current_period, with_node_at, with_packet, next_packet}
 use Rattle.metering_model.specs.Deliveries.{Handled, handled}
 use Rattle.metering_model.specs.Step.{Outcome, batch_of, on_batch, after_delivery, or_refused, unless_broken, snapshot, step, play}
 use Rattle.metering_model.proofs.StepLaws.{step_ok, test_step, ok_same}
@@ -136,9 +136,10 @@ module _ (w : World) where
   other_keeps (Journal offer) never = absurd (never offer refl)
   other_keeps (Deliver k i) never = (keeps_bind w (ok_or (slice_get w.packets k) NoPacket) _ (λ q. keeps_bind w (ok_or (slice_get w.nodes i) NoNode) _ (λ n. delivery_keeps_journals i (handled w i n q)))).same
   other_keeps (Start i) never = (keeps_bind w (ok_or (slice_get w.nodes i) NoNode) _ (λ n.
+      keeps_bind w (holds_or (votes w i) Observer) _ (λ u.
       keeps_bind w (holds_or (nat_lt (current_period n) 1_200) AllClosed) _ (λ u.
       keeps_bind w (holds_or (nat_lt n.kept.round 10_000) NoBallot) _ (λ u.
-      keeps_bind w (next_packet w) _ (λ k. record { same = refl }))))).same
+      keeps_bind w (next_packet w) _ (λ k. record { same = refl })))))).same
   other_keeps (Restart i) never = (keeps_bind w (ok_or (slice_get w.nodes i) NoNode) _ (λ n. record { same = refl })).same
   other_keeps (Export i p) never = (keeps_bind w (snapshot w i p) _ (λ s. record { same = refl })).same
 

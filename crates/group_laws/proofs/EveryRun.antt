@@ -1,11 +1,11 @@
 -- What holds after every run, and what a longer run keeps.
-use Rattle.std.proofs.Common.{◌≡◌, ℕ, List, ◌++◌, ◌<◌, length, map, refl, sym, subst, ◌∙◌, Option, Some, None, inl, inr}
+use Rattle.std.proofs.Common.{◌≡◌, ℕ, ◌+◌, List, ◌++◌, ◌<◌, length, map, refl, sym, subst, ◌∙◌, Option, Some, None, inl, inr}
 use Rattle.std.specs.Prelude.{slice_get}
 use Rattle.std.specs.List.{Contains}
 use Rattle.std.proofs.lemmas.Option.{same_Some, slice_get-get_or, slice_get_within, none-some}
 use Rattle.metering_model.specs.Sheet.{Sheet, Issuer}
 use Rattle.metering_model.specs.Cut.{Cut}
-use Rattle.metering_model.specs.World.{World, Node, Packet, CarriesBatch, Event, Snapshot, Exported, node_count, wake, opening}
+use Rattle.metering_model.specs.World.{World, Node, Packet, CarriesBatch, Event, Snapshot, Exported, node_count, voter_count, wake, new_kept, opening}
 use Rattle.metering_model.specs.Deliveries.{handled}
 use Rattle.metering_model.specs.Step.{play}
 use Rattle.metering_model.specs.Chosen.{IsChosen}
@@ -13,7 +13,7 @@ use Rattle.metering_model.specs.History.{Entry, IsLegal}
 use Rattle.metering_model.proofs.PlayLaws.{play-append}
 use Rattle.group_laws.specs.Headline.{IsPrefixOf, AreAnswers, AreTheCuts, IsExport, HoldsAfter}
 use Rattle.group_laws.proofs.StepCases.{after, started, start_packet, IsKeptBySteps, play_kept}
-use Rattle.group_laws.proofs.Steps.{length-slice_set}
+use Rattle.group_laws.proofs.Steps.{length-slice_set, length-replicate}
 use Rattle.group_laws.proofs.Told.{ChosenIn, ChosenIn-more}
 use Rattle.group_laws.proofs.Fits.{IsFitting, IsFitting-steps, IsFitting-opening}
 use Rattle.group_laws.proofs.Agreed.{the_cuts, one_chosen, are_the_cuts, same_entries, element_of}
@@ -22,36 +22,37 @@ use Rattle.group_laws.proofs.ChargedOnce.{charged_once}
 use Rattle.group_laws.proofs.Asked.{one_each, asked}
 use Rattle.group_laws.proofs.Answered.{kept, only}
 
--- ---- the sheet and the issuer
+-- ---- how many nodes and agents there are, the sheet and the issuer
 
-pub record IsOfIssuer (agents : ℕ) (sheet : Sheet) (issuer : Issuer) (w : World) : Type 0 where
+pub record IsAsOpened (nodes agents : ℕ) (sheet : Sheet) (issuer : Issuer) (w : World) : Type 0 where
+  pub nodes_kept : node_count w ≡ nodes
   pub agents_kept : w.agents ≡ agents
   pub sheet_kept : w.sheet ≡ sheet
   pub issuer_kept : w.issuer ≡ issuer
 
-module _ (agents : ℕ) (sheet : Sheet) (issuer : Issuer) where
-  issuer_after : (w : World) (i : ℕ) (n : Node) (o : Option Packet) → IsOfIssuer agents sheet issuer w → IsOfIssuer agents sheet issuer (after w i n o)
-  issuer_after w i n None h = record { agents_kept = h.agents_kept; sheet_kept = h.sheet_kept; issuer_kept = h.issuer_kept }
-  issuer_after w i n (Some q) h = record { agents_kept = h.agents_kept; sheet_kept = h.sheet_kept; issuer_kept = h.issuer_kept }
+module _ (nodes agents : ℕ) (sheet : Sheet) (issuer : Issuer) where
+  opened_after : (w : World) (i : ℕ) (n : Node) (o : Option Packet) → IsAsOpened nodes agents sheet issuer w → IsAsOpened nodes agents sheet issuer (after w i n o)
+  opened_after w i n None h = record { nodes_kept = length-slice_set w.nodes i n ∙ h.nodes_kept; agents_kept = h.agents_kept; sheet_kept = h.sheet_kept; issuer_kept = h.issuer_kept }
+  opened_after w i n (Some q) h = record { nodes_kept = length-slice_set w.nodes i n ∙ h.nodes_kept; agents_kept = h.agents_kept; sheet_kept = h.sheet_kept; issuer_kept = h.issuer_kept }
 
-  IsOfIssuer-steps : IsKeptBySteps (IsOfIssuer agents sheet issuer)
-  IsOfIssuer-steps = record {
-    journals = λ w b h next. record { agents_kept = h.agents_kept; sheet_kept = h.sheet_kept; issuer_kept = h.issuer_kept };
-    delivers = λ w i n q h may. issuer_after w i (handled w i n q).node (handled w i n q).sends h;
-    starts = λ w i n h may. issuer_after w i (started w i n) (Some (start_packet w i n)) h;
-    restarts = λ w i n h found. issuer_after w i (wake n.kept) None h;
+  IsAsOpened-steps : IsKeptBySteps (IsAsOpened nodes agents sheet issuer)
+  IsAsOpened-steps = record {
+    journals = λ w b h next. record { nodes_kept = h.nodes_kept; agents_kept = h.agents_kept; sheet_kept = h.sheet_kept; issuer_kept = h.issuer_kept };
+    delivers = λ w i n q h may. opened_after w i (handled w i n q).node (handled w i n q).sends h;
+    starts = λ w i n h may. opened_after w i (started w i n) (Some (start_packet w i n)) h;
+    restarts = λ w i n h found. opened_after w i (wake n.kept) None h;
   }
 
 -- ---- what is chosen stays chosen
 
 pub record StaysChosen (N p : ℕ) (c : Cut) (w : World) : Type 0 where
-  pub count : node_count w ≡ N
+  pub count : voter_count w ≡ N
   pub chosen : ChosenIn w.packets N p c
 
 module _ (N p : ℕ) (c : Cut) where
   chosen_after : (w : World) (i : ℕ) (n : Node) (o : Option Packet) → StaysChosen N p c w → StaysChosen N p c (after w i n o)
-  chosen_after w i n None h = record { count = length-slice_set w.nodes i n ∙ h.count; chosen = h.chosen }
-  chosen_after w i n (Some q) h = record { count = length-slice_set w.nodes i n ∙ h.count; chosen = ChosenIn-more w.packets q N p c h.chosen }
+  chosen_after w i n None h = record { count = h.count; chosen = h.chosen }
+  chosen_after w i n (Some q) h = record { count = h.count; chosen = ChosenIn-more w.packets q N p c h.chosen }
 
   StaysChosen-steps : IsKeptBySteps (StaysChosen N p c)
   StaysChosen-steps = record {
@@ -73,64 +74,66 @@ prefix_of_cuts w cuts are i n found = are.learned n (contains_at w.nodes i n fou
 
 -- ---- every run
 
-module _ (nodes agents : ℕ) (sheet : Sheet) (issuer : Issuer) (events : List Event) where
-  fitting : IsFitting nodes (play (opening nodes agents sheet issuer) events).1
-  fitting = play_kept (IsFitting nodes) (IsFitting-steps nodes) events (opening nodes agents sheet issuer) (IsFitting-opening nodes agents sheet issuer)
+module _ (voters observers agents : ℕ) (sheet : Sheet) (issuer : Issuer) (events : List Event) where
+  fitting : IsFitting voters (play (opening voters observers agents sheet issuer) events).1
+  fitting = play_kept (IsFitting voters) (IsFitting-steps voters) events (opening voters observers agents sheet issuer) (IsFitting-opening voters observers agents sheet issuer)
 
-  of_issuer : IsOfIssuer agents sheet issuer (play (opening nodes agents sheet issuer) events).1
-  of_issuer = play_kept (IsOfIssuer agents sheet issuer) (IsOfIssuer-steps agents sheet issuer) events (opening nodes agents sheet issuer) (record { agents_kept = refl; sheet_kept = refl; issuer_kept = refl })
+  as_opened : IsAsOpened (voters + observers) agents sheet issuer (play (opening voters observers agents sheet issuer) events).1
+  as_opened = play_kept (IsAsOpened (voters + observers) agents sheet issuer) (IsAsOpened-steps (voters + observers) agents sheet issuer) events (opening voters observers agents sheet issuer)
+      (record { nodes_kept = length-replicate (voters + observers) (wake new_kept); agents_kept = refl; sheet_kept = refl; issuer_kept = refl })
 
-  fitting_here : IsFitting (node_count (play (opening nodes agents sheet issuer) events).1) (play (opening nodes agents sheet issuer) events).1
-  fitting_here = subst (λ N. IsFitting N (play (opening nodes agents sheet issuer) events).1) (sym fitting.told.kept.count) fitting
+  fitting_here : IsFitting (voter_count (play (opening voters observers agents sheet issuer) events).1) (play (opening voters observers agents sheet issuer) events).1
+  fitting_here = subst (λ N. IsFitting N (play (opening voters observers agents sheet issuer) events).1) (sym fitting.told.kept.count) fitting
 
-  exports : (s : Snapshot) → Contains (play (opening nodes agents sheet issuer) events).0 (Exported s) → IsExport (play (opening nodes agents sheet issuer) events).1 (the_cuts (play (opening nodes agents sheet issuer) events).1 fitting_here) s
+  exports : (s : Snapshot) → Contains (play (opening voters observers agents sheet issuer) events).0 (Exported s) → IsExport (play (opening voters observers agents sheet issuer) events).1 (the_cuts (play (opening voters observers agents sheet issuer) events).1 fitting_here) s
   exports s has =
       let at = element_of _ _ has in
-      let taken = all_taken nodes events (opening nodes agents sheet issuer) (IsFitting-opening nodes agents sheet issuer) at.0 s at.1 in
-      is_export (play (opening nodes agents sheet issuer) events).1 fitting_here s (subst (λ N. IsTaken N (play (opening nodes agents sheet issuer) events).1 s) (sym fitting.told.kept.count) taken)
+      let taken = all_taken voters events (opening voters observers agents sheet issuer) (IsFitting-opening voters observers agents sheet issuer) at.0 s at.1 in
+      is_export (play (opening voters observers agents sheet issuer) events).1 fitting_here s (subst (λ N. IsTaken N (play (opening voters observers agents sheet issuer) events).1 s) (sym fitting.told.kept.count) taken)
 
-  answers : AreAnswers events (play (opening nodes agents sheet issuer) events).0 (play (opening nodes agents sheet issuer) events).1
+  answers : AreAnswers events (play (opening voters observers agents sheet issuer) events).0 (play (opening voters observers agents sheet issuer) events).1
   answers = record {
-    one_each = one_each events (opening nodes agents sheet issuer);
-    asked = asked events (opening nodes agents sheet issuer);
-    kept = kept nodes events (opening nodes agents sheet issuer) (IsFitting-opening nodes agents sheet issuer);
-    only = λ agent seq b has. elim (only nodes events (opening nodes agents sheet issuer) (IsFitting-opening nodes agents sheet issuer) agent seq b has) [
+    one_each = one_each events (opening voters observers agents sheet issuer);
+    asked = asked events (opening voters observers agents sheet issuer);
+    kept = kept voters events (opening voters observers agents sheet issuer) (IsFitting-opening voters observers agents sheet issuer);
+    only = λ agent seq b has. elim (only voters events (opening voters observers agents sheet issuer) (IsFitting-opening voters observers agents sheet issuer) agent seq b has) [
       | inl before ↦ absurd (none-some b before)
       | inr found ↦ found
     ];
   }
 
-  pub holds_after : HoldsAfter nodes agents sheet issuer events (play (opening nodes agents sheet issuer) events).0 (play (opening nodes agents sheet issuer) events).1
+  pub holds_after : HoldsAfter voters observers agents sheet issuer events (play (opening voters observers agents sheet issuer) events).0 (play (opening voters observers agents sheet issuer) events).1
   holds_after = record {
     answers = answers;
-    nodes_kept = fitting.told.kept.count;
-    agents_kept = of_issuer.agents_kept;
-    sheet_kept = of_issuer.sheet_kept;
-    issuer_kept = of_issuer.issuer_kept;
+    nodes_kept = as_opened.nodes_kept;
+    voters_kept = fitting.told.kept.count;
+    agents_kept = as_opened.agents_kept;
+    sheet_kept = as_opened.sheet_kept;
+    issuer_kept = as_opened.issuer_kept;
     rules = fitting.rules;
-    one = one_chosen (play (opening nodes agents sheet issuer) events).1 fitting_here;
-    cuts = the_cuts (play (opening nodes agents sheet issuer) events).1 fitting_here;
-    are_the_cuts = are_the_cuts (play (opening nodes agents sheet issuer) events).1 fitting_here;
+    one = one_chosen (play (opening voters observers agents sheet issuer) events).1 fitting_here;
+    cuts = the_cuts (play (opening voters observers agents sheet issuer) events).1 fitting_here;
+    are_the_cuts = are_the_cuts (play (opening voters observers agents sheet issuer) events).1 fitting_here;
     exports = exports;
-    one_export = λ s t has had. one_export (play (opening nodes agents sheet issuer) events).1 (the_cuts (play (opening nodes agents sheet issuer) events).1 fitting_here) s t (exports s has) (exports t had);
-    charged_once = charged_once (play (opening nodes agents sheet issuer) events).1 fitting_here;
+    one_export = λ s t has had. one_export (play (opening voters observers agents sheet issuer) events).1 (the_cuts (play (opening voters observers agents sheet issuer) events).1 fitting_here) s t (exports s has) (exports t had);
+    charged_once = charged_once (play (opening voters observers agents sheet issuer) events).1 fitting_here;
   }
 
   -- what was chosen is chosen after more events too
-  still_chosen : (more : List Event) (p : ℕ) (c : Cut) → IsChosen (play (opening nodes agents sheet issuer) events).1 p c → IsChosen (play (play (opening nodes agents sheet issuer) events).1 more).1 p c
+  still_chosen : (more : List Event) (p : ℕ) (c : Cut) → IsChosen (play (opening voters observers agents sheet issuer) events).1 p c → IsChosen (play (play (opening voters observers agents sheet issuer) events).1 more).1 p c
   still_chosen more p c was =
-      let w : World = (play (opening nodes agents sheet issuer) events).1 in
-      let later : StaysChosen (node_count w) p c (play w more).1 = play_kept (StaysChosen (node_count w) p c) (StaysChosen-steps (node_count w) p c) more w (record { count = refl; chosen = (was.ballot, was.by_majority) }) in
-      let here : ChosenIn (play w more).1.packets (node_count (play w more).1) p c = subst (λ N. ChosenIn (play w more).1.packets N p c) (sym later.count) later.chosen in
+      let w : World = (play (opening voters observers agents sheet issuer) events).1 in
+      let later : StaysChosen (voter_count w) p c (play w more).1 = play_kept (StaysChosen (voter_count w) p c) (StaysChosen-steps (voter_count w) p c) more w (record { count = refl; chosen = (was.ballot, was.by_majority) }) in
+      let here : ChosenIn (play w more).1.packets (voter_count (play w more).1) p c = subst (λ N. ChosenIn (play w more).1.packets N p c) (sym later.count) later.chosen in
       record { ballot = here.0; by_majority = here.1 }
 
-  pub cuts_grow : (more : List Event) (before after : List Cut) → AreTheCuts (play (opening nodes agents sheet issuer) events).1 before → AreTheCuts (play (opening nodes agents sheet issuer) (events ++ more)).1 after → IsPrefixOf before after
+  pub cuts_grow : (more : List Event) (before after : List Cut) → AreTheCuts (play (opening voters observers agents sheet issuer) events).1 before → AreTheCuts (play (opening voters observers agents sheet issuer) (events ++ more)).1 after → IsPrefixOf before after
   cuts_grow more before after h k =
-      let later : AreTheCuts (play (play (opening nodes agents sheet issuer) events).1 more).1 after = subst (λ w. AreTheCuts w after) (play-append (opening nodes agents sheet issuer) events more) k in
+      let later : AreTheCuts (play (play (opening voters observers agents sheet issuer) events).1 more).1 after = subst (λ w. AreTheCuts w after) (play-append (opening voters observers agents sheet issuer) events more) k in
       same_entries before after (λ p c e. (later.chosen p c).1 (still_chosen more p c ((h.chosen p c).0 e)))
 
 -- a legal history is a run, with its replies and its world
-pub legal_holds_after : (nodes agents : ℕ) (sheet : Sheet) (issuer : Issuer) (history : List Entry) (reached : World) → IsLegal (opening nodes agents sheet issuer) history reached → HoldsAfter nodes agents sheet issuer (map (λ e. e.event) history) (map (λ e. e.reply) history) reached
-legal_holds_after nodes agents sheet issuer history reached legal =
-    subst (λ replies. HoldsAfter nodes agents sheet issuer (map (λ e. e.event) history) replies reached) legal.replies
-    (subst (HoldsAfter nodes agents sheet issuer _ _) legal.world (holds_after nodes agents sheet issuer (map (λ e. e.event) history)))
+pub legal_holds_after : (voters observers agents : ℕ) (sheet : Sheet) (issuer : Issuer) (history : List Entry) (reached : World) → IsLegal (opening voters observers agents sheet issuer) history reached → HoldsAfter voters observers agents sheet issuer (map (λ e. e.event) history) (map (λ e. e.reply) history) reached
+legal_holds_after voters observers agents sheet issuer history reached legal =
+    subst (λ replies. HoldsAfter voters observers agents sheet issuer (map (λ e. e.event) history) replies reached) legal.replies
+    (subst (HoldsAfter voters observers agents sheet issuer _ _) legal.world (holds_after voters observers agents sheet issuer (map (λ e. e.event) history)))

@@ -4,7 +4,7 @@ use Rattle.std.specs.Prelude.{slice_get, ◌==◌}
 use Rattle.std.proofs.lemmas.Option.{same_Some, none-some}
 use Rattle.metering_model.specs.FirstFailure.{◌>>=◌, holds_or}
 use Rattle.metering_model.specs.declared.Refusal.{Refusal}
-use Rattle.metering_model.specs.declared.Refusal.TheVariants.{NoNode, NoPacket, NotClosed, NoAgent, WrongSeq, AllClosed, NoBallot}
+use Rattle.metering_model.specs.declared.Refusal.TheVariants.{NoNode, NoPacket, NotClosed, NoAgent, WrongSeq, AllClosed, NoBallot, Observer}
 use Rattle.metering_model.specs.Batch.{Batch}
 use Rattle.metering_model.specs.BatchReading.{batch_in}
 use Rattle.metering_model.specs.Sheet.{Sheet, Issuer}
@@ -13,7 +13,7 @@ use Rattle.metering_model.specs.Holding.{Holding, AgreeUpTo, held, put, placed, 
 use Rattle.metering_model.specs.JournalRules.{MeetsJournalRules, next_seq, first_broken}
 use Rattle.metering_model.specs.Rows.{rows}
 use Rattle.metering_model.specs.File.{file}
-use Rattle.metering_model.specs.World.{World, Node, Packet, CarriesBatch, Offer, Good, Bad, Event, Journal, Deliver, Start, Restart, Export, Snapshot, Exported, Delivered, node_count, current_period, wake, with_node_at, with_packet, next_packet}
+use Rattle.metering_model.specs.World.{World, Node, Packet, CarriesBatch, Offer, Good, Bad, Event, Journal, Deliver, Start, Restart, Export, Snapshot, Exported, Delivered, voter_count, votes, current_period, wake, with_node_at, with_packet, next_packet}
 use Rattle.metering_model.specs.Deliveries.{Handled, handled}
 use Rattle.metering_model.specs.Step.{Outcome, on_batch, on_journal, on_delivery, on_start, on_restart, after_delivery, or_refused, or_bad_batch, unless_broken, first_missing, unless_missing, cut_before, snapshot, step, play}
 use Rattle.metering_model.proofs.StepLaws.{step_ok, some_step, ok_same}
@@ -164,9 +164,10 @@ module _ (w : World) where
   pub start_never : (i : ℕ) → NeverExports w (on_start w i)
   start_never i =
       after_bind w (ok_or (slice_get w.nodes i) NoNode) _ (λ n.
+      after_bind w (holds_or (votes w i) Observer) _ (λ u.
       after_bind w (holds_or (nat_lt (current_period n) 1_200) AllClosed) _ (λ u.
       after_bind w (holds_or (nat_lt n.kept.round 10_000) NoBallot) _ (λ u.
-      after_bind w (next_packet w) _ (λ k. record { never = λ s is. cc }))))
+      after_bind w (next_packet w) _ (λ k. record { never = λ s is. cc })))))
 
   pub restart_never : (i : ℕ) → NeverExports w (on_restart w i)
   restart_never i = after_bind w (ok_or (slice_get w.nodes i) NoNode) _ (λ n. record { never = λ s is. cc })
@@ -193,14 +194,14 @@ all_taken N (e ∷ es) w h (suc k) s is = all_taken N es (step w e).1 (step_kept
 
 -- ---- so it is an export of the journals
 
-module _ (w : World) (h : IsFitting (node_count w) w) (s : Snapshot) (t : IsTaken (node_count w) w s) where
+module _ (w : World) (h : IsFitting (voter_count w) w) (s : Snapshot) (t : IsTaken (voter_count w) w s) where
   cut : slice_get (the_cuts w h) s.period ≡ Some s.to
   cut = chosen_cut w h s.period s.to t.to
 
   from_is : s.from ≡ cut_before w.agents (the_cuts w h) s.period
   from_is = by_period s.period t.from
     where
-      by_period : (p : ℕ) → IsBefore w.packets (node_count w) w.agents p s.from → s.from ≡ cut_before w.agents (the_cuts w h) p
+      by_period : (p : ℕ) → IsBefore w.packets (voter_count w) w.agents p s.from → s.from ≡ cut_before w.agents (the_cuts w h) p
       by_period zero e = e
       by_period (suc r) was = sym (ap (λ o. unwrap_or o (zero_cut w.agents)) (chosen_cut w h r s.from was))
 

@@ -1,6 +1,7 @@
 -- Worlds that a faulty node would leave: of each the headline is false.
-use Rattle.std.proofs.Common.{◌≡◌, ℕ, List, [], ◌∷◌, length, refl, sym, ap, subst, ◌∙◌, arith, Some, None}
+use Rattle.std.proofs.Common.{◌≡◌, ℕ, ◌≤◌, Bool, true, cond, List, [], ◌∷◌, length, refl, sym, ap, subst, ◌∙◌, arith, Some, None}
 use Rattle.std.specs.Prelude.{slice_get, pos, false, codes}
+use Rattle.std.specs.List.{count_by, list_any}
 use Rattle.std.proofs.lemmas.Bool.{leb-true, both_ways}
 use Rattle.std.proofs.lemmas.Option.{same_Some, none-some}
 use Rattle.jiff_core.specs.Calendar.{days_from_civil, day_count, days_of_years, days_of_months}
@@ -11,10 +12,11 @@ use Rattle.metering_model.specs.Row.{row}
 use Rattle.metering_model.specs.Rows.{PlacedRow}
 use Rattle.metering_model.specs.Cut.{Cut, IsAtLeast, IsGrowing}
 use Rattle.metering_model.specs.World.{World, Node, Event, Reply, Snapshot, Exported, Prepare, Promise, Accept, Accepted, Decided, wake, new_kept, opening}
-use Rattle.metering_model.specs.Chosen.{IsChosen}
+use Rattle.metering_model.specs.Chosen.{IsChosen, accepts}
 use Rattle.metering_model.proofs.Samples.{sheet_0, issuer_1}
 use Rattle.group_laws.specs.Headline.{IsNewIn, AreChargedOnce, HoldsAfter}
 use Rattle.group_laws.specs.EveryRun.{KeepsLimits}
+use Rattle.group_laws.proofs.Quorum.{count_by-cons}
 
 abbrev low : Cut
 low = 1 ∷ []
@@ -30,10 +32,14 @@ whole_holding = batch_of 1 ∷ batch_of 2 ∷ []
 
 -- a group with two batches in its journals, so that what is wrong is what the packets tell
 abbrev opened : ℕ → World
-opened nodes = record (opening nodes 1 sheet_0 issuer_1) { journals = whole_holding }
+opened nodes = record (opening nodes 0 1 sheet_0 issuer_1) { journals = whole_holding }
 
+abbrev IsFalseWith : ℕ → ℕ → List Reply → World → Type 0
+IsFalseWith voters observers replies w = (events : List Event) → HoldsAfter voters observers 1 sheet_0 issuer_1 events replies w → ⊥
+
+-- of a group in which each node votes
 abbrev IsFalseOf : ℕ → List Reply → World → Type 0
-IsFalseOf nodes replies w = (events : List Event) → HoldsAfter nodes 1 sheet_0 issuer_1 events replies w → ⊥
+IsFalseOf nodes replies w = IsFalseWith nodes 0 replies w
 
 -- ---- two cuts that are chosen for one period
 
@@ -130,11 +136,44 @@ a_cut_is_not_guessed events h = never ((h.are_the_cuts.chosen 0 low).0 first)
     never : IsChosen after_a_guess 0 low → ⊥
     never chosen = let many = chosen.by_majority in omega (arith, many)
 
+-- ---- an observer taken for a voter
+
+-- Of two voters one has accepted, and so has an observer. Node 0 counts both, and learns.
+abbrev after_an_observers_vote : World
+after_an_observers_vote = record (opening 2 1 1 sheet_0 issuer_1) {
+  journals = whole_holding;
+  packets =
+      Prepare 0 2 ∷ Promise 0 0 2 None ∷ Promise 1 0 2 None ∷ Accept 0 2 low ∷ Accepted 0 0 2 low ∷ Accepted 2 0 2 low ∷ [];
+  nodes = has_learned low ∷ wake new_kept ∷ wake new_kept ∷ [];
+}
+
+an_observer_has_no_vote : IsFalseWith 2 1 [] after_an_observers_vote
+an_observer_has_no_vote events h = never ((h.are_the_cuts.chosen 0 low).0 first)
+  where
+    prefix : (rest : List Cut) × (low ∷ rest ≡ h.cuts)
+    prefix = h.are_the_cuts.learned (has_learned low) (0, omega arith, refl)
+
+    first : slice_get h.cuts 0 ≡ Some low
+    first = ap (λ cuts. slice_get cuts 0) (sym prefix.1)
+
+    one_at_most : (b : Bool) → cond b 1 0 ≤ 1
+    one_at_most true = omega arith
+    one_at_most false = omega arith
+
+    never : IsChosen after_an_observers_vote 0 low → ⊥
+    never chosen =
+        let f : ℕ → Bool = λ node. list_any (accepts node 0 chosen.ballot low) after_an_observers_vote.packets in
+        let many : 2 ≤ count_by f (0 ∷ 1 ∷ []) = chosen.by_majority in
+        let zeroth = count_by-cons f 0 (1 ∷ []) in
+        let second : count_by f (1 ∷ []) ≡ 0 = count_by-cons f 1 [] in
+        let few = one_at_most (f 0) in
+        omega (arith, many, zeroth, second, few)
+
 -- ---- cuts that go back, or beyond the journals
 
 -- one node, which chooses the second batch for period 0, and only the first for period 1
 abbrev after_a_step_back : World
-after_a_step_back = record (opening 1 1 sheet_0 issuer_1) {
+after_a_step_back = record (opening 1 0 1 sheet_0 issuer_1) {
   journals = batch_of 1 ∷ batch_of 2 ∷ [];
   packets = Accepted 0 0 1 high ∷ Accepted 0 1 2 low ∷ [];
 }
@@ -153,7 +192,7 @@ cuts_do_not_go_back events h = back h.cuts
 
 -- one node, which chooses a batch that was never journaled
 abbrev after_a_promise_of_more : World
-after_a_promise_of_more = record (opening 1 1 sheet_0 issuer_1) { packets = Accepted 0 0 1 low ∷ [] }
+after_a_promise_of_more = record (opening 1 0 1 sheet_0 issuer_1) { packets = Accepted 0 0 1 low ∷ [] }
 
 a_cut_stays_within_the_journals : IsFalseOf 1 [] after_a_promise_of_more
 a_cut_stays_within_the_journals events h = let less = h.are_the_cuts.journaled 0 low first 1 in omega (arith, less)
@@ -178,7 +217,7 @@ credit = record {
 }
 
 abbrev credited : World
-credited = record (opening 1 1 sheet_0 issuer_1) { journals = record { agent = 1; seq = 1; records = Reads credit ∷ [] } ∷ [] }
+credited = record (opening 1 0 1 sheet_0 issuer_1) { journals = record { agent = 1; seq = 1; records = Reads credit ∷ [] } ∷ [] }
 
 -- one node, which chooses February's batch for January, period 0
 abbrev after_an_early_cut : World
@@ -211,7 +250,7 @@ abbrev too_much : Snapshot
 too_much = record { period = 0; from = 0 ∷ []; to = low; batches = whole_holding; sheet = sheet_0; issuer = issuer_1 }
 
 abbrev after_an_export_of_all : World
-after_an_export_of_all = record (opening 1 1 sheet_0 issuer_1) {
+after_an_export_of_all = record (opening 1 0 1 sheet_0 issuer_1) {
   journals = whole_holding;
   packets = Accepted 0 0 1 low ∷ [];
 }
@@ -231,18 +270,25 @@ exports_of_a_period_are_equal events h =
 -- ---- beyond the limits
 
 abbrev IsBeyondLimits : World → Type 0
-IsBeyondLimits w = KeepsLimits 3 1 w → ⊥
+IsBeyondLimits w = KeepsLimits 3 0 1 w → ⊥
+
+-- an observer that accepts
+abbrev after_an_observer_accepts : World
+after_an_observer_accepts = record (opening 2 1 1 sheet_0 issuer_1) { packets = Accepted 2 0 2 low ∷ [] }
+
+observers_accept_nothing : KeepsLimits 2 1 1 after_an_observer_accepts → ⊥
+observers_accept_nothing h = let low = (h.each_packet 0 (Accepted 2 0 2 low) (omega arith)).0 in omega (arith, low)
 
 -- a promise of a node that is not there
 abbrev after_a_strangers_promise : World
-after_a_strangers_promise = record (opening 3 1 sheet_0 issuer_1) { packets = Promise 3 0 3 None ∷ [] }
+after_a_strangers_promise = record (opening 3 0 1 sheet_0 issuer_1) { packets = Promise 3 0 3 None ∷ [] }
 
 senders_are_nodes : IsBeyondLimits after_a_strangers_promise
 senders_are_nodes h = let low = (h.each_packet 0 (Promise 3 0 3 None) (omega arith)).0 in omega (arith, low)
 
 -- a cut without an entry for the agent
 abbrev after_a_short_cut : World
-after_a_short_cut = record (opening 3 1 sheet_0 issuer_1) { packets = Decided 0 [] ∷ [] }
+after_a_short_cut = record (opening 3 0 1 sheet_0 issuer_1) { packets = Decided 0 [] ∷ [] }
 
 cuts_have_an_entry_for_each_agent : IsBeyondLimits after_a_short_cut
 cuts_have_an_entry_for_each_agent h = let size = (h.each_packet 0 (Decided 0 []) (omega arith)).1.size in absurd (omega (arith, size))

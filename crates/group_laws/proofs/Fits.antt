@@ -1,15 +1,15 @@
 -- Each cut that is asked for goes on from chosen ones, within the journals.
-use Rattle.std.proofs.Common.{◌<◌, ◌≡◌, ℕ, Bool, true, false, ◌&&◌, not, cond, List, [], ◌∷◌, ◌++◌, length, refl, sym, ap, subst, ◌∙◌, Option, Some, None, inl, inr, unwrap_or}
+use Rattle.std.proofs.Common.{◌<◌, ◌≡◌, ℕ, ◌+◌, Bool, true, false, ◌&&◌, not, cond, List, [], ◌∷◌, ◌++◌, length, refl, sym, ap, subst, ◌∙◌, Option, Some, None, inl, inr, unwrap_or}
 use Rattle.std.specs.Prelude.{slice_get, ◌==◌}
-use Rattle.std.proofs.lemmas.Bool.{and_parts, eqb-true}
+use Rattle.std.proofs.lemmas.Bool.{and_parts, eqb-true, ltb-true}
 use Rattle.metering_model.specs.Batch.{Batch, IsWellFormed}
 use Rattle.metering_model.specs.Cut.{Cut}
 use Rattle.metering_model.specs.Holding.{Holding, IsHolding, IsPartOf, held, put}
 use Rattle.metering_model.specs.JournalRules.{MeetsJournalRules}
 use Rattle.metering_model.specs.Sheet.{Sheet, Issuer}
 use Rattle.metering_model.specs.Ballot.{Vote, Attempt, has_majority, with_promise}
-use Rattle.metering_model.specs.World.{World, Node, Packet, CarriesBatch, Prepare, Promise, Accept, Accepted, Decided, node_count, current_period, last_cut, wake, new_kept, opening}
-use Rattle.metering_model.specs.Deliveries.{learning, Handled, silent, sending, on_prepare, on_accept, unless_learned, after_promise, proposal, handled}
+use Rattle.metering_model.specs.World.{World, Node, Packet, CarriesBatch, Prepare, Promise, Accept, Accepted, Decided, voter_count, votes, current_period, last_cut, wake, new_kept, opening}
+use Rattle.metering_model.specs.Deliveries.{learning, Handled, silent, sending, on_prepare, on_promise, on_accept, unless_learned, if_votes, after_promise, proposal, handled}
 use Rattle.metering_model.proofs.HoldingLaws.{IsHolding-nil, IsHolding-put, held-put_same}
 use Rattle.metering_model.proofs.PartLaws.{part_of_itself, IsPartOf-trans, IsPartOf-put, IsPartOf-grown}
 use Rattle.group_laws.proofs.Quorum.{In}
@@ -134,6 +134,9 @@ module _ (N : ℕ) (w : World) (h : IsFitting N w) (i : ℕ) (n : Node) (found :
       either (Some cut) = (fits, tt)
       either None = d
 
+  by_vote : (x : Handled) → (i < N → Does w N x) → Does w N (if_votes w i n x)
+  by_vote x d = by_flag (votes w i) x (silent n) (λ e. d (subst (λ k. i < k) h.told.kept.count (ltb-true _ _ e))) (fits, tt)
+
   learns : (c : Cut) → Does w N (learning c n)
   learns c = (record { of = of; going = tt }, tt)
 
@@ -155,8 +158,8 @@ module _ (N : ℕ) (w : World) (h : IsFitting N w) (i : ℕ) (n : Node) (found :
           let truth = safe.true_promise one.0 (current_period n) a.ballot (Some v) one.1 in
           h.asked (current_period n) v.ballot v.cut (safe.asked one.0 (current_period n) v.ballot v.cut truth.1)
 
-  promised : (from p b : ℕ) (v : Option Vote) → In w.packets (Promise from p b v) → Does w N (handled w i n (Promise from p b v))
-  promised from p b v was = by_attempt n.attempt refl
+  promised : (from p b : ℕ) (v : Option Vote) → In w.packets (Promise from p b v) → i < N → Does w N (on_promise w n from p b v)
+  promised from p b v was within = by_attempt n.attempt refl
     where
       waiting : (a : Attempt) → n.attempt ≡ Some a → ((p == current_period n) && (a.ballot == b) && not a.sent) ≡ true → Does w N (after_promise w n p b (with_promise from v a))
       waiting a is e =
@@ -164,11 +167,11 @@ module _ (N : ℕ) (w : World) (h : IsFitting N w) (i : ℕ) (n : Node) (found :
           let tests = and_parts (p == current_period n) (a.ballot == b) both.0 in
           let at : p ≡ current_period n = eqb-true _ _ tests.0 in
           let same : a.ballot ≡ b = eqb-true _ _ tests.1 in
-          let more = one_promise_more w.packets N i n.kept.round (current_period n) from v a (subst (λ r. In w.packets (Promise from r a.ballot v)) at (subst (λ k. In w.packets (Promise from p k v)) (sym same) was)) ((h.told.kept.nodes i n found).attempt a is) in
+          let more = one_promise_more w.packets N i n.kept.round (current_period n) from v a (subst (λ r. In w.packets (Promise from r a.ballot v)) at (subst (λ k. In w.packets (Promise from p k v)) (sym same) was)) ((h.told.kept.nodes i n within found).attempt a is) in
           let going : current_period n < 1_200 = subst (IsOpen (current_period n)) is fits.going in
           let waits : Fits w.journals (record n { attempt = Some (with_promise from v a) }) = record { of = of; going = going } in
           let sent : Fits w.journals (record n { attempt = Some (record (with_promise from v a) { sent = true }) }) = record { of = of; going = going } in
-          by_flag (has_majority (node_count w) (with_promise from v a).promising) _ _
+          by_flag (has_majority (voter_count w) (with_promise from v a).promising) _ _
           (λ many. (sent, subst (λ r. IsFit w.packets w.journals N w.agents w.sheet.base r (proposal w n (with_promise from v a).told)) (sym at) (proposal_fits (with_promise from v a) going more)))
           (waits, tt)
 
@@ -178,9 +181,9 @@ module _ (N : ℕ) (w : World) (h : IsFitting N w) (i : ℕ) (n : Node) (found :
 
   does : (q : Packet) → In w.packets q → Does w N (handled w i n q)
   does (CarriesBatch b) was = let real = h.carried b was in (record { of = IsOf-put w.journals n.kept.holding b of real.0 real.1; going = fits.going }, tt)
-  does (Prepare p b) was = by_learned p (on_prepare i n p b) (by_flag _ _ _ (λ e. (fits, tt)) (fits, tt))
-  does (Promise from p b v) was = promised from p b v was
-  does (Accept p b c) was = by_learned p (on_accept i n p b c) (by_flag _ _ _ (λ e. (fits, tt)) (fits, tt))
+  does (Prepare p b) was = by_learned p (if_votes w i n (on_prepare i n p b)) (by_vote (on_prepare i n p b) (λ within. by_flag _ _ _ (λ e. (fits, tt)) (fits, tt)))
+  does (Promise from p b v) was = by_vote (on_promise w n from p b v) (promised from p b v was)
+  does (Accept p b c) was = by_learned p (if_votes w i n (on_accept i n p b c)) (by_vote (on_accept i n p b c) (λ within. by_flag _ _ _ (λ e. (fits, tt)) (fits, tt)))
   does (Accepted from p b c) was = by_flag (p == current_period n) _ (silent n) (λ e. by_flag _ _ _ (λ many. learns c) (fits, tt)) (fits, tt)
   does (Decided p c) was = by_flag (p == current_period n) _ (silent n) (λ e. learns c) (fits, tt)
 
@@ -227,11 +230,11 @@ module _ (N : ℕ) where
     restarts = λ w i n h found. fitting_after N w i (wake n.kept) None h (steps.restarts w i n h.told found) (record { of = (h.holdings i n found).of; going = tt }) tt;
   }
 
-pub IsFitting-opening : (nodes agents : ℕ) (sheet : Sheet) (issuer : Issuer) → IsFitting nodes (opening nodes agents sheet issuer)
-IsFitting-opening nodes agents sheet issuer = record {
-  told = IsTold-opening nodes agents sheet issuer;
+pub IsFitting-opening : (voters observers agents : ℕ) (sheet : Sheet) (issuer : Issuer) → IsFitting voters (opening voters observers agents sheet issuer)
+IsFitting-opening voters observers agents sheet issuer = record {
+  told = IsTold-opening voters observers agents sheet issuer;
   rules = MeetsJournalRules-nil sheet;
   carried = λ b h. absurd (none_sent _ h);
-  holdings = λ i n e. subst (Fits []) (sym (get-replicate nodes i (wake new_kept) n e)) (record { of = record { is_holding = IsHolding-nil; part = part_of_itself [] }; going = tt });
+  holdings = λ i n e. subst (Fits []) (sym (get-replicate (voters + observers) i (wake new_kept) n e)) (record { of = record { is_holding = IsHolding-nil; part = part_of_itself [] }; going = tt });
   asked = λ p b c h. absurd (none_sent _ h);
 }

@@ -6,8 +6,8 @@ use Rattle.std.specs.Option.{IsSomeAnd}
 use Rattle.std.specs.BTreeMap.{insert_entry}
 use Rattle.std.specs.Ordering.{nat_cmp, match_ordering}
 use Rattle.std.proofs.Math.Nat.{mul-le-mul_right}
-use Rattle.std.proofs.lemmas.Bool.{cases_lt}
-use Rattle.std.proofs.lemmas.Option.{same_Some, none-some, slice_get_within}
+use Rattle.std.proofs.lemmas.Bool.{cases_lt, ltb-true}
+use Rattle.std.proofs.lemmas.Option.{same_Some, none-some}
 use Rattle.std.proofs.lemmas.List.Elements.{All-nil, All-cons, All-head, All-tail, All-set, All-push, All-replicate, All-weaker}
 use Rattle.metering_model.specs.Batch.{Batch}
 use Rattle.metering_model.specs.Cut.{Cut, GrowsFrom, IsGrowing, zero_cut, last_of}
@@ -15,8 +15,8 @@ use Rattle.metering_model.specs.Holding.{Holding, IsHolding, IsPartOf, held, put
 use Rattle.metering_model.specs.Front.{is_due, front}
 use Rattle.metering_model.specs.Sheet.{Sheet, Issuer}
 use Rattle.metering_model.specs.Ballot.{Vote, Acceptor, Attempt, Nodes, Tally, ballot_of, greater_vote, with_promise, has_majority, accepting_at, with_accepted, with_node}
-use Rattle.metering_model.specs.World.{World, Node, Packet, CarriesBatch, Prepare, Promise, Accept, Accepted, Decided, voter_count, current_period, last_cut, wake, new_kept, opening, Event}
-use Rattle.metering_model.specs.Deliveries.{Handled, silent, sending, learning, on_prepare, on_accept, unless_learned, after_promise, after_accepted, proposal, handled}
+use Rattle.metering_model.specs.World.{World, Node, Packet, CarriesBatch, Prepare, Promise, Accept, Accepted, Decided, voter_count, votes, current_period, last_cut, wake, new_kept, opening, Event}
+use Rattle.metering_model.specs.Deliveries.{Handled, silent, sending, learning, on_prepare, on_promise, on_accept, unless_learned, if_votes, after_promise, after_accepted, proposal, handled}
 use Rattle.metering_model.specs.Step.{play}
 use Rattle.metering_model.proofs.HoldingLaws.{held_place}
 use Rattle.metering_model.proofs.MissingLaws.{some_of}
@@ -185,9 +185,6 @@ abbrev Does : ℕ → ℕ → Holding → Handled → Type 0
 Does N agents J h = IsBounded N agents J h.node × MayBePacket N agents J h.sends
 
 module _ (N : ℕ) (w : World) (h : KeepsBounds N w) (i : ℕ) (n : Node) (found : slice_get w.nodes i ≡ Some n) where
-  within : i < N
-  within = subst (λ k. i < k) h.fitting.told.kept.count (slice_get_within w.nodes i n found)
-
   is : IsBounded N w.agents w.journals n
   is = at_entry (IsBounded N w.agents w.journals) w.nodes i n h.nodes found
 
@@ -200,6 +197,9 @@ module _ (N : ℕ) (w : World) (h : KeepsBounds N w) (i : ℕ) (n : Node) (found
   by_flag : (b : Bool) (x y : Handled) → (b ≡ true → Well x) → Well y → Well (cond b x y)
   by_flag true x y f k = f refl
   by_flag false x y f k = k
+
+  by_vote : (x : Handled) → (i < N → Well x) → Well (if_votes w i n x)
+  by_vote x f = by_flag (votes w i) x (silent n) (λ e. f (subst (λ k. i < k) h.fitting.told.kept.count (ltb-true _ _ e))) (is, tt)
 
   by_learned : (p : ℕ) (x : Handled) → p < 1_200 → Well x → Well (unless_learned p n x)
   by_learned p x in_range d = either (slice_get n.kept.learned p) refl
@@ -232,7 +232,7 @@ module _ (N : ℕ) (w : World) (h : KeepsBounds N w) (i : ℕ) (n : Node) (found
   }
 
   prepared : (p b : ℕ) → IsPacket N w.agents w.journals (Prepare p b) → Well (handled w i n (Prepare p b))
-  prepared p b was = by_learned p (on_prepare i n p b) was.0 (by_flag _ _ _ (λ e. (
+  prepared p b was = by_learned p (if_votes w i n (on_prepare i n p b)) was.0 (by_vote (on_prepare i n p b) (λ within. by_flag _ _ _ (λ e. (
     record {
       round_in = is.round_in;
       cuts = is.cuts;
@@ -242,7 +242,7 @@ module _ (N : ℕ) (w : World) (h : KeepsBounds N w) (i : ℕ) (n : Node) (found
       entries = is.entries;
     },
     (within, was.0, was.1, is.vote),
-  )) (is, tt))
+  )) (is, tt)))
 
   proposed : (o : Option Vote) → MayBeVote N w.agents w.journals o → IsJournaledCut w.agents w.journals (proposal w n o)
   proposed None v = front_is_cut w.agents w.sheet.base (current_period n) n.kept.holding w.journals (last_cut w.agents n.kept.learned) h.fitting.rules.is_holding part
@@ -250,7 +250,7 @@ module _ (N : ℕ) (w : World) (h : KeepsBounds N w) (i : ℕ) (n : Node) (found
   proposed (Some v) vote = vote.cut
 
   promised : (from p b : ℕ) (v : Option Vote) → IsPacket N w.agents w.journals (Promise from p b v) → Well (handled w i n (Promise from p b v))
-  promised from p b v was = by_attempt n.attempt refl
+  promised from p b v was = by_vote (on_promise w n from p b v) (λ within. by_attempt n.attempt refl)
     where
       more : (a : Attempt) → n.attempt ≡ Some a → IsAttempt N w.agents w.journals (with_promise from v a)
       more a e = let old = is.attempts a e in record {
@@ -269,7 +269,7 @@ module _ (N : ℕ) (w : World) (h : KeepsBounds N w) (i : ℕ) (n : Node) (found
       by_attempt (Some a) e = by_flag ((p == current_period n) && (a.ballot == b) && not a.sent) (after_promise w n p b (with_promise from v a)) (silent n) (λ t. waiting a e) (is, tt)
 
   asked_to : (p b : ℕ) (c : Cut) → IsPacket N w.agents w.journals (Accept p b c) → Well (handled w i n (Accept p b c))
-  asked_to p b c was = by_learned p (on_accept i n p b c) was.0 (by_flag _ _ _ (λ e. (
+  asked_to p b c was = by_learned p (if_votes w i n (on_accept i n p b c)) was.0 (by_vote (on_accept i n p b c) (λ within. by_flag _ _ _ (λ e. (
     record {
       round_in = is.round_in;
       cuts = is.cuts;
@@ -279,7 +279,7 @@ module _ (N : ℕ) (w : World) (h : KeepsBounds N w) (i : ℕ) (n : Node) (found
       entries = is.entries;
     },
     (within, was.0, was.1, was.2),
-  )) (is, tt))
+  )) (is, tt)))
 
   accepted : (from p b : ℕ) (c : Cut) → IsPacket N w.agents w.journals (Accepted from p b c) → Well (after_accepted w n b c (with_accepted (voter_count w) from b n.tally))
   accepted from p b c was =
@@ -343,7 +343,7 @@ module _ (N : ℕ) where
   start_bounded : (w : World) (i : ℕ) (n : Node) → KeepsBounds N w → MayStart w i n → IsBounded N w.agents w.journals (started w i n) × IsPacket N w.agents w.journals (start_packet w i n)
   start_bounded w i n h may =
       let is = at_entry (IsBounded N w.agents w.journals) w.nodes i n h.nodes may.found in
-      let inside = subst (λ k. i < k) h.fitting.told.kept.count (slice_get_within w.nodes i n may.found) in
+      let inside = subst (λ k. i < k) h.fitting.told.kept.count may.votes in
       let ballot : IsBallot N (fresh_ballot w i n) = subst (λ k. IsBallot N (ballot_of (n.kept.round + 1) i k)) (sym h.fitting.told.kept.count) (fresh_is_ballot N n.kept.round i inside may.round) in (
         record {
           round_in = let round = may.round in omega arith;
@@ -377,18 +377,18 @@ module _ (N : ℕ) where
         }) tt;
   }
 
-pub KeepsBounds-opening : (nodes agents : ℕ) (sheet : Sheet) (issuer : Issuer) → KeepsBounds nodes (opening nodes agents sheet issuer)
-KeepsBounds-opening nodes agents sheet issuer = record {
-  fitting = IsFitting-opening nodes agents sheet issuer;
+pub KeepsBounds-opening : (voters observers agents : ℕ) (sheet : Sheet) (issuer : Issuer) → KeepsBounds voters (opening voters observers agents sheet issuer)
+KeepsBounds-opening voters observers agents sheet issuer = record {
+  fitting = IsFitting-opening voters observers agents sheet issuer;
   room = omega arith;
-  packets = All-nil (IsPacket nodes agents []);
-  nodes = All-replicate (IsBounded nodes agents []) nodes (wake new_kept) (record {
+  packets = All-nil (IsPacket voters agents []);
+  nodes = All-replicate (IsBounded voters agents []) (voters + observers) (wake new_kept) (record {
     round_in = omega arith;
     cuts = All-nil (IsJournaledCut agents []);
     promised = λ ballot e. absurd (none-some ballot e);
     vote = tt;
     attempts = λ a e. absurd (none-some a e);
-    entries = All-nil (IsEntry nodes);
+    entries = All-nil (IsEntry voters);
   });
 }
 
@@ -398,14 +398,14 @@ grows_prefix : (before : Cut) (xs rest : List Cut) → GrowsFrom before (xs ++ r
 grows_prefix before [] rest h = tt
 grows_prefix before (x ∷ xs) rest h = (h.0, grows_prefix x xs rest h.1)
 
-module _ (nodes agents : ℕ) (sheet : Sheet) (issuer : Issuer) (events : List Event) where
-  bounds : KeepsBounds nodes (play (opening nodes agents sheet issuer) events).1
-  bounds = play_kept (KeepsBounds nodes) (KeepsBounds-steps nodes) events (opening nodes agents sheet issuer) (KeepsBounds-opening nodes agents sheet issuer)
+module _ (voters observers agents : ℕ) (sheet : Sheet) (issuer : Issuer) (events : List Event) where
+  bounds : KeepsBounds voters (play (opening voters observers agents sheet issuer) events).1
+  bounds = play_kept (KeepsBounds voters) (KeepsBounds-steps voters) events (opening voters observers agents sheet issuer) (KeepsBounds-opening voters observers agents sheet issuer)
 
-  headline : HoldsAfter nodes agents sheet issuer events (play (opening nodes agents sheet issuer) events).0 (play (opening nodes agents sheet issuer) events).1
-  headline = holds_after nodes agents sheet issuer events
+  headline : HoldsAfter voters observers agents sheet issuer events (play (opening voters observers agents sheet issuer) events).0 (play (opening voters observers agents sheet issuer) events).1
+  headline = holds_after voters observers agents sheet issuer events
 
-  is_node : (i : ℕ) (n : Node) → slice_get (play (opening nodes agents sheet issuer) events).1.nodes i ≡ Some n → IsNode nodes agents (play (opening nodes agents sheet issuer) events).1.journals n
+  is_node : (i : ℕ) (n : Node) → slice_get (play (opening voters observers agents sheet issuer) events).1.nodes i ≡ Some n → IsNode voters agents (play (opening voters observers agents sheet issuer) events).1.journals n
   is_node i n found = record {
     round = is.round_in;
     periods = length_prefix n.kept.learned headline.cuts prefix headline.are_the_cuts.in_range;
@@ -417,14 +417,14 @@ module _ (nodes agents : ℕ) (sheet : Sheet) (issuer : Issuer) (events : List E
     part = of.part;
     attempt = is.attempts;
     tally = is.entries;
-    whole = λ period cut e none. agree_where_none_missing n.kept.holding (play (opening nodes agents sheet issuer) events).1.journals cut of.is_holding bounds.fitting.rules.is_holding of.part none;
+    whole = λ period cut e none. agree_where_none_missing n.kept.holding (play (opening voters observers agents sheet issuer) events).1.journals cut of.is_holding bounds.fitting.rules.is_holding of.part none;
   }
     where
       w : World
-      w = (play (opening nodes agents sheet issuer) events).1
+      w = (play (opening voters observers agents sheet issuer) events).1
 
-      is : IsBounded nodes agents w.journals n
-      is = subst (λ a. IsBounded nodes a w.journals n) headline.agents_kept (at_entry (IsBounded nodes w.agents w.journals) w.nodes i n bounds.nodes found)
+      is : IsBounded voters agents w.journals n
+      is = subst (λ a. IsBounded voters a w.journals n) headline.agents_kept (at_entry (IsBounded voters w.agents w.journals) w.nodes i n bounds.nodes found)
 
       of : IsOf w.journals n.kept.holding
       of = (bounds.fitting.holdings i n found).of
@@ -435,17 +435,18 @@ module _ (nodes agents : ℕ) (sheet : Sheet) (issuer : Issuer) (events : List E
       length_prefix : (xs ys : List Cut) → IsPrefixOf xs ys → length ys ≤ 1_200 → length xs ≤ 1_200
       length_prefix xs ys p few = let sum = length-append xs p.0 in let same = ap (λ (zs : List Cut). length zs) p.1 in omega (arith, sum, same, few)
 
-  pub keeps_limits : KeepsLimits nodes agents (play (opening nodes agents sheet issuer) events).1
+  pub keeps_limits : KeepsLimits voters observers agents (play (opening voters observers agents sheet issuer) events).1
   keeps_limits = record {
     nodes_kept = headline.nodes_kept;
+    voters_kept = headline.voters_kept;
     agents_kept = headline.agents_kept;
     rules = headline.rules;
-    in_range = (has_agents nodes agents sheet issuer events).each;
+    in_range = (has_agents voters observers agents sheet issuer events).each;
     room = bounds.room;
-    each_packet = subst (λ N. All (IsPacket N w.agents w.journals) w.packets) (sym headline.nodes_kept) bounds.packets;
-    each_node = subst (λ N. All (IsNode N w.agents w.journals) w.nodes) (sym headline.nodes_kept)
-        (subst (λ a. All (IsNode nodes a w.journals) w.nodes) (sym headline.agents_kept) (all_entries (IsNode nodes agents w.journals) w.nodes is_node));
+    each_packet = subst (λ N. All (IsPacket N w.agents w.journals) w.packets) (sym headline.voters_kept) bounds.packets;
+    each_node = subst (λ N. All (IsNode N w.agents w.journals) w.nodes) (sym headline.voters_kept)
+        (subst (λ a. All (IsNode voters a w.journals) w.nodes) (sym headline.agents_kept) (all_entries (IsNode voters agents w.journals) w.nodes is_node));
   }
     where
       w : World
-      w = (play (opening nodes agents sheet issuer) events).1
+      w = (play (opening voters observers agents sheet issuer) events).1

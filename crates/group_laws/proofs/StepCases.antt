@@ -10,10 +10,10 @@ use Rattle.metering_model.specs.JournalRules.{next_seq, first_broken}
 use Rattle.metering_model.specs.declared.BatchFault.{BatchFault}
 use Rattle.metering_model.specs.declared.BrokenRule.{BrokenRule}
 use Rattle.metering_model.specs.declared.Refusal.{Refusal}
-use Rattle.metering_model.specs.declared.Refusal.TheVariants.{NoPacket, NoNode, NoAgent, WrongSeq, AllClosed, NoBallot, WorldFull}
+use Rattle.metering_model.specs.declared.Refusal.TheVariants.{NoPacket, NoNode, NoAgent, WrongSeq, AllClosed, NoBallot, WorldFull, Observer}
 use Rattle.metering_model.specs.declared.BrokenRule.TheVariants.{BadTarget, Unpriced}
 use Rattle.metering_model.specs.Ballot.{ballot_of}
-use Rattle.metering_model.specs.World.{World, Node, Packet, CarriesBatch, Prepare, Offer, Good, Bad, Event, Journal, Deliver, Start, Restart, Export, Delivered, Reply, voter_count, current_period, wake, with_node_at, with_packet, next_packet}
+use Rattle.metering_model.specs.World.{World, Node, Packet, CarriesBatch, Prepare, Offer, Good, Bad, Event, Journal, Deliver, Start, Restart, Export, Delivered, Reply, voter_count, votes, current_period, wake, with_node_at, with_packet, next_packet}
 use Rattle.metering_model.specs.World as world
 use Rattle.metering_model.specs.Deliveries.{Handled, handled}
 use Rattle.metering_model.specs.Step.{Outcome, on_batch, on_journal, on_delivery, on_start, on_restart, started_node, after_delivery, outcome_of, or_refused, or_bad_batch, unless_broken, snapshot, step, play}
@@ -60,9 +60,10 @@ pub record MayHandle (w : World) (i : ℕ) (n : Node) (q : Packet) : Type 0 wher
   pub sent : In w.packets q
   pub room : HasRoomFor w (handled w i n q).sends
 
--- the node has a period and a round left, and the world has room for its packet
+-- the node votes, has a period and a round left, and the world has room for its packet
 pub record MayStart (w : World) (i : ℕ) (n : Node) : Type 0 where
   pub found : slice_get w.nodes i ≡ Some n
+  pub votes : i < voter_count w
   pub going : current_period n < 1_200
   pub round : n.kept.round < 10_000
   pub room : HasRoom w
@@ -148,9 +149,10 @@ module _ (M : World → Type 0) (keeps : IsKeptBySteps M) (w : World) (h : M w) 
   start_kept : (i : ℕ) → IfOk M (on_start w i)
   start_kept i =
       after_bind M (ok_or (slice_get w.nodes i) NoNode) _ (λ n at.
+      after_bind M (holds_or (votes w i) Observer) _ (λ u voter.
       after_bind M (holds_or (nat_lt (current_period n) 1_200) AllClosed) _ (λ u one.
       after_bind M (holds_or (nat_lt n.kept.round 10_000) NoBallot) _ (λ u two.
-      after_bind M (next_packet w) _ (λ k room. done M _ (keeps.starts w i n h (record { found = ok_or_ok _ _ _ at; going = ltb-true _ _ (held_ok _ _ _ one); round = ltb-true _ _ (held_ok _ _ _ two); room = has_room w k room }))))))
+      after_bind M (next_packet w) _ (λ k room. done M _ (keeps.starts w i n h (record { found = ok_or_ok _ _ _ at; votes = ltb-true _ _ (held_ok _ _ _ voter); going = ltb-true _ _ (held_ok _ _ _ one); round = ltb-true _ _ (held_ok _ _ _ two); room = has_room w k room })))))))
 
   restart_kept : (i : ℕ) → IfOk M (on_restart w i)
   restart_kept i = after_bind M (ok_or (slice_get w.nodes i) NoNode) _ (λ n at. done M _ (keeps.restarts w i n h (ok_or_ok _ _ _ at)))

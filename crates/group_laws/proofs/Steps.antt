@@ -1,14 +1,14 @@
 -- Each step of a group keeps it in agreement.
-use Rattle.std.proofs.Common.{◌≡◌, ℕ, zero, suc, ◌+◌, ◌<◌, Bool, true, false, ◌&&◌, not, cond, List, [], ◌∷◌, ◌++◌, length, replicate, refl, sym, ap, subst, ◌∙◌, arith, Option, Some, None, ◌⊎◌, inl, inr}
+use Rattle.std.proofs.Common.{◌≡◌, ℕ, zero, suc, ◌+◌, ◌<◌, ◌≤◌, Bool, true, false, ◌&&◌, not, cond, List, [], ◌∷◌, ◌++◌, length, replicate, refl, sym, ap, subst, ◌∙◌, arith, Option, Some, None, ◌⊎◌, inl, inr}
 use Rattle.std.specs.Prelude.{slice_get, slice_set, ◌==◌}
-use Rattle.std.proofs.lemmas.Bool.{and_parts, eqb-true, not-true}
-use Rattle.std.proofs.lemmas.Option.{same_Some, slice_get_within}
+use Rattle.std.proofs.lemmas.Bool.{and_parts, eqb-true, ltb-true, not-true, cases_lt}
+use Rattle.std.proofs.lemmas.Option.{same_Some}
 use Rattle.metering_model.specs.Batch.{Batch}
 use Rattle.metering_model.specs.Cut.{Cut}
 use Rattle.metering_model.specs.Sheet.{Sheet, Issuer}
 use Rattle.metering_model.specs.Ballot.{Vote, Attempt, ballot_of, is_above, is_not_below, after_prepare, after_accept, new_attempt, with_promise, has_majority, Tally, accepting_at, with_accepted}
-use Rattle.metering_model.specs.World.{World, Node, Packet, CarriesBatch, Prepare, Promise, Accept, Accepted, Decided, node_count, current_period, wake, new_kept, opening}
-use Rattle.metering_model.specs.Deliveries.{Handled, silent, sending, learning, with_acceptor, unless_learned, on_prepare, on_accept, after_promise, after_accepted, proposal, handled}
+use Rattle.metering_model.specs.World.{World, Node, Packet, CarriesBatch, Prepare, Promise, Accept, Accepted, Decided, voter_count, votes, current_period, wake, new_kept, opening}
+use Rattle.metering_model.specs.Deliveries.{Handled, silent, sending, learning, with_acceptor, unless_learned, if_votes, on_prepare, on_promise, on_accept, after_promise, after_accepted, proposal, handled}
 use Rattle.metering_model.specs.Step.{started_node}
 use Rattle.group_laws.proofs.Quorum.{In, IsTrueOf, IsSafe}
 use Rattle.group_laws.proofs.Kept.{neutral_safe, promise_safe, accept_safe, accepted_safe, IsNeutral}
@@ -19,10 +19,11 @@ use Rattle.group_laws.proofs.StepCases.{after, starting, journaling, IsNext, IsK
 abbrev pub Knows : List Packet → ℕ → ℕ → Node → Type 0
 Knows P N i n = NodeIsKept P N i n.kept.round (current_period n) n.kept.acceptor n.attempt
 
+-- Of an observer nothing is asked: no packet is from it, and no ballot is its own.
 pub record IsKept (N : ℕ) (w : World) : Type 0 where
-  pub count : node_count w ≡ N
+  pub count : voter_count w ≡ N
   pub safe : IsSafe w.packets N
-  pub nodes : (i : ℕ) (n : Node) → slice_get w.nodes i ≡ Some n → Knows w.packets N i n
+  pub nodes : (i : ℕ) (n : Node) → i < N → slice_get w.nodes i ≡ Some n → Knows w.packets N i n
 
 -- ---- one node is changed
 
@@ -45,13 +46,13 @@ length-slice_set (y ∷ xs) (suc i) x = ap (λ k. suc k) (length-slice_set xs i 
 abbrev pub OthersKnow : List Packet → List Packet → ℕ → ℕ → Type 0
 OthersKnow P Q N i = (j : ℕ) (m : Node) → j < N → (j ≡ i → ⊥) → Knows P N j m → Knows Q N j m
 
-with_node_set : (N : ℕ) (w : World) (i : ℕ) (n : Node) (Q : List Packet) → IsKept N w → IsSafe Q N → Knows Q N i n → OthersKnow w.packets Q N i → IsKept N (record w { packets = Q; nodes = slice_set w.nodes i n })
+with_node_set : (N : ℕ) (w : World) (i : ℕ) (n : Node) (Q : List Packet) → IsKept N w → IsSafe Q N → (i < N → Knows Q N i n) → OthersKnow w.packets Q N i → IsKept N (record w { packets = Q; nodes = slice_set w.nodes i n })
 with_node_set N w i n Q h safe mine others = record {
-  count = length-slice_set w.nodes i n ∙ h.count;
+  count = h.count;
   safe = safe;
-  nodes = λ j m e. elim (get-slice_set w.nodes i j n m e) [
-    | inl here ↦ subst (λ k. Knows Q N k m) (sym here.0) (subst (Knows Q N i) (sym here.1) mine)
-    | inr there ↦ others j m (subst (λ k. j < k) h.count (slice_get_within w.nodes j m there.1)) there.0 (h.nodes j m there.1)
+  nodes = λ j m within e. elim (get-slice_set w.nodes i j n m e) [
+    | inl here ↦ subst (λ k. Knows Q N k m) (sym here.0) (subst (Knows Q N i) (sym here.1) (mine (subst (λ k. k < N) here.0 within)))
+    | inr there ↦ others j m within there.0 (h.nodes j m within there.1)
   ];
 }
 
@@ -66,6 +67,7 @@ others_foreign P N i q foreign j m within other h = node_foreign P N j m.kept.ro
 
 -- ---- what a node does with a packet
 
+-- what a voter does
 abbrev pub HandledWell : List Packet → ℕ → ℕ → Node → Option Packet → Type 0
 HandledWell P N i n None = Knows P N i n
 HandledWell P N i n (Some q) = IsSafe (P ++ q ∷ []) N × Knows (P ++ q ∷ []) N i n × OthersKnow P (P ++ q ∷ []) N i
@@ -77,6 +79,15 @@ answers_neutral P N i n q neutral safe h =
 abbrev Does : List Packet → ℕ → ℕ → Handled → Type 0
 Does P N i h = HandledWell P N i h.node h.sends
 
+-- what any node does
+abbrev pub MayFollow : List Packet → ℕ → ℕ → Node → Option Packet → Type 0
+MayFollow P N i n None = i < N → Knows P N i n
+MayFollow P N i n (Some q) = IsSafe (P ++ q ∷ []) N × (i < N → Knows (P ++ q ∷ []) N i n) × OthersKnow P (P ++ q ∷ []) N i
+
+voter_may : (P : List Packet) (N i : ℕ) (n : Node) (o : Option Packet) → HandledWell P N i n o → MayFollow P N i n o
+voter_may P N i n None h = λ within. h
+voter_may P N i n (Some q) h = (h.0, (λ within. h.1), h.2)
+
 pub length-push : {A : Type 0} (cs : List A) (c : A) → length (cs ++ c ∷ []) ≡ length cs + 1
 length-push [] c = refl
 length-push (x ∷ cs) c = omega (arith, length-push cs c)
@@ -85,6 +96,9 @@ module _ (N : ℕ) (w : World) (kept : IsKept N w) (i : ℕ) (n : Node) (within 
   by_flag : (b : Bool) (x y : Handled) → (b ≡ true → Does w.packets N i x) → Does w.packets N i y → Does w.packets N i (cond b x y)
   by_flag true x y h k = h refl
   by_flag false x y h k = k
+
+  by_vote : (x : Handled) → Does w.packets N i x → Does w.packets N i (if_votes w i n x)
+  by_vote x h = by_flag (votes w i) x (silent n) (λ e. h) knows
 
   by_learned : (p : ℕ) (x : Handled) → Does w.packets N i x → Does w.packets N i (unless_learned p n x)
   by_learned p x h = either (slice_get n.kept.learned p)
@@ -109,7 +123,7 @@ module _ (N : ℕ) (w : World) (kept : IsKept N w) (i : ℕ) (n : Node) (within 
   )
 
   prepared : (p b : ℕ) → Does w.packets N i (handled w i n (Prepare p b))
-  prepared p b = by_learned p (on_prepare i n p b) (by_flag _ _ _ asked knows)
+  prepared p b = by_learned p (if_votes w i n (on_prepare i n p b)) (by_vote (on_prepare i n p b) (by_flag _ _ _ asked knows))
     where
       asked : ((p == current_period n) && is_above b n.kept.acceptor.promised) ≡ true → Does w.packets N i (sending (Promise i p b n.kept.acceptor.vote) (with_acceptor (after_prepare b n.kept.acceptor) n))
       asked e =
@@ -126,7 +140,7 @@ module _ (N : ℕ) (w : World) (kept : IsKept N w) (i : ℕ) (n : Node) (within 
   )
 
   asked_to : (p b : ℕ) (c : Cut) → In w.packets (Accept p b c) → Does w.packets N i (handled w i n (Accept p b c))
-  asked_to p b c was = by_learned p (on_accept i n p b c) (by_flag _ _ _ fits knows)
+  asked_to p b c was = by_learned p (if_votes w i n (on_accept i n p b c)) (by_vote (on_accept i n p b c) (by_flag _ _ _ fits knows))
     where
       fits : ((p == current_period n) && is_not_below b n.kept.acceptor.promised) ≡ true → Does w.packets N i (sending (Accepted i p b c) (with_acceptor (after_accept (record { ballot = b; cut = c }) n.kept.acceptor) n))
       fits e =
@@ -140,11 +154,11 @@ module _ (N : ℕ) (w : World) (kept : IsKept N w) (i : ℕ) (n : Node) (within 
       subst (λ now. NodeIsKept w.packets N i n.kept.round now (record { promised = None; vote = None }) None) (sym (length-push n.kept.learned c)) (after_learning w.packets N i n.kept.round (current_period n) n.kept.acceptor n.attempt knows)
 
   counts : (b : ℕ) (c : Cut) (t : Tally) → Does w.packets N i (after_accepted w n b c t)
-  counts b c t = by_flag (has_majority (node_count w) (accepting_at (node_count w) b t)) (learning c n) (silent (record n { tally = t })) (λ e. learns c) knows
+  counts b c t = by_flag (has_majority (voter_count w) (accepting_at (voter_count w) b t)) (learning c n) (silent (record n { tally = t })) (λ e. learns c) knows
 
   -- a promise that comes
   proposes : (p b : ℕ) (a : Attempt) → p ≡ current_period n → a.ballot ≡ b → a.sent ≡ false → AttemptIsKept w.packets N i n.kept.round (current_period n) a → Does w.packets N i (after_promise w n p b a)
-  proposes p b a at same unsent h = by_flag (has_majority (node_count w) a.promising) _ (silent (record n { attempt = Some a })) enough waits
+  proposes p b a at same unsent h = by_flag (has_majority (voter_count w) a.promising) _ (silent (record n { attempt = Some a })) enough waits
     where
       waits : Knows w.packets N i (record n { attempt = Some a })
       waits = record { promises = knows.promises; votes = knows.votes; vote = knows.vote; attempt = λ x e. subst (AttemptIsKept w.packets N i n.kept.round (current_period n)) (same_Some _ _ e) h; proposals = knows.proposals }
@@ -160,14 +174,14 @@ module _ (N : ℕ) (w : World) (kept : IsKept N w) (i : ℕ) (n : Node) (within 
         others_foreign w.packets N i (Accept (current_period n) a.ballot c) (λ j within' other. not_of_another N i j n.kept.round a.ballot within within' other h.ballot),
       )
 
-      enough : has_majority (node_count w) a.promising ≡ true → Does w.packets N i (sending (Accept p b (proposal w n a.told)) (record n { attempt = Some (record a { sent = true }) }))
+      enough : has_majority (voter_count w) a.promising ≡ true → Does w.packets N i (sending (Accept p b (proposal w n a.told)) (record n { attempt = Some (record a { sent = true }) }))
       enough many =
           subst (λ r. Does w.packets N i (sending (Accept r b (proposal w n a.told)) (record n { attempt = Some (record a { sent = true }) }))) (sym at)
           (subst (λ k. Does w.packets N i (sending (Accept (current_period n) k (proposal w n a.told)) (record n { attempt = Some (record a { sent = true }) }))) same
           (sends (proposal w n a.told) (λ v e. chosen_vote a.told v e) (ap (λ k. has_majority k a.promising) (sym kept.count) ∙ many)))
 
   promised : (from p b : ℕ) (v : Option Vote) → In w.packets (Promise from p b v) → Does w.packets N i (handled w i n (Promise from p b v))
-  promised from p b v was = by_attempt n.attempt refl
+  promised from p b v was = by_vote (on_promise w n from p b v) (by_attempt n.attempt refl)
     where
       still_open : (a : Attempt) → n.attempt ≡ Some a → ((p == current_period n) && (a.ballot == b) && not a.sent) ≡ true → Does w.packets N i (after_promise w n p b (with_promise from v a))
       still_open a is e =
@@ -187,16 +201,53 @@ module _ (N : ℕ) (w : World) (kept : IsKept N w) (i : ℕ) (n : Node) (within 
   does (Prepare p b) was = prepared p b
   does (Promise from p b v) was = promised from p b v was
   does (Accept p b c) was = asked_to p b c was
-  does (Accepted from p b c) was = by_flag (p == current_period n) _ (silent n) (λ e. counts b c (with_accepted (node_count w) from b n.tally)) knows
+  does (Accepted from p b c) was = by_flag (p == current_period n) _ (silent n) (λ e. counts b c (with_accepted (voter_count w) from b n.tally)) knows
   does (Decided p c) was = by_flag (p == current_period n) _ (silent n) (λ e. learns c) knows
+
+-- an observer sends nothing but what it has learned
+module _ (N : ℕ) (w : World) (kept : IsKept N w) (i : ℕ) (n : Node) (outside : N ≤ i) where
+  abbrev Observes : Handled → Type 0
+  Observes x = MayFollow w.packets N i x.node x.sends
+
+  by_test : (b : Bool) (x y : Handled) → (b ≡ true → Observes x) → Observes y → Observes (cond b x y)
+  by_test true x y h k = h refl
+  by_test false x y h k = k
+
+  no_voter : votes w i ≡ true → ⊥
+  no_voter e = let less = ltb-true _ _ e in let count = kept.count in omega arith
+
+  no_vote : (x : Handled) → Observes (if_votes w i n x)
+  no_vote x = by_test (votes w i) x (silent n) (λ e. absurd (no_voter e)) (λ within. absurd (omega arith))
+
+  tells_learned : (p : ℕ) (x : Handled) → Observes x → Observes (unless_learned p n x)
+  tells_learned p x h = either (slice_get n.kept.learned p)
+    where
+      either : (o : Option Cut) → Observes (elim o [ Some cut ↦ sending (Decided p cut) n | None ↦ x ])
+      either (Some cut) = (neutral_safe w.packets N kept.safe (Decided p cut) tt, (λ within. absurd (omega arith)), others_neutral w.packets N i (Decided p cut) tt)
+      either None = h
+
+  observes : (q : Packet) → Observes (handled w i n q)
+  observes (CarriesBatch b) = λ within. absurd (omega arith)
+  observes (Prepare p b) = tells_learned p (if_votes w i n (on_prepare i n p b)) (no_vote (on_prepare i n p b))
+  observes (Promise from p b v) = no_vote (on_promise w n from p b v)
+  observes (Accept p b c) = tells_learned p (if_votes w i n (on_accept i n p b c)) (no_vote (on_accept i n p b c))
+  observes (Accepted from p b c) =
+      let t = with_accepted (voter_count w) from b n.tally in
+      by_test (p == current_period n) (after_accepted w n b c t) (silent n)
+      (λ e. by_test (has_majority (voter_count w) (accepting_at (voter_count w) b t)) (learning c n) (silent (record n { tally = t })) (λ many. λ within. absurd (omega arith)) (λ within. absurd (omega arith)))
+      (λ within. absurd (omega arith))
+  observes (Decided p c) = by_test (p == current_period n) (learning c n) (silent n) (λ e. λ within. absurd (omega arith)) (λ within. absurd (omega arith))
 
 -- ---- a step
 
 module _ (N : ℕ) where
-  of_node : (w : World) → IsKept N w → (i : ℕ) (n : Node) → slice_get w.nodes i ≡ Some n → i < N
-  of_node w kept i n e = subst (λ k. i < k) kept.count (slice_get_within w.nodes i n e)
+  any_does : (w : World) → IsKept N w → (i : ℕ) (n : Node) (q : Packet) → slice_get w.nodes i ≡ Some n → In w.packets q → MayFollow w.packets N i (handled w i n q).node (handled w i n q).sends
+  any_does w kept i n q found was = elim (cases_lt i N) [
+    | inl within ↦ voter_may w.packets N i (handled w i n q).node (handled w i n q).sends (does N w kept i n within (kept.nodes i n within found) q was)
+    | inr outside ↦ observes N w kept i n outside q
+  ]
 
-  handled_kept : (w : World) (i : ℕ) (n : Node) (o : Option Packet) → IsKept N w → HandledWell w.packets N i n o → IsKept N (after w i n o)
+  handled_kept : (w : World) (i : ℕ) (n : Node) (o : Option Packet) → IsKept N w → MayFollow w.packets N i n o → IsKept N (after w i n o)
   handled_kept w i n None kept well = with_node_set N w i n w.packets kept kept.safe well (others_same w.packets N i)
   handled_kept w i n (Some q) kept well = with_node_set N w i n (w.packets ++ q ∷ []) kept well.0 well.1 well.2
 
@@ -204,28 +255,28 @@ module _ (N : ℕ) where
   journal_kept w b kept next = record {
     count = kept.count;
     safe = neutral_safe w.packets N kept.safe (CarriesBatch b) tt;
-    nodes = λ j m e. node_neutral w.packets N j m.kept.round (current_period m) m.kept.acceptor m.attempt (CarriesBatch b) tt (kept.nodes j m e);
+    nodes = λ j m within e. node_neutral w.packets N j m.kept.round (current_period m) m.kept.acceptor m.attempt (CarriesBatch b) tt (kept.nodes j m within e);
   }
 
   start_kept : (w : World) (i : ℕ) (n : Node) → IsKept N w → slice_get w.nodes i ≡ Some n → IsKept N (starting w i n)
   start_kept w i n kept found =
-      let b = ballot_of (n.kept.round + 1) i (node_count w) in
+      let b = ballot_of (n.kept.round + 1) i (voter_count w) in
       let q = Prepare (current_period n) b in
-      with_node_set N w i (started_node (node_count w) b n) (w.packets ++ q ∷ []) kept (neutral_safe w.packets N kept.safe q tt)
-      (node_neutral w.packets N i (n.kept.round + 1) (current_period n) n.kept.acceptor (Some (new_attempt (node_count w) b)) q tt
+      with_node_set N w i (started_node (voter_count w) b n) (w.packets ++ q ∷ []) kept (neutral_safe w.packets N kept.safe q tt)
+      (λ within. node_neutral w.packets N i (n.kept.round + 1) (current_period n) n.kept.acceptor (Some (new_attempt (voter_count w) b)) q tt
       (subst (λ k. NodeIsKept w.packets N i (n.kept.round + 1) (current_period n) n.kept.acceptor (Some (new_attempt k (ballot_of (n.kept.round + 1) i k)))) (sym kept.count)
-      (after_start w.packets N i n.kept.round (current_period n) n.kept.acceptor n.attempt (kept.nodes i n found))))
+      (after_start w.packets N i n.kept.round (current_period n) n.kept.acceptor n.attempt (kept.nodes i n within found))))
       (others_neutral w.packets N i q tt)
 
   restart_kept : (w : World) (i : ℕ) (n : Node) → IsKept N w → slice_get w.nodes i ≡ Some n → IsKept N (after w i (wake n.kept) None)
   restart_kept w i n kept found =
       with_node_set N w i (wake n.kept) w.packets kept kept.safe
-      (without_attempt w.packets N i n.kept.round (current_period n) n.kept.acceptor n.attempt (kept.nodes i n found)) (others_same w.packets N i)
+      (λ within. without_attempt w.packets N i n.kept.round (current_period n) n.kept.acceptor n.attempt (kept.nodes i n within found)) (others_same w.packets N i)
 
   pub IsKept-steps : IsKeptBySteps (IsKept N)
   IsKept-steps = record {
     journals = journal_kept;
-    delivers = λ w i n q kept may. handled_kept w i _ _ kept (does N w kept i n (of_node w kept i n may.found) (kept.nodes i n may.found) q may.sent);
+    delivers = λ w i n q kept may. handled_kept w i _ _ kept (any_does w kept i n q may.found may.sent);
     starts = λ w i n kept may. start_kept w i n kept may.found;
     restarts = restart_kept;
   }
@@ -247,9 +298,9 @@ none_sent q h = none h.0 h.1
     none : (k : ℕ) → slice_get [] k ≡ Some q → ⊥
     none k e = cc
 
-pub IsKept-opening : (nodes agents : ℕ) (sheet : Sheet) (issuer : Issuer) → IsKept nodes (opening nodes agents sheet issuer)
-IsKept-opening nodes agents sheet issuer = record {
-  count = length-replicate nodes (wake new_kept);
+pub IsKept-opening : (voters observers agents : ℕ) (sheet : Sheet) (issuer : Issuer) → IsKept voters (opening voters observers agents sheet issuer)
+IsKept-opening voters observers agents sheet issuer = record {
+  count = refl;
   safe = record {
     one_cut = λ p b c d h k. absurd (none_sent _ h);
     asked = λ i p b c h. absurd (none_sent _ h);
@@ -257,7 +308,7 @@ IsKept-opening nodes agents sheet issuer = record {
     full_promise = λ i p b v h. absurd (none_sent _ h);
     backed = λ p b c h. absurd (none_sent _ h);
   };
-  nodes = λ i n e. subst (Knows [] nodes i) (sym (get-replicate nodes i (wake new_kept) n e)) (record {
+  nodes = λ i n within e. subst (Knows [] voters i) (sym (get-replicate (voters + observers) i (wake new_kept) n e)) (record {
     promises = λ p b v h. absurd (none_sent _ h);
     votes = λ p b c h. absurd (none_sent _ h);
     vote = λ v e. absurd (cc);

@@ -1,5 +1,5 @@
 -- What nodes learn, and what they tell of it, was chosen.
-use Rattle.std.proofs.Common.{◌≡◌, ℕ, zero, suc, ◌≤◌, Bool, true, false, ◌&&◌, ◌||◌, not, cond, List, [], ◌∷◌, ◌++◌, length, get_or, refl, sym, ap, subst, ◌∙◌, arith, Option, Some, None, ◌⊎◌, inl, inr, length-set, unwrap_or, Ordering, Less, Equal, Greater}
+use Rattle.std.proofs.Common.{◌≡◌, ℕ, zero, suc, ◌+◌, ◌≤◌, Bool, true, false, ◌&&◌, ◌||◌, not, cond, List, [], ◌∷◌, ◌++◌, length, get_or, refl, sym, ap, subst, ◌∙◌, arith, Option, Some, None, ◌⊎◌, inl, inr, length-set, unwrap_or, Ordering, Less, Equal, Greater}
 use Rattle.std.specs.Prelude.{slice_get, ◌==◌}
 use Rattle.std.specs.List.{count_by, list_any, range_with_len}
 use Rattle.std.specs.Map.{lookup}
@@ -14,8 +14,8 @@ use Rattle.metering_model.specs.BatchReading.{is_same}
 use Rattle.metering_model.specs.Sheet.{Sheet, Issuer}
 use Rattle.metering_model.specs.Chosen.{accepts}
 use Rattle.metering_model.specs.Ballot.{Vote, Attempt, Nodes, nobody, Tally, majority, has_majority, with_node, accepting_at, with_accepted, with_promise}
-use Rattle.metering_model.specs.World.{World, Node, Packet, CarriesBatch, Prepare, Promise, Accept, Accepted, Decided, node_count, current_period, wake, new_kept, opening}
-use Rattle.metering_model.specs.Deliveries.{Handled, silent, sending, learning, on_prepare, on_accept, unless_learned, after_promise, after_accepted, handled}
+use Rattle.metering_model.specs.World.{World, Node, Packet, CarriesBatch, Prepare, Promise, Accept, Accepted, Decided, voter_count, votes, current_period, wake, new_kept, opening}
+use Rattle.metering_model.specs.Deliveries.{Handled, silent, sending, learning, on_prepare, on_promise, on_accept, unless_learned, if_votes, after_promise, after_accepted, handled}
 use Rattle.group_laws.proofs.Quorum.{In, IsSafe, accepting_in}
 use Rattle.group_laws.proofs.Kept.{sent_before, sent_split}
 use Rattle.group_laws.proofs.Nodes.{one_more, nobody_here, length-nobody, marks-range}
@@ -251,7 +251,7 @@ module _ (N : ℕ) (w : World) (told : IsTold N w) (i : ℕ) (n : Node) (tells :
         ];
       }
 
-  accepted : (from b : ℕ) (c : Cut) → In w.packets (Accepted from (current_period n) b c) → Does w.packets N (after_accepted w n b c (with_accepted (node_count w) from b n.tally))
+  accepted : (from b : ℕ) (c : Cut) → In w.packets (Accepted from (current_period n) b c) → Does w.packets N (after_accepted w n b c (with_accepted (voter_count w) from b n.tally))
   accepted from b c was =
       subst (λ k. Does w.packets N (cond (has_majority k (accepting_at k b (with_accepted k from b n.tally))) (learning c n) (silent (record n { tally = with_accepted k from b n.tally })))) (sym told.kept.count)
       (by_flag (has_majority N (accepting_at N b (with_accepted N from b n.tally))) (learning c n) (silent (record n { tally = with_accepted N from b n.tally })) enough (more, tt))
@@ -264,21 +264,24 @@ module _ (N : ℕ) (w : World) (told : IsTold N w) (i : ℕ) (n : Node) (tells :
           (accepting_counted w.packets N (current_period n) b n.kept.learned (with_accepted N from b n.tally) more)
           (told.kept.safe.asked from (current_period n) b c was) many)
 
+  by_vote : (x : Handled) → Does w.packets N x → Does w.packets N (if_votes w i n x)
+  by_vote x h = by_flag (votes w i) x (silent n) (λ e. h) (tells, tt)
+
   silence : Does w.packets N (silent n)
   silence = (tells, tt)
 
   promised : (from p b : ℕ) (v : Option Vote) → Does w.packets N (handled w i n (Promise from p b v))
-  promised from p b v = by_attempt n.attempt
+  promised from p b v = by_vote (on_promise w n from p b v) (by_attempt n.attempt)
     where
       by_attempt : (o : Option Attempt) → Does w.packets N (elim o [ None ↦ silent n | Some a ↦ cond ((p == current_period n) && (a.ballot == b) && not a.sent) (after_promise w n p b (with_promise from v a)) (silent n) ])
       by_attempt None = (tells, tt)
-      by_attempt (Some a) = by_flag ((p == current_period n) && (a.ballot == b) && not a.sent) (after_promise w n p b (with_promise from v a)) (silent n) (λ e. by_flag (has_majority (node_count w) (with_promise from v a).promising) _ _ (λ e. (tells, tt)) (tells, tt)) (tells, tt)
+      by_attempt (Some a) = by_flag ((p == current_period n) && (a.ballot == b) && not a.sent) (after_promise w n p b (with_promise from v a)) (silent n) (λ e. by_flag (has_majority (voter_count w) (with_promise from v a).promising) _ _ (λ e. (tells, tt)) (tells, tt)) (tells, tt)
 
   does : (q : Packet) → In w.packets q → Does w.packets N (handled w i n q)
   does (CarriesBatch b) was = (tells, tt)
-  does (Prepare p b) was = by_learned p (on_prepare i n p b) (by_flag _ _ _ (λ e. (tells, tt)) (tells, tt))
+  does (Prepare p b) was = by_learned p (if_votes w i n (on_prepare i n p b)) (by_vote (on_prepare i n p b) (by_flag _ _ _ (λ e. (tells, tt)) (tells, tt)))
   does (Promise from p b v) was = promised from p b v
-  does (Accept p b c) was = by_learned p (on_accept i n p b c) (by_flag _ _ _ (λ e. (tells, tt)) (tells, tt))
+  does (Accept p b c) was = by_learned p (if_votes w i n (on_accept i n p b c)) (by_vote (on_accept i n p b c) (by_flag _ _ _ (λ e. (tells, tt)) (tells, tt)))
   does (Accepted from p b c) was = by_flag (p == current_period n) _ (silent n) (λ e. accepted from b c (subst (λ r. In w.packets (Accepted from r b c)) (eqb-true p (current_period n) e) was)) (tells, tt)
   does (Decided p c) was = by_flag (p == current_period n) _ (silent n) (λ e. learns c (subst (λ r. ChosenIn w.packets N r c) (eqb-true p (current_period n) e) (told.decided p c was))) (tells, tt)
 
@@ -300,11 +303,11 @@ module _ (N : ℕ) where
     restarts = λ w i n h found. told_after N w i (wake n.kept) None h (steps.restarts w i n h.kept found) (record { chosen = (h.nodes i n found).chosen; counted = λ b set e. absurd (none-some set e) }) tt;
   }
 
-pub IsTold-opening : (nodes agents : ℕ) (sheet : Sheet) (issuer : Issuer) → IsTold nodes (opening nodes agents sheet issuer)
-IsTold-opening nodes agents sheet issuer = record {
-  kept = IsKept-opening nodes agents sheet issuer;
+pub IsTold-opening : (voters observers agents : ℕ) (sheet : Sheet) (issuer : Issuer) → IsTold voters (opening voters observers agents sheet issuer)
+IsTold-opening voters observers agents sheet issuer = record {
+  kept = IsKept-opening voters observers agents sheet issuer;
   decided = λ p c h. absurd (none_sent _ h);
-  nodes = λ i n e. subst (NodeTells [] nodes) (sym (get-replicate nodes i (wake new_kept) n e)) (record {
+  nodes = λ i n e. subst (NodeTells [] voters) (sym (get-replicate (voters + observers) i (wake new_kept) n e)) (record {
     chosen = λ p c e. absurd (none-some c e);
     counted = λ b set e. absurd (none-some set e);
   });

@@ -24,13 +24,13 @@ abbrev events_of : Schedule → List Event
 events_of s = map event_of s.events
 
 abbrev run_of : Schedule → List Reply × World
-run_of s = play (opening s.nodes s.agents sheet_0 issuer_1) (events_of s)
+run_of s = play (opening s.voters s.observers s.agents sheet_0 issuer_1) (events_of s)
 
-headline_of : (s : Schedule) → HoldsAfter s.nodes s.agents sheet_0 issuer_1 (events_of s) (run_of s).0 (run_of s).1
-headline_of s = holds_after s.nodes s.agents sheet_0 issuer_1 (events_of s)
+headline_of : (s : Schedule) → HoldsAfter s.voters s.observers s.agents sheet_0 issuer_1 (events_of s) (run_of s).0 (run_of s).1
+headline_of s = holds_after s.voters s.observers s.agents sheet_0 issuer_1 (events_of s)
 
-limits_of : (s : Schedule) → KeepsLimits s.nodes s.agents (run_of s).1
-limits_of s = keeps_limits s.nodes s.agents sheet_0 issuer_1 (events_of s)
+limits_of : (s : Schedule) → KeepsLimits s.voters s.observers s.agents (run_of s).1
+limits_of s = keeps_limits s.voters s.observers s.agents sheet_0 issuer_1 (events_of s)
 
 -- ---- one batch, two nodes, two equal exports
 

@@ -1,5 +1,5 @@
 -- What every run keeps, which the bodies of a group rest on: lengths, limits, and batches that are the journals'.
-use Rattle.std.specs.Prelude.{◌≡◌, ℕ, ◌*◌, ◌<◌, ◌≤◌, true, length, All, Some, None, Option, slice_get}
+use Rattle.std.specs.Prelude.{◌≡◌, ℕ, ◌+◌, ◌*◌, ◌<◌, ◌≤◌, true, length, All, Some, None, Option, slice_get}
 use Rattle.std.specs.Option.{is_some}
 use Rattle.metering_model.specs.Batch.{Batch, IsWellFormed}
 use Rattle.metering_model.specs.Cut.{Cut, IsGrowing, last_of}
@@ -72,8 +72,9 @@ pub record IsNode (voters agents : ℕ) (journals : Holding) (n : Node) : Type 0
   pub whole : (period : ℕ) (cut : Cut) → slice_get n.kept.learned period ≡ Some cut → first_missing n.kept.holding cut ≡ None → AgreeUpTo cut n.kept.holding journals
 
 -- What holds of the world after every run.
-pub record KeepsLimits (nodes agents : ℕ) (w : World) : Type 0 where
-  pub nodes_kept : node_count w ≡ nodes
+pub record KeepsLimits (voters observers agents : ℕ) (w : World) : Type 0 where
+  pub nodes_kept : node_count w ≡ voters + observers
+  pub voters_kept : voter_count w ≡ voters
   pub agents_kept : w.agents ≡ agents
   pub rules : MeetsJournalRules w.sheet w.journals
   pub in_range : (agent seq : ℕ) (b : Batch) → held w.journals agent seq ≡ Some b → agent ≤ w.agents

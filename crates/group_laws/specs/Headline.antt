@@ -1,6 +1,6 @@
 -- What holds after every run of a group, whatever is lost, repeated, reordered or restarted: the chosen cuts are one growing
 -- list, each export is of two neighbouring cuts of it, and each reading is charged as new in one row of one period.
-use Rattle.std.specs.Prelude.{◌≡◌, ◌↔◌, ℕ, ◌<◌, ◌≤◌, List, ◌++◌, length, Some, None, Ok, slice_get}
+use Rattle.std.specs.Prelude.{◌≡◌, ◌↔◌, ℕ, ◌+◌, ◌<◌, ◌≤◌, List, ◌++◌, length, Some, None, Ok, slice_get}
 use Rattle.std.specs.List.{Contains}
 use Rattle.metering_model.specs.Batch.{Batch, Reading}
 use Rattle.metering_model.specs.Sheet.{Sheet, Issuer}
@@ -10,7 +10,7 @@ use Rattle.metering_model.specs.JournalRules.{MeetsJournalRules, next_seq}
 use Rattle.metering_model.specs.Front.{AreDueBetween}
 use Rattle.metering_model.specs.Rows.{PlacedRow, placed_rows, rows}
 use Rattle.metering_model.specs.File.{file}
-use Rattle.metering_model.specs.World.{World, Node, Offer, Event, Journal, Export, Snapshot, Reply, Journaled, Exported, node_count}
+use Rattle.metering_model.specs.World.{World, Node, Offer, Event, Journal, Export, Snapshot, Reply, Journaled, Exported, node_count, voter_count}
 use Rattle.metering_model.specs.Step.{batch_of, cut_before}
 use Rattle.metering_model.specs.Chosen.{IsChosen}
 use Rattle.metering_model.specs.Transcript.{file_of}
@@ -71,9 +71,10 @@ pub record AreChargedOnce (w : World) (cuts : List Cut) : Type 0 where
       reading_at w.journals at ≡ Some r → (p : ℕ) × (p ≤ period) × (k : ℕ) × (x : PlacedRow) × IsNewIn w cuts p k x × (x.place ≡ at)
 
 -- The headline: after a run that gave these replies, and led from the opening world to this one.
-pub record HoldsAfter (nodes agents : ℕ) (sheet : Sheet) (issuer : Issuer) (events : List Event) (replies : List Reply) (w : World) : Type 0 where
+pub record HoldsAfter (voters observers agents : ℕ) (sheet : Sheet) (issuer : Issuer) (events : List Event) (replies : List Reply) (w : World) : Type 0 where
   pub answers : AreAnswers events replies w
-  pub nodes_kept : node_count w ≡ nodes
+  pub nodes_kept : node_count w ≡ voters + observers
+  pub voters_kept : voter_count w ≡ voters
   pub agents_kept : w.agents ≡ agents
   pub sheet_kept : w.sheet ≡ sheet
   pub issuer_kept : w.issuer ≡ issuer

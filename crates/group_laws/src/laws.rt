@@ -12,19 +12,19 @@ ghost use Rattle.group_laws.specs.EveryRun.{KeepsLimits};
 /// Whatever happens to a group, its chosen cuts are one growing list, and each export is of two neighbouring ones. It
 /// holds of every list of events, and of every history that one thread could have made; more events only lengthen the list.
 pub fn runs()
-    ensures holds { (nodes agents : ℕ) (sheet : Sheet) (issuer : Issuer) (events : List Event) →
-        HoldsAfter nodes agents sheet issuer events (play (opening nodes agents sheet issuer) events).0 (play (opening nodes agents sheet issuer) events).1 }
-    ensures histories { (nodes agents : ℕ) (sheet : Sheet) (issuer : Issuer) (history : List Entry) (reached : World) →
-        IsLegal (opening nodes agents sheet issuer) history reached →
-        HoldsAfter nodes agents sheet issuer (map (λ e. e.event) history) (map (λ e. e.reply) history) reached }
-    ensures grows { (nodes agents : ℕ) (sheet : Sheet) (issuer : Issuer) (events more : List Event) (before after : List Cut) →
-        AreTheCuts (play (opening nodes agents sheet issuer) events).1 before →
-        AreTheCuts (play (opening nodes agents sheet issuer) (events ++ more)).1 after →
+    ensures holds { (voters observers agents : ℕ) (sheet : Sheet) (issuer : Issuer) (events : List Event) →
+        HoldsAfter voters observers agents sheet issuer events (play (opening voters observers agents sheet issuer) events).0 (play (opening voters observers agents sheet issuer) events).1 }
+    ensures histories { (voters observers agents : ℕ) (sheet : Sheet) (issuer : Issuer) (history : List Entry) (reached : World) →
+        IsLegal (opening voters observers agents sheet issuer) history reached →
+        HoldsAfter voters observers agents sheet issuer (map (λ e. e.event) history) (map (λ e. e.reply) history) reached }
+    ensures grows { (voters observers agents : ℕ) (sheet : Sheet) (issuer : Issuer) (events more : List Event) (before after : List Cut) →
+        AreTheCuts (play (opening voters observers agents sheet issuer) events).1 before →
+        AreTheCuts (play (opening voters observers agents sheet issuer) (events ++ more)).1 after →
         IsPrefixOf before after }
 {}
 
 /// Packets, votes, attempts, tallies and learned lists stay within their limits, and holdings are parts of the journals.
 pub fn every_run_keeps_its_limits()
-    ensures holds { (nodes agents : ℕ) (sheet : Sheet) (issuer : Issuer) (events : List Event) →
-        KeepsLimits nodes agents (play (opening nodes agents sheet issuer) events).1 }
+    ensures holds { (voters observers agents : ℕ) (sheet : Sheet) (issuer : Issuer) (events : List Event) →
+        KeepsLimits voters observers agents (play (opening voters observers agents sheet issuer) events).1 }
 {}

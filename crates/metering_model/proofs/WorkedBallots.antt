@@ -12,7 +12,8 @@ use Rattle.metering_model.proofs.Samples.{sheet_0, sheet_0_lines, issuer_1, issu
 -- one batch from its bytes to two equal files
 abbrev pub whole_path : Schedule
 whole_path = record {
-  nodes = 3;
+  voters = 3;
+  observers = 0;
   agents = 1;
   sheet = sheet_0_lines;
   issuer = issuer_1_lines;
@@ -45,7 +46,8 @@ whole_path_transcript = refl
 -- a proposer that is told a vote sends its cut, and not its own front
 abbrev pub crossing_proposers : Schedule
 crossing_proposers = record {
-  nodes = 3;
+  voters = 3;
+  observers = 0;
   agents = 1;
   sheet = sheet_0_lines;
   issuer = issuer_1_lines;
@@ -83,7 +85,8 @@ crossing_proposers_transcript = refl
 -- a node learns a cut that it cannot export yet
 abbrev a_node_that_lacks_a_batch : Schedule
 a_node_that_lacks_a_batch = record {
-  nodes = 3;
+  voters = 3;
+  observers = 0;
   agents = 1;
   sheet = sheet_0_lines;
   issuer = issuer_1_lines;
@@ -126,7 +129,8 @@ a_node_that_lacks_a_batch_transcript = refl
 -- a restarted proposer takes a new ballot, and hears no promise of the old one
 abbrev restart_between_prepare_and_accept : Schedule
 restart_between_prepare_and_accept = record {
-  nodes = 3;
+  voters = 3;
+  observers = 0;
   agents = 1;
   sheet = sheet_0_lines;
   issuer = issuer_1_lines;
@@ -154,7 +158,8 @@ restart_between_prepare_and_accept_transcript = refl
 -- each packet is delivered twice
 abbrev repeats_on_one_node : Schedule
 repeats_on_one_node = record {
-  nodes = 1;
+  voters = 1;
+  observers = 0;
   agents = 1;
   sheet = sheet_0_lines;
   issuer = issuer_1_lines;
@@ -184,7 +189,8 @@ repeats_on_one_node_transcript = refl
 -- a node restarts behind each of its steps
 abbrev restarts_on_one_node : Schedule
 restarts_on_one_node = record {
-  nodes = 1;
+  voters = 1;
+  observers = 0;
   agents = 1;
   sheet = sheet_0_lines;
   issuer = issuer_1_lines;
@@ -212,7 +218,8 @@ restarts_on_one_node_transcript = refl
 -- refused events leave the world as it was
 abbrev refusals_change_nothing : Schedule
 refusals_change_nothing = record {
-  nodes = 3;
+  voters = 3;
+  observers = 0;
   agents = 1;
   sheet = sheet_0_lines;
   issuer = issuer_1_lines;
@@ -242,7 +249,8 @@ refusals_change_nothing_transcript = refl
 -- a group of one
 abbrev one_node : Schedule
 one_node = record {
-  nodes = 1;
+  voters = 1;
+  observers = 0;
   agents = 1;
   sheet = sheet_0_lines;
   issuer = issuer_1_lines;
@@ -268,7 +276,8 @@ one_node_transcript = refl
 -- a promise heard twice counts once
 abbrev two_nodes_need_both : Schedule
 two_nodes_need_both = record {
-  nodes = 2;
+  voters = 2;
+  observers = 0;
   agents = 1;
   sheet = sheet_0_lines;
   issuer = issuer_1_lines;
@@ -290,3 +299,34 @@ two_nodes_need_both_transcript : transcript_of sheet_0 issuer_1 two_nodes_need_b
     codes "delivered sent 2" ∷ codes "delivered sent 3" ∷ [])
 unfolding days_from_civil day_count days_of_years days_of_months worth_of decimals_of digits
 two_nodes_need_both_transcript = refl
+
+-- An observer promises and accepts nothing and has no ballots. It learns what the voters choose, and tells and exports it.
+abbrev pub a_voter_and_an_observer : Schedule
+a_voter_and_an_observer = record {
+  voters = 1;
+  observers = 1;
+  agents = 1;
+  sheet = sheet_0_lines;
+  issuer = issuer_1_lines;
+  events =
+      PlansStart 1 ∷ PlansStart 2 ∷ PlansStart 0 ∷ PlansDelivery 0 1 ∷ PlansDelivery 0 0 ∷ PlansDelivery 1 0 ∷
+      PlansDelivery 2 1 ∷ PlansDelivery 2 0 ∷ PlansDelivery 3 1 ∷ PlansExport 1 0 ∷ PlansDelivery 0 1 ∷
+      PlansDelivery 4 0 ∷ [];
+}
+
+a_voter_and_an_observer_text : schedule_text a_voter_and_an_observer ≡
+    lines_text (codes "SCHEDULE 1" ∷ codes "nodes 1 observers 1" ∷ codes "agents 1" ∷ [])
+    ++ line (codes "sheet 13") ++ lines_text sheet_0_lines ++ line (codes "issuer 7") ++ lines_text issuer_1_lines
+    ++ lines_text (codes "start 1" ∷ codes "start 2" ∷ codes "start 0" ∷ codes "deliver 0 1" ∷ codes "deliver 0 0" ∷
+    codes "deliver 1 0" ∷ codes "deliver 2 1" ∷ codes "deliver 2 0" ∷ codes "deliver 3 1" ∷ codes "export 1 0" ∷
+    codes "deliver 0 1" ∷ codes "deliver 4 0" ∷ [])
+unfolding digits
+a_voter_and_an_observer_text = refl
+
+a_voter_and_an_observer_transcript : transcript_of sheet_0 issuer_1 a_voter_and_an_observer ≡
+    lines_text (codes "refused G13" ∷ codes "refused G6" ∷ codes "started ballot 1 packet 0" ∷ codes "delivered" ∷
+    codes "delivered sent 1" ∷ codes "delivered sent 2" ∷ codes "delivered" ∷ codes "delivered sent 3" ∷
+    codes "delivered learned 0" ∷ codes "exported period 0 lines 1" ∷ header_line ∷ codes "delivered sent 4" ∷
+    codes "delivered learned 0" ∷ [])
+unfolding days_from_civil day_count days_of_years days_of_months worth_of decimals_of digits
+a_voter_and_an_observer_transcript = refl

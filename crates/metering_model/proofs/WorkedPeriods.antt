@@ -12,7 +12,8 @@ use Rattle.metering_model.proofs.Samples.{sheet_0, sheet_0_lines, issuer_1, issu
 -- a period to which no batch was added
 abbrev empty_period : Schedule
 empty_period = record {
-  nodes = 3;
+  voters = 3;
+  observers = 0;
   agents = 1;
   sheet = sheet_0_lines;
   issuer = issuer_1_lines;
@@ -52,7 +53,8 @@ empty_period_transcript = refl
 -- an amendment in a later period gives the difference
 abbrev pub correction : Schedule
 correction = record {
-  nodes = 1;
+  voters = 1;
+  observers = 0;
   agents = 1;
   sheet = sheet_0_lines;
   issuer = issuer_1_lines;
@@ -88,7 +90,8 @@ correction_transcript = refl
 -- an amendment in its own period gives the new value
 abbrev amendment_inside_one_period : Schedule
 amendment_inside_one_period = record {
-  nodes = 1;
+  voters = 1;
+  observers = 0;
   agents = 1;
   sheet = sheet_0_lines;
   issuer = issuer_1_lines;
@@ -119,7 +122,8 @@ amendment_inside_one_period_transcript = refl
 -- amendments that come back to the old value give no row
 abbrev there_and_back : Schedule
 there_and_back = record {
-  nodes = 1;
+  voters = 1;
+  observers = 0;
   agents = 1;
   sheet = sheet_0_lines;
   issuer = issuer_1_lines;
@@ -154,7 +158,8 @@ there_and_back_transcript = refl
 -- two amendments in one period, that come back to the old value
 abbrev amendments_out_of_order_at_once : Schedule
 amendments_out_of_order_at_once = record {
-  nodes = 1;
+  voters = 1;
+  observers = 0;
   agents = 1;
   sheet = sheet_0_lines;
   issuer = issuer_1_lines;
@@ -190,7 +195,8 @@ amendments_out_of_order_at_once_transcript = refl
 -- two amendments, a period each
 abbrev amendments_out_of_order_in_turn : Schedule
 amendments_out_of_order_in_turn = record {
-  nodes = 1;
+  voters = 1;
+  observers = 0;
   agents = 1;
   sheet = sheet_0_lines;
   issuer = issuer_1_lines;

@@ -4,7 +4,7 @@ use Rattle.metering_model.specs.Cut.{Cut}
 use Rattle.metering_model.specs.Holding.{put}
 use Rattle.metering_model.specs.Front.{front}
 use Rattle.metering_model.specs.Ballot.{Vote, Acceptor, Attempt, Tally, new_acceptor, is_above, is_not_below, after_prepare, after_accept, with_promise, has_majority, accepting_at, with_accepted}
-use Rattle.metering_model.specs.World.{Packet, CarriesBatch, Prepare, Promise, Accept, Accepted, Decided, Kept, Node, World, voter_count, current_period, last_cut, wake, with_kept}
+use Rattle.metering_model.specs.World.{Packet, CarriesBatch, Prepare, Promise, Accept, Accepted, Decided, Kept, Node, World, voter_count, votes, current_period, last_cut, wake, with_kept}
 
 -- the node afterwards, the packet that it sends, and the period that it learns
 pub record Handled : Type 0 where
@@ -32,6 +32,10 @@ with_acceptor a n = with_kept (record n.kept { acceptor = a }) n
 -- neither promises nor accepts there any more, since what it had promised and accepted is forgotten.
 abbrev pub unless_learned : ℕ → Node → Handled → Handled
 unless_learned period n goes_on = elim (slice_get n.kept.learned period) [ Some cut ↦ sending (Decided period cut) n | None ↦ goes_on ]
+
+-- An observer answers nothing that a voter is asked: it never promises, proposes or accepts, so no majority rests on it.
+abbrev pub if_votes : World → ℕ → Node → Handled → Handled
+if_votes w i n goes_on = if votes w i then goes_on else silent n
 
 -- The promise tells the node's vote, and shuts out each ballot up to this one: what it tells stays all there is to tell. So
 -- a ballot that is not above the promised one gets no answer.
@@ -80,11 +84,11 @@ after_accepted w n ballot cut tally =
 abbrev pub handled : World → ℕ → Node → Packet → Handled
 -- a batch is kept at any period, and one that is there already stays
 handled w i n (CarriesBatch b) = silent (with_kept (record n.kept { holding = put n.kept.holding b }) n)
-handled w i n (Prepare period ballot) = unless_learned period n (on_prepare i n period ballot)
-handled w i n (Promise from period ballot vote) = on_promise w n from period ballot vote
-handled w i n (Accept period ballot cut) = unless_learned period n (on_accept i n period ballot cut)
+handled w i n (Prepare period ballot) = unless_learned period n (if_votes w i n (on_prepare i n period ballot))
+handled w i n (Promise from period ballot vote) = if_votes w i n (on_promise w n from period ballot vote)
+handled w i n (Accept period ballot cut) = unless_learned period n (if_votes w i n (on_accept i n period ballot cut))
 -- The tally is of the current period, and counts nodes and not packets: a repeated one counts once. A learned period needs
--- no votes, and for one that is not reached yet the packet may come again.
+-- no votes, and for one that is not reached yet the packet may come again. An observer counts too, and so learns.
 handled w i n (Accepted from period ballot cut) =
     if period == current_period n then after_accepted w n ballot cut (with_accepted (voter_count w) from ballot n.tally) else silent n
 -- cuts are learned in the order of their periods

@@ -1,5 +1,5 @@
 -- Schedules as texts: a group, its sheet and its issuer as lines, and events.
-use Rattle.std.specs.Prelude.{◌≡◌, ℕ, ◌≤◌, List, ◌++◌, length, map, All, codes, IsTrue}
+use Rattle.std.specs.Prelude.{◌≡◌, ℕ, zero, suc, ◌+◌, ◌≤◌, List, ◌++◌, length, map, All, codes, IsTrue}
 use Rattle.std.specs.List.{flat_map, list_all}
 use Rattle.metering_model.specs.Batch.{lacks}
 use Rattle.metering_model.specs.Sheet.{Sheet, Issuer}
@@ -23,7 +23,8 @@ pub data Planned : Type 0 where
   PlansExport : (node period : ℕ) → Planned
 
 pub record Schedule : Type 0 where
-  pub nodes : ℕ
+  pub voters : ℕ
+  pub observers : ℕ
   pub agents : ℕ
   pub sheet : TextLines
   pub issuer : TextLines
@@ -40,9 +41,14 @@ planned_text (PlansStart i) = line (with_number (codes "start ") i)
 planned_text (PlansRestart i) = line (with_number (codes "restart ") i)
 planned_text (PlansExport i p) = line (with_number (codes "export ") i ++ with_number (codes " ") p)
 
+-- where there are no observers, nothing is said of them
+abbrev pub nodes_text : ℕ → ℕ → List ℕ
+nodes_text voters zero = with_number (codes "nodes ") voters
+nodes_text voters (suc m) = with_number (codes "nodes ") voters ++ with_number (codes " observers ") (suc m)
+
 abbrev pub schedule_text : Schedule → List ℕ
 schedule_text s =
-    line (codes "SCHEDULE 1") ++ line (with_number (codes "nodes ") s.nodes) ++ line (with_number (codes "agents ") s.agents)
+    line (codes "SCHEDULE 1") ++ line (nodes_text s.voters s.observers) ++ line (with_number (codes "agents ") s.agents)
     ++ section_text (codes "sheet ") s.sheet ++ section_text (codes "issuer ") s.issuer ++ flat_map planned_text s.events
 
 -- so many lines, of which none holds a line feed
@@ -62,7 +68,7 @@ IsPlanned (PlansExport i p) = (i ≤ 98) × (p ≤ 1_199)
 pub record HasScheduleForm (text : List ℕ) (s : Schedule) : Type 0 where
   pub joined : text ≡ schedule_text s
   pub short : length text ≤ 16_777_216
-  pub nodes : (1 ≤ s.nodes) × (s.nodes ≤ 99)
+  pub nodes : (1 ≤ s.voters) × (s.voters + s.observers ≤ 99)
   pub agents : (1 ≤ s.agents) × (s.agents ≤ 64)
   pub sheet : AreLines 200_000 s.sheet
   pub issuer : AreLines 100 s.issuer
@@ -77,4 +83,4 @@ event_of (PlansExport i p) = Export i p
 
 -- the transcript of a schedule, under the sheet and the issuer that its sections are read as
 abbrev pub transcript_of : Sheet → Issuer → Schedule → List ℕ
-transcript_of sheet issuer s = transcript (play (opening s.nodes s.agents sheet issuer) (map event_of s.events)).0
+transcript_of sheet issuer s = transcript (play (opening s.voters s.observers s.agents sheet issuer) (map event_of s.events)).0

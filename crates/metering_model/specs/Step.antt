@@ -10,7 +10,7 @@ use Rattle.metering_model.specs.Holding.{Holding, placed, held, put, up_to}
 use Rattle.metering_model.specs.JournalRules.{BrokenRule, next_seq, first_broken}
 use Rattle.metering_model.specs.declared.BrokenRule.TheVariants.{BadTarget as BreaksTarget, Unpriced as BreaksPrice}
 use Rattle.metering_model.specs.Ballot.{ballot_of, new_attempt}
-use Rattle.metering_model.specs.World.{CarriesBatch, Prepare, Node, World, Offer, Good, Bad, Event, Journal, Deliver, Start, Restart, Export, Snapshot, Reply, Journaled, Delivered, Started, Restarted, Exported, Refused, Refusal, BadBatch, WrongSeq, BadTarget, Unpriced, NoPacket, NoNode, NotClosed, Missing, AllClosed, NoBallot, NoAgent, voter_count, current_period, wake, with_node_at, with_packet, next_packet}
+use Rattle.metering_model.specs.World.{CarriesBatch, Prepare, Node, World, Offer, Good, Bad, Event, Journal, Deliver, Start, Restart, Export, Snapshot, Reply, Journaled, Delivered, Started, Restarted, Exported, Refused, Refusal, BadBatch, WrongSeq, BadTarget, Unpriced, NoPacket, NoNode, NotClosed, Missing, AllClosed, NoBallot, NoAgent, Observer, voter_count, votes, current_period, wake, with_node_at, with_packet, next_packet}
 use Rattle.metering_model.specs.Deliveries.{Handled, handled}
 
 abbrev pub Outcome : Type 0
@@ -62,6 +62,7 @@ started_node voters ballot n = record n { kept = record n.kept { round = n.kept.
 abbrev pub on_start : World → ℕ → Result Outcome Refusal
 on_start w i = do
   n ← node_at w i
+  _ ← holds_or (votes w i) Observer
   _ ← holds_or (nat_lt (current_period n) 1_200) AllClosed
   _ ← holds_or (nat_lt n.kept.round 10_000) NoBallot
   k ← next_packet w

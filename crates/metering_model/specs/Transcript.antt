@@ -4,7 +4,7 @@ use Rattle.std.specs.List.{flat_map}
 use Rattle.metering_model.specs.BatchReading.{BatchCode, Head, Count, Fields, Time, Number, Text, Tags, TooLong, BatchFault}
 use Rattle.metering_model.specs.Rows.{rows}
 use Rattle.metering_model.specs.File.{file}
-use Rattle.metering_model.specs.World.{Snapshot, Reply, Journaled, Delivered, Started, Restarted, Exported, Refused, Refusal, BadBatch, WrongSeq, BadTarget, Unpriced, NoPacket, NoNode, NotClosed, Missing, AllClosed, NoBallot, WorldFull, NoAgent}
+use Rattle.metering_model.specs.World.{Snapshot, Reply, Journaled, Delivered, Started, Restarted, Exported, Refused, Refusal, BadBatch, WrongSeq, BadTarget, Unpriced, NoPacket, NoNode, NotClosed, Missing, AllClosed, NoBallot, WorldFull, NoAgent, Observer}
 
 abbrev pub line : List ℕ → List ℕ
 line t = t ++ 10 ∷ []
@@ -39,6 +39,7 @@ refusal_text AllClosed = codes "G9"
 refusal_text NoBallot = codes "G10"
 refusal_text WorldFull = codes "G11"
 refusal_text NoAgent = codes "G12"
+refusal_text Observer = codes "G13"
 
 abbrev pub if_any : List ℕ → Option ℕ → List ℕ
 if_any word None = []

@@ -1,8 +1,8 @@
 -- The group as plain data: what nodes keep, what was sent, what may happen and what is answered.
-use Rattle.std.specs.Prelude.{ℕ, List, [], ◌∷◌, ◌++◌, length, replicate, Option, None, Result, Ok, Err, unwrap_or, nat_lt, if◌then◌else◌, slice_set}
+use Rattle.std.specs.Prelude.{ℕ, ◌+◌, Bool, List, [], ◌∷◌, ◌++◌, length, replicate, Option, None, Result, Ok, Err, unwrap_or, nat_lt, if◌then◌else◌, slice_set}
 use Rattle.std.specs.List.{last_or}
 pub use Rattle.metering_model.specs.declared.Refusal.{Refusal}
-pub use Rattle.metering_model.specs.declared.Refusal.TheVariants.{BadBatch, WrongSeq, BadTarget, Unpriced, NoPacket, NoNode, NotClosed, Missing, AllClosed, NoBallot, WorldFull, NoAgent}
+pub use Rattle.metering_model.specs.declared.Refusal.TheVariants.{BadBatch, WrongSeq, BadTarget, Unpriced, NoPacket, NoNode, NotClosed, Missing, AllClosed, NoBallot, WorldFull, NoAgent, Observer}
 use Rattle.metering_model.specs.Batch.{Batch}
 use Rattle.metering_model.specs.BatchReading.{BatchFault, batch_in}
 use Rattle.metering_model.specs.Sheet.{Sheet, Issuer}
@@ -30,12 +30,14 @@ pub record Node : Type 0 where
   pub attempt : Option Attempt
   pub tally : Tally
 
+-- The first of the nodes vote, and those behind them observe.
 pub record World : Type 0 where
   pub sheet : Sheet
   pub issuer : Issuer
   pub agents : ℕ
   pub journals : Holding
   pub packets : List Packet
+  pub voters : ℕ
   pub nodes : List Node
 
 -- What is handed in to be journaled: bytes, or the fault of bytes that were read and are no batch. The step reads the
@@ -76,9 +78,12 @@ pub data Reply : Type 0 where
 abbrev pub node_count : World → ℕ
 node_count w = length w.nodes
 
--- how many of the nodes vote: each does. Ballots, sets of nodes and majorities are of the voters.
+-- how many of the nodes vote. Ballots, sets of nodes and majorities are of the voters.
 abbrev pub voter_count : World → ℕ
-voter_count w = node_count w
+voter_count w = w.voters
+
+abbrev pub votes : World → ℕ → Bool
+votes w i = nat_lt i (voter_count w)
 
 -- the period that a node works on: the first that it has not learned
 abbrev pub current_period : Node → ℕ
@@ -95,9 +100,16 @@ wake kept = record { kept = kept; attempt = None; tally = [] }
 abbrev pub new_kept : Kept
 new_kept = record { round = 0; learned = []; acceptor = new_acceptor; holding = [] }
 
-abbrev pub opening : ℕ → ℕ → Sheet → Issuer → World
-opening nodes agents sheet issuer =
-    record { sheet = sheet; issuer = issuer; agents = agents; journals = []; packets = []; nodes = replicate nodes (wake new_kept) }
+abbrev pub opening : ℕ → ℕ → ℕ → Sheet → Issuer → World
+opening voters observers agents sheet issuer = record {
+  sheet = sheet;
+  issuer = issuer;
+  agents = agents;
+  journals = [];
+  packets = [];
+  voters = voters;
+  nodes = replicate (voters + observers) (wake new_kept);
+}
 
 abbrev pub with_kept : Kept → Node → Node
 with_kept kept n = record n { kept = kept }

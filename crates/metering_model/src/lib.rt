@@ -148,6 +148,9 @@ pub enum Refusal {
     /// G12: the batch's agent is none of the world's.
     #[error("G12")]
     NoAgent,
+    /// G13: the node has no vote, so it has no ballots.
+    #[error("G13")]
+    Observer,
 }
 
 /// Who acts on the group: an agent, numbered from 1, or a node, numbered from 0.

@@ -34,15 +34,15 @@ use Rattle.transcript_laws.proofs.ShownExports.{shown_is_exported, exported_is_s
 use Rattle.transcript_laws.proofs.InTime.{were_due}
 use Rattle.transcript_laws.proofs.ShownTotals.{first_grow, are_the_files}
 
-module _ (nodes agents : ℕ) (sheet : Sheet) (issuer : Issuer) (events : List Event) (limits : IsSheet sheet) (names : IsIssuer issuer) where
+module _ (voters observers agents : ℕ) (sheet : Sheet) (issuer : Issuer) (events : List Event) (limits : IsSheet sheet) (names : IsIssuer issuer) where
   abbrev pub replies : List Reply
-  replies = (play (opening nodes agents sheet issuer) events).0
+  replies = (play (opening voters observers agents sheet issuer) events).0
 
   abbrev reached : World
-  reached = (play (opening nodes agents sheet issuer) events).1
+  reached = (play (opening voters observers agents sheet issuer) events).1
 
-  headline : HoldsAfter nodes agents sheet issuer events replies reached
-  headline = holds_after nodes agents sheet issuer events
+  headline : HoldsAfter voters observers agents sheet issuer events replies reached
+  headline = holds_after voters observers agents sheet issuer events
 
   journals_are : IsHolding reached.journals
   journals_are = headline.rules.is_holding
@@ -68,7 +68,7 @@ module _ (nodes agents : ℕ) (sheet : Sheet) (issuer : Issuer) (events : List E
       let size = ap length lines in
       let count = length-map xs line_of_row in
       let few = few_rows sheet issuer reached.journals s.period s.from s.to journals_are.batches in
-      let batches = few_batches nodes agents sheet issuer events in
+      let batches = few_batches voters observers agents sheet issuer events in
       let within = slice_get_within headline.cuts s.period s.to (headline.exports s has).to in
       let most = headline.are_the_cuts.in_range in
       record {
@@ -161,7 +161,7 @@ module _ (nodes agents : ℕ) (sheet : Sheet) (issuer : Issuer) (events : List E
       ap sum_of_first_column (shown_are_files shown each)
       ∙ texts_add_up sheet issuer reached.journals journals_are limits names agents (take (length shown) headline.cuts) (first_grow agents headline.cuts (length shown) growing)
 
-  pub holds_of_bytes : HoldsOfBytes nodes agents sheet issuer events (transcript replies)
+  pub holds_of_bytes : HoldsOfBytes voters observers agents sheet issuer events (transcript replies)
   holds_of_bytes = record {
     replies = replies;
     world = reached;

@@ -45,7 +45,7 @@ abbrev AreExported : List ℕ → List Reply → Type 0
 AreExported text replies = (period : ℕ) (shown : List ℕ) → Shows text period shown → (s : Snapshot) × Contains replies (Exported s) × (s.period ≡ period) × (shown ≡ file_of s)
 
 -- they are those of the headline
-are_of_the_headline : (events : List Event) (text : List ℕ) (h : HoldsOfBytes 1 1 sheet_1 issuer_1 events text) →
+are_of_the_headline : (events : List Event) (text : List ℕ) (h : HoldsOfBytes 1 0 1 sheet_1 issuer_1 events text) →
     Agree text × AreFiles text h.world.journals h.cuts × AddUp text h.world.journals h.cuts × AreNewOnce text h.world.journals h.cuts × AreExported text h.replies
 are_of_the_headline events text h = (h.agree, h.files, h.adds_up, h.new_once, h.only)
 
@@ -90,7 +90,7 @@ one_export =
     Deliver 3 0 ∷ Deliver 4 0 ∷ Export 0 0 ∷ []
 
 abbrev text_of : Sheet → Issuer → List ℕ
-text_of sheet issuer = transcript (play (opening 1 1 sheet issuer) one_export).0
+text_of sheet issuer = transcript (play (opening 1 0 1 sheet issuer) one_export).0
 
 abbrev told : TextLines
 told = codes "journaled packet 0" ∷ codes "delivered" ∷ codes "started ballot 1 packet 1" ∷ codes "delivered sent 2" ∷
@@ -110,7 +110,7 @@ broken_at_the_sheet = broken_file
     (codes "0.12,A-100,Payer,USD,2025-02-01T00:00:00Z,2025-01-01T00:00:00Z,Usage,,\"Cloud")
     (codes "\",Usage-Based,2025-01-10T02:00:00Z,2025-01-10T00:00:00Z,,,,,5400,Seconds,0.12,0.08,0.12,Sample Cloud Ltd,0.15,0.1,Standard,1.5,Hours,Sample Cloud,Sample Cloud,vm-1,Compute,Sample Compute,cpu,cpu-od,acc-7,\"{\"\"env\"\":\"\"prod\"\"}\"")
 
-the_issuer_breaks_the_headline : HoldsOfBytes 1 1 sheet_1 broken_issuer one_export (text_of sheet_1 broken_issuer) → ⊥
+the_issuer_breaks_the_headline : HoldsOfBytes 1 0 1 sheet_1 broken_issuer one_export (text_of sheet_1 broken_issuer) → ⊥
 unfolding days_from_civil day_count days_of_years days_of_months worth_of decimals_of digits
 the_issuer_breaks_the_headline h = some_bytes _ _ (h.agree 0 (lines_text broken_at_the_issuer) [] whole nothing)
   where
@@ -120,7 +120,7 @@ the_issuer_breaks_the_headline h = some_bytes _ _ (h.agree 0 (lines_text broken_
     nothing : Shows (text_of sheet_1 broken_issuer) 0 []
     nothing = record { before = told ++ codes "exported period 0 lines 4" ∷ take 2 broken_at_the_issuer; lines = []; after = drop 3 broken_at_the_issuer; whole = refl; is_text = refl; is_shown = refl }
 
-the_sheet_breaks_the_headline : HoldsOfBytes 1 1 broken_sheet issuer_1 one_export (text_of broken_sheet issuer_1) → ⊥
+the_sheet_breaks_the_headline : HoldsOfBytes 1 0 1 broken_sheet issuer_1 one_export (text_of broken_sheet issuer_1) → ⊥
 unfolding days_from_civil day_count days_of_years days_of_months worth_of decimals_of digits
 the_sheet_breaks_the_headline h = some_bytes _ _ (h.agree 0 (lines_text broken_at_the_sheet) [] whole nothing)
   where
@@ -134,7 +134,7 @@ the_sheet_breaks_the_headline h = some_bytes _ _ (h.agree 0 (lines_text broken_a
 
 -- the journals and the cuts of the worked transcript, whose second file corrects the first
 abbrev corrected_journals : Holding
-corrected_journals = (play (opening 1 1 sheet_1 issuer_1) (map event_of correction.events)).1.journals
+corrected_journals = (play (opening 1 0 1 sheet_1 issuer_1) (map event_of correction.events)).1.journals
 
 abbrev two_cuts : List Cut
 two_cuts = (1 ∷ []) ∷ (2 ∷ []) ∷ []

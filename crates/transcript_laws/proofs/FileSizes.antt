@@ -45,10 +45,10 @@ HasPackets-steps = record {
   restarts = λ w i n h found. packets_after w i (wake n.kept) None h;
 }
 
-pub few_batches : (nodes agents : ℕ) (sheet : Sheet) (issuer : Issuer) (events : List Event) → length (play (opening nodes agents sheet issuer) events).1.journals ≤ 1_000_000
-few_batches nodes agents sheet issuer events =
-    let room = (keeps_limits nodes agents sheet issuer events).room in
-    let each = (play_kept HasPackets HasPackets-steps events (opening nodes agents sheet issuer) (record { each = omega arith })).each in
+pub few_batches : (voters observers agents : ℕ) (sheet : Sheet) (issuer : Issuer) (events : List Event) → length (play (opening voters observers agents sheet issuer) events).1.journals ≤ 1_000_000
+few_batches voters observers agents sheet issuer events =
+    let room = (keeps_limits voters observers agents sheet issuer events).room in
+    let each = (play_kept HasPackets HasPackets-steps events (opening voters observers agents sheet issuer) (record { each = omega arith })).each in
     omega (arith, room, each)
 
 -- ---- records and rows

@@ -34,25 +34,25 @@ shown_in_front ms front rest whole e period shown it =
       is_shown = it.is_shown;
     }
 
-pub shown_when_torn : (nodes agents : ℕ) (sheet : Sheet) (issuer : Issuer) (events : List Event) → IsSheet sheet → IsIssuer issuer →
-    (front rest : List ℕ) → transcript (play (opening nodes agents sheet issuer) events).0 ≡ front ++ rest →
+pub shown_when_torn : (voters observers agents : ℕ) (sheet : Sheet) (issuer : Issuer) (events : List Event) → IsSheet sheet → IsIssuer issuer →
+    (front rest : List ℕ) → transcript (play (opening voters observers agents sheet issuer) events).0 ≡ front ++ rest →
     (period : ℕ) (shown : List ℕ) → Shows front period shown →
-    Shows (transcript (play (opening nodes agents sheet issuer) events).0) period shown
-shown_when_torn nodes agents sheet issuer events limits names front rest e period shown it =
-    let now = replies nodes agents sheet issuer events limits names in
-    let is = transcript_is now (export_is_shown nodes agents sheet issuer events limits names) in
+    Shows (transcript (play (opening voters observers agents sheet issuer) events).0) period shown
+shown_when_torn voters observers agents sheet issuer events limits names front rest e period shown it =
+    let now = replies voters observers agents sheet issuer events limits names in
+    let is = transcript_is now (export_is_shown voters observers agents sheet issuer events limits names) in
     subst (λ t. Shows t period shown) (sym is) (shown_in_front (transcript_lines now) front rest (lines_are_whole now) (sym is ∙ e) period shown it)
 
-pub text_goes_on : (nodes agents : ℕ) (sheet : Sheet) (issuer : Issuer) (events more : List Event) → (rest : List ℕ) ×
-    (transcript (play (opening nodes agents sheet issuer) (events ++ more)).0 ≡ transcript (play (opening nodes agents sheet issuer) events).0 ++ rest)
-text_goes_on nodes agents sheet issuer events more =
-    let w = opening nodes agents sheet issuer in
+pub text_goes_on : (voters observers agents : ℕ) (sheet : Sheet) (issuer : Issuer) (events more : List Event) → (rest : List ℕ) ×
+    (transcript (play (opening voters observers agents sheet issuer) (events ++ more)).0 ≡ transcript (play (opening voters observers agents sheet issuer) events).0 ++ rest)
+text_goes_on voters observers agents sheet issuer events more =
+    let w = opening voters observers agents sheet issuer in
     let later : List Reply = (play (play w events).1 more).0 in
     (transcript later, ap transcript (replies-append w events more) ∙ flat_map-append reply_text (play w events).0 later)
 
-pub still_shown : (nodes agents : ℕ) (sheet : Sheet) (issuer : Issuer) (events more : List Event) → IsSheet sheet → IsIssuer issuer →
-    (period : ℕ) (shown : List ℕ) → Shows (transcript (play (opening nodes agents sheet issuer) events).0) period shown →
-    Shows (transcript (play (opening nodes agents sheet issuer) (events ++ more)).0) period shown
-still_shown nodes agents sheet issuer events more limits names period shown it =
-    let goes_on = text_goes_on nodes agents sheet issuer events more in
-    shown_when_torn nodes agents sheet issuer (events ++ more) limits names (transcript (play (opening nodes agents sheet issuer) events).0) goes_on.0 goes_on.1 period shown it
+pub still_shown : (voters observers agents : ℕ) (sheet : Sheet) (issuer : Issuer) (events more : List Event) → IsSheet sheet → IsIssuer issuer →
+    (period : ℕ) (shown : List ℕ) → Shows (transcript (play (opening voters observers agents sheet issuer) events).0) period shown →
+    Shows (transcript (play (opening voters observers agents sheet issuer) (events ++ more)).0) period shown
+still_shown voters observers agents sheet issuer events more limits names period shown it =
+    let goes_on = text_goes_on voters observers agents sheet issuer events more in
+    shown_when_torn voters observers agents sheet issuer (events ++ more) limits names (transcript (play (opening voters observers agents sheet issuer) events).0) goes_on.0 goes_on.1 period shown it

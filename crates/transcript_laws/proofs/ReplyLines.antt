@@ -7,7 +7,7 @@ use Rattle.metering_model.specs.declared.BatchCode.{BatchCode}
 use Rattle.metering_model.specs.declared.BatchCode.TheVariants.{Head, Count, Fields, Time, Number, Text, Tags, TooLong}
 use Rattle.metering_model.specs.BatchReading.{lines_in}
 use Rattle.metering_model.specs.declared.Refusal.{Refusal}
-use Rattle.metering_model.specs.declared.Refusal.TheVariants.{BadBatch, WrongSeq, BadTarget, Unpriced, NoPacket, NoNode, NotClosed, Missing, AllClosed, NoBallot, WorldFull, NoAgent}
+use Rattle.metering_model.specs.declared.Refusal.TheVariants.{BadBatch, WrongSeq, BadTarget, Unpriced, NoPacket, NoNode, NotClosed, Missing, AllClosed, NoBallot, WorldFull, NoAgent, Observer}
 use Rattle.metering_model.specs.World.{Snapshot, Reply, Journaled, Delivered, Started, Restarted, Exported, Refused}
 use Rattle.metering_model.specs.Transcript.{line, with_number, code_text, refusal_text, if_any, file_of, reply_text, transcript, line_count}
 use Rattle.metering_model.specs.Schedule.{TextLines, lines_text}
@@ -95,6 +95,7 @@ refusal_lacks_feed AllClosed = refl
 refusal_lacks_feed NoBallot = refl
 refusal_lacks_feed WorldFull = refl
 refusal_lacks_feed NoAgent = refl
+refusal_lacks_feed Observer = refl
 
 sent_lacks_feed : (sent : Option ℕ) → lacks 10 (if_any (codes " sent ") sent) ≡ true
 sent_lacks_feed None = refl

@@ -25,7 +25,7 @@ abbrev events : List Event
 events = map event_of correction.events
 
 abbrev run : List Reply × World
-run = play (opening 1 1 sheet_1 issuer_1) events
+run = play (opening 1 0 1 sheet_1 issuer_1) events
 
 abbrev text : List ℕ
 text = transcript run.0
@@ -56,8 +56,8 @@ january_is_shown = record { before = told ++ codes "exported period 1 lines 2" �
 
 -- ---- by the headline these bytes are the only ones under their periods, and they add up
 
-holds : HoldsOfBytes 1 1 sheet_1 issuer_1 events text
-holds = holds_of_bytes 1 1 sheet_1 issuer_1 events sheet_1_is_a_sheet issuer_1_is_an_issuer
+holds : HoldsOfBytes 1 0 1 sheet_1 issuer_1 events text
+holds = holds_of_bytes 1 0 1 sheet_1 issuer_1 events sheet_1_is_a_sheet issuer_1_is_an_issuer
 
 no_other_january : (shown : List ℕ) → Shows text 0 shown → shown ≡ lines_text january
 no_other_january shown it = holds.agree 0 shown (lines_text january) it january_is_shown

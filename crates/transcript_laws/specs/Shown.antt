@@ -33,13 +33,13 @@ pub record Shows (text : List ℕ) (period : ℕ) (shown : List ℕ) : Type 0 wh
 
 -- The headline, of a text that is a transcript. All that is said of files is said of those that the text shows; how the
 -- text came to be is only told by `is_run` and `is_transcript`.
-pub record HoldsOfBytes (nodes agents : ℕ) (sheet : Sheet) (issuer : Issuer) (events : List Event) (text : List ℕ) : Type 0 where
+pub record HoldsOfBytes (voters observers agents : ℕ) (sheet : Sheet) (issuer : Issuer) (events : List Event) (text : List ℕ) : Type 0 where
   pub replies : List Reply
   pub world : World
   -- the text has the replies to these events, one behind the other, and nothing else
-  pub is_run : play (opening nodes agents sheet issuer) events ≡ (replies, world)
+  pub is_run : play (opening voters observers agents sheet issuer) events ≡ (replies, world)
   pub is_transcript : text ≡ transcript replies
-  pub headline : HoldsAfter nodes agents sheet issuer events replies world
+  pub headline : HoldsAfter voters observers agents sheet issuer events replies world
   -- one growing list of cuts, each chosen by a majority
   pub cuts : List Cut
   pub are_the_cuts : AreTheCuts world cuts

@@ -16,23 +16,23 @@ ghost use Rattle.transcript_laws.specs.Shown.{Shows, HoldsOfBytes};
 /// Whatever happens to a group, the files that its transcript shows agree, are those between neighbouring cuts, and add up.
 /// A line feed in a text of the sheet or of the issuer would end a line of a file: their readers take none.
 pub fn a_transcript_shows_one_file_a_period()
-    ensures { (nodes agents : ℕ) (sheet : Sheet) (issuer : Issuer) (events : List Event) → IsSheet sheet → IsIssuer issuer →
-        HoldsOfBytes nodes agents sheet issuer events (transcript (play (opening nodes agents sheet issuer) events).0) }
+    ensures { (voters observers agents : ℕ) (sheet : Sheet) (issuer : Issuer) (events : List Event) → IsSheet sheet → IsIssuer issuer →
+        HoldsOfBytes voters observers agents sheet issuer events (transcript (play (opening voters observers agents sheet issuer) events).0) }
 {}
 
 /// More events only add to a transcript: the text goes on from what it was, and shows each file that it showed. Of a transcript
 /// that was torn off at whichever byte, the whole lines show no file that the transcript does not show.
 pub fn a_longer_transcript_shows_the_same_files()
-    ensures goes_on { (nodes agents : ℕ) (sheet : Sheet) (issuer : Issuer) (events more : List Event) → (rest : List ℕ) ×
-        (transcript (play (opening nodes agents sheet issuer) (events ++ more)).0
-        ≡ transcript (play (opening nodes agents sheet issuer) events).0 ++ rest) }
-    ensures shows { (nodes agents : ℕ) (sheet : Sheet) (issuer : Issuer) (events more : List Event) → IsSheet sheet → IsIssuer issuer →
-        (period : ℕ) (shown : List ℕ) → Shows (transcript (play (opening nodes agents sheet issuer) events).0) period shown →
-        Shows (transcript (play (opening nodes agents sheet issuer) (events ++ more)).0) period shown }
-    ensures torn { (nodes agents : ℕ) (sheet : Sheet) (issuer : Issuer) (events : List Event) → IsSheet sheet → IsIssuer issuer →
-        (front rest : List ℕ) → transcript (play (opening nodes agents sheet issuer) events).0 ≡ front ++ rest →
+    ensures goes_on { (voters observers agents : ℕ) (sheet : Sheet) (issuer : Issuer) (events more : List Event) → (rest : List ℕ) ×
+        (transcript (play (opening voters observers agents sheet issuer) (events ++ more)).0
+        ≡ transcript (play (opening voters observers agents sheet issuer) events).0 ++ rest) }
+    ensures shows { (voters observers agents : ℕ) (sheet : Sheet) (issuer : Issuer) (events more : List Event) → IsSheet sheet → IsIssuer issuer →
+        (period : ℕ) (shown : List ℕ) → Shows (transcript (play (opening voters observers agents sheet issuer) events).0) period shown →
+        Shows (transcript (play (opening voters observers agents sheet issuer) (events ++ more)).0) period shown }
+    ensures torn { (voters observers agents : ℕ) (sheet : Sheet) (issuer : Issuer) (events : List Event) → IsSheet sheet → IsIssuer issuer →
+        (front rest : List ℕ) → transcript (play (opening voters observers agents sheet issuer) events).0 ≡ front ++ rest →
         (period : ℕ) (shown : List ℕ) → Shows front period shown →
-        Shows (transcript (play (opening nodes agents sheet issuer) events).0) period shown }
+        Shows (transcript (play (opening voters observers agents sheet issuer) events).0) period shown }
 {}
 
 /// Read as CSV, a line of fields gives just these fields, whatever bytes they have; so a row's line gives the row's fields.
