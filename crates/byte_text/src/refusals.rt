@@ -74,6 +74,7 @@ fn put_refusal(line: &mut Line, refusal: Refusal)
         Refusal::NoBallot => line.put(b"G10"),
         Refusal::WorldFull => line.put(b"G11"),
         Refusal::NoAgent => line.put(b"G12"),
+        Refusal::Observer => line.put(b"G13"),
     }
 }
 
