@@ -1,4 +1,3 @@
 pub mod Among
 mod KeptLemmas
 mod LastCut
-mod Sending

@@ -13,6 +13,6 @@ pub record Does (base i : ℕ) (packet : Packet) (old new : NodeAmong) (sends : 
   pub voters : new.voters ≡ old.voters
   pub agents : new.agents ≡ old.agents
 
--- whether a node of a group with its voters sends something when the packet comes
-pub record Answers (packet : Packet) (n : NodeAmong) (answers : Bool) : Type 0 where
-  pub sends : (w : World) (i : ℕ) → voter_count w ≡ n.voters → is_some (handled w i n.node packet).sends ≡ answers
+-- whether node i of a group with its voters sends something when the packet comes
+pub record Answers (i : ℕ) (packet : Packet) (n : NodeAmong) (answers : Bool) : Type 0 where
+  pub sends : (w : World) → voter_count w ≡ n.voters → is_some (handled w i n.node packet).sends ≡ answers

@@ -46,24 +46,24 @@ impl Node {
         Ok(())
     }
 
-    /// Whether the node would send something, if the packet came now. No memory is taken.
-    pub fn sends(&self, packet: &Packet) -> bool
+    /// Whether node i would send something, if the packet came now. No memory is taken.
+    pub fn sends(&self, i: u8, packet: &Packet) -> bool
         requires { IsPacketAmong self.now.voters self.now.agents (packet_of packet.now) }
-        ensures { Answers (packet_of packet.now) self.now result }
+        ensures { Answers i (packet_of packet.now) self.now result }
     {
         match packet {
             Packet::Batch(_) => false,
             Packet::Prepare { period, ballot } => {
-                self.has_learned(*period) || self.promises(*period, *ballot)
+                self.has_learned(*period) || (self.votes(i) && self.promises(*period, *ballot))
             }
             Packet::Promise {
                 from,
                 period,
                 ballot,
                 ..
-            } => self.proposes(*from, *period, *ballot),
+            } => self.votes(i) && self.proposes(*from, *period, *ballot),
             Packet::Accept { period, ballot, .. } => {
-                self.has_learned(*period) || self.accepts(*period, *ballot)
+                self.has_learned(*period) || (self.votes(i) && self.accepts(*period, *ballot))
             }
             Packet::Accepted { .. } => false,
             Packet::Decided { .. } => false,
@@ -97,7 +97,7 @@ impl Node {
                 period,
                 ballot,
                 vote,
-            } => Ok(sending(self.on_promise(alloc, base, *from, *period, *ballot, vote)?)),
+            } => Ok(sending(self.on_promise(alloc, i, base, *from, *period, *ballot, vote)?)),
             Packet::Accept {
                 period,
                 ballot,

@@ -128,10 +128,11 @@ impl Node {
         }
     }
 
-    /// A node promises a ballot, and tells its vote. What is to go out is made before the promise is counted.
+    /// A node promises a ballot to node i, and tells its vote. What is to go out is made before the promise is counted.
     pub(crate) fn on_promise(
         &mut self,
         alloc: Global,
+        i: u8,
         base: Month,
         from: u8,
         period: Period,
@@ -140,10 +141,10 @@ impl Node {
     ) -> Result<Option<Packet>, AllocError>
         requires base { IsBaseMonth base }
         requires from { from < self.old.voters }
-        ensures does { IfOk result (λ sends. (i : ℕ) → Does base i (Promise from period ballot vote.now) self.old self.new (option_map packet_of sends) None) }
+        ensures does { IfOk result (λ sends. Does base i (Promise from period ballot vote.now) self.old self.new (option_map packet_of sends) None) }
         ensures unchanged { OnErr result (self.new ≡ self.old) }
     {
-        if !self.awaits(period, ballot) {
+        if !self.votes(i) || !self.awaits(period, ballot) {
             return Ok(None);
         }
         let vote = share_vote(vote.as_ref())?;

@@ -41,7 +41,7 @@ impl Node {
         }
     }
 
-    /// A proposer asks node i for its promise.
+    /// A proposer asks node i for its promise. An observer makes none.
     pub(crate) fn on_prepare(
         &mut self,
         i: u8,
@@ -52,7 +52,7 @@ impl Node {
         ensures does { IfOk result (λ sends. (base : ℕ) → Does base i (Prepare period ballot) self.old self.new (option_map packet_of sends) None) }
         ensures unchanged { OnErr result (self.new ≡ self.old) }
     {
-        if !self.promises(period, ballot) {
+        if !self.votes(i) || !self.promises(period, ballot) {
             return self.decided(period);
         }
         let kept = &mut self.kept;
@@ -66,7 +66,7 @@ impl Node {
         }))
     }
 
-    /// A proposer asks node i to accept its cut.
+    /// A proposer asks node i to accept its cut. An observer does not.
     pub(crate) fn on_accept(
         &mut self,
         i: u8,
@@ -79,7 +79,7 @@ impl Node {
         ensures does { IfOk result (λ sends. (base : ℕ) → Does base i (Accept period ballot (arc_value cut.now)) self.old self.new (option_map packet_of sends) None) }
         ensures unchanged { OnErr result (self.new ≡ self.old) }
     {
-        if !self.accepts(period, ballot) {
+        if !self.votes(i) || !self.accepts(period, ballot) {
             return self.decided(period);
         }
         let vote = Vote {

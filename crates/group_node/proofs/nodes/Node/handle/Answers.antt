@@ -8,7 +8,7 @@ pub returns-in_ok-on_prepare-in-Prepare-clause-does : goal.returns-in_ok-on_prep
 returns-in_ok-on_prepare-in-Prepare-clause-does c = rw (c.in-Prepare.is, c.sending-in-Prepare.ensures) (c.in_ok-on_prepare-in-Prepare.ensures.does c.args.base)
 
 pub returns-in_ok-on_promise-in-Promise-clause-does : goal.returns-in_ok-on_promise-in-Promise-clause-does
-returns-in_ok-on_promise-in-Promise-clause-does c = rw (c.in-Promise.is, c.sending-in-Promise.ensures) (c.in_ok-on_promise-in-Promise.ensures.does c.args.i)
+returns-in_ok-on_promise-in-Promise-clause-does c = rw (c.in-Promise.is, c.sending-in-Promise.ensures) c.in_ok-on_promise-in-Promise.ensures.does
 
 pub returns-in_ok-on_accept-in-Accept-clause-does : goal.returns-in_ok-on_accept-in-Accept-clause-does
 returns-in_ok-on_accept-in-Accept-clause-does c = rw (c.in-Accept.is, c.sending-in-Accept.ensures) (c.in_ok-on_accept-in-Accept.ensures.does c.args.base)
