@@ -67,7 +67,9 @@ def schedule_in(text):
         raise Refused("L8 line 1")
     lines = Lines(text)
     lines.next("L1", ("SCHEDULE 1",))
-    nodes = lines.next("L2", ("nodes N", (1, 99)))[1]
+    nodes = lines.next("L2", ("nodes N", (1, 99)), ("nodes N observers N", (1, 98), (1, 98)))[1:]
+    if sum(nodes) > 99:
+        raise Refused(f"L2 line {lines.at}")
     agents = lines.next("L3", ("agents N", (1, 64)))[1]
     sheet = lines.section(lines.next("L4", ("sheet N", (1, 200_000)))[1])
     issuer = lines.section(lines.next("L5", ("issuer N", (1, 100)))[1])
@@ -75,7 +77,7 @@ def schedule_in(text):
     while not lines.is_over():
         event = lines.next("L6", *EVENTS)
         events.append((0, lines.section(event[1])) if event[0] == 0 else event)
-    return World(nodes, agents, tomllib.loads(sheet.decode()), tomllib.loads(issuer.decode())), events
+    return World(*nodes[:1], sum(nodes), agents, tomllib.loads(sheet.decode()), tomllib.loads(issuer.decode())), events
 
 
 def batch_in(text):
@@ -115,7 +117,8 @@ class Node:
 
 
 class World:
-    def __init__(self, nodes, agents, sheet, issuer):
+    def __init__(self, voters, nodes, agents, sheet, issuer):
+        self.voters = voters
         self.nodes, self.agents, self.issuer = [Node() for _ in range(nodes)], agents, issuer
         self.prices = [tuple(it[key] for key in PRICE) for it in sheet.get("price", [])]
         self.commitments = [tuple(it[key] for key in COMMITMENT) for it in sheet.get("commitment", [])]
@@ -189,10 +192,10 @@ class World:
             node.held.add(told)
             return None
         period, ballot, *told = told
-        majority = len(self.nodes) // 2 + 1
+        majority = self.voters // 2 + 1
         if kind in ("prepare", "accept") and period < len(node.learned):
             return ("decided", period, 0, node.learned[period])
-        if period != len(node.learned):
+        if period != len(node.learned) or (i >= self.voters and kind in ("prepare", "promise", "accept")):
             return None
         if kind == "prepare" and ballot > node.promised:
             node.promised = ballot
@@ -230,9 +233,11 @@ class World:
 
     def start(self, i):
         node = self.node(i)
+        if i >= self.voters:
+            raise Refused("G13")
         if len(node.learned) == MOST_PERIODS or node.round == MOST_ROUNDS:
             raise Refused("G9" if len(node.learned) == MOST_PERIODS else "G10")
-        ballot = (node.round + 1) * len(self.nodes) + i
+        ballot = (node.round + 1) * self.voters + i
         packet = self.send(("prepare", len(node.learned), ballot))
         node.round, node.attempt = node.round + 1, [ballot, {}, False]
         return f"started ballot {ballot} packet {packet}\n"
