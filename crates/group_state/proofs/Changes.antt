@@ -41,12 +41,11 @@ pub member_at : (voters agents i : ℕ) (ns : List NodeAmong) (n : NodeAmong) �
 member_at voters agents i ns n all low e = at_entry (IsMember voters agents) ns i n all (slice_get-get_or ns i n low ∙ ap Some (sym e))
 
 -- and it is a member of the world's group
-pub member_here : (w : World) (agents i : ℕ) (ns : List NodeAmong) (n : NodeAmong) → nodes_in ns ≡ w.nodes → agents ≡ w.agents → AreMembers agents ns → i < length ns → n ≡ get_or ns i n
+pub member_here : (w : World) (voters agents i : ℕ) (ns : List NodeAmong) (n : NodeAmong) → voters ≡ voter_count w → agents ≡ w.agents → AreMembers voters agents ns → i < length ns → n ≡ get_or ns i n
     → IsMember (voter_count w) w.agents n
-member_here w agents i ns n same stores are low e =
-    let is : IsMember (length ns) agents n = member_at (length ns) agents i ns n are.each low e in
-    let size : length (nodes_in ns) ≡ length ns = length-map ns (λ (m : NodeAmong). m.node) in
-    record { votes = is.votes ∙ (sym size ∙ ap length same); stores = is.stores ∙ stores }
+member_here w voters agents i ns n votes stores are low e =
+    let is : IsMember voters agents n = member_at voters agents i ns n are.each low e in
+    record { votes = is.votes ∙ votes; stores = is.stores ∙ stores }
 
 -- ---- journaling
 
@@ -112,22 +111,22 @@ module _ (w : World) (k i : ℕ) (q : Packet) (n : Node) (sent : slice_get w.pac
       by_sends h s = by_option h h.sends s refl
 
 -- the node that may answer is the one at the place
-pub sends_here : (w : World) (i : ℕ) (q : Packet) (n : NodeAmong) (answers : Bool) → n.voters ≡ voter_count w → Answers q n answers → is_some (handled w i n.node q).sends ≡ answers
-sends_here w i q n answers votes h = h.sends w i (sym votes)
+pub sends_here : (w : World) (i : ℕ) (q : Packet) (n : NodeAmong) (answers : Bool) → n.voters ≡ voter_count w → Answers i q n answers → is_some (handled w i n.node q).sends ≡ answers
+sends_here w i q n answers votes h = h.sends w (sym votes)
 
 -- what was handed over is what the step does
-pub delivered : (w : World) (agents base k i at : ℕ) (ns : List NodeAmong) (after : List Packet) (n m : NodeAmong) (r : Reply)
-    → nodes_in ns ≡ w.nodes → w.sheet.base ≡ base → agents ≡ w.agents → AreMembers agents ns → at ≡ i → i < length ns → n ≡ get_or ns i n → MayDeliver w k i
+pub delivered : (w : World) (voters agents base k i at : ℕ) (ns : List NodeAmong) (after : List Packet) (n m : NodeAmong) (r : Reply)
+    → nodes_in ns ≡ w.nodes → w.sheet.base ≡ base → voters ≡ voter_count w → agents ≡ w.agents → AreMembers voters agents ns → at ≡ i → i < length ns → n ≡ get_or ns i n → MayDeliver w k i
     → HandsOver base i k w.packets after n m r
     → ◌≡◌ {A = Outcome} (r, record w { packets = after; nodes = nodes_in (slice_set ns at m) }) (step w (Deliver k i))
-delivered w agents base k i at ns after n m r same month stores are place low e may h =
+delivered w voters agents base k i at ns after n m r same month votes stores are place low e may h =
     rw (h.tells, h.packets, place, map-set (λ (x : NodeAmong). x.node) ns i m, same) (by_sends h.sends refl)
   where
     found : slice_get w.nodes i ≡ Some n.node
     found = node_found w ns i n same low e
 
     member : IsMember (voter_count w) w.agents n
-    member = member_here w agents i ns n same stores are low e
+    member = member_here w voters agents i ns n votes stores are low e
 
     does : handled w i n.node h.packet ≡ record { node = m.node; sends = h.sends; learns = h.learns }
     does = h.does.handles w month (sym member.stores) (sym member.votes)
@@ -147,7 +146,7 @@ pub begun : (w : World) (i at period : ℕ) (ns : List NodeAmong) (after : List 
     → ◌≡◌ {A = Outcome} (r, record w { packets = after; nodes = nodes_in (slice_set ns at m) }) (step w (Start i))
 begun w i at period ns after n m r same votes place low e may h =
     rw (h.tells, h.packets, h.node, place, map-set (λ (x : NodeAmong). x.node) ns i (record { voters = n.voters; agents = n.agents; node = started_node n.voters (next_ballot i n) n.node }), same, votes, ← works.0)
-    (sym (ap (or_refused w) (starts w i n.node found (lt-ltb _ _ (omega (arith, works.0, works.1))) (lt-ltb _ _ works.2) (lt-ltb _ _ may.room))))
+    (sym (ap (or_refused w) (starts w i n.node found (lt-ltb _ _ may.votes) (lt-ltb _ _ (omega (arith, works.0, works.1))) (lt-ltb _ _ works.2) (lt-ltb _ _ may.room))))
   where
     found : slice_get w.nodes i ≡ Some n.node
     found = node_found w ns i n same low e
@@ -170,7 +169,9 @@ opening_nodes (suc count) voters agents = ap (λ xs. wake new_kept ∷ xs) (open
 -- what a member asks of a packet that was sent
 pub among_here : (w : World) (k : ℕ) (q : Packet) (n : NodeAmong) → IsReached w → slice_get w.packets k ≡ Some q → IsMember (voter_count w) w.agents n → IsPacketAmong n.voters n.agents q
 among_here w k q n h sent member =
-    let among : IsPacketAmong (voter_count w) w.agents q = packet_of_run (voter_count w) w.agents w k q (still_open w h).nodes_to (limits_here w h) sent in
+    let open_still = still_open w h in
+    let few : voter_count w ≤ 99 = omega (arith, open_still.nodes_to) in
+    let among : IsPacketAmong (voter_count w) w.agents q = packet_of_run (voter_count w) h.observers w.agents w k q few (limits_here w h) sent in
     subst (λ v. IsPacketAmong v n.agents q) (sym member.votes) (subst (λ a. IsPacketAmong (voter_count w) a q) (sym member.stores) among)
 
 -- what an export asks of a node that has every batch up to the cut that it learned

@@ -6,10 +6,10 @@ use Rattle.metering_model.specs.Holding.{placed, put}
 use Rattle.metering_model.specs.JournalRules.{next_seq, first_broken}
 use Rattle.metering_model.specs.declared.BrokenRule.TheVariants.{BadTarget as BreaksTarget, Unpriced as BreaksPrice}
 use Rattle.metering_model.specs.declared.Refusal.{Refusal}
-use Rattle.metering_model.specs.declared.Refusal.TheVariants.{NoPacket, NoNode, NoAgent, WrongSeq, BadTarget, Unpriced, AllClosed, NoBallot, WorldFull, NotClosed, Missing}
+use Rattle.metering_model.specs.declared.Refusal.TheVariants.{NoPacket, NoNode, NoAgent, WrongSeq, BadTarget, Unpriced, AllClosed, NoBallot, WorldFull, NotClosed, Missing, Observer}
 use Rattle.metering_model.specs.Ballot.{ballot_of}
 use Rattle.metering_model.specs.Cut.{Cut}
-use Rattle.metering_model.specs.World.{World, Node, Packet, CarriesBatch, Prepare, Journaled, Delivered, Started, Restarted, Exported, Refused, Export, Snapshot, voter_count, current_period, wake, with_node_at, with_packet}
+use Rattle.metering_model.specs.World.{World, Node, Packet, CarriesBatch, Prepare, Journaled, Delivered, Started, Restarted, Exported, Refused, Export, Snapshot, voter_count, votes, current_period, wake, with_node_at, with_packet}
 use Rattle.metering_model.specs.Deliveries.{handled}
 use Rattle.metering_model.specs.Step.{Outcome, on_batch, on_delivery, on_start, on_restart, started_node, snapshot, cut_before, first_missing, step}
 use Rattle.metering_model.specs.Holding.{up_to}
@@ -69,19 +69,22 @@ module _ (w : World) (i : ℕ) where
   nothing_starts e = rw e refl
 
   module _ (n : Node) (found : slice_get w.nodes i ≡ Some n) where
-    pub all_closed : nat_lt (current_period n) 1_200 ≡ false → on_start w i ≡ Err AllClosed
-    all_closed e = rw (found, e) refl
+    pub observer_starts_nothing : votes w i ≡ false → on_start w i ≡ Err Observer
+    observer_starts_nothing v = rw (found, v) refl
 
-    pub no_ballot : nat_lt (current_period n) 1_200 ≡ true → nat_lt n.kept.round 10_000 ≡ false → on_start w i ≡ Err NoBallot
-    no_ballot e f = rw (found, e, f) refl
+    pub all_closed : votes w i ≡ true → nat_lt (current_period n) 1_200 ≡ false → on_start w i ≡ Err AllClosed
+    all_closed v e = rw (found, v, e) refl
 
-    pub no_room_for_start : nat_lt (current_period n) 1_200 ≡ true → nat_lt n.kept.round 10_000 ≡ true → nat_lt (length w.packets) 1_000_000 ≡ false → on_start w i ≡ Err WorldFull
-    no_room_for_start e f g = rw (found, e, f, g) refl
+    pub no_ballot : votes w i ≡ true → nat_lt (current_period n) 1_200 ≡ true → nat_lt n.kept.round 10_000 ≡ false → on_start w i ≡ Err NoBallot
+    no_ballot v e f = rw (found, v, e, f) refl
 
-    pub starts : nat_lt (current_period n) 1_200 ≡ true → nat_lt n.kept.round 10_000 ≡ true → nat_lt (length w.packets) 1_000_000 ≡ true
+    pub no_room_for_start : votes w i ≡ true → nat_lt (current_period n) 1_200 ≡ true → nat_lt n.kept.round 10_000 ≡ true → nat_lt (length w.packets) 1_000_000 ≡ false → on_start w i ≡ Err WorldFull
+    no_room_for_start v e f g = rw (found, v, e, f, g) refl
+
+    pub starts : votes w i ≡ true → nat_lt (current_period n) 1_200 ≡ true → nat_lt n.kept.round 10_000 ≡ true → nat_lt (length w.packets) 1_000_000 ≡ true
         → on_start w i
         ≡ Ok (Started (ballot_of (n.kept.round + 1) i (voter_count w)) (length w.packets), with_packet (Prepare (current_period n) (ballot_of (n.kept.round + 1) i (voter_count w))) (with_node_at i (started_node (voter_count w) (ballot_of (n.kept.round + 1) i (voter_count w)) n) w))
-    starts e f g = rw (found, e, f, g) refl
+    starts v e f g = rw (found, v, e, f, g) refl
 
   -- ---- a node restarts
 

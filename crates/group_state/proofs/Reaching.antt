@@ -1,7 +1,7 @@
 -- What every reached world keeps, and what a step and a run do to what some run led to.
 use Rattle.std.proofs.Common.{ℕ, List, [], ◌∷◌, ◌++◌, refl, subst, ap, ◌∙◌}
 use Rattle.metering_model.specs.Sheet.{Sheet, Issuer}
-use Rattle.metering_model.specs.World.{World, Event, node_count, opening}
+use Rattle.metering_model.specs.World.{World, Event, voter_count, opening}
 use Rattle.metering_model.specs.Step.{step, play}
 use Rattle.metering_model.proofs.PlayLaws.{play-append}
 use Rattle.group_laws.specs.Headline.{HoldsAfter}
@@ -11,19 +11,20 @@ use Rattle.group_laws.proofs.Limits.{keeps_limits}
 use Rattle.group_state.specs.Reached.{MayOpen, IsReached}
 
 -- the world that a group is opened with is reached, by no event
-pub opening_reached : (nodes agents : ℕ) (sheet : Sheet) (issuer : Issuer) → MayOpen nodes agents sheet → IsReached (opening nodes agents sheet issuer)
-opening_reached nodes agents sheet issuer may = record { nodes = nodes; agents = agents; sheet = sheet; issuer = issuer; opened = may; events = []; leads = refl }
+pub opening_reached : (voters observers agents : ℕ) (sheet : Sheet) (issuer : Issuer) → MayOpen voters observers agents sheet → IsReached (opening voters observers agents sheet issuer)
+opening_reached voters observers agents sheet issuer may = record { voters = voters; observers = observers; agents = agents; sheet = sheet; issuer = issuer; opened = may; events = []; leads = refl }
 
 -- a run from a reached world leads to a reached one
 pub play_reached : (w : World) (es : List Event) → IsReached w → IsReached (play w es).1
 play_reached w es h = record {
-  nodes = h.nodes;
+  voters = h.voters;
+  observers = h.observers;
   agents = h.agents;
   sheet = h.sheet;
   issuer = h.issuer;
   opened = h.opened;
   events = h.events ++ es;
-  leads = play-append (opening h.nodes h.agents h.sheet h.issuer) h.events es ∙ ap (λ u. (play u es).1) h.leads;
+  leads = play-append (opening h.voters h.observers h.agents h.sheet h.issuer) h.events es ∙ ap (λ u. (play u es).1) h.leads;
 }
 
 -- and so does one step
@@ -31,24 +32,25 @@ pub step_reached : (w : World) (e : Event) → IsReached w → IsReached (step w
 step_reached w e h = play_reached w (e ∷ []) h
 
 -- the headline of the run that led here
-pub headline_here : (w : World) (h : IsReached w) → HoldsAfter h.nodes h.agents h.sheet h.issuer h.events (play (opening h.nodes h.agents h.sheet h.issuer) h.events).0 w
+pub headline_here : (w : World) (h : IsReached w) → HoldsAfter h.voters h.observers h.agents h.sheet h.issuer h.events (play (opening h.voters h.observers h.agents h.sheet h.issuer) h.events).0 w
 headline_here w h =
-    subst (λ u. HoldsAfter h.nodes h.agents h.sheet h.issuer h.events (play (opening h.nodes h.agents h.sheet h.issuer) h.events).0 u) h.leads
-    (holds_after h.nodes h.agents h.sheet h.issuer h.events)
+    subst (λ u. HoldsAfter h.voters h.observers h.agents h.sheet h.issuer h.events (play (opening h.voters h.observers h.agents h.sheet h.issuer) h.events).0 u) h.leads
+    (holds_after h.voters h.observers h.agents h.sheet h.issuer h.events)
 
 -- what the world has is in the ranges in which a group may be opened
-pub still_open : (w : World) → IsReached w → MayOpen (node_count w) w.agents w.sheet
+pub still_open : (w : World) (h : IsReached w) → MayOpen (voter_count w) h.observers w.agents w.sheet
 still_open w h =
     let all = headline_here w h in
-    rw (all.nodes_kept, all.agents_kept, all.sheet_kept) h.opened
+    rw (all.voters_kept, all.agents_kept, all.sheet_kept) h.opened
 
 -- the limits that every run keeps
-pub limits_here : (w : World) → IsReached w → KeepsLimits (node_count w) w.agents w
+pub limits_here : (w : World) (h : IsReached w) → KeepsLimits (voter_count w) h.observers w.agents w
 limits_here w h =
     let all = headline_here w h in
-    let limits : KeepsLimits h.nodes h.agents w = subst (KeepsLimits h.nodes h.agents) h.leads (keeps_limits h.nodes h.agents h.sheet h.issuer h.events) in
+    let limits : KeepsLimits h.voters h.observers h.agents w = subst (KeepsLimits h.voters h.observers h.agents) h.leads (keeps_limits h.voters h.observers h.agents h.sheet h.issuer h.events) in
     record {
-      nodes_kept = refl;
+      nodes_kept = rw limits.voters_kept limits.nodes_kept;
+      voters_kept = refl;
       agents_kept = refl;
       rules = limits.rules;
       in_range = limits.in_range;

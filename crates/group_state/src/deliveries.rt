@@ -69,7 +69,7 @@ impl GroupState {
         if self.has_room() {
             return None;
         }
-        if taker.sends(what) {
+        if taker.sends(node, what) {
             Some(Refusal::WorldFull)
         } else {
             None

@@ -47,13 +47,16 @@ impl GroupState {
     fn period_to_begin(&self, node: u8) -> Result<Period, Refusal>
         ensures { MatchResult result (λ period. MayBegin self.now node period) (λ refusal. on_start self.now node ≡ Err refusal) }
     {
-        let Some(node) = self.nodes.get(usize::from(node)) else {
+        let Some(starter) = self.nodes.get(usize::from(node)) else {
             return Err(Refusal::NoNode);
         };
-        let Some(period) = Period::new(node.current_period()) else {
+        if node >= self.voters {
+            return Err(Refusal::Observer);
+        }
+        let Some(period) = Period::new(starter.current_period()) else {
             return Err(Refusal::AllClosed);
         };
-        if node.round() >= MOST_ROUNDS {
+        if starter.round() >= MOST_ROUNDS {
             return Err(Refusal::NoBallot);
         }
         if self.packets.len() >= MOST_PACKETS {
@@ -62,7 +65,7 @@ impl GroupState {
         Ok(period)
     }
 
-    /// A node begins a ballot that no node has used before, and asks for promises.
+    /// A voter begins a ballot that no node has used before, and asks for promises.
     pub fn start(&mut self, node: u8) -> Result<Reply, AllocError>
         ensures ok { IfOk result (λ reply. (reply_of reply, self.new) ≡ step self.old (Start node)) }
         ensures err { OnErr result (self.new ≡ self.old) }

@@ -1,9 +1,9 @@
 //! The world as it stands.
 
-ghost use Rattle.std.specs.Prelude.{◌≡◌, ◌≤◌, IfOk, IfSome, length, nat_lt, replicate, slice_get};
+ghost use Rattle.std.specs.Prelude.{◌≡◌, ◌+◌, ◌≤◌, IfOk, IfSome, length, nat_lt, replicate, slice_get};
 ghost use Rattle.std.specs.Option.{option_copied, option_map};
 ghost use Rattle.std.specs.Arc.{arc_value};
-ghost use Rattle.metering_model.specs.World.{new_kept, opening, wake};
+ghost use Rattle.metering_model.specs.World.{new_kept, opening, voter_count, wake};
 ghost use Rattle.group_node.specs.Packets.{packet_of};
 ghost use Rattle.group_state.specs.Inner.Members.{IsMember};
 
@@ -18,13 +18,15 @@ use std::sync::Arc;
 pub(crate) const MOST_PACKETS: usize = 1_000_000;
 
 /// What a group is at one moment: the sheet and the issuer, the batches that were journaled, the packets that were ever
-/// sent, by number, and the nodes. Packets, journals and nodes share batches and cuts, and never copy one.
+/// sent, by number, and the nodes, of which the first vote. Packets, journals and nodes share batches and cuts, and never
+/// copy one.
 #[derive(Drop)]
 pub struct GroupState {
     pub(crate) sheet: Arc<Sheet>,
     pub(crate) issuer: Arc<Issuer>,
     pub(crate) journals: Store,
     pub(crate) packets: Vec<Packet>,
+    pub(crate) voters: u8,
     pub(crate) nodes: Vec<Node>,
 }
 
@@ -43,48 +45,51 @@ impl Model for GroupState {
       agents = s.journals.agents;
       journals = s.journals.batches;
       packets = map packet_of s.packets.items;
+      voters = s.voters;
       nodes = map (λ n. n.node) s.nodes.items;
     } };
 
-    ghost invariant = { λ s. AreMembers s.journals.agents s.nodes.items };
+    ghost invariant = { λ s. AreMembers s.voters s.journals.agents s.nodes.items };
 }
 
-/// So many nodes of a group with so many agents, which have begun nothing and hold nothing.
-fn new_nodes(alloc: Global, nodes: u8, agents: u8) -> Result<Vec<Node>, AllocError>
-    requires nodes_to { nodes ≤ 99 }
+/// So many nodes of a group with so many voters and agents, which have begun nothing and hold nothing.
+fn new_nodes(alloc: Global, nodes: u8, voters: u8, agents: u8) -> Result<Vec<Node>, AllocError>
+    requires voters_to { voters ≤ 99 }
     requires from { 1 ≤ agents }
     requires to { agents ≤ 64 }
-    ensures { IfOk result (λ made. made.items ≡ replicate nodes (record { voters = nodes; agents = agents; node = wake new_kept })) }
+    ensures { IfOk result (λ made. made.items ≡ replicate nodes (record { voters = voters; agents = agents; node = wake new_kept })) }
 {
     let mut made = Vec::with_capacity(alloc, usize::from(nodes))?;
     for _ in 0..nodes {
-        made.push(Node::new(alloc, nodes, agents)?)?;
+        made.push(Node::new(alloc, voters, agents)?)?;
     }
     Ok(made)
 }
 
 impl GroupState {
-    /// A group of so many nodes and agents, with empty journals, before any event.
+    /// A group of so many voters, observers and agents, with empty journals, before any event.
     pub fn new(
         alloc: Global,
-        nodes: u8,
+        voters: u8,
+        observers: u8,
         agents: u8,
         sheet: Arc<Sheet>,
         issuer: Arc<Issuer>,
     ) -> Result<GroupState, AllocError>
-        requires nodes_from { 1 ≤ nodes }
-        requires nodes_to { nodes ≤ 99 }
+        requires voters_from { 1 ≤ voters }
+        requires nodes_to { voters + observers ≤ 99 }
         requires agents_from { 1 ≤ agents }
         requires agents_to { agents ≤ 64 }
-        ensures { IfOk result (λ state. state ≡ opening nodes agents (arc_value sheet) (arc_value issuer)) }
+        ensures { IfOk result (λ state. state ≡ opening voters observers agents (arc_value sheet) (arc_value issuer)) }
     {
         let journals = Store::new(alloc, agents)?;
-        let made = new_nodes(alloc, nodes, agents)?;
+        let made = new_nodes(alloc, voters + observers, voters, agents)?;
         Ok(GroupState {
             sheet,
             issuer,
             journals,
             packets: Vec::new(alloc),
+            voters,
             nodes: made,
         })
     }
@@ -99,7 +104,7 @@ impl GroupState {
     /// The node of that number.
     pub(crate) fn node(&self, node: u8) -> Option<&Node>
         ensures node { option_map (λ n. n.node) (option_copied result) ≡ slice_get self.now.nodes node }
-        ensures member { IfSome result (λ n. IsMember (length self.now.nodes) self.now.agents n.now) }
+        ensures member { IfSome result (λ n. IsMember (voter_count self.now) self.now.agents n.now) }
     {
         self.nodes.get(usize::from(node))
     }

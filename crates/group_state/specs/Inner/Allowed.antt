@@ -7,7 +7,7 @@ use Rattle.metering_model.specs.Cut.{Cut, IsAtLeast}
 use Rattle.metering_model.specs.Holding.{put, up_to}
 use Rattle.metering_model.specs.JournalRules.{MeetsJournalRules}
 use Rattle.metering_model.specs.Sheet.{Sheet}
-use Rattle.metering_model.specs.World.{World, Node, Packet, CarriesBatch, Reply, Journaled, Delivered, current_period, with_packet}
+use Rattle.metering_model.specs.World.{World, Node, Packet, CarriesBatch, Reply, Journaled, Delivered, current_period, voter_count, with_packet}
 use Rattle.metering_model.specs.Deliveries.{handled}
 use Rattle.metering_model.specs.Step.{cut_before, first_missing, on_batch}
 use Rattle.group_node.specs.Nodes.{NodeAmong}
@@ -36,9 +36,10 @@ pub record HandsOver (base i k : ℕ) (before after : List Packet) (old new : No
   pub packets : after ≡ before ++ cons_option sends []
   pub tells : reply ≡ Delivered (option_map (λ q. length before) sends) learns
 
--- The node is there, works on that period, has a round left, and there is room for its packet.
+-- The node is there and votes, works on that period, has a round left, and there is room for its packet.
 pub record MayBegin (w : World) (i period : ℕ) : Type 0 where
   pub node : i < length w.nodes
+  pub votes : i < voter_count w
   pub works : (n : Node) → slice_get w.nodes i ≡ Some n → (current_period n ≡ period) × (period < 1_200) × (n.kept.round < 10_000)
   pub room : length w.packets < 1_000_000
 

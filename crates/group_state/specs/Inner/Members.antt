@@ -10,10 +10,12 @@ pub record IsMember (voters agents : ℕ) (n : NodeAmong) : Type 0 where
   pub votes : n.voters ≡ voters
   pub stores : n.agents ≡ agents
 
--- The nodes are at most 99, each knows how many they are, and has room for the batches of just these agents.
-pub record AreMembers (agents : ℕ) (nodes : List NodeAmong) : Type 0 where
+-- The nodes are at most 99, one at least votes, and each knows how many do, and has room for the batches of just these agents.
+pub record AreMembers (voters agents : ℕ) (nodes : List NodeAmong) : Type 0 where
   pub few : length nodes ≤ 99
-  pub each : All (IsMember (length nodes) agents) nodes
+  pub one_votes : 1 ≤ voters
+  pub are_nodes : voters ≤ length nodes
+  pub each : All (IsMember voters agents) nodes
 
 abbrev pub next_ballot : ℕ → NodeAmong → ℕ
 next_ballot i n = ballot_of (n.node.kept.round + 1) i n.voters

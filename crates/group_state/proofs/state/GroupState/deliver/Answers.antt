@@ -24,7 +24,7 @@ hand_over-requires-clause-packet c = λ q sent.
     let count = ap (λ (w : World). length w.nodes) c.self.view_is in
     let size = length-map c.self.inside.nodes.items (λ (n : NodeAmong). n.node) in
     let low : c.args.node < length c.self.inside.nodes.items = omega (arith, may.node, count, size) in
-    let member = member_here c.args.self.now _ c.args.node c.self.inside.nodes.items c.index_mut.result.now (ap (λ (w : World). w.nodes) c.self.view_is) (ap (λ (w : World). w.agents) c.self.view_is) c.self.invariant low (rw (← c.from.ensures) c.index_mut.ensures.value) in
+    let member = member_here c.args.self.now _ _ c.args.node c.self.inside.nodes.items c.index_mut.result.now (ap (λ (w : World). w.voters) c.self.view_is) (ap (λ (w : World). w.agents) c.self.view_is) c.self.invariant low (rw (← c.from.ensures) c.index_mut.ensures.value) in
     among_here c.args.self.now c.args.packet q c.index_mut.result.now c.requires.reached (ap (λ (w : World). slice_get w.packets c.args.packet) (sym c.self.view_is) ∙ sent) member
 
 pub returns-clause-ok : goal.returns-clause-ok
@@ -36,5 +36,5 @@ returns-clause-ok c =
     let here = subst (λ (w : World). MayDeliver w c.args.packet c.args.node) (sym c.self.view_is) may in
     let month = sym (c.base_month-base.ensures.value ∙ ap (λ (s : Sheet). s.base) c.deref.ensures) in
     rw (← c.self.view_is)
-    (delivered _ _ c.base_month-base.result c.args.packet c.args.node c.from.result c.self.inside.nodes.items (map packet_of c.hand_over.new.packets.items) c.index_mut.result.now c.hand_over.new.node (reply_of c.in_ok-reply.reply) refl month
-    refl c.self.invariant c.from.ensures low (rw (← c.from.ensures) c.index_mut.ensures.value) here c.in_ok-reply.ensures.ok)
+    (delivered _ _ _ c.base_month-base.result c.args.packet c.args.node c.from.result c.self.inside.nodes.items (map packet_of c.hand_over.new.packets.items) c.index_mut.result.now c.hand_over.new.node (reply_of c.in_ok-reply.reply) refl month
+    refl refl c.self.invariant c.from.ensures low (rw (← c.from.ensures) c.index_mut.ensures.value) here c.in_ok-reply.ensures.ok)

@@ -6,6 +6,6 @@ pub returns : goal.returns
 returns c =
     let j = c.in_ok-journals.ensures in
     let n = c.in_ok-made.ensures in
-    let e = ap nodes_in n ∙ opening_nodes c.args.nodes c.args.nodes c.args.agents in
+    let e = ap nodes_in n ∙ opening_nodes _ c.args.voters c.args.agents in
     let p = c.new-2.ensures.items in
     rw (j, e, p) refl
