@@ -6,7 +6,7 @@ use Rattle.metering_model.specs.Holding.{Holding, AgreeUpTo, IsPartOf}
 use Rattle.metering_model.specs.Rows.{rows}
 use Rattle.metering_model.specs.File.{file}
 use Rattle.metering_model.specs.Sheet.{Sheet, Issuer}
-use Rattle.metering_model.specs.World.{World, Node, Packet, Event, Snapshot, Exported, node_count, opening}
+use Rattle.metering_model.specs.World.{World, Node, Packet, Event, Snapshot, Exported, voter_count, opening}
 use Rattle.metering_model.specs.Deliveries.{handled}
 use Rattle.metering_model.specs.Step.{cut_before, play}
 use Rattle.metering_model.proofs.PlayLaws.{play-append}
@@ -94,20 +94,21 @@ module _ (w : World) (es : List Event) (h : IsReached w) where
   there = play_reached w es h
 
   -- the run that led here goes on
-  goes_on_here : (play (opening h.nodes h.agents h.sheet h.issuer) (h.events ++ es)).1 ≡ (play w es).1
-  goes_on_here = play-append (opening h.nodes h.agents h.sheet h.issuer) h.events es ∙ ap (λ s. (play s es).1) h.leads
+  goes_on_here : (play (opening h.voters h.observers h.agents h.sheet h.issuer) (h.events ++ es)).1 ≡ (play w es).1
+  goes_on_here = play-append (opening h.voters h.observers h.agents h.sheet h.issuer) h.events es ∙ ap (λ s. (play s es).1) h.leads
 
-  led_here : HoldsAfter h.nodes h.agents h.sheet h.issuer h.events (play (opening h.nodes h.agents h.sheet h.issuer) h.events).0 w
-  led_here = subst (HoldsAfter h.nodes h.agents h.sheet h.issuer h.events (play (opening h.nodes h.agents h.sheet h.issuer) h.events).0) h.leads
-      (holds_after h.nodes h.agents h.sheet h.issuer h.events)
+  led_here : HoldsAfter h.voters h.observers h.agents h.sheet h.issuer h.events (play (opening h.voters h.observers h.agents h.sheet h.issuer) h.events).0 w
+  led_here = subst (HoldsAfter h.voters h.observers h.agents h.sheet h.issuer h.events (play (opening h.voters h.observers h.agents h.sheet h.issuer) h.events).0) h.leads
+      (holds_after h.voters h.observers h.agents h.sheet h.issuer h.events)
 
-  led_there : HoldsAfter h.nodes h.agents h.sheet h.issuer (h.events ++ es) (play (opening h.nodes h.agents h.sheet h.issuer) (h.events ++ es)).0 (play w es).1
-  led_there = subst (HoldsAfter h.nodes h.agents h.sheet h.issuer (h.events ++ es) (play (opening h.nodes h.agents h.sheet h.issuer) (h.events ++ es)).0) goes_on_here
-      (holds_after h.nodes h.agents h.sheet h.issuer (h.events ++ es))
+  led_there : HoldsAfter h.voters h.observers h.agents h.sheet h.issuer (h.events ++ es) (play (opening h.voters h.observers h.agents h.sheet h.issuer) (h.events ++ es)).0 (play w es).1
+  led_there = subst (HoldsAfter h.voters h.observers h.agents h.sheet h.issuer (h.events ++ es) (play (opening h.voters h.observers h.agents h.sheet h.issuer) (h.events ++ es)).0) goes_on_here
+      (holds_after h.voters h.observers h.agents h.sheet h.issuer (h.events ++ es))
 
   pub same_group_in_run : IsSameGroup w (play w es).1
   same_group_in_run = record {
     nodes = led_there.nodes_kept ∙ sym led_here.nodes_kept;
+    voters = led_there.voters_kept ∙ sym led_here.voters_kept;
     agents = led_there.agents_kept ∙ sym led_here.agents_kept;
     sheet = led_there.sheet_kept ∙ sym led_here.sheet_kept;
     issuer = led_there.issuer_kept ∙ sym led_here.issuer_kept;
@@ -115,12 +116,12 @@ module _ (w : World) (es : List Event) (h : IsReached w) where
 
   pub grows_in_run : ListGrows w (play w es).1
   grows_in_run cuts later was is =
-      cuts_grow h.nodes h.agents h.sheet h.issuer h.events es cuts later (subst (λ s. AreTheCuts s cuts) (sym h.leads) was) (subst (λ s. AreTheCuts s later) (sym goes_on_here) is)
+      cuts_grow h.voters h.observers h.agents h.sheet h.issuer h.events es cuts later (subst (λ s. AreTheCuts s cuts) (sym h.leads) was) (subst (λ s. AreTheCuts s later) (sym goes_on_here) is)
 
   more_there : IsPartOf w.journals (play w es).1.journals
   more_there =
-      let begun : HasMore (node_count w) w.journals w = record { fitting = fitting_here w h; part = part_of_itself w.journals } in
-      (play_kept (HasMore (node_count w) w.journals) (HasMore-steps (node_count w) w.journals) es w begun).part
+      let begun : HasMore (voter_count w) w.journals w = record { fitting = fitting_here w h; part = part_of_itself w.journals } in
+      (play_kept (HasMore (voter_count w) w.journals) (HasMore-steps (voter_count w) w.journals) es w begun).part
 
   pub stay_in_run : ExportsStay w (play w es).1
   stay_in_run s e =
@@ -135,12 +136,12 @@ module _ (w : World) (es : List Event) (h : IsReached w) where
   pub exports_in_run : AreExportsOf (play w es).1 (play w es).0
   exports_in_run s has =
       let at = element_of (play w es).0 (Exported s) has in
-      let taken : IsTaken (node_count w) (play w es).1 s = all_taken (node_count w) es w (fitting_here w h) at.0 s at.1 in
+      let taken : IsTaken (voter_count w) (play w es).1 s = all_taken (voter_count w) es w (fitting_here w h) at.0 s at.1 in
       let u : World = (play w es).1 in
       record {
         cuts = the_cuts u (fitting_here u there);
         are_the_cuts = are_the_cuts u (fitting_here u there);
-        is_export = is_export u (fitting_here u there) s (subst (λ N. IsTaken N u s) (sym same_group_in_run.nodes) taken);
+        is_export = is_export u (fitting_here u there) s (subst (λ N. IsTaken N u s) (sym same_group_in_run.voters) taken);
       }
 
   pub agree_in_run : ExportsAgree (play w es).1 (play w es).0
@@ -153,7 +154,7 @@ module _ (w : World) (es : List Event) (h : IsReached w) where
   answers_in_run = record {
     one_each = one_each es w;
     asked = asked es w;
-    kept = kept (node_count w) es w (fitting_here w h);
+    kept = kept (voter_count w) es w (fitting_here w h);
     had = more_there;
-    only = only (node_count w) es w (fitting_here w h);
+    only = only (voter_count w) es w (fitting_here w h);
   }

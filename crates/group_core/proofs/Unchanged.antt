@@ -3,12 +3,12 @@ use Rattle.std.proofs.Common.{◌≡◌, ℕ, true, Option, Some, None, Result, 
 use Rattle.std.specs.Prelude.{◌==◌, slice_get}
 use Rattle.metering_model.specs.FirstFailure.{◌>>=◌, holds_or}
 use Rattle.metering_model.specs.declared.Refusal.{Refusal}
-use Rattle.metering_model.specs.declared.Refusal.TheVariants.{WrongSeq, NoPacket, NoNode, NoAgent, AllClosed, NoBallot}
+use Rattle.metering_model.specs.declared.Refusal.TheVariants.{WrongSeq, NoPacket, NoNode, NoAgent, AllClosed, NoBallot, Observer}
 use Rattle.metering_model.specs.Batch.{Batch}
 use Rattle.metering_model.specs.BatchReading.{batch_in}
 use Rattle.metering_model.specs.Holding.{placed, put}
 use Rattle.metering_model.specs.JournalRules.{next_seq, first_broken}
-use Rattle.metering_model.specs.World.{World, Packet, Offer, Good, Bad, Event, Journal, Deliver, Start, Restart, Export, Reply, Delivered, current_period, next_packet, with_node_at, with_packet}
+use Rattle.metering_model.specs.World.{World, Packet, Offer, Good, Bad, Event, Journal, Deliver, Start, Restart, Export, Reply, Delivered, votes, current_period, next_packet, with_node_at, with_packet}
 use Rattle.metering_model.specs.Deliveries.{Handled, handled}
 use Rattle.metering_model.specs.Step.{Outcome, on_batch, on_journal, on_delivery, on_start, on_restart, on_export, after_delivery, or_refused, or_bad_batch, unless_broken, snapshot, step}
 use Rattle.group_state.specs.Words.{is_exported, is_refused}
@@ -51,9 +51,10 @@ module _ (w : World) where
   start_leaves : (i : ℕ) → LeavesAsItWas w (on_start w i)
   start_leaves i =
       after_bind w (ok_or (slice_get w.nodes i) NoNode) _ (λ n.
+      after_bind w (holds_or (votes w i) Observer) _ (λ u.
       after_bind w (holds_or (nat_lt (current_period n) 1_200) AllClosed) _ (λ u.
       after_bind w (holds_or (nat_lt n.kept.round 10_000) NoBallot) _ (λ u.
-      after_bind w (next_packet w) _ (λ k. record { refused = λ is. absurd (cc); exported = λ is. absurd (cc) }))))
+      after_bind w (next_packet w) _ (λ k. record { refused = λ is. absurd (cc); exported = λ is. absurd (cc) })))))
 
   restart_leaves : (i : ℕ) → LeavesAsItWas w (on_restart w i)
   restart_leaves i = after_bind w (ok_or (slice_get w.nodes i) NoNode) _ (λ n. record { refused = λ is. absurd (cc); exported = λ is. absurd (cc) })

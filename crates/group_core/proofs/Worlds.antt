@@ -3,7 +3,7 @@ use Rattle.std.proofs.Common.{◌≡◌, ℕ, zero, suc, List, [], ◌∷◌, �
 use Rattle.std.specs.Prelude.{slice_get}
 use Rattle.std.proofs.lemmas.Option.{same_Some, none-some}
 use Rattle.metering_model.specs.Cut.{Cut}
-use Rattle.metering_model.specs.World.{World, Snapshot, node_count, opening}
+use Rattle.metering_model.specs.World.{World, Snapshot, voter_count, opening}
 use Rattle.group_laws.specs.Headline.{AtMostOneIsChosen, AreTheCuts, IsExport}
 use Rattle.group_laws.proofs.StepCases.{play_kept}
 use Rattle.group_laws.proofs.Fits.{IsFitting, IsFitting-steps, IsFitting-opening}
@@ -42,11 +42,11 @@ chosen_if_learned w cuts are = record {
 
 -- ---- what the run that led here keeps
 
-pub fitting_here : (w : World) → IsReached w → IsFitting (node_count w) w
+pub fitting_here : (w : World) → IsReached w → IsFitting (voter_count w) w
 fitting_here w h =
-    let begun : World = opening h.nodes h.agents h.sheet h.issuer in
-    let led : IsFitting h.nodes w = subst (IsFitting h.nodes) h.leads
-    (play_kept (IsFitting h.nodes) (IsFitting-steps h.nodes) h.events begun (IsFitting-opening h.nodes h.agents h.sheet h.issuer)) in
+    let begun : World = opening h.voters h.observers h.agents h.sheet h.issuer in
+    let led : IsFitting h.voters w = subst (IsFitting h.voters) h.leads
+    (play_kept (IsFitting h.voters) (IsFitting-steps h.voters) h.events begun (IsFitting-opening h.voters h.observers h.agents h.sheet h.issuer)) in
     subst (λ N. IsFitting N w) (sym led.told.kept.count) led
 
 module _ (w : World) (h : IsReached w) where

@@ -6,7 +6,7 @@ use Rattle.metering_model.specs.Batch.{Batch}
 use Rattle.metering_model.specs.Cut.{Cut}
 use Rattle.metering_model.specs.Holding.{IsPartOf, held}
 use Rattle.metering_model.specs.Chosen.{IsChosen}
-use Rattle.metering_model.specs.World.{World, Node, Offer, Event, Journal, Export, Snapshot, Reply, Journaled, Exported, node_count}
+use Rattle.metering_model.specs.World.{World, Node, Offer, Event, Journal, Export, Snapshot, Reply, Journaled, Exported, node_count, voter_count}
 use Rattle.metering_model.specs.Step.{batch_of}
 use Rattle.group_laws.specs.Headline.{IsPrefixOf, AreTheCuts, IsExport, AreChargedOnce}
 
@@ -45,6 +45,7 @@ pub record ExportsAgree (w : World) (replies : List Reply) : Type 0 where
 -- The later world is of the same group.
 pub record IsSameGroup (before after : World) : Type 0 where
   pub nodes : node_count after ≡ node_count before
+  pub voters : voter_count after ≡ voter_count before
   pub agents : after.agents ≡ before.agents
   pub sheet : after.sheet ≡ before.sheet
   pub issuer : after.issuer ≡ before.issuer

@@ -1,8 +1,8 @@
 //! A group, whose type keeps that some run leads to it.
 
-ghost use Rattle.std.specs.Prelude.{◌≡◌, ◌≤◌, true, IfOk, OnErr, [], ◌∷◌};
+ghost use Rattle.std.specs.Prelude.{◌≡◌, ℕ, ◌+◌, ◌≤◌, true, IfOk, OnErr, [], ◌∷◌};
 ghost use Rattle.std.specs.Arc.{arc_value};
-ghost use Rattle.metering_model.specs.World.{node_count, opening};
+ghost use Rattle.metering_model.specs.World.{opening, voter_count};
 ghost use Rattle.metering_model.specs.Step.{snapshot, step};
 ghost use Rattle.group_laws.specs.Headline.{AtMostOneIsChosen};
 ghost use Rattle.group_laws.specs.EveryRun.{KeepsLimits};
@@ -17,8 +17,8 @@ use std::alloc::{AllocError, Global};
 use std::marker::Model;
 use std::sync::Arc;
 
-/// A group: sheet, issuer, journals, the packets that were ever sent, and the nodes. It only comes from an opening world,
-/// by events: so what every run keeps is true of each world, without a look at its parts.
+/// A group: sheet, issuer, journals, the packets that were ever sent, and the nodes, voters and then observers. It only comes
+/// from an opening world, by events: so what every run keeps is true of each world, without a look at its parts.
 #[derive(Drop)]
 pub struct World {
     state: GroupState,
@@ -36,23 +36,24 @@ impl Model for World {
 }
 
 impl World {
-    /// A group of so many nodes and agents before any event: nothing is journaled, sent, held or learned.
+    /// A group of so many voters, observers and agents before any event: nothing is journaled, sent, held or learned.
     pub fn new(
         alloc: Global,
-        nodes: u8,
+        voters: u8,
+        observers: u8,
         agents: u8,
         sheet: Arc<Sheet>,
         issuer: Arc<Issuer>,
     ) -> Result<World, AllocError>
-        requires nodes_from { 1 ≤ nodes }
-        requires nodes_to { nodes ≤ 99 }
+        requires voters_from { 1 ≤ voters }
+        requires nodes_to { voters + observers ≤ 99 }
         requires agents_from { 1 ≤ agents }
         requires agents_to { agents ≤ 64 }
-        ensures { IfOk result (λ world. world ≡ opening nodes agents (arc_value sheet) (arc_value issuer)) }
+        ensures { IfOk result (λ world. world ≡ opening voters observers agents (arc_value sheet) (arc_value issuer)) }
     {
         // For the proof alone: its clause says that the month may be a base month.
         let _ = sheet.base_month();
-        let state = GroupState::new(alloc, nodes, agents, sheet, issuer)?;
+        let state = GroupState::new(alloc, voters, observers, agents, sheet, issuer)?;
         Ok(World { state })
     }
 
@@ -66,7 +67,7 @@ impl World {
 
     /// Packets, ballots, cuts and holdings keep the limits that every run keeps. The call does nothing.
     pub fn limits(&self)
-        ensures { KeepsLimits (node_count self.now) self.now.agents self.now }
+        ensures { (observers : ℕ) × KeepsLimits (voter_count self.now) observers self.now.agents self.now }
     {
         self.reached();
     }

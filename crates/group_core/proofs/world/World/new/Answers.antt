@@ -9,9 +9,9 @@ use Rattle.group_core.proofs.world.World.new.Goals as goal
 pub invariant_of-result : goal.invariant_of-result
 invariant_of-result c =
     subst IsReached (sym c.in_ok-state.ensures)
-    (opening_reached c.args.nodes c.args.agents (arc_value c.args.sheet) (arc_value c.args.issuer)
+    (opening_reached c.args.voters c.args.observers c.args.agents (arc_value c.args.sheet) (arc_value c.args.issuer)
     (record {
-      nodes_from = c.requires.nodes_from;
+      voters_from = c.requires.voters_from;
       nodes_to = c.requires.nodes_to;
       agents_from = c.requires.agents_from;
       agents_to = c.requires.agents_to;
