@@ -44,7 +44,7 @@ exported_of Restarted period is = absurd (cc)
 exported_of (Refused why) period is = absurd (cc)
 
 module _ (book : Book) (plan : Plan) (logs : List Log) (agree : Agree book plan logs)
-    (holds : HoldsAfter book.nodes book.agents book.sheet book.issuer (map (λ (e : Entry). e.event) book.history) (map (λ (e : Entry). e.reply) book.history) book.world) where
+    (holds : HoldsAfter book.voters book.observers book.agents book.sheet book.issuer (map (λ (e : Entry). e.event) book.history) (map (λ (e : Entry). e.reply) book.history) book.world) where
   reply_in : (t : Told) → IsToldIn logs t → IsReplyIn book.history t.reply
   reply_in t h =
       let own = (agree.each_log h.0 h.1 h.3).told in

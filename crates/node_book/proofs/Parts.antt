@@ -6,7 +6,7 @@ use Rattle.std.proofs.lemmas.List.{length-map}
 use Rattle.std.proofs.lemmas.Option.{same_Some, slice_get_within}
 use Rattle.metering_model.specs.World.{Event, Journal, offer_of, opening}
 use Rattle.metering_model.specs.History.{Entry}
-use Rattle.node_book.specs.Books.{Book, Log, Plan, opened}
+use Rattle.node_book.specs.Books.{Book, Log, Plan, node_total, opened}
 use Rattle.node_book.specs.Agreement.{told_to, events_by, worker_at, may_do, ExportsEach, IsLogAt, Agree}
 
 abbrev pub journal_of : List ℕ → Event
@@ -52,7 +52,7 @@ module _ (book : Book) (plan : Plan) (logs : List Log) (history : List Entry) (s
   abbrev pub AreAllowed : List Entry → Type 0
   AreAllowed h = (index : ℕ) (e : Entry) → slice_get h index ≡ Some e → may_do plan e.who e.event ≡ true
 
-  pub agree_of : opened book ≡ opening plan.nodes (length plan.journals) plan.sheet plan.issuer → length logs ≡ length plan.journals + plan.nodes → AreRight history → AreAllowed history → Agree book plan logs
+  pub agree_of : opened book ≡ opening plan.voters plan.observers (length plan.journals) plan.sheet plan.issuer → length logs ≡ length plan.journals + node_total plan → AreRight history → AreAllowed history → Agree book plan logs
   agree_of group count right allowed = record {
     opened_for = group;
     one_each = count;

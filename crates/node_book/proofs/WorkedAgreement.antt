@@ -33,10 +33,10 @@ module _ (text : List ℕ) (batches : Holding) where
       ∷ []
 
   abbrev book : Book
-  book = record { nodes = 1; agents = 1; sheet = sheet_0; issuer = issuer_1; history = history; world = opening 1 1 sheet_0 issuer_1 }
+  book = record { voters = 1; observers = 0; agents = 1; sheet = sheet_0; issuer = issuer_1; history = history; world = opening 1 0 1 sheet_0 issuer_1 }
 
   abbrev plan : Plan
-  plan = record { nodes = 1; sheet = sheet_0; issuer = issuer_1; journals = (text ∷ []) ∷ []; periods = 1 }
+  plan = record { voters = 1; observers = 0; sheet = sheet_0; issuer = issuer_1; journals = (text ∷ []) ∷ []; periods = 1 }
 
   abbrev told : ℕ → Reply → Told
   told index reply = record { index = index; reply = reply }

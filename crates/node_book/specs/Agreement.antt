@@ -4,7 +4,7 @@ use Rattle.metering_model.specs.declared.Worker.{Worker}
 use Rattle.metering_model.specs.declared.Worker.TheVariants.{Agent, Node}
 use Rattle.metering_model.specs.World.{Event, Journal, Deliver, Start, Restart, Export, Reply, Exported, offer_of, opening}
 use Rattle.metering_model.specs.History.{Entry}
-use Rattle.node_book.specs.Books.{Book, Told, Log, Plan, opened, file_in}
+use Rattle.node_book.specs.Books.{Book, Told, Log, Plan, node_total, opened, file_in}
 
 abbrev pub is_same_worker : Worker → Worker → Bool
 is_same_worker (Agent a) (Agent b) = a == b
@@ -37,10 +37,10 @@ is_event_of_node i (Start node) = node == i
 is_event_of_node i (Restart node) = false
 is_event_of_node i (Export node period) = node == i
 
--- the worker is one of the plan's; a node delivers, starts and exports at itself, and does nothing else
+-- the worker is one of the plan's; a node, voter or observer, delivers, starts and exports at itself, and does nothing else
 abbrev pub may_do : Plan → Worker → Event → Bool
 may_do plan (Agent a) event = nat_le 1 a && nat_le a (length plan.journals)
-may_do plan (Node i) event = nat_lt i plan.nodes && is_event_of_node i event
+may_do plan (Node i) event = nat_lt i (node_total plan) && is_event_of_node i event
 
 abbrev pub is_export_of : ℕ → Reply → Bool
 is_export_of period (Exported s) = s.period == period
@@ -60,8 +60,8 @@ pub record IsLogAt (plan : Plan) (history : List Entry) (place : ℕ) (log : Log
 
 -- The book was opened for the plan's group. There is a log of each worker, and each entry is of one of them.
 pub record Agree (book : Book) (plan : Plan) (logs : List Log) : Type 0 where
-  pub opened_for : opened book ≡ opening plan.nodes (length plan.journals) plan.sheet plan.issuer
-  pub one_each : length logs ≡ length plan.journals + plan.nodes
+  pub opened_for : opened book ≡ opening plan.voters plan.observers (length plan.journals) plan.sheet plan.issuer
+  pub one_each : length logs ≡ length plan.journals + node_total plan
   pub each_log : (place : ℕ) (log : Log) → slice_get logs place ≡ Some log → IsLogAt plan book.history place log
   pub each_entry : (index : ℕ) (e : Entry) → slice_get book.history index ≡ Some e → may_do plan e.who e.event ≡ true
 

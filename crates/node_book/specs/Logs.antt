@@ -10,7 +10,8 @@ log_of l = record { who = l.who; told = l.done.items }
 
 abbrev pub plan_of : KeptPlan → Plan
 plan_of p = record {
-  nodes = p.nodes;
+  voters = p.voters;
+  observers = p.observers;
   sheet = arc_value p.sheet;
   issuer = arc_value p.issuer;
   journals = map (λ texts. map (λ text. text.items) texts.items) p.journals.items;

@@ -4,7 +4,7 @@ ghost use Rattle.std.specs.Prelude.{◌≡◌, ◌↔◌, ℕ, ◌+◌, length, 
 ghost use Rattle.metering_model.specs.World.{Journal, offer_of, opening};
 ghost use Rattle.metering_model.specs.History.{Entry as ModelEntry};
 ghost use Rattle.group_core.specs.Words.{event_of, offer_of as kept_offer_of, reply_of};
-ghost use Rattle.node_book.specs.Books.{Log as ModelLog, opened};
+ghost use Rattle.node_book.specs.Books.{Log as ModelLog, node_total, opened};
 ghost use Rattle.node_book.specs.Kept.{entry_of};
 ghost use Rattle.node_book.specs.Logs.{log_of, plan_of};
 ghost use Rattle.node_book.specs.Agreement.{Agree, ExportsEach, FilesAgree, IsLogAt, events_by, is_event_of_node, is_same_worker, may_do, told_to, worker_at};
@@ -123,7 +123,7 @@ fn may_do(plan: &Plan, who: Worker, event: &Event) -> bool
 {
     match who {
         Worker::Agent(a) => 1 <= a && usize::from(a) <= plan.journals.len(),
-        Worker::Node(i) => i < plan.nodes && is_event_of_node(i, event),
+        Worker::Node(i) => usize::from(i) < plan.nodes() && is_event_of_node(i, event),
     }
 }
 
@@ -172,19 +172,21 @@ fn are_right(history: &[Entry], plan: &Plan, logs: &[Log]) -> bool
 
 /// Whether there are as many logs as the plan has workers.
 fn is_one_each(plan: &Plan, logs: &[Log]) -> bool
-    ensures { IsTrue result ↔ (length logs.now ≡ length plan.now.journals.items + plan.now.nodes) }
+    ensures { IsTrue result ↔ (length logs.now ≡ length plan.now.journals.items + node_total (plan_of plan.now)) }
 {
     let agents = plan.journals.len();
-    agents <= logs.len() && logs.len() - agents == usize::from(plan.nodes)
+    agents <= logs.len() && logs.len() - agents == plan.nodes()
 }
 
 impl Book {
     /// Whether the book was opened for the plan's group.
     fn is_opened_for(&self, plan: &Plan) -> bool
         ensures { IsTrue result ↔ (opened self.now
-            ≡ opening (plan_of plan.now).nodes (length (plan_of plan.now).journals) (plan_of plan.now).sheet (plan_of plan.now).issuer) }
+            ≡ opening (plan_of plan.now).voters (plan_of plan.now).observers (length (plan_of plan.now).journals)
+                (plan_of plan.now).sheet (plan_of plan.now).issuer) }
     {
-        self.nodes == plan.nodes
+        self.voters == plan.voters
+            && self.observers == plan.observers
             && usize::from(self.agents) == plan.journals.len()
             && self.sheet.same(&plan.sheet)
             && self.issuer.same(&plan.issuer)

@@ -1,6 +1,6 @@
 //! A group, and the history that led it where it is.
 
-ghost use Rattle.std.specs.Prelude.{◌≡◌, ◌≤◌, ◌++◌, ◌∷◌, [], length, map, true, IfOk, OnErr};
+ghost use Rattle.std.specs.Prelude.{◌≡◌, ◌+◌, ◌≤◌, ◌++◌, ◌∷◌, [], length, map, true, IfOk, OnErr};
 ghost use Rattle.std.specs.Arc.{arc_value};
 ghost use Rattle.metering_model.specs.World.{opening};
 ghost use Rattle.metering_model.specs.Step.{step};
@@ -21,7 +21,8 @@ use std::sync::Arc;
 /// made it, and it leads to the world that the book holds.
 #[derive(Drop)]
 pub struct Book {
-    pub(crate) nodes: u8,
+    pub(crate) voters: u8,
+    pub(crate) observers: u8,
     pub(crate) agents: u8,
     pub(crate) sheet: Arc<Sheet>,
     pub(crate) issuer: Arc<Issuer>,
@@ -40,7 +41,8 @@ impl Model for Book {
     ghost Value = { model.Book };
 
     ghost view = { λ b. record {
-      nodes = b.nodes;
+      voters = b.voters;
+      observers = b.observers;
       agents = b.agents;
       sheet = arc_value b.sheet;
       issuer = arc_value b.issuer;
@@ -48,36 +50,39 @@ impl Model for Book {
       world = b.world;
     } };
 
-    ghost invariant = { λ b. IsLegal (opening b.nodes b.agents (arc_value b.sheet) (arc_value b.issuer)) (map entry_of b.history.items) b.world };
+    ghost invariant = { λ b. IsLegal (opening b.voters b.observers b.agents (arc_value b.sheet) (arc_value b.issuer)) (map entry_of b.history.items) b.world };
 }
 
 impl Book {
-    /// A book of so many nodes and agents, in which nothing was done yet.
+    /// A book of so many voters, observers and agents, in which nothing was done yet.
     pub fn new(
         alloc: Global,
-        nodes: u8,
+        voters: u8,
+        observers: u8,
         agents: u8,
         sheet: Arc<Sheet>,
         issuer: Arc<Issuer>,
     ) -> Result<Book, AllocError>
-        requires nodes_from { 1 ≤ nodes }
-        requires nodes_to { nodes ≤ 99 }
+        requires voters_from { 1 ≤ voters }
+        requires nodes_to { voters + observers ≤ 99 }
         requires agents_from { 1 ≤ agents }
         requires agents_to { agents ≤ 64 }
         ensures { IfOk result (λ book. book ≡ record {
-          nodes = nodes;
+          voters = voters;
+          observers = observers;
           agents = agents;
           sheet = arc_value sheet;
           issuer = arc_value issuer;
           history = [];
-          world = opening nodes agents (arc_value sheet) (arc_value issuer);
+          world = opening voters observers agents (arc_value sheet) (arc_value issuer);
         }) }
     {
         let kept_sheet = Arc::try_clone(&sheet)?;
         let kept_issuer = Arc::try_clone(&issuer)?;
-        let world = World::new(alloc, nodes, agents, sheet, issuer)?;
+        let world = World::new(alloc, voters, observers, agents, sheet, issuer)?;
         Ok(Book {
-            nodes,
+            voters,
+            observers,
             agents,
             sheet: kept_sheet,
             issuer: kept_issuer,
@@ -96,7 +101,7 @@ impl Book {
     /// The history is legal, so the headline holds of its replies, whoever was answered. The call does nothing.
     pub fn legal(&self)
         ensures history { IsLegal (opened self.now) self.now.history self.now.world }
-        ensures headline { HoldsAfter self.now.nodes self.now.agents self.now.sheet self.now.issuer
+        ensures headline { HoldsAfter self.now.voters self.now.observers self.now.agents self.now.sheet self.now.issuer
             (map (λ e. e.event) self.now.history) (map (λ e. e.reply) self.now.history) self.now.world }
     {
         // For the proof alone: with the field comes what the type keeps of it.

@@ -1,16 +1,30 @@
 //! What a group is to do.
 
+ghost use Rattle.std.specs.Prelude.{◌≡◌};
+ghost use Rattle.node_book.specs.Books.{node_total};
+ghost use Rattle.node_book.specs.Logs.{plan_of};
+
 use group_core::{Issuer, Sheet};
 use std::sync::Arc;
 
-/// What a group is to do: how many nodes it has, its sheet and its issuer, the texts of each agent's batches in order, how
-/// many periods each node is to export, and how often a gate is asked before a node goes on.
+/// What a group is to do: how many of its nodes vote and how many only observe, its sheet and its issuer, the texts of each
+/// agent's batches in order, how many periods each node is to export, and how often a gate is asked before a node goes on.
 #[derive(Drop)]
 pub struct Plan {
-    pub nodes: u8,
+    pub voters: u8,
+    pub observers: u8,
     pub sheet: Arc<Sheet>,
     pub issuer: Arc<Issuer>,
     pub journals: Vec<Vec<Vec<u8>>>,
     pub periods: u16,
     pub turns: u32,
+}
+
+impl Plan {
+    /// How many nodes the group has: the voters, and the observers behind them.
+    pub fn nodes(&self) -> usize
+        ensures { result ≡ node_total (plan_of self.now) }
+    {
+        usize::from(self.voters) + usize::from(self.observers)
+    }
 }

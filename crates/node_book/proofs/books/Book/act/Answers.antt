@@ -25,7 +25,7 @@ pub invariant_of-self-2 : goal.invariant_of-self-2
 invariant_of-self-2 c =
     let b = c.self.inside in
     rw (c.push_reserved.ensures.items, c.in_ok-reserve.ensures.items, map-append)
-    (legal_more (opening b.nodes b.agents (arc_value b.sheet) (arc_value b.issuer)) b.world c.step.new.self (map entry_of b.history.items)
+    (legal_more (opening b.voters b.observers b.agents (arc_value b.sheet) (arc_value b.issuer)) b.world c.step.new.self (map entry_of b.history.items)
     (record { who = c.args.who; event = event_of c.args.event; reply = reply_of c.in_ok-reply.reply }) c.self.invariant c.in_ok-reply.ensures.ok)
 
 abbrev written : Worker → Event → List Entry → Reply → List Entry

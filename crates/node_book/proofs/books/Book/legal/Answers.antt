@@ -9,5 +9,5 @@ use Rattle.node_book.proofs.books.Book.legal.Goals as goal
 pub returns-clause-headline : goal.returns-clause-headline
 returns-clause-headline c =
     let b = c.self.inside in
-    subst (λ (x : Book). HoldsAfter x.nodes x.agents x.sheet x.issuer (map (λ (e : Entry). e.event) x.history) (map (λ (e : Entry). e.reply) x.history) x.world) c.self.view_is
-    (c.runs.ensures.histories b.nodes b.agents (arc_value b.sheet) (arc_value b.issuer) (map entry_of b.history.items) b.world c.self.invariant)
+    subst (λ (x : Book). HoldsAfter x.voters x.observers x.agents x.sheet x.issuer (map (λ (e : Entry). e.event) x.history) (map (λ (e : Entry). e.reply) x.history) x.world) c.self.view_is
+    (c.runs.ensures.histories b.voters b.observers b.agents (arc_value b.sheet) (arc_value b.issuer) (map entry_of b.history.items) b.world c.self.invariant)
