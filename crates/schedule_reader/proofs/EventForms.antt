@@ -22,14 +22,14 @@ use Rattle.schedule_reader.proofs.LineForms.{line_read, number_read, section_rea
 
 -- ---- two numbers
 
-parted : (t : List ℕ) (i : ℕ) → i < length t → get_or t i 0 ≡ 32 → t ≡ take i t ++ 32 ∷ drop (i + 1) t
+pub parted : (t : List ℕ) (i : ℕ) → i < length t → get_or t i 0 ≡ 32 → t ≡ take i t ++ 32 ∷ drop (i + 1) t
 parted [] i less is = absurd (omega arith)
 parted (c ∷ cs) zero less is = ap (λ x. x ∷ cs) is
 parted (c ∷ cs) (suc i) less is =
     let next : suc i + 1 ≡ suc (i + 1) = omega arith in
     ap (λ t. c ∷ t) (parted cs i (omega arith) is) ∙ ap (λ n. c ∷ (take i cs ++ 32 ∷ drop n (c ∷ cs))) (sym next)
 
-both_read : (o p : Option ℕ) (m n : ℕ) → both o p ≡ Some (m, n) → (o ≡ Some m) × (p ≡ Some n)
+pub both_read : (o p : Option ℕ) (m n : ℕ) → both o p ≡ Some (m, n) → (o ≡ Some m) × (p ≡ Some n)
 both_read (Some a) (Some b) m n h = (ap (λ x. Some x.0) (same_Some _ _ h), ap (λ x. Some x.1) (same_Some _ _ h))
 both_read (Some a) None m n h = absurd (none-some _ h)
 both_read None p m n h = absurd (none-some _ h)

@@ -5,5 +5,6 @@ pub mod ScheduleForms
 pub mod EventLoop
 pub mod WrittenLines
 pub mod WrittenEvents
+pub mod NodeLines
 pub mod WrittenSchedules
 pub mod WorkedFaults

@@ -1,11 +1,11 @@
 -- A text that is read as a schedule is the text of one.
-use Rattle.std.proofs.Common.{◌≡◌, ℕ, ◌<◌, ◌≤◌, ◌^◌, true, List, ◌++◌, length, Ok, codes, refl, sym, ap, ap₂, ◌∙◌, subst, arith, leb-true, append_assoc}
+use Rattle.std.proofs.Common.{◌≡◌, ℕ, ◌+◌, ◌<◌, ◌≤◌, ◌^◌, true, List, ◌++◌, length, Ok, codes, refl, sym, ap, ap₂, ◌∙◌, subst, arith, leb-true, append_assoc}
 use Rattle.std.specs.Prelude.{nat_le}
 use Rattle.std.specs.List.{flat_map}
 use Rattle.std.specs.Str.{is_utf8}
 use Rattle.std.proofs.lemmas.List.{length-append}
 use Rattle.metering_model.specs.BatchReading.{is_same}
-use Rattle.metering_model.specs.Schedule.{TextLines, AreLines, Planned, planned_text, lines_text, section_text}
+use Rattle.metering_model.specs.Schedule.{TextLines, AreLines, Planned, planned_text, nodes_text, lines_text, section_text}
 use Rattle.metering_model.specs.Sheet as model
 use Rattle.metering_model.specs.Transcript.{line, with_number}
 use Rattle.metering_model.proofs.FieldLaws.{same_read}
@@ -13,13 +13,14 @@ use Rattle.metering_model.proofs.StepLaws.{step_ok, some_step, test_step, ok_sam
 use Rattle.price_sheet.specs.SheetReading.{sheet_of_text}
 use Rattle.sheet_text.specs.IssuerReading.{issuer_of_text}
 use Rattle.input_sections.specs.declared.faults.ScheduleCode.{ScheduleCode}
-use Rattle.input_sections.specs.declared.faults.ScheduleCode.TheVariants.{Head, Nodes, Agents, Sheet, Issuer, TooLong}
+use Rattle.input_sections.specs.declared.faults.ScheduleCode.TheVariants.{Head, Agents, Sheet, Issuer, TooLong}
 use Rattle.input_sections.specs.declared.faults.ScheduleFault.TheVariants.{Refused}
 use Rattle.input_sections.specs.Sections.{Unread, left, whole_of, first_line, number_behind, section_in, read_as, sheet_section, issuer_section}
-use Rattle.schedule_reader.specs.Schedules.{ReadSchedule, head_line, number_line, group_in, events_in, schedule_in}
+use Rattle.schedule_reader.specs.Schedules.{ReadSchedule, head_line, nodes_line, number_line, group_in, events_in, schedule_in}
 use Rattle.schedule_reader.specs.Forms.{IsReadOf, IsRead}
 use Rattle.schedule_reader.proofs.LineForms.{line_read, number_read, section_read, reader_took}
 use Rattle.schedule_reader.proofs.EventForms.{events_read}
+use Rattle.schedule_reader.proofs.NodeLines.{nodes_line_read}
 
 whole_read : (text : List ℕ) (u : Unread) → whole_of text ≡ Ok u → (left u ≡ text) × (length text ≤ 16_777_216)
 whole_read text u h =
@@ -96,25 +97,25 @@ joined_left : (a b c d : List ℕ) → a ++ (b ++ (c ++ d)) ≡ a ++ b ++ c ++ d
 joined_left a b c d = sym (append_assoc a b (c ++ d)) ∙ sym (append_assoc (a ++ b) c d)
 
 -- What stands in front of the sheet.
-record IsGroupAt (text : List ℕ) (r : ℕ × ℕ × Unread) : Type 0 where
-  pub front : text ≡ line (codes "SCHEDULE 1") ++ line (with_number (codes "nodes ") r.0) ++ line (with_number (codes "agents ") r.1) ++ left r.2
+record IsGroupAt (text : List ℕ) (r : ℕ × ℕ × ℕ × Unread) : Type 0 where
+  pub front : text ≡ line (codes "SCHEDULE 1") ++ line (nodes_text r.0 r.1) ++ line (with_number (codes "agents ") r.2) ++ left r.3
   pub short : length text ≤ 16_777_216
-  pub nodes : (1 ≤ r.0) × (r.0 ≤ 99)
-  pub agents : (1 ≤ r.1) × (r.1 ≤ 64)
-  pub behind : length (left r.2) ≤ length text
+  pub nodes : (1 ≤ r.0) × (r.0 + r.1 ≤ 99)
+  pub agents : (1 ≤ r.2) × (r.2 ≤ 64)
+  pub behind : length (left r.3) ≤ length text
 
-group_of_lines : (text : List ℕ) (u v : Unread) (nodes agents : ℕ × Unread)
-    → whole_of text ≡ Ok u → head_line u ≡ Ok v → number_line Nodes (codes "nodes ") 99 v ≡ Ok nodes → number_line Agents (codes "agents ") 64 nodes.1 ≡ Ok agents
-    → IsGroupAt text (nodes.0, agents.0, agents.1)
+group_of_lines : (text : List ℕ) (u v : Unread) (nodes : ℕ × ℕ × Unread) (agents : ℕ × Unread)
+    → whole_of text ≡ Ok u → head_line u ≡ Ok v → nodes_line v ≡ Ok nodes → number_line Agents (codes "agents ") 64 nodes.2 ≡ Ok agents
+    → IsGroupAt text (nodes.0, nodes.1, agents.0, agents.1)
 group_of_lines text u v nodes agents whole head nodes_are agents_are =
     let is_text = whole_read text u whole in
     let is_head = head_read u v head in
-    let is_nodes = number_line_read Nodes (codes "nodes ") 99 v nodes (omega arith) nodes_are in
-    let is_agents = number_line_read Agents (codes "agents ") 64 nodes.1 agents (omega arith) agents_are in
+    let is_nodes = nodes_line_read v nodes nodes_are in
+    let is_agents = number_line_read Agents (codes "agents ") 64 nodes.2 agents (omega arith) agents_are in
     record {
       front = sym is_text.0 ∙ is_head ∙ ap (λ t. line (codes "SCHEDULE 1") ++ t)
-          (is_nodes.0 ∙ ap (λ t. line (with_number (codes "nodes ") nodes.0) ++ t) is_agents.0)
-          ∙ joined_left (line (codes "SCHEDULE 1")) (line (with_number (codes "nodes ") nodes.0)) (line (with_number (codes "agents ") agents.0)) (left agents.1);
+          (is_nodes.0 ∙ ap (λ t. line (nodes_text nodes.0 nodes.1) ++ t) is_agents.0)
+          ∙ joined_left (line (codes "SCHEDULE 1")) (line (nodes_text nodes.0 nodes.1)) (line (with_number (codes "agents ") agents.0)) (left agents.1);
       short = is_text.1;
       nodes = (is_nodes.1, is_nodes.2);
       agents = (is_agents.1, is_agents.2);
@@ -122,37 +123,37 @@ group_of_lines text u v nodes agents whole head nodes_are agents_are =
         arith,
         ap length is_text.0,
         shorter (left u) (line (codes "SCHEDULE 1")) (left v) is_head,
-        shorter (left v) (line (with_number (codes "nodes ") nodes.0)) (left nodes.1) is_nodes.0,
-        shorter (left nodes.1) (line (with_number (codes "agents ") agents.0)) (left agents.1) is_agents.0,
+        shorter (left v) (line (nodes_text nodes.0 nodes.1)) (left nodes.2) is_nodes.0,
+        shorter (left nodes.2) (line (with_number (codes "agents ") agents.0)) (left agents.1) is_agents.0,
       );
     }
 
-group_read : (text : List ℕ) (r : ℕ × ℕ × Unread) → group_in text ≡ Ok r → IsGroupAt text r
+group_read : (text : List ℕ) (r : ℕ × ℕ × ℕ × Unread) → group_in text ≡ Ok r → IsGroupAt text r
 unfolding group_in
 group_read text r h =
     let whole = step_ok (whole_of text) _ r h in
     let head = step_ok (head_line whole.0) _ r whole.2 in
-    let nodes = step_ok (number_line Nodes (codes "nodes ") 99 head.0) _ r head.2 in
-    let agents = step_ok (number_line Agents (codes "agents ") 64 nodes.0.1) _ r nodes.2 in
+    let nodes = step_ok (nodes_line head.0) _ r head.2 in
+    let agents = step_ok (number_line Agents (codes "agents ") 64 nodes.0.2) _ r nodes.2 in
     subst (IsGroupAt text) (ok_same _ _ agents.2) (group_of_lines text whole.0 head.0 nodes.0 agents.0 whole.1 head.1 nodes.1 agents.1)
 
-schedule_of_parts : (text : List ℕ) (group : ℕ × ℕ × Unread) (sheet : model.Sheet × Unread) (issuer : model.Issuer × Unread) (events : List Planned) (sheet_lines issuer_lines : TextLines)
-    → IsGroupAt text group → IsSheetAt group.2 sheet sheet_lines → IsIssuerAt sheet.1 issuer issuer_lines → events_in (length text) issuer.1 ≡ Ok events
-    → IsReadOf text (record { nodes = group.0; agents = group.1; sheet = sheet.0; issuer = issuer.0; events = events })
-    (record { nodes = group.0; agents = group.1; sheet = sheet_lines; issuer = issuer_lines; events = events })
+schedule_of_parts : (text : List ℕ) (group : ℕ × ℕ × ℕ × Unread) (sheet : model.Sheet × Unread) (issuer : model.Issuer × Unread) (events : List Planned) (sheet_lines issuer_lines : TextLines)
+    → IsGroupAt text group → IsSheetAt group.3 sheet sheet_lines → IsIssuerAt sheet.1 issuer issuer_lines → events_in (length text) issuer.1 ≡ Ok events
+    → IsReadOf text (record { voters = group.0; observers = group.1; agents = group.2; sheet = sheet.0; issuer = issuer.0; events = events })
+    (record { voters = group.0; observers = group.1; agents = group.2; sheet = sheet_lines; issuer = issuer_lines; events = events })
 schedule_of_parts text group sheet issuer events sheet_lines issuer_lines is_group is_sheet is_issuer are =
     let short : length (left issuer.1) ≤ length text = omega (
       arith,
       is_group.behind,
-      shorter (left group.2) (section_text (codes "sheet ") sheet_lines) (left sheet.1) is_sheet.front,
+      shorter (left group.3) (section_text (codes "sheet ") sheet_lines) (left sheet.1) is_sheet.front,
       shorter (left sheet.1) (section_text (codes "issuer ") issuer_lines) (left issuer.1) is_issuer.front,
     ) in
     let are_events = events_read (length text) issuer.1 events short are in
     let joined =
-    is_group.front ∙ ap (λ t. line (codes "SCHEDULE 1") ++ line (with_number (codes "nodes ") group.0) ++ line (with_number (codes "agents ") group.1) ++ t)
+    is_group.front ∙ ap (λ t. line (codes "SCHEDULE 1") ++ line (nodes_text group.0 group.1) ++ line (with_number (codes "agents ") group.2) ++ t)
     (is_sheet.front ∙ ap (λ t. section_text (codes "sheet ") sheet_lines ++ t)
     (is_issuer.front ∙ ap (λ t. section_text (codes "issuer ") issuer_lines ++ t) are_events.0))
-    ∙ joined_left (line (codes "SCHEDULE 1") ++ line (with_number (codes "nodes ") group.0) ++ line (with_number (codes "agents ") group.1))
+    ∙ joined_left (line (codes "SCHEDULE 1") ++ line (nodes_text group.0 group.1) ++ line (with_number (codes "agents ") group.2))
     (section_text (codes "sheet ") sheet_lines) (section_text (codes "issuer ") issuer_lines) (flat_map planned_text events) in
     record {
       form = record {
@@ -164,7 +165,8 @@ schedule_of_parts text group sheet issuer events sheet_lines issuer_lines is_gro
         issuer = is_issuer.are;
         events = are_events.1;
       };
-      nodes = refl;
+      voters = refl;
+      observers = refl;
       agents = refl;
       sheet_utf8 = is_sheet.utf8;
       sheet = is_sheet.sheet;
@@ -178,21 +180,21 @@ pub schedule_read : (text : List ℕ) (r : ReadSchedule) → schedule_in text �
 unfolding schedule_in
 schedule_read text r h =
     let group = step_ok (group_in text) _ r h in
-    let sheet = step_ok (sheet_section group.0.2) _ r group.2 in
+    let sheet = step_ok (sheet_section group.0.3) _ r group.2 in
     let issuer = step_ok (issuer_section sheet.0.1) _ r sheet.2 in
     let events = step_ok (events_in (length text) issuer.0.1) _ r issuer.2 in
-    let is_sheet = sheet_read group.0.2 sheet.0 sheet.1 in
+    let is_sheet = sheet_read group.0.3 sheet.0 sheet.1 in
     let is_issuer = issuer_read sheet.0.1 issuer.0 issuer.1 in
     let is = schedule_of_parts text group.0 sheet.0 issuer.0 events.0 is_sheet.0 is_issuer.0 (group_read text group.0 group.1) is_sheet.1 is_issuer.1 events.1 in
     subst (IsRead text) (ok_same _ _ events.2) (_, is)
 
 -- where each part is read, so is the whole
-pub schedule_taken : (text : List ℕ) (nodes agents : ℕ) (u v w : Unread) (sheet : model.Sheet) (issuer : model.Issuer) (events : List Planned)
-    → group_in text ≡ Ok (nodes, agents, u) → sheet_section u ≡ Ok (sheet, v) → issuer_section v ≡ Ok (issuer, w) → events_in (length text) w ≡ Ok events
-    → schedule_in text ≡ Ok (record { nodes = nodes; agents = agents; sheet = sheet; issuer = issuer; events = events })
+pub schedule_taken : (text : List ℕ) (voters observers agents : ℕ) (u v w : Unread) (sheet : model.Sheet) (issuer : model.Issuer) (events : List Planned)
+    → group_in text ≡ Ok (voters, observers, agents, u) → sheet_section u ≡ Ok (sheet, v) → issuer_section v ≡ Ok (issuer, w) → events_in (length text) w ≡ Ok events
+    → schedule_in text ≡ Ok (record { voters = voters; observers = observers; agents = agents; sheet = sheet; issuer = issuer; events = events })
 unfolding schedule_in
-schedule_taken text nodes agents u v w sheet issuer events group sheet_is issuer_is events_are =
-    ok_step_from (group_in text) _ (nodes, agents, u) _ group
+schedule_taken text voters observers agents u v w sheet issuer events group sheet_is issuer_is events_are =
+    ok_step_from (group_in text) _ (voters, observers, agents, u) _ group
     (ok_step_from (sheet_section u) _ (sheet, v) _ sheet_is
     (ok_step_from (issuer_section v) _ (issuer, w) _ issuer_is
     (ok_step_from (events_in (length text) w) _ events _ events_are refl)))

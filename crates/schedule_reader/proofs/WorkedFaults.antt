@@ -7,7 +7,7 @@ use Rattle.metering_model.specs.Schedule.{lines_text}
 use Rattle.input_sections.specs.declared.faults.ScheduleCode.TheVariants.{Nodes, Issuer, TooLong}
 use Rattle.input_sections.specs.declared.faults.ScheduleFault.TheVariants.{Refused}
 use Rattle.input_sections.specs.Sections.{Unread, whole_of, section_in, issuer_section}
-use Rattle.schedule_reader.specs.Schedules.{group_in, head_line, number_line, schedule_in}
+use Rattle.schedule_reader.specs.Schedules.{group_in, head_line, nodes_line, schedule_in}
 
 -- ---- a text that is too long
 
@@ -31,7 +31,7 @@ too_long text long = failed (group_in text) _ _ (group_too_long text long)
 -- ---- no node
 
 no_node : schedule_in (lines_text (codes "SCHEDULE 1" ∷ codes "nodes 0" ∷ [])) ≡ Err (Refused Nodes 2)
-unfolding schedule_in group_in head_line number_line
+unfolding schedule_in group_in head_line nodes_line
 no_node = refl
 
 -- ---- no issuer

@@ -4,7 +4,7 @@ use Rattle.metering_model.specs.Schedule.{PlansDelivery, PlansStart, PlansRestar
 use Rattle.input_sections.specs.declared.faults.ScheduleCode.TheVariants.{Head, Nodes, Agents, Sheet, Event, Lines}
 use Rattle.input_sections.specs.declared.faults.ScheduleFault.TheVariants.{Refused}
 use Rattle.input_sections.specs.Sections.{Unread, section_in, sheet_section}
-use Rattle.schedule_reader.specs.Schedules.{event_of_line, event_in, journal_event, line_event, events_in, group_in, head_line, number_line, schedule_in}
+use Rattle.schedule_reader.specs.Schedules.{nodes_behind, event_of_line, event_in, journal_event, line_event, events_in, group_in, head_line, nodes_line, number_line, schedule_in}
 
 a_delivery : event_of_line (codes "deliver 12 3") ≡ Some (PlansDelivery 12 3)
 a_delivery = refl
@@ -58,6 +58,41 @@ no_line_feed : events_in 40 (record { text = codes "start 3"; from = 0; line = 7
 unfolding events_in event_in line_event journal_event section_in
 no_line_feed = refl
 
+-- ---- the line of the nodes
+
+all_vote : nodes_behind (codes "nodes 99") ≡ Some (99, 0)
+all_vote = refl
+
+one_observes : nodes_behind (codes "nodes 98 observers 1") ≡ Some (98, 1)
+one_observes = refl
+
+all_but_one_observe : nodes_behind (codes "nodes 1 observers 98") ≡ Some (1, 98)
+all_but_one_observe = refl
+
+too_many_together : nodes_behind (codes "nodes 50 observers 50") ≡ None
+too_many_together = refl
+
+one_more_than_all : nodes_behind (codes "nodes 99 observers 1") ≡ None
+one_more_than_all = refl
+
+one_observer_more_than_all : nodes_behind (codes "nodes 1 observers 99") ≡ None
+one_observer_more_than_all = refl
+
+nobody_votes : nodes_behind (codes "nodes 0 observers 1") ≡ None
+nobody_votes = refl
+
+told_of_no_observer : nodes_behind (codes "nodes 1 observers 0") ≡ None
+told_of_no_observer = refl
+
+an_observer_too_long : nodes_behind (codes "nodes 1 observers 01") ≡ None
+an_observer_too_long = refl
+
+a_space_too_many : nodes_behind (codes "nodes 1  observers 1") ≡ None
+a_space_too_many = refl
+
+no_number_of_observers : nodes_behind (codes "nodes 1 observers") ≡ None
+no_number_of_observers = refl
+
 -- ---- the head of a schedule
 
 no_text : schedule_in [] ≡ Err (Refused Head 1)
@@ -65,21 +100,21 @@ unfolding schedule_in group_in head_line
 no_text = refl
 
 no_nodes : schedule_in (lines_text (codes "SCHEDULE 1" ∷ [])) ≡ Err (Refused Nodes 2)
-unfolding schedule_in group_in head_line number_line
+unfolding schedule_in group_in head_line nodes_line
 no_nodes = refl
 
 too_many_nodes : schedule_in (lines_text (codes "SCHEDULE 1" ∷ codes "nodes 100" ∷ [])) ≡ Err (Refused Nodes 2)
-unfolding schedule_in group_in head_line number_line
+unfolding schedule_in group_in head_line nodes_line
 too_many_nodes = refl
 
 no_agent : schedule_in (lines_text (codes "SCHEDULE 1" ∷ codes "nodes 99" ∷ codes "agents 0" ∷ [])) ≡ Err (Refused Agents 3)
-unfolding schedule_in group_in head_line number_line
+unfolding schedule_in group_in head_line nodes_line number_line
 no_agent = refl
 
 no_sheet : schedule_in (lines_text (codes "SCHEDULE 1" ∷ codes "nodes 1" ∷ codes "agents 64" ∷ [])) ≡ Err (Refused Sheet 4)
-unfolding schedule_in group_in head_line number_line sheet_section section_in
+unfolding schedule_in group_in head_line nodes_line number_line sheet_section section_in
 no_sheet = refl
 
 sheet_cut_short : schedule_in (lines_text (codes "SCHEDULE 1" ∷ codes "nodes 1" ∷ codes "agents 1" ∷ codes "sheet 2" ∷ codes "base" ∷ [])) ≡ Err (Refused Lines 4)
-unfolding schedule_in group_in head_line number_line sheet_section section_in
+unfolding schedule_in group_in head_line nodes_line number_line sheet_section section_in
 sheet_cut_short = refl

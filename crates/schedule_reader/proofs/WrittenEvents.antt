@@ -29,7 +29,7 @@ use Rattle.schedule_reader.proofs.EventLoop.{nonempty}
 digit_no_space : (c : ℕ) → is_digit c ≡ true → not (c == 32) ≡ true
 digit_no_space c h = grind (arith, nat_tests)
 
-number_lacks_space : (n : ℕ) → n < 10 ^ 64 → lacks 32 (decimal n) ≡ true
+pub number_lacks_space : (n : ℕ) → n < 10 ^ 64 → lacks 32 (decimal n) ≡ true
 number_lacks_space n small = list_all_weaker is_digit (λ c. not (c == 32)) digit_no_space (decimal n) (decimal_bytes n small)
 
 space_place : (s t : List ℕ) → lacks 32 s ≡ true → position_or_len (λ (c : ℕ). c == 32) (s ++ 32 ∷ t) ≡ length s
@@ -39,7 +39,7 @@ space_place (c ∷ cs) t h =
     let later = space_place cs t parts.1 in
     cond-true (not (c == 32)) _ 0 parts.0 ∙ omega (arith, later)
 
-space_found : (s t : List ℕ) → lacks 32 s ≡ true → position (λ (c : ℕ). c == 32) (s ++ 32 ∷ t) ≡ Some (length s)
+pub space_found : (s t : List ℕ) → lacks 32 s ≡ true → position (λ (c : ℕ). c == 32) (s ++ 32 ∷ t) ≡ Some (length s)
 space_found s t h =
     let place = space_place s t h in
     let within : position_or_len (λ (c : ℕ). c == 32) (s ++ 32 ∷ t) < length (s ++ 32 ∷ t) = omega (arith, place, length-append s (32 ∷ t)) in

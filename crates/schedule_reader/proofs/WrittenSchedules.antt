@@ -1,26 +1,27 @@
 -- The text of a schedule, of which sheet and issuer are read, is read as it.
-use Rattle.std.proofs.Common.{◌≡◌, ℕ, ◌<◌, ◌≤◌, ◌^◌, true, List, ◌++◌, length, Ok, codes, refl, ap, ◌∙◌, arith, le-leb, append_assoc}
+use Rattle.std.proofs.Common.{◌≡◌, ℕ, ◌+◌, ◌<◌, ◌≤◌, ◌^◌, true, List, ◌++◌, length, Ok, codes, refl, ap, ◌∙◌, arith, le-leb, append_assoc}
 use Rattle.std.specs.Prelude.{nat_le}
 use Rattle.std.specs.List.{flat_map}
 use Rattle.std.specs.Str.{is_utf8}
 use Rattle.std.proofs.lemmas.List.{length-append}
 use Rattle.std.proofs.lemmas.Str.{IsUtf8-from_is_utf8}
 use Rattle.metering_model.specs.Batch.{lacks}
-use Rattle.metering_model.specs.Schedule.{Schedule, TextLines, AreLines, planned_text, lines_text, section_text}
+use Rattle.metering_model.specs.Schedule.{Schedule, TextLines, AreLines, planned_text, nodes_text, lines_text, section_text}
 use Rattle.metering_model.specs.Sheet as model
 use Rattle.metering_model.specs.Transcript.{line, with_number}
 use Rattle.metering_model.proofs.StepLaws.{ok_step_from, some_step_from, test_step_from}
 use Rattle.price_sheet.specs.SheetReading.{sheet_of_text}
 use Rattle.sheet_text.specs.IssuerReading.{issuer_of_text}
 use Rattle.input_sections.specs.declared.faults.ScheduleCode.{ScheduleCode}
-use Rattle.input_sections.specs.declared.faults.ScheduleCode.TheVariants.{Head, Nodes, Agents, Sheet, Issuer, TooLong}
+use Rattle.input_sections.specs.declared.faults.ScheduleCode.TheVariants.{Head, Agents, Sheet, Issuer, TooLong}
 use Rattle.input_sections.specs.declared.faults.ScheduleFault.TheVariants.{Refused}
 use Rattle.input_sections.specs.Sections.{Unread, left, whole_of, first_line, number_behind, section_in, read_as, sheet_section, issuer_section}
 use Rattle.input_sections.proofs.ReadLaws.{read_well}
-use Rattle.schedule_reader.specs.Schedules.{ReadSchedule, head_line, number_line, group_in, schedule_in}
+use Rattle.schedule_reader.specs.Schedules.{ReadSchedule, head_line, nodes_line, number_line, group_in, schedule_in}
 use Rattle.schedule_reader.specs.Forms.{IsReadOf, IsRead}
 use Rattle.schedule_reader.proofs.WrittenLines.{line_written, number_written, number_lacks_feed, section_written}
 use Rattle.schedule_reader.proofs.WrittenEvents.{events_written}
+use Rattle.schedule_reader.proofs.NodeLines.{nodes_line_written}
 use Rattle.schedule_reader.proofs.ScheduleForms.{schedule_taken}
 
 -- ---- the lines at the head
@@ -47,20 +48,20 @@ number_line_written code word most u n rest h small some below stands =
       next.2,
     )
 
-group_written : (text : List ℕ) (nodes agents : ℕ) (rest : List ℕ) → length text ≤ 16_777_216 → (1 ≤ nodes) × (nodes ≤ 99) → (1 ≤ agents) × (agents ≤ 64)
-    → text ≡ line (codes "SCHEDULE 1") ++ (line (with_number (codes "nodes ") nodes) ++ (line (with_number (codes "agents ") agents) ++ rest))
-    → (v : Unread) × (group_in text ≡ Ok (nodes, agents, v)) × (left v ≡ rest)
+group_written : (text : List ℕ) (voters observers agents : ℕ) (rest : List ℕ) → length text ≤ 16_777_216 → (1 ≤ voters) × (voters + observers ≤ 99) → (1 ≤ agents) × (agents ≤ 64)
+    → text ≡ line (codes "SCHEDULE 1") ++ (line (nodes_text voters observers) ++ (line (with_number (codes "agents ") agents) ++ rest))
+    → (v : Unread) × (group_in text ≡ Ok (voters, observers, agents, v)) × (left v ≡ rest)
 unfolding group_in
-group_written text nodes agents rest short nodes_in agents_in joined =
+group_written text voters observers agents rest short nodes_in agents_in joined =
     let whole : Unread = record { text = text; from = 0; line = 1 } in
     let taken : whole_of text ≡ Ok whole = test_step_from (nat_le (length text) 16_777_216) (Refused TooLong 1) _ _ (le-leb (length text) 16_777_216 short) refl in
     let head = head_written whole _ joined in
-    let node = number_line_written Nodes (codes "nodes ") 99 head.0 nodes _ refl (omega arith) nodes_in.0 nodes_in.1 head.2 in
+    let node = nodes_line_written head.0 voters observers _ nodes_in.0 nodes_in.1 head.2 in
     let agent = number_line_written Agents (codes "agents ") 64 node.0 agents rest refl (omega arith) agents_in.0 agents_in.1 node.2 in (
       agent.0,
       ok_step_from (whole_of text) _ whole _ taken
           (ok_step_from (head_line whole) _ head.0 _ head.1
-          (ok_step_from (number_line Nodes (codes "nodes ") 99 head.0) _ (nodes, node.0) _ node.1
+          (ok_step_from (nodes_line head.0) _ (voters, observers, node.0) _ node.1
           (ok_step_from (number_line Agents (codes "agents ") 64 node.0) _ (agents, agent.0) _ agent.1 refl))),
       agent.2,
     )
@@ -96,27 +97,27 @@ rejoined a b c d e f =
 
 -- what is read of a schedule's text
 abbrev read_of : Schedule → model.Sheet → model.Issuer → ReadSchedule
-read_of s sheet issuer = record { nodes = s.nodes; agents = s.agents; sheet = sheet; issuer = issuer; events = s.events }
+read_of s sheet issuer = record { voters = s.voters; observers = s.observers; agents = s.agents; sheet = sheet; issuer = issuer; events = s.events }
 
 is_read_of : (text : List ℕ) (r : ReadSchedule) (s : Schedule) → IsReadOf text r s → schedule_in text ≡ Ok (read_of s r.sheet r.issuer)
 is_read_of text r s is =
     let form = is.form in
-    let joined = form.joined ∙ rejoined (line (codes "SCHEDULE 1")) (line (with_number (codes "nodes ") s.nodes)) (line (with_number (codes "agents ") s.agents))
+    let joined = form.joined ∙ rejoined (line (codes "SCHEDULE 1")) (line (nodes_text s.voters s.observers)) (line (with_number (codes "agents ") s.agents))
     (section_text (codes "sheet ") s.sheet) (section_text (codes "issuer ") s.issuer) (flat_map planned_text s.events) in
-    let group = group_written text s.nodes s.agents _ form.short form.nodes form.agents joined in
+    let group = group_written text s.voters s.observers s.agents _ form.short form.nodes form.agents joined in
     let sheet = sheet_written group.0 s.sheet r.sheet _ form.sheet is.sheet_utf8 is.sheet group.2 in
     let issuer = issuer_written sheet.0 s.issuer r.issuer _ form.issuer is.issuer_utf8 is.issuer sheet.2 in
     let short : length (left issuer.0) ≤ length text = omega (
       arith,
       ap length joined,
-      length-append (line (codes "SCHEDULE 1")) (line (with_number (codes "nodes ") s.nodes) ++ (line (with_number (codes "agents ") s.agents) ++ (section_text (codes "sheet ") s.sheet ++ (section_text (codes "issuer ") s.issuer ++ flat_map planned_text s.events)))),
-      length-append (line (with_number (codes "nodes ") s.nodes)) (line (with_number (codes "agents ") s.agents) ++ (section_text (codes "sheet ") s.sheet ++ (section_text (codes "issuer ") s.issuer ++ flat_map planned_text s.events))),
+      length-append (line (codes "SCHEDULE 1")) (line (nodes_text s.voters s.observers) ++ (line (with_number (codes "agents ") s.agents) ++ (section_text (codes "sheet ") s.sheet ++ (section_text (codes "issuer ") s.issuer ++ flat_map planned_text s.events)))),
+      length-append (line (nodes_text s.voters s.observers)) (line (with_number (codes "agents ") s.agents) ++ (section_text (codes "sheet ") s.sheet ++ (section_text (codes "issuer ") s.issuer ++ flat_map planned_text s.events))),
       length-append (line (with_number (codes "agents ") s.agents)) (section_text (codes "sheet ") s.sheet ++ (section_text (codes "issuer ") s.issuer ++ flat_map planned_text s.events)),
       length-append (section_text (codes "sheet ") s.sheet) (section_text (codes "issuer ") s.issuer ++ flat_map planned_text s.events),
       length-append (section_text (codes "issuer ") s.issuer) (flat_map planned_text s.events),
       ap length issuer.2,
     ) in
-    schedule_taken text s.nodes s.agents group.0 sheet.0 issuer.0 r.sheet r.issuer s.events group.1 sheet.1 issuer.1
+    schedule_taken text s.voters s.observers s.agents group.0 sheet.0 issuer.0 r.sheet r.issuer s.events group.1 sheet.1 issuer.1
     (events_written (length text) issuer.0 s.events form.events short issuer.2)
 
 -- a text that has the form is read
@@ -124,6 +125,7 @@ pub schedule_written : (text : List ℕ) (r : ReadSchedule) → IsRead text r �
 schedule_written text r is =
     let s = is.0 in
     is_read_of text r s is.1
-    ∙ ap (λ n. Ok (record { nodes = n; agents = s.agents; sheet = r.sheet; issuer = r.issuer; events = s.events })) is.1.nodes
-    ∙ ap (λ n. Ok (record { nodes = r.nodes; agents = n; sheet = r.sheet; issuer = r.issuer; events = s.events })) is.1.agents
-    ∙ ap (λ es. Ok (record { nodes = r.nodes; agents = r.agents; sheet = r.sheet; issuer = r.issuer; events = es })) is.1.events
+    ∙ ap (λ n. Ok (record { voters = n; observers = s.observers; agents = s.agents; sheet = r.sheet; issuer = r.issuer; events = s.events })) is.1.voters
+    ∙ ap (λ n. Ok (record { voters = r.voters; observers = n; agents = s.agents; sheet = r.sheet; issuer = r.issuer; events = s.events })) is.1.observers
+    ∙ ap (λ n. Ok (record { voters = r.voters; observers = r.observers; agents = n; sheet = r.sheet; issuer = r.issuer; events = s.events })) is.1.agents
+    ∙ ap (λ es. Ok (record { voters = r.voters; observers = r.observers; agents = r.agents; sheet = r.sheet; issuer = r.issuer; events = es })) is.1.events

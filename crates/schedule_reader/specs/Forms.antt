@@ -9,7 +9,8 @@ use Rattle.schedule_reader.specs.Schedules.{ReadSchedule}
 -- The text is that of the schedule, and what is read of it are its parts.
 pub record IsReadOf (text : List ℕ) (r : ReadSchedule) (s : Schedule) : Type 0 where
   pub form : HasScheduleForm text s
-  pub nodes : s.nodes ≡ r.nodes
+  pub voters : s.voters ≡ r.voters
+  pub observers : s.observers ≡ r.observers
   pub agents : s.agents ≡ r.agents
   pub sheet_utf8 : IsTrue (is_utf8 (lines_text s.sheet))
   pub sheet : sheet_of_text (lines_text s.sheet) ≡ Ok r.sheet

@@ -1,5 +1,5 @@
 -- Reading a whole schedule: the group, its sheet and its issuer, and its events, or the first fault by line.
-use Rattle.std.specs.Prelude.{ℕ, zero, suc, ◌+◌, ◌==◌, if◌then◌else◌, List, [], ◌∷◌, length, take, drop, Option, Some, None, Result, Ok, ok_or, codes}
+use Rattle.std.specs.Prelude.{ℕ, zero, suc, ◌+◌, ◌==◌, nat_le, if◌then◌else◌, List, [], ◌∷◌, length, take, drop, Option, Some, None, Result, Ok, ok_or, codes}
 use Rattle.std.specs.List.{position}
 use Rattle.std.specs.Option.{option_map}
 use Rattle.metering_model.specs.FirstFailure.{◌>>=◌, holds_or}
@@ -36,6 +36,25 @@ two_in first second t = two_at first second t (position (λ c. c == 32) t)
 -- the two numbers behind a word
 abbrev pub two_behind : List ℕ → ℕ → ℕ → List ℕ → Option (ℕ × ℕ)
 two_behind word first second line = if begins_with word line then two_in first second (drop (length word) line) else None
+
+-- ---- the nodes
+
+-- no more than 99 together
+abbrev pub if_few : Option (ℕ × ℕ) → Option (ℕ × ℕ)
+if_few (Some n) = if nat_le (n.0 + n.1) 99 then Some n else None
+if_few None = None
+
+-- The voters and the observers: behind a space stands how many observe, and where there is none nobody does.
+abbrev pub counts_at : List ℕ → Option ℕ → Option (ℕ × ℕ)
+counts_at t (Some i) = if_few (both (whole_in 1 98 (take i t)) (number_behind (codes "observers ") 98 (drop (i + 1) t)))
+counts_at t None = option_map (λ n. (n, 0)) (whole_in 1 99 t)
+
+abbrev pub counts_in : List ℕ → Option (ℕ × ℕ)
+counts_in t = counts_at t (position (λ c. c == 32) t)
+
+-- what the line of the nodes tells
+abbrev pub nodes_behind : List ℕ → Option (ℕ × ℕ)
+nodes_behind line = if begins_with (codes "nodes ") line then counts_in (drop (length (codes "nodes ")) line) else None
 
 -- ---- events
 
@@ -78,7 +97,8 @@ events_in (suc most) u =
 
 -- What is read of a schedule. The lines of its sections are no longer there.
 pub record ReadSchedule : Type 0 where
-  pub nodes : ℕ
+  pub voters : ℕ
+  pub observers : ℕ
   pub agents : ℕ
   pub sheet : model.Sheet
   pub issuer : model.Issuer
@@ -98,20 +118,27 @@ number_line code word most u = do
   n ← ok_or (number_behind word most l.0) (Refused code u.line)
   Ok (n, l.1)
 
--- how many nodes and agents the group has, and what is left behind the lines that say so
-unfoldable pub group_in : List ℕ → Result (ℕ × ℕ × Unread) ScheduleFault
+-- the voters and the observers that the next line tells
+unfoldable pub nodes_line : Unread → Result (ℕ × ℕ × Unread) ScheduleFault
+nodes_line u = do
+  l ← first_line Nodes u
+  n ← ok_or (nodes_behind l.0) (Refused Nodes u.line)
+  Ok (n.0, n.1, l.1)
+
+-- how many voters, observers and agents the group has, and what is left behind the lines that say so
+unfoldable pub group_in : List ℕ → Result (ℕ × ℕ × ℕ × Unread) ScheduleFault
 group_in text = do
   u ← whole_of text
   head ← head_line u
-  nodes ← number_line Nodes (codes "nodes ") 99 head
-  agents ← number_line Agents (codes "agents ") 64 nodes.1
-  Ok (nodes.0, agents.0, agents.1)
+  nodes ← nodes_line head
+  agents ← number_line Agents (codes "agents ") 64 nodes.2
+  Ok (nodes.0, nodes.1, agents.0, agents.1)
 
 -- What a text gives, or its first fault by line. No text has more events than bytes.
 unfoldable pub schedule_in : List ℕ → Result ReadSchedule ScheduleFault
 schedule_in text = do
   group ← group_in text
-  sheet ← sheet_section group.2
+  sheet ← sheet_section group.3
   issuer ← issuer_section sheet.1
   events ← events_in (length text) issuer.1
-  Ok (record { nodes = group.0; agents = group.1; sheet = sheet.0; issuer = issuer.0; events = events })
+  Ok (record { voters = group.0; observers = group.1; agents = group.2; sheet = sheet.0; issuer = issuer.0; events = events })

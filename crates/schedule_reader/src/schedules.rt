@@ -1,22 +1,25 @@
 //! A whole schedule.
 
-ghost use Rattle.std.specs.Prelude.{◌≡◌, ◌≢◌, ◌≤◌, All, Ok, Err, IfOk, IfErr, IsOk, MatchResult, length, map, codes};
+ghost use Rattle.std.specs.Prelude.{◌≡◌, ◌≢◌, ◌+◌, ◌≤◌, All, Ok, Err, IfOk, IfErr, IsOk, MatchResult, length, map, codes};
 ghost use Rattle.metering_model.specs.SheetRules.{IsSheet, IsIssuer};
 ghost use Rattle.schedule_reader.specs.Events.{HasWholeLines, planned_of};
-ghost use Rattle.schedule_reader.specs.Schedules.{head_line, number_line, group_in, schedule_in};
+ghost use Rattle.schedule_reader.specs.Schedules.{head_line, nodes_line, number_line, group_in, schedule_in};
 ghost use Rattle.schedule_reader.specs.Forms.{IsRead};
 
 use crate::events::{Planned, events_in};
+use crate::lines::nodes_behind;
 use byte_text::is_same;
 use input_sections::{ScheduleCode, ScheduleFault, Unread, number_behind, read_issuer, read_sheet};
 use price_sheet::{Issuer, Sheet};
 use std::alloc::Global;
 
-/// A schedule: how many nodes and agents the group has, by what it charges, and what happens to it, in this order.
+/// A schedule: how many voters, observers and agents the group has, by what it charges, and what happens to it, in this
+/// order.
 #[derive(Drop)]
 pub struct Schedule<'a> {
-    /// From 1 to 99.
-    pub nodes: u8,
+    /// At least 1, and with the observers at most 99.
+    pub voters: u8,
+    pub observers: u8,
     /// From 1 to 64.
     pub agents: u8,
     pub sheet: Sheet,
@@ -70,10 +73,30 @@ fn number_line<'a>(
     }
 }
 
-/// How many nodes and agents a text tells, and what is left behind the lines that say so.
+/// The voters and the observers that the next line tells, and what is left behind it.
+#[tactic(auto, unfolding(crate::specs::Schedules::nodes_line))]
+fn nodes_line<'a>(unread: &Unread<'a>) -> Result<(u32, u32, Unread<'a>), ScheduleFault>
+    ensures nodes { MatchResult result (λ r. nodes_line unread.now ≡ Ok (r.0, r.1, r.2)) (λ fault. nodes_line unread.now ≡ Err fault) }
+    ensures within { IfOk result (λ r. r.0 + r.1 ≤ 99) }
+    ensures want { IfErr result (λ fault. fault ≢ ScheduleFault.OutOfMemory) }
+{
+    let (line, rest) = match unread.first_line(ScheduleCode::Nodes) {
+        Ok(parts) => parts,
+        Err(fault) => return Err(fault),
+    };
+    match nodes_behind(line) {
+        Some((voters, observers)) => Ok((voters, observers, rest)),
+        None => Err(ScheduleFault::Refused {
+            code: ScheduleCode::Nodes,
+            line: unread.line(),
+        }),
+    }
+}
+
+/// How many voters, observers and agents a text tells, and what is left behind the lines that say so.
 #[tactic(auto, unfolding(crate::specs::Schedules::group_in))]
-fn group_in<'a>(text: &'a [u8]) -> Result<(u8, u8, Unread<'a>), ScheduleFault>
-    ensures group { MatchResult result (λ r. group_in text.now ≡ Ok (r.0, r.1, r.2)) (λ fault. group_in text.now ≡ Err fault) }
+fn group_in<'a>(text: &'a [u8]) -> Result<(u8, u8, u8, Unread<'a>), ScheduleFault>
+    ensures group { MatchResult result (λ r. group_in text.now ≡ Ok (r.0, r.1, r.2, r.3)) (λ fault. group_in text.now ≡ Err fault) }
     ensures want { IfErr result (λ fault. fault ≢ ScheduleFault.OutOfMemory) }
 {
     let whole = match Unread::whole(text) {
@@ -84,12 +107,12 @@ fn group_in<'a>(text: &'a [u8]) -> Result<(u8, u8, Unread<'a>), ScheduleFault>
         Ok(unread) => unread,
         Err(fault) => return Err(fault),
     };
-    let (nodes, rest) = match number_line(&head, ScheduleCode::Nodes, b"nodes ", 99) {
+    let (voters, observers, rest) = match nodes_line(&head) {
         Ok(parts) => parts,
         Err(fault) => return Err(fault),
     };
     match number_line(&rest, ScheduleCode::Agents, b"agents ", 64) {
-        Ok((agents, rest)) => Ok((nodes as u8, agents as u8, rest)),
+        Ok((agents, rest)) => Ok((voters as u8, observers as u8, agents as u8, rest)),
         Err(fault) => Err(fault),
     }
 }
@@ -101,15 +124,15 @@ impl<'a> Schedule<'a> {
     #[tactic(auto, unfolding(crate::specs::Schedules::schedule_in))]
     pub fn read(alloc: Global, text: &'a [u8]) -> Result<Schedule<'a>, ScheduleFault>
         ensures taken { IfOk result (λ s. schedule_in text.now
-            ≡ Ok (record { nodes = s.nodes; agents = s.agents; sheet = s.sheet; issuer = s.issuer; events = map planned_of s.events.items })) }
+            ≡ Ok (record { voters = s.voters; observers = s.observers; agents = s.agents; sheet = s.sheet; issuer = s.issuer; events = map planned_of s.events.items })) }
         ensures refused { IfErr result (λ fault. fault ≢ ScheduleFault.OutOfMemory → schedule_in text.now ≡ Err fault) }
         ensures want { IfErr result (λ fault. fault ≡ ScheduleFault.OutOfMemory → IsOk (group_in text.now)) }
         ensures form { IfOk result (λ s. IsRead text.now
-            (record { nodes = s.nodes; agents = s.agents; sheet = s.sheet; issuer = s.issuer; events = map planned_of s.events.items })) }
+            (record { voters = s.voters; observers = s.observers; agents = s.agents; sheet = s.sheet; issuer = s.issuer; events = map planned_of s.events.items })) }
         ensures lines { IfOk result (λ s. All HasWholeLines s.events.items) }
         ensures rules { IfOk result (λ s. IsSheet s.sheet × IsIssuer s.issuer) }
     {
-        let (nodes, agents, unread) = match group_in(text) {
+        let (voters, observers, agents, unread) = match group_in(text) {
             Ok(parts) => parts,
             Err(fault) => return Err(fault),
         };
@@ -123,7 +146,8 @@ impl<'a> Schedule<'a> {
         };
         match events_in(alloc, unread, text.len()) {
             Ok(events) => Ok(Schedule {
-                nodes,
+                voters,
+                observers,
                 agents,
                 sheet,
                 issuer,

@@ -10,7 +10,7 @@ returns-in-Ok-events_in-clause-taken c =
     let group = c.in-Ok.parts in
     let sheet = c.in-Ok-read_sheet.parts in
     let issuer = c.in-Ok-read_issuer.parts in
-    schedule_taken c.args.text.now group.0 group.1 group.2 sheet.1 issuer.1 sheet.0 issuer.0 (map planned_of c.in-Ok-events_in.events.items)
+    schedule_taken c.args.text.now group.0 group.1 group.2 group.3 sheet.1 issuer.1 sheet.0 issuer.0 (map planned_of c.in-Ok-events_in.events.items)
     c.in-Ok.ensures.group c.in-Ok-read_sheet.ensures.taken c.in-Ok-read_issuer.ensures.taken c.in-Ok-events_in.ensures.taken
 
 pub returns-in-Ok-events_in-clause-form : goal.returns-in-Ok-events_in-clause-form
@@ -20,8 +20,8 @@ returns-in-Ok-events_in-clause-form c =
     let sheet = c.in-Ok-read_sheet.parts in
     let issuer = c.in-Ok-read_issuer.parts in
     let events = map planned_of c.in-Ok-events_in.events.items in
-    schedule_read text (record { nodes = group.0; agents = group.1; sheet = sheet.0; issuer = issuer.0; events = events })
-    (schedule_taken text group.0 group.1 group.2 sheet.1 issuer.1 sheet.0 issuer.0 events
+    schedule_read text (record { voters = group.0; observers = group.1; agents = group.2; sheet = sheet.0; issuer = issuer.0; events = events })
+    (schedule_taken text group.0 group.1 group.2 group.3 sheet.1 issuer.1 sheet.0 issuer.0 events
     c.in-Ok.ensures.group c.in-Ok-read_sheet.ensures.taken c.in-Ok-read_issuer.ensures.taken c.in-Ok-events_in.ensures.taken)
 
 pub returns-in-Err-events_in-clause-refused : goal.returns-in-Err-events_in-clause-refused
