@@ -1,6 +1,6 @@
 //! What the threads of a run share, and what they tell each other.
 
-ghost use Rattle.std.specs.Prelude.{◌≡◌, ◌≤◌, vec_len};
+ghost use Rattle.std.specs.Prelude.{◌≡◌, ◌+◌, ◌≤◌, vec_len};
 
 use crossbeam_channel::{Receiver, Sender, bounded, unbounded};
 use node_book::{Book, Event, Plan, Receipt, Worker};
@@ -30,10 +30,11 @@ pub(crate) enum Report {
     NoMemory,
 }
 
-/// The book under its lock, and the ways to each node thread and to the main thread.
+/// The book under its lock, the ways to each node thread, the voters' first, and the way to the main thread.
 #[derive(Drop)]
 pub(crate) struct Desk {
     book: Mutex<Book>,
+    voters: u8,
     nodes: Vec<Sender<Note>>,
     main: Sender<Report>,
 }
@@ -47,41 +48,50 @@ pub(crate) struct Inboxes {
 
 /// The most reports that can wait: of each node a period that nobody waits for any more, that it is stuck, and that it has no
 /// memory; of each agent the last of these.
-fn most_reports(nodes: u8, agents: usize) -> usize {
-    usize::from(nodes).saturating_mul(3).saturating_add(agents)
+fn most_reports(nodes: usize, agents: usize) -> usize {
+    nodes.saturating_mul(3).saturating_add(agents)
 }
 
 /// A book for the plan's group.
 fn open_book(alloc: Global, plan: &Plan) -> Result<Book, AllocError>
-    requires nodes_from { 1 ≤ plan.now.nodes }
-    requires nodes_to { plan.now.nodes ≤ 99 }
+    requires voters_from { 1 ≤ plan.now.voters }
+    requires nodes_to { plan.now.voters + plan.now.observers ≤ 99 }
     requires agents_from { 1 ≤ vec_len plan.now.journals }
     requires agents_to { vec_len plan.now.journals ≤ 64 }
 {
     let sheet = Arc::try_clone(&plan.sheet)?;
     let issuer = Arc::try_clone(&plan.issuer)?;
-    Book::new(alloc, plan.nodes, plan.journals.len() as u8, sheet, issuer)
+    let agents = plan.journals.len() as u8;
+    Book::new(
+        alloc,
+        plan.voters,
+        plan.observers,
+        agents,
+        sheet,
+        issuer,
+    )
 }
 
 /// A desk with a book, and the inboxes of its threads.
 pub(crate) fn open(alloc: Global, plan: &Plan) -> Result<(Desk, Inboxes), AllocError>
-    requires nodes_from { 1 ≤ plan.now.nodes }
-    requires nodes_to { plan.now.nodes ≤ 99 }
+    requires voters_from { 1 ≤ plan.now.voters }
+    requires nodes_to { plan.now.voters + plan.now.observers ≤ 99 }
     requires agents_from { 1 ≤ vec_len plan.now.journals }
     requires agents_to { vec_len plan.now.journals ≤ 64 }
 {
     let book = open_book(alloc, plan)?;
     let mut senders = Vec::new(alloc);
     let mut receivers = Vec::new(alloc);
-    for _ in 0..plan.nodes {
+    for _ in 0..plan.nodes() {
         let (to, from) = unbounded::<Note, Global>(alloc)?;
         senders.push(to)?;
         receivers.push(from)?;
     }
     // All reports have room from the start, so that a report of want of memory wants none.
-    let (to_main, reports) = bounded(alloc, most_reports(plan.nodes, plan.journals.len()))?;
+    let (to_main, reports) = bounded(alloc, most_reports(plan.nodes(), plan.journals.len()))?;
     let desk = Desk {
         book: Mutex::new(book),
+        voters: plan.voters,
         nodes: senders,
         main: to_main,
     };
@@ -114,12 +124,12 @@ impl Desk {
         Ok(())
     }
 
-    /// Has a node begin a ballot: those of the periods take turns.
+    /// Has a voter begin a ballot: those of the periods take turns.
     pub(crate) fn start<R: Wait>(&self, rt: &R, period: u16) -> Result<(), AllocError> {
-        let Some(turn) = usize::from(period).checked_rem(self.nodes.len()) else {
+        let Some(turn) = period.checked_rem(u16::from(self.voters)) else {
             return Ok(());
         };
-        match self.nodes.get(turn) {
+        match self.nodes.get(usize::from(turn)) {
             Some(node) if node.send(rt, Note::Start).is_err() => Err(AllocError),
             _ => Ok(()),
         }

@@ -1,6 +1,6 @@
 //! A run from its plan to its logs.
 
-ghost use Rattle.std.specs.Prelude.{◌≡◌, ◌≤◌, length, map, vec_len, IfOk};
+ghost use Rattle.std.specs.Prelude.{◌≡◌, ◌+◌, ◌≤◌, length, map, vec_len, IfOk};
 ghost use Rattle.metering_model.specs.History.{IsLegal};
 ghost use Rattle.group_laws.specs.Headline.{HoldsAfter};
 ghost use Rattle.node_book.specs.Books.{opened};
@@ -15,7 +15,7 @@ use std::alloc::Global;
 use std::sync::Wait;
 use std::thread::Threads;
 
-/// Runs a group: a thread for each node and one for each agent, round one book.
+/// Runs a group: a thread for each node, voter or observer, and one for each agent, round one book.
 ///
 /// With Ok receipts agree: all logs agree with the book's history, each agent offered its texts to the journals, and each node
 /// exported each period once. A fault is `OutOfMemory` where memory or a thread was refused, and `Mismatch` where receipts do not agree.
@@ -25,8 +25,8 @@ pub fn run_group<R: Threads + Wait + Sync, G: Gate + Sync>(
     plan: Plan,
     gate: &G,
 ) -> Result<Run, RunFault>
-    requires nodes_from { 1 ≤ plan.nodes }
-    requires nodes_to { plan.nodes ≤ 99 }
+    requires voters_from { 1 ≤ plan.voters }
+    requires nodes_to { plan.voters + plan.observers ≤ 99 }
     requires agents_from { 1 ≤ vec_len plan.journals }
     requires agents_to { vec_len plan.journals ≤ 64 }
     requires periods_from { 1 ≤ plan.periods }
@@ -35,7 +35,7 @@ pub fn run_group<R: Threads + Wait + Sync, G: Gate + Sync>(
     ensures agree { IfOk result (λ run. Agree run.book (plan_of plan) run.logs) }
     ensures files { IfOk result (λ run. FilesAgree run.logs) }
     ensures history { IfOk result (λ run. IsLegal (opened run.book) run.book.history run.book.world) }
-    ensures headline { IfOk result (λ run. HoldsAfter run.book.nodes run.book.agents run.book.sheet run.book.issuer
+    ensures headline { IfOk result (λ run. HoldsAfter run.book.voters run.book.observers run.book.agents run.book.sheet run.book.issuer
         (map (λ e. e.event) run.book.history) (map (λ e. e.reply) run.book.history) run.book.world) }
 {
     let Ok((desk, inboxes)) = open(alloc, &plan) else {

@@ -45,7 +45,8 @@ impl Run {
         &self.book
     }
 
-    /// The logs, which agree with the book's history: first the agents', numbered from 1, then the nodes, numbered from 0.
+    /// The logs, which agree with the book's history: first the agents', numbered from 1, then the nodes', numbered from 0: the
+    /// voters and behind them the observers.
     pub fn logs(&self) -> &[Log]
         ensures { map log_of result.now ≡ self.now.logs }
     {
