@@ -1,2 +1,3 @@
 pub mod Headline
 pub mod EveryRun
+pub mod Observers

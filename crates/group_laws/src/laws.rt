@@ -1,13 +1,15 @@
 //! The headline over every list of events, and what the bodies of a group rest on.
 
-ghost use Rattle.std.specs.Prelude.{ℕ, List, ◌++◌, map};
+ghost use Rattle.std.specs.Prelude.{◌≡◌, ◌≢◌, ℕ, List, [], ◌++◌, map, Some, All};
 ghost use Rattle.metering_model.specs.Sheet.{Sheet, Issuer};
 ghost use Rattle.metering_model.specs.Cut.{Cut};
-ghost use Rattle.metering_model.specs.World.{World, Event, opening};
+ghost use Rattle.metering_model.specs.declared.Refusal.TheVariants.{WorldFull};
+ghost use Rattle.metering_model.specs.World.{World, Event, Refused, opening};
 ghost use Rattle.metering_model.specs.Step.{play};
 ghost use Rattle.metering_model.specs.History.{Entry, IsLegal};
 ghost use Rattle.group_laws.specs.Headline.{IsPrefixOf, AreTheCuts, HoldsAfter};
 ghost use Rattle.group_laws.specs.EveryRun.{KeepsLimits};
+ghost use Rattle.group_laws.specs.Observers.{without, IsFollowed};
 
 /// Whatever happens to a group, its chosen cuts are one growing list, and each export is of two neighbouring ones. It
 /// holds of every list of events, and of every history that one thread could have made; more events only lengthen the list.
@@ -27,4 +29,13 @@ pub fn runs()
 pub fn every_run_keeps_its_limits()
     ensures holds { (voters observers agents : ℕ) (sheet : Sheet) (issuer : Issuer) (events : List Event) →
         KeepsLimits voters observers agents (play (opening voters observers agents sheet issuer) events).1 }
+{}
+
+/// Without what happens at its observers a group has the same journals, and its voters keep, try and count the same. Nothing is
+/// said where a packet of an observer was delivered to a voter, nor where something was refused for a full world.
+pub fn observers_change_nothing()
+    ensures follows { (voters observers agents : ℕ) (sheet : Sheet) (issuer : Issuer) (events others : List Event) →
+        without voters [] 0 events (play (opening voters observers agents sheet issuer) events).0 ≡ Some others →
+        All (λ r. r ≢ Refused WorldFull) (play (opening voters observers agents sheet issuer) events).0 →
+        IsFollowed voters (play (opening voters observers agents sheet issuer) events).1 (play (opening voters 0 agents sheet issuer) others).1 }
 {}
