@@ -101,6 +101,16 @@ module _ (text : List ℕ) (batches : Holding) where
   they_agree : Agree book plan (of_agent ∷ of_node third fourth ∷ [])
   they_agree = record { opened_for = refl; one_each = refl; each_log = each_log; each_entry = each_entry }
 
+  -- with an observer its log has to be there, and in it its exports
+  abbrev watched : Plan
+  watched = record plan { observers = 1 }
+
+  without_the_log_of_an_observer : (one other : Log) → Agree book watched (one ∷ other ∷ []) → ⊥
+  without_the_log_of_an_observer one other agree = let count : 2 ≡ 3 = agree.one_each in omega (arith, count)
+
+  without_its_export : (one other : Log) → Agree book watched (one ∷ other ∷ record { who = Node 1; told = [] } ∷ []) → ⊥
+  without_its_export one other agree = let none : 0 ≡ 1 = (agree.each_log 2 (record { who = Node 1; told = [] }) refl).exported (omega arith) 0 in omega (arith, none)
+
   -- With two swapped they do not.
   swapped_they_do_not : Agree book plan (of_agent ∷ of_node fourth third ∷ []) → ⊥
   swapped_they_do_not agree =

@@ -183,7 +183,7 @@ impl Book {
     fn is_opened_for(&self, plan: &Plan) -> bool
         ensures { IsTrue result ↔ (opened self.now
             ≡ opening (plan_of plan.now).voters (plan_of plan.now).observers (length (plan_of plan.now).journals)
-                (plan_of plan.now).sheet (plan_of plan.now).issuer) }
+            (plan_of plan.now).sheet (plan_of plan.now).issuer) }
     {
         self.voters == plan.voters
             && self.observers == plan.observers

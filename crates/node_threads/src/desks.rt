@@ -62,14 +62,7 @@ fn open_book(alloc: Global, plan: &Plan) -> Result<Book, AllocError>
     let sheet = Arc::try_clone(&plan.sheet)?;
     let issuer = Arc::try_clone(&plan.issuer)?;
     let agents = plan.journals.len() as u8;
-    Book::new(
-        alloc,
-        plan.voters,
-        plan.observers,
-        agents,
-        sheet,
-        issuer,
-    )
+    Book::new(alloc, plan.voters, plan.observers, agents, sheet, issuer)
 }
 
 /// A desk with a book, and the inboxes of its threads.
