@@ -1,17 +1,21 @@
 -- What was written of a schedule, as what was written of the input that it was read from.
-use Rattle.std.proofs.Common.{◌≡◌, ℕ, ◌<◌, ◌≤◌, ◌⊎◌, List, [], length, map, take, Option, Some, None, Result, Ok, Err, OnOk, inl, inr, refl, sym, subst, ◌∙◌, arith, ⊎_elim}
+use Rattle.std.proofs.Common.{◌≡◌, ℕ, ◌<◌, ◌≤◌, ◌⊎◌, List, [], length, map, take, Option, Some, None, Result, Ok, Err, IsOk, OnOk, inl, inr, refl, sym, subst, ◌∙◌, arith, ⊎_elim}
 use Rattle.std.specs.Io.KnownBytes.{Appends, Keeps}
 use Rattle.std.proofs.lemmas.List.{append-nil, length-map, take-map}
 use Rattle.counted_io.specs.Writing.{AppendsFront}
 use Rattle.metering_model.specs.SheetRules.{IsSheet, IsIssuer}
 use Rattle.metering_model.specs.Schedule as model
+use Rattle.metering_model.proofs.StepLaws.{step_ok}
 use Rattle.metering_model.specs.World.{opening}
 use Rattle.metering_model.specs.Transcript.{transcript}
 use Rattle.schedule_reader.specs.declared.schedules.Schedule.{Schedule}
 use Rattle.schedule_reader.specs.Events.{planned_of}
-use Rattle.schedule_reader.specs.Schedules.{schedule_in}
+use Rattle.schedule_reader.specs.Schedules.{ReadSchedule, group_in, schedule_in}
 use Rattle.schedule_reader.specs.Forms.{IsRead}
 use Rattle.transcript_laws.proofs.EveryTranscript.{holds_of_bytes}
+use Rattle.input_sections.specs.declared.faults.ScheduleFault.{ScheduleFault}
+use Rattle.batch_player.specs.Faults.{of_sections}
+use Rattle.batch_player.specs.declared.faults.PlayFault.{PlayFault}
 use Rattle.schedule_player.specs.Transcripts.{IsTranscriptOf, IsTranscriptOfFirst, IsFrontOfTranscript, replies_to}
 use Rattle.schedule_player.specs.Inner.Playing.{AppendsFirst, events_of, read_of, text_of}
 
@@ -75,3 +79,13 @@ nodes_within input s is = (omega (arith, is.1.nodes, is.1.form.nodes.0), omega (
 
 pub agents_within : (input : List ℕ) (s : Schedule) → IsRead input (read_of s) → (1 ≤ s.agents) × (s.agents ≤ 64)
 agents_within input s is = (omega (arith, is.1.agents, is.1.form.agents.0), omega (arith, is.1.agents, is.1.form.agents.1))
+
+-- A text that is a schedule says how great its group is.
+pub group_of : (input : List ℕ) (s : ReadSchedule) → schedule_in input ≡ Ok s → IsOk (group_in input)
+unfolding schedule_in
+group_of input s taken = subst IsOk (sym (step_ok (group_in input) _ s taken).1) refl
+
+-- Of the faults of a text, want of memory alone is told as such.
+pub want_of : (fault : ScheduleFault) (told : PlayFault) → told ≡ of_sections fault → told ≡ PlayFault.OutOfMemory → fault ≡ ScheduleFault.OutOfMemory
+want_of ScheduleFault.OutOfMemory told by is = refl
+want_of (ScheduleFault.Refused code line) told by is = absurd (cc)

@@ -1,6 +1,6 @@
 //! `focusd play`: the transcript of a schedule.
 
-ghost use Rattle.std.specs.Prelude.{◌≡◌, ◌≢◌, ◌≤◌, ◌⊎◌, List, ℕ, All, Ok, Err, Some, IfOk, IfErr, IfSome, OnOk};
+ghost use Rattle.std.specs.Prelude.{◌≡◌, ◌≢◌, ◌≤◌, ◌⊎◌, List, ℕ, All, Ok, Err, Some, IfOk, IfErr, IfSome, IsOk, OnOk};
 ghost use Rattle.std.specs.Io.KnownBytes.{Appends, IsAtEnd, Keeps};
 ghost use Rattle.counted_io.specs.Counts.{Rises, count_after};
 ghost use Rattle.counted_io.specs.Reading.{ConsumesAtMost};
@@ -9,7 +9,7 @@ ghost use Rattle.metering_model.specs.declared.Refusal.{Refusal};
 ghost use Rattle.metering_model.specs.World.{opening};
 ghost use Rattle.metering_model.specs.Transcript.{transcript};
 ghost use Rattle.input_sections.specs.declared.faults.ScheduleFault.{ScheduleFault};
-ghost use Rattle.schedule_reader.specs.Schedules.{schedule_in};
+ghost use Rattle.schedule_reader.specs.Schedules.{group_in, schedule_in};
 ghost use Rattle.schedule_reader.specs.Events.{HasWholeLines};
 ghost use Rattle.batch_player.specs.Faults.{tells_of_reader, tells_of_writer};
 ghost use Rattle.schedule_player.specs.Transcripts.{IsFrontOfTranscript, IsTranscriptOf, replies_to};
@@ -54,9 +54,14 @@ fn play_schedule<W: Sink>(
     requires nodes { (1 ≤ schedule.nodes) × (schedule.nodes ≤ 99) }
     requires agents { (1 ≤ schedule.agents) × (schedule.agents ≤ 64) }
     requires lines { All HasWholeLines schedule.events.items }
-    ensures played { OnOk result (Appends (W.contents writer.old) (W.contents writer.new) (transcript (replies_to (read_of schedule.entry) (read_of schedule.entry).events))) }
-    ensures front { result ≡ Err PlayFault.Write → AppendsFront (W.contents writer.old) (W.contents writer.new) (transcript (replies_to (read_of schedule.entry) (read_of schedule.entry).events)) }
-    ensures memory { result ≡ Err PlayFault.OutOfMemory → Keeps (W.contents writer.old) (W.contents writer.new) ⊎ AppendsFirst (W.contents writer.old) (W.contents writer.new) (opening schedule.entry.nodes schedule.entry.agents schedule.entry.sheet schedule.entry.issuer) schedule.entry.events.items }
+    ensures played { OnOk result (Appends (W.contents writer.old) (W.contents writer.new)
+        (transcript (replies_to (read_of schedule.entry) (read_of schedule.entry).events))) }
+    ensures front { result ≡ Err PlayFault.Write → AppendsFront (W.contents writer.old) (W.contents writer.new)
+        (transcript (replies_to (read_of schedule.entry) (read_of schedule.entry).events)) }
+    ensures memory { result ≡ Err PlayFault.OutOfMemory → Keeps (W.contents writer.old) (W.contents writer.new)
+        ⊎ AppendsFirst (W.contents writer.old) (W.contents writer.new)
+        (opening schedule.entry.nodes schedule.entry.agents schedule.entry.sheet schedule.entry.issuer)
+        schedule.entry.events.items }
     ensures fault { result ≡ Err PlayFault.Write → Rises (W.failed_calls writer.old) (W.failed_calls writer.new) }
     ensures count { W.failed_calls writer.new ≡ count_after (tells_of_writer result) (W.failed_calls writer.old) }
     ensures others { (result ≢ Err PlayFault.Read) × ((fault : ScheduleFault) → result ≢ Err (PlayFault.Schedule fault))
@@ -93,6 +98,7 @@ fn play_input<W: Sink>(alloc: Global, input: &[u8], writer: &mut W) -> Result<()
     ensures memory { result ≡ Err PlayFault.OutOfMemory → (text : List ℕ)
         × IsFrontOfTranscript (Some input.now) input.now text
         × Appends (W.contents writer.old) (W.contents writer.new) text }
+    ensures want { result ≡ Err PlayFault.OutOfMemory → IsOk (group_in input.now) }
     ensures write_fault { result ≡ Err PlayFault.Write
         → Rises (W.failed_calls writer.old) (W.failed_calls writer.new) }
     ensures untouched { (fault : ScheduleFault) → result ≡ Err (PlayFault.Schedule fault) → writer.new ≡ writer.old }
