@@ -1,7 +1,7 @@
 #!/usr/bin/env python3
 # Makes the case greatest-batch: a batch of 1,000 records, of all kinds, under commitments, with texts that CSV or JSON has
 # to quote, and amended in the batch itself, and what its file must be, by docs/formats.md alone. The gate doesn't run it, but
-# .ci/schedules takes the making of a row from here. Run it in the folder of the case: it writes stdin and stdout.
+# .ci/texts takes the names of the columns from here. Run it in the folder of the case: it writes stdin and stdout.
 import json
 import random
 

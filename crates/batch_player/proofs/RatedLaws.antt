@@ -94,7 +94,7 @@ module _ (period : ℕ) (input : List ℕ) (given : RateInput) (is : rate_input_
   filed_input (Ok x) Written filed = (filed.0, file_of_input filed.0 filed.1, filed.2)
   filed_input (Err e) Written filed = tt
 
-  pub front_of_input : (Written : List ℕ → Type 0)
+  pub prefix_of_input : (Written : List ℕ → Type 0)
       → (text : List ℕ) × (file_by given.sheet given.issuer period given.batch ≡ Ok text) × Written text
       → (text : List ℕ) × IsFileOf (Some input) period input text × Written text
-  front_of_input Written filed = (filed.0, file_of_input filed.0 filed.1, filed.2)
+  prefix_of_input Written filed = (filed.0, file_of_input filed.0 filed.1, filed.2)

@@ -5,7 +5,7 @@ ghost use Rattle.std.specs.Arc.{arc_value};
 ghost use Rattle.std.specs.Io.KnownBytes.{Appends, Keeps, IsAtEnd};
 ghost use Rattle.counted_io.specs.Counts.{Rises, count_after};
 ghost use Rattle.counted_io.specs.Reading.{ConsumesAtMost};
-ghost use Rattle.counted_io.specs.Writing.{AppendsFront};
+ghost use Rattle.counted_io.specs.Writing.{AppendsPrefix};
 ghost use Rattle.metering_model.specs.Cut.{zero_cut};
 ghost use Rattle.metering_model.specs.Front.{front};
 ghost use Rattle.metering_model.specs.Holding.{placed, put};
@@ -39,7 +39,7 @@ const AGENTS: u8 = 64;
 /// batch's file in a billing period, from the zero cut to its front.
 ///
 /// Without their sections the base month is 2025-01, there is no price, and the issuer is the sample. At most 16,777,217
-/// bytes are read. After any fault but `Write` nothing was written, and after that a front of the file.
+/// bytes are read. After any fault but `Write` nothing was written, and after that a prefix of the file.
 pub fn rate_text<R: Source, W: Sink>(
     alloc: Global,
     period: Period,
@@ -51,10 +51,10 @@ pub fn rate_text<R: Source, W: Sink>(
         × IsFileOf (R.remaining reader.old) period input text
         × Appends (W.contents writer.old) (W.contents writer.new) text) }
 
-    // After `Write` a front of it was, and never all of it.
-    ensures front { result ≡ Err PlayFault.Write → (input text : List ℕ)
+    // After `Write` a prefix of it was, and never all of it.
+    ensures prefix { result ≡ Err PlayFault.Write → (input text : List ℕ)
         × IsFileOf (R.remaining reader.old) period input text
-        × AppendsFront (W.contents writer.old) (W.contents writer.new) text }
+        × AppendsPrefix (W.contents writer.old) (W.contents writer.new) text }
     ensures refused { (refusal : Refusal) → result ≡ Err (PlayFault.Refused refusal)
         → IfSome (R.remaining reader.old) (λ input. rated_file period input ≡ Err (PlayFault.Refused refusal)) }
     ensures section { (fault : ScheduleFault) → result ≡ Err (PlayFault.Schedule fault)
@@ -84,7 +84,7 @@ pub fn rate_text<R: Source, W: Sink>(
 }
 
 /// Takes the bytes before a place away. No room is asked for.
-fn drop_front(bytes: &mut Vec<u8>, from: usize)
+fn drop_before(bytes: &mut Vec<u8>, from: usize)
     requires { from ≤ vec_len bytes.old }
     ensures { bytes.new.items ≡ drop from bytes.old.items }
 {
@@ -100,8 +100,8 @@ fn rate_input_text<W: Sink>(
 ) -> Result<(), PlayFault>
     ensures file { OnOk result ((text : List ℕ) × IsFileOf (Some input.items) period input.items text
         × Appends (W.contents writer.old) (W.contents writer.new) text) }
-    ensures front { result ≡ Err PlayFault.Write → (text : List ℕ) × IsFileOf (Some input.items) period input.items text
-        × AppendsFront (W.contents writer.old) (W.contents writer.new) text }
+    ensures prefix { result ≡ Err PlayFault.Write → (text : List ℕ) × IsFileOf (Some input.items) period input.items text
+        × AppendsPrefix (W.contents writer.old) (W.contents writer.new) text }
     ensures refused { (refusal : Refusal) → result ≡ Err (PlayFault.Refused refusal)
         → rated_file period input.items ≡ Err (PlayFault.Refused refusal) }
     ensures section { (fault : ScheduleFault) → result ≡ Err (PlayFault.Schedule fault)
@@ -118,7 +118,7 @@ fn rate_input_text<W: Sink>(
         Err(fault) => return Err(PlayFault::from(fault)),
     };
     let mut batch = input;
-    drop_front(&mut batch, given.batch_from);
+    drop_before(&mut batch, given.batch_from);
     rate_batch(alloc, period, &given.sheet, &given.issuer, batch, writer)
 }
 
@@ -126,7 +126,7 @@ fn rate_input_text<W: Sink>(
 /// the batch is the whole input.
 ///
 /// It is refused as by a group of 64 agents in which nothing has happened. Want of memory hides no refusal: it is told of a
-/// batch alone that such a group journals. After any fault but `Write` nothing was written, and after that a front of the
+/// batch alone that such a group journals. After any fault but `Write` nothing was written, and after that a prefix of the
 /// file. Neither `Read` nor `Schedule` is ever answered.
 pub fn rate_batch<W: Sink>(
     alloc: Global,
@@ -138,8 +138,8 @@ pub fn rate_batch<W: Sink>(
 ) -> Result<(), PlayFault>
     ensures file { OnOk result ((text : List ℕ) × (file_by sheet.now issuer.now period input.items ≡ Ok text)
         × Appends (W.contents writer.old) (W.contents writer.new) text) }
-    ensures front { result ≡ Err PlayFault.Write → (text : List ℕ) × (file_by sheet.now issuer.now period input.items ≡ Ok text)
-        × AppendsFront (W.contents writer.old) (W.contents writer.new) text }
+    ensures prefix { result ≡ Err PlayFault.Write → (text : List ℕ) × (file_by sheet.now issuer.now period input.items ≡ Ok text)
+        × AppendsPrefix (W.contents writer.old) (W.contents writer.new) text }
     ensures refused { (refusal : Refusal) → result ≡ Err (PlayFault.Refused refusal)
         → file_by sheet.now issuer.now period input.items ≡ Err refusal }
     ensures memory { result ≡ Err PlayFault.OutOfMemory

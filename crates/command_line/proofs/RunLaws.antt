@@ -7,7 +7,7 @@ use Rattle.std.specs.declared.io.ErrorKind.TheVariants.{OutOfMemory as NoMemory}
 use Rattle.std.specs.declared.vec.IntoIter.{IntoIter}
 use Rattle.counted_io.specs.Counts.{count_after, next_count}
 use Rattle.counted_io.specs.Reading.{ConsumesAtMost}
-use Rattle.counted_io.specs.Writing.{AppendsFront}
+use Rattle.counted_io.specs.Writing.{AppendsPrefix}
 use Rattle.counted_io.specs.declared.reading.Source.{Ghosts as SourceOf}
 use Rattle.counted_io.specs.declared.writing.Sink.{Ghosts as SinkOf}
 use Rattle.schedule_player.specs.declared.PlayFault.{PlayFault}
@@ -259,7 +259,7 @@ ends source sink telling args command (Ok x) status reader reader' writer writer
     }
 ends source sink telling args command (Err fault) status reader reader' writer writer' errors errors' asked leaves ending read unread =
     let same = ending.0 in
-    let told : List ℕ → Type 0 = λ line. (Appends (telling.contents errors) (telling.contents errors') line × (telling.failed_calls errors' ≡ telling.failed_calls errors)) ⊎ (AppendsFront (telling.contents errors) (telling.contents errors') line × (telling.failed_calls errors' ≡ next_count (telling.failed_calls errors))) in
+    let told : List ℕ → Type 0 = λ line. (Appends (telling.contents errors) (telling.contents errors') line × (telling.failed_calls errors' ≡ telling.failed_calls errors)) ⊎ (AppendsPrefix (telling.contents errors) (telling.contents errors') line × (telling.failed_calls errors' ≡ next_count (telling.failed_calls errors))) in
     record {
       range = let to = (in_range fault).1 in omega (arith, same, to);
       done = λ is. absurd (never_zero fault status same is);

@@ -2,7 +2,7 @@
 use Rattle.std.specs.Prelude.{◌≡◌, ◌⊎◌, ℕ, List, ◌++◌, codes}
 use Rattle.std.specs.Io.KnownBytes.{Appends}
 use Rattle.counted_io.specs.Counts.{next_count}
-use Rattle.counted_io.specs.Writing.{AppendsFront}
+use Rattle.counted_io.specs.Writing.{AppendsPrefix}
 use Rattle.counted_io.specs.declared.writing.Sink.{Ghosts as SinkOf}
 use Rattle.metering_model.specs.Transcript.{line, refusal_text, with_number}
 use Rattle.input_sections.specs.declared.faults.ScheduleCode.{ScheduleCode}
@@ -61,8 +61,8 @@ message_of (Threads threads.Refused) = codes "refused"
 abbrev pub ending_line : Fault → List ℕ
 ending_line fault = line (codes "focusd: " ++ message_of fault)
 
--- The line of the fault was written and no call failed; or one call did, and of the line a front was written and never all.
+-- The line of the fault was written and no call failed; or one call did, and of the line a prefix was written and never all.
 abbrev pub Tells : {E : Type 0} → SinkOf E → Fault → (errors errors' : E) → Type 0
 Tells sink fault errors errors' =
     (Appends (sink.contents errors) (sink.contents errors') (ending_line fault) × (sink.failed_calls errors' ≡ sink.failed_calls errors))
-    ⊎ (AppendsFront (sink.contents errors) (sink.contents errors') (ending_line fault) × (sink.failed_calls errors' ≡ next_count (sink.failed_calls errors)))
+    ⊎ (AppendsPrefix (sink.contents errors) (sink.contents errors') (ending_line fault) × (sink.failed_calls errors' ≡ next_count (sink.failed_calls errors)))

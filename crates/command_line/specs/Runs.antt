@@ -13,7 +13,7 @@ use Rattle.counted_io.specs.declared.reading.Source.{Ghosts as SourceOf}
 use Rattle.counted_io.specs.declared.writing.Sink.{Ghosts as SinkOf}
 use Rattle.input_sections.specs.declared.faults.ScheduleFault.{ScheduleFault}
 use Rattle.schedule_player.specs.Schedules.{schedule_in}
-use Rattle.schedule_player.specs.Transcripts.{IsTranscriptOf, IsFrontOfTranscript}
+use Rattle.schedule_player.specs.Transcripts.{IsTranscriptOf, IsPrefixOfTranscript}
 use Rattle.schedule_player.specs.declared.PlayFault.{PlayFault}
 use Rattle.schedule_player.specs.declared.PlayFault.TheVariants as play
 use Rattle.schedule_player.specs.RateInput.{rated_file}
@@ -57,7 +57,7 @@ Refuses (Threads size) known fault = (fault ≡ of_fault.Threads (threads.Run of
 
 -- Nothing was written but the transcript of the first events of the schedule that the input is.
 abbrev pub IsPlayedInPart : Option (List ℕ) → Option (List ℕ) → Option (List ℕ) → Type 0
-IsPlayedInPart known old new = (input text : List ℕ) × IsFrontOfTranscript known input text × Appends old new text
+IsPlayedInPart known old new = (input text : List ℕ) × IsPrefixOfTranscript known input text × Appends old new text
 
 -- One call of the reader failed, and the writer is as it was.
 abbrev pub ReaderFailed : {R W : Type 0} → SourceOf R → (reader reader' : R) (writer writer' : W) → Type 0

@@ -16,7 +16,7 @@ abbrev pub EndsWithin : ℕ → Option (List ℕ) → Input → Type 0
 EndsWithin limit remaining (Whole read) = (length read.items ≤ limit) × IsAtEnd remaining
 EndsWithin limit remaining TooLong = ⊤
 
--- known bytes lose a front of at most so many
+-- known bytes lose a prefix of at most so many
 abbrev pub ConsumesAtMost : ℕ → Option (List ℕ) → Option (List ℕ) → Type 0
 ConsumesAtMost most old new = (bytes : List ℕ) × Consumes old new bytes × (length bytes ≤ most)
 

@@ -7,10 +7,10 @@ abbrev pub is_failed_write : {E : Type 0} → Result ℕ E → List ℕ → Bool
 is_failed_write (Ok taken) bytes = taken == 0 && not (length bytes == 0)
 is_failed_write (Err error) bytes = true
 
--- known contents grew by a front of the bytes, which is not all of them
-abbrev pub AppendsFront : Option (List ℕ) → Option (List ℕ) → List ℕ → Type 0
-AppendsFront old new bytes = (taken : ℕ) × (taken < length bytes) × Appends old new (take taken bytes)
+-- known contents grew by a prefix of the bytes, which is not all of them
+abbrev pub AppendsPrefix : Option (List ℕ) → Option (List ℕ) → List ℕ → Type 0
+AppendsPrefix old new bytes = (taken : ℕ) × (taken < length bytes) × Appends old new (take taken bytes)
 
--- known contents grew by a front of the bytes, or by all of them
+-- known contents grew by a prefix of the bytes, or by all of them
 abbrev pub AppendsSome : Option (List ℕ) → Option (List ℕ) → List ℕ → Type 0
 AppendsSome old new bytes = (taken : ℕ) × (taken ≤ length bytes) × Appends old new (take taken bytes)

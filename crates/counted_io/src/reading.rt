@@ -96,7 +96,7 @@ fn read_block<S: Source>(
     requires more { filled < most }
     ensures bounded { vec_len bytes.new ≤ most }
     ensures within { IfOk result (λ count. filled + count ≤ vec_len bytes.new) }
-    ensures front { take filled bytes.new.items ≡ take filled bytes.old.items }
+    ensures before { take filled bytes.new.items ≡ take filled bytes.old.items }
     ensures consumed { IfOk result (λ count. Consumes (S.remaining source.old)
         (S.remaining source.new) (take count (drop filled bytes.new.items))) }
     ensures end { IfOk result (λ count. count ≡ 0 → IsAtEnd (S.remaining source.new)) }
@@ -118,7 +118,7 @@ fn make_room(bytes: &mut Vec<u8>, filled: usize, most: usize) -> Result<(), Allo
     requires more { filled < most }
     ensures bounded { vec_len bytes.new ≤ most }
     ensures room { OnOk result (filled < vec_len bytes.new) }
-    ensures front { take filled bytes.new.items ≡ take filled bytes.old.items }
+    ensures before { take filled bytes.new.items ≡ take filled bytes.old.items }
 {
     if filled == bytes.len() {
         let block = BLOCK.min(most - filled);

@@ -3,7 +3,7 @@ ghost use Rattle.std.specs.Prelude.{◌≡◌, ℕ, ◌<◌, ◌≤◌, List, Op
 ghost use Rattle.std.specs.Io.{WritesAtMost};
 ghost use Rattle.std.specs.Io.KnownBytes.{Appends, Keeps, WriteAppends};
 ghost use Rattle.counted_io.specs.Counts.{Rises, count_after};
-ghost use Rattle.counted_io.specs.Writing.{AppendsFront, is_failed_write};
+ghost use Rattle.counted_io.specs.Writing.{AppendsPrefix, is_failed_write};
 
 use std::io;
 use thiserror::Error;
@@ -16,7 +16,7 @@ pub trait Sink {
     /// How many calls failed. It stays at the greatest u64.
     ghost failed_calls: { Self → ℕ };
 
-    /// Takes a front of `bytes`, and answers how many it took.
+    /// Takes a prefix of `bytes`, and answers how many it took.
     ///
     /// An error took nothing. A call fails at an error, and where it takes nothing of something.
     fn write(&mut self, bytes: &[u8]) -> io::Result<usize>
@@ -33,11 +33,11 @@ pub struct Failed;
 
 /// Writes all of `bytes`, in as many calls as the sink needs, and stops at the first that fails.
 ///
-/// At an error a front of `bytes` was written, and never all of them.
+/// At an error a prefix of `bytes` was written, and never all of them.
 pub fn write_all<S: Sink>(sink: &mut S, bytes: &[u8]) -> Result<(), Failed>
     ensures written { OnOk result (Appends (S.contents sink.old) (S.contents sink.new) bytes.now) }
-    ensures front { OnErr result
-        (AppendsFront (S.contents sink.old) (S.contents sink.new) bytes.now) }
+    ensures prefix { OnErr result
+        (AppendsPrefix (S.contents sink.old) (S.contents sink.new) bytes.now) }
 
     // An error comes only from a failed call, and that is the only one.
     ensures fault { OnErr result (Rises (S.failed_calls sink.old) (S.failed_calls sink.new)) }

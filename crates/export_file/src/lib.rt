@@ -4,7 +4,7 @@
 ghost use Rattle.std.specs.Prelude.{◌≡◌, ◌++◌, Err, IfOk, OnOk, OnErr, map};
 ghost use Rattle.std.specs.Io.KnownBytes.{Appends};
 ghost use Rattle.counted_io.specs.Counts.{Rises, count_after};
-ghost use Rattle.counted_io.specs.Writing.{AppendsFront, AppendsSome};
+ghost use Rattle.counted_io.specs.Writing.{AppendsPrefix, AppendsSome};
 ghost use Rattle.metering_model.specs.Rows.{rows};
 ghost use Rattle.metering_model.specs.Transcript.{file_of};
 ghost use Rattle.metering_model.specs.World as model;
@@ -29,12 +29,12 @@ pub trait ExportFile {
     /// Writes the file: the header line, and a line for each row, batch by batch. The rows of one batch are in memory
     /// at a time, and their text.
     ///
-    /// `Write` comes only from a failed call of the sink, and that is the only one: a front of the file that is not all
-    /// of it went out. At want of memory no call failed, and a front of the file went out.
+    /// `Write` comes only from a failed call of the sink, and that is the only one: a prefix of the file that is not all
+    /// of it went out. At want of memory no call failed, and a prefix of the file went out.
     fn write_csv<W: Sink>(&self, alloc: Global, sink: &mut W) -> Result<(), CsvFault>
         ensures written { OnOk result (Appends (W.contents sink.old) (W.contents sink.new) (file_of (taken self.now))) }
-        ensures front { result ≡ Err CsvFault.Write
-            → AppendsFront (W.contents sink.old) (W.contents sink.new) (file_of (taken self.now)) }
+        ensures prefix { result ≡ Err CsvFault.Write
+            → AppendsPrefix (W.contents sink.old) (W.contents sink.new) (file_of (taken self.now)) }
         ensures fault { result ≡ Err CsvFault.Write
             → Rises (W.failed_calls sink.old) (W.failed_calls sink.new) }
         ensures memory { result ≡ Err CsvFault.OutOfMemory

@@ -4,8 +4,8 @@ use Rattle.std.proofs.lemmas.List.{append-nil, length-append, take-append-le}
 use Rattle.std.proofs.Math.Seq.{take-append-add, take-length}
 use Rattle.std.proofs.KnownBytes.{Appends-nil, Appends-trans}
 use Rattle.std.specs.Io.KnownBytes.{Appends}
-use Rattle.counted_io.specs.Writing.{AppendsFront, AppendsSome}
-use Rattle.counted_io.proofs.Fronts.{front_behind, front_within, some_within}
+use Rattle.counted_io.specs.Writing.{AppendsPrefix, AppendsSome}
+use Rattle.counted_io.proofs.Prefixes.{prefix_behind, prefix_within, some_within}
 
 -- nothing was written
 pub none_written : (a : Option (List ℕ)) (all : List ℕ) → AppendsSome a a all
@@ -13,11 +13,11 @@ none_written a all = (0, omega arith, Appends-nil a)
 
 -- Behind what was written comes the next text, and then the rest of all.
 module _ (a b c : Option (List ℕ)) (written next rest all slice : List ℕ) (is : written ++ (next ++ rest) ≡ all) (same : slice ≡ next) (before : Appends a b written) where
-  -- a front of the next text went out
-  pub next_front : AppendsFront b c slice → AppendsFront a c all
-  next_front front =
-      subst (AppendsFront a c) is
-      (front_behind a b c written (next ++ rest) before (front_within b c next rest (subst (AppendsFront b c) same front)))
+  -- a prefix of the next text went out
+  pub next_prefix : AppendsPrefix b c slice → AppendsPrefix a c all
+  next_prefix prefix =
+      subst (AppendsPrefix a c) is
+      (prefix_behind a b c written (next ++ rest) before (prefix_within b c next rest (subst (AppendsPrefix b c) same prefix)))
 
   -- the next text went out
   pub next_written : Appends b c slice → Appends a c (written ++ next)

@@ -93,17 +93,17 @@ fn are_same(some: &[&[u8]], others: &[&[u8]]) -> bool
     true
 }
 
-/// Makes a piece that of these fields. One that is kept is of the fields before, and stays where these are the same.
+/// Makes a piece that of these fields. One that is held is of the fields before, and stays where these are the same.
 pub(crate) fn set_piece(
     piece: &mut Vec<u8>,
-    is_kept: bool,
+    is_held: bool,
     before: &[&[u8]],
     fields: &[&[u8]],
 ) -> Result<(), AllocError>
-    requires { IsTrue is_kept → piece.old.items ≡ behind (map (λ f. f.now) before.now) }
+    requires { IsTrue is_held → piece.old.items ≡ behind (map (λ f. f.now) before.now) }
     ensures { OnOk result (piece.new.items ≡ behind (map (λ f. f.now) fields.now)) }
 {
-    if is_kept && are_same(before, fields) {
+    if is_held && are_same(before, fields) {
         return Ok(());
     }
     make_piece(piece, fields)

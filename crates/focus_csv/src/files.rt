@@ -4,7 +4,7 @@ ghost use Rattle.std.specs.Prelude.{◌≡◌, ◌<◌, ◌≤◌, [], ◌++◌,
 ghost use Rattle.std.specs.List.{flat_map};
 ghost use Rattle.std.specs.Io.KnownBytes.{Appends};
 ghost use Rattle.counted_io.specs.Counts.{Rises, count_after};
-ghost use Rattle.counted_io.specs.Writing.{AppendsFront, AppendsSome};
+ghost use Rattle.counted_io.specs.Writing.{AppendsPrefix, AppendsSome};
 ghost use Rattle.metering_model.specs.File.{file, row_text};
 ghost use Rattle.focus_csv.specs.Faults.{is_sink_fault};
 ghost use Rattle.focus_csv.specs.Inner.Beginnings.{BeginsWith};
@@ -80,16 +80,16 @@ pub fn put_file(alloc: Global, left: RowsBetween<'_>, text: &mut Vec<u8>) -> Res
 /// Writes the file of the rows that are still to come: the header line, and a line for each row in order, batch by batch.
 /// Of the rows, one batch's are in memory at a time, and their text.
 ///
-/// `Write` comes only from a failed call of the sink, and that is the only one: a front of the file that is not all of it
-/// went out. At want of memory no call failed, and a front of the file went out.
+/// `Write` comes only from a failed call of the sink, and that is the only one: a prefix of the file that is not all of it
+/// went out. At want of memory no call failed, and a prefix of the file went out.
 pub fn write_rows<W: Sink>(
     alloc: Global,
     left: RowsBetween<'_>,
     sink: &mut W,
 ) -> Result<(), CsvFault>
     ensures written { OnOk result (Appends (W.contents sink.old) (W.contents sink.new) (file left.entry)) }
-    ensures front { result ≡ Err CsvFault.Write
-        → AppendsFront (W.contents sink.old) (W.contents sink.new) (file left.entry) }
+    ensures prefix { result ≡ Err CsvFault.Write
+        → AppendsPrefix (W.contents sink.old) (W.contents sink.new) (file left.entry) }
     ensures fault { result ≡ Err CsvFault.Write
         → Rises (W.failed_calls sink.old) (W.failed_calls sink.new) }
     ensures memory { result ≡ Err CsvFault.OutOfMemory

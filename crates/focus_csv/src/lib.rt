@@ -4,7 +4,7 @@
 ghost use Rattle.std.specs.Prelude.{◌≡◌, ◌≢◌, map, Err, IfErr, OnOk};
 ghost use Rattle.std.specs.Io.KnownBytes.{Appends};
 ghost use Rattle.counted_io.specs.Counts.{Rises, count_after};
-ghost use Rattle.counted_io.specs.Writing.{AppendsFront};
+ghost use Rattle.counted_io.specs.Writing.{AppendsPrefix};
 ghost use Rattle.metering_model.specs.File.{file};
 ghost use Rattle.focus_row.specs.Rows.{model_row};
 ghost use Rattle.focus_csv.specs.Faults.{is_sink_fault};
@@ -43,7 +43,7 @@ pub enum CsvFault {
 
 /// Writes the file of the rows: the header line, and a line for each row in order.
 ///
-/// `Write` comes only from a failed call of the sink, and that is the only one: a front of the file
+/// `Write` comes only from a failed call of the sink, and that is the only one: a prefix of the file
 /// that is not all of it went out. At any other fault the sink is as it was.
 pub fn write_file<W: Sink>(
     alloc: Global,
@@ -52,8 +52,8 @@ pub fn write_file<W: Sink>(
 ) -> Result<(), CsvFault>
     ensures written { OnOk result
         (Appends (W.contents sink.old) (W.contents sink.new) (file (map model_row rows.now))) }
-    ensures front { result ≡ Err CsvFault.Write
-        → AppendsFront (W.contents sink.old) (W.contents sink.new) (file (map model_row rows.now)) }
+    ensures prefix { result ≡ Err CsvFault.Write
+        → AppendsPrefix (W.contents sink.old) (W.contents sink.new) (file (map model_row rows.now)) }
     ensures fault { result ≡ Err CsvFault.Write
         → Rises (W.failed_calls sink.old) (W.failed_calls sink.new) }
     ensures count { W.failed_calls sink.new

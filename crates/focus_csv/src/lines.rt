@@ -18,7 +18,7 @@ fn row_at<'a, 'b>(rows: &'a [FocusRow<'b>], i: usize) -> &'a FocusRow<'b>
     &rows[i]
 }
 
-/// Appends the lines of the rows, in order. The pieces of a line are kept for the next one. At want of memory the text
+/// Appends the lines of the rows, in order. The pieces of a line are held for the next one. At want of memory the text
 /// is as before, or has some of the lines behind it.
 pub(crate) fn put_lines(
     pieces: &mut LinePieces,

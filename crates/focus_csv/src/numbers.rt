@@ -40,12 +40,12 @@ fn is_same_cost(before: Cost, cost: Cost) -> bool
     before.units() == cost.units()
 }
 
-/// Makes the text that of the cost that begins a line. One that is kept is of the cost before.
-fn set_first(text: &mut String, is_kept: bool, before: Cost, cost: Cost) -> Result<(), AllocError>
-    requires { IsTrue is_kept → string_bytes text.old ≡ quoted (spelling 12 before) }
+/// Makes the text that of the cost that begins a line. One that is held is of the cost before.
+fn set_first(text: &mut String, is_held: bool, before: Cost, cost: Cost) -> Result<(), AllocError>
+    requires { IsTrue is_held → string_bytes text.old ≡ quoted (spelling 12 before) }
     ensures { OnOk result (string_bytes text.new ≡ quoted (spelling 12 cost)) }
 {
-    if is_kept && is_same_cost(before, cost) {
+    if is_held && is_same_cost(before, cost) {
         return Ok(());
     }
     // For the proof alone: its clause says how great a cost can be.
@@ -54,21 +54,21 @@ fn set_first(text: &mut String, is_kept: bool, before: Cost, cost: Cost) -> Resu
     cost.write_to(text)
 }
 
-/// Makes the text that of a cost, by copying the spelling of an equal one if that is at hand. One that is kept is of
+/// Makes the text that of a cost, by copying the spelling of an equal one if that is at hand. One that is held is of
 /// the cost before.
 fn set_cost(
     text: &mut String,
-    is_kept: bool,
+    is_held: bool,
     before: Cost,
     cost: Cost,
     other: Cost,
     spelled: &String,
 ) -> Result<(), AllocError>
-    requires kept { IsTrue is_kept → string_bytes text.old ≡ behind (spelling 12 before ∷ []) }
+    requires held { IsTrue is_held → string_bytes text.old ≡ behind (spelling 12 before ∷ []) }
     requires spelled { string_bytes spelled.now ≡ quoted (spelling 12 other) }
     ensures { OnOk result (string_bytes text.new ≡ behind (spelling 12 cost ∷ [])) }
 {
-    if is_kept && is_same_cost(before, cost) {
+    if is_held && is_same_cost(before, cost) {
         return Ok(());
     }
     begin(text)?;
@@ -96,18 +96,18 @@ fn spell_quantity(text: &mut String, quantity: Option<Delta>) -> Result<(), Allo
     }
 }
 
-/// Makes the text that of a quantity. One that is kept is of the quantity before, and stays where that is there and the
+/// Makes the text that of a quantity. One that is held is of the quantity before, and stays where that is there and the
 /// same.
 fn set_quantity(
     text: &mut String,
-    is_kept: bool,
+    is_held: bool,
     before: Option<Delta>,
     quantity: Option<Delta>,
 ) -> Result<(), AllocError>
-    requires { IsTrue is_kept → string_bytes text.old ≡ behind (quantity_or_null before ∷ []) }
+    requires { IsTrue is_held → string_bytes text.old ≡ behind (quantity_or_null before ∷ []) }
     ensures { OnOk result (string_bytes text.new ≡ behind (quantity_or_null quantity ∷ [])) }
 {
-    match (is_kept, before, quantity) {
+    match (is_held, before, quantity) {
         (true, Some(before), Some(quantity)) if before.millionths() == quantity.millionths() => {
             Ok(())
         }
@@ -132,18 +132,18 @@ fn spell_price(text: &mut String, price: Option<Price>) -> Result<(), AllocError
     }
 }
 
-/// Makes the text that of a unit price. One that is kept is of the price before, and stays where that is there and the
+/// Makes the text that of a unit price. One that is held is of the price before, and stays where that is there and the
 /// same.
 fn set_price(
     text: &mut String,
-    is_kept: bool,
+    is_held: bool,
     before: Option<Price>,
     price: Option<Price>,
 ) -> Result<(), AllocError>
-    requires { IsTrue is_kept → string_bytes text.old ≡ behind (price_or_null before ∷ []) }
+    requires { IsTrue is_held → string_bytes text.old ≡ behind (price_or_null before ∷ []) }
     ensures { OnOk result (string_bytes text.new ≡ behind (price_or_null price ∷ [])) }
 {
-    match (is_kept, before, price) {
+    match (is_held, before, price) {
         (true, Some(before), Some(price)) if before.millionths() == price.millionths() => Ok(()),
         _ => spell_price(text, price),
     }
@@ -168,22 +168,22 @@ impl NumberPieces {
         }
     }
 
-    /// Makes the pieces those of a row, and only those again that differ from the row before, if they are kept from it.
+    /// Makes the pieces those of a row, and only those again that differ from the row before, if they are held from it.
     pub(crate) fn set(
         &mut self,
-        are_kept: bool,
+        are_held: bool,
         before: &FocusRow<'_>,
         row: &FocusRow<'_>,
     ) -> Result<(), AllocError>
-        requires { IsTrue are_kept → AreNumbersOf self.old (model_row before.now) }
+        requires { IsTrue are_held → AreNumbersOf self.old (model_row before.now) }
         ensures { OnOk result (AreNumbersOf self.new (model_row row.now)) }
     {
         let billed = row.billed_cost;
-        set_first(&mut self.billed_cost, are_kept, before.billed_cost, billed)?;
+        set_first(&mut self.billed_cost, are_held, before.billed_cost, billed)?;
         let spelled = &self.billed_cost;
         set_cost(
             &mut self.contracted_cost,
-            are_kept,
+            are_held,
             before.contracted_cost,
             row.contracted_cost,
             billed,
@@ -191,7 +191,7 @@ impl NumberPieces {
         )?;
         set_cost(
             &mut self.effective_cost,
-            are_kept,
+            are_held,
             before.effective_cost,
             row.effective_cost,
             billed,
@@ -199,7 +199,7 @@ impl NumberPieces {
         )?;
         set_cost(
             &mut self.list_cost,
-            are_kept,
+            are_held,
             before.list_cost,
             row.list_cost,
             billed,
@@ -207,25 +207,25 @@ impl NumberPieces {
         )?;
         set_quantity(
             &mut self.consumed_quantity,
-            are_kept,
+            are_held,
             before.consumed_quantity,
             row.consumed_quantity,
         )?;
         set_quantity(
             &mut self.pricing_quantity,
-            are_kept,
+            are_held,
             before.pricing_quantity,
             row.pricing_quantity,
         )?;
         set_price(
             &mut self.contracted_unit_price,
-            are_kept,
+            are_held,
             before.contracted_unit_price,
             row.contracted_unit_price,
         )?;
         set_price(
             &mut self.list_unit_price,
-            are_kept,
+            are_held,
             before.list_unit_price,
             row.list_unit_price,
         )

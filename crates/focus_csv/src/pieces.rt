@@ -1,4 +1,4 @@
-//! The pieces of one line, kept for the next.
+//! The pieces of one line, held for the next.
 
 ghost use Rattle.std.specs.Prelude.{◌≡◌, [], ◌∷◌, ◌++◌, map, false, IsTrue, OnOk, OnErr};
 ghost use Rattle.std.specs.List.{flat_map};
@@ -18,7 +18,7 @@ use focus_row::FocusRow;
 use std::alloc::{AllocError, Global};
 
 /// The pieces of the line of a row. Most columns of a row are those of the row before it, and such a piece is not made
-/// again. Their memory is kept as well.
+/// again. Their memory is held as well.
 #[derive(Drop)]
 pub(crate) struct LinePieces {
     numbers: NumberPieces,
@@ -27,7 +27,7 @@ pub(crate) struct LinePieces {
     json: Vec<u8>,
     tags: Vec<u8>,
     /// Whether they are those of the row before.
-    are_kept: bool,
+    are_held: bool,
 }
 
 /// How many pieces stand behind the first number.
@@ -37,22 +37,22 @@ impl LinePieces {
     /// Pieces of no row, all of them empty.
     pub(crate) fn new(alloc: Global) -> LinePieces
         ensures empty { line_bytes result ≡ [] }
-        ensures forgotten { result.are_kept ≡ false }
+        ensures forgotten { result.are_held ≡ false }
     {
         LinePieces {
             numbers: NumberPieces::new(alloc),
             texts: TextPieces::new(alloc),
             json: Vec::new(alloc),
             tags: Vec::new(alloc),
-            are_kept: false,
+            are_held: false,
         }
     }
 
     /// Has the next row's pieces all made, whatever they are now.
     pub(crate) fn forget(&mut self)
-        ensures { self.new ≡ record self.old { are_kept = false } }
+        ensures { self.new ≡ record self.old { are_held = false } }
     {
-        self.are_kept = false;
+        self.are_held = false;
     }
 
     /// Makes the piece of the tags.
@@ -60,29 +60,29 @@ impl LinePieces {
         ensures tags { OnOk result (self.new.tags.items ≡ behind (json_object (model_row row.now).tags ∷ [])) }
         ensures numbers { self.new.numbers ≡ self.old.numbers }
         ensures texts { self.new.texts ≡ self.old.texts }
-        ensures kept { self.new.are_kept ≡ self.old.are_kept }
+        ensures held { self.new.are_held ≡ self.old.are_held }
     {
         set_tags(&mut self.json, row.tags)?;
         make_piece(&mut self.tags, &[self.json.as_slice()])
     }
 
-    /// Makes the pieces those of a row, and only those again that differ from the row before, if they are kept from it.
+    /// Makes the pieces those of a row, and only those again that differ from the row before, if they are held from it.
     /// At want of memory they are forgotten.
     pub(crate) fn set(
         &mut self,
         before: &FocusRow<'_>,
         row: &FocusRow<'_>,
     ) -> Result<(), AllocError>
-        requires { IsTrue self.old.are_kept → AreOf self.old (model_row before.now) }
+        requires { IsTrue self.old.are_held → AreOf self.old (model_row before.now) }
         ensures of { OnOk result (AreOf self.new (model_row row.now)) }
-        ensures forgotten { OnErr result (self.new.are_kept ≡ false) }
+        ensures forgotten { OnErr result (self.new.are_held ≡ false) }
     {
-        let are_kept = self.are_kept;
-        self.are_kept = false;
-        self.numbers.set(are_kept, before, row)?;
-        self.texts.set(are_kept, before, row)?;
+        let are_held = self.are_held;
+        self.are_held = false;
+        self.numbers.set(are_held, before, row)?;
+        self.texts.set(are_held, before, row)?;
         self.set_tags(row)?;
-        self.are_kept = true;
+        self.are_held = true;
         Ok(())
     }
 

@@ -146,34 +146,34 @@ impl TextPieces {
         }
     }
 
-    /// Makes the pieces those of a row, and only those again that differ from the row before, if they are kept from it.
+    /// Makes the pieces those of a row, and only those again that differ from the row before, if they are held from it.
     pub(crate) fn set(
         &mut self,
-        are_kept: bool,
+        are_held: bool,
         before: &FocusRow<'_>,
         row: &FocusRow<'_>,
     ) -> Result<(), AllocError>
-        requires { IsTrue are_kept → AreTextsOf self.old (model_row before.now) }
+        requires { IsTrue are_held → AreTextsOf self.old (model_row before.now) }
         ensures { OnOk result (AreTextsOf self.new (model_row row.now)) }
     {
-        set_piece(&mut self.head, are_kept, &head(before), &head(row))?;
-        set_piece(&mut self.moment, are_kept, &moment(before), &moment(row))?;
-        set_piece(&mut self.unit, are_kept, &unit(before), &unit(row))?;
-        set_piece(&mut self.issuer, are_kept, &issuer(before), &issuer(row))?;
+        set_piece(&mut self.head, are_held, &head(before), &head(row))?;
+        set_piece(&mut self.moment, are_held, &moment(before), &moment(row))?;
+        set_piece(&mut self.unit, are_held, &unit(before), &unit(row))?;
+        set_piece(&mut self.issuer, are_held, &issuer(before), &issuer(row))?;
         set_piece(
             &mut self.category,
-            are_kept,
+            are_held,
             &category(before),
             &category(row),
         )?;
-        set_piece(&mut self.pricing, are_kept, &pricing(before), &pricing(row))?;
+        set_piece(&mut self.pricing, are_held, &pricing(before), &pricing(row))?;
         set_piece(
             &mut self.resource,
-            are_kept,
+            are_held,
             &resource(before),
             &resource(row),
         )?;
-        set_piece(&mut self.service, are_kept, &service(before), &service(row))?;
-        set_piece(&mut self.account, are_kept, &account(before), &account(row))
+        set_piece(&mut self.service, are_held, &service(before), &service(row))?;
+        set_piece(&mut self.account, are_held, &account(before), &account(row))
     }
 }

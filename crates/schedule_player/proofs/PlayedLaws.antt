@@ -2,14 +2,14 @@
 use Rattle.std.proofs.Common.{◌≡◌, ◌≢◌, ℕ, ◌<◌, List, [], length, Option, Some, None, Result, Ok, Err, OnOk, IfSome, inl, refl, sym, ap, ◌∙◌}
 use Rattle.std.specs.Io.KnownBytes.{Appends}
 use Rattle.std.proofs.KnownBytes.{Appends-nil}
-use Rattle.counted_io.specs.Writing.{AppendsFront}
+use Rattle.counted_io.specs.Writing.{AppendsPrefix}
 use Rattle.metering_model.specs.FirstFailure.{◌>>=◌, holds_or}
 use Rattle.input_sections.specs.declared.faults.ScheduleCode.TheVariants.{TooLong}
 use Rattle.input_sections.specs.declared.faults.ScheduleFault.{ScheduleFault}
 use Rattle.input_sections.specs.declared.faults.ScheduleFault.TheVariants as faults
 use Rattle.input_sections.specs.Sections.{Unread, whole_of}
 use Rattle.schedule_reader.specs.Schedules.{group_in, schedule_in}
-use Rattle.schedule_player.specs.Transcripts.{IsTranscriptOf, IsFrontOfTranscript}
+use Rattle.schedule_player.specs.Transcripts.{IsTranscriptOf, IsPrefixOfTranscript}
 use Rattle.batch_player.proofs.RatedLaws.{first_fails, is_longer}
 
 too_long : (input : List ℕ) → 16_777_216 < length input → schedule_in input ≡ Err (faults.Refused TooLong 1)
@@ -48,16 +48,16 @@ of_known (Ok x) known old new input same played = (input, played.0, transcript_o
 of_known (Err e) known old new input same played = tt
 
 pub cut_of_known : (known old new : Option (List ℕ)) (input : List ℕ) → IfSome known (λ bytes. input ≡ bytes)
-    → (text : List ℕ) × IsTranscriptOf (Some input) input text × AppendsFront old new text
-    → (given text : List ℕ) × IsTranscriptOf known given text × AppendsFront old new text
+    → (text : List ℕ) × IsTranscriptOf (Some input) input text × AppendsPrefix old new text
+    → (given text : List ℕ) × IsTranscriptOf known given text × AppendsPrefix old new text
 cut_of_known known old new input same played = (input, played.0, transcript_of_known known input played.0 same played.1, played.2)
 
-pub front_of_known : (known old new : Option (List ℕ)) (input : List ℕ) → IfSome known (λ bytes. input ≡ bytes)
-    → (text : List ℕ) × IsFrontOfTranscript (Some input) input text × Appends old new text
-    → (given text : List ℕ) × IsFrontOfTranscript known given text × Appends old new text
-front_of_known known old new input same played = (input, played.0, record { is_input = same; is_front = played.1.is_front }, played.2)
+pub prefix_of_known : (known old new : Option (List ℕ)) (input : List ℕ) → IfSome known (λ bytes. input ≡ bytes)
+    → (text : List ℕ) × IsPrefixOfTranscript (Some input) input text × Appends old new text
+    → (given text : List ℕ) × IsPrefixOfTranscript known given text × Appends old new text
+prefix_of_known known old new input same played = (input, played.0, record { is_input = same; is_prefix = played.1.is_prefix }, played.2)
 
 -- nothing was written of bytes that could not be kept
-pub nothing_of : (known old : Option (List ℕ)) → (given text : List ℕ) × IsFrontOfTranscript known given text × Appends old old text
-nothing_of None old = ([], [], record { is_input = tt; is_front = inl refl }, Appends-nil old)
-nothing_of (Some bytes) old = (bytes, [], record { is_input = refl; is_front = inl refl }, Appends-nil old)
+pub nothing_of : (known old : Option (List ℕ)) → (given text : List ℕ) × IsPrefixOfTranscript known given text × Appends old old text
+nothing_of None old = ([], [], record { is_input = tt; is_prefix = inl refl }, Appends-nil old)
+nothing_of (Some bytes) old = (bytes, [], record { is_input = refl; is_prefix = inl refl }, Appends-nil old)

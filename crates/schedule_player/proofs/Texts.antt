@@ -4,8 +4,8 @@ use Rattle.std.specs.Io.KnownBytes.{Appends}
 use Rattle.std.proofs.KnownBytes.{Appends-trans}
 use Rattle.std.proofs.lemmas.List.{append-nil, map-append, map_more, take-append-drop, take_all}
 use Rattle.std.proofs.lemmas.Grind.{flat_map-append}
-use Rattle.counted_io.specs.Writing.{AppendsFront}
-use Rattle.counted_io.proofs.Fronts.{front_behind, front_within}
+use Rattle.counted_io.specs.Writing.{AppendsPrefix}
+use Rattle.counted_io.proofs.Prefixes.{prefix_behind, prefix_within}
 use Rattle.metering_model.specs.World.{World, Event}
 use Rattle.metering_model.specs.Schedule as model
 use Rattle.metering_model.specs.Step.{play, step}
@@ -67,14 +67,14 @@ module _ (a b c : Option (List ℕ)) (w : World) (events : List Planned) (i : �
   pub told_whole : Appends b c waits → Appends a c (text_of w (events_of (take i events)))
   told_whole more = subst (Appends a c) told.2 (Appends-trans a b c told.0 waits told.1 more)
 
-  -- a front of what waits is, and so a front of the transcript of all events
-  pub told_front : AppendsFront b c waits → AppendsFront a c (text_of w (events_of events))
-  told_front more =
+  -- a prefix of what waits is, and so a prefix of the transcript of all events
+  pub told_prefix : AppendsPrefix b c waits → AppendsPrefix a c (text_of w (events_of events))
+  told_prefix more =
       let first = events_of (take i events) in
       let rest = events_of (drop i events) in
-      let part : AppendsFront a c (text_of w first) = subst (AppendsFront a c) told.2 (front_behind a b c told.0 waits told.1 more) in
-      subst (AppendsFront a c) (sym (ap (text_of w) (events_split events i) ∙ text_parts w first rest))
-      (front_within a c (text_of w first) (text_of (play w first).1 rest) part)
+      let part : AppendsPrefix a c (text_of w first) = subst (AppendsPrefix a c) told.2 (prefix_behind a b c told.0 waits told.1 more) in
+      subst (AppendsPrefix a c) (sym (ap (text_of w) (events_split events i) ∙ text_parts w first rest))
+      (prefix_within a c (text_of w first) (text_of (play w first).1 rest) part)
 
 -- where all events were done, their text is the text of all
 pub text_all : (w : World) (events : List Planned) (done : ℕ) → done ≡ length events → text_of w (events_of (take done events)) ≡ text_of w (events_of events)

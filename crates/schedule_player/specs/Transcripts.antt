@@ -38,6 +38,6 @@ pub record IsTranscriptOfSome (input text : List ℕ) : Type 0 where
   pub is_first : IsTranscriptOfFirst schedule done text
 
 -- It is that, or nothing, where the schedule could not be kept.
-pub record IsFrontOfTranscript (known : Option (List ℕ)) (input text : List ℕ) : Type 0 where
+pub record IsPrefixOfTranscript (known : Option (List ℕ)) (input text : List ℕ) : Type 0 where
   pub is_input : IfSome known (λ bytes. input ≡ bytes)
-  pub is_front : (text ≡ []) ⊎ IsTranscriptOfSome input text
+  pub is_prefix : (text ≡ []) ⊎ IsTranscriptOfSome input text

@@ -3,7 +3,7 @@
 ghost use Rattle.std.specs.Prelude.{◌≡◌, ◌↔◌, ◌≤◌, ◌++◌, [], length, IsTrue, OnOk, OnErr, is_err};
 ghost use Rattle.std.specs.Io.KnownBytes.{Appends};
 ghost use Rattle.counted_io.specs.Counts.{Rises, count_after};
-ghost use Rattle.counted_io.specs.Writing.{AppendsFront};
+ghost use Rattle.counted_io.specs.Writing.{AppendsPrefix};
 ghost use Rattle.metering_model.specs.Transcript.{reply_text};
 ghost use Rattle.group_core.specs.Words.{reply_of};
 
@@ -83,11 +83,11 @@ impl ReplyLines {
 
     /// Writes all that waits, and then nothing waits.
     ///
-    /// An error comes of one failed call of the writer: a front went out that is not all of it.
+    /// An error comes of one failed call of the writer: a prefix went out that is not all of it.
     pub(crate) fn write<W: Sink>(&mut self, writer: &mut W) -> Result<(), Failed>
         ensures written { OnOk result (Appends (W.contents writer.old) (W.contents writer.new) self.old) }
         ensures none_wait { OnOk result (self.new ≡ []) }
-        ensures front { OnErr result (AppendsFront (W.contents writer.old) (W.contents writer.new) self.old) }
+        ensures prefix { OnErr result (AppendsPrefix (W.contents writer.old) (W.contents writer.new) self.old) }
         ensures fault { OnErr result (Rises (W.failed_calls writer.old) (W.failed_calls writer.new)) }
         ensures count { W.failed_calls writer.new ≡ count_after (is_err result) (W.failed_calls writer.old) }
     {

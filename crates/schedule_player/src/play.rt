@@ -1,18 +1,18 @@
 //! `focusd play`: the transcript of a schedule.
 
-ghost use Rattle.std.specs.Prelude.{◌≡◌, ◌≢◌, ◌≤◌, ◌⊎◌, List, ℕ, All, Ok, Err, Some, IfOk, IfErr, IfSome, OnOk};
+ghost use Rattle.std.specs.Prelude.{◌≡◌, ◌≢◌, ◌≤◌, ◌⊎◌, List, ℕ, All, Ok, Err, Some, IfOk, IfErr, IfSome, IsOk, OnOk};
 ghost use Rattle.std.specs.Io.KnownBytes.{Appends, IsAtEnd, Keeps};
 ghost use Rattle.counted_io.specs.Counts.{Rises, count_after};
 ghost use Rattle.counted_io.specs.Reading.{ConsumesAtMost};
-ghost use Rattle.counted_io.specs.Writing.{AppendsFront};
+ghost use Rattle.counted_io.specs.Writing.{AppendsPrefix};
 ghost use Rattle.metering_model.specs.declared.Refusal.{Refusal};
 ghost use Rattle.metering_model.specs.World.{opening};
 ghost use Rattle.metering_model.specs.Transcript.{transcript};
 ghost use Rattle.input_sections.specs.declared.faults.ScheduleFault.{ScheduleFault};
-ghost use Rattle.schedule_reader.specs.Schedules.{schedule_in};
+ghost use Rattle.schedule_reader.specs.Schedules.{group_in, schedule_in};
 ghost use Rattle.schedule_reader.specs.Events.{HasWholeLines};
 ghost use Rattle.batch_player.specs.Faults.{tells_of_reader, tells_of_writer};
-ghost use Rattle.schedule_player.specs.Transcripts.{IsFrontOfTranscript, IsTranscriptOf, replies_to};
+ghost use Rattle.schedule_player.specs.Transcripts.{IsPrefixOfTranscript, IsTranscriptOf, replies_to};
 ghost use Rattle.schedule_player.specs.Inner.Playing.{AppendsFirst, read_of};
 
 use crate::playing::play_events;
@@ -54,9 +54,14 @@ fn play_schedule<W: Sink>(
     requires nodes { (1 ≤ schedule.nodes) × (schedule.nodes ≤ 99) }
     requires agents { (1 ≤ schedule.agents) × (schedule.agents ≤ 64) }
     requires lines { All HasWholeLines schedule.events.items }
-    ensures played { OnOk result (Appends (W.contents writer.old) (W.contents writer.new) (transcript (replies_to (read_of schedule.entry) (read_of schedule.entry).events))) }
-    ensures front { result ≡ Err PlayFault.Write → AppendsFront (W.contents writer.old) (W.contents writer.new) (transcript (replies_to (read_of schedule.entry) (read_of schedule.entry).events)) }
-    ensures memory { result ≡ Err PlayFault.OutOfMemory → Keeps (W.contents writer.old) (W.contents writer.new) ⊎ AppendsFirst (W.contents writer.old) (W.contents writer.new) (opening schedule.entry.nodes schedule.entry.agents schedule.entry.sheet schedule.entry.issuer) schedule.entry.events.items }
+    ensures played { OnOk result (Appends (W.contents writer.old) (W.contents writer.new)
+        (transcript (replies_to (read_of schedule.entry) (read_of schedule.entry).events))) }
+    ensures prefix { result ≡ Err PlayFault.Write → AppendsPrefix (W.contents writer.old) (W.contents writer.new)
+        (transcript (replies_to (read_of schedule.entry) (read_of schedule.entry).events)) }
+    ensures memory { result ≡ Err PlayFault.OutOfMemory → Keeps (W.contents writer.old) (W.contents writer.new)
+        ⊎ AppendsFirst (W.contents writer.old) (W.contents writer.new)
+        (opening schedule.entry.nodes schedule.entry.agents schedule.entry.sheet schedule.entry.issuer)
+        schedule.entry.events.items }
     ensures fault { result ≡ Err PlayFault.Write → Rises (W.failed_calls writer.old) (W.failed_calls writer.new) }
     ensures count { W.failed_calls writer.new ≡ count_after (tells_of_writer result) (W.failed_calls writer.old) }
     ensures others { (result ≢ Err PlayFault.Read) × ((fault : ScheduleFault) → result ≢ Err (PlayFault.Schedule fault))
@@ -86,13 +91,14 @@ fn play_schedule<W: Sink>(
 fn play_input<W: Sink>(alloc: Global, input: &[u8], writer: &mut W) -> Result<(), PlayFault>
     ensures transcript { OnOk result ((text : List ℕ) × IsTranscriptOf (Some input.now) input.now text
         × Appends (W.contents writer.old) (W.contents writer.new) text) }
-    ensures front { result ≡ Err PlayFault.Write → (text : List ℕ) × IsTranscriptOf (Some input.now) input.now text
-        × AppendsFront (W.contents writer.old) (W.contents writer.new) text }
+    ensures prefix { result ≡ Err PlayFault.Write → (text : List ℕ) × IsTranscriptOf (Some input.now) input.now text
+        × AppendsPrefix (W.contents writer.old) (W.contents writer.new) text }
     ensures section { (fault : ScheduleFault) → result ≡ Err (PlayFault.Schedule fault)
         → (fault ≢ ScheduleFault.OutOfMemory) × (schedule_in input.now ≡ Err fault) }
     ensures memory { result ≡ Err PlayFault.OutOfMemory → (text : List ℕ)
-        × IsFrontOfTranscript (Some input.now) input.now text
+        × IsPrefixOfTranscript (Some input.now) input.now text
         × Appends (W.contents writer.old) (W.contents writer.new) text }
+    ensures want { result ≡ Err PlayFault.OutOfMemory → IsOk (group_in input.now) }
     ensures write_fault { result ≡ Err PlayFault.Write
         → Rises (W.failed_calls writer.old) (W.failed_calls writer.new) }
     ensures untouched { (fault : ScheduleFault) → result ≡ Err (PlayFault.Schedule fault) → writer.new ≡ writer.old }
@@ -111,7 +117,7 @@ fn play_input<W: Sink>(alloc: Global, input: &[u8], writer: &mut W) -> Result<()
 /// an export its file.
 ///
 /// At most 16,777,217 bytes are read, and all of them before the first event. Where memory is refused, the transcript of some
-/// first events was written, or nothing; after `Write` a front of the transcript, and after any other fault nothing. `Refused`
+/// first events was written, or nothing; after `Write` a prefix of the transcript, and after any other fault nothing. `Refused`
 /// is never answered.
 pub fn play_text<R: Source, W: Sink>(
     alloc: Global,
@@ -123,14 +129,14 @@ pub fn play_text<R: Source, W: Sink>(
         × IsTranscriptOf (R.remaining reader.old) input text
         × Appends (W.contents writer.old) (W.contents writer.new) text) }
 
-    // After `Write` a front of it was, and never all of it.
-    ensures front { result ≡ Err PlayFault.Write → (input text : List ℕ)
+    // After `Write` a prefix of it was, and never all of it.
+    ensures prefix { result ≡ Err PlayFault.Write → (input text : List ℕ)
         × IsTranscriptOf (R.remaining reader.old) input text
-        × AppendsFront (W.contents writer.old) (W.contents writer.new) text }
+        × AppendsPrefix (W.contents writer.old) (W.contents writer.new) text }
     ensures section { (fault : ScheduleFault) → result ≡ Err (PlayFault.Schedule fault)
         → IfSome (R.remaining reader.old) (λ input. schedule_in input ≡ Err fault) }
     ensures memory { result ≡ Err PlayFault.OutOfMemory → (input text : List ℕ)
-        × IsFrontOfTranscript (R.remaining reader.old) input text
+        × IsPrefixOfTranscript (R.remaining reader.old) input text
         × Appends (W.contents writer.old) (W.contents writer.new) text }
     ensures plain_memory { result ≢ Err (PlayFault.Schedule ScheduleFault.OutOfMemory) }
     ensures unrefused { (refusal : Refusal) → result ≢ Err (PlayFault.Refused refusal) }

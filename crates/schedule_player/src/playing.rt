@@ -3,7 +3,7 @@
 ghost use Rattle.std.specs.Prelude.{◌≡◌, ◌≤◌, ◌⊎◌, ◌++◌, [], ℕ, List, All, length, take, is_err, IfOk, OnOk, OnErr};
 ghost use Rattle.std.specs.Io.KnownBytes.{Appends};
 ghost use Rattle.counted_io.specs.Counts.{Rises, count_after};
-ghost use Rattle.counted_io.specs.Writing.{AppendsFront};
+ghost use Rattle.counted_io.specs.Writing.{AppendsPrefix};
 ghost use Rattle.metering_model.specs.Schedule.{event_of};
 ghost use Rattle.metering_model.specs.Step.{step};
 ghost use Rattle.metering_model.specs.Transcript.{reply_text};
@@ -40,7 +40,7 @@ fn play_event(
 /// Writes what waits, if it is much.
 fn write_many<W: Sink>(lines: &mut ReplyLines, writer: &mut W) -> Result<(), Failed>
     ensures written { OnOk result ((written : List ℕ) × (written ++ lines.new ≡ lines.old) × Appends (W.contents writer.old) (W.contents writer.new) written) }
-    ensures front { OnErr result (AppendsFront (W.contents writer.old) (W.contents writer.new) lines.old) }
+    ensures prefix { OnErr result (AppendsPrefix (W.contents writer.old) (W.contents writer.new) lines.old) }
     ensures fault { OnErr result (Rises (W.failed_calls writer.old) (W.failed_calls writer.new)) }
     ensures count { W.failed_calls writer.new ≡ count_after (is_err result) (W.failed_calls writer.old) }
 {
@@ -65,7 +65,7 @@ fn play_on<W: Sink>(
     ensures within { IfOk result (λ done. done ≤ length events.now) }
     ensures world { IfOk result (λ done. IsWorldAfter world.old events.now done world.new) }
     ensures told { IfOk result (λ done. IsTold (W.contents writer.old) (W.contents writer.new) lines.new world.old events.now done) }
-    ensures front { OnErr result (AppendsFront (W.contents writer.old) (W.contents writer.new) (text_of world.old (events_of events.now))) }
+    ensures prefix { OnErr result (AppendsPrefix (W.contents writer.old) (W.contents writer.new) (text_of world.old (events_of events.now))) }
     ensures fault { OnErr result (Rises (W.failed_calls writer.old) (W.failed_calls writer.new)) }
     ensures count { W.failed_calls writer.new ≡ count_after (is_err result) (W.failed_calls writer.old) }
 {
@@ -89,7 +89,7 @@ pub(crate) fn play_events<W: Sink>(
     requires { All HasWholeLines events.now }
     ensures within { IfOk result (λ done. done ≤ length events.now) }
     ensures played { IfOk result (λ done. Appends (W.contents writer.old) (W.contents writer.new) (text_of world (events_of (take done events.now)))) }
-    ensures front { OnErr result (AppendsFront (W.contents writer.old) (W.contents writer.new) (text_of world (events_of events.now))) }
+    ensures prefix { OnErr result (AppendsPrefix (W.contents writer.old) (W.contents writer.new) (text_of world (events_of events.now))) }
     ensures fault { OnErr result (Rises (W.failed_calls writer.old) (W.failed_calls writer.new)) }
     ensures count { W.failed_calls writer.new ≡ count_after (is_err result) (W.failed_calls writer.old) }
 {

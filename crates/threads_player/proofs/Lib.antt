@@ -1,2 +1,2 @@
-mod Pieces
+mod JournalTexts
 mod Ranges

@@ -3,7 +3,7 @@
 ghost use Rattle.std.specs.Prelude.{◌≡◌, ◌≢◌, Err, OnOk, IfOk, IfErr};
 ghost use Rattle.std.specs.Io.KnownBytes.{Appends};
 ghost use Rattle.counted_io.specs.Counts.{Rises, count_after};
-ghost use Rattle.counted_io.specs.Writing.{AppendsFront};
+ghost use Rattle.counted_io.specs.Writing.{AppendsPrefix};
 ghost use Rattle.node_threads.specs.Runs.{Run as ModelRun};
 ghost use Rattle.threads_player.specs.Faults.{tells_of_writer};
 ghost use Rattle.threads_player.specs.Groups.{IsSize};
@@ -49,8 +49,8 @@ pub fn threads_text<R: Threads + Wait + Sync, W: Sink>(
     // With Ok just the report of a run of such a group was written.
     ensures written { OnOk result ((run : ModelRun) × IsRunOf size run
         × Appends (W.contents writer.old) (W.contents writer.new) (report_text run)) }
-    ensures front { result ≡ Err ThreadsFault.Write → (run : ModelRun) × IsRunOf size run
-        × AppendsFront (W.contents writer.old) (W.contents writer.new) (report_text run) }
+    ensures prefix { result ≡ Err ThreadsFault.Write → (run : ModelRun) × IsRunOf size run
+        × AppendsPrefix (W.contents writer.old) (W.contents writer.new) (report_text run) }
     ensures refused { result ≡ Err ThreadsFault.Refused → IsSheetRefused }
     ensures write_fault { result ≡ Err ThreadsFault.Write
         → Rises (W.failed_calls writer.old) (W.failed_calls writer.new) }

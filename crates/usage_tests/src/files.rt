@@ -89,23 +89,23 @@ fn is_told(alloc: Global, rows: &[FocusRow<'_>]) -> bool {
 
 /// Whether a sink that takes a byte a call, and fails behind these bytes of the file, is given just them; behind all of
 /// them it is not called again.
-fn is_front(alloc: Global, rows: &[FocusRow<'_>], front: &[u8], is_whole: bool) -> bool {
+fn is_prefix(alloc: Global, rows: &[FocusRow<'_>], prefix: &[u8], is_whole: bool) -> bool {
     let device = FakeWriter::new(Vec::new(alloc)).byte_by_byte();
-    let mut sink = Counted::new(device.failing_at(front.len() as u64 + 1));
+    let mut sink = Counted::new(device.failing_at(prefix.len() as u64 + 1));
     let is_written = write_file(alloc, rows, &mut sink).is_ok();
     let failed = sink.failed_calls();
     is_written == is_whole
-        && sink.inner().taken.as_slice() == front
-        && sink.inner().calls == (front.len() as u64).saturating_add(failed)
+        && sink.inner().taken.as_slice() == prefix
+        && sink.inner().calls == (prefix.len() as u64).saturating_add(failed)
         && failed == if is_whole { 0 } else { 1 }
 }
 
 /// The first count of bytes such that a sink which fails behind them has been given others.
-fn first_other_front(alloc: Global, rows: &[FocusRow<'_>]) -> Result<Option<usize>, AllocError> {
+fn first_other_prefix(alloc: Global, rows: &[FocusRow<'_>]) -> Result<Option<usize>, AllocError> {
     let mut file = HEADER.to_vec(alloc)?;
     file.extend_from_slice(CORRECTION)?;
     for length in 0..=file.len() {
-        if !is_front(alloc, rows, &file[..length], length == file.len()) {
+        if !is_prefix(alloc, rows, &file[..length], length == file.len()) {
             return Ok(Some(length));
         }
     }
@@ -131,6 +131,6 @@ fn a_file_goes_out_up_to_a_failed_call(rt: HostRuntime) -> Result<(), Fail> {
         return Err(Fail::from("nothing is charged"));
     };
     let rows = rows_in(rt.alloc(), &of)?;
-    assert_eq!(rt; first_other_front(rt.alloc(), &rows)?, None);
+    assert_eq!(rt; first_other_prefix(rt.alloc(), &rows)?, None);
     Ok(())
 }

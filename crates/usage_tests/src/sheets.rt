@@ -4,51 +4,51 @@ use price_sheet::{Issuer, IssuerFault, Sheet, SheetFault};
 use std::alloc::Global;
 use worked_texts::ISSUER;
 
-/// Prices of two units, one of them from two days, and what a plan commits to.
+/// Prices of two units, one of them from two days, and what a plan commits to. A row's keys stand in any order.
 const PLANS: &str = r#"base = "2025-01"
 [[price]]
+service = "Sample Storage"
+category = "Storage"
 sku = "ops"
 price_id = "ops-od"
+pricing_unit = "Request Pairs"
+consumed_unit = "Requests"
+per = 2
+contracted = "1"
+list = "1"
 from = "2025-01-01"
 description = "Object requests"
-service = "Sample Storage"
-category = "Storage"
-consumed_unit = "Requests"
-pricing_unit = "Request Pairs"
-per = 2
-list = "1"
-contracted = "1"
 [[price]]
-sku = "ops"
-price_id = "ops-od-2"
-from = "2025-02-01"
-description = "Object requests"
-service = "Sample Storage"
-category = "Storage"
-consumed_unit = "Requests"
-pricing_unit = "Request Pairs"
-per = 2
 list = "2"
 contracted = "2"
-[[price]]
-sku = "ops-plan"
-price_id = "ops-plan-1"
-from = "2025-01-01"
-description = "Request plan"
-service = "Sample Storage"
+per = 2
+from = "2025-02-01"
+sku = "ops"
+price_id = "ops-od-2"
+description = "Object requests"
+pricing_unit = "Request Pairs"
+consumed_unit = "Requests"
 category = "Storage"
-consumed_unit = "Plans"
+service = "Sample Storage"
+[[price]]
+description = "Request plan"
+from = "2025-01-01"
+price_id = "ops-plan-1"
+sku = "ops-plan"
+category = "Storage"
+service = "Sample Storage"
 pricing_unit = "Plans"
-per = 1
-list = "50"
+consumed_unit = "Plans"
 contracted = "40"
+list = "50"
+per = 1
 [[commitment]]
+buy = "ops-plan"
+rate = "0.5"
 id = "cm-1"
 sku = "ops"
-buy = "ops-plan"
-category = "Usage"
 type = "Reserved"
-rate = "0.5"
+category = "Usage"
 "#;
 
 /// Whether the sheet is read, or want of memory is told.

@@ -32,14 +32,14 @@ fn batch_again(alloc: Global, bytes: &[u8]) -> Result<Arc<OwnedBatch>, Fail> {
 
 /// The least sequence that the first agent has no batch of.
 fn first_absent(store: &Store) -> u32 {
-    // Its clause says that there is an agent.
+    // For the proof alone: its clause says that the agents are 1 to 64.
     let _agents = store.agents();
     store.first_absent(1)
 }
 
 /// Whether the first agent has a batch of this sequence.
 fn has(store: &Store, seq: u32) -> bool {
-    // Its clause says that there is an agent.
+    // For the proof alone: its clause says that the agents are 1 to 64.
     let _agents = store.agents();
     store.get(1, seq).is_some()
 }

@@ -1,6 +1,6 @@
 //! The worked texts: a sheet, an issuer, a reading with its amendment, and what is charged for them.
 //!
-//! They are worked out by hand, from the formats and the columns alone. All tests take them from here.
+//! They are worked out by hand, from the formats and the columns alone. The crates of tests take them from here.
 
 #![tactic(auto)]
 
@@ -30,7 +30,7 @@ currency = "USD"
 other_service = "Billing"
 "#;
 
-/// Both as the sections that a schedule, or an input of `rate`, begins with.
+/// Both as sections, as they stand behind the head of a schedule, or where an input of `rate` begins.
 pub const SECTIONS: &[u8] =
     b"sheet 13\nbase = \"2025-01\"\n[[price]]\nsku = \"cpu\"\nprice_id = \"cpu-od\"\n\
 from = \"2025-01-01\"\ndescription = \"Virtual CPU time\"\nservice = \"Sample Compute\"\n\

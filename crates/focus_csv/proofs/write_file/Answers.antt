@@ -9,8 +9,8 @@ returns-in_default-clause-kept c = search rules
 pub returns-in_default-clause-count : goal.returns-in_default-clause-count
 returns-in_default-clause-count c = search rules
 
-pub returns-clause-front : goal.returns-clause-front
-returns-clause-front c = search rules
+pub returns-clause-prefix : goal.returns-clause-prefix
+returns-clause-prefix c = search rules
 
 pub returns-clause-fault : goal.returns-clause-fault
 returns-clause-fault c = search rules

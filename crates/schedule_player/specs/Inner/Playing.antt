@@ -29,7 +29,7 @@ world_after w events done = (play w (events_of (take done events))).1
 abbrev pub IsWorldAfter : World → List Planned → ℕ → World → Type 0
 IsWorldAfter w events done v = (v ≡ world_after w events done) ⊎ ((done < length events) × (v ≡ world_after w events (done + 1)))
 
--- Of the transcript of so many events known contents grew by a front, and all the rest of it waits.
+-- Of the transcript of so many events known contents grew by a prefix, and all the rest of it waits.
 abbrev pub IsTold : Option (List ℕ) → Option (List ℕ) → List ℕ → World → List Planned → ℕ → Type 0
 IsTold old new waits w events done = (written : List ℕ) × Appends old new written × (written ++ waits ≡ text_of w (events_of (take done events)))
 

@@ -1,9 +1,9 @@
 use Rattle.std.proofs.Common.{Err, drop, sym, ap, ◌∙◌, rules}
 use Rattle.std.specs.Io.KnownBytes.{Appends}
-use Rattle.counted_io.specs.Writing.{AppendsFront}
+use Rattle.counted_io.specs.Writing.{AppendsPrefix}
 use Rattle.input_sections.specs.RateInput.{RateInput}
 use Rattle.batch_player.specs.RateInput.{or_refused}
-use Rattle.batch_player.proofs.RatedLaws.{rated_badly, rated_well, filed_input, front_of_input, told_plain}
+use Rattle.batch_player.proofs.RatedLaws.{rated_badly, rated_well, filed_input, prefix_of_input, told_plain}
 use Rattle.batch_player.proofs.rate.rate_input_text.Goals as goal
 
 pub returns-in-Err-clause-section : goal.returns-in-Err-clause-section
@@ -18,19 +18,19 @@ returns-clause-file g c =
     let has = c.in-Ok.given in
     let given : RateInput = record { sheet = has.sheet; issuer = has.issuer; batch = drop has.batch_from input } in
     let taken = rw c.deref.ensures.value at c.in-Ok.ensures.taken in
-    let filed = rw c.drop_front.ensures at c.rate_batch.ensures.file in
+    let filed = rw c.drop_before.ensures at c.rate_batch.ensures.file in
     filed_input c.args.period input given taken c.in-Ok.ensures.rules.0 c.in-Ok.ensures.rules.1 c.rate_batch.result
     (Appends (g.W.Sink.contents c.args.writer.now) (g.W.Sink.contents c.rate_batch.new.writer)) filed
 
-pub returns-clause-front : goal.returns-clause-front
-returns-clause-front g c = λ is.
+pub returns-clause-prefix : goal.returns-clause-prefix
+returns-clause-prefix g c = λ is.
     let input = c.args.input.items in
     let has = c.in-Ok.given in
     let given : RateInput = record { sheet = has.sheet; issuer = has.issuer; batch = drop has.batch_from input } in
     let taken = rw c.deref.ensures.value at c.in-Ok.ensures.taken in
-    let filed = rw c.drop_front.ensures at (c.rate_batch.ensures.front is) in
-    front_of_input c.args.period input given taken c.in-Ok.ensures.rules.0 c.in-Ok.ensures.rules.1
-    (AppendsFront (g.W.Sink.contents c.args.writer.now) (g.W.Sink.contents c.rate_batch.new.writer)) filed
+    let filed = rw c.drop_before.ensures at (c.rate_batch.ensures.prefix is) in
+    prefix_of_input c.args.period input given taken c.in-Ok.ensures.rules.0 c.in-Ok.ensures.rules.1
+    (AppendsPrefix (g.W.Sink.contents c.args.writer.now) (g.W.Sink.contents c.rate_batch.new.writer)) filed
 
 pub returns-clause-refused : goal.returns-clause-refused
 returns-clause-refused g c = λ refusal is.
@@ -38,5 +38,5 @@ returns-clause-refused g c = λ refusal is.
     let has = c.in-Ok.given in
     let given : RateInput = record { sheet = has.sheet; issuer = has.issuer; batch = drop has.batch_from input } in
     let taken = rw c.deref.ensures.value at c.in-Ok.ensures.taken in
-    let refused = rw c.drop_front.ensures at (c.rate_batch.ensures.refused refusal is) in
+    let refused = rw c.drop_before.ensures at (c.rate_batch.ensures.refused refusal is) in
     rated_well c.args.period input given taken ∙ ap or_refused refused

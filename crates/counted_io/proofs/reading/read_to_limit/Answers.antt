@@ -9,7 +9,7 @@ loop-filled-preserved g c =
     record {
       within = search rules;
       bounded = search rules;
-      consumed = rw (take-add c.loop-filled.filled c.in_ok-count.count c.read_block.new.bytes.items, came.front)
+      consumed = rw (take-add c.loop-filled.filled c.in_ok-count.count c.read_block.new.bytes.items, came.before)
           (Consumes-trans _ _ _ _ _ c.loop-filled.invariant.consumed came.consumed);
       quiet = search rules;
     }

@@ -1,11 +1,11 @@
 use Rattle.std.proofs.Common.{◌≡◌, ◌∙◌, false, rules, arith}
-use Rattle.focus_csv.proofs.BeginningLaws.{ended, front_of_all, on_err, longer_begins}
+use Rattle.focus_csv.proofs.BeginningLaws.{ended, prefix_of_all, on_err, longer_begins}
 use Rattle.focus_csv.proofs.files.put_left.Goals as goal
 
 pub returns-in_err-is_more-clause-begins : goal.returns-in_err-is_more-clause-begins
 returns-in_err-is_more-clause-begins c =
     let so = c.loop-pieces.invariant in
-    let begins = front_of_all _ _ _ _ so.all so.long in
+    let begins = prefix_of_all _ _ _ _ so.all so.long in
     on_err c.from_residual.result (longer_begins _ _ _ begins.0 begins.1 c.in_err-is_more.ensures.begins)
 
 pub returns-then-not-is_more-clause-put : goal.returns-then-not-is_more-clause-put

@@ -3,7 +3,7 @@ use Rattle.std.specs.List.{flat_map}
 use Rattle.std.proofs.KnownBytes.{Appends-nil}
 use Rattle.metering_model.specs.File.{file, row_text}
 use Rattle.focus_csv.proofs.FileParts.{file_behind}
-use Rattle.focus_csv.proofs.Sinks.{next_front, next_some, next_written, last_written, begun_anew}
+use Rattle.focus_csv.proofs.Sinks.{next_prefix, next_some, next_written, last_written, begun_anew}
 use Rattle.focus_csv.proofs.files.write_rows.Goals as goal
 
 pub loop-fault-init : goal.loop-fault-init
@@ -11,10 +11,10 @@ loop-fault-init g c =
     let begun : c.extend_from_slice.new.self.items ≡ [] ++ c.header_text.result.now = search rules in
     ([], file_behind [] c.header_text.result.now _ _ c.args.left c.header_text.ensures begun refl, Appends-nil _, refl)
 
-pub returns-in-Err-clause-front : goal.returns-in-Err-clause-front
-returns-in-Err-clause-front g c is =
+pub returns-in-Err-clause-prefix : goal.returns-in-Err-clause-prefix
+returns-in-Err-clause-prefix g c is =
     let so = c.loop-fault.invariant in
-    next_front _ _ _ so.0 _ _ _ _ so.1 c.as_slice.ensures.value so.2 c.in-Err.ensures.front
+    next_prefix _ _ _ so.0 _ _ _ _ so.1 c.as_slice.ensures.value so.2 c.in-Err.ensures.prefix
 
 pub returns-in_default-put_next-clause-memory : goal.returns-in_default-put_next-clause-memory
 returns-in_default-put_next-clause-memory g c is =

@@ -15,7 +15,7 @@ loop-i-preserved c =
           ∙ ap (λ t. t ++ row_text (model_row row)) c.loop-i.invariant.text
           ∙ append_assoc before _ (row_text (model_row row))
           ∙ ap (λ t. before ++ t) (rows_more c.args.rows.now c.loop-i.i row c.loop-i-test.true c.row_at-row.ensures);
-      kept = λ _. c.in_ok-set.ensures.of;
+      held = λ _. c.in_ok-set.ensures.of;
     }
 
 pub returns-in_err-set-clause-begins : goal.returns-in_err-set-clause-begins

@@ -1,6 +1,6 @@
 use Rattle.std.proofs.Common.{refl, rules, sym}
 use Rattle.input_sections.specs.declared.faults.ScheduleFault.TheVariants.{OutOfMemory}
-use Rattle.schedule_player.proofs.PlayedLaws.{longer_schedule, plain_fault, told_of_known, of_known, cut_of_known, front_of_known, nothing_of}
+use Rattle.schedule_player.proofs.PlayedLaws.{longer_schedule, plain_fault, told_of_known, of_known, cut_of_known, prefix_of_known, nothing_of}
 use Rattle.schedule_player.proofs.play.play_text.Goals as goal
 
 pub returns-clause-transcript : goal.returns-clause-transcript
@@ -8,10 +8,10 @@ returns-clause-transcript g c =
     of_known c.play_input.result (g.R.Source.remaining c.args.reader.now) _ _ c.in_ok-input.input.items c.in_ok-input.ensures.whole
     (rw c.deref.ensures.value at c.play_input.ensures.transcript)
 
-pub returns-clause-front : goal.returns-clause-front
-returns-clause-front g c = λ is.
+pub returns-clause-prefix : goal.returns-clause-prefix
+returns-clause-prefix g c = λ is.
     cut_of_known (g.R.Source.remaining c.args.reader.now) _ _ c.in_ok-input.input.items c.in_ok-input.ensures.whole
-    (rw c.deref.ensures.value at (c.play_input.ensures.front is))
+    (rw c.deref.ensures.value at (c.play_input.ensures.prefix is))
 
 pub returns-clause-section : goal.returns-clause-section
 returns-clause-section g c = λ fault is.
@@ -20,7 +20,7 @@ returns-clause-section g c = λ fault is.
 
 pub returns-clause-memory : goal.returns-clause-memory
 returns-clause-memory g c = λ is.
-    front_of_known (g.R.Source.remaining c.args.reader.now) _ _ c.in_ok-input.input.items c.in_ok-input.ensures.whole
+    prefix_of_known (g.R.Source.remaining c.args.reader.now) _ _ c.in_ok-input.input.items c.in_ok-input.ensures.whole
     (rw c.deref.ensures.value at (c.play_input.ensures.memory is))
 
 pub returns-in_err-input-clause-section : goal.returns-in_err-input-clause-section

@@ -2,7 +2,7 @@ use Rattle.std.proofs.Common.{◌+◌, ◌<◌, ◌++◌, length, ap, ◌∙◌,
 use Rattle.std.proofs.KnownBytes.{Appends-trans}
 use Rattle.schedule_player.specs.Inner.Playing.{IsTold}
 use Rattle.schedule_player.proofs.Results.{on_err}
-use Rattle.schedule_player.proofs.Texts.{still_all, text_more, told_front, world_left, world_more}
+use Rattle.schedule_player.proofs.Texts.{still_all, text_more, told_prefix, world_left, world_more}
 use Rattle.schedule_player.proofs.playing.play_on.Goals as goal
 
 pub loop-done-preserved : goal.loop-done-preserved
@@ -34,8 +34,8 @@ returns-in_default-clause-told g c =
     let so = c.loop-done.invariant in
     (so.0.0, so.0.1, ap (λ t. so.0.0 ++ t) c.in_default.ensures.kept ∙ so.0.2)
 
-pub returns-in_err-write_many-clause-front : goal.returns-in_err-write_many-clause-front
-returns-in_err-write_many-clause-front g c =
+pub returns-in_err-write_many-clause-prefix : goal.returns-in_err-write_many-clause-prefix
+returns-in_err-write_many-clause-prefix g c =
     let so = c.loop-done.invariant in
     let events = c.args.events.now in
     let i = c.loop-done.done in
@@ -46,4 +46,4 @@ returns-in_err-write_many-clause-front g c =
       text_more c.args.world.now c.loop-done.world c.play_event.new.world events i _ within so.0.0 c.loop-done.lines c.play_event.new.lines so.1 so.0.2 c.in-Ok.ensures.text,
     ) in
     on_err c.from_residual.result
-    (told_front (g.W.Sink.contents c.args.writer.now) (g.W.Sink.contents c.loop-done.writer) _ c.args.world.now events (i + 1) c.play_event.new.lines told c.in_err-write_many.ensures.front)
+    (told_prefix (g.W.Sink.contents c.args.writer.now) (g.W.Sink.contents c.loop-done.writer) _ c.args.world.now events (i + 1) c.play_event.new.lines told c.in_err-write_many.ensures.prefix)

@@ -1,7 +1,7 @@
 use Rattle.std.proofs.Common.{◌≡◌, ◌∷◌, [], ◌++◌, codes, rules, ap, ◌∙◌}
 use Rattle.metering_model.specs.Transcript.{with_number}
 use Rattle.threads_player.specs.Groups.{month_of, reading_text}
-use Rattle.threads_player.proofs.Pieces.{batch_is}
+use Rattle.threads_player.proofs.JournalTexts.{batch_is}
 use Rattle.threads_player.proofs.journals.batch.Goals as goal
 
 pub returns : goal.returns

@@ -1,12 +1,12 @@
 use Rattle.std.proofs.Common.{◌≡◌, ◌++◌, rules, subst}
-use Rattle.counted_io.specs.Writing.{AppendsFront}
-use Rattle.counted_io.proofs.Fronts.{front_behind}
+use Rattle.counted_io.specs.Writing.{AppendsPrefix}
+use Rattle.counted_io.proofs.Prefixes.{prefix_behind}
 use Rattle.schedule_player.proofs.Results.{on_err}
 use Rattle.schedule_player.proofs.lines.ReplyLines.write.Goals as goal
 
-pub returns-in_err-write_all-2-clause-front : goal.returns-in_err-write_all-2-clause-front
-returns-in_err-write_all-2-clause-front g c =
+pub returns-in_err-write_all-2-clause-prefix : goal.returns-in_err-write_all-2-clause-prefix
+returns-in_err-write_all-2-clause-prefix g c =
     let whole : c.deref.result.now ++ c.deref-2.result.now ≡ c.args.self.now = search rules in
     on_err c.from_residual-in_err-write_all-2.result
-    (subst (AppendsFront (g.W.Sink.contents c.args.writer.now) (g.W.Sink.contents c.write_all-2.new.sink)) whole
-    (front_behind _ _ _ _ _ c.in_ok-write_all.ensures.written c.in_err-write_all-2.ensures.front))
+    (subst (AppendsPrefix (g.W.Sink.contents c.args.writer.now) (g.W.Sink.contents c.write_all-2.new.sink)) whole
+    (prefix_behind _ _ _ _ _ c.in_ok-write_all.ensures.written c.in_err-write_all-2.ensures.prefix))

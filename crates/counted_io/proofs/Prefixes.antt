@@ -4,12 +4,12 @@ use Rattle.std.proofs.lemmas.List.{length-append, take-append-le}
 use Rattle.std.proofs.Math.Seq.{take-append-add, take-length}
 use Rattle.std.proofs.KnownBytes.{Appends-trans}
 use Rattle.std.specs.Io.KnownBytes.{Appends}
-use Rattle.counted_io.specs.Writing.{AppendsFront, AppendsSome}
+use Rattle.counted_io.specs.Writing.{AppendsPrefix, AppendsSome}
 
 module _ (a b c : Option (List ℕ)) (xs ys : List ℕ) where
-  -- a front behind a whole text is a front of both
-  pub front_behind : Appends a b xs → AppendsFront b c ys → AppendsFront a c (xs ++ ys)
-  front_behind before after =
+  -- a prefix behind a whole text is a prefix of both
+  pub prefix_behind : Appends a b xs → AppendsPrefix b c ys → AppendsPrefix a c (xs ++ ys)
+  prefix_behind before after =
       let short = after.1 in (
         length xs + after.0,
         omega (arith, length-append xs ys, short),
@@ -25,16 +25,16 @@ module _ (a b c : Option (List ℕ)) (xs ys : List ℕ) where
       )
 
 module _ (a b : Option (List ℕ)) (xs ys : List ℕ) where
-  -- a front of a text is one of the text with more behind it
-  pub front_within : AppendsFront a b xs → AppendsFront a b (xs ++ ys)
-  front_within front =
-      let short = front.1 in (
-        front.0,
+  -- a prefix of a text is one of the text with more behind it
+  pub prefix_within : AppendsPrefix a b xs → AppendsPrefix a b (xs ++ ys)
+  prefix_within prefix =
+      let short = prefix.1 in (
+        prefix.0,
         omega (arith, length-append xs ys, short),
-        subst (Appends a b) (sym (take-append-le front.0 xs ys (omega (arith, short)))) front.2,
+        subst (Appends a b) (sym (take-append-le prefix.0 xs ys (omega (arith, short)))) prefix.2,
       )
 
-  -- a whole text is a front of the text with more behind it
+  -- a whole text is a prefix of the text with more behind it
   pub some_within : Appends a b xs → AppendsSome a b (xs ++ ys)
   some_within all = (
     length xs,
