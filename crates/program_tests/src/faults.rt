@@ -58,12 +58,13 @@ fn an_event_is_refused_by_a_code(rt: HostRuntime) -> Result<(), Fail> {
         Refusal::NoBallot,
         Refusal::WorldFull,
         Refusal::NoAgent,
+        Refusal::Observer,
     ];
     let mut text = String::new(rt.alloc());
     tell(&mut text, &refusals)?;
     assert_eq!(rt;
         text.as_str(),
-        "G1 V2 line 1002.G2 wanted 2.G3.G4.G5.G6.G7 learned 3.G8 agent 64 seq 1000000.G9.G10.G11.G12."
+        "G1 V2 line 1002.G2 wanted 2.G3.G4.G5.G6.G7 learned 3.G8 agent 64 seq 1000000.G9.G10.G11.G12.G13."
     );
     Ok(())
 }
