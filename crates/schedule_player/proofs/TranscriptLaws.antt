@@ -1,5 +1,5 @@
 -- What was written of a schedule, as what was written of the input that it was read from.
-use Rattle.std.proofs.Common.{◌≡◌, ℕ, ◌<◌, ◌≤◌, ◌⊎◌, List, [], length, map, take, Option, Some, None, Result, Ok, Err, OnOk, inl, inr, refl, sym, subst, ◌∙◌, arith, ⊎_elim}
+use Rattle.std.proofs.Common.{◌≡◌, ◌+◌, ℕ, ◌<◌, ◌≤◌, ◌⊎◌, List, [], length, map, take, Option, Some, None, Result, Ok, Err, OnOk, inl, inr, refl, sym, subst, ◌∙◌, arith, ⊎_elim}
 use Rattle.std.specs.Io.KnownBytes.{Appends, Keeps}
 use Rattle.std.proofs.lemmas.List.{append-nil, length-map, take-map}
 use Rattle.counted_io.specs.Writing.{AppendsFront}
@@ -28,7 +28,7 @@ module _ (input : List ℕ) (s : Schedule) (taken : schedule_in input ≡ Ok (re
     is_read = taken;
     form = form;
     is_transcript = refl;
-    headline = holds_of_bytes s.nodes s.agents s.sheet s.issuer (events_of s.events.items) rules.0 rules.1;
+    headline = holds_of_bytes s.voters s.observers s.agents s.sheet s.issuer (events_of s.events.items) rules.0 rules.1;
   }
 
   pub played_input : {T E : Type 0} (r : Result T E) (old new : Option (List ℕ)) → OnOk r (Appends old new (transcript (replies_to (read_of s) (read_of s).events)))
@@ -40,24 +40,24 @@ module _ (input : List ℕ) (s : Schedule) (taken : schedule_in input ≡ Ok (re
       → (text : List ℕ) × IsTranscriptOf (Some input) input text × AppendsFront old new text
   front_of_whole old new front = (transcript (replies_to (read_of s) (read_of s).events), whole, front)
 
-  first_of : (done : ℕ) → done < length s.events.items → IsTranscriptOfFirst (read_of s) done (text_of (opening s.nodes s.agents s.sheet s.issuer) (events_of (take done s.events.items)))
+  first_of : (done : ℕ) → done < length s.events.items → IsTranscriptOfFirst (read_of s) done (text_of (opening s.voters s.observers s.agents s.sheet s.issuer) (events_of (take done s.events.items)))
   first_of done within =
       let same : take done (map planned_of s.events.items) ≡ map planned_of (take done s.events.items) = take-map planned_of done s.events.items in
       let P = λ (events : List model.Planned). IsTranscriptOfFirst (read_of s) done (transcript (replies_to (read_of s) events)) in
       subst P same (record {
         within = omega (arith, within, length-map s.events.items planned_of);
         is_transcript = refl;
-        headline = holds_of_bytes s.nodes s.agents s.sheet s.issuer (map model.event_of (take done (map planned_of s.events.items))) rules.0 rules.1;
+        headline = holds_of_bytes s.voters s.observers s.agents s.sheet s.issuer (map model.event_of (take done (map planned_of s.events.items))) rules.0 rules.1;
       })
 
   pub front_of_input : (old new : Option (List ℕ))
-      → Keeps old new ⊎ AppendsFirst old new (opening s.nodes s.agents s.sheet s.issuer) s.events.items
+      → Keeps old new ⊎ AppendsFirst old new (opening s.voters s.observers s.agents s.sheet s.issuer) s.events.items
       → (text : List ℕ) × IsFrontOfTranscript (Some input) input text × Appends old new text
   front_of_input old new =
       ⊎_elim
       (λ kept. ([], record { is_input = refl; is_front = inl refl }, kept_appends old new kept))
       (λ first. (
-        text_of (opening s.nodes s.agents s.sheet s.issuer) (events_of (take first.0 s.events.items)),
+        text_of (opening s.voters s.observers s.agents s.sheet s.issuer) (events_of (take first.0 s.events.items)),
         record {
           is_input = refl;
           is_front = inr (record { schedule = read_of s; is_read = taken; form = form; done = first.0; is_first = first_of first.0 first.1 });
@@ -69,9 +69,9 @@ module _ (input : List ℕ) (s : Schedule) (taken : schedule_in input ≡ Ok (re
 pub none_of_input : (input : List ℕ) (old new : Option (List ℕ)) → Keeps old new → (text : List ℕ) × IsFrontOfTranscript (Some input) input text × Appends old new text
 none_of_input input old new kept = ([], record { is_input = refl; is_front = inl refl }, kept_appends old new kept)
 
--- the numbers of nodes and agents of a schedule that was read
-pub nodes_within : (input : List ℕ) (s : Schedule) → IsRead input (read_of s) → (1 ≤ s.nodes) × (s.nodes ≤ 99)
-nodes_within input s is = (omega (arith, is.1.nodes, is.1.form.nodes.0), omega (arith, is.1.nodes, is.1.form.nodes.1))
+-- the numbers of voters, observers and agents of a schedule that was read
+pub nodes_within : (input : List ℕ) (s : Schedule) → IsRead input (read_of s) → (1 ≤ s.voters) × (s.voters + s.observers ≤ 99)
+nodes_within input s is = (omega (arith, is.1.voters, is.1.form.nodes.0), omega (arith, is.1.voters, is.1.observers, is.1.form.nodes.1))
 
 pub agents_within : (input : List ℕ) (s : Schedule) → IsRead input (read_of s) → (1 ≤ s.agents) × (s.agents ≤ 64)
 agents_within input s is = (omega (arith, is.1.agents, is.1.form.agents.0), omega (arith, is.1.agents, is.1.form.agents.1))

@@ -10,14 +10,14 @@ use Rattle.transcript_laws.specs.Shown.{HoldsOfBytes}
 
 -- what the group of a schedule answers to these of its events
 abbrev pub replies_to : ReadSchedule → List Planned → List Reply
-replies_to s events = (play (opening s.nodes s.agents s.sheet s.issuer) (map event_of events)).0
+replies_to s events = (play (opening s.voters s.observers s.agents s.sheet s.issuer) (map event_of events)).0
 
 -- The text is the transcript of the first events of a schedule, fewer than all, and nothing else, and what the headline says of
 -- its bytes holds.
 pub record IsTranscriptOfFirst (s : ReadSchedule) (done : ℕ) (text : List ℕ) : Type 0 where
   pub within : done < length s.events
   pub is_transcript : text ≡ transcript (replies_to s (take done s.events))
-  pub headline : HoldsOfBytes s.nodes s.agents s.sheet s.issuer (map event_of (take done s.events)) text
+  pub headline : HoldsOfBytes s.voters s.observers s.agents s.sheet s.issuer (map event_of (take done s.events)) text
 
 -- The text is the transcript of an input, which is all that a reader gives where its bytes are known. The input is the text of
 -- a schedule in its form.
@@ -27,7 +27,7 @@ pub record IsTranscriptOf (known : Option (List ℕ)) (input text : List ℕ) : 
   pub is_read : schedule_in input ≡ Ok schedule
   pub form : IsRead input schedule
   pub is_transcript : text ≡ transcript (replies_to schedule schedule.events)
-  pub headline : HoldsOfBytes schedule.nodes schedule.agents schedule.sheet schedule.issuer (map event_of schedule.events) text
+  pub headline : HoldsOfBytes schedule.voters schedule.observers schedule.agents schedule.sheet schedule.issuer (map event_of schedule.events) text
 
 -- The text is the transcript of the first events of the schedule that an input is.
 pub record IsTranscriptOfSome (input text : List ℕ) : Type 0 where

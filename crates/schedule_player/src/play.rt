@@ -1,6 +1,6 @@
 //! `focusd play`: the transcript of a schedule.
 
-ghost use Rattle.std.specs.Prelude.{◌≡◌, ◌≢◌, ◌≤◌, ◌⊎◌, List, ℕ, All, Ok, Err, Some, IfOk, IfErr, IfSome, OnOk};
+ghost use Rattle.std.specs.Prelude.{◌≡◌, ◌≢◌, ◌+◌, ◌≤◌, ◌⊎◌, List, ℕ, All, Ok, Err, Some, IfOk, IfErr, IfSome, OnOk};
 ghost use Rattle.std.specs.Io.KnownBytes.{Appends, IsAtEnd, Keeps};
 ghost use Rattle.counted_io.specs.Counts.{Rises, count_after};
 ghost use Rattle.counted_io.specs.Reading.{ConsumesAtMost};
@@ -27,14 +27,15 @@ use std::sync::Arc;
 /// A group before any event, by a sheet and an issuer that all its nodes share.
 fn opening_world(
     alloc: Global,
-    nodes: u8,
+    voters: u8,
+    observers: u8,
     agents: u8,
     sheet: Sheet,
     issuer: Issuer,
 ) -> Result<World, AllocError>
-    requires nodes { (1 ≤ nodes) × (nodes ≤ 99) }
+    requires nodes { (1 ≤ voters) × (voters + observers ≤ 99) }
     requires agents { (1 ≤ agents) × (agents ≤ 64) }
-    ensures { IfOk result (λ world. world ≡ opening nodes agents sheet issuer) }
+    ensures { IfOk result (λ world. world ≡ opening voters observers agents sheet issuer) }
 {
     let Ok(sheet) = Arc::new(alloc, sheet) else {
         return Err(AllocError);
@@ -42,7 +43,7 @@ fn opening_world(
     let Ok(issuer) = Arc::new(alloc, issuer) else {
         return Err(AllocError);
     };
-    World::new(alloc, nodes, agents, sheet, issuer)
+    World::new(alloc, voters, observers, agents, sheet, issuer)
 }
 
 /// Plays a schedule that was read, and writes its transcript.
@@ -51,25 +52,26 @@ fn play_schedule<W: Sink>(
     schedule: Schedule<'_>,
     writer: &mut W,
 ) -> Result<(), PlayFault>
-    requires nodes { (1 ≤ schedule.nodes) × (schedule.nodes ≤ 99) }
+    requires nodes { (1 ≤ schedule.voters) × (schedule.voters + schedule.observers ≤ 99) }
     requires agents { (1 ≤ schedule.agents) × (schedule.agents ≤ 64) }
     requires lines { All HasWholeLines schedule.events.items }
     ensures played { OnOk result (Appends (W.contents writer.old) (W.contents writer.new) (transcript (replies_to (read_of schedule.entry) (read_of schedule.entry).events))) }
     ensures front { result ≡ Err PlayFault.Write → AppendsFront (W.contents writer.old) (W.contents writer.new) (transcript (replies_to (read_of schedule.entry) (read_of schedule.entry).events)) }
-    ensures memory { result ≡ Err PlayFault.OutOfMemory → Keeps (W.contents writer.old) (W.contents writer.new) ⊎ AppendsFirst (W.contents writer.old) (W.contents writer.new) (opening schedule.entry.nodes schedule.entry.agents schedule.entry.sheet schedule.entry.issuer) schedule.entry.events.items }
+    ensures memory { result ≡ Err PlayFault.OutOfMemory → Keeps (W.contents writer.old) (W.contents writer.new) ⊎ AppendsFirst (W.contents writer.old) (W.contents writer.new) (opening schedule.entry.voters schedule.entry.observers schedule.entry.agents schedule.entry.sheet schedule.entry.issuer) schedule.entry.events.items }
     ensures fault { result ≡ Err PlayFault.Write → Rises (W.failed_calls writer.old) (W.failed_calls writer.new) }
     ensures count { W.failed_calls writer.new ≡ count_after (tells_of_writer result) (W.failed_calls writer.old) }
     ensures others { (result ≢ Err PlayFault.Read) × ((fault : ScheduleFault) → result ≢ Err (PlayFault.Schedule fault))
         × ((refusal : Refusal) → result ≢ Err (PlayFault.Refused refusal)) }
 {
     let Schedule {
-        nodes,
+        voters,
+        observers,
         agents,
         sheet,
         issuer,
         events,
     } = schedule;
-    let Ok(world) = opening_world(alloc, nodes, agents, sheet, issuer) else {
+    let Ok(world) = opening_world(alloc, voters, observers, agents, sheet, issuer) else {
         return Err(PlayFault::OutOfMemory);
     };
     let Ok(done) = play_events(alloc, world, &events, writer) else {

@@ -11,7 +11,7 @@ use Rattle.schedule_reader.specs.Events.{planned_of}
 use Rattle.schedule_reader.specs.Schedules.{ReadSchedule}
 
 abbrev pub read_of : Schedule → ReadSchedule
-read_of s = record { nodes = s.nodes; agents = s.agents; sheet = s.sheet; issuer = s.issuer; events = map planned_of s.events.items }
+read_of s = record { voters = s.voters; observers = s.observers; agents = s.agents; sheet = s.sheet; issuer = s.issuer; events = map planned_of s.events.items }
 
 -- what happens to the group, by the model
 abbrev pub events_of : List Planned → List Event
