@@ -20,7 +20,7 @@ use Rattle.batch_player.specs.declared.faults.PlayFault.TheVariants.{Schedule, R
 
 -- a world of one node and 64 agents, in which nothing has happened
 abbrev pub world_before : Sheet → Issuer → World
-world_before sheet issuer = opening 1 64 sheet issuer
+world_before sheet issuer = opening 1 0 64 sheet issuer
 
 -- the batch that a text is, where that world journals it, or why it doesn't
 unfoldable pub journaled_in : Sheet → Issuer → List ℕ → Result Batch Refusal

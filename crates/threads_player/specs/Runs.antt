@@ -14,7 +14,8 @@ use Rattle.threads_player.specs.SampleSheet.{sample_sheet_text}
 -- The plan is that of the group, receipts agree with it, all files of one period are the same bytes, the history is one that
 -- one thread could have made, and the headline holds of it.
 pub record IsRunOf (size : Size) (run : Run) : Type 0 where
-  pub nodes : run.plan.nodes ≡ size.nodes
+  pub voters : run.plan.voters ≡ size.nodes
+  pub observers : run.plan.observers ≡ 0
   pub sheet : sheet_of_text sample_sheet_text ≡ Ok run.plan.sheet
   pub issuer : run.plan.issuer ≡ sample_issuer
   pub journals : run.plan.journals ≡ journals_of size
@@ -22,7 +23,7 @@ pub record IsRunOf (size : Size) (run : Run) : Type 0 where
   pub agree : Agree run.book run.plan run.logs
   pub files : FilesAgree run.logs
   pub history : IsLegal (opened run.book) run.book.history run.book.world
-  pub headline : HoldsAfter run.book.nodes run.book.agents run.book.sheet run.book.issuer (map (λ e. e.event) run.book.history) (map (λ e. e.reply) run.book.history) run.book.world
+  pub headline : HoldsAfter run.book.voters run.book.observers run.book.agents run.book.sheet run.book.issuer (map (λ e. e.event) run.book.history) (map (λ e. e.reply) run.book.history) run.book.world
 
 -- The text of the sample sheet is refused.
 abbrev pub IsSheetRefused : Type 0

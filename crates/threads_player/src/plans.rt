@@ -23,7 +23,8 @@ const TURNS: u32 = 1_000_000;
 fn plan_with(alloc: Global, size: Size, sheet: Sheet) -> Result<Plan, AllocError>
     ensures agents { IfOk result (λ plan. vec_len plan.journals ≡ size.agents) }
     ensures plan { IfOk result (λ plan. plan_of plan ≡ record {
-      nodes = size.nodes;
+      voters = size.nodes;
+      observers = 0;
       sheet = sheet;
       issuer = sample_issuer;
       journals = journals_of size;
@@ -31,7 +32,8 @@ fn plan_with(alloc: Global, size: Size, sheet: Sheet) -> Result<Plan, AllocError
     }) }
 {
     Ok(Plan {
-        nodes: size.nodes,
+        voters: size.nodes,
+        observers: 0,
         sheet: Arc::new(alloc, sheet)?,
         issuer: Arc::new(alloc, Issuer::sample(alloc)?)?,
         journals: journals(alloc, size)?,
@@ -40,9 +42,10 @@ fn plan_with(alloc: Global, size: Size, sheet: Sheet) -> Result<Plan, AllocError
     })
 }
 
-/// The plan of a group of that size, with the sample sheet and the sample issuer.
+/// The plan of a group of that size, in which each node votes, with the sample sheet and the sample issuer.
 pub(crate) fn plan(alloc: Global, size: Size) -> Result<Plan, ThreadsFault>
-    ensures nodes { IfOk result (λ plan. (plan_of plan).nodes ≡ size.nodes) }
+    ensures voters { IfOk result (λ plan. (plan_of plan).voters ≡ size.nodes) }
+    ensures observers { IfOk result (λ plan. (plan_of plan).observers ≡ 0) }
     ensures sheet { IfOk result (λ plan. sheet_of_text sample_sheet_text ≡ Ok (plan_of plan).sheet) }
     ensures issuer { IfOk result (λ plan. (plan_of plan).issuer ≡ sample_issuer) }
     ensures journals { IfOk result (λ plan. (plan_of plan).journals ≡ journals_of size) }
