@@ -1,7 +1,7 @@
 //! Runs in threads, with a gate that shows whether nodes overlap.
 
 use crate::samples::plan_of;
-use node_threads::{Gate, Plan, Run, RunFault, run_group};
+use node_threads::{Gate, Log, Plan, Run, RunFault, run_group};
 use std::alloc::Global;
 use std::sync::Wait;
 use std::sync::atomic::{AtomicBool, AtomicU64, Ordering};
@@ -76,7 +76,7 @@ fn run_of<R: Threads + Wait + Sync>(
     plan: Plan,
     gate: &Held,
 ) -> Result<Run, RunFault> {
-    if plan.nodes < 1 || 99 < plan.nodes || plan.journals.len() != 1 {
+    if plan.voters < 1 || 99 < plan.nodes() || plan.journals.len() != 1 {
         return Err(RunFault::Mismatch);
     }
     if plan.periods < 1 || 1_200 < plan.periods {
@@ -102,11 +102,54 @@ fn agrees_with_its_own(run: &Run, other: &Plan) -> bool {
 #[test]
 fn a_node_exports_while_another_is_held(rt: HostRuntime) -> Result<(), Fail> {
     let gate = Held::of(NONE);
-    let plan = plan_of(rt.alloc(), 3, 1)?;
-    let more = plan_of(rt.alloc(), 3, 2)?;
+    let plan = plan_of(rt.alloc(), 3, 0, 1)?;
+    let more = plan_of(rt.alloc(), 3, 0, 2)?;
     let run = run_of(&rt, rt.alloc(), plan, &gate)?;
     assert!(rt; gate.was_passed.load(Ordering::SeqCst));
     assert!(rt; agrees_with_its_own(&run, &more));
+    Ok(())
+}
+
+/// The file of a period that a worker has, if it has one.
+fn file_in(log: &Log, period: u16) -> Option<&[u8]> {
+    for one in &log.done {
+        if one.is_export_of(period) {
+            return one.file();
+        }
+    }
+    None
+}
+
+/// Whether so many nodes have the file of a period, and the same one.
+fn is_exported_alike(logs: &[Log], nodes: usize, period: u16) -> bool {
+    let mut first = None;
+    let mut count = 0usize;
+    for log in logs {
+        let Some(file) = file_in(log, period) else {
+            continue;
+        };
+        count = count.saturating_add(1);
+        match first {
+            Some(wanted) if wanted != file => return false,
+            _ => first = Some(file),
+        }
+    }
+    count == nodes
+}
+
+/// Two voters and an observer have the same files, however their threads take turns. The last log is the observer's, and the
+/// other plan has none.
+#[test]
+fn an_observer_has_the_files_of_the_voters_200_times(rt: HostRuntime) -> Result<(), Fail> {
+    let other = plan_of(rt.alloc(), 2, 0, 2)?;
+    for _ in 0..200 {
+        let plan = plan_of(rt.alloc(), 2, 1, 2)?;
+        let run = run_of(&rt, rt.alloc(), plan, &Held::of(NONE - 1))?;
+        for period in 0..2u16 {
+            assert!(rt; is_exported_alike(run.logs(), 3, period));
+        }
+        assert!(rt; agrees_with_its_own(&run, &other));
+    }
     Ok(())
 }
 
@@ -114,7 +157,7 @@ fn a_node_exports_while_another_is_held(rt: HostRuntime) -> Result<(), Fail> {
 /// none is held.
 #[test]
 fn a_refused_growth_ends_a_run(rt: HostRuntime) -> Result<(), Fail> {
-    let Ok(plan) = plan_of(rt.alloc(), 2, 2) else {
+    let Ok(plan) = plan_of(rt.alloc(), 2, 0, 2) else {
         return Ok(());
     };
     match run_of(&rt, rt.alloc(), plan, &Held::of(NONE - 1)) {

@@ -141,7 +141,7 @@ fn a_refused_growth_leaves_the_book(rt: HostRuntime) -> Result<(), Fail> {
     let (Ok(sheet), Ok(issuer)) = (sheet(rt.alloc()), issuer(rt.alloc())) else {
         return Ok(());
     };
-    let Ok(mut book) = Book::new(rt.alloc(), 1, 1, sheet, issuer) else {
+    let Ok(mut book) = Book::new(rt.alloc(), 1, 0, 1, sheet, issuer) else {
         return Ok(());
     };
     assert!(rt; are_acted(rt.alloc(), &mut book)?);

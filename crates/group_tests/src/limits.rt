@@ -27,7 +27,7 @@ fn fill(world: &mut World, alloc: Global) -> Result<(), Fail> {
 #[test]
 fn a_world_has_1_000_000_packets(rt: HostRuntime) -> Result<(), Fail> {
     let alloc = rt.alloc();
-    let mut world = World::new(alloc, 1, 1, sheet(alloc)?, issuer(alloc)?)?;
+    let mut world = World::new(alloc, 1, 0, 1, sheet(alloc)?, issuer(alloc)?)?;
     let start = Event::Start { node: 0 };
     let begun = world.step(alloc, &start)?;
     assert!(rt; matches!(begun, Reply::Started { .. }));

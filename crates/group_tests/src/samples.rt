@@ -71,9 +71,9 @@ pub(crate) fn issuer(alloc: Global) -> Result<Arc<Issuer>, AllocError> {
     }
 }
 
-/// A group of three nodes and one agent.
+/// A group of three voters and one agent.
 pub(crate) fn world(alloc: Global) -> Result<World, AllocError> {
-    World::new(alloc, 3, 1, sheet(alloc)?, issuer(alloc)?)
+    World::new(alloc, 3, 0, 1, sheet(alloc)?, issuer(alloc)?)
 }
 
 /// The event, of period 0 where it is an export.
@@ -132,13 +132,19 @@ fn texts(alloc: Global) -> Result<Vec<Vec<u8>>, AllocError> {
     Ok(texts)
 }
 
-/// A plan of that many nodes, with one agent that has two batches of January and as many periods. A gate is asked 1,000,000
-/// times at most.
-pub(crate) fn plan_of(alloc: Global, nodes: u8, periods: u16) -> Result<Plan, AllocError> {
+/// A plan of that many voters and observers, with one agent that has two batches of January and as many periods. A gate is
+/// asked 1,000,000 times at most.
+pub(crate) fn plan_of(
+    alloc: Global,
+    voters: u8,
+    observers: u8,
+    periods: u16,
+) -> Result<Plan, AllocError> {
     let mut journals = Vec::new(alloc);
     journals.push(texts(alloc)?)?;
     Ok(Plan {
-        nodes,
+        voters,
+        observers,
         sheet: sheet(alloc)?,
         issuer: issuer(alloc)?,
         journals,
