@@ -1,6 +1,7 @@
 mod BeginningLaws
 mod CsvText
 mod FileParts
+mod JsonText
 mod LineLaws
 mod OneMore
 mod ReadBack
