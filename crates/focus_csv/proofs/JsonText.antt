@@ -1,5 +1,5 @@
 -- What `serde_json` writes of a string without control characters, in the words of the file.
-use Rattle.std.proofs.Common.{◌≡◌, ℕ, ◌<◌, ◌==◌, ◌||◌, ◌&&◌, Bool, true, false, nat_lt, nat_le, cond, List, [], ◌∷◌, ◌++◌, length, get_or, map, String, Global, string_bytes, refl, sym, ap, ap₂, ◌∙◌, arith, rules}
+use Rattle.std.proofs.Common.{◌≡◌, ℕ, ◌<◌, ◌==◌, ◌||◌, ◌&&◌, Bool, true, false, nat_lt, nat_le, cond, List, [], ◌∷◌, ◌++◌, length, get_or, map, refl, sym, ap, ap₂, ◌∙◌, arith}
 use Rattle.std.specs.Prelude.{All, if◌then◌else◌}
 use Rattle.std.specs.List.{list_all}
 use Rattle.std.specs.Str.{IsUtf8}
@@ -12,8 +12,7 @@ use Rattle.json.specs.Print as json
 use Rattle.serde_json.specs.Data as Data
 use Rattle.serde_json.specs.View.{view}
 use Rattle.serde_json.specs.Written.{compact_text, has_float}
-use Rattle.serde_json.specs.declared.value.Value as Value
-use Rattle.serde_json.specs.declared.value.Value.{the_lemmas}
+use Rattle.serde_json.specs.declared.value.Value.{Value}
 use Rattle.metering_model.specs.Batch.{Tag, is_text, is_text_byte, keys_rise}
 use Rattle.metering_model.specs.File.{json_string, marked}
 use Rattle.batch_view.specs.declared.Tags.{Tags}
@@ -47,12 +46,9 @@ pub string_written : (t : List ℕ) → is_text t ≡ true → json.quoted t ≡
 string_written t h = ap (λ x. 34 ∷ (x ++ 34 ∷ [])) (inner_escaped t h)
 
 -- the text of a value that is a string
-view_is : (s : String Global) → view (Value.String s) ≡ Data.string (string_bytes s)
-view_is s = search (rules, the_lemmas)
-
-pub value_written : (s : String Global) (written : List ℕ) → (has_float (view (Value.String s)) ≡ false → written ≡ compact_text (view (Value.String s)))
-    → written ≡ json.quoted (string_bytes s)
-value_written s written h = h (ap has_float (view_is s)) ∙ ap compact_text (view_is s)
+pub value_written : (v : Value) (t written : List ℕ) → view v ≡ Data.string t → (has_float (view v) ≡ false → written ≡ compact_text (view v))
+    → written ≡ json.quoted t
+value_written v t written is h = h (ap has_float is) ∙ ap compact_text is
 
 -- each key and each value is a text
 pub next_texts : (t : Tags) (g : LentTag) (gs : List LentTag) → lent_tags t ≡ g ∷ gs → (is_text g.key.text ≡ true) × (is_text g.value.text ≡ true)

@@ -77,7 +77,7 @@ fn put_odd_string(alloc: Global, json: &mut Vec<u8>, text: &[u8]) -> Result<(), 
     let Ok(text) = str::from_utf8(text) else {
         unreachable!()
     };
-    let string = Value::String(String::from_str(alloc, text)?);
+    let string = Value::try_from_str(alloc, text)?;
     let written = string.to_vec(alloc)?;
     json.extend_from_slice(written.as_slice())?;
     Ok(())
