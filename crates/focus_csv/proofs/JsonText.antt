@@ -1,5 +1,5 @@
 -- What `serde_json` writes of a string without control characters, in the words of the file.
-use Rattle.std.proofs.Common.{◌≡◌, ℕ, ◌<◌, ◌==◌, ◌||◌, ◌&&◌, Bool, true, false, nat_lt, nat_le, cond, List, [], ◌∷◌, ◌++◌, length, get_or, map, refl, sym, ap, ap₂, ◌∙◌, arith}
+use Rattle.std.proofs.Common.{◌≡◌, ℕ, ◌<◌, ◌==◌, ◌||◌, ◌&&◌, true, false, List, [], ◌∷◌, ◌++◌, length, get_or, map, refl, sym, ap, ap₂, ◌∙◌, arith}
 use Rattle.std.specs.Prelude.{All, if◌then◌else◌}
 use Rattle.std.specs.List.{list_all}
 use Rattle.std.specs.Str.{IsUtf8}
@@ -13,7 +13,7 @@ use Rattle.serde_json.specs.Data as Data
 use Rattle.serde_json.specs.View.{view}
 use Rattle.serde_json.specs.Written.{compact_text, has_float}
 use Rattle.serde_json.specs.declared.value.Value.{Value}
-use Rattle.metering_model.specs.Batch.{Tag, is_text, is_text_byte, keys_rise}
+use Rattle.metering_model.specs.Batch.{is_text, is_text_byte, keys_rise}
 use Rattle.metering_model.specs.File.{json_string, marked}
 use Rattle.batch_view.specs.declared.Tags.{Tags}
 use Rattle.batch_view.specs.Lent.{lent_tags}

@@ -7,4 +7,5 @@ mod OneMore
 mod ReadBack
 mod RowTexts
 mod Sinks
+mod TagJson
 mod TagTexts
