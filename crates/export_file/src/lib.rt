@@ -3,6 +3,7 @@
 
 ghost use Rattle.std.specs.Prelude.{◌≡◌, ◌++◌, Err, IfOk, OnOk, OnErr, map};
 ghost use Rattle.std.specs.Io.KnownBytes.{Appends};
+ghost use Rattle.std.specs.Thread.{IsSync};
 ghost use Rattle.counted_io.specs.Counts.{Rises, count_after};
 ghost use Rattle.counted_io.specs.Writing.{AppendsFront, AppendsSome};
 ghost use Rattle.metering_model.specs.Rows.{rows};
@@ -57,6 +58,7 @@ pub trait ExportFile {
         alloc: Global,
         sink: &mut W,
     ) -> Result<(), CsvFault>
+        requires { IsSync R.row }
         ensures written { OnOk result (Appends (W.contents sink.old) (W.contents sink.new) (file_of (taken self.now))) }
         ensures front { result ≡ Err CsvFault.Write
             → AppendsFront (W.contents sink.old) (W.contents sink.new) (file_of (taken self.now)) }
