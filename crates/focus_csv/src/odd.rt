@@ -60,11 +60,7 @@ fn write_next(writer: &mut Writer<Vec<u8>>, field: &[u8]) -> Result<(), AllocErr
 }
 
 /// Appends a comma and a field, as the writer writes it.
-fn put_by(
-    writer: &mut Writer<Vec<u8>>,
-    text: &mut Vec<u8>,
-    field: &[u8],
-) -> Result<(), AllocError>
+fn put_by(writer: &mut Writer<Vec<u8>>, text: &mut Vec<u8>, field: &[u8]) -> Result<(), AllocError>
     requires { IsReady writer.old }
     ensures ready { OnOk result (IsReady writer.new) }
     ensures put { OnOk result (text.new.items ≡ text.old.items ++ 44 ∷ quoted field.now) }

@@ -117,11 +117,7 @@ fn put_member(
 }
 
 /// Makes the text that of the tags: one JSON object without blanks, by rising keys.
-pub(crate) fn set_json(
-    alloc: Global,
-    json: &mut Vec<u8>,
-    tags: Tags<'_>,
-) -> Result<(), AllocError>
+pub(crate) fn set_json(alloc: Global, json: &mut Vec<u8>, tags: Tags<'_>) -> Result<(), AllocError>
     ensures { OnOk result (json.new.items ≡ json_object (map tag_of (lent_tags tags.entry))) }
 {
     json.clear();

@@ -159,9 +159,21 @@ impl TextPieces {
         ensures { OnOk result (AreTextsOf self.new (model_row row.now)) }
     {
         set_piece(odd, &mut self.head, are_kept, &head(before), &head(row))?;
-        set_piece(odd, &mut self.moment, are_kept, &moment(before), &moment(row))?;
+        set_piece(
+            odd,
+            &mut self.moment,
+            are_kept,
+            &moment(before),
+            &moment(row),
+        )?;
         set_piece(odd, &mut self.unit, are_kept, &unit(before), &unit(row))?;
-        set_piece(odd, &mut self.issuer, are_kept, &issuer(before), &issuer(row))?;
+        set_piece(
+            odd,
+            &mut self.issuer,
+            are_kept,
+            &issuer(before),
+            &issuer(row),
+        )?;
         set_piece(
             odd,
             &mut self.category,
@@ -169,7 +181,13 @@ impl TextPieces {
             &category(before),
             &category(row),
         )?;
-        set_piece(odd, &mut self.pricing, are_kept, &pricing(before), &pricing(row))?;
+        set_piece(
+            odd,
+            &mut self.pricing,
+            are_kept,
+            &pricing(before),
+            &pricing(row),
+        )?;
         set_piece(
             odd,
             &mut self.resource,
@@ -177,7 +195,19 @@ impl TextPieces {
             &resource(before),
             &resource(row),
         )?;
-        set_piece(odd, &mut self.service, are_kept, &service(before), &service(row))?;
-        set_piece(odd, &mut self.account, are_kept, &account(before), &account(row))
+        set_piece(
+            odd,
+            &mut self.service,
+            are_kept,
+            &service(before),
+            &service(row),
+        )?;
+        set_piece(
+            odd,
+            &mut self.account,
+            are_kept,
+            &account(before),
+            &account(row),
+        )
     }
 }

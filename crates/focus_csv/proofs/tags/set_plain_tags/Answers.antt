@@ -14,8 +14,8 @@ loop-key-init c =
     let rest = map tag_of (lent_tags c.next.new.self) in
     let piece = c.put_plain_tag.new.piece.items in
     let put : piece ≡ 44 ∷ 34 ∷ 123 ∷ doubled (json_member first) =
-        c.in_ok-put_plain_tag.ensures (44 ∷ 34 ∷ 123 ∷ []) refl
-        ∙ ap (λ t. t ++ 44 ∷ 34 ∷ 123 ∷ doubled (json_member first)) c.clear.ensures.items in
+    c.in_ok-put_plain_tag.ensures (44 ∷ 34 ∷ 123 ∷ []) refl
+    ∙ ap (λ t. t ++ 44 ∷ 34 ∷ 123 ∷ doubled (json_member first)) c.clear.ensures.items in
     record {
       ready = search rules;
       finite = search rules;
@@ -48,7 +48,7 @@ returns c = λ made.
     let so = c.loop-key.invariant in
     let piece = c.loop-key.piece.items in
     let written : piece ≡ 44 ∷ 34 ∷ 123 ∷ doubled (members_left [] (map tag_of (lent_tags c.args.tags))) =
-        sym (append-nil piece)
-        ∙ ap (λ ts. piece ++ doubled (members_left (44 ∷ []) (map tag_of ts))) (sym c.in-None.ensures.steps.0)
-        ∙ so.text in
+    sym (append-nil piece)
+    ∙ ap (λ ts. piece ++ doubled (members_left (44 ∷ []) (map tag_of ts))) (sym c.in-None.ensures.steps.0)
+    ∙ so.text in
     c.in_ok-extend_from_slice-2.ensures.items ∙ plain_object (map tag_of (lent_tags c.args.tags)) so.some.0 so.some.1 piece so.some.2 written
