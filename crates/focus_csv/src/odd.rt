@@ -9,11 +9,14 @@ use csv::Writer;
 use std::alloc::{AllocError, Global};
 use std::marker::Model;
 
+/// So many bytes of odd fields are kept at most, and one field more.
+const ENOUGH: usize = 65_536;
+
 /// A writer of CSV over a text of its own. Odd fields are written to it, one behind the other, and copied from there.
 #[derive(Drop)]
 pub(crate) struct OddFields {
     alloc: Global,
-    /// There is none before the first odd field, nor behind one that could not be written.
+    /// There is none before the first odd field, nor behind one that could not be written. One whose text is long is let go.
     writer: Option<Box<Writer<Vec<u8>>>>,
 }
 
@@ -81,8 +84,8 @@ impl OddFields {
         ensures { OnOk result (text.new.items ≡ text.old.items ++ 44 ∷ quoted field.now) }
     {
         let mut writer = match self.writer.take() {
-            Some(writer) => writer,
-            None => Box::new(self.alloc, begun(self.alloc)?)?,
+            Some(writer) if writer.get_ref().len() < ENOUGH => writer,
+            _ => Box::new(self.alloc, begun(self.alloc)?)?,
         };
         put_by(&mut writer, text, field)?;
         self.writer = Some(writer);
