@@ -1,0 +1,147 @@
+//! The pieces of one line, held for the next.
+
+ghost use Rattle.std.specs.Prelude.{◌≡◌, [], ◌∷◌, ◌++◌, map, false, IsTrue, OnOk, OnErr};
+ghost use Rattle.std.specs.List.{flat_map};
+ghost use Rattle.metering_model.specs.NumberText.{spelling};
+ghost use Rattle.metering_model.specs.Row.{Row};
+ghost use Rattle.metering_model.specs.File.{json_object, quoted, row_text};
+ghost use Rattle.focus_row.specs.Rows.{model_row};
+ghost use Rattle.focus_csv.specs.Inner.Beginnings.{BeginsWith};
+ghost use Rattle.focus_csv.specs.Inner.Pieces.{AreOf, line_bytes};
+ghost use Rattle.focus_csv.specs.Inner.Runs.{behind, line_runs};
+
+use crate::fields::{make_piece, put_pieces};
+use crate::numbers::NumberPieces;
+use crate::odd::OddFields;
+use crate::tags::{set_json, set_plain_tags};
+use crate::texts::TextPieces;
+use focus_row::FocusRow;
+use std::alloc::{AllocError, Global};
+
+/// The pieces of the line of a row. Most columns of a row are those of the row before it, and such a piece is not made
+/// again. Their memory is held as well.
+#[derive(Drop)]
+pub(crate) struct LinePieces {
+    alloc: Global,
+    numbers: NumberPieces,
+    texts: TextPieces,
+    /// Odd tags as a JSON object, before it is quoted.
+    json: Vec<u8>,
+    tags: Vec<u8>,
+    odd: OddFields,
+    /// Whether they are those of the row before.
+    are_held: bool,
+}
+
+/// How many pieces stand behind the first number.
+const PIECES: usize = 17;
+
+impl LinePieces {
+    /// Pieces of no row, all of them empty.
+    pub(crate) fn new(alloc: Global) -> LinePieces
+        ensures empty { line_bytes result ≡ [] }
+        ensures forgotten { result.are_held ≡ false }
+    {
+        LinePieces {
+            alloc,
+            numbers: NumberPieces::new(alloc),
+            texts: TextPieces::new(alloc),
+            json: Vec::new(alloc),
+            tags: Vec::new(alloc),
+            odd: OddFields::new(alloc),
+            are_held: false,
+        }
+    }
+
+    /// Has the next row's pieces all made, whatever they are now.
+    pub(crate) fn forget(&mut self)
+        ensures { self.new ≡ record self.old { are_held = false } }
+    {
+        self.are_held = false;
+    }
+
+    /// Makes the piece of the tags.
+    fn set_tags(&mut self, row: &FocusRow<'_>) -> Result<(), AllocError>
+        ensures tags { OnOk result (self.new.tags.items ≡ behind (json_object (model_row row.now).tags ∷ [])) }
+        ensures numbers { self.new.numbers ≡ self.old.numbers }
+        ensures texts { self.new.texts ≡ self.old.texts }
+        ensures held { self.new.are_held ≡ self.old.are_held }
+    {
+        if set_plain_tags(&mut self.tags, row.tags)? {
+            return Ok(());
+        }
+        set_json(self.alloc, &mut self.json, row.tags)?;
+        make_piece(&mut self.odd, &mut self.tags, &[self.json.as_slice()])
+    }
+
+    /// Makes the pieces those of a row, and only those again that differ from the row before, if they are held from it.
+    /// At want of memory they are forgotten.
+    pub(crate) fn set(
+        &mut self,
+        before: &FocusRow<'_>,
+        row: &FocusRow<'_>,
+    ) -> Result<(), AllocError>
+        requires { IsTrue self.old.are_held → AreOf self.old (model_row before.now) }
+        ensures of { OnOk result (AreOf self.new (model_row row.now)) }
+        ensures forgotten { OnErr result (self.new.are_held ≡ false) }
+    {
+        let are_held = self.are_held;
+        self.are_held = false;
+        self.numbers.set(are_held, before, row)?;
+        self.texts.set(&mut self.odd, are_held, before, row)?;
+        self.set_tags(row)?;
+        self.are_held = true;
+        Ok(())
+    }
+
+    /// All pieces but the first number.
+    fn behind_first(&self) -> [&[u8]; PIECES]
+        ensures { (r : Row) → AreOf self.now r → map (λ p. p.now) result ≡ map behind (line_runs r) }
+    {
+        [
+            self.texts.head.as_slice(),
+            self.texts.moment.as_slice(),
+            self.numbers.consumed_quantity.as_bytes(),
+            self.texts.unit.as_slice(),
+            self.numbers.contracted_cost.as_bytes(),
+            self.numbers.contracted_unit_price.as_bytes(),
+            self.numbers.effective_cost.as_bytes(),
+            self.texts.issuer.as_slice(),
+            self.numbers.list_cost.as_bytes(),
+            self.numbers.list_unit_price.as_bytes(),
+            self.texts.category.as_slice(),
+            self.numbers.pricing_quantity.as_bytes(),
+            self.texts.pricing.as_slice(),
+            self.texts.resource.as_slice(),
+            self.texts.service.as_slice(),
+            self.texts.account.as_slice(),
+            self.tags.as_slice(),
+        ]
+    }
+
+    /// Appends the line. At want of memory the text is as before, or has some of the line behind it.
+    fn append(&self, text: &mut Vec<u8>) -> Result<(), AllocError>
+        ensures put { OnOk result ((r : Row) → AreOf self.now r → text.new.items ≡ text.old.items ++ row_text r) }
+        ensures begins { OnErr result (BeginsWith text.new.items text.old.items) }
+    {
+        text.extend_from_slice(self.numbers.billed_cost.as_bytes())?;
+        put_pieces(text, &self.behind_first())?;
+        text.push(b'\n')?;
+        Ok(())
+    }
+
+    /// Appends the line. At want of memory the text is as before.
+    pub(crate) fn put(&self, text: &mut Vec<u8>) -> Result<(), AllocError>
+        ensures put { OnOk result ((r : Row) → AreOf self.now r → text.new.items ≡ text.old.items ++ row_text r) }
+        ensures kept { OnErr result (text.new.items ≡ text.old.items) }
+    {
+        let begin = text.len();
+        match self.append(text) {
+            Ok(()) => Ok(()),
+            Err(error) => {
+                text.truncate(begin);
+                Err(error)
+            }
+        }
+    }
+}
