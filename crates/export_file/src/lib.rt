@@ -3,6 +3,7 @@
 
 ghost use Rattle.std.specs.Prelude.{◌≡◌, ◌++◌, Err, IfOk, OnOk, OnErr, map};
 ghost use Rattle.std.specs.Io.KnownBytes.{Appends};
+ghost use Rattle.std.specs.Thread.{IsSync};
 ghost use Rattle.counted_io.specs.Counts.{Rises, count_after};
 ghost use Rattle.counted_io.specs.Writing.{AppendsPrefix, AppendsSome};
 ghost use Rattle.metering_model.specs.Rows.{rows};
@@ -14,7 +15,11 @@ ghost use Rattle.focus_csv.specs.Faults.{is_sink_fault};
 use counted_io::Sink;
 use focus_csv::{CsvFault, FocusRow, RowsBetween, put_file, rows_between, write_rows};
 use group_events::Snapshot;
+use split::write_split;
 use std::alloc::{AllocError, Global};
+use std::thread::Threads;
+
+mod split;
 
 /// What has the rows and the bytes of a period's file: a [`Snapshot`].
 pub trait ExportFile {
@@ -39,6 +44,27 @@ pub trait ExportFile {
             → Rises (W.failed_calls sink.old) (W.failed_calls sink.new) }
         ensures memory { result ≡ Err CsvFault.OutOfMemory
             → AppendsSome (W.contents sink.old) (W.contents sink.new) (file_of (taken self.now)) }
+        ensures count { W.failed_calls sink.new
+            ≡ count_after (is_sink_fault result) (W.failed_calls sink.old) };
+
+    /// Writes the same bytes. All lines are made before the first byte goes out, and those of many rows in several threads at
+    /// once; rows and lines are in memory together.
+    ///
+    /// `Write` comes only from a failed call of the sink, and that is the only one: a prefix of the file that is not all
+    /// of it went out. At want of memory the sink is as it was.
+    fn write_csv_split<R: Threads + Sync, W: Sink>(
+        &self,
+        rt: &R,
+        alloc: Global,
+        sink: &mut W,
+    ) -> Result<(), CsvFault>
+        requires { IsSync R.row }
+        ensures written { OnOk result (Appends (W.contents sink.old) (W.contents sink.new) (file_of (taken self.now))) }
+        ensures prefix { result ≡ Err CsvFault.Write
+            → AppendsPrefix (W.contents sink.old) (W.contents sink.new) (file_of (taken self.now)) }
+        ensures fault { result ≡ Err CsvFault.Write
+            → Rises (W.failed_calls sink.old) (W.failed_calls sink.new) }
+        ensures kept { result ≡ Err CsvFault.OutOfMemory → sink.new ≡ sink.old }
         ensures count { W.failed_calls sink.new
             ≡ count_after (is_sink_fault result) (W.failed_calls sink.old) };
 
@@ -79,6 +105,18 @@ impl ExportFile for Snapshot {
             return Err(CsvFault::OutOfMemory);
         };
         write_rows(alloc, left, sink)
+    }
+
+    fn write_csv_split<R: Threads + Sync, W: Sink>(
+        &self,
+        rt: &R,
+        alloc: Global,
+        sink: &mut W,
+    ) -> Result<(), CsvFault> {
+        let Ok(rows) = self.rows(alloc) else {
+            return Err(CsvFault::OutOfMemory);
+        };
+        write_split(rt, alloc, rows.as_slice(), sink)
     }
 
     fn put_csv(&self, alloc: Global, text: &mut Vec<u8>) -> Result<(), AllocError> {

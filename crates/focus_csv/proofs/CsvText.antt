@@ -1,9 +1,12 @@
 -- What the writer of CSV writes with its usual setup, in the words of the file.
-use Rattle.std.proofs.Common.{◌≡◌, ℕ, ◌≤◌, ◌==◌, ◌||◌, Bool, true, false, List, [], ◌∷◌, ◌++◌, length, map, refl, ap, ap₂, ◌∙◌, arith}
+use Rattle.std.proofs.Common.{◌≡◌, ℕ, ◌+◌, ◌-◌, ◌<◌, ◌≤◌, ◌==◌, ◌||◌, Bool, true, false, List, [], ◌∷◌, ◌++◌, length, take, drop, map, refl, sym, ap, ap₂, ◌∙◌, arith}
 use Rattle.std.specs.Prelude.{if◌then◌else◌}
 use Rattle.std.specs.List.{list_any, join_with_byte}
-use Rattle.std.proofs.lemmas.List.{append-nil}
+use Rattle.std.proofs.lemmas.Bool.Decides.{nat_tests}
+use Rattle.std.proofs.lemmas.List.{append-nil, drop_at, length-append}
+use Rattle.std.proofs.Math.Seq.{take-length}
 use Rattle.csv.specs.Writing as csv
+use Rattle.csv.specs.declared.writer.WriterBuilder.{WriterBuilder}
 use Rattle.metering_model.specs.File.{quoted, marked}
 use Rattle.focus_csv.specs.Inner.Lines.{line_of}
 
@@ -38,8 +41,34 @@ unfolding csv.escaped
 inner_is [] = refl
 inner_is (c ∷ cs) = ap (λ t. if c == 34 then 34 ∷ c ∷ t else c ∷ t) (inner_is cs) ∙ byte_marked (c == 34) c _
 
-field_is : (t : List ℕ) → csv.field_text csv.default_writer t ≡ quoted t
+pub field_is : (t : List ℕ) → csv.field_text csv.default_writer t ≡ quoted t
 field_is t = ap₂ (λ b inner. if b then 34 ∷ inner ++ 34 ∷ [] else t) (field_calls t) (inner_is t)
+
+-- ---- a field behind others
+
+separated : (n : ℕ) → 0 < n → csv.next_sep csv.default_writer n ≡ 44 ∷ []
+separated n some = grind (arith, nat_tests)
+
+-- what is written, and then sent on, of one more field
+pub field_behind : (setup : WriterBuilder) (n : ℕ) (f old waiting written new left : List ℕ) → setup ≡ csv.default_writer → 0 < n → waiting ≡ [] → left ≡ []
+    → written ≡ (old ++ waiting) ++ (csv.next_sep setup n ++ csv.field_text setup f) → new ++ left ≡ written
+    → new ≡ old ++ (44 ∷ quoted f)
+field_behind setup n f old waiting written new left usual some none sent is kept =
+    sym (append-nil new) ∙ ap (λ t. new ++ t) (sym sent) ∙ kept ∙ is
+    ∙ ap (λ t. (old ++ t) ++ (csv.next_sep setup n ++ csv.field_text setup f)) none
+    ∙ ap (λ t. t ++ (csv.next_sep setup n ++ csv.field_text setup f)) (append-nil old)
+    ∙ ap (λ s. old ++ (csv.next_sep s n ++ csv.field_text s f)) usual
+    ∙ ap (λ t. old ++ (t ++ csv.field_text csv.default_writer f)) (separated n some)
+    ∙ ap (λ t. old ++ 44 ∷ t) (field_is f)
+
+-- what was written last, copied from where it begins
+pub last_copied : (old piece new text : List ℕ) (from : ℕ) → from ≡ length old → new ≡ old ++ piece
+    → text ++ take (length new - from) (drop from new) ≡ text ++ piece
+last_copied old piece new text from begins is =
+    let rest : drop from new ≡ piece = ap (drop from) is ∙ drop_at old piece from (sym begins) in
+    let long : length new ≡ length old + length piece = ap length is ∙ length-append old piece in
+    let n : length new - from ≡ length piece = omega (arith, long, begins) in
+    ap (λ t. text ++ t) (ap₂ take n rest ∙ take-length piece)
 
 -- ---- lines
 

@@ -1,9 +1,11 @@
 mod BeginningLaws
 mod CsvText
 mod FileParts
+mod JsonText
 mod LineLaws
 mod OneMore
 mod ReadBack
 mod RowTexts
 mod Sinks
+mod TagJson
 mod TagTexts

@@ -24,7 +24,7 @@ reads_all (l ∷ ls) (suc n) h = rw (read-write l (rows_text ls)) (ap (λ t. rea
 
 -- ---- a file as the lines of its records
 
-names_line : line_of column_names ≡ header_line ++ 10 ∷ []
+pub names_line : line_of column_names ≡ header_line ++ 10 ∷ []
 names_line = refl
 
 rows_lines : (rows : List Row) → rows_text (map fields_of_row rows) ≡ flat_map row_text rows

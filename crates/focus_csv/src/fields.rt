@@ -1,11 +1,12 @@
 //! Fields of a line, as a reader of CSV takes them back.
 
-ghost use Rattle.std.specs.Prelude.{◌≡◌, ◌||◌, ◌==◌, ◌∷◌, [], ◌++◌, if◌then◌else◌, map, OnOk, OnErr, IsTrue};
+ghost use Rattle.std.specs.Prelude.{◌≡◌, ◌||◌, ◌==◌, ◌∷◌, ◌++◌, map, OnOk, OnErr, IsTrue};
 ghost use Rattle.std.specs.List.{flat_map, list_any};
-ghost use Rattle.metering_model.specs.File.{marked, quoted};
+ghost use Rattle.metering_model.specs.File.{quoted};
 ghost use Rattle.focus_csv.specs.Inner.Beginnings.{BeginsWith};
 ghost use Rattle.focus_csv.specs.Inner.Runs.{behind};
 
+use crate::odd::OddFields;
 use std::alloc::AllocError;
 
 /// Whether a reader of CSV would cut a field.
@@ -17,63 +18,28 @@ fn is_cut(field: &[u8]) -> bool
         .any(|c| *c == b',' || *c == b'"' || *c == b'\r' || *c == b'\n')
 }
 
-/// Appends a byte, and a quotation mark twice.
-fn put_doubled_byte(text: &mut Vec<u8>, byte: u8) -> Result<(), AllocError>
-    ensures { OnOk result (text.new.items ≡ text.old.items ++ (if byte == 34 then 34 ∷ byte ∷ [] else byte ∷ [])) }
-{
-    if byte == b'"' {
-        text.push(b'"')?;
-    }
-    text.push(byte)?;
-    Ok(())
-}
-
-/// Appends a field with each quotation mark twice.
-fn put_doubled(text: &mut Vec<u8>, field: &[u8]) -> Result<(), AllocError>
-    ensures { OnOk result (text.new.items ≡ text.old.items ++ marked (λ c. c == 34) 34 field.now) }
-{
-    for byte in field {
-        put_doubled_byte(text, *byte)?;
-    }
-    Ok(())
-}
-
-/// Appends a field between quotation marks.
-fn put_enclosed(text: &mut Vec<u8>, field: &[u8]) -> Result<(), AllocError>
-    ensures { OnOk result (text.new.items ≡ text.old.items ++ (34 ∷ marked (λ c. c == 34) 34 field.now ++ 34 ∷ [])) }
-{
-    text.push(b'"')?;
-    put_doubled(text, field)?;
-    text.push(b'"')?;
-    Ok(())
-}
-
-/// Appends a field, between quotation marks where it would be cut.
-fn put_field(text: &mut Vec<u8>, field: &[u8]) -> Result<(), AllocError>
-    ensures { OnOk result (text.new.items ≡ text.old.items ++ quoted field.now) }
-{
-    if is_cut(field) {
-        put_enclosed(text, field)
-    } else {
-        text.extend_from_slice(field)
-    }
-}
-
-/// Appends a comma and a field.
-fn put_next(text: &mut Vec<u8>, field: &[u8]) -> Result<(), AllocError>
+/// Appends a comma and a field. It is copied, unless it is odd.
+fn put_next(odd: &mut OddFields, text: &mut Vec<u8>, field: &[u8]) -> Result<(), AllocError>
     ensures { OnOk result (text.new.items ≡ text.old.items ++ 44 ∷ quoted field.now) }
 {
+    if is_cut(field) {
+        return odd.put_next(text, field);
+    }
     text.push(b',')?;
-    put_field(text, field)
+    text.extend_from_slice(field)
 }
 
 /// Makes a piece that of these fields, each behind a comma.
-pub(crate) fn make_piece(piece: &mut Vec<u8>, fields: &[&[u8]]) -> Result<(), AllocError>
+pub(crate) fn make_piece(
+    odd: &mut OddFields,
+    piece: &mut Vec<u8>,
+    fields: &[&[u8]],
+) -> Result<(), AllocError>
     ensures { OnOk result (piece.new.items ≡ behind (map (λ f. f.now) fields.now)) }
 {
     piece.clear();
     for field in fields {
-        put_next(piece, *field)?;
+        put_next(odd, piece, *field)?;
     }
     Ok(())
 }
@@ -95,6 +61,7 @@ fn are_same(some: &[&[u8]], others: &[&[u8]]) -> bool
 
 /// Makes a piece that of these fields. One that is held is of the fields before, and stays where these are the same.
 pub(crate) fn set_piece(
+    odd: &mut OddFields,
     piece: &mut Vec<u8>,
     is_held: bool,
     before: &[&[u8]],
@@ -106,7 +73,7 @@ pub(crate) fn set_piece(
     if is_held && are_same(before, fields) {
         return Ok(());
     }
-    make_piece(piece, fields)
+    make_piece(odd, piece, fields)
 }
 
 /// Appends pieces, one behind the other. At want of memory the text is as before, or has some of them behind it.

@@ -25,6 +25,7 @@ mod files;
 pub mod laws;
 mod lines;
 mod numbers;
+mod odd;
 mod pieces;
 mod tags;
 mod texts;

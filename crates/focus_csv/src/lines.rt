@@ -1,11 +1,12 @@
 //! The lines of the file.
 
-ghost use Rattle.std.specs.Prelude.{◌≡◌, ◌<◌, ◌++◌, ◌∷◌, [], length, map, slice_index_or, IfOk, OnOk, OnErr};
+ghost use Rattle.std.specs.Prelude.{◌≡◌, ◌≢◌, ◌<◌, ◌++◌, ◌∷◌, [], length, map, slice_index_or, IfOk, IfErr, OnOk, OnErr};
 ghost use Rattle.std.specs.List.{flat_map};
 ghost use Rattle.metering_model.specs.File.{file, header_line, row_text};
 ghost use Rattle.focus_row.specs.Rows.{model_row};
 ghost use Rattle.focus_csv.specs.Inner.Beginnings.{BeginsWith};
 
+use crate::CsvFault;
 use crate::pieces::LinePieces;
 use focus_row::FocusRow;
 use std::alloc::{AllocError, Global};
@@ -70,10 +71,14 @@ pub fn header_text() -> &'static [u8]
 ///
 /// So a file can be written in parts: `header_text`, and then the texts of its rows, as many at a
 /// time as the caller likes. Its only fault is want of memory.
-pub fn row_texts(alloc: Global, rows: &[FocusRow<'_>]) -> Result<Vec<u8>, AllocError>
-    ensures { IfOk result (λ v. v.items ≡ flat_map row_text (map model_row rows.now)) }
+pub fn row_texts(alloc: Global, rows: &[FocusRow<'_>]) -> Result<Vec<u8>, CsvFault>
+    ensures text { IfOk result (λ v. v.items ≡ flat_map row_text (map model_row rows.now)) }
+    ensures fault { IfErr result (λ fault. fault ≢ CsvFault.Write) }
 {
-    lines_behind(alloc, &[], rows)
+    match lines_behind(alloc, &[], rows) {
+        Ok(text) => Ok(text),
+        Err(_) => Err(CsvFault::OutOfMemory),
+    }
 }
 
 /// The bytes of the file of the rows.

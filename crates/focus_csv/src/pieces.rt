@@ -12,7 +12,8 @@ ghost use Rattle.focus_csv.specs.Inner.Runs.{behind, line_runs};
 
 use crate::fields::{make_piece, put_pieces};
 use crate::numbers::NumberPieces;
-use crate::tags::set_tags;
+use crate::odd::OddFields;
+use crate::tags::{set_json, set_plain_tags};
 use crate::texts::TextPieces;
 use focus_row::FocusRow;
 use std::alloc::{AllocError, Global};
@@ -21,11 +22,13 @@ use std::alloc::{AllocError, Global};
 /// again. Their memory is held as well.
 #[derive(Drop)]
 pub(crate) struct LinePieces {
+    alloc: Global,
     numbers: NumberPieces,
     texts: TextPieces,
-    /// The tags as a JSON object, before it is quoted.
+    /// Odd tags as a JSON object, before it is quoted.
     json: Vec<u8>,
     tags: Vec<u8>,
+    odd: OddFields,
     /// Whether they are those of the row before.
     are_held: bool,
 }
@@ -40,10 +43,12 @@ impl LinePieces {
         ensures forgotten { result.are_held ≡ false }
     {
         LinePieces {
+            alloc,
             numbers: NumberPieces::new(alloc),
             texts: TextPieces::new(alloc),
             json: Vec::new(alloc),
             tags: Vec::new(alloc),
+            odd: OddFields::new(alloc),
             are_held: false,
         }
     }
@@ -62,8 +67,11 @@ impl LinePieces {
         ensures texts { self.new.texts ≡ self.old.texts }
         ensures held { self.new.are_held ≡ self.old.are_held }
     {
-        set_tags(&mut self.json, row.tags)?;
-        make_piece(&mut self.tags, &[self.json.as_slice()])
+        if set_plain_tags(&mut self.tags, row.tags)? {
+            return Ok(());
+        }
+        set_json(self.alloc, &mut self.json, row.tags)?;
+        make_piece(&mut self.odd, &mut self.tags, &[self.json.as_slice()])
     }
 
     /// Makes the pieces those of a row, and only those again that differ from the row before, if they are held from it.
@@ -80,7 +88,7 @@ impl LinePieces {
         let are_held = self.are_held;
         self.are_held = false;
         self.numbers.set(are_held, before, row)?;
-        self.texts.set(are_held, before, row)?;
+        self.texts.set(&mut self.odd, are_held, before, row)?;
         self.set_tags(row)?;
         self.are_held = true;
         Ok(())

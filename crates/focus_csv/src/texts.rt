@@ -8,6 +8,7 @@ ghost use Rattle.focus_csv.specs.Inner.Runs.{behind, head_columns, moment_column
 ghost use Rattle.focus_csv.specs.Inner.Pieces.{AreTextsOf, text_bytes};
 
 use crate::fields::set_piece;
+use crate::odd::OddFields;
 use focus_row::FocusRow;
 use std::alloc::{AllocError, Global};
 
@@ -149,6 +150,7 @@ impl TextPieces {
     /// Makes the pieces those of a row, and only those again that differ from the row before, if they are held from it.
     pub(crate) fn set(
         &mut self,
+        odd: &mut OddFields,
         are_held: bool,
         before: &FocusRow<'_>,
         row: &FocusRow<'_>,
@@ -156,24 +158,56 @@ impl TextPieces {
         requires { IsTrue are_held → AreTextsOf self.old (model_row before.now) }
         ensures { OnOk result (AreTextsOf self.new (model_row row.now)) }
     {
-        set_piece(&mut self.head, are_held, &head(before), &head(row))?;
-        set_piece(&mut self.moment, are_held, &moment(before), &moment(row))?;
-        set_piece(&mut self.unit, are_held, &unit(before), &unit(row))?;
-        set_piece(&mut self.issuer, are_held, &issuer(before), &issuer(row))?;
+        set_piece(odd, &mut self.head, are_held, &head(before), &head(row))?;
         set_piece(
+            odd,
+            &mut self.moment,
+            are_held,
+            &moment(before),
+            &moment(row),
+        )?;
+        set_piece(odd, &mut self.unit, are_held, &unit(before), &unit(row))?;
+        set_piece(
+            odd,
+            &mut self.issuer,
+            are_held,
+            &issuer(before),
+            &issuer(row),
+        )?;
+        set_piece(
+            odd,
             &mut self.category,
             are_held,
             &category(before),
             &category(row),
         )?;
-        set_piece(&mut self.pricing, are_held, &pricing(before), &pricing(row))?;
         set_piece(
+            odd,
+            &mut self.pricing,
+            are_held,
+            &pricing(before),
+            &pricing(row),
+        )?;
+        set_piece(
+            odd,
             &mut self.resource,
             are_held,
             &resource(before),
             &resource(row),
         )?;
-        set_piece(&mut self.service, are_held, &service(before), &service(row))?;
-        set_piece(&mut self.account, are_held, &account(before), &account(row))
+        set_piece(
+            odd,
+            &mut self.service,
+            are_held,
+            &service(before),
+            &service(row),
+        )?;
+        set_piece(
+            odd,
+            &mut self.account,
+            are_held,
+            &account(before),
+            &account(row),
+        )
     }
 }

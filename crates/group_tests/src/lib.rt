@@ -10,4 +10,6 @@ mod limits;
 #[cfg(test)]
 mod samples;
 #[cfg(test)]
+mod splits;
+#[cfg(test)]
 mod worlds;

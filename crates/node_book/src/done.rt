@@ -8,9 +8,11 @@ ghost use Rattle.node_book.specs.Kept.{bytes_in, told_of};
 ghost use Rattle.node_book.specs.Agreement.{is_export_of};
 
 use crate::Receipt;
+use counted_io::Counted;
 use group_core::{ExportFile, Reply, Snapshot};
 use std::alloc::{AllocError, Global};
 use std::marker::Model;
+use std::thread::Threads;
 
 /// A receipt, and the file where its reply is an export. Its type keeps that the file is that of the snapshot, and that
 /// there is none of any other reply.
@@ -35,20 +37,31 @@ impl Model for Done {
 }
 
 /// The file of a snapshot, in memory.
-fn rendered(alloc: Global, snapshot: &Snapshot) -> Result<Vec<u8>, AllocError>
+fn rendered(
+    rt: &(impl Threads + Sync),
+    alloc: Global,
+    snapshot: &Snapshot,
+) -> Result<Vec<u8>, AllocError>
     ensures { IfOk result (λ text. text.items ≡ file_of snapshot.now) }
 {
-    let mut text = Vec::new(alloc);
-    snapshot.put_csv(alloc, &mut text)?;
-    Ok(text)
+    let mut sink = Counted::new(Vec::new(alloc));
+    // What is written to a Vec fails for want of memory alone.
+    match snapshot.write_csv_split(rt, alloc, &mut sink) {
+        Ok(()) => Ok(sink.into_inner()),
+        Err(_) => Err(AllocError),
+    }
 }
 
 /// The file of a reply, where it is an export.
-fn rendered_if_exported(alloc: Global, reply: &Reply) -> Result<Option<Vec<u8>>, AllocError>
+fn rendered_if_exported(
+    rt: &(impl Threads + Sync),
+    alloc: Global,
+    reply: &Reply,
+) -> Result<Option<Vec<u8>>, AllocError>
     ensures { IfOk result (λ file. bytes_in file ≡ file_in (reply_of reply.now)) }
 {
     match reply {
-        Reply::Exported(snapshot) => match rendered(alloc, snapshot) {
+        Reply::Exported(snapshot) => match rendered(rt, alloc, snapshot) {
             Ok(text) => Ok(Some(text)),
             Err(_) => Err(AllocError),
         },
@@ -57,11 +70,15 @@ fn rendered_if_exported(alloc: Global, reply: &Reply) -> Result<Option<Vec<u8>>,
 }
 
 impl Done {
-    /// Renders the file, where the reply is an export.
-    pub fn new(alloc: Global, receipt: Receipt) -> Result<Done, AllocError>
+    /// Renders the file, where the reply is an export, and that of many rows in several threads at once.
+    pub fn new(
+        rt: &(impl Threads + Sync),
+        alloc: Global,
+        receipt: Receipt,
+    ) -> Result<Done, AllocError>
         ensures { IfOk result (λ done. done ≡ told_of receipt) }
     {
-        let file = rendered_if_exported(alloc, &receipt.reply)?;
+        let file = rendered_if_exported(rt, alloc, &receipt.reply)?;
         Ok(Done { receipt, file })
     }
 

@@ -4,9 +4,10 @@ use crate::desks::{Desk, Report};
 use node_book::{Done, Event, Log, Offer, Reply, Worker};
 use std::alloc::{AllocError, Global};
 use std::sync::Wait;
+use std::thread::Threads;
 
 /// Reads a text and journals it, and tells the nodes of its packet.
-fn journal<R: Wait>(
+fn journal<R: Threads + Wait + Sync>(
     rt: &R,
     alloc: Global,
     desk: &Desk,
@@ -18,11 +19,11 @@ fn journal<R: Wait>(
     if let Reply::Journaled { packet } = &receipt.reply {
         desk.send(rt, *packet)?;
     }
-    Done::new(alloc, receipt)
+    Done::new(rt, alloc, receipt)
 }
 
 /// Journals these texts in turn.
-fn journal_all<R: Wait>(
+fn journal_all<R: Threads + Wait + Sync>(
     rt: &R,
     alloc: Global,
     desk: &Desk,
@@ -40,7 +41,7 @@ fn journal_all<R: Wait>(
 }
 
 /// The thread of an agent. Want of memory is told to the main thread at once.
-pub(crate) fn run_agent<R: Wait>(
+pub(crate) fn run_agent<R: Threads + Wait + Sync>(
     rt: &R,
     alloc: Global,
     desk: &Desk,

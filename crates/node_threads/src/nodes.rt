@@ -7,6 +7,7 @@ use node_book::{Done, Event, Log, Receipt, Reply, Worker};
 use std::alloc::{AllocError, Global};
 use std::sync::Wait;
 use std::thread;
+use std::thread::Threads;
 
 /// Which node a thread is, and how often it asks its gate.
 #[derive(Clone, Copy, Drop)]
@@ -62,13 +63,18 @@ fn pass<G: Gate>(gate: &G, seat: Seat, period: u16) {
 
 impl Progress {
     /// Keeps a receipt, with its file where it is an export's.
-    fn keep(&mut self, alloc: Global, receipt: Receipt) -> Result<(), AllocError> {
-        self.done.push(Done::new(alloc, receipt)?)?;
+    fn keep<R: Threads + Sync>(
+        &mut self,
+        rt: &R,
+        alloc: Global,
+        receipt: Receipt,
+    ) -> Result<(), AllocError> {
+        self.done.push(Done::new(rt, alloc, receipt)?)?;
         Ok(())
     }
 
     /// Asks for the file of a period, and tells whether it was answered. The lock is free again before the gate is asked.
-    fn export<R: Wait, G: Gate>(
+    fn export<R: Threads + Wait + Sync, G: Gate>(
         &mut self,
         rt: &R,
         alloc: Global,
@@ -88,7 +94,7 @@ impl Progress {
         if is_answered {
             pass(gate, seat, period);
         }
-        self.keep(alloc, receipt)?;
+        self.keep(rt, alloc, receipt)?;
         if is_answered {
             gate.done(node, period);
             self.exported = self.exported.saturating_add(1);
@@ -98,7 +104,7 @@ impl Progress {
 
     /// Asks for the periods that are learned and not exported yet, until one is refused: what a period lacks, each later one
     /// lacks too.
-    fn export_learned<R: Wait, G: Gate>(
+    fn export_learned<R: Threads + Wait + Sync, G: Gate>(
         &mut self,
         rt: &R,
         alloc: Global,
@@ -115,7 +121,7 @@ impl Progress {
     }
 
     /// Does an event at the node, and what follows from its reply.
-    fn take<R: Wait, G: Gate>(
+    fn take<R: Threads + Wait + Sync, G: Gate>(
         &mut self,
         rt: &R,
         alloc: Global,
@@ -126,7 +132,7 @@ impl Progress {
     ) -> Result<(), AllocError> {
         let receipt = desk.act(rt, alloc, Worker::Node(seat.node), event)?;
         let next = next_of(&receipt.reply);
-        self.keep(alloc, receipt)?;
+        self.keep(rt, alloc, receipt)?;
         match next {
             Next::Sent(packet) => desk.send(rt, packet),
             Next::Learned => {
@@ -148,7 +154,7 @@ impl Progress {
 }
 
 /// Works on notes until it is told to stop.
-fn work<R: Wait, G: Gate>(
+fn work<R: Threads + Wait + Sync, G: Gate>(
     rt: &R,
     alloc: Global,
     desk: &Desk,
@@ -188,7 +194,7 @@ fn wait_for_stop<R: Wait>(rt: &R, notes: &Receiver<Note>) {
 }
 
 /// The thread of a node. Want of memory is told to the main thread at once.
-pub(crate) fn run_node<R: Wait, G: Gate>(
+pub(crate) fn run_node<R: Threads + Wait + Sync, G: Gate>(
     rt: &R,
     alloc: Global,
     desk: &Desk,

@@ -70,7 +70,7 @@ fn rows_again(alloc: Global, of: &Charged) -> Result<Vec<FocusRow<'_>>, RowFault
 }
 
 /// The texts of rows, asked for again where the first call finds no memory.
-fn texts_again(alloc: Global, rows: &[FocusRow<'_>]) -> Result<Vec<u8>, AllocError> {
+fn texts_again(alloc: Global, rows: &[FocusRow<'_>]) -> Result<Vec<u8>, CsvFault> {
     match row_texts(alloc, rows) {
         Ok(text) => Ok(text),
         Err(_) => row_texts(alloc, rows),

@@ -4,4 +4,4 @@ use Rattle.node_book.specs.Books.{file_in}
 use Rattle.node_book.proofs.done.rendered_if_exported.Goals as goal
 
 pub returns-in-Ok : goal.returns-in-Ok
-returns-in-Ok c = ap Some c.in-Ok.ensures ∙ sym (ap (λ (r : Reply). file_in (reply_of r)) c.in-Exported.is)
+returns-in-Ok g c = ap Some c.in-Ok.ensures ∙ sym (ap (λ (r : Reply). file_in (reply_of r)) c.in-Exported.is)

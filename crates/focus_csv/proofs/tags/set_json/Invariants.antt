@@ -3,7 +3,7 @@ use Rattle.std.proofs.Common.{◌≡◌, [], ◌∷◌, ◌++◌, map}
 use Rattle.batch_view.specs.Lent.{lent_tags}
 use Rattle.batch_view.specs.TagTexts.{tag_of}
 use Rattle.focus_csv.proofs.TagTexts.{members_left}
-use Rattle.focus_csv.proofs.tags.set_tags.Given as goal
+use Rattle.focus_csv.proofs.tags.set_json.Given as goal
 
 abbrev pub invariant-loop-key : goal.invariant-loop-key
 invariant-loop-key l = record {

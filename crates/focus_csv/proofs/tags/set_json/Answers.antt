@@ -3,8 +3,15 @@ use Rattle.std.proofs.Common.{◌≡◌, ◌∷◌, ◌++◌, [], map, sym, ap, 
 use Rattle.std.proofs.lemmas.List.{append-nil}
 use Rattle.batch_view.specs.Lent.{lent_tags, lent_pair}
 use Rattle.batch_view.specs.TagTexts.{tag_of}
+use Rattle.focus_csv.proofs.JsonText.{next_texts}
 use Rattle.focus_csv.proofs.TagTexts.{members_left, all_left, one_less}
-use Rattle.focus_csv.proofs.tags.set_tags.Goals as goal
+use Rattle.focus_csv.proofs.tags.set_json.Goals as goal
+
+pub put_member-requires-clause-key : goal.put_member-requires-clause-key
+put_member-requires-clause-key c = (next_texts c.loop-key.key-iterator _ _ c.in-Some.ensures.steps).0
+
+pub put_member-requires-clause-value : goal.put_member-requires-clause-value
+put_member-requires-clause-value c = (next_texts c.loop-key.key-iterator _ _ c.in-Some.ensures.steps).1
 
 pub loop-key-preserved : goal.loop-key-preserved
 loop-key-preserved c = record {

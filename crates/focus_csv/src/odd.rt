@@ -1,0 +1,94 @@
+//! Odd fields, which a reader of CSV would cut as they stand. `csv` writes them.
+
+ghost use Rattle.std.specs.Prelude.{◌≡◌, ◌∷◌, ◌++◌, IfOk, OnOk};
+ghost use Rattle.csv.specs.Writing.{writer_under};
+ghost use Rattle.metering_model.specs.File.{quoted};
+ghost use Rattle.focus_csv.specs.Inner.OddFields.{IsReady};
+
+use csv::Writer;
+use std::alloc::{AllocError, Global};
+use std::marker::Model;
+
+/// So many bytes of odd fields are kept at most, and one field more.
+const ENOUGH: usize = 65_536;
+
+/// A writer of CSV over a text of its own. Odd fields are written to it, one behind the other, and copied from there.
+#[derive(Drop)]
+pub(crate) struct OddFields {
+    alloc: Global,
+    /// There is none before the first odd field, nor behind one that could not be written. One whose text is long is let go.
+    writer: Option<Box<Writer<Vec<u8>>>>,
+}
+
+impl Model for OddFields {
+    ghost use Rattle.std.specs.Prelude.{⊤, IfSome};
+    ghost use Rattle.focus_csv.specs.Inner.OddFields.{IsReady};
+
+    ghost Value = { ⊤ };
+
+    ghost view = { λ _. tt };
+
+    ghost invariant = { λ o. IfSome o.writer (λ w. IsReady w.value) };
+}
+
+/// A writer that has written an empty field, so that each that follows has a comma before it.
+fn begun(alloc: Global) -> Result<Writer<Vec<u8>>, AllocError>
+    ensures { IfOk result IsReady }
+{
+    let mut writer = Writer::from_writer(Vec::new(alloc));
+    if writer.write_field(&[]).is_err() || writer.flush().is_err() {
+        return Err(AllocError);
+    }
+    Ok(writer)
+}
+
+/// Writes a comma and a field, and has both in the writer's own text.
+fn write_next(writer: &mut Writer<Vec<u8>>, field: &[u8]) -> Result<(), AllocError>
+    requires { IsReady writer.old }
+    ensures ready { OnOk result (IsReady writer.new) }
+    ensures written { OnOk result ((writer_under writer.new).items
+        ≡ (writer_under writer.old).items ++ 44 ∷ quoted field.now) }
+{
+    // What is written to a Vec fails for want of memory alone.
+    let Ok(()) = writer.write_field(field) else {
+        return Err(AllocError);
+    };
+    let Ok(()) = writer.flush() else {
+        return Err(AllocError);
+    };
+    Ok(())
+}
+
+/// Appends a comma and a field, as the writer writes it.
+fn put_by(writer: &mut Writer<Vec<u8>>, text: &mut Vec<u8>, field: &[u8]) -> Result<(), AllocError>
+    requires { IsReady writer.old }
+    ensures ready { OnOk result (IsReady writer.new) }
+    ensures put { OnOk result (text.new.items ≡ text.old.items ++ 44 ∷ quoted field.now) }
+{
+    let from = writer.get_ref().len();
+    write_next(writer, field)?;
+    text.extend_from_slice(&writer.get_ref()[from..])?;
+    Ok(())
+}
+
+impl OddFields {
+    pub(crate) fn new(alloc: Global) -> OddFields {
+        OddFields {
+            alloc,
+            writer: None,
+        }
+    }
+
+    /// Appends a comma and a field.
+    pub(crate) fn put_next(&mut self, text: &mut Vec<u8>, field: &[u8]) -> Result<(), AllocError>
+        ensures { OnOk result (text.new.items ≡ text.old.items ++ 44 ∷ quoted field.now) }
+    {
+        let mut writer = match self.writer.take() {
+            Some(writer) if writer.get_ref().len() < ENOUGH => writer,
+            _ => Box::new(self.alloc, begun(self.alloc)?)?,
+        };
+        put_by(&mut writer, text, field)?;
+        self.writer = Some(writer);
+        Ok(())
+    }
+}
