@@ -7,8 +7,7 @@ use Rattle.std.proofs.lemmas.List.{append-nil, drop-drop, drop_all, map-append, 
 use Rattle.std.proofs.lemmas.Grind.{flat_map-append}
 use Rattle.std.proofs.Math.Seq.{take-add}
 use Rattle.metering_model.specs.File.{row_text}
-use Rattle.focus_row.specs.Rows.{FocusRow}
-use Rattle.focus_csv.specs.Rows.{model_row}
+use Rattle.focus_csv.specs.Rows.{FocusRow, model_row}
 use Rattle.export_file.specs.declared.split.Room.{Room}
 use Rattle.export_file.specs.Parts.{lines_of, part_of, texts_in}
 

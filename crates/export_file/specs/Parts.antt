@@ -2,8 +2,7 @@
 use Rattle.std.specs.Prelude.{ℕ, ◌*◌, List, map, take, drop}
 use Rattle.std.specs.List.{flat_map}
 use Rattle.metering_model.specs.File.{row_text}
-use Rattle.focus_row.specs.Rows.{FocusRow}
-use Rattle.focus_csv.specs.Rows.{model_row}
+use Rattle.focus_csv.specs.Rows.{FocusRow, model_row}
 use Rattle.export_file.specs.declared.split.Room.{Room}
 
 -- the part of that number, where each but the last has `size` rows

@@ -12,6 +12,7 @@ ghost use Rattle.metering_model.specs.World as model;
 ghost use Rattle.focus_csv.specs.Rows.{model_row};
 ghost use Rattle.focus_csv.specs.Faults.{is_sink_fault};
 
+pub use counted_io::Counted;
 use counted_io::Sink;
 use focus_csv::{CsvFault, FocusRow, RowsBetween, put_file, rows_between, write_rows};
 use group_events::Snapshot;

@@ -1,2 +1,2 @@
--- What a row stands for, passed on, so that who writes a file needs no name of a crate below.
-pub use Rattle.focus_row.specs.Rows.{model_row}
+-- What a row stands for, and its type, passed on, so that who writes a file needs no name of a crate below.
+pub use Rattle.focus_row.specs.Rows.{model_row, FocusRow}

@@ -5,7 +5,7 @@ pub mod laws;
 mod playing;
 mod world;
 
-pub use export_file::ExportFile;
+pub use export_file::{Counted, ExportFile};
 pub use group_state::{Ballot, Event, Kept, Node, Offer, Packet, Period, Reply, Snapshot};
 pub use metering_model::Refusal;
 pub use playing::Stopped;

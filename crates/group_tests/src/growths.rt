@@ -5,9 +5,10 @@ use crate::samples::{
 };
 use counted_io::{Counted, FakeWriter};
 use group_core::{Event, ExportFile, Reply, Snapshot, Stopped, World};
-use node_threads::{Book, Receipt, Worker};
+use node_threads::{Book, Done, Receipt, Worker};
 use std::alloc::{AllocError, Global};
 use std::test::Fail;
+use std::thread::Threads;
 
 /// The replies, where it stopped those before.
 fn replies_in(played: Result<Vec<Reply>, Stopped>) -> Vec<Reply> {
@@ -136,6 +137,19 @@ fn are_acted(alloc: Global, book: &mut Book) -> Result<bool, Fail> {
     Ok(matches!(book.history().last(), Some(entry) if matches!(entry.reply, Reply::Exported(_))))
 }
 
+/// The export once more, with its file, which is made of yet another one where it finds no memory.
+fn done_again(rt: &(impl Threads + Sync), alloc: Global, book: &mut Book) -> Result<Done, Fail> {
+    let export = || Event::Export { node: 0, period: 0 };
+    let receipt = act_again(alloc, book, export(), export())?;
+    match Done::new(rt, alloc, receipt) {
+        Ok(done) => Ok(done),
+        Err(_) => {
+            let receipt = book.act(alloc, Worker::Node(0), export())?;
+            Ok(Done::new(rt, alloc, receipt)?)
+        }
+    }
+}
+
 #[test]
 fn a_refused_growth_leaves_the_book(rt: HostRuntime) -> Result<(), Fail> {
     let (Ok(sheet), Ok(issuer)) = (sheet(rt.alloc()), issuer(rt.alloc())) else {
@@ -145,5 +159,7 @@ fn a_refused_growth_leaves_the_book(rt: HostRuntime) -> Result<(), Fail> {
         return Ok(());
     };
     assert!(rt; are_acted(rt.alloc(), &mut book)?);
+    let done = done_again(&rt, rt.alloc(), &mut book)?;
+    assert!(rt; matches!(done.file(), Some(file) if is_file(file)));
     Ok(())
 }

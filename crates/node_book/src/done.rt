@@ -8,8 +8,7 @@ ghost use Rattle.node_book.specs.Kept.{bytes_in, told_of};
 ghost use Rattle.node_book.specs.Agreement.{is_export_of};
 
 use crate::Receipt;
-use counted_io::Counted;
-use group_core::{ExportFile, Reply, Snapshot};
+use group_core::{Counted, ExportFile, Reply, Snapshot};
 use std::alloc::{AllocError, Global};
 use std::marker::Model;
 use std::thread::Threads;
