@@ -31,7 +31,9 @@ impl Model for OddFields {
     ghost invariant = { λ o. IfSome o.writer (λ w. IsReady w.value) };
 }
 
-/// A writer that has written an empty field, so that each that follows has a comma before it.
+/// A writer that has written an empty field, so that each that follows has a comma before it. Out of line, so that its 8 KiB
+/// are no part of the frame of who writes a field, where they would be cleared each time.
+#[inline(never)]
 fn begun(alloc: Global) -> Result<Writer<Vec<u8>>, AllocError>
     ensures { IfOk result IsReady }
 {
