@@ -31,9 +31,7 @@ impl Model for OddFields {
     ghost invariant = { λ o. IfSome o.writer (λ w. IsReady w.value) };
 }
 
-/// A writer that has written an empty field, so that each that follows has a comma before it. Out of line, so that its 8 KiB
-/// are no part of the frame of who writes a field, where they would be cleared each time.
-#[inline(never)]
+/// A writer that has written an empty field, so that each that follows has a comma before it.
 fn begun(alloc: Global) -> Result<Writer<Vec<u8>>, AllocError>
     ensures { IfOk result IsReady }
 {
@@ -42,6 +40,15 @@ fn begun(alloc: Global) -> Result<Writer<Vec<u8>>, AllocError>
         return Err(AllocError);
     }
     Ok(writer)
+}
+
+/// The same in a box. Out of line, so that the writer's 8 KiB are no part of the frame of who writes a field, where they would be
+/// cleared each time.
+#[inline(never)]
+fn boxed(alloc: Global) -> Result<Box<Writer<Vec<u8>>>, AllocError>
+    ensures { IfOk result (λ w. IsReady w.value) }
+{
+    Ok(Box::new(alloc, begun(alloc)?)?)
 }
 
 /// Writes a comma and a field, and has both in the writer's own text.
@@ -87,7 +94,7 @@ impl OddFields {
     {
         let mut writer = match self.writer.take() {
             Some(writer) if writer.get_ref().len() < ENOUGH => writer,
-            _ => Box::new(self.alloc, begun(self.alloc)?)?,
+            _ => boxed(self.alloc)?,
         };
         put_by(&mut writer, text, field)?;
         self.writer = Some(writer);
