@@ -23,7 +23,7 @@ counted() {
     sed -n 's/.*Collected : //p' "$room/told"
 }
 
-# NAME: where DEAREST names a file, it gets the three dearest functions of the last run, each with what it takes of 100
+# LOAD NUMBER: where DEAREST names a file, it gets the three dearest functions of the last run, each with what it takes of 100
 # instructions without those that it calls.
 dearest() {
     [ -z "${DEAREST-}" ] || callgrind_annotate --threshold=100 "$room/trace" | awk -v name="$1" '
