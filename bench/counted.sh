@@ -28,10 +28,10 @@ counted() {
 dearest() {
     [ -z "${DEAREST-}" ] || callgrind_annotate --threshold=100 "$room/trace" | awk -v name="$1" '
         / file:function$/ { listed = 1; next }
-        listed && match($0, /\( *[0-9.]+%\)/) {
+        listed && told < 3 && match($0, /\( *[0-9.]+%\)/) {
             share = substr($0, RSTART + 1, RLENGTH - 3); called = substr($0, RSTART + RLENGTH)
             sub(/^ *[^ ]*\?\?\?:/, "", called); sub(/^ */, "", called); sub(/ \[[^]]*\]$/, "", called)
             print name, share + 0, called
-            if (++told == 3) exit
+            told++
         }' >>"$DEAREST"
 }
