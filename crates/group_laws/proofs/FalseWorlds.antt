@@ -5,6 +5,7 @@ use Rattle.std.specs.List.{count_by, list_any}
 use Rattle.std.proofs.lemmas.Bool.{leb-true, both_ways}
 use Rattle.std.proofs.lemmas.Option.{same_Some, none-some}
 use Rattle.jiff_core.specs.Calendar.{days_from_civil, day_count, days_of_years, days_of_months}
+use Rattle.metering_model.specs.declared.Version.TheVariants.{B1}
 use Rattle.metering_model.specs.Batch.{Batch, Reading, Reads}
 use Rattle.metering_model.specs.declared.Kind.TheVariants.{Credit}
 use Rattle.metering_model.specs.declared.ChargeClass.TheVariants.{New}
@@ -25,7 +26,7 @@ abbrev high : Cut
 high = 2 ∷ []
 
 abbrev batch_of : ℕ → Batch
-batch_of seq = record { agent = 1; seq = seq; records = [] }
+batch_of seq = record { version = B1; agent = 1; seq = seq; records = [] }
 
 abbrev whole_holding : List Batch
 whole_holding = batch_of 1 ∷ batch_of 2 ∷ []
@@ -214,10 +215,11 @@ credit = record {
   value = pos 5;
   commitment = [];
   tags = [];
+  region = None;
 }
 
 abbrev credited : World
-credited = record (opening 1 0 1 sheet_0 issuer_1) { journals = record { agent = 1; seq = 1; records = Reads credit ∷ [] } ∷ [] }
+credited = record (opening 1 0 1 sheet_0 issuer_1) { journals = record { version = B1; agent = 1; seq = 1; records = Reads credit ∷ [] } ∷ [] }
 
 -- one node, which chooses February's batch for January, period 0
 abbrev after_an_early_cut : World

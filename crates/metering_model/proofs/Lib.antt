@@ -14,6 +14,7 @@ pub mod TagLaws
 pub mod FieldBytes
 pub mod ReadingLaws
 pub mod RecordLaws
+pub mod RegionLaws
 pub mod LineLaws
 pub mod BatchLaws
 pub mod RoundingLaws
@@ -46,6 +47,7 @@ mod WorkedNumbers
 mod WorkedBatches
 mod WorkedRates
 mod WorkedRows
+mod WorkedRegions
 pub mod WorkedBallots
 pub mod WorkedPeriods
 pub mod WorkedSheets

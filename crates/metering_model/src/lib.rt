@@ -18,6 +18,15 @@ pub enum Kind {
     Adjustment,
 }
 
+/// The format of a batch's text, which the first field of its head names.
+#[derive(Clone, Copy, Debug, PartialEq, Eq, Drop)]
+pub enum Version {
+    /// Readings of nine fields.
+    B1,
+    /// Readings of ten fields, the last of which is their region.
+    B2,
+}
+
 /// A kind that is charged by a price.
 #[derive(Clone, Copy, Debug, PartialEq, Eq, Drop)]
 pub enum PricedKind {

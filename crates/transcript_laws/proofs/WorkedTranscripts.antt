@@ -31,7 +31,7 @@ abbrev text : List ℕ
 text = transcript run.0
 
 abbrev pub corrected_row : List ℕ
-corrected_row = codes "0.04,A-100,Payer,USD,2025-03-01T00:00:00Z,2025-02-01T00:00:00Z,Usage,Correction,Virtual CPU time,Usage-Based,2025-01-10T02:00:00Z,2025-01-10T00:00:00Z,,,,,1800,Seconds,0.04,0.08,0.04,Sample Cloud Ltd,0.05,0.1,Standard,0.5,Hours,Sample Cloud,Sample Cloud,vm-1,Compute,Sample Compute,cpu,cpu-od,acc-7,\"{\"\"env\"\":\"\"prod\"\"}\""
+corrected_row = codes "0.04,A-100,Payer,USD,2025-03-01T00:00:00Z,2025-02-01T00:00:00Z,Usage,Correction,Virtual CPU time,Usage-Based,2025-01-10T02:00:00Z,2025-01-10T00:00:00Z,,,,,1800,Seconds,0.04,0.08,0.04,Sample Cloud Ltd,0.05,0.1,Standard,0.5,Hours,Sample Cloud,Sample Cloud,,,vm-1,Compute,Sample Compute,cpu,cpu-od,acc-7,\"{\"\"env\"\":\"\"prod\"\"}\""
 
 abbrev january : TextLines
 january = header_line ∷ row_1 ∷ []
@@ -85,7 +85,7 @@ one_reading = sym (holds.new_once (lines_text january ∷ lines_text february �
 
 -- ---- read as CSV, the lines have the header line's columns
 
-columns : (length (csv_fields header_line) ≡ 36) × (slice_get (csv_fields header_line) 7 ≡ Some (codes "ChargeClass")) × (slice_get (csv_fields header_line) 35 ≡ Some (codes "Tags"))
+columns : (length (csv_fields header_line) ≡ 38) × (slice_get (csv_fields header_line) 7 ≡ Some (codes "ChargeClass")) × (slice_get (csv_fields header_line) 37 ≡ Some (codes "Tags"))
 columns = (refl, refl, refl)
 
 new_in_january : slice_get (csv_fields row_1) 7 ≡ Some []
@@ -95,5 +95,5 @@ corrected_in_february : slice_get (csv_fields corrected_row) 7 ≡ Some (codes "
 corrected_in_february = refl
 
 -- a field between quotation marks, of which the inner ones were doubled
-tags_in_january : slice_get (csv_fields row_1) 35 ≡ Some (codes "{\"env\":\"prod\"}")
+tags_in_january : slice_get (csv_fields row_1) 37 ≡ Some (codes "{\"env\":\"prod\"}")
 tags_in_january = refl
