@@ -1,7 +1,7 @@
 -- The places of rows with ids, with one row more.
 use Rattle.std.proofs.Common.{◌≡◌, ℕ, Bool, true, false, cond, List, [], ◌∷◌, ◌++◌, length, find, slice_get, Option, Some, None, Ok, is_some, Vec, if◌then◌else◌, refl, sym, subst, ◌∙◌}
 use Rattle.std.specs.List.{list_any}
-use Rattle.std.specs.Option.{option_or}
+use Rattle.std.specs.Option.{option_or, option_and_then}
 use Rattle.std.proofs.lemmas.List.Folds.{find-append}
 use Rattle.toml.specs.Data.{Members}
 use Rattle.metering_model.specs.BatchReading.{is_same}
@@ -13,14 +13,12 @@ use Rattle.price_sheet.proofs.PlaceLaws.{same_texts}
 use Rattle.price_sheet.proofs.RowLaws.{still_at, last_at}
 use Rattle.price_sheet.proofs.SheetLaws.{same_comm}
 
--- the row at a place
-pub stands : {A : Type 0} (rows : List A) (place : ℕ) (row : Option A) → StandsAt rows (Some place) row → slice_get rows place ≡ row
-stands rows place None h = absurd h
-stands rows place (Some row) h = h
-
-pub none_stands : {A : Type 0} (rows : List A) (row : Option A) → StandsAt rows None row → None ≡ row
-none_stands rows None h = refl
-none_stands rows (Some row) h = absurd h
+-- the row at the place that is found
+pub row_stands : {A : Type 0} (rows : List A) (place : Option ℕ) (row : Option A) → StandsAt rows place row → option_and_then (slice_get rows) place ≡ row
+row_stands rows None None h = refl
+row_stands rows None (Some row) h = absurd h
+row_stands rows (Some place) None h = absurd h
+row_stands rows (Some place) (Some row) h = h
 
 both_or_none : {A : Type 0} (rows : List A) (place : Option ℕ) (row : Option A) → StandsAt rows place row → is_some place ≡ is_some row
 both_or_none rows None None h = refl

@@ -9,7 +9,7 @@ ghost use Rattle.metering_model.specs.SheetRules.{has_same_region};
 ghost use Rattle.price_sheet.specs.SheetReading.{next_region, placed_region, regions_in};
 ghost use Rattle.price_sheet.specs.Inner.Places.{found_at, IndexesRegions};
 
-use crate::places::fault_at;
+use crate::places::{fault_at, put_place, row_placed};
 use indexmap::IndexMap;
 use sheet_text::{KeyFault, Place, Region, SheetFault};
 use std::alloc::{AllocError, Global};
@@ -71,10 +71,7 @@ impl RegionTable {
     pub(crate) fn with_id(&self, id: &[u8]) -> Option<&Region>
         ensures { option_copied result ≡ find (λ x. is_same x.id id.now) self.now }
     {
-        match self.places.get(id) {
-            Some(place) => self.rows.get(*place as usize),
-            None => None,
-        }
+        row_placed(&self.rows, &self.places, id)
     }
 
     /// Whether the regions are the same, in the same order.
@@ -97,9 +94,7 @@ fn add_place(
     requires new { list_any (has_same_region row.now) rows.now ≡ false }
     ensures { OnOk result (IndexesRegions (rows.now ++ row.now ∷ []) places.new.entries) }
 {
-    let id = Vec::from_slice(alloc, row.id().as_bytes())?;
-    places.insert(id, rows.len() as u16)?;
-    Ok(())
+    put_place(alloc, places, row.id().as_bytes(), rows.len() as u16)
 }
 
 /// Whether an earlier region has the id of this one.
