@@ -81,7 +81,7 @@ def schedule_in(text):
 
 
 def batch_in(text):
-    """The agent, the sequence and the records of a batch."""
+    """The agent, the sequence and the records of a batch. Of format B2 a reading has its region for a tenth field."""
     *lines, _ = text.decode().split("\n")
     head = re.fullmatch(rf"B([12])\|{WHOLE}\|{WHOLE}\|{WHOLE}", lines[0])
     if len(text) > 65_536 or not head:

@@ -1,29 +1,32 @@
 -- The line's parts are its letter and what stands behind it, and there the record was read.
-use Rattle.std.proofs.Common.{◌∙◌, ap, sym}
+use Rattle.std.proofs.Common.{◌∷◌, ◌∙◌, ap, sym}
 use Rattle.metering_model.specs.BatchReading.{record_in, fields_in}
-use Rattle.record_view.specs.Parts.{lent}
-use Rattle.record_view.proofs.LineLaws.{ok_along, err_along, line_fields, one_field, line_lent, none_apart, record_apart, record_placed, record_lent}
+use Rattle.record_view.specs.Parts.{lent, parts_at}
+use Rattle.record_view.specs.Inner.Placed.{texts_of}
+use Rattle.record_view.proofs.LineLaws.{ok_along, err_along, ok_of, err_of, line_fields, one_field, line_lent, none_apart, record_apart, record_placed, record_lent}
 use Rattle.record_view.proofs.records.read_record.Goals as goal
 
 pub returns-then-is_amendment-clause-ok : goal.returns-then-is_amendment-clause-ok
 returns-then-is_amendment-clause-ok c =
     let fields = line_fields (lent c.field_at.result) (lent c.in-Some.letter) (lent c.in-Some.rest) c.in-Some.ensures.parts in
-    ok_along c.amendment_behind.result _ _ (ap record_in (fields ∙ ap fields_in c.field_at.ensures.text)) c.amendment_behind.ensures.ok
+    ok_along c.amendment_behind.result _ _ (ap (record_in c.args.version) (fields ∙ ap fields_in c.field_at.ensures.text))
+    (ok_of c.args.version c.amendment_behind.result (λ version. record_in version (c.in-Some.letter.text.now ∷ texts_of (parts_at 124 (lent c.in-Some.rest)))) c.amendment_behind.ensures.ok)
 
 pub returns-then-is_amendment-clause-err : goal.returns-then-is_amendment-clause-err
 returns-then-is_amendment-clause-err c =
     let fields = line_fields (lent c.field_at.result) (lent c.in-Some.letter) (lent c.in-Some.rest) c.in-Some.ensures.parts in
-    err_along c.amendment_behind.result _ _ (ap record_in (fields ∙ ap fields_in c.field_at.ensures.text)) c.amendment_behind.ensures.err
+    err_along c.amendment_behind.result _ _ (ap (record_in c.args.version) (fields ∙ ap fields_in c.field_at.ensures.text))
+    (err_of c.args.version c.amendment_behind.result (λ version. record_in version (c.in-Some.letter.text.now ∷ texts_of (parts_at 124 (lent c.in-Some.rest)))) c.amendment_behind.ensures.err)
 
 pub returns-else-is_amendment-clause-ok : goal.returns-else-is_amendment-clause-ok
 returns-else-is_amendment-clause-ok c =
     let fields = line_fields (lent c.field_at.result) (lent c.in-Some.letter) (lent c.in-Some.rest) c.in-Some.ensures.parts in
-    ok_along c.reading_behind.result _ _ (ap record_in (fields ∙ ap fields_in c.field_at.ensures.text)) c.reading_behind.ensures.ok
+    ok_along c.reading_behind.result _ _ (ap (record_in c.args.version) (fields ∙ ap fields_in c.field_at.ensures.text)) c.reading_behind.ensures.ok
 
 pub returns-else-is_amendment-clause-err : goal.returns-else-is_amendment-clause-err
 returns-else-is_amendment-clause-err c =
     let fields = line_fields (lent c.field_at.result) (lent c.in-Some.letter) (lent c.in-Some.rest) c.in-Some.ensures.parts in
-    err_along c.reading_behind.result _ _ (ap record_in (fields ∙ ap fields_in c.field_at.ensures.text)) c.reading_behind.ensures.err
+    err_along c.reading_behind.result _ _ (ap (record_in c.args.version) (fields ∙ ap fields_in c.field_at.ensures.text)) c.reading_behind.ensures.err
 
 pub returns-then-is_amendment-clause-lent : goal.returns-then-is_amendment-clause-lent
 returns-then-is_amendment-clause-lent c =
@@ -46,4 +49,4 @@ returns-else-is_amendment-clause-lent c =
 
 pub returns-in-None-clause-err : goal.returns-in-None-clause-err
 returns-in-None-clause-err c =
-    sym (ap (λ t. record_in (fields_in t)) c.field_at.ensures.text) ∙ one_field (lent c.field_at.result) c.in-None.ensures.parts
+    sym (ap (λ t. record_in c.args.version (fields_in t)) c.field_at.ensures.text) ∙ one_field c.args.version (lent c.field_at.result) c.in-None.ensures.parts
