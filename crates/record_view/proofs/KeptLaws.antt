@@ -295,13 +295,14 @@ kept version source line spans n r ordered within are at made =
       read = at.read ∙ ap (λ y. Ok (model.Reads y)) {y = model_reading r} (same_reading tags x.start_is x.end_is x.account_is x.resource_is x.key_is x.commitment_is x.region_is (made.kind_is ∙ at.kind_is) (made.start_is ∙ at.start_is) (made.end_is ∙ at.end_is) (made.value_is ∙ at.value_is));
       lent = record {
         apart = rw made.tags_are apart;
-        places = rw made.tags_are (sym (ap lent_fields x.are ∙ lent_of x.letter _ _ _ _ _ x.value _ (lent made.tags_field) (option_map lent (reading_region r))));
+        places = rw made.tags_are (sym (lent_of (fields_at source line) x.letter _ _ _ _ _ x.value _ (lent made.tags_field) (option_map lent (reading_region r)) x.are));
       };
     }
   where
-    lent_of : (a b c d f g h i j : LentText) (region : Option LentText) → lent_fields (a ∷ b ∷ c ∷ d ∷ f ∷ g ∷ h ∷ i ∷ j ∷ option_to_list region) ≡ lent_texts b c d f g i (tags_at j) region
-    lent_of a b c d f g h i j None = refl
-    lent_of a b c d f g h i j (Some q) = refl
+    lent_of : (ts : List LentText) (a b c d f g h i j : LentText) (region : Option LentText) → ts ≡ a ∷ b ∷ c ∷ d ∷ f ∷ g ∷ h ∷ i ∷ j ∷ option_to_list region
+        → lent_fields ts ≡ lent_texts b c d f g i (tags_at j) region
+    lent_of ts a b c d f g h i j None e = ap lent_fields e
+    lent_of ts a b c d f g h i j (Some q) e = ap lent_fields e
 
     same_reading : {m : model.Reading} → m.tags ≡ map tag_of (reading_tags r) → m.start_text ≡ r.start_text.text.now → m.end_text ≡ r.end_text.text.now
         → m.account ≡ r.account.text.now → m.resource ≡ r.resource.text.now → m.key ≡ r.key.text.now → m.commitment ≡ r.commitment.text.now
