@@ -81,17 +81,17 @@ def schedule_in(text):
 
 
 def batch_in(text):
-    """The agent, the sequence and the records of a batch. Of format B2 a reading has its region for a tenth field."""
+    """The agent, the sequence and the records of a batch."""
     *lines, _ = text.decode().split("\n")
-    head = re.fullmatch(rf"B([12])\|{WHOLE}\|{WHOLE}\|{WHOLE}", lines[0])
+    head = re.fullmatch(rf"B1\|{WHOLE}\|{WHOLE}\|{WHOLE}", lines[0])
     if len(text) > 65_536 or not head:
         raise Refused("G1 V8 line 1" if len(text) > 65_536 else "G1 V1 line 1")
-    version, agent, seq, count = map(int, head.groups())
+    agent, seq, count = map(int, head.groups())
     if not 1 <= agent <= 64 or not 1 <= seq <= 1_000_000 or count > 1_000:
         raise Refused("G1 V1 line 1")
     records = [it.split("|") for it in lines[1 : count + 1]]
     for place, record in enumerate(records):
-        if len(record) != {"X": 4}.get(record[0], 8 + version if record[0] in list("UPCTA") else 0):
+        if len(record) != {"X": 4}.get(record[0], 9 if record[0] in list("UPCTA") else 0):
             raise Refused(f"G1 V3 line {place + 2}")
     if len(lines) != count + 1:
         raise Refused(f"G1 V2 line {min(len(lines), count + 1) + 1}")
@@ -122,7 +122,6 @@ class World:
         self.nodes, self.agents, self.issuer = [Node() for _ in range(nodes)], agents, issuer
         self.prices = [tuple(it[key] for key in PRICE) for it in sheet.get("price", [])]
         self.commitments = [tuple(it[key] for key in COMMITMENT) for it in sheet.get("commitment", [])]
-        self.regions = {it["id"]: it["name"] for it in sheet.get("region", [])}
         self.base = sheet["base"]
         self.journals, self.packets = [[] for _ in range(agents)], []
 
@@ -277,7 +276,7 @@ class World:
                         records.append((place, record))
             for place, record in records:
                 if place not in then or then[place] != now[place]:
-                    made = row(record, then.get(place, 0), now[place], bounds, self.prices, self.commitments, self.issuer, self.regions)
+                    made = row(record, then.get(place, 0), now[place], bounds, self.prices, self.commitments, self.issuer)
                     yield {**made, "ChargeClass": "Correction"} if place in then else made
 
 
