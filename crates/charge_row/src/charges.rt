@@ -324,12 +324,14 @@ fn row_by<'a>(
 ) -> FocusRow<'a>
     requires was { is_priced reading.now.kind ≡ true → pos 0 ≤ℤ was }
     requires value { is_priced reading.now.kind ≡ true → pos 0 ≤ℤ now }
-    ensures { (sheet : ModelSheet) (period : ℕ)
+    ensures region_id { result.region_id ≡ region.entry.id }
+    ensures region_name { result.region_name ≡ region.entry.name }
+    ensures row { (sheet : ModelSheet) (period : ℕ)
         → ArePeriodTexts sheet.base period billing.now.start_text billing.now.end_text
         → price_of sheet (model_reading reading.now) ≡ option_copied price.entry
         → commitment_of sheet (model_reading reading.now) ≡ option_copied commitment.entry
-        → region_of (model_reading reading.now) ≡ option_copied region.id
-        → IsNamed sheet (option_copied region.id) (option_copied region.name)
+        → region_of (model_reading reading.now) ≡ option_copied region.entry.id
+        → IsNamed sheet (option_copied region.entry.id) (option_copied region.entry.name)
         → model_row result
         ≡ row sheet billing.now.issuer.now (model_reading reading.now) period class was now }
 {
