@@ -75,7 +75,13 @@ pub(crate) fn keep_batch(alloc: Global, bytes: &[u8]) -> Result<(Head, Vec<Entry
         Ok(head) => head,
         Err(fault) => return Err(Unkept::Fault(fault)),
     };
-    let (entries, end) = match keep_entries(alloc, head.version, bytes, head.records_from, head.count) {
+    let (entries, end) = match keep_entries(
+        alloc,
+        head.version,
+        bytes,
+        head.records_from,
+        head.count,
+    ) {
         Ok(kept) => kept,
         Err(why) => return Err(why),
     };

@@ -1,9 +1,9 @@
 -- A line whose spans are known has its fields there, and a line that was read has its record.
-use Rattle.std.proofs.Common.{◌≡◌, ℕ, zero, suc, ◌+◌, ◌<◌, ◌≤◌, List, [], ◌∷◌, ◌++◌, length, take, drop, map, All, get_or, Ok, Option, Some, None, is_some, true, false, slice_range, refl, sym, ap, subst, ◌∙◌, arith}
-use Rattle.std.specs.List.{slice_get, flat_map}
+use Rattle.std.proofs.Common.{◌≡◌, ℕ, zero, suc, ◌+◌, ◌<◌, ◌≤◌, List, [], ◌∷◌, length, take, drop, map, All, get_or, Ok, Option, Some, None, is_some, true, false, slice_range, refl, sym, ap, subst, ◌∙◌, arith}
+use Rattle.std.specs.List.{slice_get}
 use Rattle.std.specs.Option.{option_map, option_to_list}
 use Rattle.std.proofs.lemmas.Bool.{false≢true}
-use Rattle.std.proofs.lemmas.Option.{slice_get_within, slice_get-get_or, get_or_from_slice_get}
+use Rattle.std.proofs.lemmas.Option.{slice_get_within, get_or_from_slice_get}
 use Rattle.std.proofs.lemmas.List.{get_or-take, length-take-le}
 use Rattle.metering_model.specs.Batch as model
 use Rattle.metering_model.specs.Batch.{record_fields, is_region_of}
@@ -20,10 +20,10 @@ use Rattle.record_view.specs.Parts.{LentText, lent, AreLentApart}
 use Rattle.record_view.specs.TagTexts.{tag_of, tags_at}
 use Rattle.record_view.specs.Inner.TagParts.{are_tags}
 use Rattle.record_view.specs.Inner.Placed.{texts_of}
-use Rattle.record_view.specs.Inner.KeptFields.{LiesWithin, StandsAt, HasTags, MayHaveRegion, HasRegion, IsRegionAt, IsLentAtSpans}
+use Rattle.record_view.specs.Inner.KeptFields.{LiesWithin, StandsAt, HasTags, MayHaveRegion, HasRegion, IsLentAtSpans}
 use Rattle.record_view.specs.declared.fields.Field.{Field}
 use Rattle.record_view.specs.declared.kept.Numbers.{Numbers}
-use Rattle.record_view.specs.Lent.{fields_at, text_at, lent_texts, lent_fields, tag_texts, reading_tags, reading_region, model_reading}
+use Rattle.record_view.specs.Lent.{fields_at, text_at, lent_texts, lent_fields, reading_tags, reading_region, model_reading}
 use Rattle.record_view.specs.Spans.{span_of, spans_at, reading_fields, IsReadingAt, IsRecordAt}
 use Rattle.record_view.proofs.TagLaws.{texts_of_parts, tags_read}
 use Rattle.record_view.proofs.LentLaws.{lent_rest, tags_then}

@@ -155,11 +155,11 @@ pub with_last : (source : List ℕ) (from m to : ℕ) (ts : List LentText) (q : 
     → IsLent source q → q.to ≤ to → AreLentApart source from to (ts ++ q ∷ [])
 with_last source from m to [] q low behind h last ends = (last, low, ends, tt)
 with_last source from m to (t ∷ ts) q low behind h last ends = (
-      h.0,
-      h.1,
-      omega (arith, h.2, behind, last.ordered, ends),
-      with_last source (t.to + 1) m to ts q (omega (arith, h.2, behind)) behind h.3 last ends,
-    )
+  h.0,
+  h.1,
+  omega (arith, h.2, behind, last.ordered, ends),
+  with_last source (t.to + 1) m to ts q (omega (arith, h.2, behind)) behind h.3 last ends,
+)
 
 -- Without the last they end before it.
 pub record IsLastOf (source : List ℕ) (from m to : ℕ) (ts : List LentText) (q : LentText) : Type 0 where

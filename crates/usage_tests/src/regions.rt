@@ -9,6 +9,7 @@ use worked_texts::READ;
 /// The same usage in a region, and in the empty one.
 const IN_EU: &[u8] =
     b"B2|1|2|1\nU|2025-01-10T00:00:00Z|2025-01-10T02:00:00Z|acc-7|vm-1|cpu|5400||env=prod|eu-1\n";
+
 const NOWHERE: &[u8] =
     b"B2|1|2|1\nU|2025-01-10T00:00:00Z|2025-01-10T02:00:00Z|acc-7|vm-1|cpu|5400||env=prod|\n";
 
@@ -17,22 +18,29 @@ const ODD: &[u8] = b"B2|1|2|1\nC|2025-01-10T00:00:00Z|2025-01-10T02:00:00Z|||Gif
 
 /// In format B2 an amendment of the reading in B1, and in B1 one of the reading in B2.
 const AMENDS_B1: &[u8] = b"B2|1|3|1\nX|1|0|7200\n";
+
 const AMENDS_B2: &[u8] = b"B1|1|4|1\nX|2|0|3600\n";
 
 /// Ten fields in format B1, nine and eleven in B2, and an amendment of five.
 const TEN: &[u8] =
     b"B1|1|1|1\nU|2025-01-10T00:00:00Z|2025-01-10T02:00:00Z|acc-7|vm-1|cpu|5400||env=prod|eu-1\n";
+
 const NINE: &[u8] =
     b"B2|1|1|1\nU|2025-01-10T00:00:00Z|2025-01-10T02:00:00Z|acc-7|vm-1|cpu|5400||env=prod\n";
+
 const ELEVEN: &[u8] =
     b"B2|1|1|1\nU|2025-01-10T00:00:00Z|2025-01-10T02:00:00Z|acc-7|vm-1|cpu|5400||env=prod|eu|1\n";
+
 const AMENDMENT_OF_FIVE: &[u8] = b"B2|1|2|1\nX|1|0|7200|eu-1\n";
+
 const AMENDMENT_OF_TEN: &[u8] = b"B2|1|2|1\nX|1|0|7200|||||||eu-1\n";
 
 /// A tab in the region, and with it tags that are none, or an end before the start.
 const TAB: &[u8] = b"B2|1|1|1\nC|2025-01-10T00:00:00Z|2025-01-10T02:00:00Z|||Gift|-1|||eu\t1\n";
+
 const TAGS_FIRST: &[u8] =
     b"B2|1|1|1\nC|2025-01-10T00:00:00Z|2025-01-10T02:00:00Z|||Gift|-1||env|eu\t1\n";
+
 const TIME_FIRST: &[u8] =
     b"B2|1|1|1\nC|2025-01-10T02:00:00Z|2025-01-10T00:00:00Z|||Gift|-1|||eu\t1\n";
 

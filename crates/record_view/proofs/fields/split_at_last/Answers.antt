@@ -1,5 +1,5 @@
 -- The position that was found is the last such byte's, and there the text is cut.
-use Rattle.std.proofs.Common.{◌≡◌, ap, arith}
+use Rattle.std.proofs.Common.{ap, arith}
 use Rattle.record_view.specs.Parts.{lent}
 use Rattle.record_view.proofs.PartLaws.{placed_cut}
 use Rattle.record_view.proofs.LastPart.{parts_cut_last, parts_not_cut}

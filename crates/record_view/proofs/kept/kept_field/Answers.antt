@@ -1,5 +1,5 @@
 -- Each of the first nine spans lies in the source.
-use Rattle.std.proofs.Common.{◌≡◌, ◌<◌, length, take, get_or, subst, arith}
+use Rattle.std.proofs.Common.{◌<◌, length, take, subst, arith}
 use Rattle.std.proofs.lemmas.List.{get_or-take, length-take-le}
 use Rattle.record_view.specs.Inner.KeptFields.{LiesWithin}
 use Rattle.record_view.proofs.kept.kept_field.Goals as goal
