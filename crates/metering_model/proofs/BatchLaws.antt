@@ -12,15 +12,15 @@ use Rattle.metering_model.proofs.Splitting.{ended, lines_give_back, lines_of_tex
 use Rattle.metering_model.proofs.LineLaws.{HeadLimits, head_line, head_read, head_written, head_lacks_feed, record_line, at_line_ok, records_read, records_written, records_lack_feed}
 
 -- what a batch's head line says
-abbrev head_of : Batch → HeadLine
+abbrev pub head_of : Batch → HeadLine
 head_of b = record { agent = b.agent; seq = b.seq; count = length b.records }
 
 -- the lines of a batch
-abbrev batch_lines : Batch → List (List ℕ)
+abbrev pub batch_lines : Batch → List (List ℕ)
 batch_lines b = head_line (head_of b) ∷ map record_line b.records
 
 -- the lines with their line feeds are the batch's text
-lines_are_text : (b : Batch) → flat_map ended (batch_lines b) ≡ batch_text b
+pub lines_are_text : (b : Batch) → flat_map ended (batch_lines b) ≡ batch_text b
 lines_are_text b = ap (λ t. line_of_fields (head_fields b) ++ t) (flat_map-map ended record_line b.records)
 
 -- ---- from reading

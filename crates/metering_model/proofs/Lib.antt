@@ -16,6 +16,8 @@ pub mod ReadingLaws
 pub mod RecordLaws
 pub mod LineLaws
 pub mod BatchLaws
+pub mod KeptLines
+pub mod KeptLaws
 pub mod RoundingLaws
 pub mod BatchOrder
 pub mod HoldingLaws
@@ -33,6 +35,7 @@ pub mod RulesUpToCut
 pub mod MonthOrder
 pub mod MonthTexts
 pub mod LineFeeds
+pub mod Decimals
 pub mod RecordPlaces
 pub mod QuantityBounds
 pub mod ValueBounds
@@ -47,6 +50,7 @@ mod WorkedBatches
 mod WorkedRates
 mod WorkedRows
 pub mod WorkedBallots
+mod WorkedKept
 pub mod WorkedPeriods
 pub mod WorkedSheets
 mod WorkedLimits

@@ -15,11 +15,11 @@ use Rattle.metering_model.proofs.Splitting.{cut_join, join_cut, parts_lack, join
 -- ---- fields in a line
 
 -- fields without bytes at which a text is cut have no `|`
-bars_lack : (fs : List (List ℕ)) → list_all (list_all is_inner) fs ≡ true → list_all (lacks 124) fs ≡ true
+pub bars_lack : (fs : List (List ℕ)) → list_all (list_all is_inner) fs ≡ true → list_all (lacks 124) fs ≡ true
 bars_lack fs h = list_all_weaker (list_all is_inner) (lacks 124) inner_lacks_bar fs h
 
 -- and their line has no line feed
-line_lacks_feed : (fs : List (List ℕ)) → list_all (list_all is_inner) fs ≡ true → lacks 10 (join_with_byte 124 fs) ≡ true
+pub line_lacks_feed : (fs : List (List ℕ)) → list_all (list_all is_inner) fs ≡ true → lacks 10 (join_with_byte 124 fs) ≡ true
 line_lacks_feed fs h =
     join_passes (λ c. not (c == 10)) 124 fs refl (list_all_weaker (list_all is_inner) (lacks 10) inner_lacks_feed fs h)
 

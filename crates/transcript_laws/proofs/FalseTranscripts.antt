@@ -13,12 +13,13 @@ use Rattle.metering_model.specs.Holding.{Holding}
 use Rattle.metering_model.specs.Rows.{rows}
 use Rattle.metering_model.specs.File.{header_line, file}
 use Rattle.metering_model.specs.Totals.{sum_of}
-use Rattle.metering_model.specs.World.{Event, Journal, Deliver, Start, Export, Snapshot, Reply, Exported, offer_of, last_cut, opening}
+use Rattle.metering_model.specs.World.{Event, Journal, Deliver, Start, Export, Snapshot, Reply, Exported, KeptText, offer_of, last_cut, opening}
 use Rattle.metering_model.specs.Step.{cut_before, play}
 use Rattle.metering_model.specs.Transcript.{file_of, transcript}
 use Rattle.metering_model.specs.Schedule.{TextLines, lines_text, event_of}
 use Rattle.metering_model.proofs.Samples.{cpu, sheet_1, issuer_1, reading_1, row_1}
 use Rattle.metering_model.proofs.WorkedPeriods.{correction}
+use Rattle.group_laws.proofs.Agreed.{element_of}
 use Rattle.row_laws.specs.Charged.{charges_up_to}
 use Rattle.row_laws.specs.Columns.{sum_of_first_column}
 use Rattle.transcript_laws.specs.Csv.{new_lines}
@@ -71,6 +72,26 @@ words_in_front_do_not_agree agree = some_bytes _ _ (agree 0 (lines_text words_in
       record { before = []; lines = words_in_front; after = []; whole = refl; is_text = refl; is_shown = refl },
       record { before = codes "exported period 0 lines 2" ∷ header_line ∷ []; lines = []; after = []; whole = refl; is_text = refl; is_shown = refl },
     )
+
+-- ---- a kept text of which a line begins with words
+
+-- it would be shown as a file of January, though nothing was exported
+abbrev words_kept : List Reply
+words_kept = KeptText (lines_text (codes "exported period 0 lines 0" ∷ [])) ∷ []
+
+words_kept_are_no_file : AreExported (transcript words_kept) words_kept → ⊥
+unfolding digits
+words_kept_are_no_file only =
+    let it = only 0 [] shown in
+    let at = element_of words_kept (Exported it.0) it.1 in
+    at_place at.0 it.0 at.1
+  where
+    shown : Shows (transcript words_kept) 0 []
+    shown = record { before = codes "kept lines 1" ∷ []; lines = []; after = []; whole = refl; is_text = refl; is_shown = refl }
+
+    at_place : (k : ℕ) (s : Snapshot) → slice_get words_kept k ≡ Some (Exported s) → ⊥
+    at_place zero s e = let same = same_Some _ _ e in cc
+    at_place (suc k) s e = none-some _ e
 
 -- ---- a line feed in a text of the issuer, or of the sheet
 

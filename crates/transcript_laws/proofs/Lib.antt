@@ -1,10 +1,10 @@
-pub mod Decimals
 pub mod TextLaws
 pub mod CsvLaws
 pub mod NewLines
 pub mod FileLines
 pub mod FileSizes
 pub mod ReplyLines
+pub mod KeptTextLines
 pub mod ShownExports
 pub mod ShownTotals
 pub mod InTime
