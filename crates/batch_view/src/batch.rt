@@ -16,7 +16,7 @@ use record_view::{Record, read_record};
 use std::marker::Model;
 
 /// A batch has no more bytes than this.
-const MOST_BYTES: usize = 65_536;
+pub(crate) const MOST_BYTES: usize = 65_536;
 
 /// The record whose line begins at `from`, and where the next line begins.
 #[inline(always)]

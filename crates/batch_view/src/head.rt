@@ -5,11 +5,9 @@ ghost use Rattle.metering_model.specs.BatchReading.{fields_in, head_in, batch_in
 ghost use Rattle.batch_view.specs.Inner.Lines.{head_line, BeginsWithHead};
 
 use crate::lines::next_line;
-use byte_text::{find_byte, read_whole};
+use byte_text::{read_whole, split_at_bar};
 use metering_model::{BatchCode, BatchFault};
 use record_view::Span;
-
-const BAR: u8 = b'|';
 
 /// The numbers of a head line, and where the records begin behind it.
 #[derive(Clone, Copy)]
@@ -27,16 +25,6 @@ struct HeadFields<'a> {
     agent: &'a [u8],
     seq: &'a [u8],
     count: &'a [u8],
-}
-
-/// What stands before the first bar, and what stands behind it.
-fn split_at_bar(text: &[u8]) -> Option<(&[u8], &[u8])>
-    ensures { MatchOption result
-        (fields_in text.now ≡ text.now ∷ [])
-        (λ parts. fields_in text.now ≡ parts.0.now ∷ fields_in parts.1.now) }
-{
-    let bar = find_byte(text, BAR)?;
-    Some((&text[..bar], &text[bar + 1..]))
 }
 
 /// The fields, if there are just four.
@@ -60,7 +48,7 @@ fn head_fields(line: &[u8]) -> Option<HeadFields<'_>>
 }
 
 /// The head that a line is, if it is one within the limits.
-fn head_of_line(text: &[u8], span: Span) -> Option<Head>
+pub(crate) fn head_of_line(text: &[u8], span: Span) -> Option<Head>
     requires ordered { span.from ≤ span.to }
     requires within { span.to ≤ length text.now }
     requires short { length text.now ≤ 65536 }

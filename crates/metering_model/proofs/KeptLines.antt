@@ -162,7 +162,7 @@ chosen_some : {A : Type 0} (b : Bool) (o : Option A) (x : A) → cond b o None �
 chosen_some true o x h = (refl, h)
 chosen_some false o x h = absurd (none-some x h)
 
-cut_read : (agents : ℕ) (l : List ℕ) (cut : Cut) → cut_in agents (fields_in l) ≡ Some cut → (l ≡ cut_line cut) × IsCutAmong agents cut
+pub cut_read : (agents : ℕ) (l : List ℕ) (cut : Cut) → cut_in agents (fields_in l) ≡ Some cut → (l ≡ cut_line cut) × IsCutAmong agents cut
 cut_read agents l cut h =
     let fs = fields_in l in
     let test = chosen_some (length fs == agents) (all_some (map (whole_in 0 1_000_000) fs)) cut h in

@@ -45,6 +45,14 @@ impl Acceptor {
         }
     }
 
+    /// An acceptor that has promised this ballot and accepted this vote, as one had that was kept. The vote's ballot need not be
+    /// below the one promised, nor be promised at all.
+    pub fn of(promised: Option<Ballot>, vote: Option<Vote>) -> Acceptor
+        ensures { result ≡ record { promised = promised; vote = vote } }
+    {
+        Acceptor { promised, vote }
+    }
+
     /// Promises a ballot above the one promised, and stays silent to any other.
     pub fn on_prepare(&mut self, ballot: Ballot) -> PrepareStep
         ensures answer { result ≡ (if is_above ballot self.old.promised then Promise else Silent) }

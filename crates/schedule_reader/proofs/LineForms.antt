@@ -17,7 +17,7 @@ use Rattle.metering_model.proofs.StepLaws.{step_ok, some_step, test_step, ok_sam
 use Rattle.input_sections.specs.declared.faults.ScheduleCode.{ScheduleCode}
 use Rattle.input_sections.specs.declared.faults.ScheduleFault.{ScheduleFault}
 use Rattle.input_sections.specs.Sections.{Unread, Section, left, lines_left, first_of, first_line, begins_with, number_behind, section_of, section_in, told, read_as}
-use Rattle.input_sections.proofs.LineLaws.{text_of_front}
+use Rattle.byte_text.proofs.PastLines.{text_of_front}
 
 -- ---- lines hold no line feed
 

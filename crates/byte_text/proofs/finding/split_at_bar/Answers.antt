@@ -2,7 +2,7 @@ use Rattle.std.proofs.Common.{ℕ, ◌+◌, ◌==◌, ◌∷◌, take, sym, ap, 
 use Rattle.std.proofs.lemmas.List.{take_rest}
 use Rattle.metering_model.specs.BatchReading.{fields_in}
 use Rattle.byte_text.proofs.SplitLemmas.{split_at, split_nowhere}
-use Rattle.batch_view.proofs.head.split_at_bar.Goals as goal
+use Rattle.byte_text.proofs.finding.split_at_bar.Goals as goal
 
 pub returns-in_err-bar : goal.returns-in_err-bar
 returns-in_err-bar c =

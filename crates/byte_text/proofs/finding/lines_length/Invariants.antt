@@ -1,5 +1,5 @@
-use Rattle.input_sections.specs.Inner.Lines.{IsPast}
-use Rattle.input_sections.proofs.unread.lines_length.Given as goal
+use Rattle.byte_text.specs.Lines.{IsPast}
+use Rattle.byte_text.proofs.finding.lines_length.Given as goal
 
 -- So many lines lie before the byte.
 abbrev pub invariant-loop : goal.invariant-loop

@@ -1,9 +1,9 @@
 use Rattle.std.proofs.Common.{◌≡◌, ◌+◌, ◌==◌, ℕ, suc, sym, ap, subst, ◌∙◌, arith}
 use Rattle.std.specs.List.{position}
 use Rattle.std.proofs.lemmas.List.{take_rest}
-use Rattle.input_sections.specs.Inner.Lines.{IsPast}
-use Rattle.input_sections.proofs.LineLaws.{past_next, past_end}
-use Rattle.input_sections.proofs.unread.lines_length.Goals as goal
+use Rattle.byte_text.specs.Lines.{IsPast}
+use Rattle.byte_text.proofs.PastLines.{past_next, past_end}
+use Rattle.byte_text.proofs.finding.lines_length.Goals as goal
 
 pub returns-in_err-length : goal.returns-in_err-length
 returns-in_err-length c =
