@@ -15,14 +15,36 @@ use Rattle.batch_view.specs.Extents.{counted, batch_length, extent_in}
 -- ---- a text and its front
 
 take_parts : (m k : ℕ) (xs : List ℕ) → k ≤ m → take m xs ≡ take k xs ++ take (m - k) (drop k xs)
-take_parts m zero xs low = refl
+take_parts m zero xs low = let same : m ≡ m - 0 = omega arith in ap (λ n. take n xs) same
 take_parts zero (suc k) xs low = absurd (omega (arith, low))
-take_parts (suc m) (suc k) [] low = none (m - k)
+take_parts (suc m) (suc k) [] low = none (suc m - suc k)
   where
-    none : (n : ℕ) → [] ≡ take n []
+    none : (n : ℕ) → ◌≡◌ {A = List ℕ} [] (take n [])
     none zero = refl
     none (suc n) = refl
-take_parts (suc m) (suc k) (x ∷ xs) low = ap (λ ys. x ∷ ys) (take_parts m k xs (omega (arith, low)))
+take_parts (suc m) (suc k) (x ∷ xs) low =
+    let same : m - k ≡ suc m - suc k = omega arith in
+    ap (λ ys. x ∷ ys) (take_parts m k xs (omega (arith, low))) ∙ ap (λ n. x ∷ take k xs ++ take n (drop k xs)) same
+
+take_past : (n : ℕ) (xs : List ℕ) → length xs ≤ n → take n xs ≡ xs
+take_past zero [] low = refl
+take_past zero (x ∷ xs) low = absurd (omega (arith, low))
+take_past (suc n) [] low = refl
+take_past (suc n) (x ∷ xs) low = ap (λ ys. x ∷ ys) (take_past n xs (omega (arith, low)))
+
+-- the front of a text that may be shorter
+pub front_is : (m : ℕ) (text : List ℕ) → m ≤ 65_536 → (m < 65_536 → length text ≤ m) → take m text ≡ take 65_536 text
+front_is m text most short = by_test (nat_le 65_536 m) refl
+  where
+    by_test : (b : Bool) → nat_le 65_536 m ≡ b → take m text ≡ take 65_536 text
+    by_test true e =
+        let all = leb-true _ _ e in
+        let same : m ≡ 65_536 = omega (arith, all, most) in
+        ap (λ n. take n text) same
+    by_test false e =
+        let less = leb-false _ _ e in
+        let fits : length text ≤ m = short (omega (arith, less)) in
+        take_past m text fits ∙ sym (take_past 65_536 text (omega (arith, fits, most)))
 
 module _ (m : ℕ) (text : List ℕ) where
   -- first lines that fit into the front stand there
