@@ -58,6 +58,8 @@ EVENTS = (
     ("start N", (0, 98)),
     ("restart N", (0, 98)),
     ("export N N", (0, 98), (0, 1_199)),
+    ("keep N", (0, 98)),
+    ("revive N N", (0, 98), (1, 200_000)),
 )
 
 
@@ -76,7 +78,8 @@ def schedule_in(text):
     events = []
     while not lines.is_over():
         event = lines.next("L6", *EVENTS)
-        events.append((0, lines.section(event[1])) if event[0] == 0 else event)
+        counts = EVENTS[event[0]][0].startswith(("journal ", "revive "))
+        events.append([*event[:-1], lines.section(event[-1])] if counts else event)
     return World(*nodes[:1], sum(nodes), agents, tomllib.loads(sheet.decode()), tomllib.loads(issuer.decode())), events
 
 
@@ -96,6 +99,42 @@ def batch_in(text):
     if len(lines) != count + 1:
         raise Refused(f"G1 V2 line {min(len(lines), count + 1) + 1}")
     return agent, seq, records
+
+
+def check_kept(text):
+    """Refuses what is no kept text, by its first fault."""
+    *lines, rest = text.split(b"\n")
+    at = 0
+
+    def fault(code):
+        return Refused(f"G14 {code} line {at + 1}")
+
+    def numbers(code, form, limits):
+        found = re.fullmatch(form.replace("N", WHOLE).encode(), lines[at]) if at < len(lines) else None
+        of = [int(it) for it in found.groups()] if found else []
+        if not found or not all(least <= it <= most for it, (least, most) in zip(of, limits)):
+            raise fault(code)
+        return of
+
+    limits = (1, 64), (0, 10_000), (0, 1_200), (0, 990_098), (0, 990_098), (0, 64_000_000)
+    agents, _, learned, _, ballot, batches = numbers("H1", r"K1\|N\|N\|N\|N\|N\|N", limits)
+    for at in range(1, 1 + learned + bool(ballot)):
+        numbers("H2", r"\|".join("N" * agents), [(0, 1_000_000)] * agents)
+    at, before = 1 + learned + bool(ballot), (0, 0)
+    for _ in range(batches):
+        found = re.fullmatch(rb"B\d\|[^|]*\|[^|]*\|(\d{1,4})", lines[at]) if at < len(lines) else None
+        behind = at + 1 + int(found[1]) if found else 0
+        if not found or len(lines) < behind:
+            raise fault("H3")
+        try:
+            agent, seq, _ = batch_in(b"".join(it + b"\n" for it in lines[at:behind]))
+        except (Refused, UnicodeDecodeError):
+            raise fault("H3") from None
+        if agent > agents or (agent, seq) <= before:
+            raise fault("H4")
+        at, before = behind, (agent, seq)
+    if at < len(lines) or rest:
+        raise fault("H5")
 
 
 # ---- the group
@@ -123,11 +162,12 @@ class World:
         self.prices = [tuple(it[key] for key in PRICE) for it in sheet.get("price", [])]
         self.commitments = [tuple(it[key] for key in COMMITMENT) for it in sheet.get("commitment", [])]
         self.base = sheet["base"]
-        self.journals, self.packets = [[] for _ in range(agents)], []
+        self.journals, self.packets, self.texts = [[] for _ in range(agents)], [], {}
 
     def reply(self, event):
         try:
-            return (self.journal, self.deliver, self.start, self.restart, self.export)[event[0]](*event[1:])
+            done = self.journal, self.deliver, self.start, self.restart, self.export, self.keep, self.revive
+            return done[event[0]](*event[1:])
         except Refused as why:
             return f"refused {why}\n"
 
@@ -173,6 +213,7 @@ class World:
                 self.check_priced(record)
         packet = self.send(("batch", agent, seq))
         journal.append(records)
+        self.texts[agent, seq] = text.decode()
         return f"journaled packet {packet}\n"
 
     # Ballots
@@ -245,6 +286,25 @@ class World:
     def restart(self, i):
         self.node(i).wake()
         return "restarted\n"
+
+    # What a node keeps
+
+    def kept_text(self, node):
+        ballot, *voted = node.vote or (0,)
+        cuts, ballots = node.learned + voted, (node.promised, ballot)
+        lines = [("K1", self.agents, node.round, len(node.learned), *ballots, len(node.held)), *cuts]
+        return "".join("|".join(map(str, it)) + "\n" for it in lines) + "".join(self.texts[it] for it in sorted(node.held))
+
+    def keep(self, i):
+        text = self.kept_text(self.node(i))
+        return "kept lines %d\n" % text.count("\n") + text
+
+    def revive(self, i, text):
+        node = self.node(i)
+        check_kept(text)
+        if text.decode() != self.kept_text(node):
+            raise Refused("G15")
+        return self.restart(i)
 
     # Exports
 

@@ -1,5 +1,5 @@
 //! Acceptors.
-ghost use Rattle.std.specs.Prelude.{◌≡◌, if◌then◌else◌};
+ghost use Rattle.std.specs.Prelude.{◌≡◌, ◌↔◌, IsTrue, if◌then◌else◌};
 ghost use Rattle.std.specs.Option.{option_copied};
 ghost use Rattle.metering_model.specs.Ballot.{new_acceptor, is_above, is_not_below, after_prepare, after_accept};
 
@@ -30,6 +30,17 @@ pub enum PrepareStep {
     Promise,
     /// Nothing.
     Silent,
+}
+
+/// Whether both are the same vote, or none.
+fn is_same_vote(one: Option<&Vote>, two: Option<&Vote>) -> bool
+    ensures { IsTrue result ↔ (option_copied one.entry ≡ option_copied two.entry) }
+{
+    match (one, two) {
+        (Some(one), Some(two)) => one.ballot == two.ballot && one.cut.same(&two.cut),
+        (None, None) => true,
+        _ => false,
+    }
 }
 
 impl Acceptor {
@@ -81,6 +92,13 @@ impl Acceptor {
         self.promised = Some(vote.ballot);
         self.vote = Some(vote);
         true
+    }
+
+    /// Whether both have promised the same ballot and accepted the same vote.
+    pub fn same(&self, other: &Acceptor) -> bool
+        ensures { IsTrue result ↔ (self.now ≡ other.now) }
+    {
+        self.promised == other.promised && is_same_vote(self.vote.as_ref(), other.vote.as_ref())
     }
 
     /// The greatest ballot promised.

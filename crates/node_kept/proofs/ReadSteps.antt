@@ -1,0 +1,179 @@
+-- A kept text is read cut by cut and batch by batch: what was read, and what is read of the rest.
+use Rattle.std.proofs.Common.{◌≡◌, ℕ, zero, suc, ◌+◌, ◌-◌, ◌≤◌, ◌<◌, Bool, true, false, cond, List, [], ◌∷◌, ◌++◌, length, Option, Some, None, Result, Ok, Err, refl, sym, ap, ap₂, subst, ◌∙◌, arith, append_assoc, append-nil, nat_le, nat_lt}
+use Rattle.std.specs.Prelude.{◌==◌, ◌&&◌, ◌||◌}
+use Rattle.std.specs.List.{list_all}
+use Rattle.std.proofs.lemmas.Bool.{and_parts, and_from, false≢true, cond-true, cond-false, lt-ltb}
+use Rattle.metering_model.specs.FirstFailure.{◌>>=◌, holds_or}
+use Rattle.metering_model.specs.Batch.{Batch}
+use Rattle.metering_model.specs.Cut.{Cut}
+use Rattle.metering_model.specs.Holding.{Holding, comes_before, is_in_order, put}
+use Rattle.metering_model.specs.World.{KeptTextFault}
+use Rattle.metering_model.specs.declared.KeptCode.{KeptCode}
+use Rattle.metering_model.specs.declared.KeptCode.TheVariants.{Order as NotInOrder}
+use Rattle.metering_model.specs.BatchReading.{lines_in}
+use Rattle.metering_model.specs.KeptText.{BatchesRead, at_kept_line, cuts_in, batches_in, next_batch, may_follow, with_batch}
+use Rattle.metering_model.proofs.BatchOrder.{comes_before-trans, never_both, at_itself, not_at-after, put_cases}
+use Rattle.node_kept.specs.Inner.Left.{AreCutsOf, IsNextOf, AreBatchesOf, comes_behind}
+
+-- ---- cuts
+
+abbrev CutsRead : Type 0
+CutsRead = Result (List Cut × List (List ℕ)) KeptTextFault
+
+-- these cuts stand in front of what is read
+abbrev pub with_cuts : List Cut → CutsRead → CutsRead
+with_cuts before r = r >>= λ more. Ok (before ++ more.0, more.1)
+
+abbrev one_cut : Cut → CutsRead → CutsRead
+one_cut c r = r >>= λ more. Ok (c ∷ more.0, more.1)
+
+-- what was read, and what is read of the rest, are all
+pub record AreReadSoFar (text : List ℕ) (first agents count done : ℕ) (before : List Cut) (rest : List ℕ) : Type 0 where
+  pub same : cuts_in first agents count (lines_in text).lines ≡ with_cuts before (cuts_in (first + done) agents (count - done) (lines_in rest).lines)
+  pub behind : (lines_in rest).rest ≡ (lines_in text).rest
+
+pub none_so_far : (text : List ℕ) (first agents count : ℕ) → AreReadSoFar text first agents count 0 [] text
+none_so_far text first agents count = record {
+  same = all (cuts_in first agents count (lines_in text).lines) ∙ ap (λ line. with_cuts [] (cuts_in line agents count (lines_in text).lines)) (omega arith);
+  behind = refl;
+}
+  where
+    all : (r : CutsRead) → r ≡ with_cuts [] r
+    all (Ok x) = refl
+    all (Err e) = refl
+
+-- the first of more cuts
+first_of_more : (line agents n : ℕ) (ls : List (List ℕ)) (c : Cut) (left : List (List ℕ)) → cuts_in line agents 1 ls ≡ Ok (c ∷ [], left)
+    → cuts_in line agents (suc n) ls ≡ one_cut c (cuts_in (line + 1) agents n left)
+first_of_more line agents n [] c left e = absurd (cc)
+first_of_more line agents n (l ∷ ls) c left e = by_read (at_kept_line line _) e
+  where
+    by_read : (r : Result Cut KeptTextFault) → (r >>= λ d. Ok (d ∷ [], ls)) ≡ Ok (c ∷ [], left) → (r >>= λ d. one_cut d (cuts_in (line + 1) agents n ls)) ≡ one_cut c (cuts_in (line + 1) agents n left)
+    by_read (Err f) e = absurd (cc)
+    by_read (Ok d) e = cc
+
+none_of_more : (line agents n : ℕ) (ls : List (List ℕ)) (f : KeptTextFault) → cuts_in line agents 1 ls ≡ Err f → cuts_in line agents (suc n) ls ≡ Err f
+none_of_more line agents n [] f e = cc
+none_of_more line agents n (l ∷ ls) f e = by_read (at_kept_line line _) e
+  where
+    by_read : (r : Result Cut KeptTextFault) → (r >>= λ d. Ok (d ∷ [], ls)) ≡ Err f → (r >>= λ d. one_cut d (cuts_in (line + 1) agents n ls)) ≡ Err f
+    by_read (Err g) e = cc
+    by_read (Ok d) e = absurd (cc)
+
+one_before : (before : List Cut) (c : Cut) (r : CutsRead) → with_cuts before (one_cut c r) ≡ with_cuts (before ++ c ∷ []) r
+one_before before c (Ok x) = ap (λ cuts. Ok (cuts, x.1)) (sym (append_assoc before (c ∷ []) x.0))
+one_before before c (Err e) = refl
+
+pub one_more_cut : (text : List ℕ) (first agents count done : ℕ) (before : List Cut) (rest : List ℕ) (c : Cut) (left : List ℕ) → done < count
+    → AreReadSoFar text first agents count done before rest → AreCutsOf rest (first + done) agents 1 (c ∷ []) left → AreReadSoFar text first agents count (suc done) (before ++ c ∷ []) left
+one_more_cut text first agents count done before rest c left low here read =
+    let n = count - suc done in
+    let more : count - done ≡ suc n = omega (arith, low) in
+    let line : first + done + 1 ≡ first + suc done = omega arith in
+    record {
+      same =
+          here.same
+          ∙ ap (λ k. with_cuts before (cuts_in (first + done) agents k (lines_in rest).lines)) more
+          ∙ ap (with_cuts before) (first_of_more (first + done) agents n (lines_in rest).lines c (lines_in left).lines read.read)
+          ∙ one_before before c (cuts_in (first + done + 1) agents n (lines_in left).lines)
+          ∙ ap (λ l. with_cuts (before ++ c ∷ []) (cuts_in l agents n (lines_in left).lines)) line;
+      behind = read.rest ∙ here.behind;
+    }
+
+pub cut_fault : (text : List ℕ) (first agents count done : ℕ) (before : List Cut) (rest : List ℕ) (f : KeptTextFault) → done < count
+    → AreReadSoFar text first agents count done before rest → cuts_in (first + done) agents 1 (lines_in rest).lines ≡ Err f → cuts_in first agents count (lines_in text).lines ≡ Err f
+cut_fault text first agents count done before rest f low here fault =
+    let n = count - suc done in
+    let more : count - done ≡ suc n = omega (arith, low) in
+    here.same
+    ∙ ap (λ k. with_cuts before (cuts_in (first + done) agents k (lines_in rest).lines)) more
+    ∙ ap (with_cuts before) (none_of_more (first + done) agents n (lines_in rest).lines f fault)
+
+pub all_cuts : (text : List ℕ) (first agents count done : ℕ) (before : List Cut) (rest : List ℕ) → count ≤ done → AreReadSoFar text first agents count done before rest → AreCutsOf text first agents count before rest
+all_cuts text first agents count done before rest end here =
+    let none : count - done ≡ 0 = omega (arith, end) in
+    record {
+      read =
+          here.same
+          ∙ ap (λ k. with_cuts before (cuts_in (first + done) agents k (lines_in rest).lines)) none
+          ∙ ap (λ cuts. Ok (cuts, (lines_in rest).lines)) (append-nil before);
+      rest = here.behind;
+    }
+
+-- ---- batches
+
+abbrev BatchesAnswer : Type 0
+BatchesAnswer = Result BatchesRead KeptTextFault
+
+-- these batches stand in front of what is read
+abbrev pub with_batches : Holding → BatchesAnswer → BatchesAnswer
+with_batches before r = r >>= λ more. Ok (record more { batches = before ++ more.batches })
+
+abbrev one_batch : Batch → BatchesAnswer → BatchesAnswer
+one_batch b r = r >>= λ more. Ok (with_batch b more)
+
+-- the batch that comes last
+abbrev pub last_batch : Holding → Option Batch
+last_batch [] = None
+last_batch (b ∷ []) = Some b
+last_batch (b ∷ c ∷ h) = last_batch (c ∷ h)
+
+last-push : (h : Holding) (b : Batch) → last_batch (h ++ b ∷ []) ≡ Some b
+last-push [] b = refl
+last-push (c ∷ []) b = refl
+last-push (c ∷ d ∷ h) b = last-push (d ∷ h) b
+
+-- where the last batch stands, or before the first place
+abbrev pub last_agent : Option Batch → ℕ
+last_agent None = 0
+last_agent (Some b) = b.agent
+
+abbrev pub last_seq : Option Batch → ℕ
+last_seq None = 0
+last_seq (Some b) = b.seq
+
+-- the tests of its agent and of its place are that of the model
+pub follows_by_place : (agents : ℕ) (before : Option Batch) (b : Batch) → 1 ≤ b.agent → may_follow agents before b ≡ (nat_le b.agent agents && comes_behind (last_agent before) (last_seq before) b.agent b.seq)
+follows_by_place agents None b some = cases (nat_le b.agent agents)
+  where
+    first : comes_behind 0 0 b.agent b.seq ≡ true
+    first = ap (λ t. t || ((0 == b.agent) && nat_lt 0 b.seq)) (lt-ltb 0 b.agent some)
+
+    cases : (t : Bool) → t ≡ (t && comes_behind 0 0 b.agent b.seq)
+    cases true = sym first
+    cases false = refl
+follows_by_place agents (Some a) b some = refl
+
+-- ---- a batch behind all others
+
+-- what comes behind the last comes behind all
+before_all : (h : Holding) (a b : Batch) → is_in_order h ≡ true → last_batch h ≡ Some a → comes_before a b ≡ true → list_all (λ c. comes_before c b) h ≡ true
+before_all [] a b order e behind = refl
+before_all (c ∷ []) a b order e behind = and_from _ _ (subst (λ x. comes_before x b ≡ true) (sym (same e)) behind) refl
+  where
+    same : Some c ≡ Some a → c ≡ a
+    same e = cc
+before_all (c ∷ d ∷ h) a b order e behind =
+    let parts = and_parts (comes_before c d) (is_in_order (d ∷ h)) order in
+    let rest = before_all (d ∷ h) a b parts.1 e behind in
+    let first = (and_parts (comes_before d b) (list_all (λ x. comes_before x b) h) rest).0 in
+    and_from _ _ (comes_before-trans c d b parts.0 first) rest
+
+put_behind : (h : Holding) (b : Batch) → list_all (λ c. comes_before c b) h ≡ true → put h b ≡ h ++ b ∷ []
+put_behind [] b all = refl
+put_behind (c ∷ h) b all =
+    let parts = and_parts (comes_before c b) (list_all (λ x. comes_before x b) h) all in
+    put_cases (λ k. k ≡ c ∷ h ++ b ∷ []) b c h
+    (λ first. absurd (never_both b c first parts.0))
+    (λ _. ap (λ k. c ∷ k) (put_behind h b parts.1))
+    (λ same. absurd (false≢true (sym (not_at-after c b c.agent c.seq parts.0 (at_itself c)) ∙ at_other same)))
+  where
+    at_other : is_batch_at b.agent b.seq c ≡ true → is_batch_at c.agent c.seq b ≡ true
+    at_other e = grind (arith, nat_tests)
+
+order-push : (h : Holding) (b : Batch) → is_in_order h ≡ true → list_all (λ c. comes_before c b) h ≡ true → is_in_order (h ++ b ∷ []) ≡ true
+order-push [] b order all = refl
+order-push (c ∷ []) b order all = and_from _ _ (and_parts (comes_before c b) true all).0 refl
+order-push (c ∷ d ∷ h) b order all =
+    let parts = and_parts (comes_before c d) (is_in_order (d ∷ h)) order in
+    and_from _ _ parts.0 (order-push (d ∷ h) b parts.1 (and_parts (comes_before c b) (list_all (λ x. comes_before x b) (d ∷ h)) all).1)
