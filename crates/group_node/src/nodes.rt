@@ -3,7 +3,7 @@ ghost use Rattle.std.specs.Prelude.{◌≡◌, ◌↔◌, IsTrue, ◌+◌, ◌<�
 ghost use Rattle.std.specs.Option.{option_copied, option_map};
 ghost use Rattle.std.specs.Arc.{arc_value};
 ghost use Rattle.metering_model.specs.Ballot.{ballot_of};
-ghost use Rattle.metering_model.specs.KeptText.{kept_text};
+ghost use Rattle.metering_model.specs.KeptText.{HasText, kept_text};
 ghost use Rattle.metering_model.specs.World.{current_period, new_kept, wake};
 ghost use Rattle.metering_model.specs.Step.{started_node};
 ghost use Rattle.group_node.specs.Nodes.{IsNodeAmong};
@@ -96,9 +96,10 @@ impl Node {
         self.kept.write(alloc)
     }
 
-    /// Whether this is what the node keeps over a restart. No memory is taken.
+    /// Whether this, which has a text, is what the node keeps over a restart. No memory is taken.
     pub fn keeps(&self, kept: &Kept) -> bool
-        ensures { IsTrue result ↔ (kept.now ≡ record { agents = self.now.agents; kept = self.now.node.kept }) }
+        ensures same { IsTrue result ↔ (kept.now ≡ record { agents = self.now.agents; kept = self.now.node.kept }) }
+        ensures text { HasText kept.now }
     {
         kept.parts().same(&self.kept)
     }

@@ -1,0 +1,3 @@
+pub mod ReadSteps
+pub mod WholeTexts
+pub mod Limits

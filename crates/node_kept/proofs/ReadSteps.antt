@@ -7,12 +7,13 @@ use Rattle.metering_model.specs.FirstFailure.{◌>>=◌, holds_or}
 use Rattle.metering_model.specs.Batch.{Batch}
 use Rattle.metering_model.specs.Cut.{Cut}
 use Rattle.metering_model.specs.Holding.{Holding, comes_before, is_in_order, put}
-use Rattle.metering_model.specs.World.{KeptTextFault}
+use Rattle.metering_model.specs.declared.KeptTextFault.{KeptTextFault}
 use Rattle.metering_model.specs.declared.KeptCode.{KeptCode}
 use Rattle.metering_model.specs.declared.KeptCode.TheVariants.{Order as NotInOrder}
 use Rattle.metering_model.specs.BatchReading.{lines_in}
 use Rattle.metering_model.specs.KeptText.{BatchesRead, at_kept_line, cuts_in, batches_in, next_batch, may_follow, with_batch}
 use Rattle.metering_model.proofs.BatchOrder.{comes_before-trans, never_both, at_itself, not_at-after, put_cases}
+use Rattle.batch_store.specs.Stores.{Stored}
 use Rattle.node_kept.specs.Inner.Left.{AreCutsOf, IsNextOf, AreBatchesOf, comes_behind}
 
 -- ---- cuts
@@ -177,3 +178,118 @@ order-push (c ∷ []) b order all = and_from _ _ (and_parts (comes_before c b) t
 order-push (c ∷ d ∷ h) b order all =
     let parts = and_parts (comes_before c d) (is_in_order (d ∷ h)) order in
     and_from _ _ parts.0 (order-push (d ∷ h) b parts.1 (and_parts (comes_before c b) (list_all (λ x. comes_before x b) (d ∷ h)) all).1)
+
+none_last : (h : Holding) → last_batch h ≡ None → h ≡ []
+none_last [] e = refl
+none_last (b ∷ []) e = absurd (cc)
+none_last (b ∷ c ∷ h) e = let rest = none_last (c ∷ h) e in absurd (omega (arith, ap length rest))
+
+-- a batch that may follow the others is put behind them
+pub put_next : (agents : ℕ) (before : Holding) (b : Batch) → is_in_order before ≡ true → may_follow agents (last_batch before) b ≡ true → (put before b ≡ before ++ b ∷ []) × (is_in_order (before ++ b ∷ []) ≡ true)
+put_next agents before b order may = by_last (last_batch before) refl may
+  where
+    by_last : (o : Option Batch) → last_batch before ≡ o → may_follow agents o b ≡ true → (put before b ≡ before ++ b ∷ []) × (is_in_order (before ++ b ∷ []) ≡ true)
+    by_last None e follows = subst (λ h. (put h b ≡ h ++ b ∷ []) × (is_in_order (h ++ b ∷ []) ≡ true)) (sym (none_last before e)) (refl, refl)
+    by_last (Some a) e follows =
+        let behind = before_all before a b order e (and_parts (nat_le b.agent agents) (comes_before a b) follows).1 in
+        (put_behind before b behind, order-push before b order behind)
+
+-- ---- batches, one by one
+
+-- what was read, and what is read of the rest, are all
+pub record AreBatchesSoFar (text : List ℕ) (first agents count done : ℕ) (before : Holding) (line : ℕ) (rest : List ℕ) : Type 0 where
+  pub same : batches_in first agents None count (lines_in text).lines ≡ with_batches before (batches_in line agents (last_batch before) (count - done) (lines_in rest).lines)
+  pub behind : (lines_in rest).rest ≡ (lines_in text).rest
+  pub order : is_in_order before ≡ true
+  pub bound : line ≤ first + 1_001 * done
+
+pub no_batches_so_far : (text : List ℕ) (first agents count : ℕ) → AreBatchesSoFar text first agents count 0 [] first text
+no_batches_so_far text first agents count = record {
+  same = all (batches_in first agents None count (lines_in text).lines) ∙ ap (λ n. with_batches [] (batches_in first agents None n (lines_in text).lines)) none;
+  behind = refl;
+  order = refl;
+  bound = omega arith;
+}
+  where
+    none : count ≡ count - 0
+    none = omega arith
+
+    all : (r : BatchesAnswer) → r ≡ with_batches [] r
+    all (Ok x) = refl
+    all (Err e) = refl
+
+-- the rest of reading batches, behind the first
+abbrev behind_first : (line agents n : ℕ) → Batch × List (List ℕ) → BatchesAnswer
+behind_first line agents n one = one_batch one.0 (batches_in (line + 1 + length one.0.records) agents (Some one.0) n one.1)
+
+abbrev from_first : (line agents : ℕ) → Option Batch → ℕ → Result (Batch × List (List ℕ)) KeptTextFault → BatchesAnswer
+from_first line agents before n r = r >>= λ one. at_kept_line line (holds_or (may_follow agents before one.0) NotInOrder) >>= λ u. behind_first line agents n one
+
+first_batch : (line agents : ℕ) (before : Option Batch) (n : ℕ) (ls : List (List ℕ)) (b : Batch) (left : List (List ℕ)) → next_batch ls ≡ Ok (b, left) → may_follow agents before b ≡ true
+    → batches_in line agents before (suc n) ls ≡ behind_first line agents n (b, left)
+first_batch line agents before n ls b left e may =
+    ap (λ (r : Result (Batch × List (List ℕ)) KeptCode). from_first line agents before n (at_kept_line line r)) e
+    ∙ ap (λ t. at_kept_line line (holds_or t NotInOrder) >>= λ u. behind_first line agents n (b, left)) may
+
+one_in_front : (before : Holding) (b : Batch) (r : BatchesAnswer) → with_batches before (one_batch b r) ≡ with_batches (before ++ b ∷ []) r
+one_in_front before b (Ok x) = ap (λ (h : Holding). Ok (record x { batches = h })) (sym (append_assoc before (b ∷ []) x.batches))
+one_in_front before b (Err e) = refl
+
+pub one_more_batch : (text : List ℕ) (first agents count done : ℕ) (before : Holding) (line : ℕ) (rest : List ℕ) (b : Batch) (left : List ℕ) → done < count
+    → AreBatchesSoFar text first agents count done before line rest → IsNextOf rest b left → may_follow agents (last_batch before) b ≡ true → length b.records ≤ 1_000
+    → AreBatchesSoFar text first agents count (suc done) (before ++ b ∷ []) (line + 1 + length b.records) left
+one_more_batch text first agents count done before line rest b left low here read may few =
+    let n = count - suc done in
+    let more : count - done ≡ suc n = omega (arith, low) in
+    let bound = here.bound in
+    record {
+      same =
+          here.same
+          ∙ ap (λ k. with_batches before (batches_in line agents (last_batch before) k (lines_in rest).lines)) more
+          ∙ ap (with_batches before) (first_batch line agents (last_batch before) n (lines_in rest).lines b (lines_in left).lines read.read may)
+          ∙ one_in_front before b (batches_in (line + 1 + length b.records) agents (Some b) n (lines_in left).lines)
+          ∙ ap (λ o. with_batches (before ++ b ∷ []) (batches_in (line + 1 + length b.records) agents o n (lines_in left).lines)) (sym (last-push before b));
+      behind = read.rest ∙ here.behind;
+      order = (put_next agents before b here.order may).1;
+      bound = omega (arith, bound, few);
+    }
+
+-- why there are not so many
+pub batch_fault : (text : List ℕ) (first agents count done : ℕ) (before : Holding) (line : ℕ) (rest : List ℕ) (f : KeptTextFault) → done < count
+    → AreBatchesSoFar text first agents count done before line rest → at_kept_line line (next_batch (lines_in rest).lines) ≡ Err f → batches_in first agents None count (lines_in text).lines ≡ Err f
+batch_fault text first agents count done before line rest f low here fault =
+    let n = count - suc done in
+    let more : count - done ≡ suc n = omega (arith, low) in
+    here.same
+    ∙ ap (λ k. with_batches before (batches_in line agents (last_batch before) k (lines_in rest).lines)) more
+    ∙ ap (λ (r : Result (Batch × List (List ℕ)) KeptTextFault). with_batches before (from_first line agents (last_batch before) n r)) fault
+
+pub order_fault : (text : List ℕ) (first agents count done : ℕ) (before : Holding) (line : ℕ) (rest : List ℕ) (b : Batch) (left : List ℕ) → done < count
+    → AreBatchesSoFar text first agents count done before line rest → IsNextOf rest b left → may_follow agents (last_batch before) b ≡ false
+    → batches_in first agents None count (lines_in text).lines ≡ Err (record { code = NotInOrder; line = line })
+order_fault text first agents count done before line rest b left low here read never =
+    let n = count - suc done in
+    let more : count - done ≡ suc n = omega (arith, low) in
+    here.same
+    ∙ ap (λ k. with_batches before (batches_in line agents (last_batch before) k (lines_in rest).lines)) more
+    ∙ ap (λ (r : Result (Batch × List (List ℕ)) KeptCode). with_batches before (from_first line agents (last_batch before) n (at_kept_line line r))) read.read
+    ∙ ap (λ t. with_batches before (at_kept_line line (holds_or t NotInOrder) >>= λ u. behind_first line agents n (b, (lines_in left).lines))) never
+
+pub all_batches : (text : List ℕ) (first agents count done : ℕ) (before : Holding) (line : ℕ) (rest : List ℕ) → count ≤ done
+    → AreBatchesSoFar text first agents count done before line rest → AreBatchesOf text first agents count before line rest
+all_batches text first agents count done before line rest end here =
+    let none : count - done ≡ 0 = omega (arith, end) in
+    record {
+      read =
+          here.same
+          ∙ ap (λ k. with_batches before (batches_in line agents (last_batch before) k (lines_in rest).lines)) none
+          ∙ ap (λ (h : Holding). Ok (record { batches = h; line = line; left = (lines_in rest).lines })) (append-nil before);
+      rest = here.behind;
+    }
+
+-- what reading batches keeps: the batches in a store, and where the last of them stands
+pub record ReadsOn (text : List ℕ) (first agents count done : ℕ) (store : Stored) (agent seq line : ℕ) (rest : List ℕ) : Type 0 where
+  pub so_far : AreBatchesSoFar text first agents count done store.batches line rest
+  pub agents_of : store.agents ≡ agents
+  pub agent_of : agent ≡ last_agent (last_batch store.batches)
+  pub seq_of : seq ≡ last_seq (last_batch store.batches)

@@ -1,11 +1,11 @@
 -- What is left of a kept text while it is read.
-use Rattle.std.specs.Prelude.{◌≡◌, ℕ, ◌×◌, ◌||◌, ◌&&◌, ◌==◌, Bool, nat_lt, List, Result, Ok, Err, None}
+use Rattle.std.specs.Prelude.{◌≡◌, ℕ, ◌||◌, ◌&&◌, ◌==◌, Bool, nat_lt, List, Result, Ok, Err, None}
 use Rattle.metering_model.specs.BatchReading.{lines_in}
 use Rattle.metering_model.specs.KeptText.{BatchesRead, cuts_in, batches_in, next_batch}
 use Rattle.metering_model.specs.Cut.{Cut}
 use Rattle.metering_model.specs.Batch.{Batch}
 use Rattle.metering_model.specs.Holding.{Holding}
-use Rattle.metering_model.specs.World.{KeptTextFault}
+use Rattle.metering_model.specs.declared.KeptTextFault.{KeptTextFault}
 use Rattle.node_kept.specs.declared.faults.KeptFault.{KeptFault}
 use Rattle.node_kept.specs.declared.faults.KeptFault.TheVariants.{Refused, OutOfMemory}
 

@@ -1,0 +1,60 @@
+-- What is kept within its limits has a text, and what has a text is within the limits.
+use Rattle.std.proofs.Common.{◌≡◌, ℕ, zero, suc, ◌+◌, ◌≤◌, ◌<◌, List, [], ◌∷◌, length, map, take, All, Some, get_or, subst, arith}
+use Rattle.std.proofs.lemmas.List.Elements.{All-nil, All-cons, All-head, All-tail}
+use Rattle.metering_model.specs.Ballot.{Vote}
+use Rattle.metering_model.specs.Cut.{Cut}
+use Rattle.metering_model.specs.KeptText.{KeptAmong, IsBallotNumber, IsCutAmong, HasText}
+use Rattle.period_cut.specs.Limits.{IsCut}
+use Rattle.batch_store.specs.Stores.{IsStored}
+use Rattle.node_kept.specs.Kept.{IsKept}
+
+among : (agents : ℕ) (cuts : List Cut) → All (λ cut. length cut ≡ agents) cuts → All IsCut cuts → All (IsCutAmong agents) cuts
+among agents [] sizes are = All-nil (IsCutAmong agents)
+among agents (c ∷ cs) sizes are =
+    All-cons (IsCutAmong agents) c cs
+    (record { size = All-head (λ cut. length cut ≡ agents) c cs sizes; low = (All-head IsCut c cs are).entries })
+    (among agents cs (All-tail (λ cut. length cut ≡ agents) c cs sizes) (All-tail IsCut c cs are))
+
+pub has_text : (k : KeptAmong) → IsKept k → All IsCut k.kept.learned → ((v : Vote) → k.kept.acceptor.vote ≡ Some v → IsCut v.cut) → IsStored (record { agents = k.agents; batches = k.kept.holding }) → HasText k
+has_text k is cuts vote stored = record {
+  agents = (stored.agents_from, stored.agents_to);
+  round = is.round;
+  periods = is.periods;
+  learned = among k.agents k.kept.learned is.cuts cuts;
+  promised = is.promised;
+  vote = λ v e. let kept = is.vote v e in (kept.0, record { size = kept.1; low = (vote v e).entries });
+  is_holding = stored.is_holding;
+  in_range = stored.of_agents;
+}
+
+sizes_of : (agents : ℕ) (cuts : List Cut) → All (IsCutAmong agents) cuts → All (λ cut. length cut ≡ agents) cuts
+sizes_of agents [] are = All-nil (λ cut. length cut ≡ agents)
+sizes_of agents (c ∷ cs) are = All-cons (λ cut. length cut ≡ agents) c cs (All-head (IsCutAmong agents) c cs are).size (sizes_of agents cs (All-tail (IsCutAmong agents) c cs are))
+
+pub is_kept : (k : KeptAmong) → HasText k → IsKept k
+is_kept k h = record {
+  round = h.round;
+  periods = h.periods;
+  cuts = sizes_of k.agents k.kept.learned h.learned;
+  promised = h.promised;
+  vote = λ v e. let kept = h.vote v e in (kept.0, kept.1.size);
+}
+
+-- ---- all that a loop has seen
+
+-- one element more
+pub all_more : {A B : Type 0} (f : A → B) (P : B → Type 0) (xs : List A) (k : ℕ) (x : A) → k < length xs → x ≡ get_or xs k x → All P (map f (take k xs)) → P (f x) → All P (map f (take (k + 1) xs))
+all_more f P [] k x low e all one = absurd (omega (arith, low))
+all_more f P (y ∷ ys) zero x low e all one = All-cons P (f y) [] (subst (λ z. P (f z)) e one) (All-nil P)
+all_more f P (y ∷ ys) (suc k) x low e all one =
+    let next : suc (k + 1) ≡ suc k + 1 = omega arith in
+    subst (λ n. All P (map f (take n (y ∷ ys)))) next
+    (All-cons P (f y) (map f (take (k + 1) ys)) (All-head P (f y) (map f (take k ys)) all) (all_more f P ys k x (omega (arith, low)) e (All-tail P (f y) (map f (take k ys)) all) one))
+
+-- and all of them at the end
+pub all_taken : {A B : Type 0} (f : A → B) (P : B → Type 0) (xs : List A) (k : ℕ) → length xs ≤ k → All P (map f (take k xs)) → All P (map f xs)
+all_taken f P [] zero end all = all
+all_taken f P [] (suc k) end all = all
+all_taken f P (x ∷ xs) zero end all = absurd (omega (arith, end))
+all_taken f P (x ∷ xs) (suc k) end all =
+    All-cons P (f x) (map f xs) (All-head P (f x) (map f (take k xs)) all) (all_taken f P xs k (omega (arith, end)) (All-tail P (f x) (map f (take k xs)) all))
