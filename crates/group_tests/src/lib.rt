@@ -6,6 +6,8 @@ mod gates;
 #[cfg(test)]
 mod growths;
 #[cfg(test)]
+mod kept;
+#[cfg(test)]
 mod limits;
 #[cfg(test)]
 mod samples;

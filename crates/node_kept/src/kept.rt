@@ -132,6 +132,7 @@ impl Kept {
     pub fn same(&self, other: &Kept) -> bool
         ensures { IsTrue result ↔ (self.now ≡ other.now) }
     {
-        self.parts.same(&other.parts)
+        let (one, two) = (self.parts(), other.parts());
+        one.same(two)
     }
 }
