@@ -1,3 +1,4 @@
 pub mod ReadSteps
+pub mod WriteSteps
 pub mod WholeTexts
 pub mod Limits

@@ -1,9 +1,12 @@
 -- What is kept within its limits has a text, and what has a text is within the limits.
-use Rattle.std.proofs.Common.{◌≡◌, ℕ, zero, suc, ◌+◌, ◌≤◌, ◌<◌, List, [], ◌∷◌, length, map, take, All, Some, get_or, subst, arith}
+use Rattle.std.proofs.Common.{◌≡◌, ℕ, zero, suc, ◌+◌, ◌≤◌, ◌<◌, List, [], ◌∷◌, length, map, take, All, Bool, IsTrue, Some, Result, Ok, Err, get_or, refl, sym, ap, ◌∙◌, subst, arith}
 use Rattle.std.proofs.lemmas.List.Elements.{All-nil, All-cons, All-head, All-tail}
 use Rattle.metering_model.specs.Ballot.{Vote}
 use Rattle.metering_model.specs.Cut.{Cut}
-use Rattle.metering_model.specs.KeptText.{KeptAmong, IsBallotNumber, IsCutAmong, HasText}
+use Rattle.metering_model.specs.KeptText.{KeptAmong, IsBallotNumber, IsCutAmong, HasText, kept_text, kept_in, kept_offer_of}
+use Rattle.metering_model.specs.World.{KeptGood, KeptBad}
+use Rattle.metering_model.specs.declared.KeptTextFault.{KeptTextFault}
+use Rattle.metering_model.proofs.KeptLaws.{kept_read, read_back, writable_of}
 use Rattle.period_cut.specs.Limits.{IsCut}
 use Rattle.batch_store.specs.Stores.{IsStored}
 use Rattle.node_kept.specs.Kept.{IsKept}
@@ -58,3 +61,22 @@ all_taken f P [] (suc k) end all = all
 all_taken f P (x ∷ xs) zero end all = absurd (omega (arith, end))
 all_taken f P (x ∷ xs) (suc k) end all =
     All-cons P (f x) (map f xs) (All-head P (f x) (map f (take k xs)) all) (all_taken f P xs k (omega (arith, end)) (All-tail P (f x) (map f (take k xs)) all))
+
+-- ---- offers
+
+-- two texts are of the same offer exactly where they are of the same thing
+pub good_same : (b : Bool) (k l : KeptAmong) → HasText k × HasText l → (IsTrue b → k ≡ l) × (k ≡ l → IsTrue b) → (IsTrue b → KeptGood (kept_text k) ≡ KeptGood (kept_text l)) × (KeptGood (kept_text k) ≡ KeptGood (kept_text l) → IsTrue b)
+good_same b k l has same = (λ t. ap (λ x. KeptGood (kept_text x)) (same.0 t), λ e. same.1 (read_back k l has.0 (writable_of l has.1) (text_of e)))
+  where
+    text_of : KeptGood (kept_text k) ≡ KeptGood (kept_text l) → kept_text k ≡ kept_text l
+    text_of e = cc
+
+pub good_offer : (text : List ℕ) (k : KeptAmong) → kept_in text ≡ Ok k → KeptGood (kept_text k) ≡ kept_offer_of text
+good_offer text k e = ap KeptGood (sym (kept_read text k e).joined) ∙ sym (by_read (kept_in text) e)
+  where
+    by_read : (r : Result KeptAmong KeptTextFault) → r ≡ Ok k → (elim r [ Ok x ↦ KeptGood text | Err fault ↦ KeptBad fault ]) ≡ KeptGood text
+    by_read (Ok x) h = refl
+    by_read (Err fault) h = absurd (cc)
+
+pub kept_of_read : (text : List ℕ) (k : KeptAmong) → kept_in text ≡ Ok k → IsKept k
+kept_of_read text k e = is_kept k (kept_read text k e).has

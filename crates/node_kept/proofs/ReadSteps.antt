@@ -1,17 +1,18 @@
 -- A kept text is read cut by cut and batch by batch: what was read, and what is read of the rest.
-use Rattle.std.proofs.Common.{◌≡◌, ℕ, zero, suc, ◌+◌, ◌-◌, ◌≤◌, ◌<◌, Bool, true, false, cond, List, [], ◌∷◌, ◌++◌, length, Option, Some, None, Result, Ok, Err, refl, sym, ap, ap₂, subst, ◌∙◌, arith, append_assoc, append-nil, nat_le, nat_lt}
+use Rattle.std.proofs.Common.{◌≡◌, ℕ, zero, suc, ◌+◌, ◌*◌, ◌-◌, ◌≤◌, ◌<◌, Bool, true, false, cond, List, [], ◌∷◌, ◌++◌, length, Option, Some, None, Result, Ok, Err, ok_or, refl, sym, ap, ap₂, subst, ◌∙◌, arith, append_assoc, append-nil, nat_le, nat_lt}
 use Rattle.std.specs.Prelude.{◌==◌, ◌&&◌, ◌||◌}
 use Rattle.std.specs.List.{list_all}
+use Rattle.std.proofs.lemmas.Bool.Decides.{nat_tests}
 use Rattle.std.proofs.lemmas.Bool.{and_parts, and_from, false≢true, cond-true, cond-false, lt-ltb}
 use Rattle.metering_model.specs.FirstFailure.{◌>>=◌, holds_or}
 use Rattle.metering_model.specs.Batch.{Batch}
 use Rattle.metering_model.specs.Cut.{Cut}
-use Rattle.metering_model.specs.Holding.{Holding, comes_before, is_in_order, put}
+use Rattle.metering_model.specs.Holding.{Holding, comes_before, is_in_order, is_batch_at, put}
 use Rattle.metering_model.specs.declared.KeptTextFault.{KeptTextFault}
 use Rattle.metering_model.specs.declared.KeptCode.{KeptCode}
-use Rattle.metering_model.specs.declared.KeptCode.TheVariants.{Order as NotInOrder}
-use Rattle.metering_model.specs.BatchReading.{lines_in}
-use Rattle.metering_model.specs.KeptText.{BatchesRead, at_kept_line, cuts_in, batches_in, next_batch, may_follow, with_batch}
+use Rattle.metering_model.specs.declared.KeptCode.TheVariants.{Cut as BadCut, Order as NotInOrder}
+use Rattle.metering_model.specs.BatchReading.{lines_in, fields_in}
+use Rattle.metering_model.specs.KeptText.{BatchesRead, at_kept_line, cut_in, cuts_in, batches_in, next_batch, may_follow, with_batch}
 use Rattle.metering_model.proofs.BatchOrder.{comes_before-trans, never_both, at_itself, not_at-after, put_cases}
 use Rattle.batch_store.specs.Stores.{Stored}
 use Rattle.node_kept.specs.Inner.Left.{AreCutsOf, IsNextOf, AreBatchesOf, comes_behind}
@@ -35,10 +36,16 @@ pub record AreReadSoFar (text : List ℕ) (first agents count done : ℕ) (befor
 
 pub none_so_far : (text : List ℕ) (first agents count : ℕ) → AreReadSoFar text first agents count 0 [] text
 none_so_far text first agents count = record {
-  same = all (cuts_in first agents count (lines_in text).lines) ∙ ap (λ line. with_cuts [] (cuts_in line agents count (lines_in text).lines)) (omega arith);
+  same = all (cuts_in first agents count (lines_in text).lines) ∙ ap₂ (λ line n. with_cuts [] (cuts_in line agents n (lines_in text).lines)) start whole;
   behind = refl;
 }
   where
+    start : first ≡ first + 0
+    start = omega arith
+
+    whole : count ≡ count - 0
+    whole = omega arith
+
     all : (r : CutsRead) → r ≡ with_cuts [] r
     all (Ok x) = refl
     all (Err e) = refl
@@ -47,17 +54,23 @@ none_so_far text first agents count = record {
 first_of_more : (line agents n : ℕ) (ls : List (List ℕ)) (c : Cut) (left : List (List ℕ)) → cuts_in line agents 1 ls ≡ Ok (c ∷ [], left)
     → cuts_in line agents (suc n) ls ≡ one_cut c (cuts_in (line + 1) agents n left)
 first_of_more line agents n [] c left e = absurd (cc)
-first_of_more line agents n (l ∷ ls) c left e = by_read (at_kept_line line _) e
+first_of_more line agents n (l ∷ ls) c left e = by_read (at_kept_line line (ok_or (cut_in agents (fields_in l)) BadCut)) e
   where
-    by_read : (r : Result Cut KeptTextFault) → (r >>= λ d. Ok (d ∷ [], ls)) ≡ Ok (c ∷ [], left) → (r >>= λ d. one_cut d (cuts_in (line + 1) agents n ls)) ≡ one_cut c (cuts_in (line + 1) agents n left)
+    only : Cut → CutsRead
+    only d = Ok (d ∷ [], ls)
+
+    by_read : (r : Result Cut KeptTextFault) → (r >>= λ d. only d) ≡ Ok (c ∷ [], left) → (r >>= λ d. one_cut d (cuts_in (line + 1) agents n ls)) ≡ one_cut c (cuts_in (line + 1) agents n left)
     by_read (Err f) e = absurd (cc)
     by_read (Ok d) e = cc
 
 none_of_more : (line agents n : ℕ) (ls : List (List ℕ)) (f : KeptTextFault) → cuts_in line agents 1 ls ≡ Err f → cuts_in line agents (suc n) ls ≡ Err f
 none_of_more line agents n [] f e = cc
-none_of_more line agents n (l ∷ ls) f e = by_read (at_kept_line line _) e
+none_of_more line agents n (l ∷ ls) f e = by_read (at_kept_line line (ok_or (cut_in agents (fields_in l)) BadCut)) e
   where
-    by_read : (r : Result Cut KeptTextFault) → (r >>= λ d. Ok (d ∷ [], ls)) ≡ Err f → (r >>= λ d. one_cut d (cuts_in (line + 1) agents n ls)) ≡ Err f
+    only : Cut → CutsRead
+    only d = Ok (d ∷ [], ls)
+
+    by_read : (r : Result Cut KeptTextFault) → (r >>= λ d. only d) ≡ Err f → (r >>= λ d. one_cut d (cuts_in (line + 1) agents n ls)) ≡ Err f
     by_read (Err g) e = cc
     by_read (Ok d) e = absurd (cc)
 

@@ -1,11 +1,11 @@
 //! The head line of a kept text.
 
 ghost use Rattle.std.specs.Prelude.{◌≡◌, ◌∷◌, [], Ok, Err, MatchOption};
-ghost use Rattle.metering_model.specs.BatchReading.{fields_in};
+ghost use Rattle.metering_model.specs.BatchReading.{fields_in, whole_in};
 ghost use Rattle.metering_model.specs.KeptText.{kept_head_in};
 ghost use Rattle.node_kept.specs.Inner.Head.{head_of};
 
-use byte_text::{is_same, read_whole, split_at_bar};
+use byte_text::{is_same, read_whole, split_at_bar, whole_up_to};
 use metering_model::KeptCode;
 
 /// The numbers of a head line: how many agents there are, the round, how many cuts were learned, the ballots promised and
@@ -58,6 +58,14 @@ fn head_fields(line: &[u8]) -> Option<HeadFields<'_>>
     })
 }
 
+/// How many batches a text says, at most 64,000,000.
+fn batch_count(text: &[u8]) -> Option<u32>
+    ensures { result ≡ whole_in 0 64_000_000 text.now }
+{
+    let number = whole_up_to(text, 64_000_000)?;
+    Some(number as u32)
+}
+
 /// The head that a line is, if it is one within the limits.
 pub(crate) fn head_of_line(line: &[u8]) -> Option<Head>
     ensures { MatchOption result
@@ -74,6 +82,6 @@ pub(crate) fn head_of_line(line: &[u8]) -> Option<Head>
         learned: read_whole(fields.learned, 0, 1_200)? as u16,
         promised: read_whole(fields.promised, 0, 990_098)?,
         ballot: read_whole(fields.ballot, 0, 990_098)?,
-        batches: read_whole(fields.batches, 0, 64_000_000)?,
+        batches: batch_count(fields.batches)?,
     })
 }

@@ -130,7 +130,8 @@ impl Kept {
 
     /// Whether both are the same: rounds, cuts, ballots and batches. No memory is taken.
     pub fn same(&self, other: &Kept) -> bool
-        ensures { IsTrue result ↔ (self.now ≡ other.now) }
+        ensures same { IsTrue result ↔ (self.now ≡ other.now) }
+        ensures texts { HasText self.now × HasText other.now }
     {
         let (one, two) = (self.parts(), other.parts());
         one.same(two)

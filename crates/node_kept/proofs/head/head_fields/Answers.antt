@@ -16,4 +16,4 @@ returns-then-is_some c =
     let more = length-slice_split (λ (x : ℕ). x == 124) last.0.1.now in
     let fields : fields_in c.args.line.now ≡ c.in_ok-version.version.now ∷ c.in_ok-agents.agents.now ∷ c.in_ok-round.round.now ∷ c.in_ok-learned.learned.now ∷ c.in_ok-promised.promised.now ∷ c.in_ok-ballot.ballot.now ∷ last.0.0.now ∷ fields_in last.0.1.now =
     cc (c.in_ok-version.ensures, c.in_ok-agents.ensures, c.in_ok-round.ensures, c.in_ok-learned.ensures, c.in_ok-promised.ensures, c.in_ok-ballot.ensures, last.1) in
-    ap kept_head_in fields ∙ too_many _ _ _ _ _ _ _ (fields_in last.0.1.now) (omega (arith, more))
+    ap kept_head_in fields ∙ too_many c.in_ok-version.version.now c.in_ok-agents.agents.now c.in_ok-round.round.now c.in_ok-learned.learned.now c.in_ok-promised.promised.now c.in_ok-ballot.ballot.now last.0.0.now (fields_in last.0.1.now) (omega (arith, more))
