@@ -1,5 +1,5 @@
 -- What is kept within its limits has a text, and what has a text is within the limits.
-use Rattle.std.proofs.Common.{◌≡◌, ℕ, zero, suc, ◌+◌, ◌≤◌, ◌<◌, List, [], ◌∷◌, length, map, take, All, Bool, IsTrue, Some, Result, Ok, Err, get_or, refl, sym, ap, ◌∙◌, subst, arith}
+use Rattle.std.proofs.Common.{◌≡◌, ℕ, zero, suc, ◌+◌, ◌≤◌, ◌<◌, List, [], ◌∷◌, length, map, take, drop, All, Bool, IsTrue, Some, Result, Ok, Err, get_or, refl, sym, ap, ◌∙◌, subst, arith}
 use Rattle.std.proofs.lemmas.List.Elements.{All-nil, All-cons, All-head, All-tail}
 use Rattle.metering_model.specs.Ballot.{Vote}
 use Rattle.metering_model.specs.Cut.{Cut}
@@ -80,3 +80,16 @@ good_offer text k e = ap KeptGood (sym (kept_read text k e).joined) ∙ sym (by_
 
 pub kept_of_read : (text : List ℕ) (k : KeptAmong) → kept_in text ≡ Ok k → IsKept k
 kept_of_read text k e = is_kept k (kept_read text k e).has
+
+pub good_same_at : (b : Bool) (k l m n : KeptAmong) → k ≡ m → l ≡ n → HasText k × HasText l → (IsTrue b → k ≡ l) × (k ≡ l → IsTrue b)
+    → (IsTrue b → KeptGood (kept_text m) ≡ KeptGood (kept_text n)) × (KeptGood (kept_text m) ≡ KeptGood (kept_text n) → IsTrue b)
+good_same_at b k l m n one two has same =
+    subst (λ x. (IsTrue b → KeptGood (kept_text x) ≡ KeptGood (kept_text n)) × (KeptGood (kept_text x) ≡ KeptGood (kept_text n) → IsTrue b)) one
+    (subst (λ y. (IsTrue b → KeptGood (kept_text k) ≡ KeptGood (kept_text y)) × (KeptGood (kept_text k) ≡ KeptGood (kept_text y) → IsTrue b)) two (good_same b k l has same))
+
+-- what lists have at a place is the same where the lists are
+pub same_at : {A B : Type 0} (f : A → B) (xs ys : List A) (k : ℕ) (x y : A) → map f xs ≡ map f ys → k < length xs → x ≡ get_or xs k x → y ≡ get_or ys k y → f x ≡ f y
+same_at f [] ys k x y same low e d = absurd (omega (arith, low))
+same_at f (u ∷ us) [] k x y same low e d = absurd (omega (arith, ap length same))
+same_at f (u ∷ us) (v ∷ vs) zero x y same low e d = ap f e ∙ ap (λ zs. get_or zs 0 (f u)) same ∙ ap f (sym d)
+same_at f (u ∷ us) (v ∷ vs) (suc k) x y same low e d = same_at f us vs k x y (ap (drop 1) same) (omega (arith, low)) e d

@@ -15,7 +15,9 @@ use Rattle.metering_model.specs.BatchReading.{lines_in, fields_in}
 use Rattle.metering_model.specs.KeptText.{BatchesRead, at_kept_line, cut_in, cuts_in, batches_in, next_batch, may_follow, with_batch}
 use Rattle.metering_model.proofs.BatchOrder.{comes_before-trans, never_both, at_itself, not_at-after, put_cases}
 use Rattle.batch_store.specs.Stores.{Stored}
-use Rattle.node_kept.specs.Inner.Left.{AreCutsOf, IsNextOf, AreBatchesOf, comes_behind}
+use Rattle.node_kept.specs.declared.faults.KeptFault.{KeptFault}
+use Rattle.node_kept.specs.declared.faults.KeptFault.TheVariants.{Refused, OutOfMemory}
+use Rattle.node_kept.specs.Inner.Left.{IfTold, AreCutsOf, IsNextOf, AreBatchesOf, comes_behind}
 
 -- ---- cuts
 
@@ -59,9 +61,15 @@ first_of_more line agents n (l ∷ ls) c left e = by_read (at_kept_line line (ok
     only : Cut → CutsRead
     only d = Ok (d ∷ [], ls)
 
+    cut_is : (d : Cut) → only d ≡ Ok (c ∷ [], left) → d ≡ c
+    cut_is d h = cc
+
+    left_is : (d : Cut) → only d ≡ Ok (c ∷ [], left) → ls ≡ left
+    left_is d h = cc
+
     by_read : (r : Result Cut KeptTextFault) → (r >>= λ d. only d) ≡ Ok (c ∷ [], left) → (r >>= λ d. one_cut d (cuts_in (line + 1) agents n ls)) ≡ one_cut c (cuts_in (line + 1) agents n left)
     by_read (Err f) e = absurd (cc)
-    by_read (Ok d) e = cc
+    by_read (Ok d) e = ap₂ (λ x y. one_cut x (cuts_in (line + 1) agents n y)) (cut_is d e) (left_is d e)
 
 none_of_more : (line agents n : ℕ) (ls : List (List ℕ)) (f : KeptTextFault) → cuts_in line agents 1 ls ≡ Err f → cuts_in line agents (suc n) ls ≡ Err f
 none_of_more line agents n [] f e = cc
@@ -306,3 +314,8 @@ pub record ReadsOn (text : List ℕ) (first agents count done : ℕ) (store : St
   pub agents_of : store.agents ≡ agents
   pub agent_of : agent ≡ last_agent (last_batch store.batches)
   pub seq_of : seq ≡ last_seq (last_batch store.batches)
+
+-- what is said of a fault may be said otherwise
+pub told_so : (fault : KeptFault) (P Q : KeptTextFault → Type 0) → ((f : KeptTextFault) → P f → Q f) → IfTold fault P → IfTold fault Q
+told_so (Refused code line) P Q so told = so (record { code = code; line = line }) told
+told_so OutOfMemory P Q so told = tt

@@ -10,7 +10,7 @@ loop-number-preserved c =
     let number = get_or numbers c.loop-number.number-index 0 in
     let line = join_with_byte 124 (codes "K1" ∷ map decimal (take c.loop-number.number-index numbers)) in
     c.in_ok-put_numbered.ensures.put
-    ∙ ap (λ n. c.loop-number.text.items ++ 124 ∷ decimal n) c.from-in-loop-number.ensures
+    ∙ ap (λ n. c.loop-number.text.items ++ 124 ∷ decimal n) c.from.ensures
     ∙ ap (λ t. t ++ 124 ∷ decimal number) c.loop-number.invariant
     ∙ append_assoc before line (124 ∷ decimal number)
     ∙ ap (λ t. before ++ t) (one_number_more (codes "K1") numbers c.loop-number.number-index c.loop-number-test.true)
