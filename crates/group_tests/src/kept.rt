@@ -39,10 +39,12 @@ fn a_kept_text_is_read_back(rt: HostRuntime) -> Result<(), Fail> {
 /// Whether the text is refused with that code at that line.
 fn is_refused(alloc: Global, text: &[u8], code: KeptCode, line: u64) -> bool {
     match Kept::read(alloc, text) {
-        Err(KeptFault::Refused {
-            code: told,
-            line: at,
-        }) => told == code && at == line,
+        Err(
+            KeptFault::Refused {
+                code: told,
+                line: at,
+            },
+        ) => told == code && at == line,
         _ => false,
     }
 }
@@ -86,7 +88,11 @@ const FAULTS: &[(&[u8], KeptCode, u64)] = &[
     (b"K1|1|1|0|0|0|1\nB1|2|1|0\n", KeptCode::Order, 2),
     (b"K1|2|1|0|0|0|2\nB1|2|1|0\nB1|1|7|0\n", KeptCode::Order, 3),
     (b"K1|1|1|0|0|0|2\nB1|1|1|0\nB1|1|1|0\n", KeptCode::Order, 3),
-    (b"K1|1|1|0|0|0|1\nB1|1|1|1\nX|1|0|1\nB1|1|2|0\n", KeptCode::Extra, 4),
+    (
+        b"K1|1|1|0|0|0|1\nB1|1|1|1\nX|1|0|1\nB1|1|2|0\n",
+        KeptCode::Extra,
+        4,
+    ),
     (b"K1|1|0|0|0|0|0\nx", KeptCode::Extra, 2),
 ];
 

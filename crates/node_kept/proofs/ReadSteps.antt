@@ -1,5 +1,5 @@
 -- A kept text is read cut by cut and batch by batch: what was read, and what is read of the rest.
-use Rattle.std.proofs.Common.{◌≡◌, ℕ, zero, suc, ◌+◌, ◌*◌, ◌-◌, ◌≤◌, ◌<◌, Bool, true, false, cond, List, [], ◌∷◌, ◌++◌, length, Option, Some, None, Result, Ok, Err, ok_or, refl, sym, ap, ap₂, subst, ◌∙◌, arith, append_assoc, append-nil, nat_le, nat_lt}
+use Rattle.std.proofs.Common.{◌≡◌, ℕ, zero, suc, ◌+◌, ◌*◌, ◌-◌, ◌≤◌, ◌<◌, Bool, true, false, cond, List, [], ◌∷◌, ◌++◌, length, Option, Some, None, Result, Ok, Err, ok_or, refl, sym, ap, ap₂, subst, ◌∙◌, arith, append_assoc, append-nil, nat_le, nat_lt, get_or}
 use Rattle.std.specs.Prelude.{◌==◌, ◌&&◌, ◌||◌}
 use Rattle.std.specs.List.{list_all}
 use Rattle.std.proofs.lemmas.Bool.Decides.{nat_tests}
@@ -13,6 +13,7 @@ use Rattle.metering_model.specs.declared.KeptCode.{KeptCode}
 use Rattle.metering_model.specs.declared.KeptCode.TheVariants.{Cut as BadCut, Order as NotInOrder}
 use Rattle.metering_model.specs.BatchReading.{lines_in, fields_in}
 use Rattle.metering_model.specs.KeptText.{BatchesRead, at_kept_line, cut_in, cuts_in, batches_in, next_batch, may_follow, with_batch}
+use Rattle.metering_model.proofs.StepLaws.{ok_same}
 use Rattle.metering_model.proofs.BatchOrder.{comes_before-trans, never_both, at_itself, not_at-after, put_cases}
 use Rattle.batch_store.specs.Stores.{Stored}
 use Rattle.node_kept.specs.declared.faults.KeptFault.{KeptFault}
@@ -62,10 +63,10 @@ first_of_more line agents n (l ∷ ls) c left e = by_read (at_kept_line line (ok
     only d = Ok (d ∷ [], ls)
 
     cut_is : (d : Cut) → only d ≡ Ok (c ∷ [], left) → d ≡ c
-    cut_is d h = cc
+    cut_is d h = ap (λ (p : List Cut × List (List ℕ)). get_or p.0 0 d) (ok_same {E = KeptTextFault} (d ∷ [], ls) (c ∷ [], left) h)
 
     left_is : (d : Cut) → only d ≡ Ok (c ∷ [], left) → ls ≡ left
-    left_is d h = cc
+    left_is d h = ap (λ (p : List Cut × List (List ℕ)). p.1) (ok_same {E = KeptTextFault} (d ∷ [], ls) (c ∷ [], left) h)
 
     by_read : (r : Result Cut KeptTextFault) → (r >>= λ d. only d) ≡ Ok (c ∷ [], left) → (r >>= λ d. one_cut d (cuts_in (line + 1) agents n ls)) ≡ one_cut c (cuts_in (line + 1) agents n left)
     by_read (Err f) e = absurd (cc)

@@ -42,7 +42,7 @@ pub cuts_fault : (ls : List (List ℕ)) (rest : List ℕ) (h : KeptHead) (f : Ke
 cuts_fault ls rest h f e = ap (λ (r : Result (List Cut × List (List ℕ)) KeptTextFault). r >>= behind_cuts rest h) e
 
 module _ (text : List ℕ) (h : KeptHead) (cuts : List Cut) (below : List ℕ) (first : ℕ) (starts : first ≡ 2 + (h.learned + cuts_of_vote h.ballot))
-         (are : AreCutsOf text 2 h.agents (h.learned + cuts_of_vote h.ballot) cuts below) where
+    (are : AreCutsOf text 2 h.agents (h.learned + cuts_of_vote h.ballot) cuts below) where
   by_cuts : kept_below (lines_in text).lines (lines_in text).rest h ≡ (batches_in first h.agents None h.batches (lines_in below).lines >>= behind_batches (lines_in text).rest h cuts)
   by_cuts =
       let line : 2 + h.learned + cuts_of_vote h.ballot ≡ first = omega (arith, starts) in

@@ -142,7 +142,11 @@ fn revival_of_line(line: &[u8]) -> Option<(u32, u32)>
     ensures within { IfSome result (λ n. (n.0 ≤ 98) × (n.1 ≤ 200_000)) }
 {
     let (node, count) = two_behind(line, b"revive ", LAST_NODE, MOST_LINES)?;
-    if count == 0 { None } else { Some((node, count)) }
+    if count == 0 {
+        None
+    } else {
+        Some((node, count))
+    }
 }
 
 /// The revival that the next line opens, and what is left behind its lines.

@@ -4,4 +4,5 @@ use Rattle.node_kept.proofs.offers.KeptOffer.same.Goals as goal
 
 pub returns-in-Good-Good : goal.returns-in-Good-Good
 returns-in-Good-Good c =
-    good_same_at c.same.result c.deref.result.now c.deref-in-Good-Good.result.now (arc_value c.in-Good-Good.one) (arc_value c.in-Good-Good.two) c.deref.ensures c.deref-in-Good-Good.ensures c.same.ensures.texts c.same.ensures.same
+    rw (c.in-Good-Good.is-0, c.in-Good-Good.is-1)
+    (good_same_at c.same.result c.deref.result.now c.deref-in-Good-Good.result.now (arc_value c.in-Good-Good.one) (arc_value c.in-Good-Good.two) c.deref.ensures c.deref-in-Good-Good.ensures c.same.ensures.texts c.same.ensures.same)
