@@ -1,10 +1,17 @@
 -- The first file of a period in a text, as whoever cuts it out with a knife would: the first line that reads like one above such a
 -- file says how many lines the file has, and it is these.
-use Rattle.std.specs.Prelude.{ℕ, ◌&&◌, nat_le, if◌then◌else◌, List, [], ◌∷◌, ◌++◌, length, take, drop, Option, Some, None, codes}
+use Rattle.std.specs.Prelude.{◌≡◌, ℕ, ◌&&◌, nat_le, slice_get, if◌then◌else◌, List, [], ◌∷◌, ◌++◌, length, take, drop, Option, Some, None, codes}
 use Rattle.metering_model.specs.NumberText.{is_whole_part, number_of}
 use Rattle.metering_model.specs.BatchReading.{is_same, lines_in}
 use Rattle.metering_model.specs.Transcript.{with_number}
 use Rattle.metering_model.specs.Schedule.{TextLines, lines_text}
+use Rattle.metering_model.specs.Sheet.{Sheet, Issuer}
+use Rattle.metering_model.specs.Cut.{Cut}
+use Rattle.metering_model.specs.Rows.{rows}
+use Rattle.metering_model.specs.File.{file}
+use Rattle.metering_model.specs.World.{Event}
+use Rattle.metering_model.specs.Step.{cut_before}
+use Rattle.transcript_laws.specs.Shown.{Shows, HoldsOfBytes}
 
 -- what a text holds of it
 pub data FirstFile : Type 0 where
@@ -12,7 +19,7 @@ pub data FirstFile : Type 0 where
   NoFile : FirstFile
   -- one does, but fewer whole lines follow than it says: all those that do
   TornFile : (part : List ℕ) → FirstFile
-  WholeFile : (file : List ℕ) → FirstFile
+  WholeFile : (whole : List ℕ) → FirstFile
 
 -- the number that a line says behind these words, in the one spelling that a number has
 abbrev pub told_behind : List ℕ → List ℕ → Option ℕ
@@ -48,4 +55,11 @@ first_file period text = first_of_lines period (lines_in text).lines
 abbrev pub part_of : FirstFile → List ℕ
 part_of NoFile = []
 part_of (TornFile part) = part
-part_of (WholeFile file) = file
+part_of (WholeFile whole) = whole
+
+-- The text shows the file under the period, and it is the FOCUS file of what was journaled between the period's cut and the one
+-- before it.
+abbrev pub IsPeriodsFile : {voters observers agents : ℕ} {sheet : Sheet} {issuer : Issuer} {events : List Event} {text : List ℕ} → HoldsOfBytes voters observers agents sheet issuer events text → ℕ → List ℕ → Type 0
+IsPeriodsFile {voters} {observers} {agents} {sheet} {issuer} {events} {text} holds period shown =
+    Shows text period shown
+    × ((to : Cut) × (slice_get holds.cuts period ≡ Some to) × (shown ≡ file (rows sheet issuer holds.world.journals period (cut_before agents holds.cuts period) to)))
