@@ -1,6 +1,5 @@
 -- What is cut out of a front of a transcript is the period's file, or a front of it; and where nothing is, no line stands above one.
-use Rattle.std.proofs.Common.{◌≡◌, ◌≢◌, ◌⊎◌, ℕ, ◌+◌, ◌<◌, ◌≤◌, ◌^◌, true, List, [], ◌∷◌, ◌++◌, length, take, drop, Some, Contains, refl, sym, ap, subst, ◌∙◌, arith, inl, inr, append_assoc, append-nil}
-use Rattle.std.specs.Prelude.{slice_get}
+use Rattle.std.proofs.Common.{◌≡◌, ◌≢◌, ℕ, ◌<◌, ◌≤◌, ◌^◌, List, [], ◌∷◌, ◌++◌, length, take, drop, Contains, refl, sym, ap, subst, ◌∙◌, arith, inl, inr, append_assoc, append-nil}
 use Rattle.std.proofs.lemmas.List.{take-append-drop, take-append-le, length-append}
 use Rattle.std.proofs.Math.Seq.{take-append_seam}
 use Rattle.metering_model.specs.BatchReading.{Lines, lines_in}
@@ -12,10 +11,10 @@ use Rattle.metering_model.specs.Transcript.{file_of, transcript}
 use Rattle.metering_model.specs.Schedule.{TextLines, lines_text}
 use Rattle.metering_model.proofs.Splitting.{lines_give_back, lines_of_text}
 use Rattle.transcript_laws.specs.Shown.{line_above, Shows, HoldsOfBytes}
-use Rattle.transcript_laws.specs.FirstFiles.{FirstFile, NoFile, TornFile, WholeFile, first_file, first_of_lines, IsPeriodsFile}
-use Rattle.transcript_laws.proofs.TextLaws.{are_whole, lines_append, front_of_lines, lines_in_whole}
+use Rattle.transcript_laws.specs.FirstFiles.{NoFile, TornFile, WholeFile, first_file, first_of_lines, IsPeriodsFile}
+use Rattle.transcript_laws.proofs.TextLaws.{lines_append, front_of_lines, lines_in_whole}
 use Rattle.transcript_laws.proofs.ReplyLines.{file_lines, transcript_lines, IsFileShown, lines_are_whole, file_is, transcript_is}
-use Rattle.transcript_laws.proofs.ShownExports.{IsOfExport, same_above, export_of_line, exported_is_shown}
+use Rattle.transcript_laws.proofs.ShownExports.{same_above, export_of_line, exported_is_shown}
 use Rattle.transcript_laws.proofs.EveryTranscript.{replies, export_is_shown}
 use Rattle.transcript_laws.proofs.FirstFileLaws.{FindsAbove, find_above, not_none, told_above, told_begins, told_is, torn_of_lines, whole_of_lines}
 

@@ -1,7 +1,7 @@
 -- The first file of a period among lines: where the line above it stands, and what that tells.
-use Rattle.std.proofs.Common.{◌≡◌, ◌≢◌, ◌⊎◌, ℕ, ◌+◌, ◌<◌, ◌≤◌, ◌^◌, Bool, true, false, List, [], ◌∷◌, ◌++◌, length, take, drop, codes, decimal, Option, Some, None, refl, sym, ap, ap₂, ◌∙◌, arith, inl, inr, append_assoc}
+use Rattle.std.proofs.Common.{◌≡◌, ◌⊎◌, ℕ, ◌+◌, ◌<◌, ◌≤◌, ◌^◌, Bool, true, false, List, [], ◌∷◌, ◌++◌, length, take, drop, codes, decimal, Option, Some, None, refl, sym, ap, ap₂, ◌∙◌, arith, inl, inr, append_assoc}
 use Rattle.std.specs.Prelude.{nat_le, ◌&&◌, if◌then◌else◌}
-use Rattle.std.proofs.lemmas.Bool.{and_parts, and_from}
+use Rattle.std.proofs.lemmas.Bool.{and_from}
 use Rattle.std.proofs.lemmas.Bool.Decides.{nat_tests}
 use Rattle.std.proofs.lemmas.List.{take-append-drop, take-append-le, length-append, length-take-le}
 use Rattle.std.proofs.Math.Seq.{take-append_seam, drop-append_seam}
@@ -13,7 +13,7 @@ use Rattle.metering_model.proofs.FieldLaws.{same_read}
 use Rattle.metering_model.proofs.FirstByte.{before, after, before_join, after_join}
 use Rattle.metering_model.proofs.NumberDigits.{decimal_whole}
 use Rattle.transcript_laws.specs.Shown.{line_above}
-use Rattle.transcript_laws.specs.FirstFiles.{FirstFile, NoFile, TornFile, WholeFile, told_behind, words_above, lines_told, file_of_lines, file_behind, first_of_lines, part_of}
+use Rattle.transcript_laws.specs.FirstFiles.{NoFile, TornFile, WholeFile, told_behind, words_above, lines_told, file_of_lines, file_behind, first_of_lines, part_of}
 use Rattle.transcript_laws.proofs.Decimals.{decimal_lacks_blank, decimal_is_one}
 use Rattle.transcript_laws.proofs.TextLaws.{lines_append}
 use Rattle.transcript_laws.proofs.FileLines.{begins_with_e}
