@@ -1,12 +1,12 @@
 //! The first file of a period in what a source gives.
 
-ghost use Rattle.std.specs.Prelude.{◌≡◌, ◌≢◌, ◌≤◌, ◌⊎◌, ℕ, List, [], Ok, Err, IfOk, IfErr, IfSome, OnOk, OnErr, MatchOption, MatchResult};
+ghost use Rattle.std.specs.Prelude.{◌≡◌, ◌<◌, ◌≤◌, ℕ, List, [], Some, None, Ok, Err, IfOk, IfErr, IfSome, OnOk, OnErr};
 ghost use Rattle.std.specs.Io.KnownBytes.{Appends, IsAtEnd};
 ghost use Rattle.counted_io.specs.Counts.{Rises, count_after};
 ghost use Rattle.counted_io.specs.Reading.{ConsumesAtMost};
 ghost use Rattle.period_file.specs.Faults.{tells_of_reader, tells_of_writer};
 ghost use Rattle.period_file.specs.Files.{AppendsFront, AppendsPart, IsFileOf, IsRefusal, file_in};
-ghost use Rattle.period_file.specs.Inner.Reading.{Copies, Finds, IsBeyond, IsEnded, IsOfCopying, IsOfReading, Passes, PassesAll, Stops, Takes};
+ghost use Rattle.period_file.specs.Inner.Reading.{Copies, CopiesAhead, Finds, IsBeyond, IsEnded, IsLineAt, IsOfCopying, IsOfReading, Passes, Stops, StopsAhead, Takes};
 
 use crate::counts::{told_behind, words_above};
 use crate::faults::FileFault;
@@ -27,10 +27,12 @@ fn find_line_above<S: Source>(
     ensures found { (count : ℕ) → result ≡ Ok (Some count)
         → Finds period count unread.old.bytes unread.new.bytes unread.old.read unread.new.read
             (S.remaining source.old) (S.remaining source.new) }
-    ensures none { result ≡ Ok None → PassesAll period unread.old.bytes unread.new.bytes unread.old.read unread.new.read
-            (S.remaining source.old) (S.remaining source.new) }
-    ensures passed { OnErr result (Passes period unread.old.bytes unread.new.bytes unread.old.read unread.new.read
-            (S.remaining source.old) (S.remaining source.new)) }
+    ensures none { result ≡ Ok None
+        → Passes period unread.old.bytes unread.new.bytes unread.old.read unread.new.read
+            (S.remaining source.old) (S.remaining source.new)
+            × IsEnded unread.new.bytes (S.remaining source.new) }
+    ensures takes { (taken : List ℕ) × Takes unread.old.bytes unread.new.bytes unread.old.read unread.new.read
+            (S.remaining source.old) (S.remaining source.new) taken }
     ensures within { IfOk result (λ found. unread.new.read ≤ 4_294_967_296) }
     ensures most { unread.new.read ≤ 4_294_967_297 }
     ensures reading { IfErr result (λ fault. IsOfReading fault × IsBeyond fault unread.new.read) }
@@ -52,6 +54,16 @@ fn find_line_above<S: Source>(
 
 /// Writes the lines ahead, at most so many, in one write, and takes them. It answers how many they are.
 fn copy_ahead<W: Sink>(unread: &mut Unread, writer: &mut W, most: u64) -> Result<u64, FileFault>
+    ensures copied { IfOk result (λ count. CopiesAhead count unread.old.bytes unread.new.bytes
+        (W.contents writer.old) (W.contents writer.new)) }
+    ensures some { IfOk result (λ count. (end : ℕ) → IsLineAt unread.old.bytes end → 0 < most → 0 < count) }
+    ensures few { IfOk result (λ count. count ≤ most) }
+    ensures stopped { OnErr result (StopsAhead most unread.old.bytes (W.contents writer.old) (W.contents writer.new)) }
+    ensures fault { IfErr result (λ fault. fault ≡ FileFault.Write) }
+    ensures read { unread.new.read ≡ unread.old.read }
+    ensures write_fault { OnErr result (Rises (W.failed_calls writer.old) (W.failed_calls writer.new)) }
+    ensures count { W.failed_calls writer.new
+        ≡ count_after (tells_of_writer result) (W.failed_calls writer.old) }
 {
     let (length, count) = lines_in_front(unread.ahead(), most);
     let Ok(()) = write_all(writer, &unread.ahead()[..length]) else {
@@ -69,9 +81,10 @@ fn copy_lines<S: Source, W: Sink>(
     count: u64,
 ) -> Result<u64, FileFault>
     requires { unread.old.read ≤ 4_294_967_296 }
-    ensures copied { (lacking : ℕ) → result ≡ Ok lacking
-        → Copies count lacking unread.old.bytes unread.new.bytes unread.old.read unread.new.read
-            (S.remaining source.old) (S.remaining source.new) (W.contents writer.old) (W.contents writer.new) }
+    ensures copied { IfOk result (λ lacking. Copies count lacking unread.old.bytes unread.new.bytes
+            unread.old.read unread.new.read (S.remaining source.old) (S.remaining source.new)
+            (W.contents writer.old) (W.contents writer.new)) }
+    ensures ended { IfOk result (λ lacking. 0 < lacking → IsEnded unread.new.bytes (S.remaining source.new)) }
     ensures stopped { OnErr result (Stops count unread.old.bytes unread.old.read unread.new.read
             (S.remaining source.old) (S.remaining source.new) (W.contents writer.old) (W.contents writer.new)) }
     ensures within { IfOk result (λ lacking. unread.new.read ≤ 4_294_967_296) }

@@ -1,5 +1,5 @@
 -- Reading ahead, and what was taken of it.
-use Rattle.std.specs.Prelude.{◌≡◌, ℕ, ◌+◌, ◌<◌, ◌≤◌, min, true, List, [], ◌∷◌, ◌++◌, length, take, Option, Some, None, IsTrue}
+use Rattle.std.specs.Prelude.{◌≡◌, ℕ, ◌+◌, ◌<◌, ◌≤◌, min, true, List, [], ◌∷◌, ◌++◌, length, take, drop, Option, Some, None}
 use Rattle.std.specs.List.{list_all}
 use Rattle.std.specs.Io.KnownBytes.{Appends, Consumes, IsAtEnd}
 use Rattle.counted_io.specs.Writing.{AppendsSome}
@@ -24,7 +24,7 @@ pub record Takes (ahead rest : List ℕ) (read read' : ℕ) (left left' : Option
 
 -- no byte is left that ends a line, neither ahead nor to be read
 abbrev pub IsEnded : List ℕ → Option (List ℕ) → Type 0
-IsEnded rest left = IsTrue (lacks 10 rest) × IsAtEnd left
+IsEnded rest left = (lacks 10 rest ≡ true) × IsAtEnd left
 
 -- a device's fault, want of memory, or too long an input
 abbrev pub IsOfReading : FileFault → Type 0
@@ -46,19 +46,26 @@ IsOfCopying fault.OutOfMemory = Unit {0}
 
 -- where too long an input is told, so much of it was read
 abbrev pub IsBeyond : FileFault → ℕ → Type 0
-IsBeyond fault read = fault ≡ fault.TooLong → 4_294_967_296 < read
+IsBeyond told read = told ≡ fault.TooLong → 4_294_967_296 < read
 
 -- ---- lines
 
--- so many lines stand at the front of a text, and they have so many bytes
+-- a line ends at that byte
+pub record IsLineAt (text : List ℕ) (at : ℕ) : Type 0 where
+  pub within : at < length text
+  pub whole : lacks 10 (take at text) ≡ true
+  pub split : text ≡ line (take at text) ++ drop (at + 1) text
+
+-- So many lines stand at the front of a text, and have so many bytes.
 pub record AreInFront (text : List ℕ) (count at : ℕ) : Type 0 where
   pub lines : TextLines
-  pub whole : IsTrue (list_all (lacks 10) lines)
+  pub whole : list_all (lacks 10) lines ≡ true
   pub counted : length lines ≡ count
   pub within : at ≤ length text
-  pub is_front : take at text ≡ lines_text lines
+  pub split : text ≡ lines_text lines ++ drop at text
+  pub size : length (lines_text lines) ≡ at
 
--- what is told of a line: the number, or the greatest that is told apart
+-- what is told of a line: the number, or where that is great another that is too great
 abbrev pub IsTold : Option ℕ → Option ℕ → Type 0
 IsTold (Some count) told = (number : ℕ) × (told ≡ Some number) × (count ≡ min 4_294_967_297 number)
 IsTold None told = told ≡ None
@@ -66,39 +73,52 @@ IsTold None told = told ≡ None
 -- Lines were taken, and none of them stands above a file of the period.
 pub record Passes (period : ℕ) (ahead rest : List ℕ) (read read' : ℕ) (left left' : Option (List ℕ)) : Type 0 where
   pub lines : TextLines
-  pub whole : IsTrue (list_all (lacks 10) lines)
+  pub whole : list_all (lacks 10) lines ≡ true
   pub none : first_of_lines period lines ≡ NoFile
   pub takes : Takes ahead rest read read' left left' (lines_text lines)
-
--- And no more lines follow.
-pub record PassesAll (period : ℕ) (ahead rest : List ℕ) (read read' : ℕ) (left left' : Option (List ℕ)) : Type 0 where
-  pub passes : Passes period ahead rest read read' left left'
-  pub ended : IsEnded rest left'
 
 -- Then one was, which does, and tells that so many follow.
 pub record Finds (period count : ℕ) (ahead rest : List ℕ) (read read' : ℕ) (left left' : Option (List ℕ)) : Type 0 where
   pub lines : TextLines
-  pub whole : IsTrue (list_all (lacks 10) lines)
+  pub whole : list_all (lacks 10) lines ≡ true
   pub none : first_of_lines period lines ≡ NoFile
   pub above : List ℕ
-  pub lacks_feed : IsTrue (lacks 10 above)
-  pub is_told : IsTold (Some count) (lines_told period above)
+  pub lacks_feed : lacks 10 above ≡ true
+  pub number : ℕ
+  pub is_told : lines_told period above ≡ Some number
+  pub is_count : count ≡ min 4_294_967_297 number
   pub takes : Takes ahead rest read read' left left' (lines_text lines ++ line above)
 
--- Lines were taken and written, as many as were asked for, or fewer by so many, and then no more follow.
+-- So many of the lines ahead were written, and taken.
+pub record CopiesAhead (count : ℕ) (ahead rest : List ℕ) (old new : Option (List ℕ)) : Type 0 where
+  pub lines : TextLines
+  pub whole : list_all (lacks 10) lines ≡ true
+  pub counted : length lines ≡ count
+  pub split : ahead ≡ lines_text lines ++ rest
+  pub appended : Appends old new (lines_text lines)
+
+-- Of at most so many of the lines ahead a prefix was written.
+pub record StopsAhead (most : ℕ) (ahead : List ℕ) (old new : Option (List ℕ)) : Type 0 where
+  pub lines : TextLines
+  pub rest : List ℕ
+  pub whole : list_all (lacks 10) lines ≡ true
+  pub few : length lines ≤ most
+  pub split : ahead ≡ lines_text lines ++ rest
+  pub appended : AppendsSome old new (lines_text lines)
+
+-- Lines were taken and written, fewer by so many than were asked for.
 pub record Copies (asked lacking : ℕ) (ahead rest : List ℕ) (read read' : ℕ) (left left' : Option (List ℕ)) (old new : Option (List ℕ)) : Type 0 where
   pub lines : TextLines
-  pub whole : IsTrue (list_all (lacks 10) lines)
+  pub whole : list_all (lacks 10) lines ≡ true
   pub counted : length lines + lacking ≡ asked
   pub takes : Takes ahead rest read read' left left' (lines_text lines)
   pub appended : Appends old new (lines_text lines)
-  pub ended : 0 < lacking → IsEnded rest left'
 
 -- Copying stopped: of lines that were read, at most as many as were asked for, a prefix was written.
 pub record Stops (asked : ℕ) (ahead : List ℕ) (read read' : ℕ) (left left' : Option (List ℕ)) (old new : Option (List ℕ)) : Type 0 where
   pub lines : TextLines
   pub rest : List ℕ
-  pub whole : IsTrue (list_all (lacks 10) lines)
+  pub whole : list_all (lacks 10) lines ≡ true
   pub few : length lines ≤ asked
   pub takes : Takes ahead rest read read' left left' (lines_text lines)
   pub appended : AppendsSome old new (lines_text lines)
