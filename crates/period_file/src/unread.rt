@@ -1,7 +1,7 @@
 //! Bytes that were read and not yet taken.
 
-ghost use Rattle.std.specs.Prelude.{◌≡◌, ◌+◌, ◌<◌, ◌≤◌, [], length, take, drop, vec_len, true, false, Ok, IfOk, IfErr, unwrap_or};
-ghost use Rattle.std.specs.Io.KnownBytes.{Consumes, IsAtEnd};
+ghost use Rattle.std.specs.Prelude.{◌≡◌, ◌+◌, ◌<◌, ◌≤◌, [], length, take, drop, vec_len, true, false, Ok, IfOk, IfErr, OnErr, unwrap_or};
+ghost use Rattle.std.specs.Io.KnownBytes.{Consumes, IsAtEnd, Keeps};
 ghost use Rattle.std.specs.Result.{result_ok};
 ghost use Rattle.counted_io.specs.Counts.{count_after};
 ghost use Rattle.period_file.specs.Faults.{tells_of_reader};
@@ -52,6 +52,45 @@ fn drop_front(bytes: &mut Vec<u8>, count: usize)
     bytes.truncate(length);
 }
 
+/// One read into room.
+fn read_some<S: Source>(source: &mut S, room: &mut [u8]) -> Result<usize, FileFault>
+    requires { 0 < length room.old }
+    ensures bound { IfOk result (λ came. came ≤ length room.new) }
+    ensures consumed { IfOk result (λ came. Consumes (S.remaining source.old)
+        (S.remaining source.new) (take came room.new)) }
+    ensures end { IfOk result (λ came. came ≡ 0 → IsAtEnd (S.remaining source.new)) }
+    ensures kept { OnErr result (Keeps (S.remaining source.old) (S.remaining source.new)) }
+    ensures fault { IfErr result (λ fault. fault ≡ FileFault.Read) }
+    ensures count { S.failed_calls source.new
+        ≡ count_after (tells_of_reader result) (S.failed_calls source.old) }
+{
+    match source.read(room) {
+        Ok(came) => Ok(came),
+        Err(_) => Err(FileFault::Read),
+    }
+}
+
+/// One read behind the first bytes, into the room that follows them.
+fn read_room<S: Source>(
+    source: &mut S,
+    bytes: &mut Vec<u8>,
+    length: usize,
+) -> Result<usize, FileFault>
+    requires { length < vec_len bytes.old }
+    ensures front { take length bytes.new.items ≡ take length bytes.old.items }
+    ensures length { vec_len bytes.new ≡ vec_len bytes.old }
+    ensures within { IfOk result (λ came. length + came ≤ vec_len bytes.new) }
+    ensures consumed { IfOk result (λ came. Consumes (S.remaining source.old)
+        (S.remaining source.new) (take came (drop length bytes.new.items))) }
+    ensures end { IfOk result (λ came. came ≡ 0 → IsAtEnd (S.remaining source.new)) }
+    ensures kept { OnErr result (Keeps (S.remaining source.old) (S.remaining source.new)) }
+    ensures fault { IfErr result (λ fault. fault ≡ FileFault.Read) }
+    ensures count { S.failed_calls source.new
+        ≡ count_after (tells_of_reader result) (S.failed_calls source.old) }
+{
+    read_some(source, &mut bytes[length..])
+}
+
 /// One read behind the first bytes, into the room that follows them. What the source does not fill goes.
 fn read_behind<S: Source>(
     source: &mut S,
@@ -68,14 +107,14 @@ fn read_behind<S: Source>(
     ensures count { S.failed_calls source.new
         ≡ count_after (tells_of_reader result) (S.failed_calls source.old) }
 {
-    match source.read(&mut bytes[length..]) {
+    match read_room(source, bytes, length) {
         Ok(came) => {
             bytes.truncate(length + came);
             Ok(came)
         }
-        Err(_) => {
+        Err(fault) => {
             bytes.truncate(length);
-            Err(FileFault::Read)
+            Err(fault)
         }
     }
 }

@@ -5,7 +5,7 @@ use Rattle.period_file.proofs.files.find_line_above.Given as goal
 
 abbrev pub invariant-loop-end : goal.invariant-loop-end
 invariant-loop-end g l = record {
-  passed : Passes l.period l.fn.unread.bytes l.unread.bytes l.fn.unread.read l.unread.read (g.S.Source.remaining l.fn.source) (g.S.Source.remaining l.source);
+  passed : Passes l.fn.period l.fn.unread.bytes l.unread.bytes l.fn.unread.read l.unread.read (g.S.Source.remaining l.fn.source) (g.S.Source.remaining l.source);
   short : l.unread.read ≤ 4_294_967_296;
   quiet : g.S.Source.failed_calls l.source ≡ g.S.Source.failed_calls l.fn.source;
 }
