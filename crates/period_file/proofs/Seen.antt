@@ -100,7 +100,7 @@ some_longer old new xs ys it =
     let few = it.1 in
     (it.0, omega (arith, few, length-append xs ys), subst (Appends old new) (sym (take-append-le it.0 xs ys few)) it.2)
 
-some_of_all : (old new : Option (List ℕ)) (xs : List ℕ) → Appends old new xs → AppendsSome old new xs
+pub some_of_all : (old new : Option (List ℕ)) (xs : List ℕ) → Appends old new xs → AppendsSome old new xs
 some_of_all old new xs it = (length xs, omega arith, subst (Appends old new) (sym (ap (take (length xs)) (sym (append-nil xs)) ∙ take-append_seam xs [])) it)
 
 module _ (period count : ℕ) (known mid left : Option (List ℕ)) (ahead : List ℕ) (read read' : ℕ) (found : Finds period count [] ahead 0 read known mid) where

@@ -1,5 +1,5 @@
 -- Reading on, and taking what was read: one after the other, and from a text's front.
-use Rattle.std.proofs.Common.{◌≡◌, ℕ, zero, suc, ◌+◌, ◌<◌, ◌≤◌, Bool, true, false, List, [], ◌∷◌, ◌++◌, length, take, drop, Option, Some, None, refl, sym, ap, ◌∙◌, arith, append_assoc, append-nil, subst}
+use Rattle.std.proofs.Common.{◌≡◌, ℕ, zero, suc, ◌+◌, ◌<◌, ◌≤◌, Bool, true, false, List, [], ◌∷◌, ◌++◌, length, take, drop, Option, Some, None, refl, sym, ap, ◌∙◌, arith, append_assoc, append-nil, subst, Result, Ok, Err, OnOk, OnErr, IfErr}
 use Rattle.std.specs.List.{list_all, position}
 use Rattle.std.specs.Prelude.{◌==◌}
 use Rattle.std.specs.Io.KnownBytes.{Consumes, IsAtEnd, Keeps, Appends}
@@ -191,3 +191,40 @@ stops_at_write asked lacking a b c r s t l m n u v w before reads ahead = record
       (takes_front a c ahead.rest r t l n (lines_text before.lines ++ []) (lines_text ahead.lines) (takes_on a b c r s t l m n (lines_text before.lines) [] before.takes reads) ahead.split);
   appended = subst (AppendsSome u w) (sym (lines_append before.lines ahead.lines)) (some_behind u v w (lines_text before.lines) (lines_text ahead.lines) before.appended ahead.appended);
 }
+
+-- reading on copies nothing
+pub copies_read : (asked lacking : ℕ) (a b c : List ℕ) (r s t : ℕ) (l m n u v : Option (List ℕ)) → Copies asked lacking a b r s l m u v → Takes b c s t m n [] → Copies asked lacking a c r t l n u v
+copies_read asked lacking a b c r s t l m n u v before reads = record {
+  lines = before.lines;
+  whole = before.whole;
+  counted = before.counted;
+  takes = subst (Takes a c r t l n) (append-nil (lines_text before.lines)) (takes_on a b c r s t l m n (lines_text before.lines) [] before.takes reads);
+  appended = before.appended;
+}
+
+-- ---- dropping what was read
+
+pub drops_on : (a b c e : List ℕ) (r s s' t k : ℕ) (l m n : Option (List ℕ)) → (dropped : List ℕ) × Takes a b r s l m dropped → c ≡ drop k b → s' ≡ s → Takes c e s' t m n []
+    → (dropped : List ℕ) × Takes a e r t l n dropped
+drops_on a b c e r s s' t k l m n before is same reads =
+    let parts : b ≡ take k b ++ c = sym (take-append-drop k b) ∙ ap (λ u. take k b ++ u) (sym is) in
+    let cut = takes_front a b c r s l m before.0 (take k b) before.1 parts in
+    let more : Takes c e s t m n [] = subst (λ (x : ℕ). Takes c e x t m n []) same reads in
+    ((before.0 ++ take k b) ++ [], takes_on a c e r s t l m n (before.0 ++ take k b) [] cut more)
+
+pub drops_all : (a e : List ℕ) (r t : ℕ) (l n : Option (List ℕ)) → (dropped : List ℕ) × Takes a e r t l n dropped → (dropped : List ℕ) × Takes a [] r t l n dropped
+drops_all a e r t l n it = (it.0 ++ e, takes_all a e r t l n it.0 it.1)
+
+-- ---- answers that are results
+
+pub on_err : {T E P : Type 0} (r : Result T E) → P → OnErr r P
+on_err (Ok x) p = tt
+on_err (Err e) p = p
+
+pub on_ok_both : {T E P Q S : Type 0} (r : Result T E) → OnOk r P → OnOk r Q → (P → Q → S) → OnOk r S
+on_ok_both (Ok x) p q f = f p q
+on_ok_both (Err e) p q f = tt
+
+pub if_err_weaker : {T E : Type 0} (r : Result T E) (P Q : E → Type 0) → IfErr r P → ((e : E) → P e → Q e) → IfErr r Q
+if_err_weaker (Ok x) P Q p f = tt
+if_err_weaker (Err e) P Q p f = f e p

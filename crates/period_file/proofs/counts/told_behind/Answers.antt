@@ -17,7 +17,7 @@ as_number : (number : List ℕ) (r : Option ℕ) → is_whole_part number ≡ tr
     → MatchOption r (IsTrue (is_whole_part number) → 4_294_967_297 < number_of number) (λ k. IsTrue (is_whole_part number) × (k ≡ number_of number) × (k ≤ 4_294_967_297))
     → MatchOption r (4_294_967_297 < number_of number) (λ k. (k ≡ number_of number) × (k ≤ 4_294_967_297))
 as_number number None whole many = many whole
-as_number number (Some k) whole few = few.1
+as_number number (Some k) whole few = (few.1, few.2)
 
 told : (words line front number : List ℕ) → front ≡ take (length words) line → number ≡ drop (length words) line → is_same front words ≡ true → is_whole_part number ≡ true
     → told_behind words line ≡ Some (number_of number)
