@@ -386,8 +386,12 @@ ends source sink telling args command (Err fault) status reader reader' writer w
       refused = λ is. let one = sym same ∙ is in (command, fault, asked, one, (leaves.refused one).0, (leaves.refused one).1, ending.1);
       not_asked = λ is. absurd (leaves.understood (sym same ∙ is));
       untouched = λ is. absurd (leaves.understood (sym same ∙ is));
-      device = λ is. (command, asked, tells_device told (IsUnwritten sink args known writer writer') (ending_line fault) (source.failed_calls reader) (source.failed_calls reader') (sink.failed_calls writer) (sink.failed_calls writer')
-          (device_of (IsKept sink command known writer writer') (IsUnwritten sink args known writer writer') (ending_line fault) _ _ _ _ kept (leaves.device (sym same ∙ is))) ending.1);
+      device = λ is. (
+        command,
+        asked,
+        tells_device told (IsUnwritten sink args known writer writer') (ending_line fault) (source.failed_calls reader) (source.failed_calls reader') (sink.failed_calls writer) (sink.failed_calls writer')
+            (device_of (IsKept sink command known writer writer') (IsUnwritten sink args known writer writer') (ending_line fault) _ _ _ _ kept (leaves.device (sym same ∙ is))) ending.1,
+      );
       calm = λ other. leaves.calm (λ is. other (same ∙ is));
       memory = λ is. tells_memory told fault (sym same ∙ is) ending.1;
       part = λ is. part_of (IsKept sink command known writer writer') _ _ (AsksFor args) command asked kept (leaves.part (sym same ∙ is));

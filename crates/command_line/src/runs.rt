@@ -171,11 +171,12 @@ pub fn run_alone<R: Source, W: Sink, E: Sink>(
 /// Does what the arguments ask for, of which the first is the program's name, and answers the status
 /// to end with.
 ///
-/// 0 says that it was done; 1 that the input is refused, or that a run in threads came to a mismatch;
-/// 2 that the words ask for nothing, or are no text; 3 that a read or a write failed; 4 that memory
-/// was wanting. In each case but 0 a line tells of it on `errors`, as far as that takes it. At most
-/// 16,777,217 bytes are read, and none at 2 or by `threads`. What is no group in threads is done by
-/// [`run_alone`], which no thread can keep from returning.
+/// 0 says that it was done; 1 that the input is refused, that it has no whole file of the period, or
+/// that a run in threads came to a mismatch; 2 that the words ask for nothing, or are no text; 3 that a
+/// read or a write failed; 4 that memory was wanting. In each case but 0 a line tells of it on
+/// `errors`, as far as that takes it. At most 16,777,217 bytes are read, by `file` at most
+/// 4,294,967,297, and none at 2 or by `threads`. What is no group in threads is done by [`run_alone`],
+/// which no thread can keep from returning.
 pub fn run<T: Threads + Wait + Sync, R: Source, W: Sink, E: Sink>(
     rt: &T,
     alloc: Global,
