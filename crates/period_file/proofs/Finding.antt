@@ -25,8 +25,8 @@ passes_read period a b c r s t l m n it reads = record {
 }
 
 pub none_of : (told : Option ℕ) → is_some told ≡ false → told ≡ None
-none_of None no = refl
-none_of (Some n) no = absurd (cc)
+none_of None untrue = refl
+none_of (Some n) untrue = absurd (cc)
 
 module _ (period : ℕ) (a b : List ℕ) (r s : ℕ) (l m : Option (List ℕ)) (it : Passes period a b r s l m) (at : ℕ) (here : IsLineAt b at) (words text : List ℕ) (same_words : words ≡ words_above period) (is_line : text ≡ take at b)
     (c : List ℕ) (is_rest : c ≡ drop (at + 1) b) where

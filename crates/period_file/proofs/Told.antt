@@ -134,8 +134,12 @@ module _ (period count : ℕ) (known mid : Option (List ℕ)) (ahead : List ℕ)
         let whole : it.input ≡ all = all_of known last all it end in
         let fits : length it.input ≤ 4_294_967_296 =
         let one = ap length whole in let two = all_counted left rest read' (lines_text copies.lines) copies.takes in let sum = length-append copied came in omega (arith, one, two, sum, counted, short) in
-        let enough : length copies.lines ≡ count = let sum = copies.counted in omega (arith, sum, none) in
-        (it.input, lines_text copies.lines, record {
-          is_input = it.is_input;
-          is_file = whole_seen period count known mid left ahead read read' found copies.lines rest came it.input copies.whole enough fits (whole ∙ ap (λ t. t ++ came) copied_seen);
-        }, copies.appended)
+        let enough : length copies.lines ≡ count = let sum = copies.counted in omega (arith, sum, none) in (
+          it.input,
+          lines_text copies.lines,
+          record {
+            is_input = it.is_input;
+            is_file = whole_seen period count known mid left ahead read read' found copies.lines rest came it.input copies.whole enough fits (whole ∙ ap (λ t. t ++ came) copied_seen);
+          },
+          copies.appended,
+        )

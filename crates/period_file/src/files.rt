@@ -26,13 +26,13 @@ fn find_line_above<S: Source>(
     requires { unread.old.read ≤ 4_294_967_296 }
     ensures found { (count : ℕ) → result ≡ Ok (Some count)
         → Finds period count unread.old.bytes unread.new.bytes unread.old.read unread.new.read
-            (S.remaining source.old) (S.remaining source.new) }
+        (S.remaining source.old) (S.remaining source.new) }
     ensures none { result ≡ Ok None
         → Passes period unread.old.bytes unread.new.bytes unread.old.read unread.new.read
-            (S.remaining source.old) (S.remaining source.new)
-            × IsEnded unread.new.bytes (S.remaining source.new) }
+        (S.remaining source.old) (S.remaining source.new)
+        × IsEnded unread.new.bytes (S.remaining source.new) }
     ensures takes { (taken : List ℕ) × Takes unread.old.bytes unread.new.bytes unread.old.read unread.new.read
-            (S.remaining source.old) (S.remaining source.new) taken }
+        (S.remaining source.old) (S.remaining source.new) taken }
     ensures within { IfOk result (λ found. unread.new.read ≤ 4_294_967_296) }
     ensures most { unread.new.read ≤ 4_294_967_297 }
     ensures reading { IfErr result (λ fault. IsOfReading fault × IsBeyond fault unread.new.read) }
@@ -82,11 +82,11 @@ fn copy_lines<S: Source, W: Sink>(
 ) -> Result<u64, FileFault>
     requires { unread.old.read ≤ 4_294_967_296 }
     ensures copied { IfOk result (λ lacking. Copies count lacking unread.old.bytes unread.new.bytes
-            unread.old.read unread.new.read (S.remaining source.old) (S.remaining source.new)
-            (W.contents writer.old) (W.contents writer.new)) }
+        unread.old.read unread.new.read (S.remaining source.old) (S.remaining source.new)
+        (W.contents writer.old) (W.contents writer.new)) }
     ensures ended { IfOk result (λ lacking. 0 < lacking → IsEnded unread.new.bytes (S.remaining source.new)) }
     ensures stopped { OnErr result (Stops count unread.old.bytes unread.old.read unread.new.read
-            (S.remaining source.old) (S.remaining source.new) (W.contents writer.old) (W.contents writer.new)) }
+        (S.remaining source.old) (S.remaining source.new) (W.contents writer.old) (W.contents writer.new)) }
     ensures within { IfOk result (λ lacking. unread.new.read ≤ 4_294_967_296) }
     ensures most { unread.new.read ≤ 4_294_967_297 }
     ensures copying { IfErr result (λ fault. IsOfCopying fault × IsBeyond fault unread.new.read) }
@@ -110,7 +110,7 @@ fn copy_lines<S: Source, W: Sink>(
 fn drop_rest<S: Source>(unread: &mut Unread, source: &mut S) -> Result<(), FileFault>
     requires { unread.old.read ≤ 4_294_967_296 }
     ensures taken { (dropped : List ℕ) × Takes unread.old.bytes [] unread.old.read unread.new.read
-            (S.remaining source.old) (S.remaining source.new) dropped }
+        (S.remaining source.old) (S.remaining source.new) dropped }
     ensures end { OnOk result (IsAtEnd (S.remaining source.new)) }
     ensures within { OnOk result (unread.new.read ≤ 4_294_967_296) }
     ensures most { unread.new.read ≤ 4_294_967_297 }

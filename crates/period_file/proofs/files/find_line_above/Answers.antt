@@ -49,5 +49,5 @@ returns-then-is_some-clause-takes g c =
     let passes = passes_read c.args.period _ _ _ _ _ _ _ _ _ c.loop-end.invariant.passed c.line_end.ensures.takes in (
       lines_text passes.lines ++ line (take c.in-Some.end c.line_end.new.unread.bytes),
       rw c.take.ensures.read
-      (taken c.args.period _ _ _ _ _ _ passes c.in-Some.end here _ _ (c.as_slice.ensures ∙ c.words_above-words.ensures) (ap (take c.in-Some.end) c.ahead.ensures) _ c.take.ensures.bytes),
+          (taken c.args.period _ _ _ _ _ _ passes c.in-Some.end here _ _ (c.as_slice.ensures ∙ c.words_above-words.ensures) (ap (take c.in-Some.end) c.ahead.ensures) _ c.take.ensures.bytes),
     )
