@@ -1,12 +1,10 @@
 //! The line above a file, and the number of lines that it tells.
 
 ghost use Rattle.std.specs.Prelude.{◌≡◌};
-ghost use Rattle.std.specs.List.{list_all};
-ghost use Rattle.metering_model.specs.NumberText.{is_digit, is_whole_part};
 ghost use Rattle.transcript_laws.specs.FirstFiles.{told_behind, words_above};
 ghost use Rattle.period_file.specs.Inner.Reading.{IsTold};
 
-use byte_text::{Line, is_same, whole_up_to};
+use byte_text::{Line, is_same, is_whole_part, whole_up_to};
 use period_cut::Period;
 
 /// More lines than any input has: a greater number is told as this one.
@@ -23,27 +21,6 @@ pub(crate) fn words_above(period: Period) -> Line
     words
 }
 
-/// Whether the text is digits alone.
-fn are_digits(text: &[u8]) -> bool
-    ensures { result ≡ list_all is_digit text.now }
-{
-    text.iter().all(|c| *c >= b'0' && *c <= b'9')
-}
-
-/// Whether the text is a whole number without sign and leading zero.
-fn is_whole(text: &[u8]) -> bool
-    ensures { result ≡ is_whole_part text.now }
-{
-    match text {
-        [] => false,
-        [digit] => *digit >= b'0' && *digit <= b'9',
-        [first, rest @ ..] => *first >= b'0'
-            && *first <= b'9'
-            && *first != b'0'
-            && are_digits(rest),
-    }
-}
-
 /// The number that a line tells behind these words, where it begins with them and a number is all that follows.
 pub(crate) fn told_behind(words: &[u8], line: &[u8]) -> Option<u64>
     ensures { IsTold result (told_behind words.now line.now) }
@@ -52,7 +29,7 @@ pub(crate) fn told_behind(words: &[u8], line: &[u8]) -> Option<u64>
         return None;
     }
     let (front, number) = line.split_at(words.len());
-    if is_same(front, words) && is_whole(number) {
+    if is_same(front, words) && is_whole_part(number) {
         Some(whole_up_to(number, TOO_MANY).unwrap_or(TOO_MANY))
     } else {
         None

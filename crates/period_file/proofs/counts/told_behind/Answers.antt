@@ -25,11 +25,11 @@ told words line front number is_front is_number same whole =
     let joined : line ≡ words ++ number = sym (take-append-drop (length words) line) ∙ ap₂ ◌++◌ (sym is_front ∙ same_read front words same) (sym is_number) in
     ap (told_behind words) joined ∙ parts_told words number whole
 
-pub returns-then-is_whole : goal.returns-then-is_whole
-returns-then-is_whole c =
+pub returns-then-is_whole_part : goal.returns-then-is_whole_part
+returns-then-is_whole_part c =
     let number = c.split_at.result.1.now in
     let same : is_same c.split_at.result.0.now c.args.words.now ≡ true = sym c.is_same.ensures ∙ c.if-is_same.true in
-    let whole : is_whole_part c.split_at.result.1.now ≡ true = sym c.is_whole.ensures ∙ c.if-is_whole.true in (
+    let whole : is_whole_part c.split_at.result.1.now ≡ true = sym c.is_whole_part.ensures ∙ c.if-is_whole_part.true in (
       number_of number,
       told c.args.words.now c.args.line.now c.split_at.result.0.now number c.split_at.ensures.front c.split_at.ensures.back same whole,
       counted (number_of number) c.unwrap_or.result c.whole_up_to.result (as_number number c.whole_up_to.result whole c.whole_up_to.ensures) c.unwrap_or.ensures,
