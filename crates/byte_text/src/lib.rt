@@ -11,4 +11,4 @@ pub use finding::{find_byte, is_same, line_count};
 pub use lines::Line;
 pub use numbers::{put_if_any, put_number, put_numbered, put_two_digits};
 pub use refusals::{code_word, refusal_line};
-pub use wholes::{read_whole, whole_up_to};
+pub use wholes::{is_whole_part, read_whole, whole_up_to};

@@ -1,5 +1,5 @@
 -- Texts of which the headline's statements are false: so these statements refuse something, and the law's premises are needed.
-use Rattle.std.proofs.Common.{◌≡◌, ℕ, zero, suc, List, [], ◌∷◌, ◌++◌, length, map, take, drop, refl, sym, ap, subst, ◌∙◌, arith, Some, codes, pos}
+use Rattle.std.proofs.Common.{◌≡◌, ℕ, zero, suc, List, [], ◌∷◌, ◌++◌, length, map, take, drop, refl, sym, ap, subst, ◌∙◌, arith, Some, codes, pos, append-nil}
 use Rattle.std.specs.Prelude.{slice_get}
 use Rattle.std.specs.Fmt.{digits}
 use Rattle.std.specs.List.{Contains}
@@ -19,10 +19,13 @@ use Rattle.metering_model.specs.Transcript.{file_of, transcript}
 use Rattle.metering_model.specs.Schedule.{TextLines, lines_text, event_of}
 use Rattle.metering_model.proofs.Samples.{cpu, sheet_1, issuer_1, reading_1, row_1}
 use Rattle.metering_model.proofs.WorkedPeriods.{correction}
+use Rattle.metering_model.proofs.WorkedSheets.{sheet_1_is_a_sheet, issuer_1_is_an_issuer}
 use Rattle.row_laws.specs.Charged.{charges_up_to}
 use Rattle.row_laws.specs.Columns.{sum_of_first_column}
 use Rattle.transcript_laws.specs.Csv.{new_lines}
 use Rattle.transcript_laws.specs.Shown.{Shows, HoldsOfBytes}
+use Rattle.transcript_laws.specs.FirstFiles.{WholeFile, first_file}
+use Rattle.transcript_laws.proofs.CutOut.{cut_out_whole}
 
 -- ---- the statements by themselves, of a text, a holding and cuts that may be made up
 
@@ -171,6 +174,48 @@ no_file_without_a_cut files = let it = files 0 (lines_text january) one_file_is_
 -- a file is shown, and no export was answered
 no_file_without_an_export : AreExported one_file [] → ⊥
 no_file_without_an_export exported = let it = exported 0 (lines_text january) one_file_is_shown in let within = it.1.1 in omega (arith, within)
+
+-- ---- what is cut out of such texts
+
+abbrev IsCutOut : List ℕ → Holding → List Cut → Type 0
+IsCutOut text journals cuts = (front rest : List ℕ) → text ≡ front ++ rest → (period : ℕ) (shown : List ℕ) → first_file period front ≡ WholeFile shown →
+    (to : Cut) × (slice_get cuts period ≡ Some to) × (shown ≡ file (rows sheet_1 issuer_1 journals period (cut_before 1 cuts period) to))
+
+-- of the headline's texts it is so
+is_cut_out_of_the_headline : (events : List Event) (text : List ℕ) (h : HoldsOfBytes 1 0 1 sheet_1 issuer_1 events text) → IsCutOut text h.world.journals h.cuts
+is_cut_out_of_the_headline events text h front rest e period shown first =
+    (cut_out_whole 1 0 1 sheet_1 issuer_1 events text sheet_1_is_a_sheet issuer_1_is_an_issuer h front rest e period shown first).1
+
+nothing_behind : (text : List ℕ) → text ≡ text ++ []
+nothing_behind text = sym (append-nil text)
+
+januarys_file_is_cut_out : first_file 1 (two_files january january) ≡ WholeFile (lines_text january)
+unfolding digits
+januarys_file_is_cut_out = refl
+
+januarys_file_is_no_cut_of_februarys : IsCutOut (two_files january january) corrected_journals two_cuts → ⊥
+unfolding days_from_civil day_count days_of_years days_of_months worth_of decimals_of digits
+januarys_file_is_no_cut_of_februarys files =
+    let it = files (two_files january january) [] (nothing_behind (two_files january january)) 1 (lines_text january) januarys_file_is_cut_out in
+    let same = it.2 ∙ ap (λ to. file (rows sheet_1 issuer_1 corrected_journals 1 (1 ∷ []) to)) (sym (same_Some (2 ∷ []) it.0 it.1)) in
+    let billed : pos 120_000_000_000 ≡ pos 40_000_000_000 = same_Some _ _ (ap (λ t. sum_of_first_column (t ∷ [])) same) in
+    omega (arith, ints)
+
+-- the line above says one line too few: the header line alone is cut out
+abbrev too_few : List ℕ
+too_few = lines_text (codes "exported period 0 lines 1" ∷ january)
+
+the_header_line_is_cut_out : first_file 0 too_few ≡ WholeFile (lines_text (header_line ∷ []))
+unfolding digits
+the_header_line_is_cut_out = refl
+
+one_line_too_few : IsCutOut too_few corrected_journals two_cuts → ⊥
+unfolding days_from_civil day_count days_of_years days_of_months worth_of decimals_of digits
+one_line_too_few files =
+    let it = files too_few [] (nothing_behind too_few) 0 (lines_text (header_line ∷ [])) the_header_line_is_cut_out in
+    let same = it.2 ∙ ap (λ to. file (rows sheet_1 issuer_1 corrected_journals 0 (0 ∷ []) to)) (sym (same_Some (1 ∷ []) it.0 it.1)) in
+    let billed : pos 0 ≡ pos 120_000_000_000 = same_Some _ _ (ap (λ t. sum_of_first_column (t ∷ [])) same) in
+    omega (arith, ints)
 
 -- ---- a correction that charges the whole again, and one that does not say that it is one
 

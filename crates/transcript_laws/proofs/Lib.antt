@@ -10,5 +10,8 @@ pub mod ShownTotals
 pub mod InTime
 pub mod EveryTranscript
 pub mod LongerTranscripts
+pub mod FirstFileLaws
+pub mod CutOut
 mod WorkedTranscripts
 mod FalseTranscripts
+mod WorkedFiles

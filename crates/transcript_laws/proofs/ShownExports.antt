@@ -96,7 +96,7 @@ behind_is_plain Restarted replies h = refl
 behind_is_plain (Exported s) replies h = (first_shown s replies h).plain
 behind_is_plain (Refused refusal) replies h = refl
 
-export_of_line : (replies : List Reply) → AreFilesShown replies → (before after : TextLines) (x : List ℕ) → begins_with_e x ≡ true →
+pub export_of_line : (replies : List Reply) → AreFilesShown replies → (before after : TextLines) (x : List ℕ) → begins_with_e x ≡ true →
     transcript_lines replies ≡ before ++ x ∷ after → IsOfExport replies x after
 export_of_line [] h before after x is e = absurd (none_is_some before after x e)
 export_of_line (r ∷ replies) h [] after x is e = first_line r replies x after is e
