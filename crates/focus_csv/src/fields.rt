@@ -1,8 +1,9 @@
 //! Fields of a line, as a reader of CSV takes them back.
 
-ghost use Rattle.std.specs.Prelude.{◌≡◌, ◌||◌, ◌==◌, ◌∷◌, ◌++◌, map, OnOk, OnErr, IsTrue};
-ghost use Rattle.std.specs.List.{flat_map, list_any};
+ghost use Rattle.std.specs.Prelude.{◌≡◌, ◌||◌, ◌==◌, [], ◌∷◌, ◌++◌, map, OnOk, OnErr, IsTrue};
+ghost use Rattle.std.specs.List.{flat_map, list_all, list_any};
 ghost use Rattle.metering_model.specs.File.{quoted};
+ghost use Rattle.batch_view.specs.Kept.{is_plain_byte};
 ghost use Rattle.focus_csv.specs.Inner.Beginnings.{BeginsWith};
 ghost use Rattle.focus_csv.specs.Inner.Runs.{behind};
 
@@ -74,6 +75,31 @@ pub(crate) fn set_piece(
         return Ok(());
     }
     make_piece(odd, piece, fields)
+}
+
+/// Makes a piece that of a field that a batch lends, which is copied where it is known to be plain. A piece that is held is
+/// of the field before, and stays where this one is the same.
+pub(crate) fn set_lent(
+    odd: &mut OddFields,
+    piece: &mut Vec<u8>,
+    is_held: bool,
+    is_plain: bool,
+    before: &[u8],
+    field: &[u8],
+) -> Result<(), AllocError>
+    requires held { IsTrue is_held → piece.old.items ≡ behind (before.now ∷ []) }
+    requires plain { IsTrue is_plain → IsTrue (list_all is_plain_byte field.now) }
+    ensures { OnOk result (piece.new.items ≡ behind (field.now ∷ [])) }
+{
+    if is_held && before == field {
+        return Ok(());
+    }
+    piece.clear();
+    if !is_plain {
+        return put_next(odd, piece, field);
+    }
+    piece.push(b',')?;
+    piece.extend_from_slice(field)
 }
 
 /// Appends pieces, one behind the other. At want of memory the text is as before, or has some of them behind it.

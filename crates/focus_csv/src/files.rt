@@ -22,6 +22,7 @@ use std::alloc::{AllocError, Global};
 fn put_next(
     alloc: Global,
     left: &mut RowsBetween<'_>,
+    marks: &mut Vec<bool>,
     pieces: &mut LinePieces,
     text: &mut Vec<u8>,
 ) -> Result<bool, AllocError>
@@ -32,13 +33,13 @@ fn put_next(
         → (flat_map row_text left.old ≡ []) × (flat_map row_text left.new ≡ [])) }
     ensures begins { OnErr result (BeginsWith text.new.items text.old.items) }
 {
-    let Ok(next) = left.next_batch(alloc) else {
+    let Ok(next) = left.next_batch(alloc, marks) else {
         return Err(AllocError);
     };
     let Some(rows) = next else {
         return Ok(false);
     };
-    put_lines(pieces, &rows, text)?;
+    put_lines(pieces, &rows, marks, text)?;
     Ok(true)
 }
 
@@ -49,8 +50,9 @@ fn put_left(alloc: Global, left: &mut RowsBetween<'_>, text: &mut Vec<u8>) -> Re
     ensures begins { OnErr result (BeginsWith text.new.items text.old.items) }
 {
     let mut pieces = LinePieces::new(alloc);
+    let mut marks = Vec::new(alloc);
     loop {
-        let is_more = put_next(alloc, left, &mut pieces, text)?;
+        let is_more = put_next(alloc, left, &mut marks, &mut pieces, text)?;
         if !is_more {
             return Ok(());
         }
@@ -99,6 +101,7 @@ pub fn write_rows<W: Sink>(
 {
     let mut left = left;
     let mut pieces = LinePieces::new(alloc);
+    let mut marks = Vec::new(alloc);
     let mut text = Vec::new(alloc);
     if text.extend_from_slice(header_text()).is_err() {
         return Err(CsvFault::OutOfMemory);
@@ -108,7 +111,7 @@ pub fn write_rows<W: Sink>(
             return Err(fault);
         }
         text.clear();
-        let Ok(is_more) = put_next(alloc, &mut left, &mut pieces, &mut text) else {
+        let Ok(is_more) = put_next(alloc, &mut left, &mut marks, &mut pieces, &mut text) else {
             return Err(CsvFault::OutOfMemory);
         };
         if !is_more {

@@ -1,8 +1,9 @@
 //! The lines of the file.
 
-ghost use Rattle.std.specs.Prelude.{◌≡◌, ◌≢◌, ◌<◌, ◌++◌, ◌∷◌, [], length, map, slice_index_or, IfOk, IfErr, OnOk, OnErr};
+ghost use Rattle.std.specs.Prelude.{◌≡◌, ◌≢◌, ◌<◌, ◌++◌, ◌∷◌, [], length, map, slice_get, slice_index_or, Some, true, IsTrue, IfOk, IfErr, OnOk, OnErr};
 ghost use Rattle.std.specs.List.{flat_map};
 ghost use Rattle.metering_model.specs.File.{file, header_line, row_text};
+ghost use Rattle.focus_row.specs.Marks.{AreMarked};
 ghost use Rattle.focus_row.specs.Rows.{model_row};
 ghost use Rattle.focus_csv.specs.Inner.Beginnings.{BeginsWith};
 
@@ -19,13 +20,25 @@ fn row_at<'a, 'b>(rows: &'a [FocusRow<'b>], i: usize) -> &'a FocusRow<'b>
     &rows[i]
 }
 
-/// Appends the lines of the rows, in order. The pieces of a line are held for the next one. At want of memory the text
-/// is as before, or has some of the lines behind it.
+/// The mark at a place, where there is one.
+fn mark_at(marks: &[bool], i: usize) -> bool
+    ensures { IsTrue result → slice_get marks.now i ≡ Some true }
+{
+    match marks.get(i) {
+        Some(mark) => *mark,
+        None => false,
+    }
+}
+
+/// Appends the lines of the rows, in order. The pieces of a line are held for the next one. A row without a mark is one of
+/// which nothing is known. At want of memory the text is as before, or has some of the lines behind it.
 pub(crate) fn put_lines(
     pieces: &mut LinePieces,
     rows: &[FocusRow<'_>],
+    marks: &[bool],
     text: &mut Vec<u8>,
 ) -> Result<(), AllocError>
+    requires { AreMarked marks.now (map model_row rows.now) }
     ensures put { OnOk result (text.new.items ≡ text.old.items ++ flat_map row_text (map model_row rows.now)) }
     ensures begins { OnErr result (BeginsWith text.new.items text.old.items) }
 {
@@ -36,7 +49,7 @@ pub(crate) fn put_lines(
     let mut before = row_at(rows, 0);
     for i in 0..rows.len() {
         let row = row_at(rows, i);
-        pieces.set(before, row)?;
+        pieces.set(before, row, mark_at(marks, i))?;
         pieces.put(text)?;
         before = row;
     }
@@ -44,12 +57,18 @@ pub(crate) fn put_lines(
 }
 
 /// A head, and behind it the lines of the rows, in order.
-fn lines_behind(alloc: Global, head: &[u8], rows: &[FocusRow<'_>]) -> Result<Vec<u8>, AllocError>
+fn lines_behind(
+    alloc: Global,
+    head: &[u8],
+    rows: &[FocusRow<'_>],
+    marks: &[bool],
+) -> Result<Vec<u8>, AllocError>
+    requires { AreMarked marks.now (map model_row rows.now) }
     ensures { IfOk result (λ v. v.items ≡ head.now ++ flat_map row_text (map model_row rows.now)) }
 {
     let mut text = Vec::new(alloc);
     text.extend_from_slice(head)?;
-    put_lines(&mut LinePieces::new(alloc), rows, &mut text)?;
+    put_lines(&mut LinePieces::new(alloc), rows, marks, &mut text)?;
     Ok(text)
 }
 
@@ -75,7 +94,20 @@ pub fn row_texts(alloc: Global, rows: &[FocusRow<'_>]) -> Result<Vec<u8>, CsvFau
     ensures text { IfOk result (λ v. v.items ≡ flat_map row_text (map model_row rows.now)) }
     ensures fault { IfErr result (λ fault. fault ≢ CsvFault.Write) }
 {
-    match lines_behind(alloc, &[], rows) {
+    marked_texts(alloc, rows, &[])
+}
+
+/// The same of rows that come with marks. Where a mark is set no text that its batch lends is asked.
+pub fn marked_texts(
+    alloc: Global,
+    rows: &[FocusRow<'_>],
+    marks: &[bool],
+) -> Result<Vec<u8>, CsvFault>
+    requires { AreMarked marks.now (map model_row rows.now) }
+    ensures text { IfOk result (λ v. v.items ≡ flat_map row_text (map model_row rows.now)) }
+    ensures fault { IfErr result (λ fault. fault ≢ CsvFault.Write) }
+{
+    match lines_behind(alloc, &[], rows, marks) {
         Ok(text) => Ok(text),
         Err(_) => Err(CsvFault::OutOfMemory),
     }
@@ -85,5 +117,5 @@ pub fn row_texts(alloc: Global, rows: &[FocusRow<'_>]) -> Result<Vec<u8>, CsvFau
 pub(crate) fn file_bytes(alloc: Global, rows: &[FocusRow<'_>]) -> Result<Vec<u8>, AllocError>
     ensures { IfOk result (λ v. v.items ≡ file (map model_row rows.now)) }
 {
-    lines_behind(alloc, header_text(), rows)
+    lines_behind(alloc, header_text(), rows, &[])
 }

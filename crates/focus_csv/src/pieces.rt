@@ -6,6 +6,7 @@ ghost use Rattle.metering_model.specs.NumberText.{spelling};
 ghost use Rattle.metering_model.specs.Row.{Row};
 ghost use Rattle.metering_model.specs.File.{json_object, quoted, row_text};
 ghost use Rattle.focus_row.specs.Rows.{model_row};
+ghost use Rattle.focus_row.specs.Marks.{HasPlainTexts};
 ghost use Rattle.focus_csv.specs.Inner.Beginnings.{BeginsWith};
 ghost use Rattle.focus_csv.specs.Inner.Pieces.{AreOf, line_bytes};
 ghost use Rattle.focus_csv.specs.Inner.Runs.{behind, line_runs};
@@ -61,35 +62,39 @@ impl LinePieces {
     }
 
     /// Makes the piece of the tags.
-    fn set_tags(&mut self, row: &FocusRow<'_>) -> Result<(), AllocError>
+    fn set_tags(&mut self, row: &FocusRow<'_>, is_plain: bool) -> Result<(), AllocError>
+        requires { IsTrue is_plain → HasPlainTexts (model_row row.now) }
         ensures tags { OnOk result (self.new.tags.items ≡ behind (json_object (model_row row.now).tags ∷ [])) }
         ensures numbers { self.new.numbers ≡ self.old.numbers }
         ensures texts { self.new.texts ≡ self.old.texts }
         ensures held { self.new.are_held ≡ self.old.are_held }
     {
-        if set_plain_tags(&mut self.tags, row.tags)? {
+        if set_plain_tags(&mut self.tags, row.tags, is_plain)? {
             return Ok(());
         }
         set_json(self.alloc, &mut self.json, row.tags)?;
         make_piece(&mut self.odd, &mut self.tags, &[self.json.as_slice()])
     }
 
-    /// Makes the pieces those of a row, and only those again that differ from the row before, if they are held from it.
-    /// At want of memory they are forgotten.
+    /// Makes the pieces those of a row, and only those again that differ from the row before, if they are held from it. Of a
+    /// row that is known to have plain texts none that its batch lends is asked. At want of memory they are forgotten.
     pub(crate) fn set(
         &mut self,
         before: &FocusRow<'_>,
         row: &FocusRow<'_>,
+        is_plain: bool,
     ) -> Result<(), AllocError>
-        requires { IsTrue self.old.are_held → AreOf self.old (model_row before.now) }
+        requires held { IsTrue self.old.are_held → AreOf self.old (model_row before.now) }
+        requires plain { IsTrue is_plain → HasPlainTexts (model_row row.now) }
         ensures of { OnOk result (AreOf self.new (model_row row.now)) }
         ensures forgotten { OnErr result (self.new.are_held ≡ false) }
     {
         let are_held = self.are_held;
         self.are_held = false;
         self.numbers.set(are_held, before, row)?;
-        self.texts.set(&mut self.odd, are_held, before, row)?;
-        self.set_tags(row)?;
+        self.texts
+            .set(&mut self.odd, are_held, before, row, is_plain)?;
+        self.set_tags(row, is_plain)?;
         self.are_held = true;
         Ok(())
     }

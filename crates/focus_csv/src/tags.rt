@@ -1,8 +1,10 @@
 //! Tags as the field of a JSON object. Plain ones are copied, and odd strings are written by `serde_json`.
 
-ghost use Rattle.std.specs.Prelude.{◌≡◌, ◌∷◌, [], ◌++◌, map, false, IfOk, IsTrue, List, ℕ, OnOk};
+ghost use Rattle.std.specs.Prelude.{◌≡◌, ◌&&◌, ◌×◌, ◌∷◌, [], ◌++◌, map, false, IfOk, IsTrue, List, ℕ, OnOk};
+ghost use Rattle.std.specs.List.{list_all};
 ghost use Rattle.metering_model.specs.Batch.{is_text};
 ghost use Rattle.metering_model.specs.File.{json_member, json_object, json_string};
+ghost use Rattle.batch_view.specs.Kept.{is_plain_byte};
 ghost use Rattle.batch_view.specs.Lent.{lent_tags};
 ghost use Rattle.batch_view.specs.TagTexts.{tag_of};
 ghost use Rattle.focus_csv.specs.Inner.Runs.{behind};
@@ -42,8 +44,26 @@ fn put_plain_tag(
     Ok(())
 }
 
+/// Whether a tag is plain. Where that is known it isn't asked.
+#[inline(always)]
+fn is_plain_tag(is_plain: bool, key: &[u8], value: &[u8]) -> bool
+    requires { IsTrue is_plain → IsTrue (list_all is_plain_byte key.now && list_all is_plain_byte value.now) }
+    ensures { IsTrue result → (is_odd key.now ≡ false) × (is_odd value.now ≡ false) }
+{
+    if is_plain {
+        return true;
+    }
+    !is_odd(key) && !is_odd(value)
+}
+
 /// Makes a piece that of tags, if all of them are plain, and tells whether they are.
-pub(crate) fn set_plain_tags(piece: &mut Vec<u8>, tags: Tags<'_>) -> Result<bool, AllocError>
+pub(crate) fn set_plain_tags(
+    piece: &mut Vec<u8>,
+    tags: Tags<'_>,
+    is_plain: bool,
+) -> Result<bool, AllocError>
+    requires { IsTrue is_plain → IsTrue (list_all (λ t. list_all is_plain_byte t.key && list_all is_plain_byte t.value)
+        (map tag_of (lent_tags tags.entry))) }
     ensures { IfOk result (λ is_made. IsTrue is_made
         → piece.new.items ≡ behind (json_object (map tag_of (lent_tags tags.entry)) ∷ [])) }
 {
@@ -53,12 +73,12 @@ pub(crate) fn set_plain_tags(piece: &mut Vec<u8>, tags: Tags<'_>) -> Result<bool
         piece.extend_from_slice(b",{}")?;
         return Ok(true);
     };
-    if is_odd(key.text) || is_odd(value.text) {
+    if !is_plain_tag(is_plain, key.text, value.text) {
         return Ok(false);
     }
     put_plain_tag(piece, b",\"{\"\"", key.text, value.text)?;
     for (key, value) in left {
-        if is_odd(key.text) || is_odd(value.text) {
+        if !is_plain_tag(is_plain, key.text, value.text) {
             return Ok(false);
         }
         put_plain_tag(piece, b",\"\"", key.text, value.text)?;

@@ -4,10 +4,11 @@ ghost use Rattle.std.specs.Prelude.{◌≡◌, [], map, IsTrue, OnOk};
 ghost use Rattle.std.specs.Option.{option_copied};
 ghost use Rattle.metering_model.specs.File.{text_or_null};
 ghost use Rattle.focus_row.specs.Rows.{model_row};
-ghost use Rattle.focus_csv.specs.Inner.Runs.{behind, head_columns, moment_columns, unit_columns, issuer_columns, category_columns, pricing_columns, resource_columns, service_columns, account_columns};
+ghost use Rattle.focus_row.specs.Marks.{HasPlainTexts};
+ghost use Rattle.focus_csv.specs.Inner.Runs.{behind, head_columns, moment_columns, unit_columns, issuer_columns, category_columns, pricing_columns, service_columns};
 ghost use Rattle.focus_csv.specs.Inner.Pieces.{AreTextsOf, text_bytes};
 
-use crate::fields::set_piece;
+use crate::fields::{set_lent, set_piece};
 use crate::odd::OddFields;
 use focus_row::FocusRow;
 use std::alloc::{AllocError, Global};
@@ -104,13 +105,6 @@ fn pricing<'a>(row: &'a FocusRow<'a>) -> [&'a [u8]; 3]
 }
 
 #[inline(always)]
-fn resource<'a>(row: &'a FocusRow<'a>) -> [&'a [u8]; 1]
-    ensures { map (λ f. f.now) result ≡ resource_columns (model_row row.now) }
-{
-    [text_or_null(row.resource_id)]
-}
-
-#[inline(always)]
 fn service<'a>(row: &'a FocusRow<'a>) -> [&'a [u8]; 4]
     ensures { map (λ f. f.now) result ≡ service_columns (model_row row.now) }
 {
@@ -120,13 +114,6 @@ fn service<'a>(row: &'a FocusRow<'a>) -> [&'a [u8]; 4]
         text_or_null(row.sku_id),
         text_or_null(row.sku_price_id),
     ]
-}
-
-#[inline(always)]
-fn account<'a>(row: &'a FocusRow<'a>) -> [&'a [u8]; 1]
-    ensures { map (λ f. f.now) result ≡ account_columns (model_row row.now) }
-{
-    [text_or_null(row.sub_account_id)]
 }
 
 impl TextPieces {
@@ -154,8 +141,10 @@ impl TextPieces {
         are_held: bool,
         before: &FocusRow<'_>,
         row: &FocusRow<'_>,
+        is_plain: bool,
     ) -> Result<(), AllocError>
-        requires { IsTrue are_held → AreTextsOf self.old (model_row before.now) }
+        requires held { IsTrue are_held → AreTextsOf self.old (model_row before.now) }
+        requires plain { IsTrue is_plain → HasPlainTexts (model_row row.now) }
         ensures { OnOk result (AreTextsOf self.new (model_row row.now)) }
     {
         set_piece(odd, &mut self.head, are_held, &head(before), &head(row))?;
@@ -188,12 +177,13 @@ impl TextPieces {
             &pricing(before),
             &pricing(row),
         )?;
-        set_piece(
+        set_lent(
             odd,
             &mut self.resource,
             are_held,
-            &resource(before),
-            &resource(row),
+            is_plain,
+            text_or_null(before.resource_id),
+            text_or_null(row.resource_id),
         )?;
         set_piece(
             odd,
@@ -202,12 +192,13 @@ impl TextPieces {
             &service(before),
             &service(row),
         )?;
-        set_piece(
+        set_lent(
             odd,
             &mut self.account,
             are_held,
-            &account(before),
-            &account(row),
+            is_plain,
+            text_or_null(before.sub_account_id),
+            text_or_null(row.sub_account_id),
         )
     }
 }

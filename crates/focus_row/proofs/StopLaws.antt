@@ -1,5 +1,5 @@
 -- The rows that are left from a place on: what may be passed over, and what a batch gives.
-use Rattle.std.proofs.Common.{◌≡◌, ℕ, zero, suc, ◌+◌, ◌<◌, ◌≤◌, ◌⊎◌, Bool, true, false, ◌&&◌, List, [], ◌∷◌, ◌++◌, length, map, filter, refl, sym, ap, subst, ◌∙◌, arith, Option, Some, None, inl, inr, cond, nat_lt, nat_le, pos, option_map, ℤ, get_or, drop}
+use Rattle.std.proofs.Common.{◌≡◌, ℕ, zero, suc, ◌+◌, ◌<◌, ◌≤◌, ◌⊎◌, Bool, true, false, ◌&&◌, List, [], ◌∷◌, ◌++◌, length, map, filter, refl, sym, ap, subst, ◌∙◌, arith, append_assoc, Option, Some, None, inl, inr, cond, nat_lt, nat_le, pos, option_map, ℤ, get_or, drop}
 use Rattle.std.specs.Prelude.{All, if◌then◌else◌, slice_get, ◌≤ℤ◌}
 use Rattle.std.specs.List.{filter_map, cons_option, Contains}
 use Rattle.std.specs.Option.{option_and_then}
@@ -21,8 +21,6 @@ use Rattle.metering_model.proofs.ValueBounds.{all_filter_map, value_not_negative
 use Rattle.batch_store.specs.Stores.{named_by, named_between, AreAmended}
 use Rattle.focus_row.specs.Inner.Left.{is_from, left, placed_from, record_at, Between, MayBeCharged, rows_in, rows_left}
 use Rattle.focus_row.specs.Inner.Places.{IsNextNamed, NoneNamed}
-use Rattle.charge_row.specs.declared.columns.FocusRow.{FocusRow}
-use Rattle.charge_row.specs.FocusRows.{model_row}
 use Rattle.journal_rules.proofs.LeftLaws.{IsInCut, in_cut, left_all, left_first, left_next, left_none}
 use Rattle.focus_row.proofs.BetweenLaws.{same_at_both}
 
@@ -229,21 +227,17 @@ first_left [] rest (suc i) x e = absurd (cc)
 first_left (y ∷ xs) rest zero x e = let same : y ≡ x = cc in (ap Some same, omega arith)
 first_left (y ∷ xs) rest (suc i) x e = let later = first_left xs rest i x e in (later.0, omega (arith, later.1))
 
-pushed : (xs : List FocusRow) (x : FocusRow) (ys : List Row) → map model_row (xs ++ x ∷ []) ++ ys ≡ map model_row xs ++ model_row x ∷ ys
-pushed [] x ys = refl
-pushed (y ∷ xs) x ys = ap (λ rs. model_row y ∷ rs) (pushed xs x ys)
-
 module _ (s : Between) (a q i : ℕ) (r : Record) (before after : List Record) (first : before ≡ r ∷ after) (all : List Row) where
   -- a record with a row, which is added
-  pub push_row : (xs ys : List FocusRow) (x : FocusRow) → ys ≡ xs ++ x ∷ []
-      → Some (model_row x) ≡ row_of s.sheet s.issuer s.batches s.period s.from s.to (record { agent = a; seq = q; index = i }) r
-      → map model_row xs ++ rows_in s (placed_from a q i before) ≡ all → map model_row ys ++ rows_in s (placed_from a q (i + 1) after) ≡ all
+  pub push_row : (xs ys : List Row) (x : Row) → ys ≡ xs ++ x ∷ []
+      → Some x ≡ row_of s.sheet s.issuer s.batches s.period s.from s.to (record { agent = a; seq = q; index = i }) r
+      → xs ++ rows_in s (placed_from a q i before) ≡ all → ys ++ rows_in s (placed_from a q (i + 1) after) ≡ all
   push_row xs ys x added is so_far =
-      ap (λ zs. map model_row zs ++ rows_in s (placed_from a q (i + 1) after)) added
-      ∙ (pushed xs x (rows_in s (placed_from a q (i + 1) after))
-      ∙ (ap (λ rs. map model_row xs ++ rs) (sym (one_more_record s a q i r before after (Some (model_row x)) first is)) ∙ so_far))
+      ap (λ zs. zs ++ rows_in s (placed_from a q (i + 1) after)) added
+      ∙ (append_assoc xs (x ∷ []) (rows_in s (placed_from a q (i + 1) after))
+      ∙ (ap (λ rs. xs ++ rs) (sym (one_more_record s a q i r before after (Some x) first is)) ∙ so_far))
 
   -- a record without a row
-  pub pass_record : (xs : List FocusRow) → None ≡ row_of s.sheet s.issuer s.batches s.period s.from s.to (record { agent = a; seq = q; index = i }) r
-      → map model_row xs ++ rows_in s (placed_from a q i before) ≡ all → map model_row xs ++ rows_in s (placed_from a q (i + 1) after) ≡ all
-  pass_record xs is so_far = ap (λ rs. map model_row xs ++ rs) (sym (one_more_record s a q i r before after None first is)) ∙ so_far
+  pub pass_record : (xs : List Row) → None ≡ row_of s.sheet s.issuer s.batches s.period s.from s.to (record { agent = a; seq = q; index = i }) r
+      → xs ++ rows_in s (placed_from a q i before) ≡ all → xs ++ rows_in s (placed_from a q (i + 1) after) ≡ all
+  pass_record xs is so_far = ap (λ rs. xs ++ rs) (sym (one_more_record s a q i r before after None first is)) ∙ so_far

@@ -1,2 +1,3 @@
 pub mod Inner
+pub mod Marks
 pub mod Rows

@@ -1,24 +1,26 @@
 //! The rows between two cuts, batch by batch.
 
-ghost use Rattle.std.specs.Prelude.{◌≡◌, ◌≢◌, ◌≤◌, ◌≤ℤ◌, ◌+◌, ◌<◌, ◌++◌, [], true, pos, length, map, option_map, Some, None, IfOk, IfSome, IfNone, IfErr, OnOk, OnErr};
+ghost use Rattle.std.specs.Prelude.{◌≡◌, ◌≢◌, ◌≤◌, ◌≤ℤ◌, ◌+◌, ◌<◌, ◌++◌, [], true, pos, length, map, option_map, Some, None, IfOk, IfSome, IfNone, IfErr, IsTrue, OnOk, OnErr, ◌∷◌};
 ghost use Rattle.std.specs.Option.{is_some};
 ghost use Rattle.metering_model.specs.Batch.{Reading as ModelReading, is_priced};
 ghost use Rattle.metering_model.specs.Cut.{IsAtLeast, last_of};
-ghost use Rattle.metering_model.specs.Holding.{reading_at, up_to};
+ghost use Rattle.metering_model.specs.Holding.{held, reading_at, up_to};
 ghost use Rattle.metering_model.specs.ValueAtSequence.{value_at};
 ghost use Rattle.metering_model.specs.declared.ChargeClass.TheVariants.{New, Correction};
 ghost use Rattle.metering_model.specs.Row.{row};
 ghost use Rattle.metering_model.specs.Rows.{row_of, row_of_reading, rows};
 ghost use Rattle.metering_model.specs.Step.{first_missing};
 ghost use Rattle.metering_model.specs.JournalRules.{MeetsJournalRules};
+ghost use Rattle.batch_view.specs.Batches.{batch_of};
 ghost use Rattle.batch_view.specs.Lent.{model_reading, record_of};
 ghost use Rattle.batch_store.specs.Stores.{position_of};
 ghost use Rattle.charge_row.specs.FocusRows.{model_row};
+ghost use Rattle.focus_row.specs.Marks.{AreMarked, HasPlainTexts};
 ghost use Rattle.focus_row.specs.Inner.Left.{MayBeCharged, record_at, rows_left};
 
 use crate::places::{is_named, next_named};
 use batch_store::{Cut, Period, RecordPlace, Store};
-use batch_view::{Reading, Record, Value};
+use batch_view::{OwnedBatch, Reading, Record, Value};
 use charge_row::{Billing, FocusRow, Issuer, Sheet, row};
 use metering_model::ChargeClass;
 use std::alloc::{AllocError, Global};
@@ -151,29 +153,45 @@ impl<'a> BetweenCuts<'a> {
         }
     }
 
-    /// The rows of the batch of an agent at a sequence.
+    /// The batch of an agent at a sequence that is there, as it is kept.
+    fn kept(&self, agent: u8, seq: u32) -> &'a OwnedBatch
+        requires from { 1 ≤ agent }
+        requires to { agent ≤ self.now.agents }
+        requires there { is_some (held self.now.batches agent seq) ≡ true }
+        ensures { held self.now.batches agent seq ≡ Some (batch_of result.now) }
+    {
+        self.store.get(agent, seq).unwrap()
+    }
+
+    /// The rows of the batch of an agent at a sequence, and the marks of their lines.
     fn rows_of_batch(
         &self,
         alloc: Global,
         agent: u8,
         seq: u32,
+        marks: &mut Vec<bool>,
     ) -> Result<Vec<FocusRow<'a>>, AllocError>
         requires from { 1 ≤ agent }
         requires to { agent ≤ self.now.agents }
         requires first { 1 ≤ seq }
         requires within { seq ≤ last_of self.now.to agent }
-        ensures { IfOk result (λ rows. map model_row rows.items ++ rows_left self.now agent (seq + 1) ≡ rows_left self.now agent seq) }
+        ensures rows { IfOk result (λ rows. map model_row rows.items ++ rows_left self.now agent (seq + 1) ≡ rows_left self.now agent seq) }
+        ensures marks { IfOk result (λ rows. AreMarked marks.new.items (map model_row rows.items)) }
+        ensures many { IfOk result (λ rows. length marks.new.items ≡ length rows.items) }
     {
-        let batch = self.store.batch_at(agent, seq);
+        let kept = self.kept(agent, seq);
+        let batch = kept.view();
         // For the proof alone: its clause says that a batch has at most 1,000 records.
         let _count = batch.count();
         let mut rows = Vec::new(alloc);
+        marks.clear();
         let mut index = 0;
         for record in batch.records() {
             let place = RecordPlace { agent, seq, index };
+            let is_plain = kept.is_plain(index);
             index += 1;
             if let Some(row) = self.row_of(place, &record) {
-                if rows.push(row).is_err() {
+                if push_marked(&mut rows, marks, row, is_plain).is_err() {
                     return Err(AllocError);
                 }
             }
@@ -223,6 +241,49 @@ impl<'a> BetweenCuts<'a> {
     }
 }
 
+/// Adds a row and the mark of its line. At want of memory nothing is said of either list.
+fn push_marked<'a>(
+    rows: &mut Vec<FocusRow<'a>>,
+    marks: &mut Vec<bool>,
+    row: FocusRow<'a>,
+    is_plain: bool,
+) -> Result<(), AllocError>
+    requires many { length marks.old.items ≡ length rows.old.items }
+    requires marks { AreMarked marks.old.items (map model_row rows.old.items) }
+    requires plain { IsTrue is_plain → HasPlainTexts (model_row row.entry) }
+    ensures rows { OnOk result (map model_row rows.new.items ≡ map model_row rows.old.items ++ model_row row.entry ∷ []) }
+    ensures marks { OnOk result (AreMarked marks.new.items (map model_row rows.new.items)) }
+    ensures many { OnOk result (length marks.new.items ≡ length rows.new.items) }
+{
+    if rows.push(row).is_err() {
+        return Err(AllocError);
+    }
+    marks.push(is_plain)?;
+    Ok(())
+}
+
+/// Adds the rows of a batch with their marks. At want of memory nothing is said of any of the lists.
+fn append_marked<'a>(
+    all: &mut Vec<FocusRow<'a>>,
+    all_marks: &mut Vec<bool>,
+    rows: &mut Vec<FocusRow<'a>>,
+    marks: &mut Vec<bool>,
+) -> Result<(), AllocError>
+    requires many { length all_marks.old.items ≡ length all.old.items }
+    requires marked { AreMarked all_marks.old.items (map model_row all.old.items) }
+    requires many_more { length marks.old.items ≡ length rows.old.items }
+    requires more_marked { AreMarked marks.old.items (map model_row rows.old.items) }
+    ensures rows { OnOk result (map model_row all.new.items ≡ map model_row all.old.items ++ map model_row rows.old.items) }
+    ensures marks { OnOk result (AreMarked all_marks.new.items (map model_row all.new.items)) }
+    ensures many { OnOk result (length all_marks.new.items ≡ length all.new.items) }
+{
+    if all.append(rows).is_err() {
+        return Err(AllocError);
+    }
+    all_marks.append(marks)?;
+    Ok(())
+}
+
 /// The rows between two cuts that are still to come, in journal order.
 #[derive(Drop)]
 pub struct RowsBetween<'a> {
@@ -245,18 +306,27 @@ impl<'a> Model for RowsBetween<'a> {
 }
 
 impl<'a> RowsBetween<'a> {
-    /// The rows of the next batch that has any; None at the end. Memory is taken for these alone, and want of it
-    /// changes nothing.
-    pub fn next_batch(&mut self, alloc: Global) -> Result<Option<Vec<FocusRow<'a>>>, AllocError>
+    /// The rows of the next batch that has any, with their marks in place of those that were there; None at the end. Memory is
+    /// taken for these alone, and want of it changes nothing but the marks.
+    pub fn next_batch(
+        &mut self,
+        alloc: Global,
+        marks: &mut Vec<bool>,
+    ) -> Result<Option<Vec<FocusRow<'a>>>, AllocError>
         ensures given { IfOk result (λ batch. IfSome batch (λ rows. map model_row rows.items ++ self.new ≡ self.old)) }
         ensures some { IfOk result (λ batch. IfSome batch (λ rows. length self.new < length self.old)) }
+        ensures marks { IfOk result (λ batch. IfSome batch (λ rows. AreMarked marks.new.items (map model_row rows.items))) }
+        ensures many { IfOk result (λ batch. IfSome batch (λ rows. length marks.new.items ≡ length rows.items)) }
         ensures end { IfOk result (λ batch. IfNone batch ((self.old ≡ []) × (self.new ≡ []))) }
         ensures kept { IfErr result (λ _. self.new ≡ self.old) }
     {
         let mut agent = self.agent;
         let mut seq = self.seq;
         while let Some((next_agent, next_seq)) = self.cuts.next_stop(agent, seq) {
-            let Ok(rows) = self.cuts.rows_of_batch(alloc, next_agent, next_seq) else {
+            let Ok(rows) = self
+                .cuts
+                .rows_of_batch(alloc, next_agent, next_seq, marks)
+            else {
                 return Err(AllocError);
             };
             agent = next_agent;
@@ -270,19 +340,27 @@ impl<'a> RowsBetween<'a> {
         Ok(None)
     }
 
-    /// All rows that are still to come. It takes itself by value, so want of memory leaves none that is half taken.
-    pub fn rest(mut self, alloc: Global) -> Result<Vec<FocusRow<'a>>, AllocError>
-        ensures { IfOk result (λ all. map model_row all.items ≡ self.entry) }
+    /// All rows that are still to come, with their marks in place of those that were there. It takes itself by value, so want
+    /// of memory leaves none that is half taken.
+    pub fn rest(
+        mut self,
+        alloc: Global,
+        marks: &mut Vec<bool>,
+    ) -> Result<Vec<FocusRow<'a>>, AllocError>
+        ensures rows { IfOk result (λ all. map model_row all.items ≡ self.entry) }
+        ensures marks { IfOk result (λ all. AreMarked marks.new.items (map model_row all.items)) }
     {
         let mut all = Vec::new(alloc);
+        let mut of_batch = Vec::new(alloc);
+        marks.clear();
         loop {
-            let Ok(next) = self.next_batch(alloc) else {
+            let Ok(next) = self.next_batch(alloc, &mut of_batch) else {
                 return Err(AllocError);
             };
             let Some(mut rows) = next else {
                 return Ok(all);
             };
-            if all.append(&mut rows).is_err() {
+            if append_marked(&mut all, marks, &mut rows, &mut of_batch).is_err() {
                 return Err(AllocError);
             }
         }

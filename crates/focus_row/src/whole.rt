@@ -70,7 +70,7 @@ pub fn rows_of<'a>(
     let Ok(left) = rows_between(alloc, store, sheet, issuer, period, from, to) else {
         return Err(RowFault::OutOfMemory);
     };
-    match left.rest(alloc) {
+    match left.rest(alloc, &mut Vec::new(alloc)) {
         Ok(all) => Ok(all),
         Err(_) => Err(RowFault::OutOfMemory),
     }

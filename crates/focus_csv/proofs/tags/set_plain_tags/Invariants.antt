@@ -1,6 +1,9 @@
 -- What was written, with the tags that are left behind it, is all of some tags within quotation marks.
-use Rattle.std.proofs.Common.{◌≡◌, [], ◌∷◌, ◌++◌, map, List}
+use Rattle.std.proofs.Common.{◌≡◌, ◌&&◌, [], ◌∷◌, ◌++◌, map, List}
+use Rattle.std.specs.Prelude.{IsTrue}
+use Rattle.std.specs.List.{list_all}
 use Rattle.metering_model.specs.Batch.{Tag}
+use Rattle.batch_view.specs.Kept.{is_plain_byte}
 use Rattle.batch_view.specs.Lent.{lent_tags}
 use Rattle.batch_view.specs.TagTexts.{tag_of}
 use Rattle.focus_csv.specs.Inner.Strings.{doubled}
@@ -12,6 +15,7 @@ invariant-loop-key l = record {
   ready : (goal.iterator-loop-key).can_next l.key-iterator;
   finite : (goal.iterator-loop-key).is_finite l.key-iterator;
   some : (t : Tag) × (ts : List Tag) × (map tag_of (lent_tags l.fn.tags) ≡ t ∷ ts);
+  plain : IsTrue l.is_plain → IsTrue (list_all (λ (t : Tag). list_all is_plain_byte t.key && list_all is_plain_byte t.value) (map tag_of (lent_tags l.key-iterator)));
   text : l.piece.items ++ doubled (members_left (44 ∷ []) (map tag_of (lent_tags l.key-iterator)))
       ≡ 44 ∷ 34 ∷ 123 ∷ doubled (members_left [] (map tag_of (lent_tags l.fn.tags)));
 }

@@ -10,30 +10,34 @@ use Rattle.batch_view.specs.Lent.{record_of}
 use Rattle.charge_row.specs.FocusRows.{model_row}
 use Rattle.charge_row.specs.declared.columns.FocusRow.{FocusRow}
 use Rattle.focus_row.specs.Inner.Left.{Between, MayBeCharged, placed_from, rows_in, rows_left}
+use Rattle.focus_row.specs.Marks.{AreMarked}
+use Rattle.focus_row.proofs.MarkLaws.{charged_plain, none_marked}
 use Rattle.focus_row.proofs.StopLaws.{first_left, push_row, pass_record, rows_first}
 use Rattle.focus_row.proofs.between.BetweenCuts.rows_of_batch.Goals as goal
 
-pub batch_at-batch-requires-clause-there : goal.batch_at-batch-requires-clause-there
-batch_at-batch-requires-clause-there c =
+pub kept-kept-requires-clause-there : goal.kept-kept-requires-clause-there
+kept-kept-requires-clause-there c =
     let s = c.args.self.now in
     let may : MayBeCharged s = subst MayBeCharged c.self.view_is c.self.invariant.0 in
-    subst (λ (b : Between). is_some (held b.batches c.args.agent c.args.seq) ≡ true) (sym c.self.view_is)
-    (held-up_to_where s.batches s.to may.whole c.args.agent c.args.seq (omega arith) c.requires.within)
+    held-up_to_where s.batches s.to may.whole c.args.agent c.args.seq (omega arith) c.requires.within
 
 pub loop-record-init : goal.loop-record-init
 loop-record-init c =
     let s = c.args.self.now in
     let a = c.args.agent in
     let q = c.args.seq in
-    let bytes = c.batch_at-batch.result in
+    let bytes = c.view-batch.result in
     let start : c.into_iter-record-iterator.result ≡ record { bytes = bytes; index = 0 } = c.into_iter-record-iterator.ensures.into_iter_gives ∙ c.records-record-items.ensures in
-    let found : held s.batches a q ≡ Some (batch_of bytes) = subst (λ (b : Between). held b.batches a q ≡ Some (batch_of bytes)) c.self.view_is c.batch_at-batch.ensures.held in
+    let found : held s.batches a q ≡ Some (batch_of bytes) = c.kept-kept.ensures ∙ ap (λ t. Some (batch_of t)) (sym c.view-batch.ensures) in
     let few : length (batch_of bytes).records ≤ 1000 = omega (arith, c.count-count.ensures.value, c.count-count.ensures.range) in
     let Rows = λ (w : RecordsLeft) (rows : List FocusRow). map model_row rows ++ rows_in s (placed_from a q 0 (records_left w)) ≡ rows_in s (placed_from a q 0 (batch_of w.bytes).records) in
     record {
       can_next = tt;
       is_finite = tt;
       held = subst (λ (w : RecordsLeft). held s.batches a q ≡ Some (batch_of w.bytes)) (sym start) found;
+      kept = ap (λ (w : RecordsLeft). w.bytes) start ∙ c.view-batch.ensures;
+      many = search rules;
+      marks = subst (λ ms. AreMarked ms (map model_row c.new-rows.result.items)) (sym c.clear.ensures.items) (none_marked _);
       few = subst (λ (w : RecordsLeft). length (batch_of w.bytes).records ≤ 1000) (sym start) few;
       index = ap (λ (w : RecordsLeft). w.index) start;
       rows = subst (λ (w : RecordsLeft). Rows w c.new-rows.result.items) (sym start) (subst (Rows (record { bytes = bytes; index = 0 })) (sym c.new-rows.ensures.items) refl);
@@ -54,6 +58,16 @@ row_of-requires-clause-there c =
     ap (option_and_then (λ (b : Batch). slice_get b.records c.loop-record.index)) c.loop-record.invariant.held
     ∙ (ap (slice_get records) (sym c.loop-record.invariant.index) ∙ left.0)
 
+pub push_marked-requires-clause-plain : goal.push_marked-requires-clause-plain
+push_marked-requires-clause-plain c plain =
+    let s = c.args.self.now in
+    let records = (batch_of c.loop-record.record-iterator.bytes).records in
+    let left = first_left records _ c.loop-record.record-iterator.index _ c.in-Some.ensures.steps.first in
+    charged_plain s.sheet s.issuer s.batches s.period s.from s.to (position_of c.record-place) (record_of c.in-Some.record) _ c.in-Some-row_of.ensures
+    (c.is_plain-is_plain.ensures plain (record_of c.in-Some.record)
+    (ap (λ t. slice_get (batch_of t).records c.loop-record.index) (sym c.loop-record.invariant.kept)
+    ∙ (ap (slice_get records) (sym c.loop-record.invariant.index) ∙ left.0)))
+
 pub loop-record-preserved-else-is_err : goal.loop-record-preserved-else-is_err
 loop-record-preserved-else-is_err c =
     let s = c.args.self.now in
@@ -62,14 +76,17 @@ loop-record-preserved-else-is_err c =
     let old = c.loop-record.record-iterator in
     let new = c.next.new.self in
     let walk : new ≡ record { bytes = old.bytes; index = old.index + 1 } = c.in-Some.ensures.steps.walk in
-    let added : c.push.new.self.items ≡ c.loop-record.rows.items ++ c.in-Some-row_of.row ∷ [] = search rules in
+    let added : map model_row c.push_marked.new.rows.items ≡ map model_row c.loop-record.rows.items ++ model_row c.in-Some-row_of.row ∷ [] = search rules in
     let same = c.loop-record.invariant.index in
     let rows = push_row s a q c.loop-record.index (record_of c.in-Some.record) (records_left old) (records_left new) c.in-Some.ensures.steps.first
-    (rows_in s (placed_from a q 0 (batch_of old.bytes).records)) c.loop-record.rows.items c.push.new.self.items c.in-Some-row_of.row added c.in-Some-row_of.ensures c.loop-record.invariant.rows in
+    (rows_in s (placed_from a q 0 (batch_of old.bytes).records)) (map model_row c.loop-record.rows.items) (map model_row c.push_marked.new.rows.items) (model_row c.in-Some-row_of.row) added c.in-Some-row_of.ensures c.loop-record.invariant.rows in
     record {
       can_next = tt;
       is_finite = tt;
       held = subst (λ (w : RecordsLeft). held s.batches a q ≡ Some (batch_of w.bytes)) (sym walk) c.loop-record.invariant.held;
+      kept = ap (λ (w : RecordsLeft). w.bytes) walk ∙ c.loop-record.invariant.kept;
+      many = search rules;
+      marks = search rules;
       few = subst (λ (w : RecordsLeft). length (batch_of w.bytes).records ≤ 1000) (sym walk) c.loop-record.invariant.few;
       index = ap (λ (w : RecordsLeft). w.index) walk ∙ ap (λ n. n + 1) same;
       rows = rows ∙ ap (λ (w : RecordsLeft). rows_in s (placed_from a q 0 (batch_of w.bytes).records)) (sym walk);
@@ -85,11 +102,14 @@ loop-record-preserved c =
     let walk : new ≡ record { bytes = old.bytes; index = old.index + 1 } = c.in-Some.ensures.steps.walk in
     let same = c.loop-record.invariant.index in
     let rows = pass_record s a q c.loop-record.index (record_of c.in-Some.record) (records_left old) (records_left new) c.in-Some.ensures.steps.first
-    (rows_in s (placed_from a q 0 (batch_of old.bytes).records)) c.loop-record.rows.items c.in_default.ensures c.loop-record.invariant.rows in
+    (rows_in s (placed_from a q 0 (batch_of old.bytes).records)) (map model_row c.loop-record.rows.items) c.in_default.ensures c.loop-record.invariant.rows in
     record {
       can_next = tt;
       is_finite = tt;
       held = subst (λ (w : RecordsLeft). held s.batches a q ≡ Some (batch_of w.bytes)) (sym walk) c.loop-record.invariant.held;
+      kept = ap (λ (w : RecordsLeft). w.bytes) walk ∙ c.loop-record.invariant.kept;
+      many = c.loop-record.invariant.many;
+      marks = c.loop-record.invariant.marks;
       few = subst (λ (w : RecordsLeft). length (batch_of w.bytes).records ≤ 1000) (sym walk) c.loop-record.invariant.few;
       index = ap (λ (w : RecordsLeft). w.index) walk ∙ ap (λ n. n + 1) same;
       rows = rows ∙ ap (λ (w : RecordsLeft). rows_in s (placed_from a q 0 (batch_of w.bytes).records)) (sym walk);

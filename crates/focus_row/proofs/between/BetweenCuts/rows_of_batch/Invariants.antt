@@ -2,6 +2,7 @@ use Rattle.std.proofs.Common.{◌≡◌, ◌≤◌, ◌++◌, length, map, Some}
 use Rattle.metering_model.specs.Holding.{held}
 use Rattle.batch_view.specs.Batches.{batch_of, records_left}
 use Rattle.charge_row.specs.FocusRows.{model_row}
+use Rattle.focus_row.specs.Marks.{AreMarked}
 use Rattle.focus_row.specs.Inner.Left.{placed_from, rows_in}
 use Rattle.focus_row.proofs.between.BetweenCuts.rows_of_batch.Given as goal
 
@@ -11,6 +12,9 @@ invariant-loop-record l = record {
   can_next : (goal.iterator-loop-record).can_next l.record-iterator;
   is_finite : (goal.iterator-loop-record).is_finite l.record-iterator;
   held : held l.self.batches l.agent l.seq ≡ Some (batch_of l.record-iterator.bytes);
+  kept : l.record-iterator.bytes ≡ l.kept.now;
+  many : length l.marks.items ≡ length l.rows.items;
+  marks : AreMarked l.marks.items (map model_row l.rows.items);
   few : length (batch_of l.record-iterator.bytes).records ≤ 1000;
   index : l.record-iterator.index ≡ l.index;
   rows : map model_row l.rows.items ++ rows_in l.self (placed_from l.agent l.seq l.index (records_left l.record-iterator))
