@@ -10,7 +10,8 @@ use Rattle.metering_model.specs.Deliveries.{handled}
 use Rattle.metering_model.specs.Step.{play}
 use Rattle.metering_model.proofs.BatchOrder.{place_of_batch}
 use Rattle.metering_model.proofs.HoldingLaws.{held-put_other}
-use Rattle.group_laws.proofs.StepCases.{after, started, start_packet, journaling, IsNext, IsKeptBySteps, play_kept}
+use Rattle.group_laws.proofs.StepCases.{after, started, start_packet, journaling, IsNext, IsKeptBySteps}
+use Rattle.group_laws.proofs.Forms.{HasForms-opening, play_kept}
 
 pub record HasAgents (w : World) : Type 0 where
   pub each : (agent seq : ℕ) (b : Batch) → held w.journals agent seq ≡ Some b → agent ≤ w.agents
@@ -38,4 +39,4 @@ HasAgents-steps = record {
 
 pub has_agents : (voters observers agents : ℕ) (sheet : Sheet) (issuer : Issuer) (events : List Event) → HasAgents (play (opening voters observers agents sheet issuer) events).1
 has_agents voters observers agents sheet issuer events =
-    play_kept HasAgents HasAgents-steps events (opening voters observers agents sheet issuer) (record { each = λ agent seq b is. absurd (none-some b is) })
+    play_kept HasAgents HasAgents-steps events (opening voters observers agents sheet issuer) (HasForms-opening voters observers agents sheet issuer) (record { each = λ agent seq b is. absurd (none-some b is) })

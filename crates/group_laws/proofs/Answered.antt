@@ -5,19 +5,22 @@ use Rattle.std.proofs.lemmas.Bool.{cases_Bool, eqb-true}
 use Rattle.std.proofs.lemmas.Option.{same_Some, none-some}
 use Rattle.metering_model.specs.FirstFailure.{◌>>=◌, holds_or}
 use Rattle.metering_model.specs.declared.Refusal.{Refusal}
-use Rattle.metering_model.specs.declared.Refusal.TheVariants.{NoNode, NoPacket, NoAgent, WrongSeq, AllClosed, NoBallot, Observer}
+use Rattle.metering_model.specs.declared.Refusal.TheVariants.{NoNode, NoPacket, NoAgent, WrongSeq, AllClosed, NoBallot, Observer, NotKept}
 use Rattle.metering_model.specs.Batch.{Batch}
 use Rattle.metering_model.specs.Holding.{held, put, placed, is_batch_at}
 use Rattle.metering_model.specs.JournalRules.{MeetsJournalRules, next_seq, first_broken}
-use Rattle.metering_model.specs.World.{World, Node, Packet, Offer, Event, Journal, Deliver, Start, Restart, Export, Reply, Journaled, Delivered, votes, current_period, with_node_at, with_packet, next_packet}
+use Rattle.metering_model.specs.World.{World, Node, Packet, Offer, Event, Journal, Deliver, Start, Restart, Export, Keep, Revive, Reply, Journaled, Delivered, votes, current_period, with_node_at, with_packet, next_packet}
 use Rattle.metering_model.specs.Deliveries.{Handled, handled}
-use Rattle.metering_model.specs.Step.{Outcome, batch_of, on_batch, after_delivery, or_refused, unless_broken, snapshot, step, play}
+use Rattle.metering_model.specs.Step.{Outcome, batch_of, on_batch, after_delivery, or_refused, unless_broken, kept_of, kept_now as keeping, snapshot, step, play}
+use Rattle.metering_model.specs.BatchReading.{is_same}
+use Rattle.metering_model.specs.KeptText.{kept_text}
 use Rattle.metering_model.proofs.StepLaws.{step_ok, test_step, ok_same}
 use Rattle.metering_model.proofs.BatchOrder.{place_of_batch}
 use Rattle.metering_model.proofs.HoldingLaws.{held-put_same, held-put_other}
 use Rattle.metering_model.proofs.Journals.{next_not_held}
 use Rattle.metering_model.proofs.PartLaws.{IsPartOf-grown}
-use Rattle.group_laws.proofs.StepCases.{after, started, start_packet, journaling, IsKeptBySteps, step_kept, play_kept}
+use Rattle.group_laws.proofs.StepCases.{after, started, start_packet, journaling, IsKeptBySteps, step_kept}
+use Rattle.group_laws.proofs.Forms.{HasForms, HasForms-step, readable, play_kept}
 use Rattle.group_laws.proofs.Fits.{IsFitting, IsFitting-steps}
 
 -- what a batch that was taken does
@@ -99,18 +102,18 @@ module _ (N : ℕ) (b : Batch) where
     restarts = λ w i n k found. record { fitting = (IsFitting-steps N).restarts w i n k.fitting found; has = k.has };
   }
 
-pub kept : (N : ℕ) (es : List Event) (w : World) → IsFitting N w → (k packet : ℕ) (offer : Offer) → slice_get es k ≡ Some (Journal offer) → slice_get (play w es).0 k ≡ Some (Journaled packet) →
+pub kept : (N : ℕ) (es : List Event) (w : World) → HasForms w → IsFitting N w → (k packet : ℕ) (offer : Offer) → slice_get es k ≡ Some (Journal offer) → slice_get (play w es).0 k ≡ Some (Journaled packet) →
     (b : Batch) × (batch_of offer ≡ Ok b) × (held (play w es).1.journals b.agent b.seq ≡ Some b)
-kept N [] w h k packet offer e answer = absurd (none-some _ e)
-kept N (x ∷ es) w h zero packet offer e answer = this (same_Some x (Journal offer) e)
+kept N [] w forms h k packet offer e answer = absurd (none-some _ e)
+kept N (x ∷ es) w forms h zero packet offer e answer = this (same_Some x (Journal offer) e)
   where
     this : x ≡ Journal offer → (b : Batch) × (batch_of offer ≡ Ok b) × (held (play (step w x).1 es).1.journals b.agent b.seq ≡ Some b)
     this same =
         let answered : (step w (Journal offer)).0 ≡ Journaled packet = subst (λ (y : Event). (step w y).0 ≡ Journaled packet) same (same_Some _ _ answer) in
         let now = kept_now w h.rules packet (batch_of offer) answered in
         let here : held (step w x).1.journals now.0.agent now.0.seq ≡ Some now.0 = subst (λ (y : Event). held (step w y).1.journals now.0.agent now.0.seq ≡ Some now.0) (sym same) now.2 in
-        (now.0, now.1, (play_kept (HasBatch N now.0) (HasBatch-steps N now.0) es (step w x).1 (record { fitting = step_kept (IsFitting N) (IsFitting-steps N) w h x; has = here })).has)
-kept N (x ∷ es) w h (suc k) packet offer e answer = kept N es (step w x).1 (step_kept (IsFitting N) (IsFitting-steps N) w h x) k packet offer e answer
+        (now.0, now.1, (play_kept (HasBatch N now.0) (HasBatch-steps N now.0) es (step w x).1 (HasForms-step w forms x) (record { fitting = step_kept (IsFitting N) (IsFitting-steps N) w (readable w forms) h x; has = here })).has)
+kept N (x ∷ es) w forms h (suc k) packet offer e answer = kept N es (step w x).1 (HasForms-step w forms x) (step_kept (IsFitting N) (IsFitting-steps N) w (readable w forms) h x) k packet offer e answer
 
 -- ---- no other event changes the journals
 
@@ -142,6 +145,10 @@ module _ (w : World) where
       keeps_bind w (next_packet w) _ (λ k. record { same = refl })))))).same
   other_keeps (Restart i) never = (keeps_bind w (ok_or (slice_get w.nodes i) NoNode) _ (λ n. record { same = refl })).same
   other_keeps (Export i p) never = (keeps_bind w (snapshot w i p) _ (λ s. record { same = refl })).same
+  other_keeps (Keep i) never = (keeps_bind w (ok_or (slice_get w.nodes i) NoNode) _ (λ n. record { same = refl })).same
+  other_keeps (Revive i offer) never = (keeps_bind w (ok_or (slice_get w.nodes i) NoNode) _ (λ n.
+      keeps_bind w (kept_of offer) _ (λ k.
+      keeps_bind w (holds_or (is_same (kept_text k) (kept_text (keeping w n))) NotKept) _ (λ u. record { same = refl })))).same
 
 -- an event of these was answered `Journaled`, and handed in the batch
 abbrev pub IsJournaled : List Event → List Reply → Batch → Type 0
@@ -157,12 +164,14 @@ only_step w rules (Journal offer) agent seq b has = elim (only_now w rules agent
 only_step w rules (Deliver k i) agent seq b has = inl (subst (λ h. held h agent seq ≡ Some b) (other_keeps w (Deliver k i) (λ offer e. cc)) has)
 only_step w rules (Start i) agent seq b has = inl (subst (λ h. held h agent seq ≡ Some b) (other_keeps w (Start i) (λ offer e. cc)) has)
 only_step w rules (Restart i) agent seq b has = inl (subst (λ h. held h agent seq ≡ Some b) (other_keeps w (Restart i) (λ offer e. cc)) has)
+only_step w rules (Keep i) agent seq b has = inl (subst (λ h. held h agent seq ≡ Some b) (other_keeps w (Keep i) (λ offer e. cc)) has)
+only_step w rules (Revive i kept) agent seq b has = inl (subst (λ h. held h agent seq ≡ Some b) (other_keeps w (Revive i kept) (λ offer e. cc)) has)
 only_step w rules (Export i p) agent seq b has = inl (subst (λ h. held h agent seq ≡ Some b) (other_keeps w (Export i p) (λ offer e. cc)) has)
 
-pub only : (N : ℕ) (es : List Event) (w : World) → IsFitting N w → (agent seq : ℕ) (b : Batch) → held (play w es).1.journals agent seq ≡ Some b →
+pub only : (N : ℕ) (es : List Event) (w : World) → HasForms w → IsFitting N w → (agent seq : ℕ) (b : Batch) → held (play w es).1.journals agent seq ≡ Some b →
     (held w.journals agent seq ≡ Some b) ⊎ IsJournaled es (play w es).0 b
-only N [] w h agent seq b has = inl has
-only N (e ∷ es) w h agent seq b has = elim (only N es (step w e).1 (step_kept (IsFitting N) (IsFitting-steps N) w h e) agent seq b has) [
+only N [] w forms h agent seq b has = inl has
+only N (e ∷ es) w forms h agent seq b has = elim (only N es (step w e).1 (HasForms-step w forms e) (step_kept (IsFitting N) (IsFitting-steps N) w (readable w forms) h e) agent seq b has) [
   | inl before ↦ elim (only_step w h.rules e agent seq b before) [
     | inl old ↦ inl old
     | inr new ↦ inr (0, new.1, new.0, ap Some new.2, ap Some new.3, new.4)

@@ -5,10 +5,10 @@ use Rattle.std.proofs.lemmas.Option.{same_Some, none-some}
 use Rattle.metering_model.specs.declared.Refusal.{Refusal}
 use Rattle.metering_model.specs.declared.Refusal.TheVariants.{NoNode, NotClosed}
 use Rattle.metering_model.specs.Cut.{Cut}
-use Rattle.metering_model.specs.World.{World, Node, Event, Journal, Deliver, Start, Restart, Export, Snapshot, Exported, current_period}
+use Rattle.metering_model.specs.World.{World, Node, Event, Journal, Deliver, Start, Restart, Export, Keep, Revive, Snapshot, Exported, current_period}
 use Rattle.metering_model.specs.Step.{first_missing, unless_missing, snapshot, step, play}
 use Rattle.metering_model.proofs.StepLaws.{step_ok, some_step, ok_same}
-use Rattle.group_laws.proofs.Exports.{journal_never, delivery_never, start_never, restart_never, snapshot_of_reply, snapshot_of}
+use Rattle.group_laws.proofs.Exports.{journal_never, delivery_never, start_never, restart_never, keep_never, revival_never, snapshot_of_reply, snapshot_of}
 
 pub one_each : (es : List Event) (w : World) → length (play w es).0 ≡ length es
 one_each [] w = refl
@@ -32,6 +32,8 @@ asked_now w (Journal offer) s is = absurd ((journal_never w offer).never s is)
 asked_now w (Deliver k i) s is = absurd ((delivery_never w k i).never s is)
 asked_now w (Start i) s is = absurd ((start_never w i).never s is)
 asked_now w (Restart i) s is = absurd ((restart_never w i).never s is)
+asked_now w (Keep i) s is = absurd ((keep_never w i).never s is)
+asked_now w (Revive i offer) s is = absurd ((revival_never w i offer).never s is)
 asked_now w (Export i p) s is = (i, ap (λ q. Export i q) (period_of w i p s (snapshot_of_reply w (snapshot w i p) s is)))
 
 pub asked : (es : List Event) (w : World) (k : ℕ) (s : Snapshot) → slice_get (play w es).0 k ≡ Some (Exported s) → (node : ℕ) × (slice_get es k ≡ Some (Export node s.period))

@@ -12,7 +12,8 @@ use Rattle.metering_model.specs.Chosen.{IsChosen}
 use Rattle.metering_model.specs.History.{Entry, IsLegal}
 use Rattle.metering_model.proofs.PlayLaws.{play-append}
 use Rattle.group_laws.specs.Headline.{IsPrefixOf, AreAnswers, AreTheCuts, IsExport, HoldsAfter}
-use Rattle.group_laws.proofs.StepCases.{after, started, start_packet, IsKeptBySteps, play_kept}
+use Rattle.group_laws.proofs.StepCases.{after, started, start_packet, IsKeptBySteps}
+use Rattle.group_laws.proofs.Forms.{HasForms, HasForms-steps, HasForms-opening, play_kept}
 use Rattle.group_laws.proofs.Steps.{length-slice_set, length-replicate}
 use Rattle.group_laws.proofs.Told.{ChosenIn, ChosenIn-more}
 use Rattle.group_laws.proofs.Fits.{IsFitting, IsFitting-steps, IsFitting-opening}
@@ -75,11 +76,18 @@ prefix_of_cuts w cuts are i n found = are.learned n (contains_at w.nodes i n fou
 -- ---- every run
 
 module _ (voters observers agents : ℕ) (sheet : Sheet) (issuer : Issuer) (events : List Event) where
+  forms_first : HasForms (opening voters observers agents sheet issuer)
+  forms_first = HasForms-opening voters observers agents sheet issuer
+
+  -- what each node keeps has a form that is read back
+  pub forms : HasForms (play (opening voters observers agents sheet issuer) events).1
+  forms = play_kept HasForms HasForms-steps events (opening voters observers agents sheet issuer) forms_first forms_first
+
   fitting : IsFitting voters (play (opening voters observers agents sheet issuer) events).1
-  fitting = play_kept (IsFitting voters) (IsFitting-steps voters) events (opening voters observers agents sheet issuer) (IsFitting-opening voters observers agents sheet issuer)
+  fitting = play_kept (IsFitting voters) (IsFitting-steps voters) events (opening voters observers agents sheet issuer) forms_first (IsFitting-opening voters observers agents sheet issuer)
 
   as_opened : IsAsOpened (voters + observers) agents sheet issuer (play (opening voters observers agents sheet issuer) events).1
-  as_opened = play_kept (IsAsOpened (voters + observers) agents sheet issuer) (IsAsOpened-steps (voters + observers) agents sheet issuer) events (opening voters observers agents sheet issuer)
+  as_opened = play_kept (IsAsOpened (voters + observers) agents sheet issuer) (IsAsOpened-steps (voters + observers) agents sheet issuer) events (opening voters observers agents sheet issuer) forms_first
       (record { nodes_kept = length-replicate (voters + observers) (wake new_kept); agents_kept = refl; sheet_kept = refl; issuer_kept = refl })
 
   fitting_here : IsFitting (voter_count (play (opening voters observers agents sheet issuer) events).1) (play (opening voters observers agents sheet issuer) events).1
@@ -88,15 +96,15 @@ module _ (voters observers agents : ℕ) (sheet : Sheet) (issuer : Issuer) (even
   exports : (s : Snapshot) → Contains (play (opening voters observers agents sheet issuer) events).0 (Exported s) → IsExport (play (opening voters observers agents sheet issuer) events).1 (the_cuts (play (opening voters observers agents sheet issuer) events).1 fitting_here) s
   exports s has =
       let at = element_of _ _ has in
-      let taken = all_taken voters events (opening voters observers agents sheet issuer) (IsFitting-opening voters observers agents sheet issuer) at.0 s at.1 in
+      let taken = all_taken voters events (opening voters observers agents sheet issuer) forms_first (IsFitting-opening voters observers agents sheet issuer) at.0 s at.1 in
       is_export (play (opening voters observers agents sheet issuer) events).1 fitting_here s (subst (λ N. IsTaken N (play (opening voters observers agents sheet issuer) events).1 s) (sym fitting.told.kept.count) taken)
 
   answers : AreAnswers events (play (opening voters observers agents sheet issuer) events).0 (play (opening voters observers agents sheet issuer) events).1
   answers = record {
     one_each = one_each events (opening voters observers agents sheet issuer);
     asked = asked events (opening voters observers agents sheet issuer);
-    kept = kept voters events (opening voters observers agents sheet issuer) (IsFitting-opening voters observers agents sheet issuer);
-    only = λ agent seq b has. elim (only voters events (opening voters observers agents sheet issuer) (IsFitting-opening voters observers agents sheet issuer) agent seq b has) [
+    kept = kept voters events (opening voters observers agents sheet issuer) forms_first (IsFitting-opening voters observers agents sheet issuer);
+    only = λ agent seq b has. elim (only voters events (opening voters observers agents sheet issuer) forms_first (IsFitting-opening voters observers agents sheet issuer) agent seq b has) [
       | inl before ↦ absurd (none-some b before)
       | inr found ↦ found
     ];
@@ -123,7 +131,7 @@ module _ (voters observers agents : ℕ) (sheet : Sheet) (issuer : Issuer) (even
   still_chosen : (more : List Event) (p : ℕ) (c : Cut) → IsChosen (play (opening voters observers agents sheet issuer) events).1 p c → IsChosen (play (play (opening voters observers agents sheet issuer) events).1 more).1 p c
   still_chosen more p c was =
       let w : World = (play (opening voters observers agents sheet issuer) events).1 in
-      let later : StaysChosen (voter_count w) p c (play w more).1 = play_kept (StaysChosen (voter_count w) p c) (StaysChosen-steps (voter_count w) p c) more w (record { count = refl; chosen = (was.ballot, was.by_majority) }) in
+      let later : StaysChosen (voter_count w) p c (play w more).1 = play_kept (StaysChosen (voter_count w) p c) (StaysChosen-steps (voter_count w) p c) more w forms (record { count = refl; chosen = (was.ballot, was.by_majority) }) in
       let here : ChosenIn (play w more).1.packets (voter_count (play w more).1) p c = subst (λ N. ChosenIn (play w more).1.packets N p c) (sym later.count) later.chosen in
       record { ballot = here.0; by_majority = here.1 }
 

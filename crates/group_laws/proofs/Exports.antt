@@ -4,18 +4,19 @@ use Rattle.std.specs.Prelude.{slice_get, ◌==◌}
 use Rattle.std.proofs.lemmas.Option.{same_Some, none-some}
 use Rattle.metering_model.specs.FirstFailure.{◌>>=◌, holds_or}
 use Rattle.metering_model.specs.declared.Refusal.{Refusal}
-use Rattle.metering_model.specs.declared.Refusal.TheVariants.{NoNode, NoPacket, NotClosed, NoAgent, WrongSeq, AllClosed, NoBallot, Observer}
+use Rattle.metering_model.specs.declared.Refusal.TheVariants.{NoNode, NoPacket, NotClosed, NoAgent, WrongSeq, AllClosed, NoBallot, Observer, NotKept}
 use Rattle.metering_model.specs.Batch.{Batch}
-use Rattle.metering_model.specs.BatchReading.{batch_in}
+use Rattle.metering_model.specs.BatchReading.{batch_in, is_same}
+use Rattle.metering_model.specs.KeptText.{kept_text}
 use Rattle.metering_model.specs.Sheet.{Sheet, Issuer}
 use Rattle.metering_model.specs.Cut.{Cut, zero_cut, last_of, IsAtLeast}
 use Rattle.metering_model.specs.Holding.{Holding, AgreeUpTo, held, put, placed, up_to}
 use Rattle.metering_model.specs.JournalRules.{MeetsJournalRules, next_seq, first_broken}
 use Rattle.metering_model.specs.Rows.{rows}
 use Rattle.metering_model.specs.File.{file}
-use Rattle.metering_model.specs.World.{World, Node, Packet, CarriesBatch, Offer, Good, Bad, Event, Journal, Deliver, Start, Restart, Export, Snapshot, Exported, Delivered, voter_count, votes, current_period, wake, with_node_at, with_packet, next_packet}
+use Rattle.metering_model.specs.World.{World, Node, Packet, CarriesBatch, Offer, Good, Bad, Event, Journal, Deliver, Start, Restart, Export, Keep, Revive, KeptOffer, Snapshot, Exported, Delivered, voter_count, votes, current_period, wake, with_node_at, with_packet, next_packet}
 use Rattle.metering_model.specs.Deliveries.{Handled, handled}
-use Rattle.metering_model.specs.Step.{Outcome, on_batch, on_journal, on_delivery, on_start, on_restart, after_delivery, or_refused, or_bad_batch, unless_broken, first_missing, unless_missing, cut_before, snapshot, step, play}
+use Rattle.metering_model.specs.Step.{Outcome, on_batch, on_journal, on_delivery, on_start, on_restart, on_keep, on_revival, kept_of, kept_now, after_delivery, or_refused, or_bad_batch, unless_broken, first_missing, unless_missing, cut_before, snapshot, step, play}
 use Rattle.metering_model.proofs.StepLaws.{step_ok, some_step, ok_same}
 use Rattle.metering_model.proofs.RulesUpToCut.{MeetsJournalRules-up_to}
 use Rattle.metering_model.proofs.MissingLaws.{held-up_to_where}
@@ -23,7 +24,8 @@ use Rattle.metering_model.proofs.PartLaws.{agree_where_held, IsPartOf-grown}
 use Rattle.metering_model.proofs.HoldingLaws.{IsHolding-up_to, AgreeUpTo-up_to, same_up_to}
 use Rattle.metering_model.proofs.AgreementLaws.{same_rows}
 use Rattle.group_laws.specs.Headline.{IsExport}
-use Rattle.group_laws.proofs.StepCases.{after, started, start_packet, journaling, IsKeptBySteps, step_kept, play_kept}
+use Rattle.group_laws.proofs.StepCases.{after, started, start_packet, journaling, IsKeptBySteps, step_kept}
+use Rattle.group_laws.proofs.Forms.{HasForms, HasForms-step, readable, play_kept}
 use Rattle.group_laws.proofs.Told.{ChosenIn, ChosenIn-more}
 use Rattle.group_laws.proofs.Fits.{IsOf, IsOf-more, IsFitting, IsFitting-steps}
 use Rattle.group_laws.proofs.Agreed.{the_cuts, chosen_cut, cut_goes_on, earlier_entry}
@@ -172,6 +174,15 @@ module _ (w : World) where
   pub restart_never : (i : ℕ) → NeverExports w (on_restart w i)
   restart_never i = after_bind w (ok_or (slice_get w.nodes i) NoNode) _ (λ n. record { never = λ s is. cc })
 
+  pub keep_never : (i : ℕ) → NeverExports w (on_keep w i)
+  keep_never i = after_bind w (ok_or (slice_get w.nodes i) NoNode) _ (λ n. record { never = λ s is. cc })
+
+  pub revival_never : (i : ℕ) (offer : KeptOffer) → NeverExports w (on_revival w i offer)
+  revival_never i offer =
+      after_bind w (ok_or (slice_get w.nodes i) NoNode) _ (λ n.
+      after_bind w (kept_of offer) _ (λ k.
+      after_bind w (holds_or (is_same (kept_text k) (kept_text (kept_now w n))) NotKept) _ (λ u. record { never = λ s is. cc })))
+
   pub snapshot_of_reply : (r : Result Snapshot Refusal) (s : Snapshot) → (or_refused w (r >>= λ x. Ok (Exported x, w))).0 ≡ Exported s → r ≡ Ok s
   snapshot_of_reply (Ok x) s e = cc
   snapshot_of_reply (Err x) s e = absurd (cc)
@@ -181,16 +192,18 @@ module _ (w : World) where
   exported_taken N h (Deliver k i) s is = absurd ((delivery_never k i).never s is)
   exported_taken N h (Start i) s is = absurd ((start_never i).never s is)
   exported_taken N h (Restart i) s is = absurd ((restart_never i).never s is)
+  exported_taken N h (Keep i) s is = absurd ((keep_never i).never s is)
+  exported_taken N h (Revive i offer) s is = absurd ((revival_never i offer).never s is)
   exported_taken N h (Export i p) s is = taken N w h i p s (snapshot_of_reply (snapshot w i p) s is)
 
 -- each snapshot among the replies of a run was taken
-pub all_taken : (N : ℕ) (es : List Event) (w : World) → IsFitting N w → (k : ℕ) (s : Snapshot) → slice_get (play w es).0 k ≡ Some (Exported s) → IsTaken N (play w es).1 s
-all_taken N [] w h k s e = absurd (none-some _ e)
-all_taken N (e ∷ es) w h zero s is =
+pub all_taken : (N : ℕ) (es : List Event) (w : World) → HasForms w → IsFitting N w → (k : ℕ) (s : Snapshot) → slice_get (play w es).0 k ≡ Some (Exported s) → IsTaken N (play w es).1 s
+all_taken N [] w forms h k s e = absurd (none-some _ e)
+all_taken N (e ∷ es) w forms h zero s is =
     let now = exported_taken w N h e s (same_Some _ _ is) in
     let begun : Keeps N s w = record { fitting = h; taken = now } in
-    (play_kept (Keeps N s) (Keeps-steps N s) (e ∷ es) w begun).taken
-all_taken N (e ∷ es) w h (suc k) s is = all_taken N es (step w e).1 (step_kept (IsFitting N) (IsFitting-steps N) w h e) k s is
+    (play_kept (Keeps N s) (Keeps-steps N s) (e ∷ es) w forms begun).taken
+all_taken N (e ∷ es) w forms h (suc k) s is = all_taken N es (step w e).1 (HasForms-step w forms e) (step_kept (IsFitting N) (IsFitting-steps N) w (readable w forms) h e) k s is
 
 -- ---- so it is an export of the journals
 

@@ -1,17 +1,24 @@
 -- Worlds that a faulty node would leave: of each the headline is false.
-use Rattle.std.proofs.Common.{◌≡◌, ℕ, ◌≤◌, Bool, true, cond, List, [], ◌∷◌, length, refl, sym, ap, subst, ◌∙◌, arith, Some, None}
+use Rattle.std.proofs.Common.{◌≡◌, ℕ, ◌≤◌, Bool, true, cond, List, [], ◌∷◌, ◌++◌, length, refl, sym, ap, subst, ◌∙◌, arith, Some, None, Result, Ok, Err}
 use Rattle.std.specs.Prelude.{slice_get, pos, false, codes}
 use Rattle.std.specs.List.{count_by, list_any}
 use Rattle.std.proofs.lemmas.Bool.{leb-true, both_ways}
 use Rattle.std.proofs.lemmas.Option.{same_Some, none-some}
 use Rattle.jiff_core.specs.Calendar.{days_from_civil, day_count, days_of_years, days_of_months}
+use Rattle.metering_model.specs.declared.Version.TheVariants.{B1}
 use Rattle.metering_model.specs.Batch.{Batch, Reading, Reads}
 use Rattle.metering_model.specs.declared.Kind.TheVariants.{Credit}
 use Rattle.metering_model.specs.declared.ChargeClass.TheVariants.{New}
 use Rattle.metering_model.specs.Row.{row}
 use Rattle.metering_model.specs.Rows.{PlacedRow}
 use Rattle.metering_model.specs.Cut.{Cut, IsAtLeast, IsGrowing}
-use Rattle.metering_model.specs.World.{World, Node, Event, Reply, Snapshot, Exported, Prepare, Promise, Accept, Accepted, Decided, wake, new_kept, opening}
+use Rattle.metering_model.specs.declared.Refusal.TheVariants.{NotKept}
+use Rattle.metering_model.specs.declared.KeptTextFault.{KeptTextFault}
+use Rattle.metering_model.specs.KeptText.{KeptAmong, kept_in}
+use Rattle.metering_model.specs.Step.{step, play}
+use Rattle.metering_model.specs.Transcript.{line}
+use Rattle.std.specs.Fmt.{digits}
+use Rattle.metering_model.specs.World.{Good, Journal, Deliver, Start, Keep, Revive, KeptGood, KeptText, Refused, with_node_at, World, Node, Event, Reply, Snapshot, Exported, Prepare, Promise, Accept, Accepted, Decided, wake, new_kept, opening}
 use Rattle.metering_model.specs.Chosen.{IsChosen, accepts}
 use Rattle.metering_model.proofs.Samples.{sheet_0, issuer_1}
 use Rattle.group_laws.specs.Headline.{IsNewIn, AreChargedOnce, HoldsAfter}
@@ -25,7 +32,7 @@ abbrev high : Cut
 high = 2 ∷ []
 
 abbrev batch_of : ℕ → Batch
-batch_of seq = record { agent = 1; seq = seq; records = [] }
+batch_of seq = record { version = B1; agent = 1; seq = seq; records = [] }
 
 abbrev whole_holding : List Batch
 whole_holding = batch_of 1 ∷ batch_of 2 ∷ []
@@ -169,6 +176,44 @@ an_observer_has_no_vote events h = never ((h.are_the_cuts.chosen 0 low).0 first)
         let few = one_at_most (f 0) in
         omega (arith, many, zeroth, second, few)
 
+-- ---- a node revived from an old text
+
+-- One node has a batch, and its text is kept. Then it starts ballot 1, and accepts the cut up to that batch.
+abbrev first_events : List Event
+first_events = Journal (Good (line (codes "B1|1|1|0"))) ∷ Deliver 0 0 ∷ []
+
+abbrev with_one_batch : World
+with_one_batch = (play (opening 1 0 1 sheet_0 issuer_1) first_events).1
+
+abbrev old_text : List ℕ
+old_text = line (codes "K1|1|0|0|0|0|1") ++ line (codes "B1|1|1|0")
+
+it_is_the_old_text : (step with_one_batch (Keep 0)).0 ≡ KeptText old_text
+unfolding digits
+it_is_the_old_text = refl
+
+abbrev with_a_vote : World
+with_a_vote =
+    (play with_one_batch (Start 0 ∷ Deliver 1 0 ∷ Deliver 2 0 ∷ Deliver 3 0 ∷ Journal (Good (line (codes "B1|1|2|0"))) ∷ [])).1
+
+-- a step refuses the old text, since it is not of what the node keeps now
+an_old_text_is_refused : step with_a_vote (Revive 0 (KeptGood old_text)) ≡ (Refused NotKept, with_a_vote)
+unfolding digits
+an_old_text_is_refused = refl
+
+-- Where it were taken, the node would have no round and no vote any more. So it begins ballot 1 again, with the second batch too.
+abbrev of_the_old_text : Result KeptAmong KeptTextFault → World → World
+of_the_old_text (Ok k) w = with_node_at 0 (wake k.kept) w
+of_the_old_text (Err fault) w = w
+
+abbrev after_an_old_text : World
+after_an_old_text =
+    (play (of_the_old_text (kept_in old_text) with_a_vote) (Deliver 5 0 ∷ Start 0 ∷ Deliver 6 0 ∷ Deliver 7 0 ∷ Deliver 8 0 ∷ [])).1
+
+an_old_text_loses_a_vote : IsFalseOf 1 [] after_an_old_text
+unfolding digits
+an_old_text_loses_a_vote = two_chosen 1 [] after_an_old_text (record { ballot = 1; by_majority = leb-true _ _ refl }) (record { ballot = 1; by_majority = leb-true _ _ refl })
+
 -- ---- cuts that go back, or beyond the journals
 
 -- one node, which chooses the second batch for period 0, and only the first for period 1
@@ -214,10 +259,11 @@ credit = record {
   value = pos 5;
   commitment = [];
   tags = [];
+  region = None;
 }
 
 abbrev credited : World
-credited = record (opening 1 0 1 sheet_0 issuer_1) { journals = record { agent = 1; seq = 1; records = Reads credit ∷ [] } ∷ [] }
+credited = record (opening 1 0 1 sheet_0 issuer_1) { journals = record { version = B1; agent = 1; seq = 1; records = Reads credit ∷ [] } ∷ [] }
 
 -- one node, which chooses February's batch for January, period 0
 abbrev after_an_early_cut : World

@@ -27,14 +27,15 @@ use Rattle.group_laws.specs.EveryRun.{IsNode, KeepsLimits, IsBallot, IsJournaled
 use Rattle.group_laws.proofs.Agents.{has_agents}
 use Rattle.group_laws.proofs.Kept.{sent_now}
 use Rattle.group_laws.proofs.Nodes.{length-nobody}
-use Rattle.group_laws.proofs.StepCases.{play_kept, after, started, start_packet, fresh_ballot, journaling, IsNext, MayStart, IsKeptBySteps, HasRoomFor}
+use Rattle.group_laws.proofs.StepCases.{after, started, start_packet, fresh_ballot, journaling, IsNext, MayStart, IsKeptBySteps, HasRoomFor}
 use Rattle.group_laws.proofs.Steps.{length-push, length-replicate}
+use Rattle.group_laws.proofs.Forms.{HasForms-opening, play_kept}
 use Rattle.group_laws.proofs.Told.{accepting_counted}
 use Rattle.group_laws.proofs.Fits.{IsOf, IsFitting, IsFitting-steps, IsFitting-opening}
 use Rattle.group_laws.proofs.Agreed.{last_of-zero}
 use Rattle.group_laws.proofs.EveryRun.{holds_after, prefix_of_cuts}
 
-at_entry : {A : Type 0} (P : A → Type 0) (xs : List A) (k : ℕ) (x : A) → All P xs → slice_get xs k ≡ Some x → P x
+pub at_entry : {A : Type 0} (P : A → Type 0) (xs : List A) (k : ℕ) (x : A) → All P xs → slice_get xs k ≡ Some x → P x
 at_entry P [] k x all e = absurd (none-some x e)
 at_entry P (y ∷ xs) zero x all e = subst P (same_Some y x e) (All-head P y xs all)
 at_entry P (y ∷ xs) (suc k) x all e = at_entry P xs k x (All-tail P y xs all) e
@@ -400,7 +401,7 @@ grows_prefix before (x ∷ xs) rest h = (h.0, grows_prefix x xs rest h.1)
 
 module _ (voters observers agents : ℕ) (sheet : Sheet) (issuer : Issuer) (events : List Event) where
   bounds : KeepsBounds voters (play (opening voters observers agents sheet issuer) events).1
-  bounds = play_kept (KeepsBounds voters) (KeepsBounds-steps voters) events (opening voters observers agents sheet issuer) (KeepsBounds-opening voters observers agents sheet issuer)
+  bounds = play_kept (KeepsBounds voters) (KeepsBounds-steps voters) events (opening voters observers agents sheet issuer) (HasForms-opening voters observers agents sheet issuer) (KeepsBounds-opening voters observers agents sheet issuer)
 
   headline : HoldsAfter voters observers agents sheet issuer events (play (opening voters observers agents sheet issuer) events).0 (play (opening voters observers agents sheet issuer) events).1
   headline = holds_after voters observers agents sheet issuer events

@@ -1,5 +1,5 @@
 -- What a step may do to the world: what each of these keeps, every run keeps.
-use Rattle.std.proofs.Common.{◌≡◌, ℕ, ◌+◌, ◌<◌, ◌≤◌, Bool, true, false, List, [], ◌∷◌, length, refl, subst, Option, Some, None, Result, Ok, Err, nat_lt, nat_le, ok_or, eqb-true}
+use Rattle.std.proofs.Common.{◌≡◌, ℕ, ◌+◌, ◌<◌, ◌≤◌, Bool, true, false, length, refl, sym, subst, Option, Some, None, Result, Ok, Err, nat_lt, nat_le, ok_or, eqb-true}
 use Rattle.std.specs.Prelude.{slice_get, ◌==◌, if◌then◌else◌}
 use Rattle.std.proofs.lemmas.Bool.{leb-true, ltb-true}
 use Rattle.metering_model.specs.FirstFailure.{◌>>=◌, holds_or}
@@ -10,14 +10,19 @@ use Rattle.metering_model.specs.JournalRules.{next_seq, first_broken}
 use Rattle.metering_model.specs.declared.BatchFault.{BatchFault}
 use Rattle.metering_model.specs.declared.BrokenRule.{BrokenRule}
 use Rattle.metering_model.specs.declared.Refusal.{Refusal}
-use Rattle.metering_model.specs.declared.Refusal.TheVariants.{NoPacket, NoNode, NoAgent, WrongSeq, AllClosed, NoBallot, WorldFull, Observer}
+use Rattle.metering_model.specs.declared.Refusal.TheVariants.{NoPacket, NoNode, NoAgent, WrongSeq, AllClosed, NoBallot, WorldFull, Observer, NotKept}
 use Rattle.metering_model.specs.declared.BrokenRule.TheVariants.{BadTarget, Unpriced}
 use Rattle.metering_model.specs.Ballot.{ballot_of}
-use Rattle.metering_model.specs.World.{World, Node, Packet, CarriesBatch, Prepare, Offer, Good, Bad, Event, Journal, Deliver, Start, Restart, Export, Delivered, Reply, voter_count, votes, current_period, wake, with_node_at, with_packet, next_packet}
+use Rattle.metering_model.specs.World.{World, Node, Packet, CarriesBatch, Prepare, Offer, Good, Bad, Event, Journal, Deliver, Start, Restart, Export, Keep, Revive, KeptOffer, KeptGood, KeptBad, Delivered, Reply, voter_count, votes, current_period, wake, with_node_at, with_packet, next_packet}
 use Rattle.metering_model.specs.World as world
 use Rattle.metering_model.specs.Deliveries.{Handled, handled}
-use Rattle.metering_model.specs.Step.{Outcome, on_batch, on_journal, on_delivery, on_start, on_restart, started_node, after_delivery, outcome_of, or_refused, or_bad_batch, unless_broken, snapshot, step, play}
+use Rattle.metering_model.specs.declared.KeptTextFault.{KeptTextFault}
+use Rattle.metering_model.specs.BatchReading.{is_same}
+use Rattle.metering_model.specs.KeptText.{KeptAmong, HasText, kept_text, kept_in}
+use Rattle.metering_model.specs.Step.{Outcome, on_batch, on_journal, on_delivery, on_start, on_restart, on_revival, or_bad_kept, kept_of, kept_now, started_node, after_delivery, outcome_of, or_refused, or_bad_batch, unless_broken, snapshot, step}
 use Rattle.metering_model.proofs.BatchLaws.{IsWellFormed-read}
+use Rattle.metering_model.proofs.FieldLaws.{same_read}
+use Rattle.metering_model.proofs.KeptLaws.{kept_read}
 use Rattle.group_laws.proofs.Quorum.{In}
 
 abbrev pub HasRoom : World → Type 0
@@ -74,6 +79,10 @@ pub record IsKeptBySteps (M : World → Type 0) : Type 0 where
   pub starts : (w : World) (i : ℕ) (n : Node) → M w → MayStart w i n → M (starting w i n)
   pub restarts : (w : World) (i : ℕ) (n : Node) → M w → slice_get w.nodes i ≡ Some n → M (with_node_at i (wake n.kept) w)
 
+-- what has the text of what a node keeps is that: so to be revived is to restart
+pub record IsReadBack (w : World) : Type 0 where
+  pub same : (i : ℕ) (n : Node) (k : KeptAmong) → slice_get w.nodes i ≡ Some n → HasText k → kept_text k ≡ kept_text (kept_now w n) → k ≡ kept_now w n
+
 pub record IfOk (M : World → Type 0) (r : Result Outcome Refusal) : Type 0 where
   pub kept : (o : Outcome) → r ≡ Ok o → M o.1
 
@@ -114,7 +123,16 @@ batch_read : (r : Result Batch BatchFault) (b : Batch) → or_bad_batch r ≡ Ok
 batch_read (Ok x) b h = cc
 batch_read (Err e) b h = absurd (cc)
 
-module _ (M : World → Type 0) (keeps : IsKeptBySteps M) (w : World) (h : M w) where
+bad_kept_read : (r : Result KeptAmong KeptTextFault) (k : KeptAmong) → or_bad_kept r ≡ Ok k → r ≡ Ok k
+bad_kept_read (Ok x) k h = cc
+bad_kept_read (Err e) k h = absurd (cc)
+
+-- what is taken from an offer has a text
+pub taken_has_text : (offer : KeptOffer) (k : KeptAmong) → kept_of offer ≡ Ok k → HasText k
+taken_has_text (KeptGood text) k e = (kept_read text k (bad_kept_read (kept_in text) k e)).has
+taken_has_text (KeptBad fault) k e = absurd (cc)
+
+module _ (M : World → Type 0) (keeps : IsKeptBySteps M) (w : World) (back : IsReadBack w) (h : M w) where
   batch_kept : (b : Batch) → IsWellFormed b → IfOk M (on_batch w b)
   batch_kept b well =
       after_bind M (holds_or (nat_le b.agent w.agents) NoAgent) _ (λ u one.
@@ -157,12 +175,23 @@ module _ (M : World → Type 0) (keeps : IsKeptBySteps M) (w : World) (h : M w) 
   restart_kept : (i : ℕ) → IfOk M (on_restart w i)
   restart_kept i = after_bind M (ok_or (slice_get w.nodes i) NoNode) _ (λ n at. done M _ (keeps.restarts w i n h (ok_or_ok _ _ _ at)))
 
+  revival_kept : (i : ℕ) (offer : KeptOffer) → IfOk M (on_revival w i offer)
+  revival_kept i offer =
+      after_bind M (ok_or (slice_get w.nodes i) NoNode) _ (λ n at.
+      after_bind M (kept_of offer) _ (λ k taken.
+      after_bind M (holds_or (is_same (kept_text k) (kept_text (kept_now w n))) NotKept) _ (λ u same.
+      let found = ok_or_ok _ _ _ at in
+      let is : k ≡ kept_now w n = back.same i n k found (taken_has_text offer k taken) (same_read _ _ (held_ok _ _ _ same)) in
+      done M _ (subst (λ (x : KeptAmong). M (with_node_at i (wake x.kept) w)) (sym is) (keeps.restarts w i n h found)))))
+
   outcome_kept : (e : Event) → IfOk M (outcome_of w e)
   outcome_kept (Journal offer) = journal_kept offer
   outcome_kept (Deliver k i) = delivery_kept k i
   outcome_kept (Start i) = start_kept i
   outcome_kept (Restart i) = restart_kept i
   outcome_kept (Export i p) = after_bind M (snapshot w i p) _ (λ s e. done M _ h)
+  outcome_kept (Keep i) = after_bind M (ok_or (slice_get w.nodes i) NoNode) _ (λ n at. done M _ h)
+  outcome_kept (Revive i offer) = revival_kept i offer
 
   pub step_kept : (e : Event) → M (step w e).1
   step_kept e = either (outcome_of w e) (outcome_kept e)
@@ -170,8 +199,3 @@ module _ (M : World → Type 0) (keeps : IsKeptBySteps M) (w : World) (h : M w) 
       either : (r : Result Outcome Refusal) → IfOk M r → M (or_refused w r).1
       either (Ok o) k = k.kept o refl
       either (Err e) k = h
-
--- what each step keeps, a run keeps
-pub play_kept : (M : World → Type 0) → IsKeptBySteps M → (es : List Event) (w : World) → M w → M (play w es).1
-play_kept M keeps [] w h = h
-play_kept M keeps (e ∷ es) w h = play_kept M keeps es (step w e).1 (step_kept M keeps w h e)

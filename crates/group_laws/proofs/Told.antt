@@ -52,7 +52,7 @@ ChosenIn-more P q N p c h =
     (h.0, omega (arith, more, h.1))
 
 -- what a set of nodes and a cut make chosen
-same_itself : (c : Cut) → is_same c c ≡ true
+pub same_itself : (c : Cut) → is_same c c ≡ true
 same_itself [] = refl
 same_itself (x ∷ c) = and_from (x == x) (is_same c c) (eq-eqb x x refl) (same_itself c)
 

@@ -8,15 +8,16 @@ use Rattle.std.proofs.lemmas.List.Elements.{All-head, All-tail}
 use Rattle.std.proofs.lemmas.Option.{same_Some, none-some, slice_get_past, slice_get_within}
 use Rattle.metering_model.specs.FirstFailure.{◌>>=◌, holds_or}
 use Rattle.metering_model.specs.Batch.{Batch}
-use Rattle.metering_model.specs.BatchReading.{with_first}
+use Rattle.metering_model.specs.BatchReading.{is_same, with_first}
 use Rattle.metering_model.specs.Holding.{Holding, placed, put}
 use Rattle.metering_model.specs.JournalRules.{next_seq, first_broken}
 use Rattle.metering_model.specs.Sheet.{Sheet, Issuer}
 use Rattle.metering_model.specs.declared.Refusal.{Refusal}
-use Rattle.metering_model.specs.declared.Refusal.TheVariants.{NoPacket, NoNode, NoAgent, WrongSeq, AllClosed, NoBallot, WorldFull, Observer}
-use Rattle.metering_model.specs.World.{World, Node, Packet, CarriesBatch, Prepare, Promise, Accept, Accepted, Decided, Event, Journal, Deliver, Start, Restart, Export, Delivered, Reply, Refused, Exported, Snapshot, votes, current_period, wake, new_kept, with_node_at, with_packet, next_packet, opening}
+use Rattle.metering_model.specs.declared.Refusal.TheVariants.{NoPacket, NoNode, NoAgent, WrongSeq, AllClosed, NoBallot, WorldFull, Observer, NotKept}
+use Rattle.metering_model.specs.World.{World, Node, Packet, CarriesBatch, Prepare, Promise, Accept, Accepted, Decided, Event, Journal, Deliver, Start, Restart, Export, Keep, Revive, KeptOffer, Delivered, Reply, Refused, Exported, Snapshot, votes, current_period, wake, new_kept, with_node_at, with_packet, next_packet, opening}
 use Rattle.metering_model.specs.Deliveries.{Handled, handled}
-use Rattle.metering_model.specs.Step.{Outcome, batch_of, on_batch, on_delivery, on_start, on_export, after_delivery, outcome_of, or_refused, unless_broken, snapshot, step, play}
+use Rattle.metering_model.specs.KeptText.{kept_text}
+use Rattle.metering_model.specs.Step.{Outcome, batch_of, on_batch, on_delivery, on_start, on_export, on_revival, kept_of, kept_now, after_delivery, outcome_of, or_refused, unless_broken, snapshot, step, play}
 use Rattle.group_laws.specs.Observers.{is_beyond, Numbers, numbers_after, next_after, renumbered, without, Follows, IsFollowed}
 use Rattle.group_laws.proofs.Told.{get-push}
 
@@ -213,6 +214,12 @@ module _ (N : ℕ) (numbers : Numbers) (next : ℕ) (w u : World) (h : Follows N
       pass_bind (ok_or (slice_get w.nodes i) NoNode) _ (λ n at.
       pass_bind (holds_or (votes w i) Observer) _ (λ t voter. absurd (no_vote i beyond (held (votes w i) Observer t voter))))
 
+  revival_passes : (i : ℕ) (offer : KeptOffer) → N ≤ i → Passes (on_revival w i offer)
+  revival_passes i offer beyond =
+      pass_bind (ok_or (slice_get w.nodes i) NoNode) _ (λ n at.
+      pass_bind (kept_of offer) _ (λ k taken.
+      pass_bind (holds_or (is_same (kept_text k) (kept_text (kept_now w n))) NotKept) _ (λ t same. observing N numbers next w u h i (wake k.kept) beyond)))
+
   beyond_passes : (e : Event) → is_beyond N e ≡ true → Passes (outcome_of w e)
   beyond_passes (Journal offer) e = absurd (cc)
   beyond_passes (Deliver k i) e =
@@ -221,6 +228,8 @@ module _ (N : ℕ) (numbers : Numbers) (next : ℕ) (w u : World) (h : Follows N
   beyond_passes (Start i) e = start_passes i (leb-true _ _ e)
   beyond_passes (Restart i) e = pass_bind (ok_or (slice_get w.nodes i) NoNode) _ (λ n at. observing N numbers next w u h i (wake n.kept) (leb-true _ _ e))
   beyond_passes (Export i p) e = pass_bind (snapshot w i p) _ (λ s is. h)
+  beyond_passes (Keep i) e = pass_bind (ok_or (slice_get w.nodes i) NoNode) _ (λ n at. h)
+  beyond_passes (Revive i offer) e = revival_passes i offer (leb-true _ _ e)
 
 -- ---- what is at a voter, or is journaled
 
@@ -331,6 +340,16 @@ module _ (N : ℕ) (numbers : Numbers) (next : ℕ) (w : World) (P : List Packet
       subst (λ (x : Result Snapshot Refusal). Pairs (on_export w i p) (x >>= λ s. Ok (Exported s, u))) (sym (same_snapshot i p low))
       (pair_bind (snapshot w i p) _ _ (λ s. record { told = λ fits. h }))
 
+  keep_pairs : (i : ℕ) → i < N → Pairs (outcome_of w (Keep i)) (outcome_of u (Keep i))
+  keep_pairs i low = pair_found (slice_get w.nodes i) (slice_get V i) NoNode _ _ (h.nodes i low) (λ n. record { told = λ fits. h })
+
+  revival_pairs : (i : ℕ) (offer : KeptOffer) → i < N → Pairs (on_revival w i offer) (on_revival u i offer)
+  revival_pairs i offer low =
+      pair_found (slice_get w.nodes i) (slice_get V i) NoNode _ _ (h.nodes i low) (λ n.
+      pair_bind (kept_of offer) _ _ (λ k.
+      pair_bind (holds_or (is_same (kept_text k) (kept_text (kept_now w n))) NotKept) _ _ (λ same.
+      record { told = λ fits. setting N numbers next w u h i (wake k.kept) })))
+
   below : (i : ℕ) → nat_le N i ≡ false → i < N
   below i e = let less = leb-false _ _ e in omega (arith, less)
 
@@ -346,6 +365,8 @@ module _ (N : ℕ) (numbers : Numbers) (next : ℕ) (w : World) (P : List Packet
       subst (λ (x : Event). Pairs (outcome_of w (Restart i)) (outcome_of u x)) (same_Some _ _ is)
       (pair_found (slice_get w.nodes i) (slice_get V i) NoNode _ _ (h.nodes i (below i low)) (λ n. record { told = λ fits. setting N numbers next w u h i (wake n.kept) }))
   event_pairs (Export i p) f low is = subst (λ (x : Event). Pairs (outcome_of w (Export i p)) (outcome_of u x)) (same_Some _ _ is) (export_pairs i p (below i low))
+  event_pairs (Keep i) f low is = subst (λ (x : Event). Pairs (outcome_of w (Keep i)) (outcome_of u x)) (same_Some _ _ is) (keep_pairs i (below i low))
+  event_pairs (Revive i offer) f low is = subst (λ (x : Event). Pairs (outcome_of w (Revive i offer)) (outcome_of u x)) (same_Some _ _ is) (revival_pairs i offer (below i low))
 
 -- ---- one event
 

@@ -8,7 +8,7 @@ use Rattle.jiff_core.specs.Calendar.{days_from_civil, day_count, days_of_years, 
 use Rattle.metering_model.specs.NumberText.{worth_of, decimals_of}
 use Rattle.metering_model.specs.Rows.{PlacedRow, placed_rows}
 use Rattle.metering_model.specs.Holding.{Position}
-use Rattle.metering_model.specs.World.{World, Event, Snapshot, Reply, Journaled, Delivered, Started, Restarted, Exported, Refused, opening}
+use Rattle.metering_model.specs.World.{World, Event, Snapshot, Reply, Journaled, Delivered, Started, Restarted, Exported, KeptText, Refused, opening}
 use Rattle.metering_model.specs.Step.{play}
 use Rattle.metering_model.specs.Chosen.{IsChosen}
 use Rattle.metering_model.specs.Schedule.{Schedule, event_of}
@@ -59,6 +59,7 @@ exported (Some (Delivered sent learned)) p e = absurd (cc)
 exported (Some (Started ballot k)) p e = absurd (cc)
 exported (Some Restarted) p e = absurd (cc)
 exported (Some (Refused refusal)) p e = absurd (cc)
+exported (Some (KeptText text)) p e = absurd (cc)
 exported (Some (Exported s)) p e = (s, refl, same_Some s.period p e)
 
 exports_are_equal : slice_get (run_of whole_path).0 12 ≡ slice_get (run_of whole_path).0 15

@@ -2,7 +2,7 @@
 use Rattle.std.specs.Prelude.{◌≡◌, ℕ, ◌+◌, ◌<◌, ◌≤◌, Bool, true, false, nat_le, if◌then◌else◌, List, [], ◌∷◌, ◌++◌, length, Option, Some, None, unwrap_or, slice_get}
 use Rattle.std.specs.Option.{option_map}
 use Rattle.metering_model.specs.BatchReading.{with_first}
-use Rattle.metering_model.specs.World.{World, Event, Journal, Deliver, Start, Restart, Export, Reply, Journaled, Delivered, Started, Restarted, Exported, Refused, voter_count}
+use Rattle.metering_model.specs.World.{World, Event, Journal, Deliver, Start, Restart, Export, Keep, Revive, Reply, Journaled, Delivered, Started, Restarted, Exported, KeptText, Refused, voter_count}
 
 -- an event at a node that does not vote, be it an observer or none at all
 abbrev pub is_beyond : ℕ → Event → Bool
@@ -11,6 +11,8 @@ is_beyond voters (Deliver packet node) = nat_le voters node
 is_beyond voters (Start node) = nat_le voters node
 is_beyond voters (Restart node) = nat_le voters node
 is_beyond voters (Export node period) = nat_le voters node
+is_beyond voters (Keep node) = nat_le voters node
+is_beyond voters (Revive node offer) = nat_le voters node
 
 -- a packet was sent
 abbrev pub is_sent : Reply → Bool
@@ -20,6 +22,7 @@ is_sent (Delivered None learned) = false
 is_sent (Started ballot packet) = true
 is_sent Restarted = false
 is_sent (Exported snapshot) = false
+is_sent (KeptText text) = false
 is_sent (Refused refusal) = false
 
 -- What each packet of the whole run is called in the other one, in turn: a packet of an observer is not there, and has no number.

@@ -1,11 +1,12 @@
 //! The headline over every list of events, and what the bodies of a group rest on.
 
-ghost use Rattle.std.specs.Prelude.{◌≡◌, ◌≢◌, ℕ, List, [], ◌++◌, map, Some, All};
+ghost use Rattle.std.specs.Prelude.{◌≡◌, ◌≢◌, ℕ, ◌≤◌, List, [], ◌++◌, map, Some, All, slice_get};
 ghost use Rattle.metering_model.specs.Sheet.{Sheet, Issuer};
 ghost use Rattle.metering_model.specs.Cut.{Cut};
 ghost use Rattle.metering_model.specs.declared.Refusal.TheVariants.{WorldFull};
-ghost use Rattle.metering_model.specs.World.{World, Event, Refused, opening};
-ghost use Rattle.metering_model.specs.Step.{play};
+ghost use Rattle.metering_model.specs.World.{World, Node, Event, Restart, Revive, KeptOffer, KeptGood, Restarted, Refused, opening};
+ghost use Rattle.metering_model.specs.KeptText.{HasText, kept_text};
+ghost use Rattle.metering_model.specs.Step.{kept_now, step, play};
 ghost use Rattle.metering_model.specs.History.{Entry, IsLegal};
 ghost use Rattle.group_laws.specs.Headline.{IsPrefixOf, AreTheCuts, HoldsAfter};
 ghost use Rattle.group_laws.specs.EveryRun.{KeepsLimits};
@@ -38,4 +39,20 @@ pub fn observers_change_nothing()
         without voters [] 0 events (play (opening voters observers agents sheet issuer) events).0 ≡ Some others →
         All (λ r. r ≢ Refused WorldFull) (play (opening voters observers agents sheet issuer) events).0 →
         IsFollowed voters (play (opening voters observers agents sheet issuer) events).1 (play (opening voters 0 agents sheet issuer) others).1 }
+{}
+
+/// A node is revived from the text of what it keeps now, and from no other: to be revived is to restart. Its text is read
+/// back as what it keeps, where the group is no larger than a text can say.
+pub fn a_revival_is_a_restart()
+    ensures restarts { (voters observers agents : ℕ) (sheet : Sheet) (issuer : Issuer) (events : List Event) (node : ℕ) (offer : KeptOffer) →
+        (step (play (opening voters observers agents sheet issuer) events).1 (Revive node offer)).0 ≡ Restarted →
+        step (play (opening voters observers agents sheet issuer) events).1 (Revive node offer)
+        ≡ step (play (opening voters observers agents sheet issuer) events).1 (Restart node) }
+    ensures has_text { (voters observers agents : ℕ) (sheet : Sheet) (issuer : Issuer) (events : List Event) → voters ≤ 99 → 1 ≤ agents → agents ≤ 64 →
+        (node : ℕ) (n : Node) → slice_get (play (opening voters observers agents sheet issuer) events).1.nodes node ≡ Some n →
+        HasText (kept_now (play (opening voters observers agents sheet issuer) events).1 n) }
+    ensures taken { (voters observers agents : ℕ) (sheet : Sheet) (issuer : Issuer) (events : List Event) → voters ≤ 99 → 1 ≤ agents → agents ≤ 64 →
+        (node : ℕ) (n : Node) → slice_get (play (opening voters observers agents sheet issuer) events).1.nodes node ≡ Some n →
+        step (play (opening voters observers agents sheet issuer) events).1 (Revive node (KeptGood (kept_text (kept_now (play (opening voters observers agents sheet issuer) events).1 n))))
+        ≡ step (play (opening voters observers agents sheet issuer) events).1 (Restart node) }
 {}

@@ -1,33 +1,34 @@
 -- A text is read as a batch exactly where it is that batch's text, and each of its parts meets its rule.
 use Rattle.std.proofs.Common.{◌≡◌, ℕ, ◌+◌, Bool, true, false, ◌&&◌, cond, List, [], ◌∷◌, ◌++◌, length, map, flat_map, All, Result, Ok, Err, refl, sym, ap, ap₂, ◌∙◌, subst, append-nil, ltb-false, le-ltb, eqb-true, eq-eqb}
 use Rattle.std.specs.Prelude.{◌==◌, nat_lt}
+use Rattle.std.specs.List.{list_all}
 use Rattle.std.proofs.lemmas.Bool.{and_parts, and_from, cond-false, false≢true}
 use Rattle.std.proofs.lemmas.List.{length-map}
 use Rattle.std.proofs.lemmas.List.Folds.{flat_map-map}
 use Rattle.metering_model.specs.FirstFailure.{holds_or}
-use Rattle.metering_model.specs.Batch.{Record, IsRecord, Batch, IsBatch, IsWellFormed, batch_text, head_fields, line_of_fields, is_empty}
+use Rattle.metering_model.specs.Batch.{Record, IsRecord, is_of_version, Batch, IsBatch, IsWellFormed, batch_text, head_fields, line_of_fields, is_empty}
 use Rattle.metering_model.specs.BatchReading.{Count, BatchFault, TooLong, HeadLine, head_in, records_in, fields_in, at_line, Lines, lines_in, batch_of_lines, batch_in}
 use Rattle.metering_model.proofs.StepLaws.{step_iff, ok_same}
 use Rattle.metering_model.proofs.Splitting.{ended, lines_give_back, lines_of_text}
 use Rattle.metering_model.proofs.LineLaws.{HeadLimits, head_line, head_read, head_written, head_lacks_feed, record_line, at_line_ok, records_read, records_written, records_lack_feed}
 
 -- what a batch's head line says
-abbrev head_of : Batch → HeadLine
-head_of b = record { agent = b.agent; seq = b.seq; count = length b.records }
+abbrev pub head_of : Batch → HeadLine
+head_of b = record { version = b.version; agent = b.agent; seq = b.seq; count = length b.records }
 
 -- the lines of a batch
-abbrev batch_lines : Batch → List (List ℕ)
+abbrev pub batch_lines : Batch → List (List ℕ)
 batch_lines b = head_line (head_of b) ∷ map record_line b.records
 
 -- the lines with their line feeds are the batch's text
-lines_are_text : (b : Batch) → flat_map ended (batch_lines b) ≡ batch_text b
+pub lines_are_text : (b : Batch) → flat_map ended (batch_lines b) ≡ batch_text b
 lines_are_text b = ap (λ t. line_of_fields (head_fields b) ++ t) (flat_map-map ended record_line b.records)
 
 -- ---- from reading
 
 -- the lines and the rest behind them are the batch's, and its parts meet their rules
 abbrev AreLines : List (List ℕ) → List ℕ → Batch → Type 0
-AreLines ls rest b = (ls ≡ batch_lines b) × (rest ≡ []) × HeadLimits (head_of b) × All IsRecord b.records
+AreLines ls rest b = (ls ≡ batch_lines b) × (rest ≡ []) × HeadLimits (head_of b) × All IsRecord b.records × (list_all (is_of_version b.version) b.records ≡ true)
 
 -- a test that had to hold did
 holds_true : {E : Type 0} (b : Bool) (e : E) (u : Unit {0}) → holds_or b e ≡ Ok u → b ≡ true
@@ -39,12 +40,12 @@ empty_nil [] h = refl
 empty_nil (c ∷ cs) h = absurd (false≢true h)
 
 -- what each step of reading a batch's lines answered
-batch_apart : (l : List ℕ) (ls : List (List ℕ)) (rest : List ℕ) (b : Batch) → batch_of_lines (l ∷ ls) rest ≡ Ok b → (x : HeadLine) × (rs : List Record) × (◌≡◌ {A = Batch} (record { agent = x.agent; seq = x.seq; records = rs }) b) × (head_in (fields_in l) ≡ Ok x) × (records_in 2 x.count ls ≡ Ok rs) × (((length ls == x.count) && is_empty rest) ≡ true)
+batch_apart : (l : List ℕ) (ls : List (List ℕ)) (rest : List ℕ) (b : Batch) → batch_of_lines (l ∷ ls) rest ≡ Ok b → (x : HeadLine) × (rs : List Record) × (◌≡◌ {A = Batch} (record { version = x.version; agent = x.agent; seq = x.seq; records = rs }) b) × (head_in (fields_in l) ≡ Ok x) × (records_in x.version 2 x.count ls ≡ Ok rs) × (((length ls == x.count) && is_empty rest) ≡ true)
 batch_apart l ls rest b h =
     let a = simp step_iff at h in
     let r = a.2 in
     let t = r.2 in
-    let c : Batch = record { agent = a.0.agent; seq = a.0.seq; records = r.0 } in
+    let c : Batch = record { version = a.0.version; agent = a.0.agent; seq = a.0.seq; records = r.0 } in
     let test = (length ls == a.0.count) && is_empty rest in (
       a.0,
       r.0,
@@ -64,10 +65,10 @@ lines_read [] rest b h = absurd (cc)
 lines_read (l ∷ ls) rest b h =
     let a = batch_apart l ls rest b h in
     let tests = and_parts (length ls == a.0.count) (is_empty rest) a.5 in
-    let records = records_read 2 a.0.count ls a.1 a.4 (eqb-true (length ls) a.0.count tests.0) in
+    let records = records_read a.0.version 2 a.0.count ls a.1 a.4 (eqb-true (length ls) a.0.count tests.0) in
     let same = ap (with_count a.0) (sym records.1) in
     let head = subst (λ (x : HeadLine). (l ≡ head_line x) × HeadLimits x) same (head_read l a.0 a.3) in
-    subst (AreLines (l ∷ ls) rest) a.2 (ap₂ ◌∷◌ head.0 records.0, empty_nil rest tests.1, head.1, records.2)
+    subst (AreLines (l ∷ ls) rest) a.2 (ap₂ ◌∷◌ head.0 records.0, empty_nil rest tests.1, head.1, records.2, records.3)
 
 -- the fault of a text above the limit of its length
 abbrev too_long : BatchFault
@@ -95,20 +96,21 @@ batch_read text b h =
       seq = p.2.seq;
       count = p.2.count;
       records = p.3;
+      of_version = p.4;
     }
 
 -- ---- to reading
 
 -- a batch's lines, with nothing behind them, are read as it
-lines_written : (b : Batch) → HeadLimits (head_of b) → All IsRecord b.records → batch_of_lines (batch_lines b) [] ≡ Ok b
-lines_written b limits records =
+lines_written : (b : Batch) → HeadLimits (head_of b) → All IsRecord b.records → list_all (is_of_version b.version) b.records ≡ true → batch_of_lines (batch_lines b) [] ≡ Ok b
+lines_written b limits records fits =
     let counted = eq-eqb (length (map record_line b.records)) (length b.records) (length-map b.records record_line) in
     simp step_iff (
       head_of b,
       ap (at_line 1) (head_written (head_of b) limits),
       (
         b.records,
-        records_written 2 b.records records,
+        records_written b.version 2 b.records records fits,
         (tt, ap (λ t. at_line (length b.records + 2) (holds_or (t && true) Count)) counted, refl),
       ),
     )
@@ -121,7 +123,7 @@ batch_written text b h =
     let lines = ap lines_in (h.joined ∙ sym (lines_are_text b)) ∙ lines_of_text (batch_lines b) feeds in
     cond-false (nat_lt 65_536 (length text)) (Err too_long) (batch_of_lines (lines_in text).lines (lines_in text).rest) (le-ltb 65_536 (length text) h.short)
     ∙ ap (λ (ls : Lines). batch_of_lines ls.lines ls.rest) lines
-    ∙ lines_written b limits h.records
+    ∙ lines_written b limits h.records h.of_version
 
 -- a batch that was read is one that a text may be
 pub IsWellFormed-read : (text : List ℕ) (b : Batch) → batch_in text ≡ Ok b → IsWellFormed b

@@ -5,8 +5,8 @@ use Rattle.std.specs.Result.{result_ok}
 use Rattle.std.proofs.lemmas.Bool.{and_parts, and_from, cond-true}
 use Rattle.std.proofs.lemmas.Option.{cond_some, same_Some, none-some}
 use Rattle.metering_model.specs.NumberText.{Range, spelling, number_in, number_of, is_whole_part, value_in, value_within, value_limit}
-use Rattle.metering_model.specs.Batch.{Kind, Usage, Purchase, Credit, Tax, Adjustment, kind_text}
-use Rattle.metering_model.specs.BatchReading.{is_same, kind_in, whole_in}
+use Rattle.metering_model.specs.Batch.{Version, B1, B2, version_text, Kind, Usage, Purchase, Credit, Tax, Adjustment, kind_text}
+use Rattle.metering_model.specs.BatchReading.{is_same, kind_in, version_in, whole_in}
 use Rattle.metering_model.proofs.NumberLaws.{spelled_number, number_spelled, spelling_spells, spelling_unique, decimal_whole, whole_decimal}
 
 -- ---- the same text
@@ -20,21 +20,21 @@ same_read (x ∷ xs) (y ∷ ys) h =
     let both = and_parts (x == y) (is_same xs ys) h in
     ap₂ ◌∷◌ (eqb-true x y both.0) (same_read xs ys both.1)
 
--- ---- a reading's kind
+-- ---- a reading's kind, and a batch's version
 
 -- the choice of a kind by one letter, and by those behind it
-choice_read : (b : Bool) (t : List ℕ) (k l : Kind) (o : Option Kind) → (b ≡ true → t ≡ kind_text k) → (o ≡ Some l → t ≡ kind_text l) → cond b (Some k) o ≡ Some l → t ≡ kind_text l
-choice_read true t k l o here later h = here refl ∙ ap kind_text (same_Some k l h)
-choice_read false t k l o here later h = later h
+choice_read : {K : Type 0} (text : K → List ℕ) (b : Bool) (t : List ℕ) (k l : K) (o : Option K) → (b ≡ true → t ≡ text k) → (o ≡ Some l → t ≡ text l) → cond b (Some k) o ≡ Some l → t ≡ text l
+choice_read text true t k l o here later h = here refl ∙ ap text (same_Some k l h)
+choice_read text false t k l o here later h = later h
 
 -- a letter that is read as a kind is that kind's
 pub kind_read : (t : List ℕ) (k : Kind) → kind_in t ≡ Some k → t ≡ kind_text k
 kind_read t k =
-    choice_read _ t Usage k _ (same_read t (codes "U"))
-    (choice_read _ t Purchase k _ (same_read t (codes "P"))
-    (choice_read _ t Credit k _ (same_read t (codes "C"))
-    (choice_read _ t Tax k _ (same_read t (codes "T"))
-    (choice_read _ t Adjustment k _ (same_read t (codes "A")) (λ e. absurd (none-some k e))))))
+    choice_read kind_text _ t Usage k _ (same_read t (codes "U"))
+    (choice_read kind_text _ t Purchase k _ (same_read t (codes "P"))
+    (choice_read kind_text _ t Credit k _ (same_read t (codes "C"))
+    (choice_read kind_text _ t Tax k _ (same_read t (codes "T"))
+    (choice_read kind_text _ t Adjustment k _ (same_read t (codes "A")) (λ e. absurd (none-some k e))))))
 
 -- each kind's letter is read as it
 pub kind_written : (k : Kind) → kind_in (kind_text k) ≡ Some k
@@ -43,6 +43,16 @@ kind_written Purchase = refl
 kind_written Credit = refl
 kind_written Tax = refl
 kind_written Adjustment = refl
+
+-- so it is with the version
+pub version_read : (t : List ℕ) (v : Version) → version_in t ≡ Some v → t ≡ version_text v
+version_read t v =
+    choice_read version_text _ t B1 v _ (same_read t (codes "B1"))
+    (choice_read version_text _ t B2 v _ (same_read t (codes "B2")) (λ e. absurd (none-some v e)))
+
+pub version_written : (v : Version) → version_in (version_text v) ≡ Some v
+version_written B1 = refl
+version_written B2 = refl
 
 -- ---- whole numbers within limits
 

@@ -14,8 +14,11 @@ pub mod TagLaws
 pub mod FieldBytes
 pub mod ReadingLaws
 pub mod RecordLaws
+pub mod RegionLaws
 pub mod LineLaws
 pub mod BatchLaws
+pub mod KeptLines
+pub mod KeptLaws
 pub mod RoundingLaws
 pub mod BatchOrder
 pub mod HoldingLaws
@@ -33,6 +36,7 @@ pub mod RulesUpToCut
 pub mod MonthOrder
 pub mod MonthTexts
 pub mod LineFeeds
+pub mod Decimals
 pub mod RecordPlaces
 pub mod QuantityBounds
 pub mod ValueBounds
@@ -46,7 +50,9 @@ mod WorkedNumbers
 mod WorkedBatches
 mod WorkedRates
 mod WorkedRows
+mod WorkedRegions
 pub mod WorkedBallots
+mod WorkedKept
 pub mod WorkedPeriods
 pub mod WorkedSheets
 mod WorkedLimits

@@ -1,13 +1,14 @@
 -- A reading is read from its fields, each of which meets its rule, and back.
-use Rattle.std.proofs.Common.{◌≡◌, ℕ, Bool, true, false, not, ◌&&◌, ◌||◌, List, [], ◌∷◌, Some, Ok, ℤ, pos, ◌<ℤ◌, ◌≤ℤ◌, int_lt, int_le, refl, sym, ap, ap₂, arith}
+use Rattle.std.proofs.Common.{◌≡◌, ℕ, Bool, true, false, not, ◌&&◌, ◌||◌, List, [], ◌∷◌, Option, Some, None, Result, Ok, ℤ, pos, ◌<ℤ◌, ◌≤ℤ◌, int_lt, int_le, refl, sym, ap, ap₂, arith}
 use Rattle.std.specs.Result.{result_ok}
+use Rattle.std.specs.Option.{option_to_list}
 use Rattle.std.specs.List.{list_all}
 use Rattle.std.proofs.lemmas.Bool.{and_parts, and_from, false≢true}
 use Rattle.std.proofs.lemmas.Int.{ints}
 use Rattle.metering_model.specs.NumberText.{spelling, value_in}
 use Rattle.metering_model.specs.Dates.{stamp_in}
 use Rattle.metering_model.specs.Batch.{Record, Reads, Reading, IsReading, record_fields, kind_text, tags_text, is_priced, is_field, is_text, is_empty, lacks}
-use Rattle.metering_model.specs.BatchReading.{record_in, kind_in, tags_in}
+use Rattle.metering_model.specs.BatchReading.{BatchCode, reading_in, kind_in, tags_in}
 use Rattle.metering_model.proofs.StepLaws.{some_iff, test_iff, and_iff, ok_same}
 use Rattle.metering_model.proofs.FieldLaws.{kind_read, kind_written, value_read, value_written}
 use Rattle.metering_model.proofs.TagLaws.{tags_read, tags_written}
@@ -26,17 +27,23 @@ pub record Steps (letter number tag_list : List ℕ) (r : Reading) : Type 0 wher
   pub sign : (not (is_priced r.kind) || int_le (pos 0) r.value) ≡ true
   pub commitment : (is_text r.commitment && (is_priced r.kind || is_empty r.commitment)) ≡ true
   pub tags : tags_in tag_list ≡ Some r.tags
+  pub region : list_all is_text (option_to_list r.region) ≡ true
 
 -- the fields of a line that are read as the texts of a reading, and those that are read as something else
 abbrev pub fields_around : (letter number tag_list : List ℕ) → Reading → List (List ℕ)
 fields_around letter number tag_list r =
-    letter ∷ r.start_text ∷ r.end_text ∷ r.account ∷ r.resource ∷ r.key ∷ number ∷ r.commitment ∷ tag_list ∷ []
+    letter ∷ r.start_text ∷ r.end_text ∷ r.account ∷ r.resource ∷ r.key ∷ number ∷ r.commitment ∷ tag_list ∷ option_to_list r.region
+
+-- what they are read as
+abbrev pub read_around : (letter number tag_list : List ℕ) → Reading → Result Record BatchCode
+read_around letter number tag_list r =
+    reading_in letter r.start_text r.end_text r.account r.resource r.key number r.commitment tag_list r.region
 
 -- ---- the chain of steps, taken apart and put together
 
 -- fields that are read as a record are those around a reading, and each step answered
-pub taken_apart : (letter start end account resource key value commitment tags : List ℕ) (x : Record) → record_in (letter ∷ start ∷ end ∷ account ∷ resource ∷ key ∷ value ∷ commitment ∷ tags ∷ []) ≡ Ok x → (r : Reading) × (Reads r ≡ x) × (letter ∷ start ∷ end ∷ account ∷ resource ∷ key ∷ value ∷ commitment ∷ tags ∷ [] ≡ fields_around letter value tags r) × Steps letter value tags r
-taken_apart letter start end account resource key value commitment tags x h =
+pub taken_apart : (letter start end account resource key value commitment tags : List ℕ) (region : Option (List ℕ)) (x : Record) → reading_in letter start end account resource key value commitment tags region ≡ Ok x → (r : Reading) × (Reads r ≡ x) × (letter ∷ start ∷ end ∷ account ∷ resource ∷ key ∷ value ∷ commitment ∷ tags ∷ option_to_list region ≡ fields_around letter value tags r) × (region ≡ r.region) × Steps letter value tags r
+taken_apart letter start end account resource key value commitment tags region x h =
     let kind = simp (some_iff, test_iff) at h in
     let from = kind.2 in
     let to = from.2 in
@@ -48,6 +55,7 @@ taken_apart letter start end account resource key value commitment tags x h =
     let sign = value_number.2 in
     let commitment_text = sign.1 in
     let tag_list = commitment_text.1 in
+    let region_text = tag_list.2 in
     let r : Reading = record {
       kind = kind.0;
       start = from.0;
@@ -60,9 +68,11 @@ taken_apart letter start end account resource key value commitment tags x h =
       value = value_number.0;
       commitment = commitment;
       tags = tag_list.0;
+      region = region;
     } in (
       r,
-      ok_same (Reads r) x tag_list.2,
+      ok_same (Reads r) x region_text.1,
+      refl,
       refl,
       record {
         kind = kind.1;
@@ -76,13 +86,14 @@ taken_apart letter start end account resource key value commitment tags x h =
         sign = sign.0;
         commitment = commitment_text.0;
         tags = tag_list.1;
+        region = region_text.0;
       },
     )
 
 -- where each step answers, the fields are read as the reading
-pub put_together : (letter number tag_list : List ℕ) (r : Reading) → Steps letter number tag_list r → record_in (fields_around letter number tag_list r) ≡ Ok (Reads r)
+pub put_together : (letter number tag_list : List ℕ) (r : Reading) → Steps letter number tag_list r → read_around letter number tag_list r ≡ Ok (Reads r)
 put_together letter number tag_list r s =
-    simp (s.kind, s.start, s.end, s.ordered, s.account, s.resource, s.key, s.value, s.sign, s.commitment, s.tags)
+    simp (s.kind, s.start, s.end, s.ordered, s.account, s.resource, s.key, s.value, s.sign, s.commitment, s.tags, s.region)
 
 -- ---- each step against its rule
 
@@ -118,6 +129,16 @@ priced_unless : (a : Bool) (t : List ℕ) → (a ≡ false → t ≡ []) → (a 
 priced_unless true t h = refl
 priced_unless false t h = ap is_empty (h refl)
 
+-- a region's field, and its rule
+region_fits : (region : Option (List ℕ)) → list_all is_text (option_to_list region) ≡ true → list_all (lacks 124) (option_to_list region) ≡ true → list_all is_field (option_to_list region) ≡ true
+region_fits None h k = refl
+region_fits (Some t) h k =
+    and_from (is_field t) true (and_from (is_text t) (lacks 124 t) (and_parts (is_text t) true h).0 (and_parts (lacks 124 t) true k).0) refl
+
+region_is_text : (region : Option (List ℕ)) → list_all is_field (option_to_list region) ≡ true → list_all is_text (option_to_list region) ≡ true
+region_is_text None h = refl
+region_is_text (Some t) h = and_from _ _ (and_parts (is_text t) (lacks 124 t) (and_parts (is_field t) true h).0).0 refl
+
 -- where each step answers and no field has a `|`, the fields are the reading's, and it meets its rules
 pub steps_meet_rules : (letter number tag_list : List ℕ) (r : Reading) → Steps letter number tag_list r → list_all (lacks 124) (fields_around letter number tag_list r) ≡ true → (fields_around letter number tag_list r ≡ record_fields (Reads r)) × IsReading r
 steps_meet_rules letter number tag_list r s bars =
@@ -129,7 +150,7 @@ steps_meet_rules letter number tag_list r s bars =
     let value = value_read number r.value s.value in
     let tags = tags_read tag_list r.tags s.tags key_on.1.1.1.0 in (
       ap₂ ◌∷◌ (kind_read letter r.kind s.kind)
-          (ap₂ {A = List ℕ} {B = List ℕ} (λ n t. r.start_text ∷ r.end_text ∷ r.account ∷ r.resource ∷ r.key ∷ n ∷ r.commitment ∷ t ∷ []) value.0 tags.0),
+          (ap₂ {A = List ℕ} {B = List ℕ} (λ n t. r.start_text ∷ r.end_text ∷ r.account ∷ r.resource ∷ r.key ∷ n ∷ r.commitment ∷ t ∷ option_to_list r.region) value.0 tags.0),
       record {
         start = stamp_read r.start_text r.start s.start;
         end = stamp_read r.end_text r.end s.end;
@@ -142,6 +163,7 @@ steps_meet_rules letter number tag_list r s bars =
         commitment = and_from _ _ commitment_tests.0 key_on.1.1.0;
         only_priced = unless_priced (is_priced r.kind) r.commitment commitment_tests.1;
         tags = tags.1;
+        region = region_fits r.region s.region key_on.1.1.1.1;
       },
     )
 
@@ -161,4 +183,5 @@ rules_make_steps r h =
       sign = priced_if (is_priced r.kind) _ (λ e. at_most_is_test (pos 0) r.value (h.not_negative e));
       commitment = and_from _ _ (and_parts (is_text r.commitment) (lacks 124 r.commitment) h.commitment).0 (priced_unless (is_priced r.kind) r.commitment h.only_priced);
       tags = tags_written r.tags h.tags;
+      region = region_is_text r.region h.region;
     }

@@ -1,6 +1,6 @@
 -- The samples that the worked examples speak of.
 use Rattle.std.specs.Prelude.{ℕ, List, [], ◌∷◌, pos, codes}
-use Rattle.metering_model.specs.Sheet.{PriceRow, Commitment, Sheet, Issuer, Compute, Storage}
+use Rattle.metering_model.specs.Sheet.{PriceRow, Commitment, Region, Sheet, Issuer, Compute, Storage}
 use Rattle.metering_model.specs.declared.CommitmentCategory.TheVariants.{Usage}
 use Rattle.metering_model.specs.Schedule.{TextLines}
 
@@ -92,13 +92,20 @@ cm_1 = record {
 }
 
 abbrev pub sheet_0 : Sheet
-sheet_0 = record { base = january_2025; prices = cpu ∷ []; commitments = [] }
+sheet_0 = record { base = january_2025; prices = cpu ∷ []; commitments = []; regions = [] }
 
 abbrev pub sheet_1 : Sheet
-sheet_1 = record { base = january_2025; prices = cpu ∷ ops ∷ cpu_plan ∷ []; commitments = cm_1 ∷ [] }
+sheet_1 = record { base = january_2025; prices = cpu ∷ ops ∷ cpu_plan ∷ []; commitments = cm_1 ∷ []; regions = [] }
 
 abbrev pub empty_sheet : Sheet
-empty_sheet = record { base = january_2025; prices = []; commitments = [] }
+empty_sheet = record { base = january_2025; prices = []; commitments = []; regions = [] }
+
+-- one region has a name
+abbrev pub europe : Region
+europe = record { id = codes "eu-1"; name = codes "Europe 1" }
+
+abbrev pub sheet_with_region : Sheet
+sheet_with_region = record sheet_0 { regions = europe ∷ [] }
 
 abbrev pub issuer_1 : Issuer
 issuer_1 = record {
@@ -116,4 +123,4 @@ reading_1 = codes "U|2025-01-10T00:00:00Z|2025-01-10T02:00:00Z|acc-7|vm-1|cpu|54
 
 -- the line of a file for that reading, under the first sheet
 abbrev pub row_1 : List ℕ
-row_1 = codes "0.12,A-100,Payer,USD,2025-02-01T00:00:00Z,2025-01-01T00:00:00Z,Usage,,Virtual CPU time,Usage-Based,2025-01-10T02:00:00Z,2025-01-10T00:00:00Z,,,,,5400,Seconds,0.12,0.08,0.12,Sample Cloud Ltd,0.15,0.1,Standard,1.5,Hours,Sample Cloud,Sample Cloud,vm-1,Compute,Sample Compute,cpu,cpu-od,acc-7,\"{\"\"env\"\":\"\"prod\"\"}\""
+row_1 = codes "0.12,A-100,Payer,USD,2025-02-01T00:00:00Z,2025-01-01T00:00:00Z,Usage,,Virtual CPU time,Usage-Based,2025-01-10T02:00:00Z,2025-01-10T00:00:00Z,,,,,5400,Seconds,0.12,0.08,0.12,Sample Cloud Ltd,0.15,0.1,Standard,1.5,Hours,Sample Cloud,Sample Cloud,,,vm-1,Compute,Sample Compute,cpu,cpu-od,acc-7,\"{\"\"env\"\":\"\"prod\"\"}\""

@@ -1,4 +1,4 @@
--- What holds of each row of a sheet holds of the price and of the commitment that a reading finds there.
+-- What holds of each row of a sheet holds of the price, of the commitment and of the region that a reading finds there.
 use Rattle.std.proofs.Common.{◌≡◌, ℕ, List, [], ◌∷◌, Option, Some, None, sym, subst, ◌∙◌, inl, inr, Bool}
 use Rattle.std.specs.Prelude.{All, find, int_lt}
 use Rattle.std.specs.Option.{option_and_then}
@@ -7,8 +7,8 @@ use Rattle.std.proofs.lemmas.Option.{same_Some}
 use Rattle.std.proofs.lemmas.List.Elements.{All-head, All-tail, All-filter}
 use Rattle.metering_model.specs.Batch.{Reading, is_priced}
 use Rattle.metering_model.specs.BatchReading.{is_same}
-use Rattle.metering_model.specs.Sheet.{Sheet, PriceRow, Commitment}
-use Rattle.metering_model.specs.PriceInForce.{later_of, latest, commitment_with}
+use Rattle.metering_model.specs.Sheet.{Sheet, PriceRow, Commitment, Region}
+use Rattle.metering_model.specs.PriceInForce.{later_of, latest, commitment_with, region_with}
 use Rattle.metering_model.specs.Row.{price_of, commitment_of, or_null}
 use Rattle.metering_model.proofs.DayLaws.{when_some}
 
@@ -39,3 +39,6 @@ commitment_has P sheet r c all e = named (or_null r.commitment) (when_some (is_p
     named : (o : Option (List ℕ)) → option_and_then (commitment_with sheet) o ≡ Some c → P c
     named None f = absurd (cc)
     named (Some id) f = find_has P (λ d. is_same d.id id) sheet.commitments c all f
+
+pub region_has : (P : Region → Type 0) (sheet : Sheet) (id : List ℕ) (x : Region) → All P sheet.regions → region_with sheet id ≡ Some x → P x
+region_has P sheet id x all e = find_has P (λ y. is_same y.id id) sheet.regions x all e

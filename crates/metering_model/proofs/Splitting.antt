@@ -1,5 +1,5 @@
 -- Cutting a text at a byte and joining the parts by that byte undo one another, and what lines a text has.
-use Rattle.std.proofs.Common.{◌≡◌, ℕ, Bool, true, false, not, List, [], ◌∷◌, ◌++◌, refl, ap, ◌∙◌, flat_map, append_assoc, eq-eqb}
+use Rattle.std.proofs.Common.{◌≡◌, ℕ, Bool, true, false, not, List, [], ◌∷◌, ◌++◌, refl, sym, ap, ◌∙◌, flat_map, append_assoc, eq-eqb}
 use Rattle.std.specs.Prelude.{◌==◌}
 use Rattle.std.specs.List.{list_all, slice_split, onto_first, join_with_byte}
 use Rattle.std.proofs.lemmas.List.Splits.{slice_split-cons_yes, slice_split-cons_no, join_with_byte-slice_split}
@@ -56,6 +56,33 @@ cut_first c [] t h = slice_split-cons_yes (λ y. y == c) c t (eq-eqb c c refl)
 cut_first c (x ∷ xs) t h =
     let both = and_parts (not (x == c)) (lacks c xs) h in
     slice_split-cons_no (λ y. y == c) x (xs ++ c ∷ t) (not-true _ both.0) ∙ ap (onto_first x) (cut_first c xs t both.1)
+
+-- there is a first part
+parts_some : (c : ℕ) (t : List ℕ) → (p : List ℕ) × (ps : List (List ℕ)) × (parts_at c t ≡ p ∷ ps)
+parts_some c [] = ([], [], refl)
+parts_some c (x ∷ xs) = cases (x == c) refl (parts_some c xs)
+  where
+    cases : (b : Bool) → (x == c) ≡ b → (p : List ℕ) × (ps : List (List ℕ)) × (parts_at c xs ≡ p ∷ ps) → (p : List ℕ) × (ps : List (List ℕ)) × (parts_at c (x ∷ xs) ≡ p ∷ ps)
+    cases true e rest = ([], parts_at c xs, slice_split-cons_yes (λ y. y == c) x xs e)
+    cases false e rest = (x ∷ rest.0, rest.1, slice_split-cons_no (λ y. y == c) x xs e ∙ ap (onto_first x) rest.2)
+
+-- the last part begins behind the last such byte
+pub cut_last : (c : ℕ) (s t : List ℕ) → lacks c t ≡ true → parts_at c (s ++ c ∷ t) ≡ parts_at c s ++ t ∷ []
+cut_last c [] t h = cut_first c [] t refl ∙ ap (λ ps. [] ∷ ps) (cut_whole c t h)
+cut_last c (x ∷ xs) t h = cases (x == c) refl (cut_last c xs t h)
+  where
+    cases : (b : Bool) → (x == c) ≡ b → parts_at c (xs ++ c ∷ t) ≡ parts_at c xs ++ t ∷ [] → parts_at c (x ∷ xs ++ c ∷ t) ≡ parts_at c (x ∷ xs) ++ t ∷ []
+    cases true e rest =
+        slice_split-cons_yes (λ y. y == c) x (xs ++ c ∷ t) e
+        ∙ (ap (λ ps. [] ∷ ps) rest
+        ∙ ap (λ ps. ps ++ t ∷ []) (sym (slice_split-cons_yes (λ y. y == c) x xs e)))
+    cases false e rest =
+        let some = parts_some c xs in
+        let onto : onto_first x (parts_at c xs ++ t ∷ []) ≡ onto_first x (parts_at c xs) ++ t ∷ [] = rw some.2 refl in
+        slice_split-cons_no (λ y. y == c) x (xs ++ c ∷ t) e
+        ∙ (ap (onto_first x) rest
+        ∙ (onto
+        ∙ ap (λ ps. ps ++ t ∷ []) (sym (slice_split-cons_no (λ y. y == c) x xs e))))
 
 -- parts without the byte come back
 pub cut_join : (c : ℕ) (s : List ℕ) (ss : List (List ℕ)) → list_all (lacks c) (s ∷ ss) ≡ true → parts_at c (join_with_byte c (s ∷ ss)) ≡ s ∷ ss

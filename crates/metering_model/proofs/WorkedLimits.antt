@@ -3,7 +3,7 @@ use Rattle.std.specs.Prelude.{◌≡◌, ◌<◌, [], ◌∷◌, Some, None, pos
 use Rattle.std.proofs.Common.{refl, arith}
 use Rattle.std.proofs.lemmas.Int.{ints}
 use Rattle.metering_model.specs.NumberText.{cost_limit}
-use Rattle.metering_model.specs.Batch.{Reading, Reads, Amends}
+use Rattle.metering_model.specs.Batch.{B1, Reading, Reads, Amends}
 use Rattle.metering_model.specs.declared.Kind.TheVariants.{Usage}
 use Rattle.metering_model.specs.Sheet.{PriceRow}
 use Rattle.metering_model.specs.Holding.{Holding, records_in_order}
@@ -44,10 +44,11 @@ metered = record {
   value = pos 5_400_000_000;
   commitment = [];
   tags = [];
+  region = None;
 }
 
 abbrev unfit : Holding
-unfit = record { agent = 1; seq = 1; records = Reads metered ∷ Amends 1 0 (negsuc 0) ∷ [] } ∷ []
+unfit = record { version = B1; agent = 1; seq = 1; records = Reads metered ∷ Amends 1 0 (negsuc 0) ∷ [] } ∷ []
 
 unfit_is_refused : first_broken sheet_1 unfit (records_in_order unfit) ≡ Some BadTarget
 unfit_is_refused = refl

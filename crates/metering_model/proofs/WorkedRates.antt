@@ -30,7 +30,7 @@ abbrev later_cpu : PriceRow
 later_cpu = record cpu { price_id = codes "cpu-later"; from = pos 20_103 }
 
 abbrev two_prices : Sheet
-two_prices = record { base = january_2025; prices = later_cpu ∷ cpu ∷ ops ∷ []; commitments = [] }
+two_prices = record { base = january_2025; prices = later_cpu ∷ cpu ∷ ops ∷ []; commitments = []; regions = [] }
 
 abbrev price_on : ℤ → Option (List ℕ)
 price_on day = option_map (λ r. r.price_id) (price_in_force two_prices (codes "cpu") day)

@@ -3,9 +3,9 @@ use Rattle.std.specs.Prelude.{◌≡◌, [], ◌∷◌, true, false, ◌&&◌, I
 use Rattle.jiff_core.specs.Calendar.{days_from_civil, day_count, days_of_years, days_of_months}
 use Rattle.std.proofs.Common.{refl, arith}
 use Rattle.std.proofs.lemmas.List.Elements.{All-nil, All-cons}
-use Rattle.metering_model.specs.Sheet.{Commitment}
-use Rattle.metering_model.specs.SheetRules.{is_label, IsDay, IsPriceRow, IsCommitment, IsSheet, IsIssuer, has_same_key, has_price}
-use Rattle.metering_model.proofs.Samples.{cpu, ops, cpu_plan, cm_1, sheet_1, issuer_1}
+use Rattle.metering_model.specs.Sheet.{Commitment, Region}
+use Rattle.metering_model.specs.SheetRules.{is_label, IsDay, IsPriceRow, IsCommitment, IsRegion, IsSheet, IsIssuer, has_same_key, has_same_region, are_apart, has_price}
+use Rattle.metering_model.proofs.Samples.{cpu, ops, cpu_plan, cm_1, europe, sheet_1, issuer_1}
 
 new_year : IsDay (pos 20_089)
 unfolding days_from_civil day_count days_of_years days_of_months
@@ -92,6 +92,9 @@ sheet_1_is_a_sheet = record {
   commitment_count = omega arith;
   one_id = refl;
   priced = All-cons AreBothPriced cm_1 [] refl (All-nil AreBothPriced);
+  regions = All-nil IsRegion;
+  region_count = omega arith;
+  one_region = refl;
 }
 
 -- a line feed, a text of no character, and two letters for a currency
@@ -115,3 +118,37 @@ one_sku_from_two_days = refl
 
 no_price : has_price sheet_1 (codes "gpu") ≡ false
 no_price = refl
+
+-- ---- regions
+
+europe_is_a_region : IsRegion europe
+europe_is_a_region = record { id = refl; name = refl }
+
+-- the sheet with it is one too
+sheet_1_with_a_region : IsSheet (record sheet_1 { regions = europe ∷ [] })
+sheet_1_with_a_region = record {
+  base = sheet_1_is_a_sheet.base;
+  prices = sheet_1_is_a_sheet.prices;
+  price_count = sheet_1_is_a_sheet.price_count;
+  one_price = sheet_1_is_a_sheet.one_price;
+  commitments = sheet_1_is_a_sheet.commitments;
+  commitment_count = sheet_1_is_a_sheet.commitment_count;
+  one_id = sheet_1_is_a_sheet.one_id;
+  priced = sheet_1_is_a_sheet.priced;
+  regions = All-cons IsRegion europe [] europe_is_a_region (All-nil IsRegion);
+  region_count = omega arith;
+  one_region = refl;
+}
+
+-- two regions of one name are two, and two names of one id are refused
+abbrev twice_europe : Region
+twice_europe = record europe { name = codes "Europe" }
+
+two_names_of_one_region : are_apart has_same_region (europe ∷ twice_europe ∷ []) ≡ false
+two_names_of_one_region = refl
+
+two_regions_of_one_name : are_apart has_same_region (europe ∷ record europe { id = codes "eu-2" } ∷ []) ≡ true
+two_regions_of_one_name = refl
+
+a_region_without_a_name : IsRegion (record europe { name = [] }) → ⊥
+a_region_without_a_name is = let no : false ≡ true = is.name in absurd (cc)

@@ -1,10 +1,13 @@
 -- Batches of usage records: what they hold, and the one text that each has.
-use Rattle.std.specs.Prelude.{◌≡◌, ℕ, ◌≤◌, Bool, true, false, not, ◌&&◌, ◌==◌, nat_le, List, [], ◌∷◌, ◌++◌, length, map, All, IsTrue, ℤ, pos, ◌<ℤ◌, ◌≤ℤ◌, unsigned_abs, ◌<◌, codes, decimal}
+use Rattle.std.specs.Prelude.{◌≡◌, ℕ, ◌≤◌, Bool, true, false, not, ◌&&◌, ◌==◌, nat_le, List, [], ◌∷◌, ◌++◌, length, map, Option, All, IsTrue, ℤ, pos, ◌<ℤ◌, ◌≤ℤ◌, unsigned_abs, ◌<◌, codes, decimal}
 use Rattle.std.specs.List.{list_all, flat_map, join_with_byte}
+use Rattle.std.specs.Option.{option_to_list, is_some, is_none}
 use Rattle.std.specs.Ordering.{nat_cmp, is_lt}
 use Rattle.std.specs.Cmp.Lexicographic.{slice_cmp}
 pub use Rattle.metering_model.specs.declared.Kind.{Kind}
 pub use Rattle.metering_model.specs.declared.Kind.TheVariants.{Usage, Purchase, Credit, Tax, Adjustment}
+pub use Rattle.metering_model.specs.declared.Version.{Version}
+pub use Rattle.metering_model.specs.declared.Version.TheVariants.{B1, B2}
 use Rattle.metering_model.specs.NumberText.{spelling, value_limit}
 use Rattle.metering_model.specs.Dates.{IsStampText}
 
@@ -12,7 +15,8 @@ pub record Tag : Type 0 where
   pub key : List ℕ
   pub value : List ℕ
 
--- What an agent metered. Moments are stamps, and the value is in millionths.
+-- What an agent metered. Moments are stamps, and the value is in millionths. A reading of format B1 has no region; one of B2
+-- has one, which may be the empty text.
 pub record Reading : Type 0 where
   pub kind : Kind
   pub start : ℤ
@@ -25,6 +29,7 @@ pub record Reading : Type 0 where
   pub value : ℤ
   pub commitment : List ℕ
   pub tags : List Tag
+  pub region : Option (List ℕ)
 
 -- a reading, or an amendment that gives an earlier reading of its agent another value
 pub data Record : Type 0 where
@@ -32,6 +37,7 @@ pub data Record : Type 0 where
   Amends : (seq index : ℕ) (value : ℤ) → Record
 
 pub record Batch : Type 0 where
+  pub version : Version
   pub agent : ℕ
   pub seq : ℕ
   pub records : List Record
@@ -60,11 +66,15 @@ tags_text ts = join_with_byte 59 (map tag_text ts)
 abbrev pub record_fields : Record → List (List ℕ)
 record_fields (Reads r) =
     kind_text r.kind ∷ r.start_text ∷ r.end_text ∷ r.account ∷ r.resource ∷ r.key ∷ spelling 6 r.value ∷ r.commitment
-    ∷ tags_text r.tags ∷ []
+    ∷ tags_text r.tags ∷ option_to_list r.region
 record_fields (Amends seq index value) = codes "X" ∷ decimal seq ∷ decimal index ∷ spelling 6 value ∷ []
 
+abbrev pub version_text : Version → List ℕ
+version_text B1 = codes "B1"
+version_text B2 = codes "B2"
+
 abbrev pub head_fields : Batch → List (List ℕ)
-head_fields b = codes "B1" ∷ decimal b.agent ∷ decimal b.seq ∷ decimal (length b.records) ∷ []
+head_fields b = version_text b.version ∷ decimal b.agent ∷ decimal b.seq ∷ decimal (length b.records) ∷ []
 
 -- fields joined by `|`, and a line feed
 abbrev pub line_of_fields : List (List ℕ) → List ℕ
@@ -116,6 +126,7 @@ pub record IsReading (r : Reading) : Type 0 where
   pub commitment : IsTrue (is_field r.commitment)
   pub only_priced : is_priced r.kind ≡ false → r.commitment ≡ []
   pub tags : IsTrue (list_all is_tag r.tags && keys_rise r.tags)
+  pub region : IsTrue (list_all is_field (option_to_list r.region))
 
 pub record IsAmendment (seq index : ℕ) (value : ℤ) : Type 0 where
   pub seq_in : (1 ≤ seq) × (seq ≤ 1_000_000)
@@ -126,6 +137,16 @@ abbrev pub IsRecord : Record → Type 0
 IsRecord (Reads r) = IsReading r
 IsRecord (Amends seq index value) = IsAmendment seq index value
 
+-- a reading has a region exactly where its batch is of format B2
+abbrev pub is_region_of : Version → Option (List ℕ) → Bool
+is_region_of B1 region = is_none region
+is_region_of B2 region = is_some region
+
+-- amendments are alike in both formats
+abbrev pub is_of_version : Version → Record → Bool
+is_of_version version (Reads r) = is_region_of version r.region
+is_of_version version (Amends seq index value) = true
+
 -- The text is that of the batch, and each of its parts meets its rule.
 pub record IsBatch (text : List ℕ) (b : Batch) : Type 0 where
   pub joined : text ≡ batch_text b
@@ -134,6 +155,7 @@ pub record IsBatch (text : List ℕ) (b : Batch) : Type 0 where
   pub seq : (1 ≤ b.seq) × (b.seq ≤ 1_000_000)
   pub count : length b.records ≤ 1_000
   pub records : All IsRecord b.records
+  pub of_version : IsTrue (list_all (is_of_version b.version) b.records)
 
 -- some text is that of the batch
 abbrev pub IsWellFormed : Batch → Type 0

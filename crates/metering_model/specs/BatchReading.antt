@@ -1,14 +1,15 @@
 -- Reading a batch: the batch that a text is, or its first fault, from the top and from the left.
 use Rattle.std.specs.Prelude.{ℕ, zero, suc, ◌+◌, Bool, true, false, not, ◌&&◌, ◌||◌, ◌==◌, nat_lt, nat_le, if◌then◌else◌, List, [], ◌∷◌, length, map, Option, Some, None, Result, Ok, Err, ok_or, pos, int_lt, int_le, codes}
 use Rattle.std.specs.Result.{result_ok}
-use Rattle.std.specs.List.{list_any, slice_split, before_first, after_first}
+use Rattle.std.specs.Option.{option_to_list}
+use Rattle.std.specs.List.{list_all, list_any, slice_split, before_first, after_first}
 pub use Rattle.metering_model.specs.declared.BatchCode.{BatchCode}
 pub use Rattle.metering_model.specs.declared.BatchCode.TheVariants.{Head, Count, Fields, Time, Number, Text, Tags, TooLong}
 pub use Rattle.metering_model.specs.declared.BatchFault.{BatchFault}
 use Rattle.metering_model.specs.FirstFailure.{◌>>=◌, holds_or}
 use Rattle.metering_model.specs.NumberText.{is_whole_part, number_of, value_in}
 use Rattle.metering_model.specs.Dates.{stamp_in}
-use Rattle.metering_model.specs.Batch.{Kind, Usage, Purchase, Credit, Tax, Adjustment, Tag, Record, Reads, Amends, Batch, is_priced, is_text, is_empty, keys_rise}
+use Rattle.metering_model.specs.Batch.{Version, B1, B2, Kind, Usage, Purchase, Credit, Tax, Adjustment, Tag, Record, Reads, Amends, Batch, is_priced, is_text, is_empty, keys_rise}
 
 abbrev pub is_same : List ℕ → List ℕ → Bool
 is_same [] [] = true
@@ -59,15 +60,9 @@ tags_in (c ∷ cs) = if_rising (all_some (map tag_in (slice_split (λ x. x == 59
 abbrev pub fields_in : List ℕ → List (List ℕ)
 fields_in line = slice_split (λ c. c == 124) line
 
--- the record that a line's fields give, or the rule that its first bad field breaks
-abbrev pub record_in : List (List ℕ) → Result Record BatchCode
-record_in (letter ∷ seq ∷ index ∷ value ∷ []) = do
-  _ ← holds_or (is_same letter (codes "X")) Fields
-  s ← ok_or (whole_in 1 1_000_000 seq) Number
-  i ← ok_or (whole_in 0 999 index) Number
-  v ← ok_or (result_ok (value_in value)) Number
-  Ok (Amends s i v)
-record_in (letter ∷ start ∷ end ∷ account ∷ resource ∷ key ∷ value ∷ commitment ∷ tags ∷ []) = do
+-- the reading that its nine fields give, with the region behind them where there is one
+abbrev pub reading_in : (letter start end account resource key value commitment tags : List ℕ) (region : Option (List ℕ)) → Result Record BatchCode
+reading_in letter start end account resource key value commitment tags region = do
   k ← ok_or (kind_in letter) Fields
   s ← ok_or (stamp_in start) Time
   e ← ok_or (stamp_in end) Time
@@ -79,6 +74,7 @@ record_in (letter ∷ start ∷ end ∷ account ∷ resource ∷ key ∷ value �
   _ ← holds_or (not (is_priced k) || int_le (pos 0) v) Number
   _ ← holds_or (is_text commitment && (is_priced k || is_empty commitment)) Text
   ts ← ok_or (tags_in tags) Tags
+  _ ← holds_or (list_all is_text (option_to_list region)) Text
   Ok (Reads (record {
     kind = k;
     start = s;
@@ -91,22 +87,40 @@ record_in (letter ∷ start ∷ end ∷ account ∷ resource ∷ key ∷ value �
     value = v;
     commitment = commitment;
     tags = ts;
+    region = region;
   }))
-record_in _ = Err Fields
 
--- agent, sequence and count of records of a head line
+-- the record that a line's fields give, or the rule that its first bad field breaks
+abbrev pub record_in : Version → List (List ℕ) → Result Record BatchCode
+record_in version (letter ∷ seq ∷ index ∷ value ∷ []) = do
+  _ ← holds_or (is_same letter (codes "X")) Fields
+  s ← ok_or (whole_in 1 1_000_000 seq) Number
+  i ← ok_or (whole_in 0 999 index) Number
+  v ← ok_or (result_ok (value_in value)) Number
+  Ok (Amends s i v)
+record_in B1 (letter ∷ start ∷ end ∷ account ∷ resource ∷ key ∷ value ∷ commitment ∷ tags ∷ []) =
+    reading_in letter start end account resource key value commitment tags None
+record_in B2 (letter ∷ start ∷ end ∷ account ∷ resource ∷ key ∷ value ∷ commitment ∷ tags ∷ region ∷ []) =
+    reading_in letter start end account resource key value commitment tags (Some region)
+record_in _ _ = Err Fields
+
+-- version, agent, sequence and count of records of a head line
 pub record HeadLine : Type 0 where
+  pub version : Version
   pub agent : ℕ
   pub seq : ℕ
   pub count : ℕ
 
+abbrev pub version_in : List ℕ → Option Version
+version_in t = if is_same t (codes "B1") then Some B1 else (if is_same t (codes "B2") then Some B2 else None)
+
 abbrev pub head_in : List (List ℕ) → Result HeadLine BatchCode
 head_in (version ∷ agent ∷ seq ∷ count ∷ []) = do
-  _ ← holds_or (is_same version (codes "B1")) Head
+  v ← ok_or (version_in version) Head
   a ← ok_or (whole_in 1 64 agent) Head
   s ← ok_or (whole_in 1 1_000_000 seq) Head
   n ← ok_or (whole_in 0 1_000 count) Head
-  Ok (record { agent = a; seq = s; count = n })
+  Ok (record { version = v; agent = a; seq = s; count = n })
 head_in _ = Err Head
 
 abbrev pub at_line : {A : Type 0} → ℕ → Result A BatchCode → Result A BatchFault
@@ -130,19 +144,19 @@ abbrev pub lines_in : List ℕ → Lines
 lines_in text = lines_of_parts (slice_split (λ c. c == 10) text)
 
 -- so many records from the lines that stand at this line and below
-abbrev pub records_in : ℕ → ℕ → List (List ℕ) → Result (List Record) BatchFault
-records_in line zero ls = Ok []
-records_in line (suc n) [] = Err (record { code = Count; line = line })
-records_in line (suc n) (l ∷ ls) = do
-  r ← at_line line (record_in (fields_in l))
-  rs ← records_in (line + 1) n ls
+abbrev pub records_in : Version → ℕ → ℕ → List (List ℕ) → Result (List Record) BatchFault
+records_in version line zero ls = Ok []
+records_in version line (suc n) [] = Err (record { code = Count; line = line })
+records_in version line (suc n) (l ∷ ls) = do
+  r ← at_line line (record_in version (fields_in l))
+  rs ← records_in version (line + 1) n ls
   Ok (r ∷ rs)
 
 abbrev pub batch_below : List (List ℕ) → List ℕ → HeadLine → Result Batch BatchFault
 batch_below ls rest head = do
-  rs ← records_in 2 head.count ls
+  rs ← records_in head.version 2 head.count ls
   _ ← at_line (head.count + 2) (holds_or ((length ls == head.count) && is_empty rest) Count)
-  Ok (record { agent = head.agent; seq = head.seq; records = rs })
+  Ok (record { version = head.version; agent = head.agent; seq = head.seq; records = rs })
 
 abbrev pub batch_of_lines : List (List ℕ) → List ℕ → Result Batch BatchFault
 batch_of_lines [] rest = Err (record { code = Head; line = 1 })

@@ -17,6 +17,7 @@ pub mod File
 pub mod Front
 pub mod Ballot
 pub mod World
+pub mod KeptText
 pub mod Deliveries
 pub mod Step
 pub mod Chosen

@@ -1,7 +1,7 @@
--- Which price holds on a day, and which commitment has an id.
-use Rattle.std.specs.Prelude.{◌&&◌, if◌then◌else◌, List, [], ◌∷◌, ℕ, ℤ, Option, Some, None, int_le, int_lt, filter, find}
+-- Which price holds on a day, which commitment has an id, and which name a region has.
+use Rattle.std.specs.Prelude.{◌&&◌, if◌then◌else◌, List, [], ◌∷◌, ℕ, ℤ, Option, Some, None, int_le, int_lt, filter, find, option_map}
 use Rattle.metering_model.specs.BatchReading.{is_same}
-use Rattle.metering_model.specs.Sheet.{PriceRow, Commitment, Sheet}
+use Rattle.metering_model.specs.Sheet.{PriceRow, Commitment, Region, Sheet}
 
 -- the row of the later `from`, the first of two equal ones
 abbrev pub later_of : PriceRow → Option PriceRow → Option PriceRow
@@ -18,3 +18,10 @@ price_in_force sheet sku day = latest (filter (λ r. is_same r.sku sku && int_le
 
 abbrev pub commitment_with : Sheet → List ℕ → Option Commitment
 commitment_with sheet id = find (λ c. is_same c.id id) sheet.commitments
+
+abbrev pub region_with : Sheet → List ℕ → Option Region
+region_with sheet id = find (λ x. is_same x.id id) sheet.regions
+
+-- the name that the sheet gives a region, where it gives one
+abbrev pub region_named : Sheet → List ℕ → Option (List ℕ)
+region_named sheet id = option_map (λ x. x.name) (region_with sheet id)

@@ -1,10 +1,10 @@
--- The 36 columns of a charge, by FOCUS's names. Null is None.
-use Rattle.std.specs.Prelude.{ℕ, if◌then◌else◌, List, [], ◌∷◌, Option, Some, None, ℤ, codes, option_map}
+-- The 38 columns of a charge, by FOCUS's names. Null is None.
+use Rattle.std.specs.Prelude.{ℕ, if◌then◌else◌, List, [], ◌∷◌, Option, Some, None, ℤ, codes, option_map, unwrap_or}
 use Rattle.std.specs.Option.{is_some, option_map_or, option_and_then}
 use Rattle.metering_model.specs.Dates.{day_of, period_start_text, period_end_text}
 use Rattle.metering_model.specs.Batch.{Kind, Usage, Purchase, Credit, Tax, Adjustment, Reading, Tag, is_priced}
 use Rattle.metering_model.specs.Sheet.{PriceRow, Commitment, Sheet, Issuer, service_category_text, commitment_category_text}
-use Rattle.metering_model.specs.PriceInForce.{price_in_force, commitment_with}
+use Rattle.metering_model.specs.PriceInForce.{price_in_force, commitment_with, region_named}
 use Rattle.metering_model.specs.Rating.{PricedKind, Rated, rated, flat}
 use Rattle.metering_model.specs.declared.ChargeClass.{ChargeClass}
 use Rattle.metering_model.specs.declared.ChargeClass.TheVariants.{New, Correction}
@@ -41,6 +41,8 @@ pub record Row : Type 0 where
   pub pricing_unit : Option (List ℕ)
   pub provider_name : List ℕ
   pub publisher_name : List ℕ
+  pub region_id : Option (List ℕ)
+  pub region_name : Option (List ℕ)
   pub resource_id : Option (List ℕ)
   pub service_category : List ℕ
   pub service_name : List ℕ
@@ -82,6 +84,14 @@ price_of sheet r = if is_priced r.kind then price_in_force sheet r.key (day_of r
 
 abbrev pub commitment_of : Sheet → Reading → Option Commitment
 commitment_of sheet r = if is_priced r.kind then option_and_then (commitment_with sheet) (or_null r.commitment) else None
+
+-- An empty region is none, and a reading of format B1 has none.
+abbrev pub region_of : Reading → Option (List ℕ)
+region_of r = option_and_then or_null r.region
+
+-- the name that the sheet gives a region, or else its id
+abbrev pub region_name_of : Sheet → List ℕ → List ℕ
+region_name_of sheet id = unwrap_or (region_named sheet id) id
 
 -- A reading of a priced kind with no price in force breaks the journal rules. It counts by its amount here.
 abbrev pub charge : Option PricedKind → Option PriceRow → Option Commitment → ℤ → ℤ → Rated
@@ -125,6 +135,8 @@ row sheet issuer r period class was now =
       pricing_unit = option_map (λ p. p.pricing_unit) price;
       provider_name = issuer.provider;
       publisher_name = issuer.publisher;
+      region_id = region_of r;
+      region_name = option_map (region_name_of sheet) (region_of r);
       resource_id = or_null r.resource;
       service_category = option_map_or (λ p. service_category_text p.category) price (codes "Other");
       service_name = option_map_or (λ p. p.service) price issuer.other_service;

@@ -3,7 +3,8 @@ use Rattle.std.specs.Prelude.{◌≡◌, ℕ, zero, suc, ◌+◌, ◌≤◌, Lis
 use Rattle.std.specs.List.{flat_map, list_all}
 use Rattle.metering_model.specs.Batch.{lacks}
 use Rattle.metering_model.specs.Sheet.{Sheet, Issuer}
-use Rattle.metering_model.specs.World.{offer_of, Event, Journal, Deliver, Start, Restart, Export, opening}
+use Rattle.metering_model.specs.World.{offer_of, Event, Journal, Deliver, Start, Restart, Export, Keep, Revive, opening}
+use Rattle.metering_model.specs.KeptText.{kept_offer_of}
 use Rattle.metering_model.specs.Step.{play}
 use Rattle.metering_model.specs.Transcript.{line, with_number, transcript}
 
@@ -14,13 +15,15 @@ TextLines = List (List ℕ)
 abbrev pub lines_text : TextLines → List ℕ
 lines_text ls = flat_map line ls
 
--- an event as it stands in a schedule: a journal has its lines
+-- an event as it stands in a schedule; a journal and a revival have the lines below it
 pub data Planned : Type 0 where
   PlansJournal : (lines : TextLines) → Planned
   PlansDelivery : (packet node : ℕ) → Planned
   PlansStart : (node : ℕ) → Planned
   PlansRestart : (node : ℕ) → Planned
   PlansExport : (node period : ℕ) → Planned
+  PlansKeep : (node : ℕ) → Planned
+  PlansRevival : (node : ℕ) (lines : TextLines) → Planned
 
 pub record Schedule : Type 0 where
   pub voters : ℕ
@@ -40,6 +43,8 @@ planned_text (PlansDelivery k i) = line (with_number (codes "deliver ") k ++ wit
 planned_text (PlansStart i) = line (with_number (codes "start ") i)
 planned_text (PlansRestart i) = line (with_number (codes "restart ") i)
 planned_text (PlansExport i p) = line (with_number (codes "export ") i ++ with_number (codes " ") p)
+planned_text (PlansKeep i) = line (with_number (codes "keep ") i)
+planned_text (PlansRevival i ls) = section_text (with_number (codes "revive ") i ++ codes " ") ls
 
 -- where there are no observers, nothing is said of them
 abbrev pub nodes_text : ℕ → ℕ → List ℕ
@@ -63,6 +68,8 @@ IsPlanned (PlansDelivery k i) = (k ≤ 999_999) × (i ≤ 98)
 IsPlanned (PlansStart i) = i ≤ 98
 IsPlanned (PlansRestart i) = i ≤ 98
 IsPlanned (PlansExport i p) = (i ≤ 98) × (p ≤ 1_199)
+IsPlanned (PlansKeep i) = i ≤ 98
+IsPlanned (PlansRevival i ls) = (i ≤ 98) × AreLines 200_000 ls
 
 -- The text joins the parts of the schedule, each within its limits. Whether its sheet and issuer can be read is not said.
 pub record HasScheduleForm (text : List ℕ) (s : Schedule) : Type 0 where
@@ -80,6 +87,8 @@ event_of (PlansDelivery k i) = Deliver k i
 event_of (PlansStart i) = Start i
 event_of (PlansRestart i) = Restart i
 event_of (PlansExport i p) = Export i p
+event_of (PlansKeep i) = Keep i
+event_of (PlansRevival i ls) = Revive i (kept_offer_of (lines_text ls))
 
 -- the transcript of a schedule, under the sheet and the issuer that its sections are read as
 abbrev pub transcript_of : Sheet → Issuer → Schedule → List ℕ

@@ -28,11 +28,17 @@ pub record Commitment : Type 0 where
   pub kind : List ℕ
   pub rate : ℕ
 
+-- The name of a region, for files.
+pub record Region : Type 0 where
+  pub id : List ℕ
+  pub name : List ℕ
+
 -- Rows in the order of the sheet. Period 0 is the base month.
 pub record Sheet : Type 0 where
   pub base : ℕ
   pub prices : List PriceRow
   pub commitments : List Commitment
+  pub regions : List Region
 
 pub record Issuer : Type 0 where
   pub provider : List ℕ

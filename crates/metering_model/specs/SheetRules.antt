@@ -6,7 +6,7 @@ use Rattle.metering_model.specs.NumberText.{price_limit}
 use Rattle.metering_model.specs.Dates.{IsDayText, IsBaseMonth}
 use Rattle.metering_model.specs.Batch.{is_empty}
 use Rattle.metering_model.specs.BatchReading.{is_same}
-use Rattle.metering_model.specs.Sheet.{PriceRow, Commitment, Sheet, Issuer}
+use Rattle.metering_model.specs.Sheet.{PriceRow, Commitment, Region, Sheet, Issuer}
 
 -- Of UTF-8 each byte of a character above U+007F is 128 or more: so no character is below U+0020, and none is U+007F.
 -- That the bytes are UTF-8 is not said here, since no law rests on it: the type of a reader's texts keeps it.
@@ -40,6 +40,10 @@ pub record IsCommitment (c : Commitment) : Type 0 where
   pub kind : IsTrue (is_label c.kind)
   pub rate : c.rate < price_limit
 
+pub record IsRegion (x : Region) : Type 0 where
+  pub id : IsTrue (is_label x.id)
+  pub name : IsTrue (is_label x.name)
+
 -- no two of these are alike
 abbrev pub are_apart : {A : Type 0} → (A → A → Bool) → List A → Bool
 are_apart alike [] = true
@@ -51,11 +55,15 @@ has_same_key p q = is_same p.sku q.sku && int_eq p.from q.from
 abbrev pub has_same_id : Commitment → Commitment → Bool
 has_same_id c d = is_same c.id d.id
 
+abbrev pub has_same_region : Region → Region → Bool
+has_same_region x y = is_same x.id y.id
+
 -- whether some row prices the SKU, from whatever day on
 abbrev pub has_price : Sheet → List ℕ → Bool
 has_price sheet sku = list_any (λ p. is_same p.sku sku) sheet.prices
 
--- No SKU has two prices from one day on, and no id two commitments; what a commitment is on and what buys it are priced.
+-- No SKU has two prices from one day on, and no id two commitments or two regions; what a commitment is on and what buys it
+-- are priced.
 pub record IsSheet (sheet : Sheet) : Type 0 where
   pub base : IsBaseMonth sheet.base
   pub prices : All IsPriceRow sheet.prices
@@ -65,6 +73,9 @@ pub record IsSheet (sheet : Sheet) : Type 0 where
   pub commitment_count : length sheet.commitments ≤ 10_000
   pub one_id : IsTrue (are_apart has_same_id sheet.commitments)
   pub priced : All (λ c. IsTrue (has_price sheet c.sku && has_price sheet c.buy)) sheet.commitments
+  pub regions : All IsRegion sheet.regions
+  pub region_count : length sheet.regions ≤ 10_000
+  pub one_region : IsTrue (are_apart has_same_region sheet.regions)
 
 abbrev pub is_capital : ℕ → Bool
 is_capital byte = nat_le 65 byte && nat_le byte 90

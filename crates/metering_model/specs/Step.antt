@@ -4,14 +4,15 @@ use Rattle.std.specs.List.{range_with_len}
 use Rattle.std.specs.Option.{is_some}
 use Rattle.metering_model.specs.FirstFailure.{◌>>=◌, holds_or}
 use Rattle.metering_model.specs.Batch.{Batch}
-use Rattle.metering_model.specs.BatchReading.{BatchFault, batch_in}
+use Rattle.metering_model.specs.BatchReading.{BatchFault, batch_in, is_same}
 use Rattle.metering_model.specs.Cut.{Cut, zero_cut}
 use Rattle.metering_model.specs.Holding.{Holding, placed, held, put, up_to}
 use Rattle.metering_model.specs.JournalRules.{BrokenRule, next_seq, first_broken}
 use Rattle.metering_model.specs.declared.BrokenRule.TheVariants.{BadTarget as BreaksTarget, Unpriced as BreaksPrice}
 use Rattle.metering_model.specs.Ballot.{ballot_of, new_attempt}
-use Rattle.metering_model.specs.World.{CarriesBatch, Prepare, Node, World, Offer, Good, Bad, Event, Journal, Deliver, Start, Restart, Export, Snapshot, Reply, Journaled, Delivered, Started, Restarted, Exported, Refused, Refusal, BadBatch, WrongSeq, BadTarget, Unpriced, NoPacket, NoNode, NotClosed, Missing, AllClosed, NoBallot, NoAgent, Observer, voter_count, votes, current_period, wake, with_node_at, with_packet, next_packet}
+use Rattle.metering_model.specs.World.{CarriesBatch, Prepare, Node, World, Offer, Good, Bad, Event, Journal, Deliver, Start, Restart, Export, Keep, Revive, KeptTextFault, KeptOffer, KeptGood, KeptBad, Snapshot, Reply, Journaled, Delivered, Started, Restarted, Exported, KeptText, Refused, Refusal, BadBatch, WrongSeq, BadTarget, Unpriced, NoPacket, NoNode, NotClosed, Missing, AllClosed, NoBallot, NoAgent, Observer, BadKept, NotKept, voter_count, votes, current_period, wake, with_node_at, with_packet, next_packet}
 use Rattle.metering_model.specs.Deliveries.{Handled, handled}
+use Rattle.metering_model.specs.KeptText.{KeptAmong, kept_text, kept_in}
 
 abbrev pub Outcome : Type 0
 Outcome = Reply × World
@@ -107,12 +108,39 @@ snapshot w i p = do
 abbrev pub on_export : World → ℕ → ℕ → Result Outcome Refusal
 on_export w i p = snapshot w i p >>= λ s. Ok (Exported s, w)
 
+-- what a node keeps as it stands in the world
+abbrev pub kept_now : World → Node → KeptAmong
+kept_now w n = record { agents = w.agents; kept = n.kept }
+
+abbrev pub on_keep : World → ℕ → Result Outcome Refusal
+on_keep w i = do
+  n ← node_at w i
+  Ok (KeptText (kept_text (kept_now w n)), w)
+
+abbrev pub or_bad_kept : Result KeptAmong KeptTextFault → Result KeptAmong Refusal
+or_bad_kept (Ok k) = Ok k
+or_bad_kept (Err fault) = Err (BadKept fault)
+
+abbrev pub kept_of : KeptOffer → Result KeptAmong Refusal
+kept_of (KeptGood text) = or_bad_kept (kept_in text)
+kept_of (KeptBad fault) = Err (BadKept fault)
+
+-- A restart from a text, which is refused unless it is that of what the node keeps now: an older one has lost votes.
+abbrev pub on_revival : World → ℕ → KeptOffer → Result Outcome Refusal
+on_revival w i offer = do
+  n ← node_at w i
+  k ← kept_of offer
+  _ ← holds_or (is_same (kept_text k) (kept_text (kept_now w n))) NotKept
+  Ok (Restarted, with_node_at i (wake k.kept) w)
+
 abbrev pub outcome_of : World → Event → Result Outcome Refusal
 outcome_of w (Journal offer) = on_journal w offer
 outcome_of w (Deliver k i) = on_delivery w k i
 outcome_of w (Start i) = on_start w i
 outcome_of w (Restart i) = on_restart w i
 outcome_of w (Export i p) = on_export w i p
+outcome_of w (Keep i) = on_keep w i
+outcome_of w (Revive i offer) = on_revival w i offer
 
 abbrev pub or_refused : World → Result Outcome Refusal → Outcome
 or_refused w (Ok outcome) = outcome

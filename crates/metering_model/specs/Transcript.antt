@@ -4,7 +4,8 @@ use Rattle.std.specs.List.{flat_map}
 use Rattle.metering_model.specs.BatchReading.{BatchCode, Head, Count, Fields, Time, Number, Text, Tags, TooLong, BatchFault}
 use Rattle.metering_model.specs.Rows.{rows}
 use Rattle.metering_model.specs.File.{file}
-use Rattle.metering_model.specs.World.{Snapshot, Reply, Journaled, Delivered, Started, Restarted, Exported, Refused, Refusal, BadBatch, WrongSeq, BadTarget, Unpriced, NoPacket, NoNode, NotClosed, Missing, AllClosed, NoBallot, WorldFull, NoAgent, Observer}
+use Rattle.metering_model.specs.World.{Snapshot, Reply, Journaled, Delivered, Started, Restarted, Exported, Refused, Refusal, BadBatch, WrongSeq, BadTarget, Unpriced, NoPacket, NoNode, NotClosed, Missing, AllClosed, NoBallot, WorldFull, NoAgent, Observer, KeptTextFault, KeptText, BadKept, NotKept}
+use Rattle.metering_model.specs.KeptText.{KeptCode, BadHead, BadCut, NoBatch, NotInOrder, HasExtra}
 
 abbrev pub line : List ℕ → List ℕ
 line t = t ++ 10 ∷ []
@@ -26,6 +27,16 @@ code_text TooLong = codes "V8"
 abbrev pub fault_text : BatchFault → List ℕ
 fault_text fault = code_text fault.code ++ with_number (codes " line ") fault.line
 
+abbrev pub kept_code_text : KeptCode → List ℕ
+kept_code_text BadHead = codes "H1"
+kept_code_text BadCut = codes "H2"
+kept_code_text NoBatch = codes "H3"
+kept_code_text NotInOrder = codes "H4"
+kept_code_text HasExtra = codes "H5"
+
+abbrev pub kept_fault_text : KeptTextFault → List ℕ
+kept_fault_text fault = kept_code_text fault.code ++ with_number (codes " line ") fault.line
+
 abbrev pub refusal_text : Refusal → List ℕ
 refusal_text (BadBatch fault) = codes "G1 " ++ fault_text fault
 refusal_text (WrongSeq wanted) = with_number (codes "G2 wanted ") wanted
@@ -40,6 +51,8 @@ refusal_text NoBallot = codes "G10"
 refusal_text WorldFull = codes "G11"
 refusal_text NoAgent = codes "G12"
 refusal_text Observer = codes "G13"
+refusal_text (BadKept fault) = codes "G14 " ++ kept_fault_text fault
+refusal_text NotKept = codes "G15"
 
 abbrev pub if_any : List ℕ → Option ℕ → List ℕ
 if_any word None = []
@@ -58,6 +71,7 @@ reply_text (Started b k) = line (with_number (codes "started ballot ") b ++ with
 reply_text Restarted = line (codes "restarted")
 reply_text (Exported s) =
     line (with_number (codes "exported period ") s.period ++ with_number (codes " lines ") (line_count (file_of s))) ++ file_of s
+reply_text (KeptText text) = line (with_number (codes "kept lines ") (line_count text)) ++ text
 reply_text (Refused refusal) = line (codes "refused " ++ refusal_text refusal)
 
 abbrev pub transcript : List Reply → List ℕ

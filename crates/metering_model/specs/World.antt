@@ -1,8 +1,9 @@
 -- The group as plain data: what nodes keep, what was sent, what may happen and what is answered.
 use Rattle.std.specs.Prelude.{ℕ, ◌+◌, Bool, List, [], ◌∷◌, ◌++◌, length, replicate, Option, None, Result, Ok, Err, unwrap_or, nat_lt, if◌then◌else◌, slice_set}
 use Rattle.std.specs.List.{last_or}
+pub use Rattle.metering_model.specs.declared.KeptTextFault.{KeptTextFault}
 pub use Rattle.metering_model.specs.declared.Refusal.{Refusal}
-pub use Rattle.metering_model.specs.declared.Refusal.TheVariants.{BadBatch, WrongSeq, BadTarget, Unpriced, NoPacket, NoNode, NotClosed, Missing, AllClosed, NoBallot, WorldFull, NoAgent, Observer}
+pub use Rattle.metering_model.specs.declared.Refusal.TheVariants.{BadBatch, WrongSeq, BadTarget, Unpriced, NoPacket, NoNode, NotClosed, Missing, AllClosed, NoBallot, WorldFull, NoAgent, Observer, BadKept, NotKept}
 use Rattle.metering_model.specs.Batch.{Batch}
 use Rattle.metering_model.specs.BatchReading.{BatchFault, batch_in}
 use Rattle.metering_model.specs.Sheet.{Sheet, Issuer}
@@ -50,6 +51,12 @@ pub data Offer : Type 0 where
 abbrev pub offer_of : List ℕ → Offer
 offer_of text = elim (batch_in text) [ Ok b ↦ Good text | Err fault ↦ Bad fault ]
 
+-- What is handed in for a node to be revived from: a text, or the first fault of one that was read before. The step reads the
+-- text itself.
+pub data KeptOffer : Type 0 where
+  KeptGood : (text : List ℕ) → KeptOffer
+  KeptBad : KeptTextFault → KeptOffer
+
 -- Packets are delivered in any order, to whichever node, once, often or never.
 pub data Event : Type 0 where
   Journal : Offer → Event
@@ -57,6 +64,8 @@ pub data Event : Type 0 where
   Start : (node : ℕ) → Event
   Restart : (node : ℕ) → Event
   Export : (node period : ℕ) → Event
+  Keep : (node : ℕ) → Event
+  Revive : (node : ℕ) → KeptOffer → Event
 
 -- what an export is made of: the batches up to the period's cut
 pub record Snapshot : Type 0 where
@@ -73,6 +82,7 @@ pub data Reply : Type 0 where
   Started : (ballot packet : ℕ) → Reply
   Restarted : Reply
   Exported : Snapshot → Reply
+  KeptText : (text : List ℕ) → Reply
   Refused : Refusal → Reply
 
 abbrev pub node_count : World → ℕ

@@ -17,7 +17,8 @@ ghost use Rattle.metering_model.specs.Rating.{IsRounded, pricing_quantity};
 ghost use Rattle.metering_model.specs.Rows.{PlacedRow, placed_row, placed_rows, rows};
 ghost use Rattle.metering_model.specs.JournalRules.{MeetsJournalRules, next_seq, first_broken};
 ghost use Rattle.metering_model.specs.Front.{IsDueAt, AreDueBetween, front};
-ghost use Rattle.metering_model.specs.World.{World, Event, Good, Journal, offer_of};
+ghost use Rattle.metering_model.specs.World.{World, Event, Good, Journal, Revive, KeptGood, offer_of};
+ghost use Rattle.metering_model.specs.KeptText.{KeptAmong, HasText, IsKeptText, kept_text, kept_in, kept_offer_of};
 ghost use Rattle.metering_model.specs.Step.{first_missing, step, play};
 ghost use Rattle.metering_model.specs.Row.{charge, priced_kind, price_of, commitment_of};
 ghost use Rattle.metering_model.specs.Totals.{amounts_of, amounts_in, AreWithinLimits};
@@ -47,6 +48,14 @@ pub fn dates_are_read_as_they_are_written()
 pub fn a_batch_is_read_where_its_parts_are_joined()
     ensures joined { (text : List ℕ) (b : Batch) → (batch_in text ≡ Ok b) ↔ IsBatch text b }
     ensures well_formed { (text : List ℕ) (b : Batch) → batch_in text ≡ Ok b → IsWellFormed b }
+{}
+
+/// What a node keeps has one text, and is read from that text and from no other: so what was written is read back.
+pub fn what_is_kept_is_read_where_its_parts_are_joined()
+    ensures joined { (text : List ℕ) (k : KeptAmong) → (kept_in text ≡ Ok k) ↔ IsKeptText text k }
+    ensures back { (k : KeptAmong) → HasText k → kept_in (kept_text k) ≡ Ok k }
+    ensures one { (k l : KeptAmong) → HasText k → HasText l → kept_text k ≡ kept_text l → k ≡ l }
+    ensures few { (h : Holding) → IsHolding h → All (λ b. b.agent ≤ 64) h → length h ≤ 64_000_000 }
 {}
 
 /// A pricing quantity is the value divided by `per`, rounded half to even, and no other number is.
@@ -117,6 +126,11 @@ pub fn what_agrees_up_to_a_cut_is_charged_alike()
     ensures rows { (sheet : Sheet) (issuer : Issuer) (h k : Holding) (period : ℕ) (from to : Cut) →
         IsHolding h → IsHolding k → AgreeUpTo to h k → IsAtLeast to from →
         rows sheet issuer h period from to ≡ rows sheet issuer k period from to }
+{}
+
+/// A revival answers a text and the offer that reading it makes alike.
+pub fn texts_and_their_offer_are_revived_alike()
+    ensures { (w : World) (node : ℕ) (text : List ℕ) → step w (Revive node (kept_offer_of text)) ≡ step w (Revive node (KeptGood text)) }
 {}
 
 /// Bytes are answered alike, whether they were read before they were handed in or not.

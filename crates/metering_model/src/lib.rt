@@ -18,6 +18,15 @@ pub enum Kind {
     Adjustment,
 }
 
+/// The format of a batch's text, which the first field of its head names.
+#[derive(Clone, Copy, Debug, PartialEq, Eq, Drop)]
+pub enum Version {
+    /// Readings of nine fields.
+    B1,
+    /// Readings of ten fields, the last of which is their region.
+    B2,
+}
+
 /// A kind that is charged by a price.
 #[derive(Clone, Copy, Debug, PartialEq, Eq, Drop)]
 pub enum PricedKind {
@@ -109,6 +118,34 @@ pub enum BrokenRule {
     Unpriced,
 }
 
+/// What is wrong with a text of what a node keeps.
+#[derive(Clone, Copy, Debug, PartialEq, Eq, Drop, Error)]
+pub enum KeptCode {
+    /// H1: no head line within the limits.
+    #[error("H1")]
+    Head,
+    /// H2: no line with a sequence for each agent.
+    #[error("H2")]
+    Cut,
+    /// H3: no batch stands here.
+    #[error("H3")]
+    Batch,
+    /// H4: the batch is of no agent of the head line, or does not come after the one before it.
+    #[error("H4")]
+    Order,
+    /// H5: bytes behind the last batch.
+    #[error("H5")]
+    Extra,
+}
+
+/// The first fault of a text of what a node keeps, and its line, counted from 1.
+#[derive(Clone, Copy, Debug, PartialEq, Eq, Drop, Error)]
+#[error("{code} line {line}")]
+pub struct KeptTextFault {
+    pub code: KeptCode,
+    pub line: u64,
+}
+
 /// Why the group refuses an event. The world stays as it was.
 #[derive(Clone, Copy, Debug, PartialEq, Eq, Drop, Error)]
 pub enum Refusal {
@@ -151,6 +188,12 @@ pub enum Refusal {
     /// G13: the node has no vote, so it has no ballots.
     #[error("G13")]
     Observer,
+    /// G14: the text is of nothing that a node keeps.
+    #[error("G14 {0}")]
+    BadKept(KeptTextFault),
+    /// G15: the text is not of what this node keeps now.
+    #[error("G15")]
+    NotKept,
 }
 
 /// Who acts on the group: an agent, numbered from 1, or a node, numbered from 0.

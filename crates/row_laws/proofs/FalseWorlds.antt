@@ -8,6 +8,7 @@ use Rattle.std.proofs.lemmas.Option.{same_Some, none-some}
 use Rattle.std.proofs.lemmas.List.Elements.{All-head}
 use Rattle.metering_model.specs.NumberText.{worth_of, decimals_of}
 use Rattle.metering_model.specs.Dates.{stamp_in, period_end_text}
+use Rattle.metering_model.specs.declared.Version.TheVariants.{B1}
 use Rattle.metering_model.specs.Batch.{Batch, Reads, Amends}
 use Rattle.metering_model.specs.BatchReading.{Lines, lines_in}
 use Rattle.metering_model.specs.Cut.{Cut, last_of}
@@ -54,7 +55,7 @@ two_at_one_place_have_two_rows h = let two : 2 ≤ 1 = h in omega arith
 -- ---- a batch of sequence 0 lies above no cut, so it is never charged
 
 abbrev unnumbered : Batch
-unnumbered = record { agent = 1; seq = 0; records = Reads corrected ∷ [] }
+unnumbered = record { version = B1; agent = 1; seq = 0; records = Reads corrected ∷ [] }
 
 sequence_0_is_never_charged : AddsUp (unnumbered ∷ []) ((1 ∷ []) ∷ []) (place 0 0) → ⊥
 sequence_0_is_never_charged e = let billed : pos 0 ≡ pos 120_000_000_000 = ap (λ a. a.billed) e in omega (arith, ints)
@@ -85,7 +86,7 @@ abbrev first_file : List Cut
 first_file = (1 ∷ []) ∷ []
 
 abbrev first_batch : Holding
-first_batch = record { agent = 1; seq = 1; records = Reads corrected ∷ [] } ∷ []
+first_batch = record { version = B1; agent = 1; seq = 1; records = Reads corrected ∷ [] } ∷ []
 
 a_line_feed_is_no_label : is_label fed_row.description ≡ false
 a_line_feed_is_no_label = refl
@@ -141,7 +142,7 @@ going_back_looks_further e = let none : ◌≡◌ {A = ℕ} 0 2 = ap length e in
 -- ---- what is not due for January may start after its end
 
 abbrev ahead : Holding
-ahead = record { agent = 1; seq = 1; records = Reads credit ∷ [] } ∷ []
+ahead = record { version = B1; agent = 1; seq = 1; records = Reads credit ∷ [] } ∷ []
 
 third_of_february : stamp_in (codes "2025-02-03T00:00:00Z") ≡ Some (pos 1_738_540_800)
 unfolding days_from_civil day_count days_of_years days_of_months
@@ -163,7 +164,7 @@ what_is_not_due_starts_too_late all =
 -- ---- a correction of what was not due for an earlier period may do so too, though what is added now is due
 
 abbrev amended_ahead : Holding
-amended_ahead = record { agent = 1; seq = 1; records = Reads credit ∷ [] } ∷ record { agent = 1; seq = 2; records = Amends 1 0 (pos 0) ∷ [] } ∷ []
+amended_ahead = record { version = B1; agent = 1; seq = 1; records = Reads credit ∷ [] } ∷ record { version = B1; agent = 1; seq = 2; records = Amends 1 0 (pos 0) ∷ [] } ∷ []
 
 what_was_not_due_is_corrected_too_early : All StartsBeforeItsPeriodEnds (rows sheet_1 issuer_1 amended_ahead 0 (1 ∷ []) (2 ∷ [])) → ⊥
 what_was_not_due_is_corrected_too_early all =

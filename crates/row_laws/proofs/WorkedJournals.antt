@@ -1,12 +1,13 @@
 -- Journals of two batches that two cuts charge: usage that is corrected, usage under a commitment, usage whose half is
 -- rounded to even, and a credit.
-use Rattle.std.specs.Prelude.{◌≡◌, ℕ, List, [], ◌∷◌, Ok, ℤ, pos, neg_ℤ, codes}
+use Rattle.std.specs.Prelude.{◌≡◌, ℕ, List, [], ◌∷◌, None, Ok, ℤ, pos, neg_ℤ, codes}
 use Rattle.std.specs.Fmt.{digits}
 use Rattle.jiff_core.specs.Calendar.{days_from_civil, day_count, days_of_years, days_of_months}
 use Rattle.std.proofs.Common.{refl, arith}
 use Rattle.std.proofs.lemmas.List.Elements.{All-nil, All-cons}
 use Rattle.metering_model.specs.NumberText.{worth_of, decimals_of}
 use Rattle.metering_model.specs.declared.Kind.TheVariants.{Usage, Credit}
+use Rattle.metering_model.specs.declared.Version.TheVariants.{B1}
 use Rattle.metering_model.specs.Batch.{Tag, Reading, Reads, Amends, Batch, IsWellFormed}
 use Rattle.metering_model.specs.BatchReading.{batch_in}
 use Rattle.metering_model.specs.Cut.{Cut, IsGrowing}
@@ -28,6 +29,7 @@ usage sku value commitment tags = record {
   value = value;
   commitment = commitment;
   tags = tags;
+  region = None;
 }
 
 abbrev pub corrected : Reading
@@ -52,13 +54,14 @@ credit = record {
   value = neg_ℤ (pos 2_500_000);
   commitment = [];
   tags = [];
+  region = None;
 }
 
 abbrev pub january : Batch
-january = record { agent = 1; seq = 1; records = Reads corrected ∷ Reads committed ∷ Reads halved ∷ [] }
+january = record { version = B1; agent = 1; seq = 1; records = Reads corrected ∷ Reads committed ∷ Reads halved ∷ [] }
 
 abbrev pub february : Batch
-february = record { agent = 1; seq = 2; records = Amends 1 0 (pos 7_200_000_000) ∷ Amends 1 2 (pos 3) ∷ Reads credit ∷ [] }
+february = record { version = B1; agent = 1; seq = 2; records = Amends 1 0 (pos 7_200_000_000) ∷ Amends 1 2 (pos 3) ∷ Reads credit ∷ [] }
 
 abbrev pub journals : Holding
 journals = january ∷ february ∷ []

@@ -12,7 +12,7 @@ use Rattle.metering_model.specs.Front.{AreDueBetween}
 use Rattle.metering_model.specs.Rows.{rows}
 use Rattle.metering_model.specs.File.{header_line, fields_of_row, file}
 use Rattle.metering_model.specs.Totals.{sum_of}
-use Rattle.metering_model.specs.World.{World, Event, Snapshot, Reply, Exported, last_cut, opening}
+use Rattle.metering_model.specs.World.{World, Event, Snapshot, Reply, Exported, KeptText, last_cut, opening}
 use Rattle.metering_model.specs.Step.{cut_before, play}
 use Rattle.metering_model.specs.Transcript.{file_of, transcript}
 use Rattle.group_laws.specs.Headline.{HoldsAfter}
@@ -29,7 +29,11 @@ use Rattle.transcript_laws.proofs.CsvLaws.{rows_read}
 use Rattle.transcript_laws.proofs.NewLines.{as_many_new_lines}
 use Rattle.transcript_laws.proofs.FileLines.{are_plain, file_plain}
 use Rattle.transcript_laws.proofs.FileSizes.{few_batches, few_rows}
-use Rattle.transcript_laws.proofs.ReplyLines.{IsFileShown}
+use Rattle.transcript_laws.proofs.ReplyLines.{IsFileShown, IsKeptShown, AreFilesShown}
+use Rattle.transcript_laws.proofs.KeptTextLines.{kept_text_shown}
+use Rattle.group_laws.proofs.Agreed.{element_of}
+use Rattle.group_laws.proofs.Forms.{HasForms-opening}
+use Rattle.group_laws.proofs.KeptReplies.{texts_are_kept}
 use Rattle.transcript_laws.proofs.ShownExports.{shown_is_exported, exported_is_shown}
 use Rattle.transcript_laws.proofs.InTime.{were_due}
 use Rattle.transcript_laws.proofs.ShownTotals.{first_grow, are_the_files}
@@ -78,11 +82,22 @@ module _ (voters observers agents : ℕ) (sheet : Sheet) (issuer : Issuer) (even
         period = omega (arith, within, most);
       }
 
+  -- ---- the texts that were kept
+
+  text_is_shown : (text : List ℕ) → Contains replies (KeptText text) → IsKeptShown text
+  text_is_shown text has =
+      let at = element_of replies (KeptText text) has in
+      let of = texts_are_kept events (opening voters observers agents sheet issuer) (HasForms-opening voters observers agents sheet issuer) at.0 text at.1 in
+      subst IsKeptShown (sym of.2) (kept_text_shown of.0 of.1)
+
+  pub all_are_shown : AreFilesShown replies
+  all_are_shown = record { files = export_is_shown; texts = text_is_shown }
+
   -- ---- the files that are shown
 
   pub only : (period : ℕ) (shown : List ℕ) → Shows (transcript replies) period shown →
       (s : Snapshot) × Contains replies (Exported s) × (s.period ≡ period) × (shown ≡ file_of s)
-  only period shown it = shown_is_exported replies export_is_shown period shown it
+  only period shown it = shown_is_exported replies all_are_shown period shown it
 
   agree : (period : ℕ) (one two : List ℕ) → Shows (transcript replies) period one → Shows (transcript replies) period two → one ≡ two
   agree period one two here there =
@@ -175,7 +190,7 @@ module _ (voters observers agents : ℕ) (sheet : Sheet) (issuer : Issuer) (even
     lines = lines;
     fields = fields;
     in_time = in_time;
-    each = exported_is_shown replies export_is_shown;
+    each = exported_is_shown replies all_are_shown;
     only = only;
     charged_once = headline.charged_once;
     new_once = new_once;

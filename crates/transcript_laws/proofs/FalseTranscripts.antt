@@ -1,5 +1,5 @@
 -- Texts of which the headline's statements are false: so these statements refuse something, and the law's premises are needed.
-use Rattle.std.proofs.Common.{◌≡◌, ℕ, zero, suc, List, [], ◌∷◌, ◌++◌, length, map, take, drop, refl, sym, ap, subst, ◌∙◌, arith, Some, codes, pos}
+use Rattle.std.proofs.Common.{◌≡◌, ℕ, zero, suc, List, [], ◌∷◌, ◌++◌, length, map, take, drop, refl, sym, ap, subst, ◌∙◌, arith, Some, codes, pos, append-nil}
 use Rattle.std.specs.Prelude.{slice_get}
 use Rattle.std.specs.Fmt.{digits}
 use Rattle.std.specs.List.{Contains}
@@ -13,16 +13,20 @@ use Rattle.metering_model.specs.Holding.{Holding}
 use Rattle.metering_model.specs.Rows.{rows}
 use Rattle.metering_model.specs.File.{header_line, file}
 use Rattle.metering_model.specs.Totals.{sum_of}
-use Rattle.metering_model.specs.World.{Event, Journal, Deliver, Start, Export, Snapshot, Reply, Exported, offer_of, last_cut, opening}
+use Rattle.metering_model.specs.World.{Event, Journal, Deliver, Start, Export, Snapshot, Reply, Exported, KeptText, offer_of, last_cut, opening}
 use Rattle.metering_model.specs.Step.{cut_before, play}
 use Rattle.metering_model.specs.Transcript.{file_of, transcript}
 use Rattle.metering_model.specs.Schedule.{TextLines, lines_text, event_of}
 use Rattle.metering_model.proofs.Samples.{cpu, sheet_1, issuer_1, reading_1, row_1}
 use Rattle.metering_model.proofs.WorkedPeriods.{correction}
+use Rattle.metering_model.proofs.WorkedSheets.{sheet_1_is_a_sheet, issuer_1_is_an_issuer}
+use Rattle.group_laws.proofs.Agreed.{element_of}
 use Rattle.row_laws.specs.Charged.{charges_up_to}
 use Rattle.row_laws.specs.Columns.{sum_of_first_column}
 use Rattle.transcript_laws.specs.Csv.{new_lines}
 use Rattle.transcript_laws.specs.Shown.{Shows, HoldsOfBytes}
+use Rattle.transcript_laws.specs.FirstFiles.{WholeFile, first_file}
+use Rattle.transcript_laws.proofs.CutOut.{cut_out_whole}
 
 -- ---- the statements by themselves, of a text, a holding and cuts that may be made up
 
@@ -72,6 +76,26 @@ words_in_front_do_not_agree agree = some_bytes _ _ (agree 0 (lines_text words_in
       record { before = codes "exported period 0 lines 2" ∷ header_line ∷ []; lines = []; after = []; whole = refl; is_text = refl; is_shown = refl },
     )
 
+-- ---- a kept text of which a line begins with words
+
+-- it would be shown as a file of January, though nothing was exported
+abbrev words_kept : List Reply
+words_kept = KeptText (lines_text (codes "exported period 0 lines 0" ∷ [])) ∷ []
+
+words_kept_are_no_file : AreExported (transcript words_kept) words_kept → ⊥
+unfolding digits
+words_kept_are_no_file only =
+    let it = only 0 [] shown in
+    let at = element_of words_kept (Exported it.0) it.1 in
+    at_place at.0 it.0 at.1
+  where
+    shown : Shows (transcript words_kept) 0 []
+    shown = record { before = codes "kept lines 1" ∷ []; lines = []; after = []; whole = refl; is_text = refl; is_shown = refl }
+
+    at_place : (k : ℕ) (s : Snapshot) → slice_get words_kept k ≡ Some (Exported s) → ⊥
+    at_place zero s e = let same = same_Some _ _ e in cc
+    at_place (suc k) s e = none-some _ e
+
 -- ---- a line feed in a text of the issuer, or of the sheet
 
 -- it ends a line of the file, and the next one reads as whoever wrote that text likes
@@ -103,12 +127,12 @@ broken_file front back = header_line ∷ front ∷ codes "exported period 0 line
 abbrev broken_at_the_issuer : TextLines
 broken_at_the_issuer = broken_file
     (codes "0.12,A-100,Payer,USD,2025-02-01T00:00:00Z,2025-01-01T00:00:00Z,Usage,,Virtual CPU time,Usage-Based,2025-01-10T02:00:00Z,2025-01-10T00:00:00Z,,,,,5400,Seconds,0.12,0.08,0.12,Sample Cloud Ltd,0.15,0.1,Standard,1.5,Hours,\"Cloud")
-    (codes "\",Sample Cloud,vm-1,Compute,Sample Compute,cpu,cpu-od,acc-7,\"{\"\"env\"\":\"\"prod\"\"}\"")
+    (codes "\",Sample Cloud,,,vm-1,Compute,Sample Compute,cpu,cpu-od,acc-7,\"{\"\"env\"\":\"\"prod\"\"}\"")
 
 abbrev broken_at_the_sheet : TextLines
 broken_at_the_sheet = broken_file
     (codes "0.12,A-100,Payer,USD,2025-02-01T00:00:00Z,2025-01-01T00:00:00Z,Usage,,\"Cloud")
-    (codes "\",Usage-Based,2025-01-10T02:00:00Z,2025-01-10T00:00:00Z,,,,,5400,Seconds,0.12,0.08,0.12,Sample Cloud Ltd,0.15,0.1,Standard,1.5,Hours,Sample Cloud,Sample Cloud,vm-1,Compute,Sample Compute,cpu,cpu-od,acc-7,\"{\"\"env\"\":\"\"prod\"\"}\"")
+    (codes "\",Usage-Based,2025-01-10T02:00:00Z,2025-01-10T00:00:00Z,,,,,5400,Seconds,0.12,0.08,0.12,Sample Cloud Ltd,0.15,0.1,Standard,1.5,Hours,Sample Cloud,Sample Cloud,,,vm-1,Compute,Sample Compute,cpu,cpu-od,acc-7,\"{\"\"env\"\":\"\"prod\"\"}\"")
 
 the_issuer_breaks_the_headline : HoldsOfBytes 1 0 1 sheet_1 broken_issuer one_export (text_of sheet_1 broken_issuer) → ⊥
 unfolding days_from_civil day_count days_of_years days_of_months worth_of decimals_of digits
@@ -172,6 +196,48 @@ no_file_without_a_cut files = let it = files 0 (lines_text january) one_file_is_
 no_file_without_an_export : AreExported one_file [] → ⊥
 no_file_without_an_export exported = let it = exported 0 (lines_text january) one_file_is_shown in let within = it.1.1 in omega (arith, within)
 
+-- ---- what is cut out of such texts
+
+abbrev IsCutOut : List ℕ → Holding → List Cut → Type 0
+IsCutOut text journals cuts = (front rest : List ℕ) → text ≡ front ++ rest → (period : ℕ) (shown : List ℕ) → first_file period front ≡ WholeFile shown →
+    (to : Cut) × (slice_get cuts period ≡ Some to) × (shown ≡ file (rows sheet_1 issuer_1 journals period (cut_before 1 cuts period) to))
+
+-- of the headline's texts it is so
+is_cut_out_of_the_headline : (events : List Event) (text : List ℕ) (h : HoldsOfBytes 1 0 1 sheet_1 issuer_1 events text) → IsCutOut text h.world.journals h.cuts
+is_cut_out_of_the_headline events text h front rest e period shown first =
+    (cut_out_whole 1 0 1 sheet_1 issuer_1 events text sheet_1_is_a_sheet issuer_1_is_an_issuer h front rest e period shown first).1
+
+nothing_behind : (text : List ℕ) → text ≡ text ++ []
+nothing_behind text = sym (append-nil text)
+
+januarys_file_is_cut_out : first_file 1 (two_files january january) ≡ WholeFile (lines_text january)
+unfolding digits
+januarys_file_is_cut_out = refl
+
+januarys_file_is_no_cut_of_februarys : IsCutOut (two_files january january) corrected_journals two_cuts → ⊥
+unfolding days_from_civil day_count days_of_years days_of_months worth_of decimals_of digits
+januarys_file_is_no_cut_of_februarys files =
+    let it = files (two_files january january) [] (nothing_behind (two_files january january)) 1 (lines_text january) januarys_file_is_cut_out in
+    let same = it.2 ∙ ap (λ to. file (rows sheet_1 issuer_1 corrected_journals 1 (1 ∷ []) to)) (sym (same_Some (2 ∷ []) it.0 it.1)) in
+    let billed : pos 120_000_000_000 ≡ pos 40_000_000_000 = same_Some _ _ (ap (λ t. sum_of_first_column (t ∷ [])) same) in
+    omega (arith, ints)
+
+-- the line above says one line too few: the header line alone is cut out
+abbrev too_few : List ℕ
+too_few = lines_text (codes "exported period 0 lines 1" ∷ january)
+
+the_header_line_is_cut_out : first_file 0 too_few ≡ WholeFile (lines_text (header_line ∷ []))
+unfolding digits
+the_header_line_is_cut_out = refl
+
+one_line_too_few : IsCutOut too_few corrected_journals two_cuts → ⊥
+unfolding days_from_civil day_count days_of_years days_of_months worth_of decimals_of digits
+one_line_too_few files =
+    let it = files too_few [] (nothing_behind too_few) 0 (lines_text (header_line ∷ [])) the_header_line_is_cut_out in
+    let same = it.2 ∙ ap (λ to. file (rows sheet_1 issuer_1 corrected_journals 0 (0 ∷ []) to)) (sym (same_Some (1 ∷ []) it.0 it.1)) in
+    let billed : pos 0 ≡ pos 120_000_000_000 = same_Some _ _ (ap (λ t. sum_of_first_column (t ∷ [])) same) in
+    omega (arith, ints)
+
 -- ---- a correction that charges the whole again, and one that does not say that it is one
 
 module _ (later : TextLines) where
@@ -182,7 +248,7 @@ module _ (later : TextLines) where
   both_are_shown first second (suc (suc period)) one e = absurd (none-some one e)
 
 abbrev again : TextLines
-again = header_line ∷ codes "0.16,A-100,Payer,USD,2025-03-01T00:00:00Z,2025-02-01T00:00:00Z,Usage,Correction,Virtual CPU time,Usage-Based,2025-01-10T02:00:00Z,2025-01-10T00:00:00Z,,,,,7200,Seconds,0.16,0.08,0.16,Sample Cloud Ltd,0.2,0.1,Standard,2,Hours,Sample Cloud,Sample Cloud,vm-1,Compute,Sample Compute,cpu,cpu-od,acc-7,\"{\"\"env\"\":\"\"prod\"\"}\"" ∷ []
+again = header_line ∷ codes "0.16,A-100,Payer,USD,2025-03-01T00:00:00Z,2025-02-01T00:00:00Z,Usage,Correction,Virtual CPU time,Usage-Based,2025-01-10T02:00:00Z,2025-01-10T00:00:00Z,,,,,7200,Seconds,0.16,0.08,0.16,Sample Cloud Ltd,0.2,0.1,Standard,2,Hours,Sample Cloud,Sample Cloud,,,vm-1,Compute,Sample Compute,cpu,cpu-od,acc-7,\"{\"\"env\"\":\"\"prod\"\"}\"" ∷ []
 
 -- 0.12 and 0.16 are shown, where two hours are 0.16
 charging_again_does_not_add_up : AddUp (two_files january again) corrected_journals two_cuts → ⊥
@@ -198,7 +264,7 @@ charging_again_does_not_add_up adds_up =
     second = record { before = codes "exported period 0 lines 2" ∷ january; lines = again; after = []; whole = refl; is_text = refl; is_shown = refl }
 
 abbrev unsaid : TextLines
-unsaid = header_line ∷ codes "0.04,A-100,Payer,USD,2025-03-01T00:00:00Z,2025-02-01T00:00:00Z,Usage,,Virtual CPU time,Usage-Based,2025-01-10T02:00:00Z,2025-01-10T00:00:00Z,,,,,1800,Seconds,0.04,0.08,0.04,Sample Cloud Ltd,0.05,0.1,Standard,0.5,Hours,Sample Cloud,Sample Cloud,vm-1,Compute,Sample Compute,cpu,cpu-od,acc-7,\"{\"\"env\"\":\"\"prod\"\"}\"" ∷ []
+unsaid = header_line ∷ codes "0.04,A-100,Payer,USD,2025-03-01T00:00:00Z,2025-02-01T00:00:00Z,Usage,,Virtual CPU time,Usage-Based,2025-01-10T02:00:00Z,2025-01-10T00:00:00Z,,,,,1800,Seconds,0.04,0.08,0.04,Sample Cloud Ltd,0.05,0.1,Standard,0.5,Hours,Sample Cloud,Sample Cloud,,,vm-1,Compute,Sample Compute,cpu,cpu-od,acc-7,\"{\"\"env\"\":\"\"prod\"\"}\"" ∷ []
 
 -- two lines are new, of one reading
 an_unsaid_correction_is_new_twice : AreNewOnce (two_files january unsaid) corrected_journals two_cuts → ⊥

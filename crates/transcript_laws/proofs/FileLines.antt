@@ -12,7 +12,7 @@ use Rattle.metering_model.specs.File.{header_line, marked, quoted}
 use Rattle.metering_model.specs.Schedule.{TextLines}
 use Rattle.row_laws.specs.Columns.{line_of_row}
 use Rattle.transcript_laws.proofs.TextLaws.{begins_with, begins_not}
-use Rattle.transcript_laws.proofs.Decimals.{decimal_is_digits}
+use Rattle.metering_model.proofs.Decimals.{decimal_is_digits}
 
 -- the letter e, with which only the line above a file begins
 abbrev pub begins_with_e : List ℕ → Bool
@@ -25,7 +25,7 @@ are_plain ls = list_all (λ l. not (begins_with_e l)) ls
 digit_is_no_e : (c : ℕ) → is_digit c ≡ true → (c == 101) ≡ false
 digit_is_no_e c h = grind (arith, nat_tests)
 
-digits_begin : (t : List ℕ) → list_all is_digit t ≡ true → begins_with_e t ≡ false
+pub digits_begin : (t : List ℕ) → list_all is_digit t ≡ true → begins_with_e t ≡ false
 digits_begin [] h = refl
 digits_begin (c ∷ cs) h = digit_is_no_e c (and_parts (is_digit c) (list_all is_digit cs) h).0
 

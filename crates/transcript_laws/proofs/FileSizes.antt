@@ -14,7 +14,8 @@ use Rattle.metering_model.specs.World.{World, Node, Packet, CarriesBatch, Event,
 use Rattle.metering_model.specs.Deliveries.{handled}
 use Rattle.metering_model.specs.Step.{play}
 use Rattle.metering_model.proofs.HoldingLaws.{up_to_cases}
-use Rattle.group_laws.proofs.StepCases.{after, started, start_packet, IsKeptBySteps, play_kept}
+use Rattle.group_laws.proofs.StepCases.{after, started, start_packet, IsKeptBySteps}
+use Rattle.group_laws.proofs.Forms.{HasForms-opening, play_kept}
 use Rattle.group_laws.proofs.Limits.{keeps_limits}
 
 -- ---- batches: each was sent in a packet of its own
@@ -48,7 +49,7 @@ HasPackets-steps = record {
 pub few_batches : (voters observers agents : ℕ) (sheet : Sheet) (issuer : Issuer) (events : List Event) → length (play (opening voters observers agents sheet issuer) events).1.journals ≤ 1_000_000
 few_batches voters observers agents sheet issuer events =
     let room = (keeps_limits voters observers agents sheet issuer events).room in
-    let each = (play_kept HasPackets HasPackets-steps events (opening voters observers agents sheet issuer) (record { each = omega arith })).each in
+    let each = (play_kept HasPackets HasPackets-steps events (opening voters observers agents sheet issuer) (HasForms-opening voters observers agents sheet issuer) (record { each = omega arith })).each in
     omega (arith, room, each)
 
 -- ---- records and rows

@@ -12,7 +12,7 @@ use Rattle.metering_model.proofs.PlayLaws.{replies-append}
 use Rattle.transcript_laws.specs.Shown.{line_above, Shows}
 use Rattle.transcript_laws.proofs.TextLaws.{are_whole, front_of_lines, whole_both, whole_parts}
 use Rattle.transcript_laws.proofs.ReplyLines.{transcript_lines, above_lacks_feed, lines_are_whole, transcript_is}
-use Rattle.transcript_laws.proofs.EveryTranscript.{replies, export_is_shown}
+use Rattle.transcript_laws.proofs.EveryTranscript.{replies, all_are_shown}
 
 -- what lines at the front of a text show, the text shows
 shown_in_front : (ms : TextLines) (front rest : List ℕ) → are_whole ms ≡ true → lines_text ms ≡ front ++ rest →
@@ -40,7 +40,7 @@ pub shown_when_torn : (voters observers agents : ℕ) (sheet : Sheet) (issuer : 
     Shows (transcript (play (opening voters observers agents sheet issuer) events).0) period shown
 shown_when_torn voters observers agents sheet issuer events limits names front rest e period shown it =
     let now = replies voters observers agents sheet issuer events limits names in
-    let is = transcript_is now (export_is_shown voters observers agents sheet issuer events limits names) in
+    let is = transcript_is now (all_are_shown voters observers agents sheet issuer events limits names) in
     subst (λ t. Shows t period shown) (sym is) (shown_in_front (transcript_lines now) front rest (lines_are_whole now) (sym is ∙ e) period shown it)
 
 pub text_goes_on : (voters observers agents : ℕ) (sheet : Sheet) (issuer : Issuer) (events more : List Event) → (rest : List ℕ) ×

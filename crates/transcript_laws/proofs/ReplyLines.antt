@@ -1,4 +1,5 @@
--- A transcript's lines: one for each reply, and behind that of an export the lines of its file.
+-- A transcript's lines: one for each reply, and behind that of an export the lines of its file, behind that of a kept text the
+-- text's own.
 use Rattle.std.proofs.Common.{◌≡◌, ℕ, true, not, List, [], ◌∷◌, ◌++◌, length, flat_map, codes, Option, Some, None, refl, sym, ap, ap₂, ◌∙◌, arith, append-nil, Contains}
 use Rattle.std.specs.Prelude.{◌==◌, ◌<◌, ◌^◌, suc}
 use Rattle.std.proofs.lemmas.Bool.{and_from}
@@ -7,13 +8,15 @@ use Rattle.metering_model.specs.declared.BatchCode.{BatchCode}
 use Rattle.metering_model.specs.declared.BatchCode.TheVariants.{Head, Count, Fields, Time, Number, Text, Tags, TooLong}
 use Rattle.metering_model.specs.BatchReading.{lines_in}
 use Rattle.metering_model.specs.declared.Refusal.{Refusal}
-use Rattle.metering_model.specs.declared.Refusal.TheVariants.{BadBatch, WrongSeq, BadTarget, Unpriced, NoPacket, NoNode, NotClosed, Missing, AllClosed, NoBallot, WorldFull, NoAgent, Observer}
-use Rattle.metering_model.specs.World.{Snapshot, Reply, Journaled, Delivered, Started, Restarted, Exported, Refused}
-use Rattle.metering_model.specs.Transcript.{line, with_number, code_text, refusal_text, if_any, file_of, reply_text, transcript, line_count}
+use Rattle.metering_model.specs.declared.Refusal.TheVariants.{BadBatch, WrongSeq, BadTarget, Unpriced, NoPacket, NoNode, NotClosed, Missing, AllClosed, NoBallot, WorldFull, NoAgent, Observer, BadKept, NotKept}
+use Rattle.metering_model.specs.declared.KeptCode.{KeptCode}
+use Rattle.metering_model.specs.declared.KeptCode.TheVariants.{Head as BadHead, Cut as BadCut, Batch as NoBatch, Order as NotInOrder, Extra as HasExtra}
+use Rattle.metering_model.specs.World.{Snapshot, Reply, Journaled, Delivered, Started, Restarted, Exported, KeptText, Refused}
+use Rattle.metering_model.specs.Transcript.{line, with_number, code_text, kept_code_text, refusal_text, if_any, file_of, reply_text, transcript, line_count}
 use Rattle.metering_model.specs.Schedule.{TextLines, lines_text}
 use Rattle.metering_model.proofs.Splitting.{list_all_both}
 use Rattle.transcript_laws.specs.Shown.{line_above}
-use Rattle.transcript_laws.proofs.Decimals.{decimal_lacks_feed}
+use Rattle.metering_model.proofs.Decimals.{decimal_lacks_feed}
 use Rattle.transcript_laws.proofs.TextLaws.{are_whole, lines_append, whole_both, lines_in_whole, is_its_lines, line_count_is}
 use Rattle.transcript_laws.proofs.FileLines.{are_plain}
 
@@ -29,11 +32,13 @@ own_line (Delivered sent learned) = codes "delivered" ++ if_any (codes " sent ")
 own_line (Started b k) = with_number (codes "started ballot ") b ++ with_number (codes " packet ") k
 own_line Restarted = codes "restarted"
 own_line (Exported s) = line_above s.period (length (file_lines s))
+own_line (KeptText text) = with_number (codes "kept lines ") (length (lines_in text).lines)
 own_line (Refused refusal) = codes "refused " ++ refusal_text refusal
 
 -- and those behind it
 abbrev pub lines_behind : Reply → TextLines
 lines_behind (Exported s) = file_lines s
+lines_behind (KeptText text) = (lines_in text).lines
 lines_behind _ = []
 
 abbrev pub reply_lines : Reply → TextLines
@@ -50,17 +55,29 @@ pub record IsFileShown (s : Snapshot) : Type 0 where
   pub few : length (file_lines s) < 10 ^ 63
   pub period : s.period < 10 ^ 63
 
-abbrev pub AreFilesShown : List Reply → Type 0
-AreFilesShown replies = (s : Snapshot) → Contains replies (Exported s) → IsFileShown s
+-- and of a text that was kept
+pub record IsKeptShown (text : List ℕ) : Type 0 where
+  pub ended : (lines_in text).rest ≡ []
+  pub plain : are_plain (lines_in text).lines ≡ true
 
-pub contains_later : (r : Reply) (replies : List Reply) (s : Snapshot) → Contains replies (Exported s) → Contains (r ∷ replies) (Exported s)
-contains_later r replies s h = let within = h.1 in (suc h.0, omega (arith, within), h.2)
+pub record AreFilesShown (replies : List Reply) : Type 0 where
+  pub files : (s : Snapshot) → Contains replies (Exported s) → IsFileShown s
+  pub texts : (text : List ℕ) → Contains replies (KeptText text) → IsKeptShown text
+
+pub contains_later : (r : Reply) (replies : List Reply) (x : Reply) → Contains replies x → Contains (r ∷ replies) x
+contains_later r replies x h = let within = h.1 in (suc h.0, omega (arith, within), h.2)
 
 pub later_shown : (r : Reply) (replies : List Reply) → AreFilesShown (r ∷ replies) → AreFilesShown replies
-later_shown r replies h s has = h s (contains_later r replies s has)
+later_shown r replies h = record {
+  files = λ s has. h.files s (contains_later r replies (Exported s) has);
+  texts = λ text has. h.texts text (contains_later r replies (KeptText text) has);
+}
 
 pub first_shown : (s : Snapshot) (replies : List Reply) → AreFilesShown (Exported s ∷ replies) → IsFileShown s
-first_shown s replies h = h s (0, omega arith, refl)
+first_shown s replies h = h.files s (0, omega arith, refl)
+
+pub first_text_shown : (text : List ℕ) (replies : List Reply) → AreFilesShown (KeptText text ∷ replies) → IsKeptShown text
+first_text_shown text replies h = h.texts text (0, omega arith, refl)
 
 -- ---- no line of a reply holds a line feed
 
@@ -81,6 +98,13 @@ code_lacks_feed Text = refl
 code_lacks_feed Tags = refl
 code_lacks_feed TooLong = refl
 
+kept_code_lacks_feed : (code : KeptCode) → lacks 10 (kept_code_text code) ≡ true
+kept_code_lacks_feed BadHead = refl
+kept_code_lacks_feed BadCut = refl
+kept_code_lacks_feed NoBatch = refl
+kept_code_lacks_feed NotInOrder = refl
+kept_code_lacks_feed HasExtra = refl
+
 refusal_lacks_feed : (refusal : Refusal) → lacks 10 (refusal_text refusal) ≡ true
 refusal_lacks_feed (BadBatch fault) = both_lack (code_text fault.code) (with_number (codes " line ") fault.line) (code_lacks_feed fault.code) (decimal_lacks_feed fault.line)
 refusal_lacks_feed (WrongSeq wanted) = decimal_lacks_feed wanted
@@ -96,6 +120,9 @@ refusal_lacks_feed NoBallot = refl
 refusal_lacks_feed WorldFull = refl
 refusal_lacks_feed NoAgent = refl
 refusal_lacks_feed Observer = refl
+refusal_lacks_feed (BadKept fault) =
+    both_lack (kept_code_text fault.code) (with_number (codes " line ") fault.line) (kept_code_lacks_feed fault.code) (decimal_lacks_feed fault.line)
+refusal_lacks_feed NotKept = refl
 
 sent_lacks_feed : (sent : Option ℕ) → lacks 10 (if_any (codes " sent ") sent) ≡ true
 sent_lacks_feed None = refl
@@ -111,6 +138,7 @@ own_lacks_feed (Delivered sent learned) = both_lack (codes "delivered" ++ if_any
 own_lacks_feed (Started b k) = both_lack (with_number (codes "started ballot ") b) (with_number (codes " packet ") k) (decimal_lacks_feed b) (decimal_lacks_feed k)
 own_lacks_feed Restarted = refl
 own_lacks_feed (Exported s) = above_lacks_feed s.period (length (file_lines s))
+own_lacks_feed (KeptText text) = decimal_lacks_feed (length (lines_in text).lines)
 own_lacks_feed (Refused refusal) = refusal_lacks_feed refusal
 
 behind_whole : (r : Reply) → are_whole (lines_behind r) ≡ true
@@ -119,6 +147,7 @@ behind_whole (Delivered sent learned) = refl
 behind_whole (Started b k) = refl
 behind_whole Restarted = refl
 behind_whole (Exported s) = lines_in_whole (file_of s)
+behind_whole (KeptText text) = lines_in_whole text
 behind_whole (Refused refusal) = refl
 
 pub lines_are_whole : (replies : List Reply) → are_whole (transcript_lines replies) ≡ true
@@ -135,6 +164,13 @@ export_is s h =
     let counted : line_count (file_of s) ≡ length (file_lines s) = ap line_count (file_is s h) ∙ line_count_is (file_lines s) (lines_in_whole (file_of s)) in
     ap₂ (λ n t. line (line_above s.period n) ++ t) counted (file_is s h)
 
+kept_is : (text : List ℕ) → IsKeptShown text → reply_text (KeptText text) ≡ lines_text (reply_lines (KeptText text))
+kept_is text h =
+    let lines = (lines_in text).lines in
+    let is : text ≡ lines_text lines = is_its_lines text h.ended in
+    let counted : line_count text ≡ length lines = ap line_count is ∙ line_count_is lines (lines_in_whole text) in
+    ap₂ (λ n t. line (with_number (codes "kept lines ") n) ++ t) counted is
+
 alone : (t : List ℕ) → line t ≡ lines_text (t ∷ [])
 alone t = sym (append-nil (line t))
 
@@ -144,6 +180,7 @@ reply_is (Delivered sent learned) replies h = alone (own_line (Delivered sent le
 reply_is (Started b k) replies h = alone (own_line (Started b k))
 reply_is Restarted replies h = alone (own_line Restarted)
 reply_is (Exported s) replies h = export_is s (first_shown s replies h)
+reply_is (KeptText text) replies h = kept_is text (first_text_shown text replies h)
 reply_is (Refused refusal) replies h = alone (own_line (Refused refusal))
 
 pub transcript_is : (replies : List Reply) → AreFilesShown replies → transcript replies ≡ lines_text (transcript_lines replies)

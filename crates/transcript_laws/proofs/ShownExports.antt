@@ -5,16 +5,16 @@ use Rattle.std.specs.Prelude.{slice_get}
 use Rattle.std.proofs.lemmas.Bool.{and_parts, and_from, not-true, true≢false}
 use Rattle.std.proofs.lemmas.List.Concat.{flat_map-append}
 use Rattle.std.proofs.lemmas.Option.{same_Some, none-some}
-use Rattle.metering_model.specs.World.{Snapshot, Reply, Journaled, Delivered, Started, Restarted, Exported, Refused}
+use Rattle.metering_model.specs.World.{Snapshot, Reply, Journaled, Delivered, Started, Restarted, Exported, KeptText, Refused}
 use Rattle.metering_model.specs.Transcript.{with_number, file_of, transcript}
 use Rattle.metering_model.specs.Schedule.{TextLines, lines_text}
 use Rattle.metering_model.proofs.FirstByte.{before, after, before_join, after_join}
 use Rattle.group_laws.proofs.Agreed.{element_of}
 use Rattle.transcript_laws.specs.Shown.{line_above, Shows}
-use Rattle.transcript_laws.proofs.Decimals.{decimal_lacks_blank, decimal_is_one}
+use Rattle.metering_model.proofs.Decimals.{decimal_lacks_blank, decimal_is_one}
 use Rattle.transcript_laws.proofs.TextLaws.{whole_both, whole_parts, same_lines, lines_in_whole}
 use Rattle.transcript_laws.proofs.FileLines.{begins_with_e, are_plain}
-use Rattle.transcript_laws.proofs.ReplyLines.{file_lines, own_line, lines_behind, reply_lines, transcript_lines, IsFileShown, AreFilesShown, contains_later, later_shown, first_shown, above_lacks_feed, lines_are_whole, file_is, transcript_is}
+use Rattle.transcript_laws.proofs.ReplyLines.{file_lines, own_line, lines_behind, reply_lines, transcript_lines, IsFileShown, AreFilesShown, contains_later, later_shown, first_shown, first_text_shown, above_lacks_feed, lines_are_whole, file_is, transcript_is}
 
 -- ---- the line above a file tells its two numbers
 
@@ -79,6 +79,7 @@ first_line (Journaled k) replies x after is e = other_line (Journaled k) replies
 first_line (Delivered sent learned) replies x after is e = other_line (Delivered sent learned) replies x after refl is e
 first_line (Started b k) replies x after is e = other_line (Started b k) replies x after refl is e
 first_line Restarted replies x after is e = other_line Restarted replies x after refl is e
+first_line (KeptText text) replies x after is e = other_line (KeptText text) replies x after refl is e
 first_line (Refused refusal) replies x after is e = other_line (Refused refusal) replies x after refl is e
 first_line (Exported s) replies x after is e = record {
   snapshot = s;
@@ -94,16 +95,17 @@ behind_is_plain (Delivered sent learned) replies h = refl
 behind_is_plain (Started b k) replies h = refl
 behind_is_plain Restarted replies h = refl
 behind_is_plain (Exported s) replies h = (first_shown s replies h).plain
+behind_is_plain (KeptText text) replies h = (first_text_shown text replies h).plain
 behind_is_plain (Refused refusal) replies h = refl
 
-export_of_line : (replies : List Reply) → AreFilesShown replies → (before after : TextLines) (x : List ℕ) → begins_with_e x ≡ true →
+pub export_of_line : (replies : List Reply) → AreFilesShown replies → (before after : TextLines) (x : List ℕ) → begins_with_e x ≡ true →
     transcript_lines replies ≡ before ++ x ∷ after → IsOfExport replies x after
 export_of_line [] h before after x is e = absurd (none_is_some before after x e)
 export_of_line (r ∷ replies) h [] after x is e = first_line r replies x after is e
 export_of_line (r ∷ replies) h (b ∷ bs) after x is e =
     let later = behind_plain (lines_behind r) (transcript_lines replies) bs after x (behind_is_plain r replies h) is (ap (drop 1) e) in
     let found = export_of_line replies (later_shown r replies h) later.0 after x is later.1 in
-    record { snapshot = found.snapshot; has = contains_later r replies found.snapshot found.has; rest = found.rest; above = found.above; behind = found.behind }
+    record { snapshot = found.snapshot; has = contains_later r replies (Exported found.snapshot) found.has; rest = found.rest; above = found.above; behind = found.behind }
 
 -- ---- what is shown is an export's file
 
@@ -119,7 +121,7 @@ shown_is_exported replies h period shown it =
     let same = same_lines (transcript_lines replies) (it.before ++ (x ∷ it.lines ++ it.after)) (lines_are_whole replies) given_whole (sym (transcript_is replies h) ∙ text) in
     let found = export_of_line replies h it.before (it.lines ++ it.after) x refl same in
     let s = found.snapshot in
-    let known = h s found.has in
+    let known = h.files s found.has in
     let numbers = same_above period (length it.lines) s.period (length (file_lines s)) known.period known.few found.above in
     let lines = same_front it.lines (file_lines s) it.after found.rest numbers.1 found.behind in
     (s, found.has, sym numbers.0, it.is_shown ∙ ap lines_text lines ∙ sym (file_is s known))
@@ -149,4 +151,4 @@ pub exported_is_shown : (replies : List Reply) → AreFilesShown replies → (s 
 exported_is_shown replies h s has =
     let at = element_of replies (Exported s) has in
     let parts = split_at replies at.0 (Exported s) at.1 in
-    shown_between replies parts.0 parts.1 s h (h s has) parts.2
+    shown_between replies parts.0 parts.1 s h (h.files s has) parts.2

@@ -7,11 +7,11 @@ use Rattle.std.proofs.lemmas.List.Concat.{flat_map-append}
 use Rattle.std.proofs.lemmas.List.Folds.{list_all-append}
 use Rattle.std.proofs.lemmas.List.Sums.{sum_by-cons, sum_by-append}
 use Rattle.metering_model.specs.Batch.{lacks}
-use Rattle.metering_model.specs.BatchReading.{Lines, lines_of_parts, lines_in}
+use Rattle.metering_model.specs.BatchReading.{Lines, with_line, lines_of_parts, lines_in}
 use Rattle.metering_model.specs.Transcript.{line, line_count}
 use Rattle.metering_model.specs.Schedule.{TextLines, lines_text}
 use Rattle.metering_model.proofs.FirstByte.{before, after, before_join, after_join}
-use Rattle.metering_model.proofs.Splitting.{parts_at, parts_lack, lines_of_text, lines_give_back}
+use Rattle.metering_model.proofs.Splitting.{parts_at, parts_lack, cut_whole, cut_first, lines_of_text, lines_give_back}
 
 -- no line has a line feed
 abbrev pub are_whole : TextLines → Bool
@@ -61,6 +61,42 @@ lines_whole (p ∷ q ∷ ps) h =
 
 pub lines_in_whole : (text : List ℕ) → are_whole (lines_in text).lines ≡ true
 lines_in_whole text = lines_whole (parts_at 10 text) (parts_lack 10 text)
+
+rest_lacks : (ps : TextLines) → are_whole ps ≡ true → lacks 10 (lines_of_parts ps).rest ≡ true
+rest_lacks [] h = refl
+rest_lacks (p ∷ []) h = (and_parts (lacks 10 p) (are_whole []) h).0
+rest_lacks (p ∷ q ∷ ps) h = rest_lacks (q ∷ ps) (and_parts (lacks 10 p) (are_whole (q ∷ ps)) h).1
+
+-- what stands behind the last line feed has none
+pub rest_in_lacks : (text : List ℕ) → lacks 10 (lines_in text).rest ≡ true
+rest_in_lacks text = rest_lacks (parts_at 10 text) (parts_lack 10 text)
+
+cut_lines_and_rest : (ls : TextLines) (r : List ℕ) → are_whole ls ≡ true → lacks 10 r ≡ true → parts_at 10 (lines_text ls ++ r) ≡ ls ++ r ∷ []
+cut_lines_and_rest [] r h k = cut_whole 10 r k
+cut_lines_and_rest (l ∷ ls) r h k =
+    let both = and_parts (lacks 10 l) (are_whole ls) h in
+    ap (parts_at 10) (append_assoc (line l) (lines_text ls) r ∙ append_assoc l (10 ∷ []) (lines_text ls ++ r))
+    ∙ cut_first 10 l (lines_text ls ++ r) both.0
+    ∙ ap (λ ps. l ∷ ps) (cut_lines_and_rest ls r both.1 k)
+
+parts_and_rest : (ls : TextLines) (r : List ℕ) → lines_of_parts (ls ++ r ∷ []) ≡ record { lines = ls; rest = r }
+parts_and_rest [] r = refl
+parts_and_rest (l ∷ []) r = refl
+parts_and_rest (l ∷ m ∷ ls) r = ap (with_line l) (parts_and_rest (m ∷ ls) r)
+
+-- lines and a text without a line feed behind them come back
+pub lines_and_rest : (ls : TextLines) (r : List ℕ) → are_whole ls ≡ true → lacks 10 r ≡ true → lines_in (lines_text ls ++ r) ≡ record { lines = ls; rest = r }
+lines_and_rest ls r h k = ap lines_of_parts (cut_lines_and_rest ls r h k) ∙ parts_and_rest ls r
+
+-- the lines of a text that begins with lines
+pub lines_before : (ls : TextLines) (text : List ℕ) → are_whole ls ≡ true → (lines_in (lines_text ls ++ text)).lines ≡ ls ++ (lines_in text).lines
+lines_before ls text h =
+    let ms = (lines_in text).lines in
+    let r = (lines_in text).rest in
+    let same : lines_text ls ++ text ≡ lines_text (ls ++ ms) ++ r =
+    ap (λ t. lines_text ls ++ t) (sym (lines_give_back text)) ∙ sym (append_assoc (lines_text ls) (lines_text ms) r) ∙ ap (λ t. t ++ r) (sym (lines_append ls ms)) in
+    ap (λ t. (lines_in t).lines) same
+    ∙ ap (λ (x : Lines). x.lines) (lines_and_rest (ls ++ ms) r (whole_both ls ms h (lines_in_whole text)) (rest_in_lacks text))
 
 -- a text with nothing behind its last line feed is its lines
 pub is_its_lines : (text : List ℕ) → (lines_in text).rest ≡ [] → text ≡ lines_text (lines_in text).lines

@@ -21,26 +21,26 @@ use Rattle.transcript_laws.specs.Shown.{Shows, HoldsOfBytes}
 use Rattle.transcript_laws.proofs.EveryTranscript.{holds_of_bytes}
 
 -- an hour and a half of January, which February's file corrects to two hours; February's is exported first
-abbrev events : List Event
+abbrev pub events : List Event
 events = map event_of correction.events
 
 abbrev run : List Reply × World
 run = play (opening 1 0 1 sheet_1 issuer_1) events
 
-abbrev text : List ℕ
+abbrev pub text : List ℕ
 text = transcript run.0
 
 abbrev pub corrected_row : List ℕ
-corrected_row = codes "0.04,A-100,Payer,USD,2025-03-01T00:00:00Z,2025-02-01T00:00:00Z,Usage,Correction,Virtual CPU time,Usage-Based,2025-01-10T02:00:00Z,2025-01-10T00:00:00Z,,,,,1800,Seconds,0.04,0.08,0.04,Sample Cloud Ltd,0.05,0.1,Standard,0.5,Hours,Sample Cloud,Sample Cloud,vm-1,Compute,Sample Compute,cpu,cpu-od,acc-7,\"{\"\"env\"\":\"\"prod\"\"}\""
+corrected_row = codes "0.04,A-100,Payer,USD,2025-03-01T00:00:00Z,2025-02-01T00:00:00Z,Usage,Correction,Virtual CPU time,Usage-Based,2025-01-10T02:00:00Z,2025-01-10T00:00:00Z,,,,,1800,Seconds,0.04,0.08,0.04,Sample Cloud Ltd,0.05,0.1,Standard,0.5,Hours,Sample Cloud,Sample Cloud,,,vm-1,Compute,Sample Compute,cpu,cpu-od,acc-7,\"{\"\"env\"\":\"\"prod\"\"}\""
 
-abbrev january : TextLines
+abbrev pub january : TextLines
 january = header_line ∷ row_1 ∷ []
 
-abbrev february : TextLines
+abbrev pub february : TextLines
 february = header_line ∷ corrected_row ∷ []
 
 -- what stands before both files
-abbrev told : TextLines
+abbrev pub told : TextLines
 told = codes "journaled packet 0" ∷ codes "delivered" ∷ codes "started ballot 1 packet 1" ∷ codes "delivered sent 2" ∷
     codes "delivered sent 3" ∷ codes "delivered sent 4" ∷ codes "delivered learned 0" ∷ codes "journaled packet 5" ∷
     codes "delivered" ∷ codes "started ballot 2 packet 6" ∷ codes "delivered sent 7" ∷ codes "delivered sent 8" ∷
@@ -50,13 +50,13 @@ february_is_shown : Shows text 1 (lines_text february)
 unfolding days_from_civil day_count days_of_years days_of_months worth_of decimals_of digits
 february_is_shown = record { before = told; lines = february; after = codes "exported period 0 lines 2" ∷ january; whole = refl; is_text = refl; is_shown = refl }
 
-january_is_shown : Shows text 0 (lines_text january)
+pub january_is_shown : Shows text 0 (lines_text january)
 unfolding days_from_civil day_count days_of_years days_of_months worth_of decimals_of digits
 january_is_shown = record { before = told ++ codes "exported period 1 lines 2" ∷ february; lines = january; after = []; whole = refl; is_text = refl; is_shown = refl }
 
 -- ---- by the headline these bytes are the only ones under their periods, and they add up
 
-holds : HoldsOfBytes 1 0 1 sheet_1 issuer_1 events text
+pub holds : HoldsOfBytes 1 0 1 sheet_1 issuer_1 events text
 holds = holds_of_bytes 1 0 1 sheet_1 issuer_1 events sheet_1_is_a_sheet issuer_1_is_an_issuer
 
 no_other_january : (shown : List ℕ) → Shows text 0 shown → shown ≡ lines_text january
@@ -85,7 +85,7 @@ one_reading = sym (holds.new_once (lines_text january ∷ lines_text february �
 
 -- ---- read as CSV, the lines have the header line's columns
 
-columns : (length (csv_fields header_line) ≡ 36) × (slice_get (csv_fields header_line) 7 ≡ Some (codes "ChargeClass")) × (slice_get (csv_fields header_line) 35 ≡ Some (codes "Tags"))
+columns : (length (csv_fields header_line) ≡ 38) × (slice_get (csv_fields header_line) 7 ≡ Some (codes "ChargeClass")) × (slice_get (csv_fields header_line) 37 ≡ Some (codes "Tags"))
 columns = (refl, refl, refl)
 
 new_in_january : slice_get (csv_fields row_1) 7 ≡ Some []
@@ -95,5 +95,5 @@ corrected_in_february : slice_get (csv_fields corrected_row) 7 ≡ Some (codes "
 corrected_in_february = refl
 
 -- a field between quotation marks, of which the inner ones were doubled
-tags_in_january : slice_get (csv_fields row_1) 35 ≡ Some (codes "{\"env\":\"prod\"}")
+tags_in_january : slice_get (csv_fields row_1) 37 ≡ Some (codes "{\"env\":\"prod\"}")
 tags_in_january = refl

@@ -1,2 +1,3 @@
 pub mod Csv
 pub mod Shown
+pub mod FirstFiles

@@ -1,6 +1,6 @@
 //! The headline over every list of events, of the bytes of its transcript.
 
-ghost use Rattle.std.specs.Prelude.{◌≡◌, ℕ, List, ◌∷◌, ◌++◌, map};
+ghost use Rattle.std.specs.Prelude.{◌≡◌, ◌≢◌, ℕ, List, ◌∷◌, ◌++◌, map};
 ghost use Rattle.std.specs.List.{join_with_byte};
 ghost use Rattle.metering_model.specs.Sheet.{Sheet, Issuer};
 ghost use Rattle.metering_model.specs.SheetRules.{IsSheet, IsIssuer};
@@ -9,9 +9,12 @@ ghost use Rattle.metering_model.specs.File.{quoted, fields_of_row};
 ghost use Rattle.metering_model.specs.World.{Event, opening};
 ghost use Rattle.metering_model.specs.Step.{play};
 ghost use Rattle.metering_model.specs.Transcript.{transcript};
+ghost use Rattle.metering_model.specs.BatchReading.{lines_in};
+ghost use Rattle.metering_model.specs.Schedule.{TextLines};
 ghost use Rattle.row_laws.specs.Columns.{line_of_row};
 ghost use Rattle.transcript_laws.specs.Csv.{csv_fields};
-ghost use Rattle.transcript_laws.specs.Shown.{Shows, HoldsOfBytes};
+ghost use Rattle.transcript_laws.specs.Shown.{line_above, Shows, HoldsOfBytes};
+ghost use Rattle.transcript_laws.specs.FirstFiles.{NoFile, TornFile, WholeFile, first_file, IsPeriodsFile};
 
 /// Whatever happens to a group, the files that its transcript shows agree, are those between neighbouring cuts, and add up.
 /// A line feed in a text of the sheet or of the issuer would end a line of a file: their readers take none.
@@ -33,6 +36,23 @@ pub fn a_longer_transcript_shows_the_same_files()
         (front rest : List ℕ) → transcript (play (opening voters observers agents sheet issuer) events).0 ≡ front ++ rest →
         (period : ℕ) (shown : List ℕ) → Shows front period shown →
         Shows (transcript (play (opening voters observers agents sheet issuer) events).0) period shown }
+{}
+
+/// The first file of a period, cut out of a transcript, is the period's file: also out of a transcript that was torn off at
+/// whichever byte. Where only a part of it is left, that is a front of the period's file; where none is found, no whole line stands above
+/// one. Of a whole transcript no file is torn.
+pub fn what_is_cut_out_is_the_periods_file()
+    ensures whole { (voters observers agents : ℕ) (sheet : Sheet) (issuer : Issuer) (events : List Event) (text : List ℕ) → IsSheet sheet → IsIssuer issuer →
+        (holds : HoldsOfBytes voters observers agents sheet issuer events text) → (front rest : List ℕ) → text ≡ front ++ rest →
+        (period : ℕ) (shown : List ℕ) → first_file period front ≡ WholeFile shown → IsPeriodsFile holds period shown }
+    ensures torn { (voters observers agents : ℕ) (sheet : Sheet) (issuer : Issuer) (events : List Event) (text : List ℕ) → IsSheet sheet → IsIssuer issuer →
+        (holds : HoldsOfBytes voters observers agents sheet issuer events text) → (front rest : List ℕ) → text ≡ front ++ rest →
+        (period : ℕ) (part : List ℕ) → first_file period front ≡ TornFile part → (more : List ℕ) × IsPeriodsFile holds period (part ++ more) }
+    ensures none { (voters observers agents : ℕ) (sheet : Sheet) (issuer : Issuer) (events : List Event) (text : List ℕ) → IsSheet sheet → IsIssuer issuer →
+        (holds : HoldsOfBytes voters observers agents sheet issuer events text) → (front rest : List ℕ) → text ≡ front ++ rest →
+        (period : ℕ) → first_file period front ≡ NoFile → (before after : TextLines) (lines : ℕ) → (lines_in front).lines ≢ before ++ line_above period lines ∷ after }
+    ensures never_torn { (voters observers agents : ℕ) (sheet : Sheet) (issuer : Issuer) (events : List Event) (text : List ℕ) → IsSheet sheet → IsIssuer issuer →
+        (holds : HoldsOfBytes voters observers agents sheet issuer events text) → (period : ℕ) (part : List ℕ) → first_file period text ≢ TornFile part }
 {}
 
 /// Read as CSV, a line of fields gives just these fields, whatever bytes they have; so a row's line gives the row's fields.

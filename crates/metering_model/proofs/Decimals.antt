@@ -36,11 +36,17 @@ decimal_is_digits n = onto_digits 64 n [] refl
 digit_no_feed : (c : ℕ) → is_digit c ≡ true → not (c == 10) ≡ true
 digit_no_feed c h = grind (arith, nat_tests)
 
+digit_no_bar : (c : ℕ) → is_digit c ≡ true → not (c == 124) ≡ true
+digit_no_bar c h = grind (arith, nat_tests)
+
 digit_no_blank : (c : ℕ) → is_digit c ≡ true → not (c == 32) ≡ true
 digit_no_blank c h = grind (arith, nat_tests)
 
 pub decimal_lacks_feed : (n : ℕ) → lacks 10 (decimal n) ≡ true
 decimal_lacks_feed n = list_all_weaker is_digit (λ c. not (c == 10)) digit_no_feed (decimal n) (decimal_is_digits n)
+
+pub decimal_lacks_bar : (n : ℕ) → lacks 124 (decimal n) ≡ true
+decimal_lacks_bar n = list_all_weaker is_digit (λ c. not (c == 124)) digit_no_bar (decimal n) (decimal_is_digits n)
 
 pub decimal_lacks_blank : (n : ℕ) → lacks 32 (decimal n) ≡ true
 decimal_lacks_blank n = list_all_weaker is_digit (λ c. not (c == 32)) digit_no_blank (decimal n) (decimal_is_digits n)

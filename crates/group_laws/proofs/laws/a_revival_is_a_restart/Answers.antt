@@ -1,0 +1,17 @@
+use Rattle.group_laws.proofs.EveryRun.{forms}
+use Rattle.group_laws.proofs.Revivals.{revival_is_restart, own_text_is_taken, each_has_text}
+use Rattle.metering_model.specs.World.{opening}
+use Rattle.metering_model.specs.Step.{play}
+use Rattle.group_laws.proofs.laws.a_revival_is_a_restart.Goals as goal
+
+pub returns-clause-restarts : goal.returns-clause-restarts
+returns-clause-restarts c = λ voters observers agents sheet issuer events node offer is.
+    revival_is_restart (play (opening voters observers agents sheet issuer) events).1 (forms voters observers agents sheet issuer events) node offer is
+
+pub returns-clause-has_text : goal.returns-clause-has_text
+returns-clause-has_text c = each_has_text
+
+pub returns-clause-taken : goal.returns-clause-taken
+returns-clause-taken c = λ voters observers agents sheet issuer events few some most node n found.
+    own_text_is_taken (play (opening voters observers agents sheet issuer) events).1 (forms voters observers agents sheet issuer events) node n found
+    (each_has_text voters observers agents sheet issuer events few some most node n found)
