@@ -1,6 +1,7 @@
 pub mod FirstPlace
 pub mod LineFeeds
 pub mod LineLemmas
+pub mod PastLines
 pub mod SplitLemmas
 pub mod Texts
 pub mod WholeLaws

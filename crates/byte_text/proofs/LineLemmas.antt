@@ -5,7 +5,7 @@ use Rattle.std.proofs.lemmas.List.Splits.{length-slice_split}
 use Rattle.metering_model.specs.BatchReading.{lines_in, lines_of_parts, with_line}
 use Rattle.byte_text.proofs.SplitLemmas.{split_at, split_nowhere}
 
-first_of_parts : (part : List ℕ) (parts : List (List ℕ)) → 0 < length parts → lines_of_parts (part ∷ parts) ≡ with_line part (lines_of_parts parts)
+pub first_of_parts : (part : List ℕ) (parts : List (List ℕ)) → 0 < length parts → lines_of_parts (part ∷ parts) ≡ with_line part (lines_of_parts parts)
 first_of_parts part [] some = absurd (omega arith)
 first_of_parts part (next ∷ parts) some = refl
 

@@ -1,8 +1,9 @@
-//! Bytes found and counted, and texts compared.
+//! Bytes and lines found and counted, and texts compared.
 
-ghost use Rattle.std.specs.Prelude.{◌≡◌, ◌==◌, position};
-ghost use Rattle.metering_model.specs.BatchReading.{is_same};
+ghost use Rattle.std.specs.Prelude.{◌≡◌, ◌==◌, ◌<◌, [], ◌∷◌, length, position, MatchOption};
+ghost use Rattle.metering_model.specs.BatchReading.{fields_in, is_same, lines_in, with_line};
 ghost use Rattle.metering_model.specs.Transcript.{line_count};
+ghost use Rattle.byte_text.specs.Lines.{IsPast};
 
 use memchr::{memchr, memchr_iter};
 
@@ -26,4 +27,34 @@ pub fn is_same(left: &[u8], right: &[u8]) -> bool
     ensures { result ≡ is_same left.now right.now }
 {
     left == right
+}
+
+/// How many bytes so many lines have, each with its line feed, or None where the text has fewer.
+pub fn lines_length(text: &[u8], count: u32) -> Option<usize>
+    ensures { MatchOption result (length (lines_in text.now).lines < count) (IsPast text.now count) }
+{
+    let mut length = 0;
+    for _ in 0..count {
+        length += find_byte(&text[length..], b'\n')? + 1;
+    }
+    Some(length)
+}
+
+/// The first line, without its line feed, and what stands behind it; None where no line feed is there.
+pub fn first_line(text: &[u8]) -> Option<(&[u8], &[u8])>
+    ensures { MatchOption result ((lines_in text.now).lines ≡ [])
+        (λ parts. lines_in text.now ≡ with_line parts.0.now (lines_in parts.1.now)) }
+{
+    let feed = find_byte(text, b'\n')?;
+    Some((&text[..feed], &text[feed + 1..]))
+}
+
+/// What stands before the first `|`, and what stands behind it; None where there is none.
+pub fn split_at_bar(text: &[u8]) -> Option<(&[u8], &[u8])>
+    ensures { MatchOption result
+        (fields_in text.now ≡ text.now ∷ [])
+        (λ parts. fields_in text.now ≡ parts.0.now ∷ fields_in parts.1.now) }
+{
+    let bar = find_byte(text, b'|')?;
+    Some((&text[..bar], &text[bar + 1..]))
 }

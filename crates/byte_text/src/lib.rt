@@ -7,8 +7,8 @@ mod numbers;
 mod refusals;
 mod wholes;
 
-pub use finding::{find_byte, is_same, line_count};
+pub use finding::{find_byte, first_line, is_same, line_count, lines_length, split_at_bar};
 pub use lines::Line;
 pub use numbers::{put_if_any, put_number, put_numbered, put_two_digits};
-pub use refusals::{code_word, refusal_line};
-pub use wholes::{read_whole, whole_up_to};
+pub use refusals::{code_word, kept_code_word, refusal_line};
+pub use wholes::{is_whole_part, read_whole, whole_up_to};

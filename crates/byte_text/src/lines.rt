@@ -62,4 +62,13 @@ impl Line {
     {
         self.put(Buffer::new().format(number).as_bytes());
     }
+
+    /// Appends a number of 64 bits, which has at most 20 digits.
+    pub fn put_long_number(&mut self, number: u64)
+        requires room { length self.old + 20 ≤ 64 }
+        ensures put { self.new ≡ self.old ++ decimal number }
+        ensures room { length self.new ≤ length self.old + 20 }
+    {
+        self.put(Buffer::new().format(number).as_bytes());
+    }
 }

@@ -1,10 +1,10 @@
 //! The words of a refusal.
 
 ghost use Rattle.std.specs.Prelude.{◌≡◌, ◌+◌, ◌≤◌, ◌++◌, length};
-ghost use Rattle.metering_model.specs.Transcript.{code_text, fault_text, refusal_text, with_number};
+ghost use Rattle.metering_model.specs.Transcript.{code_text, fault_text, kept_code_text, kept_fault_text, refusal_text, with_number};
 
 use crate::Line;
-use metering_model::{BatchCode, BatchFault, Refusal};
+use metering_model::{BatchCode, BatchFault, KeptCode, KeptTextFault, Refusal};
 
 /// The text of a batch's code, as `V5`.
 pub fn code_word(code: BatchCode) -> &'static [u8]
@@ -20,6 +20,20 @@ pub fn code_word(code: BatchCode) -> &'static [u8]
         BatchCode::Text => b"V6",
         BatchCode::Tags => b"V7",
         BatchCode::TooLong => b"V8",
+    }
+}
+
+/// The text of the code of a kept text, as `H3`.
+pub fn kept_code_word(code: KeptCode) -> &'static [u8]
+    ensures word { result.now ≡ kept_code_text code }
+    ensures length { length result.now ≡ 2 }
+{
+    match code {
+        KeptCode::Head => b"H1",
+        KeptCode::Cut => b"H2",
+        KeptCode::Batch => b"H3",
+        KeptCode::Order => b"H4",
+        KeptCode::Extra => b"H5",
     }
 }
 
@@ -43,6 +57,18 @@ fn put_bad_batch(line: &mut Line, fault: BatchFault)
     line.put(b"G1 ");
     line.put(code_word(fault.code));
     put_numbered(line, b" line ", fault.line);
+}
+
+/// Appends what is told of lines that are of nothing a node keeps: their first fault, at a line of their own.
+fn put_bad_kept(line: &mut Line, fault: KeptTextFault)
+    requires room { length line.old + 40 ≤ 64 }
+    ensures put { line.new ≡ line.old ++ refusal_text (Refusal.BadKept fault) }
+    ensures room { length line.new ≤ length line.old + 40 }
+{
+    line.put(b"G14 ");
+    line.put(kept_code_word(fault.code));
+    line.put(b" line ");
+    line.put_long_number(fault.line);
 }
 
 /// Appends which batch a node lacks.
@@ -75,6 +101,8 @@ fn put_refusal(line: &mut Line, refusal: Refusal)
         Refusal::WorldFull => line.put(b"G11"),
         Refusal::NoAgent => line.put(b"G12"),
         Refusal::Observer => line.put(b"G13"),
+        Refusal::BadKept(fault) => put_bad_kept(line, fault),
+        Refusal::NotKept => line.put(b"G15"),
     }
 }
 

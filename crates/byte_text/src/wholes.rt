@@ -13,7 +13,7 @@ fn are_digits(text: &[u8]) -> bool
 }
 
 /// Whether the text is `0`, or digits of which the first is not `0`.
-fn is_whole_part(text: &[u8]) -> bool
+pub fn is_whole_part(text: &[u8]) -> bool
     ensures { result ≡ is_whole_part text.now }
 {
     match text {
