@@ -1,5 +1,5 @@
 //! Acceptors.
-ghost use Rattle.std.specs.Prelude.{◌≡◌, if◌then◌else◌};
+ghost use Rattle.std.specs.Prelude.{◌≡◌, ◌↔◌, IsTrue, if◌then◌else◌};
 ghost use Rattle.std.specs.Option.{option_copied};
 ghost use Rattle.metering_model.specs.Ballot.{new_acceptor, is_above, is_not_below, after_prepare, after_accept};
 
@@ -32,6 +32,17 @@ pub enum PrepareStep {
     Silent,
 }
 
+/// Whether both are the same vote, or none.
+fn is_same_vote(one: Option<&Vote>, two: Option<&Vote>) -> bool
+    ensures { IsTrue result ↔ (option_copied one.entry ≡ option_copied two.entry) }
+{
+    match (one, two) {
+        (Some(one), Some(two)) => one.ballot == two.ballot && one.cut.same(&two.cut),
+        (None, None) => true,
+        _ => false,
+    }
+}
+
 impl Acceptor {
     ghost use Rattle.paxos_ballot.specs.declared.acceptor.PrepareStep.TheVariants.{Promise, Silent};
 
@@ -43,6 +54,14 @@ impl Acceptor {
             promised: None,
             vote: None,
         }
+    }
+
+    /// An acceptor that has promised this ballot and accepted this vote, as one had that was kept. The vote's ballot need not be
+    /// below the one promised, nor be promised at all.
+    pub fn of(promised: Option<Ballot>, vote: Option<Vote>) -> Acceptor
+        ensures { result ≡ record { promised = promised; vote = vote } }
+    {
+        Acceptor { promised, vote }
     }
 
     /// Promises a ballot above the one promised, and stays silent to any other.
@@ -73,6 +92,13 @@ impl Acceptor {
         self.promised = Some(vote.ballot);
         self.vote = Some(vote);
         true
+    }
+
+    /// Whether both have promised the same ballot and accepted the same vote.
+    pub fn same(&self, other: &Acceptor) -> bool
+        ensures { IsTrue result ↔ (self.now ≡ other.now) }
+    {
+        self.promised == other.promised && is_same_vote(self.vote.as_ref(), other.vote.as_ref())
     }
 
     /// The greatest ballot promised.

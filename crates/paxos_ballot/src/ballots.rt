@@ -1,6 +1,7 @@
 //! Ballots, votes and majorities.
 ghost use Rattle.std.specs.Prelude.{◌≡◌, ◌<◌, ◌≤◌};
 ghost use Rattle.metering_model.specs.Ballot.{ballot_of, majority};
+ghost use Rattle.metering_model.specs.KeptText.{ballot_numbered};
 
 use period_cut::Cut;
 use std::marker::Model;
@@ -33,6 +34,17 @@ impl Ballot {
     {
         Ballot {
             number: u32::from(round) * u32::from(nodes) + u32::from(node),
+        }
+    }
+
+    /// The ballot of that number, as `number` gave it; `None` for 0, which stands for no ballot.
+    pub fn numbered(number: u32) -> Option<Ballot>
+        ensures { result ≡ ballot_numbered number }
+    {
+        if number == 0 {
+            None
+        } else {
+            Some(Ballot { number })
         }
     }
 

@@ -1,2 +1,3 @@
 pub mod PeriodOrder
 mod PointwiseOrder
+pub mod CutTexts

@@ -1,10 +1,33 @@
 //! Cuts: how far each agent's batches are charged.
-ghost use Rattle.std.specs.Prelude.{◌≡◌, ◌-◌, ◌≤◌, ◌↔◌, length, IfOk, IsTrue, slice_set};
+ghost use Rattle.std.specs.Prelude.{◌≡◌, ◌-◌, ◌≤◌, ◌↔◌, ◌++◌, decimal, length, map, IfOk, IsTrue, OnOk, OnErr, slice_set};
+ghost use Rattle.std.specs.List.{join_with_byte};
+ghost use Rattle.metering_model.specs.BatchReading.{fields_in};
 ghost use Rattle.metering_model.specs.Cut.{IsAtLeast, last_of, zero_cut};
+ghost use Rattle.metering_model.specs.KeptText.{cut_in};
 ghost use Rattle.period_cut.specs.Limits.{IsCut};
+ghost use Rattle.period_cut.specs.Inner.Entries.{HasBehind};
 
+use byte_text::{put_number, put_numbered, read_whole, split_at_bar};
 use std::alloc::{AllocError, Global};
 use std::marker::Model;
+
+/// No batch has a sequence above this one.
+const LAST_SEQ: u32 = 1_000_000;
+
+/// Appends sequences, joined by `|`. Where memory is refused some of that may stand behind what was there.
+fn put_entries(text: &mut Vec<u8>, entries: &[u32]) -> Result<(), AllocError>
+    ensures put { OnOk result (text.new.items ≡ text.old.items ++ join_with_byte 124 (map decimal entries.now)) }
+    ensures behind { OnErr result (HasBehind text.old.items text.new.items) }
+{
+    let Some((first, others)) = entries.split_first() else {
+        return Ok(());
+    };
+    put_number(text, u128::from(*first))?;
+    for seq in others {
+        put_numbered(text, b"|", u128::from(*seq))?;
+    }
+    Ok(())
+}
 
 /// One last sequence for each agent, of 1 to 64 agents; 0 where none of the agent's batches is charged.
 #[derive(Drop)]
@@ -42,6 +65,57 @@ impl Cut {
         Ok(Cut {
             entries: Vec::from_slice(alloc, &self.entries)?,
         })
+    }
+
+    /// Reads a cut of so many agents from its line, without a line feed: their last sequences by agent, joined by `|`. `None` for
+    /// a line of another form.
+    pub fn read(alloc: Global, line: &[u8], agents: u8) -> Result<Option<Cut>, AllocError>
+        requires from { 1 ≤ agents }
+        requires to { agents ≤ 64 }
+        ensures { IfOk result (λ cut. cut ≡ cut_in agents (fields_in line.now)) }
+    {
+        let mut entries = Vec::with_capacity(alloc, usize::from(agents))?;
+        let mut rest = line;
+        for _ in 0..agents - 1 {
+            let Some((field, behind)) = split_at_bar(rest) else {
+                return Ok(None);
+            };
+            let Some(seq) = read_whole(field, 0, LAST_SEQ) else {
+                return Ok(None);
+            };
+            entries.push(seq)?;
+            rest = behind;
+        }
+        if split_at_bar(rest).is_some() {
+            return Ok(None);
+        }
+        let Some(seq) = read_whole(rest, 0, LAST_SEQ) else {
+            return Ok(None);
+        };
+        entries.push(seq)?;
+        Ok(Some(Cut { entries }))
+    }
+
+    /// Its line, as it is read, without a line feed.
+    pub fn write(&self, alloc: Global) -> Result<Vec<u8>, AllocError>
+        ensures { IfOk result (λ text. text.items ≡ join_with_byte 124 (map decimal self.now)) }
+    {
+        let mut text = Vec::new(alloc);
+        self.put(&mut text)?;
+        Ok(text)
+    }
+
+    /// Appends its line, without a line feed. Where memory is refused the text is as it was.
+    pub fn put(&self, text: &mut Vec<u8>) -> Result<(), AllocError>
+        ensures put { OnOk result (text.new.items ≡ text.old.items ++ join_with_byte 124 (map decimal self.now)) }
+        ensures kept { OnErr result (text.new.items ≡ text.old.items) }
+    {
+        let before = text.len();
+        let result = put_entries(text, &self.entries);
+        if result.is_err() {
+            text.truncate(before);
+        }
+        result
     }
 
     /// How many agents the cut has, from 1 to 64; they are numbered from 1.

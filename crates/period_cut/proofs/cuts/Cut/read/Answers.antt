@@ -1,0 +1,18 @@
+use Rattle.std.proofs.Common.{◌≡◌, suc, ◌++◌, [], ◌∷◌, sym, subst, ◌∙◌, arith}
+use Rattle.period_cut.specs.Limits.{IsCut}
+use Rattle.period_cut.proofs.CutTexts.{at_none, at_some, read_goes_on, read_last, read_is_cut}
+use Rattle.period_cut.proofs.cuts.Cut.read.Goals as goal
+
+pub returns-then-is_some : goal.returns-then-is_some
+returns-then-is_some c =
+    let more = at_some c.split_at_bar-2.result _ _ c.split_at_bar-2.ensures (sym c.is_some.ensures ∙ c.if-is_some.true) in
+    let last : suc c.loop.counter ≡ c.args.agents = omega (arith, c.loop-test.false, c.loop.auto.counter-end, c.requires.from) in
+    sym (read_goes_on c.args.agents c.args.line.now c.loop.counter c.loop.entries.items c.loop.rest.now more.0.0.now more.0.1.now last c.loop.invariant more.1)
+
+pub invariant_of-result : goal.invariant_of-result
+invariant_of-result c =
+    let alone = at_none c.split_at_bar-2.result _ _ c.split_at_bar-2.ensures (sym c.is_some.ensures ∙ c.if-is_some.false) in
+    let last : suc c.loop.counter ≡ c.args.agents = omega (arith, c.loop-test.false, c.loop.auto.counter-end, c.requires.from) in
+    let seq = c.in-Some-read_whole-2.seq in
+    let read = read_last c.args.agents c.args.line.now c.loop.counter c.loop.entries.items c.loop.rest.now seq last c.loop.invariant alone (sym c.in-Some-read_whole-2.ensures.value) in
+    subst IsCut (sym c.in_ok-push-2.ensures.items) (read_is_cut c.args.agents c.args.line.now (c.loop.entries.items ++ seq ∷ []) c.requires.from c.requires.to read)
