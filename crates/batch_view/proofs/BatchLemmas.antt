@@ -4,6 +4,7 @@ use Rattle.std.specs.List.{slice_get, position}
 use Rattle.std.proofs.lemmas.Bool.{cond-true, cond-false, le-ltb, lt-ltb, eqb-true, eq-eqb, false≢true, cases_Bool, and_left, and_right, and_from}
 use Rattle.std.proofs.lemmas.List.{drop-drop, drop_all, nil_from_length}
 use Rattle.metering_model.specs.Batch.{Batch, Record, is_empty}
+use Rattle.metering_model.specs.declared.Version.{Version}
 use Rattle.metering_model.specs.declared.BatchCode.{BatchCode}
 use Rattle.metering_model.specs.declared.BatchCode.TheVariants.{Head as HeadCode, Count, TooLong}
 use Rattle.metering_model.specs.declared.BatchFault.{BatchFault}
@@ -50,14 +51,14 @@ abbrev all_read : List (List ℕ) → List ℕ → ℕ → Bool
 all_read ls rest n = (length ls == n) && is_empty rest
 
 abbrev whole : Head → List Record → Batch
-whole h rs = record { agent = h.agent; seq = h.seq; records = rs }
+whole h rs = record { version = h.version; agent = h.agent; seq = h.seq; records = rs }
 
-pub records_fault : (bytes : List ℕ) (h : Head) (fault : BatchFault) → length bytes ≤ 65_536 → BeginsWithHead bytes h → records_in 2 h.count (drop 1 (lines_in bytes).lines) ≡ Err fault → batch_in bytes ≡ Err fault
+pub records_fault : (bytes : List ℕ) (h : Head) (fault : BatchFault) → length bytes ≤ 65_536 → BeginsWithHead bytes h → records_in h.version 2 h.count (drop 1 (lines_in bytes).lines) ≡ Err fault → batch_in bytes ≡ Err fault
 records_fault bytes h fault short begins bad =
     by_records bytes h short begins
     ∙ ap (λ x. x >>= (λ rs. at_line (h.count + 2) (holds_or (all_read (drop 1 (lines_in bytes).lines) (lines_in bytes).rest h.count) Count) >>= (λ _. Ok (whole h rs)))) bad
 
-by_end : (bytes : List ℕ) (h : Head) (rs : List Record) → length bytes ≤ 65_536 → BeginsWithHead bytes h → records_in 2 h.count (drop 1 (lines_in bytes).lines) ≡ Ok rs → batch_in bytes ≡ (at_line (h.count + 2) (holds_or (all_read (drop 1 (lines_in bytes).lines) (lines_in bytes).rest h.count) Count) >>= (λ _. Ok (whole h rs)))
+by_end : (bytes : List ℕ) (h : Head) (rs : List Record) → length bytes ≤ 65_536 → BeginsWithHead bytes h → records_in h.version 2 h.count (drop 1 (lines_in bytes).lines) ≡ Ok rs → batch_in bytes ≡ (at_line (h.count + 2) (holds_or (all_read (drop 1 (lines_in bytes).lines) (lines_in bytes).rest h.count) Count) >>= (λ _. Ok (whole h rs)))
 by_end bytes h rs short begins good =
     by_records bytes h short begins
     ∙ ap (λ x. x >>= (λ rs. at_line (h.count + 2) (holds_or (all_read (drop 1 (lines_in bytes).lines) (lines_in bytes).rest h.count) Count) >>= (λ _. Ok (whole h rs)))) good
@@ -72,7 +73,7 @@ empty_text text no_line no_rest = by_place (position (λ (c : ℕ). c == 10) tex
     by_place None e = sym (ap (λ ls. ls.rest) (lines_without_feed text e)) ∙ no_rest
 
 -- bytes behind the last record
-pub end_fault : (bytes : List ℕ) (h : Head) (rs : List Record) (end : ℕ) → length bytes ≤ 65_536 → BeginsWithHead bytes h → records_in 2 h.count (drop 1 (lines_in bytes).lines) ≡ Ok rs → IsBehindLines bytes (h.count + 1) end → end < length bytes → batch_in bytes ≡ Err (record { code = Count; line = h.count + 2 })
+pub end_fault : (bytes : List ℕ) (h : Head) (rs : List Record) (end : ℕ) → length bytes ≤ 65_536 → BeginsWithHead bytes h → records_in h.version 2 h.count (drop 1 (lines_in bytes).lines) ≡ Ok rs → IsBehindLines bytes (h.count + 1) end → end < length bytes → batch_in bytes ≡ Err (record { code = Count; line = h.count + 2 })
 end_fault bytes h rs end short begins good behind more =
     by_end bytes h rs short begins good
     ∙ ap (λ b. at_line (h.count + 2) (holds_or b Count) >>= (λ _. Ok (whole h rs))) (not_all (cases_Bool (length (drop 1 (lines_in bytes).lines) == h.count)) (cases_Bool (is_empty (lines_in bytes).rest)))
@@ -93,13 +94,13 @@ end_fault bytes h rs end short begins good behind more =
     not_all (inl enough) (inl none) = absurd (impossible (eqb-true _ _ enough) (no_rest (lines_in bytes).rest none))
 
 -- the records end where the bytes end
-pub is_batch : (bytes : List ℕ) (h : Head) (rs : List Record) (end : ℕ) → length bytes ≤ 65_536 → BeginsWithHead bytes h → records_in 2 h.count (drop 1 (lines_in bytes).lines) ≡ Ok rs → IsBehindLines bytes (h.count + 1) end → length bytes ≤ end → IsHeadOf bytes h
+pub is_batch : (bytes : List ℕ) (h : Head) (rs : List Record) (end : ℕ) → length bytes ≤ 65_536 → BeginsWithHead bytes h → records_in h.version 2 h.count (drop 1 (lines_in bytes).lines) ≡ Ok rs → IsBehindLines bytes (h.count + 1) end → length bytes ≤ end → IsHeadOf bytes h
 is_batch bytes h rs end short begins good behind last =
     let all = (lines_in bytes).lines in
     let nothing = drop_all end bytes last in
     let no_line : drop (h.count + 1) all ≡ [] = sym behind.lines ∙ ap (λ t. (lines_in t).lines) nothing in
     let no_rest : (lines_in bytes).rest ≡ [] = sym behind.rest ∙ ap (λ t. (lines_in t).rest) nothing in
-    let enough = enough_lines 2 h.count (drop 1 all) rs good in
+    let enough = enough_lines h.version 2 h.count (drop 1 all) rs good in
     let just : length (drop 1 all) ≡ h.count = omega (arith, ap length no_line, length-drop (h.count + 1) all, length-drop 1 all) in
     let read : all_read (drop 1 all) (lines_in bytes).rest h.count ≡ true = and_from _ _ (eq-eqb _ _ just) (ap is_empty no_rest) in
     let batch = by_end bytes h rs short begins good ∙ ap (λ b. at_line (h.count + 2) (holds_or b Count) >>= (λ _. Ok (whole h rs))) read in
@@ -107,56 +108,60 @@ is_batch bytes h rs end short begins good behind last =
     record {
       short = short;
       batch = batch ∙ ap Ok (sym is);
+      version = sym (ap (λ b. b.version) is);
       agent = sym (ap (λ b. b.agent) is);
       seq = sym (ap (λ b. b.seq) is);
-      count = sym (length-records_in 2 h.count (drop 1 all) rs good) ∙ sym (ap (λ b. length b.records) is);
+      count = sym (length-records_in h.version 2 h.count (drop 1 all) rs good) ∙ sym (ap (λ b. length b.records) is);
       behind = begins.behind;
     }
 
 -- ---- the records of a batch, each at its index
 
-records_of_batch : (bytes : List ℕ) (b : Batch) → batch_in bytes ≡ Ok b → length bytes ≤ 65_536 → (n : ℕ) × (records_in 2 n (drop 1 (lines_in bytes).lines) ≡ Ok b.records)
+records_of_batch : (bytes : List ℕ) (b : Batch) → batch_in bytes ≡ Ok b → length bytes ≤ 65_536 → (n : ℕ) × (records_in b.version 2 n (drop 1 (lines_in bytes).lines) ≡ Ok b.records)
 records_of_batch bytes b e short = at_lines (lines_in bytes).lines (sym (by_lines bytes short) ∙ e)
   where
-    at_lines : (ls : List (List ℕ)) → batch_of_lines ls (lines_in bytes).rest ≡ Ok b → (n : ℕ) × (records_in 2 n (drop 1 ls) ≡ Ok b.records)
+    at_lines : (ls : List (List ℕ)) → batch_of_lines ls (lines_in bytes).rest ≡ Ok b → (n : ℕ) × (records_in b.version 2 n (drop 1 ls) ≡ Ok b.records)
     at_lines [] e = absurd (cc)
     at_lines (l ∷ ls) e =
         let head = bind_ok (at_line 1 (head_in (fields_in l))) (batch_below ls (lines_in bytes).rest) b e in
-        let records = bind_ok (records_in 2 head.0.count ls) (λ rs. at_line (head.0.count + 2) (holds_or (all_read ls (lines_in bytes).rest head.0.count) Count) >>= (λ _. Ok (record { agent = head.0.agent; seq = head.0.seq; records = rs }))) b head.2 in
-        let end = bind_ok (at_line (head.0.count + 2) (holds_or (all_read ls (lines_in bytes).rest head.0.count) Count)) (λ _. Ok (record { agent = head.0.agent; seq = head.0.seq; records = records.0 })) b records.2 in
-        (head.0.count, records.1 ∙ cc)
+        let records = bind_ok (records_in head.0.version 2 head.0.count ls) (λ rs. at_line (head.0.count + 2) (holds_or (all_read ls (lines_in bytes).rest head.0.count) Count) >>= (λ _. Ok (record { version = head.0.version; agent = head.0.agent; seq = head.0.seq; records = rs }))) b head.2 in
+        let end = bind_ok (at_line (head.0.count + 2) (holds_or (all_read ls (lines_in bytes).rest head.0.count) Count)) (λ _. Ok (record { version = head.0.version; agent = head.0.agent; seq = head.0.seq; records = records.0 })) b records.2 in
+        let read = records.1 in
+        let is = end.2 in
+        (head.0.count, cc)
 
 -- What stands before a record that is there.
 pub record There (bytes : List ℕ) (index : ℕ) : Type 0 where
   pub one : Record
-  pub read : first_record (drop (index + 1) (lines_in bytes).lines) ≡ Ok one
+  pub read : first_record (batch_of bytes).version (drop (index + 1) (lines_in bytes).lines) ≡ Ok one
   pub got : slice_get (batch_of bytes).records index ≡ Some one
   pub left : drop index (batch_of bytes).records ≡ one ∷ drop (index + 1) (batch_of bytes).records
 
 pub there : (bytes : List ℕ) (index : ℕ) → length bytes ≤ 65_536 → batch_in bytes ≡ Ok (batch_of bytes) → index < length (batch_of bytes).records → There bytes index
 there bytes index short batch within =
     let all = records_of_batch bytes (batch_of bytes) batch short in
-    let many = length-records_in 2 all.0 (drop 1 (lines_in bytes).lines) (batch_of bytes).records all.1 in
-    let r = record_at 2 all.0 index (drop 1 (lines_in bytes).lines) (batch_of bytes).records all.1 (omega arith) in
+    let many = length-records_in (batch_of bytes).version 2 all.0 (drop 1 (lines_in bytes).lines) (batch_of bytes).records all.1 in
+    let r = record_at (batch_of bytes).version 2 all.0 index (drop 1 (lines_in bytes).lines) (batch_of bytes).records all.1 (omega arith) in
     let next : 1 + index ≡ index + 1 = omega arith in
     let suc_is : suc index ≡ index + 1 = omega arith in
     record {
       one = r.one;
-      read = ap first_record (sym (drop-drop index 1 (lines_in bytes).lines ∙ ap (λ n. drop n (lines_in bytes).lines) next)) ∙ r.read;
+      read = ap (first_record (batch_of bytes).version) (sym (drop-drop index 1 (lines_in bytes).lines ∙ ap (λ n. drop n (lines_in bytes).lines) next)) ∙ r.read;
       got = r.got;
       left = r.left ∙ ap (λ n. r.one ∷ drop n (batch_of bytes).records) suc_is;
     }
 
 -- what stands at a record's line can be read
-pub never_fails : (bytes : List ℕ) (index at : ℕ) (code : BatchCode) → length bytes ≤ 65_536 → batch_in bytes ≡ Ok (batch_of bytes) → index < length (batch_of bytes).records → IsBehindLines bytes (index + 1) at → first_record (lines_from bytes at).lines ≡ Err code → ⊥
-never_fails bytes index at code short batch within behind fault =
+pub never_fails : (version : Version) (bytes : List ℕ) (index at : ℕ) (code : BatchCode) → version ≡ (batch_of bytes).version → length bytes ≤ 65_536 → batch_in bytes ≡ Ok (batch_of bytes) → index < length (batch_of bytes).records → IsBehindLines bytes (index + 1) at → first_record version (lines_from bytes at).lines ≡ Err code → ⊥
+never_fails version bytes index at code format short batch within behind fault =
     let good = (there bytes index short batch within).read in
-    let bad : first_record (drop (index + 1) (lines_in bytes).lines) ≡ Err code = ap first_record (sym behind.lines) ∙ fault in
+    let bad : first_record (batch_of bytes).version (drop (index + 1) (lines_in bytes).lines) ≡ Err code =
+    ap (λ v. first_record v (drop (index + 1) (lines_in bytes).lines)) (sym format) ∙ ap (first_record version) (sym behind.lines) ∙ fault in
     cc
 
-pub never_lacks : (bytes : List ℕ) (index at : ℕ) → length bytes ≤ 65_536 → batch_in bytes ≡ Ok (batch_of bytes) → index < length (batch_of bytes).records → IsBehindLines bytes (index + 1) at → HasNoLine bytes at → ⊥
-never_lacks bytes index at short batch within behind none =
-    never_fails bytes index at Count short batch within behind (ap (λ ls. first_record ls.lines) none)
+pub never_lacks : (version : Version) (bytes : List ℕ) (index at : ℕ) → version ≡ (batch_of bytes).version → length bytes ≤ 65_536 → batch_in bytes ≡ Ok (batch_of bytes) → index < length (batch_of bytes).records → IsBehindLines bytes (index + 1) at → HasNoLine bytes at → ⊥
+never_lacks version bytes index at format short batch within behind none =
+    never_fails version bytes index at Count format short batch within behind (ap (λ ls. first_record version ls.lines) none)
 
 -- What a record that was read at its line is of the batch.
 pub record IsRecordOf (bytes : List ℕ) (index : ℕ) (r : LentRecord) (next : ℕ) : Type 0 where
@@ -165,11 +170,12 @@ pub record IsRecordOf (bytes : List ℕ) (index : ℕ) (r : LentRecord) (next : 
   pub lent : IsLentAt bytes index r
   pub behind : IsBehindLines bytes (index + 2) next
 
-pub record_read : (bytes : List ℕ) (index at : ℕ) (r : LentRecord) (next : ℕ) → length bytes ≤ 65_536 → batch_in bytes ≡ Ok (batch_of bytes) → index < length (batch_of bytes).records → IsBehindLines bytes (index + 1) at → LendsRecord bytes at r next → IsRecordOf bytes index r next
-record_read bytes index at r next short batch within behind lends =
+pub record_read : (version : Version) (bytes : List ℕ) (index at : ℕ) (r : LentRecord) (next : ℕ) → version ≡ (batch_of bytes).version → length bytes ≤ 65_536 → batch_in bytes ≡ Ok (batch_of bytes) → index < length (batch_of bytes).records → IsBehindLines bytes (index + 1) at → LendsRecord version bytes at r next → IsRecordOf bytes index r next
+record_read version bytes index at r next format short batch within behind lends =
     let stands = there bytes index short batch within in
     let line = one_more_line bytes (index + 1) at lends.span behind lends.is_line in
-    let read : first_record (drop (index + 1) (lines_in bytes).lines) ≡ Ok (record_of r) = ap first_record line.left ∙ lends.record_is in
+    let read : first_record (batch_of bytes).version (drop (index + 1) (lines_in bytes).lines) ≡ Ok (record_of r) =
+    ap (λ v. first_record v (drop (index + 1) (lines_in bytes).lines)) (sym format) ∙ ap (first_record version) line.left ∙ lends.record_is in
     let same : stands.one ≡ record_of r = let good = stands.read in cc in
     let two : index + 1 + 1 ≡ index + 2 = omega arith in
     record {

@@ -6,6 +6,7 @@ use Rattle.std.proofs.lemmas.Bool.{le-ltb, eqb-true}
 use Rattle.std.proofs.lemmas.Option.{slice_get_within}
 use Rattle.metering_model.specs.Batch.{Record, Reads, Amends}
 use Rattle.metering_model.specs.declared.Kind.{Kind}
+use Rattle.metering_model.specs.declared.Version.{Version}
 use Rattle.metering_model.specs.BatchReading.{record_in, fields_in}
 use Rattle.record_view.specs.declared.fields.Span.{Span}
 use Rattle.record_view.specs.declared.kept.Numbers.{Numbers}
@@ -14,7 +15,6 @@ use Rattle.record_view.specs.Parts.{LentText}
 use Rattle.record_view.specs.Lent.{record_of, fields_at, lent_fields}
 use Rattle.record_view.specs.Spans.{IsReadingAt, IsReadingOn, IsRecordAt}
 use Rattle.record_view.proofs.SpanLaws.{four_fields_of}
-use Rattle.std.proofs.lemmas.List.{take_all}
 use Rattle.metering_model.specs.Front.{starts_before}
 use Rattle.batch_view.specs.Batches.{batch_of, IsLentAt}
 use Rattle.batch_view.specs.Kept.{AreFieldSpans, amendment_of, amendments_in, comes_before}
@@ -32,17 +32,17 @@ use Rattle.batch_view.proofs.BatchLemmas.{there}
 -- ---- each entry fits the record at its index
 
 -- the record that an entry is of, and the batch's record there
-pub record IsOf (bytes : List ℕ) (index : ℕ) (e : Entry) : Type 0 where
-  pub entry : IsEntry bytes index e
+pub record IsOf (version : Version) (bytes : List ℕ) (index : ℕ) (e : Entry) : Type 0 where
+  pub entry : IsEntry version bytes index e
   pub got : slice_get (batch_of bytes).records index ≡ Some entry.at.what
 
-pub entry_of : (bytes : List ℕ) (h : Head) (es : List Entry) (index : ℕ) (e : Entry) → KeepsBatch bytes h es → slice_get es index ≡ Some e → IsOf bytes index e
+pub entry_of : (bytes : List ℕ) (h : Head) (es : List Entry) (index : ℕ) (e : Entry) → KeepsBatch bytes h es → slice_get es index ≡ Some e → IsOf h.version bytes index e
 entry_of bytes h es index e kept is =
     let entry = kept.entries.each index e is in
     let within = slice_get_within es index e is in
     let stands = there bytes index kept.head.short kept.head.batch (omega (arith, within, kept.entries.many)) in
     let good = stands.read in
-    let same : stands.one ≡ entry.at.what = let read = entry.stands in cc in
+    let same : stands.one ≡ entry.at.what = let format = kept.head.version in let read = entry.stands in cc in
     record { entry = entry; got = stands.got ∙ ap Some same }
 
 pub fits_at : (bytes : List ℕ) (h : Head) (es : List Entry) (index : ℕ) (e : Entry) (r : Record) → KeepsBatch bytes h es → slice_get es index ≡ Some e
@@ -148,7 +148,7 @@ keeps_parts bytes h es sorted latest kept all small rising starts = record {
 }
 
 pub field_spans_of : (bytes : List ℕ) (h : Head) (es : List Entry) (index : ℕ) (e : Entry) → KeepsBatch bytes h es → slice_get es index ≡ Some e
-    → AreFieldSpans bytes index (take (field_total e.found) e.spans)
+    → AreFieldSpans bytes index (take (field_total h.version e.found) e.spans)
 field_spans_of bytes h es index e kept is =
     let entry = kept.entries.each index e is in
     record { line = entry.line; is_line = entry.is_line; fields = entry.at.spans }
@@ -172,22 +172,22 @@ lacks_reading bytes h es seq index e s i kept is found = λ r own got.
 
 -- ---- the record of an entry
 
-reading_of : (bytes : List ℕ) (line : Span) (e : Entry) (plain : Bool) (n : Numbers) → IsEntryAt bytes line e → e.found ≡ Reading plain n.kind n.start n.end → n.value ≡ e.value
-    → IsReadingAt bytes line n.kind n.start n.end n.value
-reading_of bytes line e plain n at found same = by_record at.what at.read (subst (λ f. FitsRecord f e.value at.what) found at.fits)
+reading_of : (version : Version) (bytes : List ℕ) (line : Span) (e : Entry) (plain : Bool) (n : Numbers) → IsEntryAt version bytes line e → e.found ≡ Reading plain n.kind n.start n.end → n.value ≡ e.value
+    → IsReadingAt version bytes line n.kind n.start n.end n.value
+reading_of version bytes line e plain n at found same = by_record at.what at.read (subst (λ f. FitsRecord f e.value at.what) found at.fits)
   where
-    by_record : (r : Record) → record_in (fields_in (slice_range bytes line.from line.to)) ≡ Ok r → FitsRecord (Reading plain n.kind n.start n.end) e.value r
-        → IsReadingAt bytes line n.kind n.start n.end n.value
+    by_record : (r : Record) → record_in version (fields_in (slice_range bytes line.from line.to)) ≡ Ok r → FitsRecord (Reading plain n.kind n.start n.end) e.value r
+        → IsReadingAt version bytes line n.kind n.start n.end n.value
     by_record (Reads r) read fits = record { reading = r; read = read; kind_is = fits.0; start_is = fits.1; end_is = fits.2; value_is = same ∙ fits.3 }
     by_record (Amends s i v) read fits = absurd fits
 
-pub reading_on : (bytes : List ℕ) (line : Span) (e : Entry) (plain : Bool) (n : Numbers) → IsEntryAt bytes line e → e.found ≡ Reading plain n.kind n.start n.end → n.value ≡ e.value
-    → length e.spans ≡ 9 → IsReadingOn bytes e.spans n line
-reading_on bytes line e plain n at found same many = record {
+pub reading_on : (version : Version) (bytes : List ℕ) (line : Span) (e : Entry) (plain : Bool) (n : Numbers) → IsEntryAt version bytes line e → e.found ≡ Reading plain n.kind n.start n.end → n.value ≡ e.value
+    → IsReadingOn version bytes e.spans n line
+reading_on version bytes line e plain n at found same = record {
   ordered = at.ordered;
   within = at.within;
-  are = sym (take_all 9 e.spans (omega (arith, many))) ∙ ap (λ f. take (field_total f) e.spans) (sym found) ∙ at.spans;
-  numbers = reading_of bytes line e plain n at found same;
+  are = ap (λ f. take (field_total version f) e.spans) (sym found) ∙ at.spans;
+  numbers = reading_of version bytes line e plain n at found same;
 }
 
 lends_none : (ps : List LentText) → length ps ≡ 4 → lent_fields ps ≡ []
@@ -198,18 +198,18 @@ lends_none (a ∷ b ∷ c ∷ []) many = refl
 lends_none (a ∷ b ∷ c ∷ d ∷ []) many = refl
 lends_none (a ∷ b ∷ c ∷ d ∷ f ∷ ps) many = absurd (omega (arith, many))
 
-pub amendment_on : (bytes : List ℕ) (line : Span) (e : Entry) (s i : ℕ) → IsEntryAt bytes line e → e.found ≡ Amend s i
-    → IsRecordAt bytes line (lent_record.TheVariants.Amend s i e.value)
-amendment_on bytes line e s i at found = by_record at.what at.read (subst (λ f. FitsRecord f e.value at.what) found at.fits)
+pub amendment_on : (version : Version) (bytes : List ℕ) (line : Span) (e : Entry) (s i : ℕ) → IsEntryAt version bytes line e → e.found ≡ Amend s i
+    → IsRecordAt version bytes line (lent_record.TheVariants.Amend s i e.value)
+amendment_on version bytes line e s i at found = by_record at.what at.read (subst (λ f. FitsRecord f e.value at.what) found at.fits)
   where
-    by_record : (r : Record) → record_in (fields_in (slice_range bytes line.from line.to)) ≡ Ok r → FitsRecord (Amend s i) e.value r
-        → IsRecordAt bytes line (lent_record.TheVariants.Amend s i e.value)
+    by_record : (r : Record) → record_in version (fields_in (slice_range bytes line.from line.to)) ≡ Ok r → FitsRecord (Amend s i) e.value r
+        → IsRecordAt version bytes line (lent_record.TheVariants.Amend s i e.value)
     by_record (Reads r) read fits = absurd fits
     by_record (Amends seq index v) read fits =
         let same : Amends seq index v ≡ Amends s i e.value = let f0 = fits.0 in let f1 = fits.1 in let f2 = fits.2 in cc in
         record {
           read = read ∙ ap Ok same;
-          lent = record { apart = tt; places = sym (lends_none (fields_at bytes line) (four_fields_of bytes line seq index v read)) };
+          lent = record { apart = tt; places = sym (lends_none (fields_at bytes line) (four_fields_of version bytes line seq index v read)) };
         }
 
 -- What a record that was made of an entry is of the batch.
@@ -218,7 +218,7 @@ pub record IsKeptRecord (bytes : List ℕ) (index : ℕ) (r : lent_record.Record
   pub lent : IsLentAt bytes index r
 
 pub kept_record_is : (bytes : List ℕ) (h : Head) (es : List Entry) (index : ℕ) (e : Entry) (r : lent_record.Record) → KeepsBatch bytes h es → slice_get es index ≡ Some e
-    → ((line : Span) → IsEntryAt bytes line e → IsRecordAt bytes line r) → IsKeptRecord bytes index r
+    → ((line : Span) → IsEntryAt h.version bytes line e → IsRecordAt h.version bytes line r) → IsKeptRecord bytes index r
 kept_record_is bytes h es index e r kept is made =
     let of = entry_of bytes h es index e kept is in
     let entry = of.entry in

@@ -1,5 +1,6 @@
 pub mod BatchLemmas
 pub mod LineLemmas
+pub mod ExtentLemmas
 pub mod RecordLemmas
 pub mod WalkLemmas
 pub mod TagsHold

@@ -1,10 +1,12 @@
 -- Where a line has no byte that is quoted or escaped, each byte of its record's texts is plain.
-use Rattle.std.proofs.Common.{◌≡◌, ℕ, ◌==◌, ◌&&◌, ◌||◌, Bool, true, false, not, cond, ℤ, arith, List, [], ◌∷◌, ◌++◌, Ok, Some, refl, sym, ap, subst, ◌∙◌, codes}
+use Rattle.std.proofs.Common.{◌≡◌, ℕ, ◌==◌, ◌&&◌, ◌||◌, Bool, true, false, not, cond, ℤ, arith, List, [], ◌∷◌, ◌++◌, Ok, Option, Some, None, refl, sym, ap, subst, ◌∙◌, codes}
 use Rattle.std.specs.List.{slice_get, list_all, list_any, slice_split, onto_first, flat_map}
+use Rattle.std.specs.Option.{option_to_list}
 use Rattle.std.proofs.lemmas.Bool.{and_parts, and_from}
 use Rattle.std.proofs.lemmas.Bool.Decides.{nat_tests}
 use Rattle.std.proofs.lemmas.List.Folds.{list_all-append}
 use Rattle.metering_model.specs.Batch.{Record, Tag, Reads, Amends, IsRecord, kind_text, lacks, record_fields, tag_text, tags_text, is_text, is_text_byte, is_field, is_tag, is_empty, keys_rise}
+use Rattle.metering_model.specs.declared.Version.{Version}
 use Rattle.metering_model.specs.Dates.{IsStampText}
 use Rattle.metering_model.specs.NumberText.{spelling}
 use Rattle.metering_model.specs.BatchReading.{record_in, fields_in}
@@ -88,24 +90,29 @@ first_unquoted t ts e = let parts = and_parts (list_all is_unquoted t) (are_unqu
 onto_unquoted : (t : List ℕ) (ts : List (List ℕ)) → list_all is_unquoted t ≡ true → are_unquoted ts ≡ true → are_unquoted (t ∷ ts) ≡ true
 onto_unquoted t ts e h = and_from (list_all is_unquoted t) (are_unquoted ts) e h
 
-nine_unquoted : (a b c d f g h i j : List ℕ) (ts : List (List ℕ)) → (list_all is_unquoted j ≡ true → are_unquoted ts ≡ true)
-    → are_unquoted (a ∷ b ∷ c ∷ d ∷ f ∷ g ∷ h ∷ i ∷ j ∷ []) ≡ true → are_unquoted (b ∷ c ∷ d ∷ f ∷ g ∷ i ∷ ts) ≡ true
-nine_unquoted a b c d f g h i j ts last all =
-    let p1 = first_unquoted b (c ∷ d ∷ f ∷ g ∷ h ∷ i ∷ j ∷ []) (first_unquoted a (b ∷ c ∷ d ∷ f ∷ g ∷ h ∷ i ∷ j ∷ []) all).1 in
-    let p2 = first_unquoted c (d ∷ f ∷ g ∷ h ∷ i ∷ j ∷ []) p1.1 in
-    let p3 = first_unquoted d (f ∷ g ∷ h ∷ i ∷ j ∷ []) p2.1 in
-    let p4 = first_unquoted f (g ∷ h ∷ i ∷ j ∷ []) p3.1 in
-    let p5 = first_unquoted g (h ∷ i ∷ j ∷ []) p4.1 in
-    let p7 = first_unquoted i (j ∷ []) (first_unquoted h (i ∷ j ∷ []) p5.1).1 in
-    let p8 = first_unquoted j [] p7.1 in
+fields_unquoted : (a b c d f g h i j : List ℕ) (more ts : List (List ℕ)) → (list_all is_unquoted j ≡ true → are_unquoted more ≡ true → are_unquoted ts ≡ true)
+    → are_unquoted (a ∷ b ∷ c ∷ d ∷ f ∷ g ∷ h ∷ i ∷ j ∷ more) ≡ true → are_unquoted (b ∷ c ∷ d ∷ f ∷ g ∷ i ∷ ts) ≡ true
+fields_unquoted a b c d f g h i j more ts last all =
+    let p1 = first_unquoted b (c ∷ d ∷ f ∷ g ∷ h ∷ i ∷ j ∷ more) (first_unquoted a (b ∷ c ∷ d ∷ f ∷ g ∷ h ∷ i ∷ j ∷ more) all).1 in
+    let p2 = first_unquoted c (d ∷ f ∷ g ∷ h ∷ i ∷ j ∷ more) p1.1 in
+    let p3 = first_unquoted d (f ∷ g ∷ h ∷ i ∷ j ∷ more) p2.1 in
+    let p4 = first_unquoted f (g ∷ h ∷ i ∷ j ∷ more) p3.1 in
+    let p5 = first_unquoted g (h ∷ i ∷ j ∷ more) p4.1 in
+    let p7 = first_unquoted i (j ∷ more) (first_unquoted h (i ∷ j ∷ more) p5.1).1 in
+    let p8 = first_unquoted j more p7.1 in
     onto_unquoted b (c ∷ d ∷ f ∷ g ∷ i ∷ ts) p1.0 (onto_unquoted c (d ∷ f ∷ g ∷ i ∷ ts) p2.0 (onto_unquoted d (f ∷ g ∷ i ∷ ts) p3.0
-    (onto_unquoted f (g ∷ i ∷ ts) p4.0 (onto_unquoted g (i ∷ ts) p5.0 (onto_unquoted i ts p7.0 (last p8.0))))))
+    (onto_unquoted f (g ∷ i ∷ ts) p4.0 (onto_unquoted g (i ∷ ts) p5.0 (onto_unquoted i ts p7.0 (last p8.0 p8.1))))))
+
+-- texts, and those behind them
+then_unquoted : (ts us : List (List ℕ)) → are_unquoted ts ≡ true → are_unquoted us ≡ true → are_unquoted (ts ++ us) ≡ true
+then_unquoted ts us e h = list_all-append (λ t. list_all is_unquoted t) ts us ∙ and_from _ _ e h
 
 record_unquoted : (r : Record) → are_unquoted (record_fields r) ≡ true → are_unquoted (texts_in r) ≡ true
 record_unquoted (Amends seq index value) e = refl
 record_unquoted (Reads r) e =
-    nine_unquoted (kind_text r.kind) r.start_text r.end_text r.account r.resource r.key (spelling 6 r.value) r.commitment (tags_text r.tags)
-    (flat_map (λ t. t.key ∷ t.value ∷ []) r.tags) (tags_unquoted r.tags) e
+    fields_unquoted (kind_text r.kind) r.start_text r.end_text r.account r.resource r.key (spelling 6 r.value) r.commitment (tags_text r.tags) (option_to_list r.region)
+    (flat_map (λ t. t.key ∷ t.value ∷ []) r.tags ++ option_to_list r.region)
+    (λ tags region. then_unquoted (flat_map (λ t. t.key ∷ t.value ∷ []) r.tags) (option_to_list r.region) (tags_unquoted r.tags tags) region) e
 
 -- ---- texts of printable bytes
 
@@ -145,17 +152,26 @@ tags_are_texts (t ∷ ts) h =
     let parts = tag_parts t both.0 in
     and_from _ _ (field_is_text t.key parts.key) (and_from _ _ (field_is_text t.value parts.value) (tags_are_texts ts both.1))
 
+region_is_text : (region : Option (List ℕ)) → list_all is_field (option_to_list region) ≡ true → are_texts (option_to_list region) ≡ true
+region_is_text None h = refl
+region_is_text (Some t) h = and_from _ _ (field_is_text t (and_parts (is_field t) true h).0) refl
+
+-- texts, and those behind them
+then_texts : (ts us : List (List ℕ)) → are_texts ts ≡ true → are_texts us ≡ true → are_texts (ts ++ us) ≡ true
+then_texts ts us e h = list_all-append is_text ts us ∙ and_from _ _ e h
+
 record_texts_are : (r : Record) → IsRecord r → are_texts (texts_in r) ≡ true
 record_texts_are (Amends seq index value) h = refl
 record_texts_are (Reads r) h =
     and_from _ _ (stamp_is_text r.start_text r.start h.start) (and_from _ _ (stamp_is_text r.end_text r.end h.end)
     (and_from _ _ (field_is_text r.account h.account) (and_from _ _ (field_is_text r.resource h.resource)
     (and_from _ _ (field_is_text r.key (and_parts (is_field r.key) (not (is_empty r.key)) h.key).0) (and_from _ _ (field_is_text r.commitment h.commitment)
-    (tags_are_texts r.tags (and_parts (list_all is_tag r.tags) (keys_rise r.tags) h.tags).0))))))
+    (then_texts (flat_map (λ t. t.key ∷ t.value ∷ []) r.tags) (option_to_list r.region)
+    (tags_are_texts r.tags (and_parts (list_all is_tag r.tags) (keys_rise r.tags) h.tags).0) (region_is_text r.region h.region)))))))
 
-line_plain : (line : List ℕ) (r : Record) → not (list_any is_quoted line) ≡ true → record_in (fields_in line) ≡ Ok r → are_plain (texts_in r) ≡ true
-line_plain line r none read =
-    let is = record_read (fields_in line) r read (fields_lack line) in
+line_plain : (version : Version) (line : List ℕ) (r : Record) → not (list_any is_quoted line) ≡ true → record_in version (fields_in line) ≡ Ok r → are_plain (texts_in r) ≡ true
+line_plain version line r none read =
+    let is = record_read version (fields_in line) r read (fields_lack line) in
     texts_plain (texts_in r) (record_texts_are r is.1)
     (record_unquoted r (sym (ap are_unquoted is.0) ∙ parts_all is_unquoted (λ c. c == 124) line (none_quoted line none)))
 
@@ -165,10 +181,10 @@ flag_holds bytes h es index e r kept is flagged got =
     let of = entry_of bytes h es index e kept is in
     let at = of.entry.at in
     let same : at.what ≡ r = let there = of.got in cc in
-    by_found _ e.found at.what at.fits at.plain at.read flagged same
+    by_found h.version _ e.found at.what at.fits at.plain at.read flagged same
   where
-    by_found : (line : List ℕ) (f : Found) (x : Record) → FitsRecord f e.value x → FlagsPlain f line → record_in (fields_in line) ≡ Ok x → flag f ≡ true → x ≡ r
+    by_found : (version : Version) (line : List ℕ) (f : Found) (x : Record) → FitsRecord f e.value x → FlagsPlain f line → record_in version (fields_in line) ≡ Ok x → flag f ≡ true → x ≡ r
         → are_plain (texts_in r) ≡ true
-    by_found line (Reading plain kind start end) x fits plains read flagged same = subst (λ y. are_plain (texts_in y) ≡ true) same (line_plain line x (sym plains ∙ flagged) read)
-    by_found line (Amend seq i) (Reads m) fits plains read flagged same = absurd fits
-    by_found line (Amend seq i) (Amends s j v) fits plains read flagged same = subst (λ y. are_plain (texts_in y) ≡ true) same refl
+    by_found version line (Reading plain kind start end) x fits plains read flagged same = subst (λ y. are_plain (texts_in y) ≡ true) same (line_plain version line x (sym plains ∙ flagged) read)
+    by_found version line (Amend seq i) (Reads m) fits plains read flagged same = absurd fits
+    by_found version line (Amend seq i) (Amends s j v) fits plains read flagged same = subst (λ y. are_plain (texts_in y) ≡ true) same refl

@@ -4,6 +4,7 @@ use Rattle.std.specs.List.{slice_get}
 use Rattle.std.specs.Iterator.{YieldsFirstBy}
 use Rattle.metering_model.specs.Batch.{Batch, Record}
 use Rattle.metering_model.specs.declared.BatchFault.{BatchFault}
+use Rattle.metering_model.specs.declared.Version.TheVariants.{B1}
 use Rattle.metering_model.specs.BatchReading.{batch_in, lines_in}
 use Rattle.record_view.specs.Lent.{record_of, IsLentRecord}
 use Rattle.record_view.specs.declared.fields.Span.{Span}
@@ -12,7 +13,7 @@ use Rattle.record_view.specs.declared.records.Record.{Record as LentRecord}
 -- a batch of no records stands for a text that is none
 abbrev pub or_empty : Result Batch BatchFault → Batch
 or_empty (Ok b) = b
-or_empty (Err f) = record { agent = 0; seq = 0; records = [] }
+or_empty (Err f) = record { version = B1; agent = 0; seq = 0; records = [] }
 
 -- the batch that these bytes are
 unfoldable pub batch_of : List ℕ → Batch

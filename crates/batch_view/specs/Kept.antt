@@ -1,6 +1,7 @@
 -- What a batch keeps beside its bytes, so that whoever has it need not read it again.
-use Rattle.std.specs.Prelude.{◌≡◌, ℕ, ◌+◌, ◌&&◌, ◌||◌, ◌==◌, Bool, not, nat_lt, nat_le, List, [], ◌∷◌, Option, Some, None, ℤ}
+use Rattle.std.specs.Prelude.{◌≡◌, ℕ, ◌+◌, ◌&&◌, ◌||◌, ◌==◌, Bool, not, nat_lt, nat_le, List, [], ◌∷◌, ◌++◌, Option, Some, None, ℤ}
 use Rattle.std.specs.List.{slice_get, list_all, flat_map, filter_map, enumerate_from, last_or}
+use Rattle.std.specs.Option.{option_to_list}
 use Rattle.std.specs.List.Sorted.{IsPermutation, IsSortedBy}
 use Rattle.metering_model.specs.Batch.{Batch, Record, Reads, Amends}
 use Rattle.metering_model.specs.BatchReading.{lines_in}
@@ -21,10 +22,10 @@ pub record AreFieldSpans (bytes : List ℕ) (index : ℕ) (spans : List Span) : 
 abbrev pub is_plain_byte : ℕ → Bool
 is_plain_byte c = nat_le 32 c && not (c == 34) && not (c == 44) && not (c == 92)
 
--- the texts of a record, and of its tags each key and each value; none of an amendment
+-- the texts of a record, of its tags each key and each value, and its region; none of an amendment
 abbrev pub texts_in : Record → List (List ℕ)
 texts_in (Reads r) =
-    r.start_text ∷ r.end_text ∷ r.account ∷ r.resource ∷ r.key ∷ r.commitment ∷ flat_map (λ t. t.key ∷ t.value ∷ []) r.tags
+    r.start_text ∷ r.end_text ∷ r.account ∷ r.resource ∷ r.key ∷ r.commitment ∷ flat_map (λ t. t.key ∷ t.value ∷ []) r.tags ++ option_to_list r.region
 texts_in (Amends seq index value) = []
 
 -- each byte of each of these texts is plain

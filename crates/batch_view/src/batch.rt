@@ -11,42 +11,46 @@ ghost use Rattle.batch_view.specs.Inner.Lines.{lines_from, first_record, IsBehin
 use crate::entries::{Entry, entry_at, record_of_entry};
 use crate::head::{Head, read_head};
 use crate::lines::next_line;
-use metering_model::{BatchCode, BatchFault};
+use metering_model::{BatchCode, BatchFault, Version};
 use record_view::{Record, read_record};
 use std::marker::Model;
 
 /// A batch has no more bytes than this.
-const MOST_BYTES: usize = 65_536;
+pub(crate) const MOST_BYTES: usize = 65_536;
 
-/// The record whose line begins at `from`, and where the next line begins.
+/// The record whose line begins at `from` in a batch of that format, and where the next line begins.
 #[inline(always)]
-pub(crate) fn record_from(text: &[u8], from: u32) -> Result<(Record<'_>, u32), BatchCode>
+pub(crate) fn record_from(
+    version: Version,
+    text: &[u8],
+    from: u32,
+) -> Result<(Record<'_>, u32), BatchCode>
     requires within { from ≤ length text.now }
     requires short { length text.now ≤ 65536 }
     ensures { MatchResult result
-        (λ read. LendsRecord text.now from read.0 read.1)
-        (λ code. first_record (lines_from text.now from).lines ≡ Err code) }
+        (λ read. LendsRecord version text.now from read.0 read.1)
+        (λ code. first_record version (lines_from text.now from).lines ≡ Err code) }
 {
     let Some(span) = next_line(text, from) else {
         return Err(BatchCode::Count);
     };
-    match read_record(text, span) {
+    match read_record(version, text, span) {
         Ok(record) => Ok((record, span.to + 1)),
         Err(code) => Err(code),
     }
 }
 
-/// Reads so many records, the first of them on line 2 and at `from`, and answers where they end.
-fn check_records(text: &[u8], from: u32, count: u16) -> Result<u32, BatchFault>
+/// Reads so many records of that format, the first of them on line 2 and at `from`, and answers where they end.
+fn check_records(version: Version, text: &[u8], from: u32, count: u16) -> Result<u32, BatchFault>
     requires behind { IsBehindLines text.now 1 from }
     requires short { length text.now ≤ 65536 }
     ensures { MatchResult result
-        (λ end. IsOk (records_in 2 count (drop 1 (lines_in text.now).lines)) × IsBehindLines text.now (count + 1) end)
-        (λ fault. records_in 2 count (drop 1 (lines_in text.now).lines) ≡ Err fault) }
+        (λ end. IsOk (records_in version 2 count (drop 1 (lines_in text.now).lines)) × IsBehindLines text.now (count + 1) end)
+        (λ fault. records_in version 2 count (drop 1 (lines_in text.now).lines) ≡ Err fault) }
 {
     let mut at = from;
     for index in 0..count {
-        match record_from(text, at) {
+        match record_from(version, text, at) {
             Ok((_, next)) => at = next,
             Err(code) => {
                 return Err(BatchFault {
@@ -70,7 +74,7 @@ pub(crate) fn check_batch(bytes: &[u8]) -> Result<Head, BatchFault>
         });
     }
     let head = read_head(bytes)?;
-    let end = check_records(bytes, head.records_from, head.count)?;
+    let end = check_records(head.version, bytes, head.records_from, head.count)?;
     if (end as usize) < bytes.len() {
         return Err(BatchFault {
             code: BatchCode::Count,
@@ -88,7 +92,7 @@ fn kept_record<'a>(bytes: &'a [u8], head: Head, entries: &[Entry], index: u16) -
     ensures lent { IfSome result (IsLentAt bytes.now index) }
 {
     match entry_at(entries, index) {
-        Some(entry) => Some(record_of_entry(bytes, entry)),
+        Some(entry) => Some(record_of_entry(head.version, bytes, entry)),
         None => None,
     }
 }
@@ -210,7 +214,7 @@ impl<'a> BatchView<'a> {
         for _ in 0..index {
             at = next_line(self.bytes, at)?.to + 1;
         }
-        match record_from(self.bytes, at) {
+        match record_from(self.head.version, self.bytes, at) {
             Ok((record, _)) => Some(record),
             Err(_) => None,
         }
@@ -259,7 +263,7 @@ impl<'a> Iterator for Records<'a> {
             self.index += 1;
             return record;
         }
-        match record_from(self.bytes, self.at) {
+        match record_from(self.head.version, self.bytes, self.at) {
             Ok((record, next)) => {
                 self.at = next;
                 self.index += 1;

@@ -10,7 +10,7 @@ ghost use Rattle.batch_view.specs.Inner.Entries.{field_total, FitsRecord, FlagsP
 
 use crate::batch::record_from;
 use memchr::memchr3;
-use metering_model::{BatchCode, BatchFault, Kind};
+use metering_model::{BatchCode, BatchFault, Kind, Version};
 use record_view::{Numbers, Record, Span, Stamp, Value, field_spans, kept_reading};
 use std::alloc::Global;
 
@@ -30,23 +30,26 @@ pub(crate) enum Found {
     },
 }
 
-/// What is kept of a record: the spans of its nine fields, or of an amendment's four, and its numbers.
+/// What is kept of a record: the spans of its nine fields, of ten with a region, or of an amendment's four, and its numbers.
 #[derive(Clone, Copy)]
 pub(crate) struct Entry {
-    pub(crate) spans: [Span; 9],
+    pub(crate) spans: [Span; 10],
     pub(crate) value: Value,
     pub(crate) found: Found,
 }
 
-const _: () = prove!(size_of::<Entry>() <= 104);
+const _: () = prove!(size_of::<Entry>() <= 112);
 
-/// How many fields the record has.
-pub(crate) fn field_total(found: Found) -> usize
-    ensures value { result ≡ field_total found }
-    ensures range { result ≤ 9 }
+/// How many fields the record has, in a batch of that format.
+pub(crate) fn field_total(version: Version, found: Found) -> usize
+    ensures value { result ≡ field_total version found }
+    ensures range { result ≤ 10 }
 {
     match found {
-        Found::Reading { .. } => 9,
+        Found::Reading { .. } => match version {
+            Version::B1 => 9,
+            Version::B2 => 10,
+        },
         Found::Amend { .. } => 4,
     }
 }
@@ -82,17 +85,17 @@ fn is_unquoted(text: &[u8]) -> bool
 }
 
 /// What is kept of a record that was read from that line.
-fn entry_of(source: &[u8], line: Span, what: &Record<'_>) -> Entry
+fn entry_of(version: Version, source: &[u8], line: Span, what: &Record<'_>) -> Entry
     requires ordered { line.from ≤ line.to }
     requires within { line.to ≤ length source.now }
     requires short { length source.now ≤ 65536 }
-    requires read { record_in (fields_in (slice_range source.now line.from line.to)) ≡ Ok (record_of what.now) }
+    requires read { record_in version (fields_in (slice_range source.now line.from line.to)) ≡ Ok (record_of what.now) }
     requires lent { IsLentRecord source.now line what.now }
     ensures fits { FitsRecord result.found result.value (record_of what.now) }
-    ensures spans { take (field_total result.found) result.spans ≡ spans_at source.now line }
+    ensures spans { take (field_total version result.found) result.spans ≡ spans_at source.now line }
     ensures plain { FlagsPlain result.found (slice_range source.now line.from line.to) }
 {
-    let spans = field_spans(source, line, what);
+    let spans = field_spans(version, source, line, what);
     match what {
         Record::Reading(reading) => Entry {
             spans,
@@ -116,26 +119,30 @@ fn entry_of(source: &[u8], line: Span, what: &Record<'_>) -> Entry
 }
 
 /// What is kept of the record whose line begins at `from`, and where the next line begins.
-pub(crate) fn entry_from(text: &[u8], from: u32) -> Result<(Entry, u32), BatchCode>
+pub(crate) fn entry_from(
+    version: Version,
+    text: &[u8],
+    from: u32,
+) -> Result<(Entry, u32), BatchCode>
     requires within { from ≤ length text.now }
     requires short { length text.now ≤ 65536 }
     ensures { MatchResult result
-        (λ kept. KeepsRecord text.now from kept.0 kept.1)
-        (λ code. first_record (lines_from text.now from).lines ≡ Err code) }
+        (λ kept. KeepsRecord version text.now from kept.0 kept.1)
+        (λ code. first_record version (lines_from text.now from).lines ≡ Err code) }
 {
-    match record_from(text, from) {
+    match record_from(version, text, from) {
         Ok((record, next)) => {
             let line = Span { from, to: next - 1 };
-            Ok((entry_of(text, line, &record), next))
+            Ok((entry_of(version, text, line, &record), next))
         }
         Err(code) => Err(code),
     }
 }
 
 /// The record of an entry: its texts are lent from the entry's spans, and nothing is looked through.
-pub(crate) fn record_of_entry<'a>(bytes: &'a [u8], entry: &Entry) -> Record<'a>
-    requires { (line : Span) × IsEntryAt bytes.now line entry.now }
-    ensures { (line : Span) → IsEntryAt bytes.now line entry.now → IsRecordAt bytes.now line result }
+pub(crate) fn record_of_entry<'a>(version: Version, bytes: &'a [u8], entry: &Entry) -> Record<'a>
+    requires { (line : Span) × IsEntryAt version bytes.now line entry.now }
+    ensures { (line : Span) → IsEntryAt version bytes.now line entry.now → IsRecordAt version bytes.now line result }
 {
     match entry.found {
         Found::Reading {
@@ -150,7 +157,7 @@ pub(crate) fn record_of_entry<'a>(bytes: &'a [u8], entry: &Entry) -> Record<'a>
                 end,
                 value: entry.value,
             };
-            kept_reading(bytes, &entry.spans, numbers)
+            kept_reading(version, bytes, &entry.spans, numbers)
         }
         Found::Amend { seq, index } => Record::Amend {
             seq,

@@ -1,19 +1,18 @@
 //! The head line of a batch.
 
 ghost use Rattle.std.specs.Prelude.{◌≡◌, ◌≤◌, ◌+◌, ◌∷◌, [], length, Ok, Err, MatchOption, MatchResult, slice_range};
-ghost use Rattle.metering_model.specs.BatchReading.{fields_in, head_in, batch_in};
+ghost use Rattle.metering_model.specs.BatchReading.{fields_in, version_in, head_in, batch_in};
 ghost use Rattle.batch_view.specs.Inner.Lines.{head_line, BeginsWithHead};
 
 use crate::lines::next_line;
-use byte_text::{find_byte, read_whole};
-use metering_model::{BatchCode, BatchFault};
+use byte_text::{read_whole, split_at_bar};
+use metering_model::{BatchCode, BatchFault, Version};
 use record_view::Span;
 
-const BAR: u8 = b'|';
-
-/// The numbers of a head line, and where the records begin behind it.
+/// The format and the numbers of a head line, and where the records begin behind it.
 #[derive(Clone, Copy)]
 pub(crate) struct Head {
+    pub(crate) version: Version,
     pub(crate) agent: u8,
     pub(crate) seq: u32,
     pub(crate) count: u16,
@@ -27,16 +26,6 @@ struct HeadFields<'a> {
     agent: &'a [u8],
     seq: &'a [u8],
     count: &'a [u8],
-}
-
-/// What stands before the first bar, and what stands behind it.
-fn split_at_bar(text: &[u8]) -> Option<(&[u8], &[u8])>
-    ensures { MatchOption result
-        (fields_in text.now ≡ text.now ∷ [])
-        (λ parts. fields_in text.now ≡ parts.0.now ∷ fields_in parts.1.now) }
-{
-    let bar = find_byte(text, BAR)?;
-    Some((&text[..bar], &text[bar + 1..]))
 }
 
 /// The fields, if there are just four.
@@ -59,8 +48,19 @@ fn head_fields(line: &[u8]) -> Option<HeadFields<'_>>
     })
 }
 
+/// The format that a text names, if it does.
+fn read_version(text: &[u8]) -> Option<Version>
+    ensures { result ≡ version_in text.now }
+{
+    match text {
+        [b'B', b'1'] => Some(Version::B1),
+        [b'B', b'2'] => Some(Version::B2),
+        _ => None,
+    }
+}
+
 /// The head that a line is, if it is one within the limits.
-fn head_of_line(text: &[u8], span: Span) -> Option<Head>
+pub(crate) fn head_of_line(text: &[u8], span: Span) -> Option<Head>
     requires ordered { span.from ≤ span.to }
     requires within { span.to ≤ length text.now }
     requires short { length text.now ≤ 65536 }
@@ -69,10 +69,8 @@ fn head_of_line(text: &[u8], span: Span) -> Option<Head>
         (λ h. (head_in (fields_in (slice_range text.now span.from span.to)) ≡ Ok (head_line h)) × (h.records_from ≡ span.to + 1)) }
 {
     let fields = head_fields(&text[span.from as usize..span.to as usize])?;
-    if fields.version != b"B1".as_slice() {
-        return None;
-    }
     Some(Head {
+        version: read_version(fields.version)?,
         agent: read_whole(fields.agent, 1, 64)? as u8,
         seq: read_whole(fields.seq, 1, 1_000_000)?,
         count: read_whole(fields.count, 0, 1_000)? as u16,

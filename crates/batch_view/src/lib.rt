@@ -11,6 +11,7 @@ pub use record_view::{
 mod amendments;
 mod batch;
 mod entries;
+mod extents;
 mod head;
 mod lines;
 mod owned;

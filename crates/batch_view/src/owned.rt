@@ -85,7 +85,7 @@ impl OwnedBatch {
         ensures spans { IfSome result (λ spans. AreFieldSpans self.now index spans.now) }
     {
         let entry = entry_at(&self.entries, index)?;
-        Some(&entry.spans[..field_total(entry.found)])
+        Some(&entry.spans[..field_total(self.head.version, entry.found)])
     }
 
     /// Whether the record at that index is known to have plain texts alone: where it is true, none has a byte that CSV or

@@ -7,7 +7,7 @@ ghost use Rattle.batch_view.specs.Inner.Kept.{IfFault, KeepsEntries, KeepsBatch}
 
 use crate::entries::{Entry, entry_from};
 use crate::head::{Head, read_head};
-use metering_model::{BatchCode, BatchFault};
+use metering_model::{BatchCode, BatchFault, Version};
 use std::alloc::Global;
 
 /// A batch has no more bytes than this.
@@ -22,9 +22,10 @@ pub(crate) enum Unkept {
     NoMemory,
 }
 
-/// Reads so many records, the first of them on line 2 and at `from`, and answers where they end.
+/// Reads so many records of that format, the first of them on line 2 and at `from`, and answers where they end.
 fn keep_entries(
     alloc: Global,
+    version: Version,
     text: &[u8],
     from: u32,
     count: u16,
@@ -32,15 +33,15 @@ fn keep_entries(
     requires behind { IsBehindLines text.now 1 from }
     requires short { length text.now ≤ 65536 }
     ensures { MatchResult result
-        (λ kept. KeepsEntries text.now count kept.1 kept.0.items)
-        (λ why. IfFault why (λ fault. records_in 2 count (drop 1 (lines_in text.now).lines) ≡ Err fault)) }
+        (λ kept. KeepsEntries version text.now count kept.1 kept.0.items)
+        (λ why. IfFault why (λ fault. records_in version 2 count (drop 1 (lines_in text.now).lines) ≡ Err fault)) }
 {
     let Ok(mut entries) = Vec::with_capacity(alloc, usize::from(count)) else {
         return Err(Unkept::NoMemory);
     };
     let mut at = from;
     for index in 0..count {
-        match entry_from(text, at) {
+        match entry_from(version, text, at) {
             Ok((entry, next)) => {
                 if entries.push(entry).is_err() {
                     return Err(Unkept::NoMemory);
@@ -74,7 +75,13 @@ pub(crate) fn keep_batch(alloc: Global, bytes: &[u8]) -> Result<(Head, Vec<Entry
         Ok(head) => head,
         Err(fault) => return Err(Unkept::Fault(fault)),
     };
-    let (entries, end) = match keep_entries(alloc, bytes, head.records_from, head.count) {
+    let (entries, end) = match keep_entries(
+        alloc,
+        head.version,
+        bytes,
+        head.records_from,
+        head.count,
+    ) {
         Ok(kept) => kept,
         Err(why) => return Err(why),
     };

@@ -4,7 +4,7 @@ use Rattle.metering_model.specs.Schedule.{lines_text}
 use Rattle.metering_model.proofs.StepLaws.{ok_step_from, some_step_from, test_step_from}
 use Rattle.input_sections.specs.declared.faults.ScheduleCode.{ScheduleCode}
 use Rattle.input_sections.specs.Sections.{Unread, left, lines_left, first_line, number_behind, section_of, section_in}
-use Rattle.input_sections.proofs.LineLaws.{text_of_front}
+use Rattle.byte_text.proofs.PastLines.{text_of_front}
 
 pub section_read : (code : ScheduleCode) (word : List ℕ) (most : ℕ) (u : Unread) (opening : List ℕ) (below : Unread) (n : ℕ)
     → first_line code u ≡ Ok (opening, below) → number_behind word most opening ≡ Some n → n ≤ length (lines_left below)

@@ -1,12 +1,10 @@
 //! What is left of a text.
 
 ghost use Rattle.std.specs.Prelude.{◌≡◌, ◌≢◌, ◌+◌, ◌<◌, ◌≤◌, length, drop, true, false, IfOk, IfErr, MatchOption, MatchResult};
-ghost use Rattle.metering_model.specs.BatchReading.{lines_in};
-ghost use Rattle.input_sections.specs.Inner.Lines.{IsPast};
 ghost use Rattle.input_sections.specs.Sections.{begins_with, code_of_end, first_line, left, lines_left, section_of, whole_of};
 
 use crate::faults::{ScheduleCode, ScheduleFault};
-use byte_text::{find_byte, is_same};
+use byte_text::{find_byte, is_same, lines_length};
 use std::marker::Model;
 
 /// The most bytes that a text may have.
@@ -146,15 +144,4 @@ fn code_of_end(code: ScheduleCode, left: &[u8]) -> ScheduleCode
         [] => code,
         _ => ScheduleCode::Lines,
     }
-}
-
-/// How many bytes so many lines have, each with its line feed, or None where the text has fewer.
-fn lines_length(text: &[u8], count: u32) -> Option<usize>
-    ensures { MatchOption result (length (lines_in text.now).lines < count) (IsPast text.now count) }
-{
-    let mut length = 0;
-    for _ in 0..count {
-        length += find_byte(&text[length..], b'\n')? + 1;
-    }
-    Some(length)
 }

@@ -1,8 +1,9 @@
 -- What is taken from a text that the source lends is lent too, in order and apart.
-use Rattle.std.proofs.Common.{◌≡◌, ℕ, zero, suc, ◌+◌, ◌-◌, ◌<◌, ◌≤◌, ◌==◌, Bool, true, false, List, [], ◌∷◌, length, take, drop, map, refl, sym, ap, subst, ◌∙◌, arith, length-drop, slice_range}
+use Rattle.std.proofs.Common.{◌≡◌, ℕ, zero, suc, ◌+◌, ◌-◌, ◌<◌, ◌≤◌, ◌==◌, Bool, true, false, List, [], ◌∷◌, ◌++◌, length, take, drop, map, Option, Some, None, refl, sym, ap, subst, ◌∙◌, arith, length-drop, slice_range}
 use Rattle.std.specs.List.{list_any, position_or_len, flat_map}
 use Rattle.std.proofs.lemmas.Bool.{ltb-true}
-use Rattle.std.proofs.lemmas.List.{take-take, drop-drop, drop-take, length-take-le}
+use Rattle.std.specs.Option.{option_to_list}
+use Rattle.std.proofs.lemmas.List.{append-nil, take-take, drop-drop, drop-take, length-take-le}
 use Rattle.record_view.specs.Parts.{LentText, lent, IsLent, AreLentApart, part_before, part_after, parts_at}
 use Rattle.record_view.specs.Inner.Placed.{IsPlaced}
 use Rattle.record_view.specs.TagTexts.{lent_tag, tags_at}
@@ -147,6 +148,48 @@ tags_lent source from to t h ok begins ends = by_length (length t.text) refl
         let parts = lent_to source from t.to to (parts_at 59 t) ends (lent_from source from t.from t.to (parts_at 59 t) begins (parts_lent source 59 t h)) in
         subst (λ ts. AreLentApart source from to (flat_map tag_texts ts)) (sym (tags_of_parts_at t some)) (lent_pairs source from to (parts_at 59 t) pairs parts)
 
+-- ---- a text behind others
+
+-- texts up to a place, and one behind it
+pub with_last : (source : List ℕ) (from m to : ℕ) (ts : List LentText) (q : LentText) → from ≤ q.from → m + 1 ≤ q.from → AreLentApart source from m ts
+    → IsLent source q → q.to ≤ to → AreLentApart source from to (ts ++ q ∷ [])
+with_last source from m to [] q low behind h last ends = (last, low, ends, tt)
+with_last source from m to (t ∷ ts) q low behind h last ends = (
+  h.0,
+  h.1,
+  omega (arith, h.2, behind, last.ordered, ends),
+  with_last source (t.to + 1) m to ts q (omega (arith, h.2, behind)) behind h.3 last ends,
+)
+
+-- Without the last they end before it.
+pub record IsLastOf (source : List ℕ) (from m to : ℕ) (ts : List LentText) (q : LentText) : Type 0 where
+  pub low : from ≤ q.from
+  pub others : AreLentApart source from m ts
+  pub last : IsLent source q
+  pub ends : q.to ≤ to
+
+pub without_last : (source : List ℕ) (from m to : ℕ) (ts : List LentText) (q : LentText) → m + 1 ≡ q.from → AreLentApart source from to (ts ++ q ∷ [])
+    → IsLastOf source from m to ts q
+without_last source from m to [] q next h = record { low = h.1; others = tt; last = h.0; ends = h.2 }
+without_last source from m to (t ∷ ts) q next h =
+    let rest = without_last source (t.to + 1) m to ts q next h.3 in
+    record {
+      low = omega (arith, h.0.ordered, h.1, rest.low);
+      others = (h.0, h.1, omega (arith, next, rest.low), rest.others);
+      last = rest.last;
+      ends = rest.ends;
+    }
+
+-- tags, and the region behind them, if there is one
+pub tags_then : (source : List ℕ) (from to : ℕ) (t : LentText) (region : Option LentText) → are_tags t.text ≡ true
+    → AreLentApart source from to (t ∷ option_to_list region) → AreLentApart source from to (flat_map tag_texts (tags_at t) ++ option_to_list region)
+tags_then source from to t None ok h =
+    subst (AreLentApart source from to) (sym (append-nil (flat_map tag_texts (tags_at t)))) (tags_lent source from to t h.0 ok h.1 h.2)
+tags_then source from to t (Some q) ok h =
+    let behind = h.3 in
+    with_last source from t.to to (flat_map tag_texts (tags_at t)) q (omega (arith, h.0.ordered, h.1, behind.1)) behind.1
+    (tags_lent source from t.to t h.0 ok h.1 (omega arith)) behind.0 behind.2
+
 -- ---- the fields of a reading
 
 -- one text, and what becomes of the others
@@ -179,10 +222,10 @@ fields_lent source from to f ok h =
     )
   where
     tags : AreLentApart source ((lent f.commitment).to + 1) to (lent f.tags ∷ [])
-        → AreLentApart source ((lent f.commitment).to + 1) to (flat_map tag_texts (tags_at (lent f.tags)))
-    tags h = tags_lent source ((lent f.commitment).to + 1) to (lent f.tags) h.0 ok h.1 h.2
+        → AreLentApart source ((lent f.commitment).to + 1) to (flat_map tag_texts (tags_at (lent f.tags)) ++ [])
+    tags h = tags_then source ((lent f.commitment).to + 1) to (lent f.tags) None ok h
 
     last : AreLentApart source ((lent f.key).to + 1) to (lent f.value ∷ lent f.commitment ∷ lent f.tags ∷ [])
-        → AreLentApart source ((lent f.key).to + 1) to (lent f.commitment ∷ flat_map tag_texts (tags_at (lent f.tags)))
-    last h = lent_then source ((lent f.key).to + 1) to (lent f.commitment) (lent f.tags ∷ []) (flat_map tag_texts (tags_at (lent f.tags)))
+        → AreLentApart source ((lent f.key).to + 1) to (lent f.commitment ∷ flat_map tag_texts (tags_at (lent f.tags)) ++ [])
+    last h = lent_then source ((lent f.key).to + 1) to (lent f.commitment) (lent f.tags ∷ []) (flat_map tag_texts (tags_at (lent f.tags)) ++ [])
         (lent_rest source ((lent f.key).to + 1) to (lent f.value) (lent f.commitment ∷ lent f.tags ∷ []) h) tags

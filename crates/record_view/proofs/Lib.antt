@@ -6,6 +6,8 @@ pub mod RecordLaws
 pub mod LineLaws
 pub mod TagsHold
 pub mod SpanLaws
+pub mod LastPart
+pub mod RegionLines
 pub mod PlainLaws
 pub mod LaneLaws
 pub mod ValueLaws

@@ -2,6 +2,8 @@
 use Rattle.std.proofs.Common.{◌≡◌, ◌≢◌, ℕ, ◌≤◌, true, false, List, [], ◌∷◌, length, Result, Ok, Err, IfOk, IfErr, OnOk, slice_range, sym, ap, subst, ◌∙◌, codes}
 use Rattle.std.proofs.lemmas.List.{length-map}
 use Rattle.metering_model.specs.Batch as model
+use Rattle.metering_model.specs.declared.Version.{Version}
+use Rattle.metering_model.specs.declared.Version.TheVariants.{B1, B2}
 use Rattle.metering_model.specs.declared.BatchCode.{BatchCode}
 use Rattle.metering_model.specs.declared.BatchCode.TheVariants.{Fields}
 use Rattle.metering_model.specs.BatchReading.{is_same, record_in, fields_in}
@@ -17,7 +19,7 @@ use Rattle.record_view.specs.Lent.{record_of, record_texts, IsLentRecord, fields
 use Rattle.record_view.specs.Inner.LineFields.{reading_parts, amendment_parts, field_texts, record_of_reading, record_of_amendment}
 use Rattle.record_view.proofs.TagLaws.{texts_of_parts}
 use Rattle.record_view.proofs.LentLaws.{parts_lent, lent_rest, fields_lent}
-use Rattle.record_view.proofs.RecordLaws.{nine_fields, four_fields, no_amendment, no_reading}
+use Rattle.record_view.proofs.RecordLaws.{nine_fields, four_fields, amended, no_amendment, no_reading}
 
 abbrev ModelRecord : Type 0
 ModelRecord = Result model.Record BatchCode
@@ -29,25 +31,47 @@ ok_along r a b e h = subst (λ m. IfOk r (λ x. m ≡ Ok (record_of x))) e h
 pub err_along : (r : Result Record BatchCode) (a b : ModelRecord) → a ≡ b → IfErr r (λ e. a ≡ Err e) → IfErr r (λ e. b ≡ Err e)
 err_along r a b e h = subst (λ m. IfErr r (λ code. m ≡ Err code)) e h
 
+-- the same in either format
+pub all_ok : (r : Result Record BatchCode) (a : ModelRecord) (b : Version → ModelRecord) → ((version : Version) → a ≡ b version) → IfOk r (λ x. a ≡ Ok (record_of x))
+    → IfOk r (λ x. (version : Version) → b version ≡ Ok (record_of x))
+all_ok (Ok x) a b e h = λ version. sym (e version) ∙ h
+all_ok (Err code) a b e h = tt
+
+pub all_err : (r : Result Record BatchCode) (a : ModelRecord) (b : Version → ModelRecord) → ((version : Version) → a ≡ b version) → IfErr r (λ e. a ≡ Err e)
+    → IfErr r (λ e. (version : Version) → b version ≡ Err e)
+all_err (Ok x) a b e h = tt
+all_err (Err code) a b e h = λ version. sym (e version) ∙ h
+
+pub ok_of : (version : Version) (r : Result Record BatchCode) (b : Version → ModelRecord) → IfOk r (λ x. (version : Version) → b version ≡ Ok (record_of x)) → IfOk r (λ x. b version ≡ Ok (record_of x))
+ok_of version (Ok x) b h = h version
+ok_of version (Err code) b h = tt
+
+pub err_of : (version : Version) (r : Result Record BatchCode) (b : Version → ModelRecord) → IfErr r (λ e. (version : Version) → b version ≡ Err e) → IfErr r (λ e. b version ≡ Err e)
+err_of version (Ok x) b h = tt
+err_of version (Err code) b h = h version
+
 -- ---- behind the letter
 
-pub amendment_line : (letter : List ℕ) (rest : LentText) (f : AmendmentFields) → is_same letter (codes "X") ≡ true → parts_at 124 rest ≡ amendment_parts f
-    → record_of_amendment f ≡ record_in (letter ∷ texts_of (parts_at 124 rest))
-amendment_line letter rest f h e =
-    sym (four_fields letter f.seq.text.now f.index.text.now f.value.text.now h) ∙ ap (λ ps. record_in (letter ∷ texts_of ps)) (sym e)
+pub amendment_line : (version : Version) (letter : List ℕ) (rest : LentText) (f : AmendmentFields) → is_same letter (codes "X") ≡ true → parts_at 124 rest ≡ amendment_parts f
+    → record_of_amendment f ≡ record_in version (letter ∷ texts_of (parts_at 124 rest))
+amendment_line version letter rest f h e =
+    sym (four_fields letter f.seq.text.now f.index.text.now f.value.text.now h)
+    ∙ (amended version letter (texts_of (amendment_parts f)) h ∙ ap (λ ps. record_in version (letter ∷ texts_of ps)) (sym e))
 
 pub reading_line : (letter : List ℕ) (rest : LentText) (f : ReadingFields) → parts_at 124 rest ≡ reading_parts f
-    → record_of_reading letter f ≡ record_in (letter ∷ texts_of (parts_at 124 rest))
+    → record_of_reading letter f ≡ record_in B1 (letter ∷ texts_of (parts_at 124 rest))
 reading_line letter rest f e =
     sym (nine_fields letter f.start.text.now f.end.text.now f.account.text.now f.resource.text.now f.key.text.now f.value.text.now f.commitment.text.now f.tags.text.now)
-    ∙ ap (λ ps. record_in (letter ∷ texts_of ps)) (sym e)
+    ∙ ap (λ ps. record_in B1 (letter ∷ texts_of ps)) (sym e)
 
-pub no_amendment_line : (letter : List ℕ) (rest : LentText) → is_same letter (codes "X") ≡ true → length (parts_at 124 rest) ≢ 3
-    → record_in (letter ∷ texts_of (parts_at 124 rest)) ≡ Err Fields
-no_amendment_line letter rest h ne = no_amendment letter (texts_of (parts_at 124 rest)) h (λ e. ne (sym (length-map (parts_at 124 rest) (λ t. t.text)) ∙ e))
+pub no_amendment_line : (version : Version) (letter : List ℕ) (rest : LentText) → is_same letter (codes "X") ≡ true → length (parts_at 124 rest) ≢ 3
+    → record_in version (letter ∷ texts_of (parts_at 124 rest)) ≡ Err Fields
+no_amendment_line version letter rest h ne =
+    sym (amended version letter (texts_of (parts_at 124 rest)) h)
+    ∙ no_amendment letter (texts_of (parts_at 124 rest)) h (λ e. ne (sym (length-map (parts_at 124 rest) (λ t. t.text)) ∙ e))
 
 pub no_reading_line : (letter : List ℕ) (rest : LentText) → is_same letter (codes "X") ≡ false → length (parts_at 124 rest) ≢ 8
-    → record_in (letter ∷ texts_of (parts_at 124 rest)) ≡ Err Fields
+    → record_in B1 (letter ∷ texts_of (parts_at 124 rest)) ≡ Err Fields
 no_reading_line letter rest h ne = no_reading letter (texts_of (parts_at 124 rest)) h (λ e. ne (sym (length-map (parts_at 124 rest) (λ t. t.text)) ∙ e))
 
 -- what the parts lend, the record lends
@@ -65,8 +89,9 @@ reading_lends rest f (Err code) e texts tags = tt
 pub line_fields : (whole letter rest : LentText) → parts_at 124 whole ≡ letter ∷ parts_at 124 rest → letter.text ∷ texts_of (parts_at 124 rest) ≡ fields_in whole.text
 line_fields whole letter rest e = sym (ap texts_of e) ∙ texts_of_parts 124 whole
 
-pub one_field : (whole : LentText) → parts_at 124 whole ≡ whole ∷ [] → record_in (fields_in whole.text) ≡ Err Fields
-one_field whole e = ap record_in (sym (texts_of_parts 124 whole) ∙ ap texts_of e)
+pub one_field : (version : Version) (whole : LentText) → parts_at 124 whole ≡ whole ∷ [] → record_in version (fields_in whole.text) ≡ Err Fields
+one_field B1 whole e = ap (record_in B1) (sym (texts_of_parts 124 whole) ∙ ap texts_of e)
+one_field B2 whole e = ap (record_in B2) (sym (texts_of_parts 124 whole) ∙ ap texts_of e)
 
 -- what stands behind the letter lies in the line
 pub behind_letter : (source : List ℕ) (whole letter rest : LentText) → IsLent source whole → parts_at 124 whole ≡ letter ∷ parts_at 124 rest

@@ -7,22 +7,26 @@ use Rattle.metering_model.specs.FirstFailure.{◌>>=◌, holds_or}
 use Rattle.metering_model.specs.declared.BatchCode.TheVariants.{Fields, Time, Text, Tags}
 use Rattle.metering_model.specs.declared.Kind.{Kind}
 use Rattle.metering_model.specs.Batch.{Tag, Reads, is_text}
+use Rattle.metering_model.specs.declared.Version.{Version}
+use Rattle.metering_model.specs.declared.Version.TheVariants.{B1, B2}
 use Rattle.metering_model.specs.Dates.{stamp_in}
 use Rattle.metering_model.specs.BatchReading.{is_same, kind_in, tags_in, record_in}
+use Rattle.metering_model.proofs.FieldLaws.{same_read}
+use Rattle.metering_model.proofs.RegionLaws.{amended_alike}
 use Rattle.record_view.specs.Inner.RecordSteps.{kind_step, stamp_step, order_step, text_step, key_step, value_step, sign_step, commitment_step, tags_step, whole_step, reading_in, amendment_in}
 
 pub nine_fields : (letter start end account resource key value commitment tags : List ℕ)
-    → record_in (letter ∷ start ∷ end ∷ account ∷ resource ∷ key ∷ value ∷ commitment ∷ tags ∷ [])
+    → record_in B1 (letter ∷ start ∷ end ∷ account ∷ resource ∷ key ∷ value ∷ commitment ∷ tags ∷ [])
     ≡ reading_in letter start end account resource key value commitment tags
 unfolding reading_in kind_step stamp_step order_step text_step key_step value_step sign_step commitment_step tags_step
 nine_fields letter start end account resource key value commitment tags = refl
 
-pub four_fields : (letter seq index value : List ℕ) → is_same letter (codes "X") ≡ true → record_in (letter ∷ seq ∷ index ∷ value ∷ []) ≡ amendment_in seq index value
+pub four_fields : (letter seq index value : List ℕ) → is_same letter (codes "X") ≡ true → record_in B1 (letter ∷ seq ∷ index ∷ value ∷ []) ≡ amendment_in seq index value
 unfolding amendment_in whole_step value_step
 four_fields letter seq index value h = ap (λ b. holds_or b Fields >>= (λ _. amendment_in seq index value)) h
 
 -- four fields without the letter of an amendment
-pub four_others : (letter seq index value : List ℕ) → is_same letter (codes "X") ≡ false → record_in (letter ∷ seq ∷ index ∷ value ∷ []) ≡ Err Fields
+pub four_others : (letter seq index value : List ℕ) → is_same letter (codes "X") ≡ false → record_in B1 (letter ∷ seq ∷ index ∷ value ∷ []) ≡ Err Fields
 unfolding amendment_in whole_step value_step
 four_others letter seq index value h = ap (λ b. holds_or b Fields >>= (λ _. amendment_in seq index value)) h
 
@@ -43,6 +47,7 @@ pub all_steps : (letter start end account resource key value commitment tags : L
       value = v;
       commitment = commitment;
       tags = ts;
+      region = None;
     }))
 unfolding reading_in
 all_steps letter start end account resource key value commitment tags k s e v ts h1 h2 h3 h4 h5 h6 h7 h8 h9 h10 h11 =
@@ -95,7 +100,7 @@ unfolding kind_step
 not_a_kind letter h = ap (λ k. ok_or k Fields) (amendment_letter letter h)
 
 -- the letter of an amendment, and not three fields behind it
-pub no_amendment : (letter : List ℕ) (rest : List (List ℕ)) → is_same letter (codes "X") ≡ true → length rest ≢ 3 → record_in (letter ∷ rest) ≡ Err Fields
+pub no_amendment : (letter : List ℕ) (rest : List (List ℕ)) → is_same letter (codes "X") ≡ true → length rest ≢ 3 → record_in B1 (letter ∷ rest) ≡ Err Fields
 no_amendment letter [] h ne = refl
 no_amendment letter (a ∷ []) h ne = refl
 no_amendment letter (a ∷ b ∷ []) h ne = refl
@@ -106,10 +111,18 @@ no_amendment letter (a ∷ b ∷ c ∷ d ∷ e ∷ f ∷ []) h ne = refl
 no_amendment letter (a ∷ b ∷ c ∷ d ∷ e ∷ f ∷ g ∷ []) h ne = refl
 no_amendment letter (a ∷ b ∷ c ∷ d ∷ e ∷ f ∷ g ∷ i ∷ []) h ne =
     nine_fields letter a b c d e f g i ∙ no_kind letter a b c d e f g i (not_a_kind letter h)
-no_amendment letter (a ∷ b ∷ c ∷ d ∷ e ∷ f ∷ g ∷ i ∷ j ∷ rest) h ne = refl
+no_amendment letter (a ∷ b ∷ c ∷ d ∷ e ∷ f ∷ g ∷ i ∷ j ∷ []) h ne = refl
+no_amendment letter (a ∷ b ∷ c ∷ d ∷ e ∷ f ∷ g ∷ i ∷ j ∷ k ∷ rest) h ne = refl
+
+-- an amendment's line is read alike in both formats
+pub amended : (version : Version) (letter : List ℕ) (rest : List (List ℕ)) → is_same letter (codes "X") ≡ true → record_in B1 (letter ∷ rest) ≡ record_in version (letter ∷ rest)
+amended B1 letter rest h = refl
+amended B2 letter rest h =
+    let same = same_read letter (codes "X") h in
+    ap (λ l. record_in B1 (l ∷ rest)) same ∙ (sym (amended_alike rest) ∙ ap (λ l. record_in B2 (l ∷ rest)) (sym same))
 
 -- another letter, and not eight fields behind it
-pub no_reading : (letter : List ℕ) (rest : List (List ℕ)) → is_same letter (codes "X") ≡ false → length rest ≢ 8 → record_in (letter ∷ rest) ≡ Err Fields
+pub no_reading : (letter : List ℕ) (rest : List (List ℕ)) → is_same letter (codes "X") ≡ false → length rest ≢ 8 → record_in B1 (letter ∷ rest) ≡ Err Fields
 no_reading letter [] h ne = refl
 no_reading letter (a ∷ []) h ne = refl
 no_reading letter (a ∷ b ∷ []) h ne = refl
@@ -119,4 +132,5 @@ no_reading letter (a ∷ b ∷ c ∷ d ∷ e ∷ []) h ne = refl
 no_reading letter (a ∷ b ∷ c ∷ d ∷ e ∷ f ∷ []) h ne = refl
 no_reading letter (a ∷ b ∷ c ∷ d ∷ e ∷ f ∷ g ∷ []) h ne = refl
 no_reading letter (a ∷ b ∷ c ∷ d ∷ e ∷ f ∷ g ∷ i ∷ []) h ne = absurd (ne refl)
-no_reading letter (a ∷ b ∷ c ∷ d ∷ e ∷ f ∷ g ∷ i ∷ j ∷ rest) h ne = refl
+no_reading letter (a ∷ b ∷ c ∷ d ∷ e ∷ f ∷ g ∷ i ∷ j ∷ []) h ne = refl
+no_reading letter (a ∷ b ∷ c ∷ d ∷ e ∷ f ∷ g ∷ i ∷ j ∷ k ∷ rest) h ne = refl

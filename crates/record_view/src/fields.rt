@@ -1,10 +1,12 @@
 //! Texts that a batch lends, and where they stand in it.
 
-ghost use Rattle.std.specs.Prelude.{◌≡◌, ◌+◌, ◌<◌, ◌≤◌, ◌==◌, ◌∷◌, [], length, slice_range, position, is_some, MatchOption, IfSome};
+ghost use Rattle.std.specs.Prelude.{◌≡◌, ◌+◌, ◌<◌, ◌≤◌, ◌==◌, ◌∷◌, ◌++◌, [], length, slice_range, position, is_some, MatchOption, IfSome};
 ghost use Rattle.std.specs.List.{list_any};
 ghost use Rattle.metering_model.specs.Batch.{is_text};
 ghost use Rattle.record_view.specs.Parts.{lent, part_before, part_after, parts_at};
 ghost use Rattle.record_view.specs.Inner.Placed.{IsPlaced, front_of, back_of};
+
+use memchr::memrchr;
 
 /// A place in the bytes of a batch, from `from` (included) to `to` (not included).
 #[derive(Clone, Copy, PartialEq, Eq, Debug)]
@@ -80,6 +82,18 @@ pub(crate) fn split_at_byte<'a>(whole: Field<'a>, byte: u8) -> Option<(Field<'a>
     ensures placed { IfSome result (λ p. IsPlaced (lent p.0) × IsPlaced (lent p.1)) }
 {
     let position = first_place(whole.text, byte)?;
+    Some(cut(whole, position))
+}
+
+/// What stands before and behind the last such byte of a text, if it has one.
+pub(crate) fn split_at_last<'a>(whole: Field<'a>, byte: u8) -> Option<(Field<'a>, Field<'a>)>
+    requires { IsPlaced (lent whole) }
+    ensures parts { MatchOption result (parts_at byte (lent whole.entry) ≡ lent whole.entry ∷ [])
+        (λ p. parts_at byte (lent whole.entry) ≡ parts_at byte (lent p.0) ++ lent p.1 ∷ []) }
+    ensures adjoin { IfSome result (λ p. p.1.span.from ≡ p.0.span.to + 1) }
+    ensures placed { IfSome result (λ p. IsPlaced (lent p.0)) }
+{
+    let position = memrchr(byte, whole.text)?;
     Some(cut(whole, position))
 }
 

@@ -1,17 +1,17 @@
 //! A reading that was read before, from where its fields stand.
 
-ghost use Rattle.std.specs.Prelude.{◌≡◌, ◌<◌, ◌≤◌, All, length, slice_range, Ok, Some};
+ghost use Rattle.std.specs.Prelude.{◌≡◌, ◌<◌, ◌≤◌, All, length, take, slice_range, Ok, Some};
 ghost use Rattle.std.specs.List.{slice_get};
 ghost use Rattle.record_view.specs.Parts.{lent};
 ghost use Rattle.record_view.specs.Spans.{IsReadingOn, IsRecordAt};
 ghost use Rattle.record_view.specs.Inner.Placed.{IsPlaced};
-ghost use Rattle.record_view.specs.Inner.KeptFields.{LiesWithin, StandsAt, HasTags, IsLentAtSpans};
+ghost use Rattle.record_view.specs.Inner.KeptFields.{LiesWithin, StandsAt, HasTags, MayHaveRegion, HasRegion, IsLentAtSpans};
 
 use crate::fields::{Field, Span, field_at};
 use crate::records::{Reading, Record};
 use crate::tags::Tags;
 use fx_money::Value;
-use metering_model::Kind;
+use metering_model::{Kind, Version};
 use utc_calendar::Stamp;
 
 /// What was read of a reading, but for its texts. The value is in millionths.
@@ -23,9 +23,9 @@ pub struct Numbers {
     pub value: Value,
 }
 
-/// The field at one of the spans.
-fn kept_field<'a>(source: &'a [u8], spans: &[Span; 9], index: usize) -> Field<'a>
-    requires within { All (LiesWithin source.now) spans.now }
+/// The field at one of the first nine spans.
+fn kept_field<'a>(source: &'a [u8], spans: &[Span; 10], index: usize) -> Field<'a>
+    requires within { All (LiesWithin source.now) (take 9 spans.now) }
     requires nine { index < 9 }
     ensures stands { StandsAt source.now spans.now index result }
     ensures placed { IsPlaced (lent result) }
@@ -33,11 +33,28 @@ fn kept_field<'a>(source: &'a [u8], spans: &[Span; 9], index: usize) -> Field<'a
     field_at(source, spans[index])
 }
 
+/// The region that stands at the tenth span, in format B2.
+fn kept_region<'a>(version: Version, source: &'a [u8], spans: &[Span; 10]) -> Option<Field<'a>>
+    requires { MayHaveRegion version source.now spans.now }
+    ensures { HasRegion version source.now spans.now result }
+{
+    match version {
+        Version::B1 => None,
+        Version::B2 => Some(field_at(source, spans[9])),
+    }
+}
+
 /// The reading whose fields stand at the spans.
-fn lend_fields<'a>(source: &'a [u8], spans: &[Span; 9], numbers: Numbers) -> Reading<'a>
-    requires within { All (LiesWithin source.now) spans.now }
+fn lend_fields<'a>(
+    version: Version,
+    source: &'a [u8],
+    spans: &[Span; 10],
+    numbers: Numbers,
+) -> Reading<'a>
+    requires within { All (LiesWithin source.now) (take 9 spans.now) }
     requires tags { HasTags source.now spans.now }
-    ensures { IsLentAtSpans source.now spans.now numbers result }
+    requires region { MayHaveRegion version source.now spans.now }
+    ensures { IsLentAtSpans version source.now spans.now numbers result }
 {
     Reading {
         kind: numbers.kind,
@@ -51,13 +68,20 @@ fn lend_fields<'a>(source: &'a [u8], spans: &[Span; 9], numbers: Numbers) -> Rea
         value: numbers.value,
         commitment: kept_field(source, spans, 7),
         tags: Tags::known(kept_field(source, spans, 8)),
+        region: kept_region(version, source, spans),
     }
 }
 
-/// The reading of a line that was read before: its texts are lent from the spans, and nothing is looked through.
-pub fn kept_reading<'a>(source: &'a [u8], spans: &[Span; 9], numbers: Numbers) -> Record<'a>
-    requires { (line : Span) × IsReadingOn source.now spans.now numbers line }
-    ensures { (line : Span) → IsReadingOn source.now spans.now numbers line → IsRecordAt source.now line result }
+/// The reading of a line of a batch of that format, which was read before: its texts are lent from the spans, and nothing is
+/// looked through.
+pub fn kept_reading<'a>(
+    version: Version,
+    source: &'a [u8],
+    spans: &[Span; 10],
+    numbers: Numbers,
+) -> Record<'a>
+    requires { (line : Span) × IsReadingOn version source.now spans.now numbers line }
+    ensures { (line : Span) → IsReadingOn version source.now spans.now numbers line → IsRecordAt version source.now line result }
 {
-    Record::Reading(lend_fields(source, spans, numbers))
+    Record::Reading(lend_fields(version, source, spans, numbers))
 }

@@ -4,7 +4,7 @@
 pub use fields::{Field, Span};
 pub use fx_money::Value;
 pub use kept::{Numbers, kept_reading};
-pub use metering_model::{BatchCode, Kind};
+pub use metering_model::{BatchCode, Kind, Version};
 pub use records::{Reading, Record, read_record};
 pub use spans::field_spans;
 pub use tags::Tags;

@@ -3,22 +3,23 @@
 ghost use Rattle.std.specs.Prelude.{◌≡◌, ◌≢◌, ◌<◌, ◌≤◌, ◌∷◌, [], length, map, slice_range, IsTrue, OnOk, IfOk, IfErr, IfSome, IfNone, MatchResult, Ok, Err, true, false, ℕ, List, codes};
 ghost use Rattle.metering_model.specs.FirstFailure.{holds_or};
 ghost use Rattle.metering_model.specs.Batch.{is_priced, is_text};
+ghost use Rattle.metering_model.specs.declared.Version.TheVariants.{B1, B2};
 ghost use Rattle.metering_model.specs.BatchReading.{is_same, kind_in, record_in, fields_in};
 ghost use Rattle.record_view.specs.Parts.{LentText, AreLentApart, lent, parts_at};
 ghost use Rattle.record_view.specs.Inner.Placed.{IsPlaced, texts_of};
 ghost use Rattle.record_view.specs.TagTexts.{tag_of, tags_at};
 ghost use Rattle.record_view.specs.Inner.TagParts.{are_tags};
 ghost use Rattle.record_view.specs.Inner.RecordSteps.{kind_step, stamp_step, order_step, text_step, key_step, value_step, sign_step, commitment_step, tags_step, whole_step};
-ghost use Rattle.record_view.specs.Lent.{lent_tags, reading_tags, record_of, record_texts, lent_fields, IsLentRecord};
-ghost use Rattle.record_view.specs.Inner.LineFields.{reading_parts, amendment_parts, field_texts, record_of_reading, record_of_amendment, HaveStamps, ArePlainFields};
+ghost use Rattle.record_view.specs.Lent.{lent_tags, reading_tags, reading_region, record_of, record_texts, lent_fields, IsLentRecord};
+ghost use Rattle.record_view.specs.Inner.LineFields.{reading_parts, amendment_parts, field_texts, record_of_reading, record_of_amendment, in_region, HaveStamps, ArePlainFields};
 
-use crate::fields::{Field, Span, field_at, is_text, split_at_byte};
+use crate::fields::{Field, Span, field_at, is_text, split_at_byte, split_at_last};
 use crate::numbers::read_value;
 use crate::plain::{split_plain, split_stamp};
 use crate::tags::{Tags, are_plain_tags};
 use byte_text::read_whole;
 use fx_money::Value;
-use metering_model::{BatchCode, Kind};
+use metering_model::{BatchCode, Kind, Version};
 use utc_calendar::Stamp;
 
 /// What an agent metered. The value is in millionths.
@@ -35,6 +36,7 @@ pub struct Reading<'a> {
     pub value: Value,
     pub commitment: Field<'a>,
     pub(crate) tags: Tags<'a>,
+    pub(crate) region: Option<Field<'a>>,
 }
 
 impl<'a> Reading<'a> {
@@ -43,6 +45,13 @@ impl<'a> Reading<'a> {
         ensures { lent_tags result ≡ reading_tags self.now }
     {
         self.tags
+    }
+
+    /// Where the usage was, which may be the empty text. None in a batch of format B1.
+    pub fn region(&self) -> Option<Field<'a>>
+        ensures { result ≡ reading_region self.now }
+    {
+        self.region
     }
 }
 
@@ -294,6 +303,7 @@ fn read_reading<'a>(letter: &[u8], fields: &ReadingFields<'a>) -> Result<Record<
         value,
         commitment: fields.commitment,
         tags,
+        region: None,
     }))
 }
 
@@ -321,10 +331,10 @@ fn is_amendment(letter: &[u8]) -> bool
 fn amendment_behind<'a>(letter: &[u8], rest: Field<'_>) -> Result<Record<'a>, BatchCode>
     requires placed { IsPlaced (lent rest) }
     requires letter { is_same letter.now (codes "X") ≡ true }
-    ensures ok { IfOk result (λ r.
-        record_in (letter.now ∷ texts_of (parts_at 124 (lent rest.entry))) ≡ Ok (record_of r)) }
-    ensures err { IfErr result (λ e.
-        record_in (letter.now ∷ texts_of (parts_at 124 (lent rest.entry))) ≡ Err e) }
+    ensures ok { IfOk result (λ r. (version : Version) →
+        record_in version (letter.now ∷ texts_of (parts_at 124 (lent rest.entry))) ≡ Ok (record_of r)) }
+    ensures err { IfErr result (λ e. (version : Version) →
+        record_in version (letter.now ∷ texts_of (parts_at 124 (lent rest.entry))) ≡ Err e) }
     ensures places { IfOk result (λ r. (letter : LentText) →
         record_texts r ≡ lent_fields (letter ∷ parts_at 124 (lent rest.entry))) }
     ensures lent { IfOk result (λ r. record_texts r ≡ []) }
@@ -340,9 +350,9 @@ fn exact_reading<'a>(letter: &[u8], rest: Field<'a>) -> Result<Record<'a>, Batch
     requires placed { IsPlaced (lent rest) }
     requires letter { is_same letter.now (codes "X") ≡ false }
     ensures ok { IfOk result (λ r.
-        record_in (letter.now ∷ texts_of (parts_at 124 (lent rest.entry))) ≡ Ok (record_of r)) }
+        record_in B1 (letter.now ∷ texts_of (parts_at 124 (lent rest.entry))) ≡ Ok (record_of r)) }
     ensures err { IfErr result (λ e.
-        record_in (letter.now ∷ texts_of (parts_at 124 (lent rest.entry))) ≡ Err e) }
+        record_in B1 (letter.now ∷ texts_of (parts_at 124 (lent rest.entry))) ≡ Err e) }
     ensures places { IfOk result (λ r. (letter : LentText) →
         record_texts r ≡ lent_fields (letter ∷ parts_at 124 (lent rest.entry))) }
     // What it lends is lent by the parts.
@@ -433,6 +443,7 @@ fn plain_reading<'a>(letter: &[u8], plain: &ReadingFields<'a>) -> Result<Record<
         value,
         commitment: plain.commitment,
         tags,
+        region: None,
     }))
 }
 
@@ -440,7 +451,7 @@ fn plain_reading<'a>(letter: &[u8], plain: &ReadingFields<'a>) -> Result<Record<
 fn plain_record<'a>(letter: &[u8], rest: Field<'a>) -> Option<Record<'a>>
     requires { IsPlaced (lent rest) }
     ensures ok { IfSome result (λ r.
-        record_in (letter.now ∷ texts_of (parts_at 124 (lent rest.entry))) ≡ Ok (record_of r)) }
+        record_in B1 (letter.now ∷ texts_of (parts_at 124 (lent rest.entry))) ≡ Ok (record_of r)) }
     ensures places { IfSome result (λ r. (letter : LentText) →
         record_texts r ≡ lent_fields (letter ∷ parts_at 124 (lent rest.entry))) }
     ensures lent { IfSome result (λ r. (source : List ℕ) (from to : ℕ) →
@@ -460,9 +471,9 @@ fn reading_behind<'a>(letter: &[u8], rest: Field<'a>) -> Result<Record<'a>, Batc
     requires placed { IsPlaced (lent rest) }
     requires letter { is_same letter.now (codes "X") ≡ false }
     ensures ok { IfOk result (λ r.
-        record_in (letter.now ∷ texts_of (parts_at 124 (lent rest.entry))) ≡ Ok (record_of r)) }
+        record_in B1 (letter.now ∷ texts_of (parts_at 124 (lent rest.entry))) ≡ Ok (record_of r)) }
     ensures err { IfErr result (λ e.
-        record_in (letter.now ∷ texts_of (parts_at 124 (lent rest.entry))) ≡ Err e) }
+        record_in B1 (letter.now ∷ texts_of (parts_at 124 (lent rest.entry))) ≡ Err e) }
     ensures places { IfOk result (λ r. (letter : LentText) →
         record_texts r ≡ lent_fields (letter ∷ parts_at 124 (lent rest.entry))) }
     // What it lends is lent by the parts.
@@ -476,15 +487,64 @@ fn reading_behind<'a>(letter: &[u8], rest: Field<'a>) -> Result<Record<'a>, Batc
     }
 }
 
-/// The record that the line at this span is, or the rule that its first bad field breaks.
-pub fn read_record<'a>(source: &'a [u8], span: Span) -> Result<Record<'a>, BatchCode>
+/// The record with that region, where it is a reading, or the rule that the region breaks.
+fn in_region<'a>(what: &Record<'a>, region: Field<'a>) -> Result<Record<'a>, BatchCode>
+    ensures { MatchResult result
+        (λ r. (text_step region.entry.text.now ≡ Ok tt) × (r ≡ in_region region.entry what.now))
+        (λ e. text_step region.entry.text.now ≡ Err e) }
+{
+    check_text(region.text)?;
+    match what {
+        Record::Reading(reading) => Ok(Record::Reading(Reading {
+            region: Some(region),
+            ..*reading
+        })),
+        Record::Amend { seq, index, value } => Ok(Record::Amend {
+            seq: *seq,
+            index: *index,
+            value: *value,
+        }),
+    }
+}
+
+/// The record of a reading's line in format B2, from what stands behind its letter: what stands before the last bar is
+/// read as in format B1, and behind it stands the region.
+fn reading_in_region<'a>(letter: &[u8], rest: Field<'a>) -> Result<Record<'a>, BatchCode>
+    requires placed { IsPlaced (lent rest) }
+    requires letter { is_same letter.now (codes "X") ≡ false }
+    ensures ok { IfOk result (λ r.
+        record_in B2 (letter.now ∷ texts_of (parts_at 124 (lent rest.entry))) ≡ Ok (record_of r)) }
+    ensures err { IfErr result (λ e.
+        record_in B2 (letter.now ∷ texts_of (parts_at 124 (lent rest.entry))) ≡ Err e) }
+    ensures places { IfOk result (λ r. (letter : LentText) →
+        record_texts r ≡ lent_fields (letter ∷ parts_at 124 (lent rest.entry))) }
+    // What it lends is lent by the parts.
+    ensures lent { IfOk result (λ r. (source : List ℕ) (from to : ℕ) →
+        AreLentApart source from to (parts_at 124 (lent rest.entry))
+        → AreLentApart source from to (record_texts r)) }
+{
+    let Some((front, region)) = split_at_last(rest, b'|') else {
+        return Err(BatchCode::Fields);
+    };
+    match reading_behind(letter, front) {
+        Ok(record) => in_region(&record, region),
+        Err(code) => Err(code),
+    }
+}
+
+/// The record that the line at this span is in a batch of that format, or the rule that its first bad field breaks.
+pub fn read_record<'a>(
+    version: Version,
+    source: &'a [u8],
+    span: Span,
+) -> Result<Record<'a>, BatchCode>
     requires ordered { span.from ≤ span.to }
     requires within { span.to ≤ length source.now }
     requires short { length source.now ≤ 65536 }
     ensures ok { IfOk result (λ r.
-        record_in (fields_in (slice_range source.now span.from span.to)) ≡ Ok (record_of r)) }
+        record_in version (fields_in (slice_range source.now span.from span.to)) ≡ Ok (record_of r)) }
     ensures err { IfErr result (λ e.
-        record_in (fields_in (slice_range source.now span.from span.to)) ≡ Err e) }
+        record_in version (fields_in (slice_range source.now span.from span.to)) ≡ Err e) }
     ensures lent { IfOk result (IsLentRecord source.now span) }
 {
     match split_at_byte(field_at(source, span), b'|') {
@@ -492,7 +552,10 @@ pub fn read_record<'a>(source: &'a [u8], span: Span) -> Result<Record<'a>, Batch
             if is_amendment(letter.text) {
                 amendment_behind(letter.text, rest)
             } else {
-                reading_behind(letter.text, rest)
+                match version {
+                    Version::B1 => reading_behind(letter.text, rest),
+                    Version::B2 => reading_in_region(letter.text, rest),
+                }
             }
         }
         None => Err(BatchCode::Fields),

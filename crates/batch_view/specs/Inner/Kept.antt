@@ -3,6 +3,7 @@ use Rattle.std.specs.Prelude.{◌≡◌, ℕ, ◌+◌, List, length, drop, IsOk,
 use Rattle.std.specs.List.{list_all}
 use Rattle.metering_model.specs.BatchReading.{lines_in, records_in}
 use Rattle.metering_model.specs.Front.{starts_before}
+use Rattle.metering_model.specs.declared.Version.{Version}
 use Rattle.metering_model.specs.declared.BatchFault.{BatchFault}
 use Rattle.batch_view.specs.Batches.{batch_of}
 use Rattle.batch_view.specs.Kept.{AreAmendmentsOf}
@@ -21,17 +22,18 @@ abbrev pub IfFault : Unkept → (BatchFault → Type 0) → Type 0
 IfFault (Fault f) P = P f
 IfFault NoMemory P = Unit {0}
 
--- So many records were read, the first of them on line 2, and their entries are kept. The next line begins at `at`.
-pub record KeepsEntries (text : List ℕ) (count at : ℕ) (es : List Entry) : Type 0 where
-  pub good : IsOk (records_in 2 count (drop 1 (lines_in text).lines))
+-- So many records of that format were read, the first of them on line 2, and their entries are kept. The next line begins at
+-- `at`.
+pub record KeepsEntries (version : Version) (text : List ℕ) (count at : ℕ) (es : List Entry) : Type 0 where
+  pub good : IsOk (records_in version 2 count (drop 1 (lines_in text).lines))
   pub behind : IsBehindLines text (count + 1) at
-  pub each : AreEntries text es
+  pub each : AreEntries version text es
   pub many : length es ≡ count
 
 -- The bytes are a batch of this head, and each record has its entry.
 pub record KeepsBatch (bytes : List ℕ) (h : Head) (es : List Entry) : Type 0 where
   pub head : IsHeadOf bytes h
-  pub entries : AreAllEntries bytes es
+  pub entries : AreAllEntries h.version bytes es
 
 -- whether the latest start, if there is one, is before that moment
 abbrev pub is_before : ℤ → Option ℤ → Bool

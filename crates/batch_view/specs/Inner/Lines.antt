@@ -1,6 +1,7 @@
 -- Where reading stands in a text: at its front, or right behind a line feed.
 use Rattle.std.specs.Prelude.{◌≡◌, ℕ, ◌+◌, ◌<◌, ◌≤◌, List, [], ◌∷◌, length, drop, slice_range, Result, Ok, Err}
 use Rattle.metering_model.specs.Batch.{Record}
+use Rattle.metering_model.specs.declared.Version.{Version}
 use Rattle.metering_model.specs.declared.BatchCode.{BatchCode}
 use Rattle.metering_model.specs.declared.BatchCode.TheVariants.{Count}
 use Rattle.metering_model.specs.BatchReading.{HeadLine, Lines, lines_in, with_line, fields_in, record_in, head_in, batch_in}
@@ -32,21 +33,21 @@ pub record IsBehindLines (text : List ℕ) (count at : ℕ) : Type 0 where
   pub rest : (lines_from text at).rest ≡ (lines_in text).rest
   pub spans : line_spans at (drop count (lines_in text).lines) ≡ drop count (line_spans 0 (lines_in text).lines)
 
--- the record that the first of these lines is, or what is wrong with it
-abbrev pub first_record : List (List ℕ) → Result Record BatchCode
-first_record [] = Err Count
-first_record (l ∷ ls) = record_in (fields_in l)
+-- the record that the first of these lines is in a batch of that format, or what is wrong with it
+abbrev pub first_record : Version → List (List ℕ) → Result Record BatchCode
+first_record version [] = Err Count
+first_record version (l ∷ ls) = record_in version (fields_in l)
 
 -- What stands there is a line, and a record is lent from it. The next line begins at `next`.
-pub record LendsRecord (text : List ℕ) (from : ℕ) (r : LentRecord) (next : ℕ) : Type 0 where
+pub record LendsRecord (version : Version) (text : List ℕ) (from : ℕ) (r : LentRecord) (next : ℕ) : Type 0 where
   pub span : Span
   pub is_line : IsFirstLine text from span
   pub behind : next ≡ span.to + 1
-  pub record_is : record_in (fields_in (slice_range text span.from span.to)) ≡ Ok (record_of r)
+  pub record_is : record_in version (fields_in (slice_range text span.from span.to)) ≡ Ok (record_of r)
   pub lent : IsLentRecord text span r
 
 abbrev pub head_line : Head → HeadLine
-head_line h = record { agent = h.agent; seq = h.seq; count = h.count }
+head_line h = record { version = h.version; agent = h.agent; seq = h.seq; count = h.count }
 
 -- The first line of the text is this head.
 pub record BeginsWithHead (text : List ℕ) (h : Head) : Type 0 where
@@ -55,10 +56,11 @@ pub record BeginsWithHead (text : List ℕ) (h : Head) : Type 0 where
   pub head : head_in (fields_in head_text) ≡ Ok (head_line h)
   pub behind : IsBehindLines text 1 h.records_from
 
--- The bytes are a batch, and these are the numbers of its head.
+-- The bytes are a batch, and these are the format and the numbers of its head.
 pub record IsHeadOf (bytes : List ℕ) (h : Head) : Type 0 where
   pub short : length bytes ≤ 65_536
   pub batch : batch_in bytes ≡ Ok (batch_of bytes)
+  pub version : h.version ≡ (batch_of bytes).version
   pub agent : h.agent ≡ (batch_of bytes).agent
   pub seq : h.seq ≡ (batch_of bytes).seq
   pub count : h.count ≡ length (batch_of bytes).records

@@ -1,16 +1,17 @@
 -- The fields of a line behind its letter.
-use Rattle.std.specs.Prelude.{ℕ, List, [], ◌∷◌, is_some, IsTrue, Result}
-use Rattle.std.specs.List.{flat_map}
+use Rattle.std.specs.Prelude.{ℕ, List, [], ◌∷◌, Some, None, is_some, IsTrue, Result}
 use Rattle.metering_model.specs.declared.BatchCode.{BatchCode}
 use Rattle.metering_model.specs.Batch as model
 use Rattle.metering_model.specs.Batch.{is_text}
 use Rattle.metering_model.specs.Dates.{stamp_in}
+use Rattle.record_view.specs.declared.fields.Field.{Field}
+use Rattle.record_view.specs.declared.records.Record as lent_record
 use Rattle.record_view.specs.declared.records.ReadingFields.{ReadingFields}
 use Rattle.record_view.specs.declared.records.AmendmentFields.{AmendmentFields}
 use Rattle.record_view.specs.Parts.{LentText, lent}
 use Rattle.record_view.specs.Inner.Placed.{IsPlaced}
 use Rattle.record_view.specs.TagTexts.{tags_at}
-use Rattle.record_view.specs.Lent.{tag_texts}
+use Rattle.record_view.specs.Lent.{lent_texts}
 use Rattle.record_view.specs.Inner.TagParts.{are_tags}
 use Rattle.record_view.specs.Inner.RecordSteps.{reading_in, amendment_in}
 
@@ -24,8 +25,8 @@ amendment_parts f = lent f.seq ∷ lent f.index ∷ lent f.value ∷ []
 -- what the reading of these fields lends
 abbrev pub field_texts : ReadingFields → List LentText
 field_texts f =
-    lent f.start ∷ lent f.end ∷ lent f.account ∷ lent f.resource ∷ lent f.key ∷ lent f.commitment
-    ∷ flat_map tag_texts (tags_at (lent f.tags))
+    lent_texts (lent f.start) (lent f.end) (lent f.account) (lent f.resource) (lent f.key) (lent f.commitment)
+    (tags_at (lent f.tags)) None
 
 abbrev pub record_of_reading : List ℕ → ReadingFields → Result model.Record BatchCode
 record_of_reading letter f =
@@ -34,6 +35,11 @@ record_of_reading letter f =
 
 abbrev pub record_of_amendment : AmendmentFields → Result model.Record BatchCode
 record_of_amendment f = amendment_in f.seq.text.now f.index.text.now f.value.text.now
+
+-- the record with that region, where it is a reading
+abbrev pub in_region : Field → lent_record.Record → lent_record.Record
+in_region f (lent_record.TheVariants.Reading r) = lent_record.TheVariants.Reading (record r { region = Some f })
+in_region f (lent_record.TheVariants.Amend seq index value) = lent_record.TheVariants.Amend seq index value
 
 -- both stamps are stamps
 abbrev pub HaveStamps : ReadingFields → Type 0

@@ -1,5 +1,5 @@
 -- Reading a record step by step: each field's rule, and the fault of the first field that breaks its own.
-use Rattle.std.specs.Prelude.{ℕ, not, ◌&&◌, ◌||◌, List, Result, Ok, ok_or, ℤ, pos, int_lt, int_le}
+use Rattle.std.specs.Prelude.{ℕ, not, ◌&&◌, ◌||◌, List, None, Result, Ok, ok_or, ℤ, pos, int_lt, int_le}
 use Rattle.std.specs.Result.{result_ok}
 use Rattle.metering_model.specs.FirstFailure.{◌>>=◌, holds_or}
 use Rattle.metering_model.specs.NumberText.{value_in}
@@ -40,7 +40,7 @@ tags_step t = ok_or (tags_in t) Tags
 unfoldable pub whole_step : ℕ → ℕ → List ℕ → Result ℕ BatchCode
 whole_step low high t = ok_or (whole_in low high t) Number
 
--- the record of a reading's nine fields
+-- the record of a reading's nine fields, which tell no region
 unfoldable pub reading_in : (letter start end account resource key value commitment tags : List ℕ) → Result Record BatchCode
 reading_in letter start end account resource key value commitment tags = do
   k ← kind_step letter
@@ -66,6 +66,7 @@ reading_in letter start end account resource key value commitment tags = do
     value = v;
     commitment = commitment;
     tags = ts;
+    region = None;
   }))
 
 -- the record of an amendment's fields behind its letter

@@ -6,6 +6,6 @@ use Rattle.batch_view.proofs.batch.check_records.Given as goal
 -- The records so far are well, and `at` stands behind them.
 abbrev pub invariant-loop-index : goal.invariant-loop-index
 invariant-loop-index l = record {
-  so_far : IsOk (records_in 2 l.index (drop 1 (lines_in l.text).lines));
+  so_far : IsOk (records_in l.version 2 l.index (drop 1 (lines_in l.text).lines));
   behind : IsBehindLines l.text (l.index + 1) l.at;
 }

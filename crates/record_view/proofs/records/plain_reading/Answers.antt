@@ -1,9 +1,8 @@
 -- The steps that the plain fields have met already, and those that were taken here.
-use Rattle.std.proofs.Common.{◌∷◌, Some, map, ◌∙◌, sym, ap}
-use Rattle.std.specs.List.{flat_map}
+use Rattle.std.proofs.Common.{Some, None, map, ◌∙◌, sym, ap}
 use Rattle.record_view.specs.Parts.{lent}
 use Rattle.record_view.specs.TagTexts.{tag_of}
-use Rattle.record_view.specs.Lent.{tag_texts}
+use Rattle.record_view.specs.Lent.{lent_texts}
 use Rattle.record_view.proofs.TagLaws.{tags_read}
 use Rattle.record_view.proofs.RecordLaws.{all_steps, stamp_met, text_met, tags_met}
 use Rattle.record_view.proofs.records.plain_reading.Goals as goal
@@ -22,4 +21,4 @@ returns-clause-ok c =
 pub returns-clause-lent : goal.returns-clause-lent
 returns-clause-lent c =
     let f = c.args.plain.now in
-    ap (λ ts. lent f.start ∷ lent f.end ∷ lent f.account ∷ lent f.resource ∷ lent f.key ∷ lent f.commitment ∷ flat_map tag_texts ts) c.known-tags.ensures
+    ap (λ ts. lent_texts (lent f.start) (lent f.end) (lent f.account) (lent f.resource) (lent f.key) (lent f.commitment) ts None) c.known-tags.ensures

@@ -1,8 +1,7 @@
 -- Where each field meets its rule, the reading is that of its fields, and lends them.
-use Rattle.std.proofs.Common.{◌∷◌, sym, ap}
-use Rattle.std.specs.List.{flat_map}
+use Rattle.std.proofs.Common.{None, sym, ap}
 use Rattle.record_view.specs.Parts.{lent}
-use Rattle.record_view.specs.Lent.{tag_texts}
+use Rattle.record_view.specs.Lent.{lent_texts}
 use Rattle.record_view.proofs.RecordLaws.{all_steps}
 use Rattle.record_view.proofs.records.read_reading.Goals as goal
 
@@ -15,4 +14,4 @@ returns-clause-ok c =
 pub returns-clause-lent : goal.returns-clause-lent
 returns-clause-lent c =
     let f = c.args.fields.now in
-    ap (λ ts. lent f.start ∷ lent f.end ∷ lent f.account ∷ lent f.resource ∷ lent f.key ∷ lent f.commitment ∷ flat_map tag_texts ts) c.in_ok-tags.ensures.lent
+    ap (λ ts. lent_texts (lent f.start) (lent f.end) (lent f.account) (lent f.resource) (lent f.key) (lent f.commitment) ts None) c.in_ok-tags.ensures.lent

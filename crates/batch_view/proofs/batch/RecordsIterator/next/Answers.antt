@@ -19,10 +19,10 @@ module _ (bytes : List ℕ) (h : Head) (kept : Option (Bor (List Entry))) (index
   behind : IsBehindLines bytes (index + 1) at
   behind = subst (λ k. MatchOption k (IsBehindLines bytes (index + 1) at) (λ es. Unit {0})) none walk.behind
 
-  read : (r : LentRecord) (next : ℕ) → LendsRecord bytes at r next → IsRecordOf bytes index r next
-  read r next lends = record_read bytes index at r next walk.view.head.short walk.view.head.batch within behind lends
+  read : (r : LentRecord) (next : ℕ) → LendsRecord h.version bytes at r next → IsRecordOf bytes index r next
+  read r next lends = record_read h.version bytes index at r next walk.view.head.version walk.view.head.short walk.view.head.batch within behind lends
 
-  walks_on : (r : LentRecord) (next : ℕ) → LendsRecord bytes at r next → IsWalk bytes h kept (index + 1) next
+  walks_on : (r : LentRecord) (next : ℕ) → LendsRecord h.version bytes at r next → IsWalk bytes h kept (index + 1) next
   walks_on r next lends =
       let two : index + 2 ≡ index + 1 + 1 = omega arith in
       record {
@@ -57,4 +57,4 @@ returns-in-Err-clause-steps c =
     let head = c.self.invariant.view.head in
     let within : c.self.inside.index < length (batch_of c.self.inside.bytes.now).records = omega (arith, head.count, c.self.invariant.within) in
     let behind = behind c.self.inside.bytes.now c.self.inside.head c.self.inside.kept c.self.inside.index c.self.inside.at c.self.invariant c.if-self-end.false c.in_default.is in
-    absurd (never_fails c.self.inside.bytes.now c.self.inside.index c.self.inside.at c.in-Err.field-0 head.short head.batch within behind c.in-Err.ensures)
+    absurd (never_fails c.self.inside.head.version c.self.inside.bytes.now c.self.inside.index c.self.inside.at c.in-Err.field-0 head.version head.short head.batch within behind c.in-Err.ensures)
