@@ -7,14 +7,14 @@ use Rattle.std.proofs.lemmas.List.Elements.{All-nil, All-push}
 use Rattle.std.proofs.lemmas.List.Folds.{list_any-append}
 use Rattle.toml.specs.Data.{Members}
 use Rattle.metering_model.specs.BatchReading.{is_same}
-use Rattle.metering_model.specs.Sheet.{PriceRow, Commitment, Sheet}
-use Rattle.metering_model.specs.SheetRules.{IsPriceRow, IsCommitment, IsSheet, are_apart, has_same_key, has_same_id}
+use Rattle.metering_model.specs.Sheet.{PriceRow, Commitment, Region, Sheet}
+use Rattle.metering_model.specs.SheetRules.{IsPriceRow, IsCommitment, IsRegion, IsSheet, are_apart, has_same_key, has_same_id, has_same_region}
 use Rattle.metering_model.proofs.StepLaws.{step_ok, step_iff, ok_same}
 use Rattle.sheet_text.specs.declared.keys.KeyFault.{KeyFault}
-use Rattle.price_sheet.specs.SheetReading.{at_place, next_price, next_commitment, prices_in, commitments_in, prices_sku, sheet_of_rows, sheet_in}
+use Rattle.price_sheet.specs.SheetReading.{at_place, next_price, next_commitment, next_region, prices_in, commitments_in, regions_in, prices_sku, sheet_of_rows, sheet_in}
 use Rattle.sheet_text.specs.declared.faults.Place.{Place}
 use Rattle.sheet_text.proofs.KeyLaws.{holds_true, base_is_read, few_under}
-use Rattle.sheet_text.proofs.RowLaws.{price_row_read, commitment_read}
+use Rattle.sheet_text.proofs.RowLaws.{price_row_read, commitment_read, region_read}
 
 placed_ok : {A : Type 0} (place : Place) (r : Result A KeyFault) (x : A) → at_place place r ≡ Ok x → r ≡ Ok x
 placed_ok place (Ok y) x h = cc
@@ -100,6 +100,30 @@ commitments_read prices rows (table ∷ tables) all are h =
     let rest = commitments_read prices (rows ++ step.0 ∷ []) tables all (one_more_commitment prices rows table step.0 are step.1) step.2 in
     (rest.0, omega (arith, rest.1, one_behind rows step.0))
 
+-- ---- the regions
+
+record AreRegions (regions : List Region) : Type 0 where
+  pub rows : All IsRegion regions
+  pub apart : are_apart has_same_region regions ≡ true
+
+one_more_region : (rows : List Region) (table : Members) (row : Region) → AreRegions rows → next_region rows table ≡ Ok row → AreRegions (rows ++ row ∷ [])
+unfolding next_region
+one_more_region rows table row are h =
+    let read = simp step_iff at h in
+    let same = ok_same read.0 row read.2.2 in
+    let new = not_false (list_any (has_same_region read.0) rows) (holds_true _ _ _ read.2.1) in
+    subst (λ r. AreRegions (rows ++ r ∷ [])) same (record {
+      rows = All-push IsRegion rows read.0 are.rows (region_read table read.0 (placed_ok _ _ read.0 read.1));
+      apart = apart_push has_same_region (λ x y. same_comm x.id y.id) rows read.0 are.apart new;
+    })
+
+regions_read : (rows : List Region) (tables : List Members) (all : List Region) → AreRegions rows → regions_in rows tables ≡ Ok all → AreRegions all × (length all ≡ length rows + length tables)
+regions_read rows [] all are h = subst (λ r. AreRegions r × (length r ≡ length rows + 0)) (ok_same rows all h) (are, omega arith)
+regions_read rows (table ∷ tables) all are h =
+    let step = step_ok (next_region rows table) _ all h in
+    let rest = regions_read (rows ++ step.0 ∷ []) tables all (one_more_region rows table step.0 are step.1) step.2 in
+    (rest.0, omega (arith, rest.1, one_behind rows step.0))
+
 -- ---- the sheet
 
 pub sheet_read : (table : Members) (sheet : Sheet) → sheet_in table ≡ Ok sheet → IsSheet sheet
@@ -108,13 +132,17 @@ sheet_read table sheet h =
     let base = simp step_iff at h in
     let price_tables = base.2 in
     let commitment_tables = price_tables.2 in
-    let prices = commitment_tables.2 in
+    let region_tables = commitment_tables.2 in
+    let prices = region_tables.2 in
     let commitments = prices.2 in
+    let regions = commitments.2 in
     let rows = prices_read [] price_tables.0 prices.0 (record { rows = All-nil IsPriceRow; apart = refl }) prices.1 in
     let bought = commitments_read prices.0 [] commitment_tables.0 commitments.0 (record { rows = All-nil IsCommitment; apart = refl; priced = All-nil (λ c. (prices_sku prices.0 c.sku && prices_sku prices.0 c.buy) ≡ true) }) commitments.1 in
+    let named = regions_read [] region_tables.0 regions.0 (record { rows = All-nil IsRegion; apart = refl }) regions.1 in
     let few_prices = few_under (codes "price") table price_tables.0 (placed_ok _ _ _ price_tables.1) in
     let few_commitments = few_under (codes "commitment") table commitment_tables.0 (placed_ok _ _ _ commitment_tables.1) in
-    subst IsSheet (ok_same _ sheet commitments.2) (record {
+    let few_regions = few_under (codes "region") table region_tables.0 (placed_ok _ _ _ region_tables.1) in
+    subst IsSheet (ok_same _ sheet regions.2) (record {
       base = base_is_read (codes "base") table base.0 (placed_ok _ _ _ base.1);
       prices = rows.0.rows;
       price_count = omega (arith, rows.1, few_prices);
@@ -123,4 +151,7 @@ sheet_read table sheet h =
       commitment_count = omega (arith, bought.1, few_commitments);
       one_id = bought.0.apart;
       priced = bought.0.priced;
+      regions = named.0.rows;
+      region_count = omega (arith, named.1, few_regions);
+      one_region = named.0.apart;
     })

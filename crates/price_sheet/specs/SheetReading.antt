@@ -5,8 +5,8 @@ use Rattle.toml.specs.Data.{Members}
 use Rattle.toml.specs.Parse.{parse_document}
 use Rattle.metering_model.specs.FirstFailure.{◌>>=◌, holds_or}
 use Rattle.metering_model.specs.BatchReading.{is_same}
-use Rattle.metering_model.specs.Sheet.{PriceRow, Commitment, Sheet}
-use Rattle.metering_model.specs.SheetRules.{has_same_key, has_same_id}
+use Rattle.metering_model.specs.Sheet.{PriceRow, Commitment, Region, Sheet}
+use Rattle.metering_model.specs.SheetRules.{has_same_key, has_same_id, has_same_region}
 use Rattle.sheet_text.specs.declared.faults.Place.{Place}
 use Rattle.sheet_text.specs.declared.faults.Place.TheVariants as places
 use Rattle.sheet_text.specs.declared.faults.SheetFault.{SheetFault}
@@ -14,7 +14,7 @@ use Rattle.sheet_text.specs.declared.faults.SheetFault.TheVariants as faults
 use Rattle.sheet_text.specs.declared.keys.KeyFault.TheVariants as key_faults
 use Rattle.sheet_text.specs.Keys.{base_under, rows_under}
 use Rattle.sheet_text.specs.declared.keys.KeyFault.{KeyFault}
-use Rattle.sheet_text.specs.RowReading.{price_row_in, commitment_in}
+use Rattle.sheet_text.specs.RowReading.{price_row_in, commitment_in, region_in}
 
 -- the fault of a key, told of the place of its table
 abbrev pub fault_at : Place → KeyFault → SheetFault
@@ -32,6 +32,9 @@ price_place rows = places.Price (length rows + 1)
 
 abbrev pub commitment_place : List Commitment → Place
 commitment_place rows = places.Commitment (length rows + 1)
+
+abbrev pub region_place : List Region → Place
+region_place rows = places.Region (length rows + 1)
 
 -- what was read of one more table: a row that has not both SKU and day of an earlier one, or a fault
 abbrev pub placed_price : List PriceRow → Result PriceRow KeyFault → Result PriceRow SheetFault
@@ -60,6 +63,17 @@ placed_commitment prices rows read = do
 unfoldable pub next_commitment : List PriceRow → List Commitment → Members → Result Commitment SheetFault
 next_commitment prices rows table = placed_commitment prices rows (commitment_in table)
 
+-- what was read of one more table: a region whose id no earlier one has, or a fault
+abbrev pub placed_region : List Region → Result Region KeyFault → Result Region SheetFault
+placed_region rows read = do
+  row ← at_place (region_place rows) read
+  _ ← holds_or (not (list_any (has_same_region row) rows)) (faults.Duplicate (region_place rows))
+  Ok row
+
+-- the region of one more table
+unfoldable pub next_region : List Region → Members → Result Region SheetFault
+next_region rows table = placed_region rows (region_in table)
+
 -- the rows that were read, and behind them those of the tables
 abbrev pub prices_in : List PriceRow → List Members → Result (List PriceRow) SheetFault
 prices_in rows [] = Ok rows
@@ -73,15 +87,22 @@ commitments_in prices rows (table ∷ tables) = do
   row ← next_commitment prices rows table
   commitments_in prices (rows ++ row ∷ []) tables
 
-abbrev pub empty_sheet : ℕ → Sheet
-empty_sheet base = record { base = base; prices = []; commitments = [] }
+abbrev pub regions_in : List Region → List Members → Result (List Region) SheetFault
+regions_in rows [] = Ok rows
+regions_in rows (table ∷ tables) = do
+  row ← next_region rows table
+  regions_in (rows ++ row ∷ []) tables
 
--- the sheet of the rows that these tables are: first the prices in order, then the commitments
-unfoldable pub sheet_of_rows : ℕ → List Members → List Members → Result Sheet SheetFault
-sheet_of_rows base price_tables commitment_tables = do
+abbrev pub empty_sheet : ℕ → Sheet
+empty_sheet base = record { base = base; prices = []; commitments = []; regions = [] }
+
+-- the sheet of the rows that these tables are: first the prices in order, then the commitments, then the regions
+unfoldable pub sheet_of_rows : ℕ → List Members → List Members → List Members → Result Sheet SheetFault
+sheet_of_rows base price_tables commitment_tables region_tables = do
   prices ← prices_in [] price_tables
   commitments ← commitments_in prices [] commitment_tables
-  Ok (record { base = base; prices = prices; commitments = commitments })
+  regions ← regions_in [] region_tables
+  Ok (record { base = base; prices = prices; commitments = commitments; regions = regions })
 
 -- the sheet that a table is: first what stands at the top, then the rows
 unfoldable pub sheet_in : Members → Result Sheet SheetFault
@@ -89,7 +110,8 @@ sheet_in table = do
   base ← at_place places.Top (base_under (codes "base") table)
   price_tables ← at_place places.Top (rows_under (codes "price") table)
   commitment_tables ← at_place places.Top (rows_under (codes "commitment") table)
-  sheet_of_rows base price_tables commitment_tables
+  region_tables ← at_place places.Top (rows_under (codes "region") table)
+  sheet_of_rows base price_tables commitment_tables region_tables
 
 abbrev pub sheet_of_document : Option Members → Result Sheet SheetFault
 sheet_of_document None = Err faults.NotToml

@@ -9,7 +9,7 @@ ghost use Rattle.metering_model.specs.SheetRules.{has_same_id};
 ghost use Rattle.price_sheet.specs.SheetReading.{next_commitment, placed_commitment, commitments_in};
 ghost use Rattle.price_sheet.specs.Inner.Places.{found_at, IndexesIds};
 
-use crate::places::fault_at;
+use crate::places::{fault_at, put_place, row_placed};
 use crate::price_table::PriceTable;
 use indexmap::IndexMap;
 use sheet_text::{Commitment, KeyFault, Place, SheetFault};
@@ -76,10 +76,7 @@ impl CommitmentTable {
     pub(crate) fn with_id(&self, id: &[u8]) -> Option<&Commitment>
         ensures { option_copied result ≡ find (λ c. is_same c.id id.now) self.now }
     {
-        match self.places.get(id) {
-            Some(place) => self.rows.get(*place as usize),
-            None => None,
-        }
+        row_placed(&self.rows, &self.places, id)
     }
 
     /// Whether the commitments are the same, in the same order.
@@ -102,9 +99,7 @@ fn add_place(
     requires new { list_any (has_same_id row.now) rows.now ≡ false }
     ensures { OnOk result (IndexesIds (rows.now ++ row.now ∷ []) places.new.entries) }
 {
-    let id = Vec::from_slice(alloc, row.id().as_bytes())?;
-    places.insert(id, rows.len() as u16)?;
-    Ok(())
+    put_place(alloc, places, row.id().as_bytes(), rows.len() as u16)
 }
 
 /// Whether an earlier commitment has the id of this one.

@@ -5,11 +5,12 @@ mod commitment_table;
 mod places;
 mod price_index;
 mod price_table;
+mod region_table;
 mod sheets;
 mod starts;
 
 pub use sheet_text::{
-    Commitment, CommitmentCategory, Issuer, IssuerFault, Place, PriceRow, ServiceCategory,
+    Commitment, CommitmentCategory, Issuer, IssuerFault, Place, PriceRow, Region, ServiceCategory,
     SheetFault,
 };
 pub use sheets::Sheet;

@@ -6,24 +6,26 @@ ghost use Rattle.toml.specs.View.{table_view};
 ghost use Rattle.toml.specs.Errors.{IsBlank};
 ghost use Rattle.metering_model.specs.Dates.{IsBaseMonth};
 ghost use Rattle.metering_model.specs.SheetRules.{IsSheet};
-ghost use Rattle.metering_model.specs.PriceInForce.{price_in_force, commitment_with};
+ghost use Rattle.metering_model.specs.PriceInForce.{price_in_force, commitment_with, region_named};
 ghost use Rattle.sheet_text.specs.Keys.{base_under};
-ghost use Rattle.price_sheet.specs.SheetReading.{prices_in, commitments_in, empty_sheet, sheet_of_rows, sheet_in, sheet_of_text};
+ghost use Rattle.price_sheet.specs.SheetReading.{prices_in, commitments_in, regions_in, empty_sheet, sheet_of_rows, sheet_in, sheet_of_text};
 
 use crate::commitment_table::CommitmentTable;
 use crate::places::fault_at;
 use crate::price_table::PriceTable;
+use crate::region_table::RegionTable;
 use sheet_text::{Commitment, Day, Month, Place, PriceRow, SheetFault, base_under, rows_under};
 use std::alloc::{AllocError, Global};
 use std::marker::Model;
 use toml::Table;
 
-/// Prices and commitments, in the order of the sheet, and the month that period 0 bills.
+/// Prices, commitments and regions, in the order of the sheet, and the month that period 0 bills.
 #[derive(Drop)]
 pub struct Sheet {
     base: Month,
     prices: PriceTable,
     commitments: CommitmentTable,
+    regions: RegionTable,
 }
 
 impl Model for Sheet {
@@ -36,6 +38,7 @@ impl Model for Sheet {
       base = s.base;
       prices = s.prices;
       commitments = s.commitments;
+      regions = s.regions;
     } };
 
     ghost invariant = { λ s. IsBaseMonth s.base };
@@ -72,6 +75,7 @@ impl Sheet {
             base,
             prices: PriceTable::new(alloc),
             commitments: CommitmentTable::new(alloc),
+            regions: RegionTable::new(alloc),
         })
     }
 
@@ -94,31 +98,45 @@ impl Sheet {
             Ok(tables) => tables,
             Err(fault) => return Err(fault_at(Place::Top, fault)),
         };
-        Sheet::of_rows(alloc, base, &price_tables, &commitment_tables)
+        let region_tables = match rows_under(alloc, table, "region") {
+            Ok(tables) => tables,
+            Err(fault) => return Err(fault_at(Place::Top, fault)),
+        };
+        Sheet::of_rows(
+            alloc,
+            base,
+            &price_tables,
+            &commitment_tables,
+            &region_tables,
+        )
     }
 
-    /// Reads the rows of a sheet: the prices, and then the commitments.
+    /// Reads the rows of a sheet: the prices, then the commitments, and then the regions.
     #[tactic(auto, unfolding(crate::specs::SheetReading::sheet_of_rows))]
     fn of_rows(
         alloc: Global,
         base: Month,
         price_tables: &[&Table],
         commitment_tables: &[&Table],
+        region_tables: &[&Table],
     ) -> Result<Sheet, SheetFault>
         requires base { IsBaseMonth base }
-        requires few { (length price_tables.now ≤ 10_000) × (length commitment_tables.now ≤ 10_000) }
+        requires few { (length price_tables.now ≤ 10_000) × (length commitment_tables.now ≤ 10_000)
+            × (length region_tables.now ≤ 10_000) }
         ensures taken { IfOk result (λ sheet. sheet_of_rows base (map (λ t. table_view t.now) price_tables.now)
-            (map (λ t. table_view t.now) commitment_tables.now) ≡ Ok sheet) }
+            (map (λ t. table_view t.now) commitment_tables.now) (map (λ t. table_view t.now) region_tables.now) ≡ Ok sheet) }
         ensures refused { IfErr result (λ fault. fault ≢ SheetFault.OutOfMemory
             → sheet_of_rows base (map (λ t. table_view t.now) price_tables.now)
-            (map (λ t. table_view t.now) commitment_tables.now) ≡ Err fault) }
+            (map (λ t. table_view t.now) commitment_tables.now) (map (λ t. table_view t.now) region_tables.now) ≡ Err fault) }
     {
         let prices = PriceTable::read(alloc, price_tables)?;
         let commitments = CommitmentTable::read(alloc, &prices, commitment_tables)?;
+        let regions = RegionTable::read(alloc, region_tables)?;
         Ok(Sheet {
             base,
             prices,
             commitments,
+            regions,
         })
     }
 
@@ -136,6 +154,16 @@ impl Sheet {
         self.commitments.with_id(id)
     }
 
+    /// The name of the region with an id. No memory is taken.
+    pub fn region(&self, id: &[u8]) -> Option<&[u8]>
+        ensures { option_copied result ≡ region_named self.now id.now }
+    {
+        match self.regions.with_id(id) {
+            Some(region) => Some(region.name().as_bytes()),
+            None => None,
+        }
+    }
+
     /// The month that period 0 bills, from 2000-01 to 2100-12.
     pub fn base_month(&self) -> Month
         ensures value { result ≡ self.now.base }
@@ -151,5 +179,6 @@ impl Sheet {
         self.base == other.base
             && self.prices.same(&other.prices)
             && self.commitments.same(&other.commitments)
+            && self.regions.same(&other.regions)
     }
 }

@@ -1,12 +1,12 @@
 -- What is read of a table of the sheet, and of an issuer, meets the rules.
 use Rattle.std.proofs.Common.{◌≡◌, ℕ, true, List, Result, Ok, codes, subst}
 use Rattle.toml.specs.Data.{Members}
-use Rattle.metering_model.specs.Sheet.{PriceRow, Commitment, Issuer}
-use Rattle.metering_model.specs.SheetRules.{IsPriceRow, IsCommitment, IsIssuer}
+use Rattle.metering_model.specs.Sheet.{PriceRow, Commitment, Region, Issuer}
+use Rattle.metering_model.specs.SheetRules.{IsPriceRow, IsCommitment, IsRegion, IsIssuer}
 use Rattle.metering_model.specs.FirstFailure.{◌>>=◌}
 use Rattle.metering_model.proofs.StepLaws.{step_ok, step_iff, ok_same}
 use Rattle.sheet_text.specs.Keys.{service_category_under}
-use Rattle.sheet_text.specs.RowReading.{price_row_in, commitment_in}
+use Rattle.sheet_text.specs.RowReading.{price_row_in, commitment_in, region_in}
 use Rattle.sheet_text.specs.IssuerReading.{currency_under, is_currency, issuer_in}
 use Rattle.sheet_text.proofs.KeyLaws.{holds_true, label_read, day_is_read, price_is_read, per_is_read}
 
@@ -58,6 +58,16 @@ commitment_read table row h =
       buy = label_read (codes "buy") table buy.0 buy.1;
       kind = label_read (codes "type") table kind.0 kind.1;
       rate = price_is_read (codes "rate") table rate.0 rate.1;
+    })
+
+pub region_read : (table : Members) (row : Region) → region_in table ≡ Ok row → IsRegion row
+unfolding region_in
+region_read table row h =
+    let id = simp step_iff at h in
+    let name = id.2 in
+    subst IsRegion (ok_same _ row name.2) (record {
+      id = label_read (codes "id") table id.0 id.1;
+      name = label_read (codes "name") table name.0 name.1;
     })
 
 currency_read : (key : List ℕ) (table : Members) (x : List ℕ) → currency_under key table ≡ Ok x → is_currency x ≡ true

@@ -2,7 +2,7 @@
 use Rattle.std.specs.Prelude.{Result, Ok, codes}
 use Rattle.toml.specs.Data.{Members}
 use Rattle.metering_model.specs.FirstFailure.{◌>>=◌}
-use Rattle.metering_model.specs.Sheet.{PriceRow, Commitment}
+use Rattle.metering_model.specs.Sheet.{PriceRow, Commitment, Region}
 use Rattle.sheet_text.specs.Keys.{KeyFault, label_under, day_under, price_under, per_under, service_category_under, commitment_category_under}
 
 -- a row of prices, key by key
@@ -42,3 +42,9 @@ commitment_in table = do
   kind ← label_under (codes "type") table
   rate ← price_under (codes "rate") table
   Ok (record { id = id; sku = sku; buy = buy; category = category; kind = kind; rate = rate })
+
+unfoldable pub region_in : Members → Result Region KeyFault
+region_in table = do
+  id ← label_under (codes "id") table
+  name ← label_under (codes "name") table
+  Ok (record { id = id; name = name })

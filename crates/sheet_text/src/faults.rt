@@ -8,6 +8,7 @@ pub enum Place {
     Top,
     Price(u16),
     Commitment(u16),
+    Region(u16),
 }
 
 /// Why a text is no price sheet: its first fault.
@@ -22,7 +23,7 @@ pub enum SheetFault {
     /// S3: a value has another type or another form than its key wants, or is out of range.
     #[error("S3")]
     BadValue(Place),
-    /// S4: an earlier price has the same SKU and the same day, or an earlier commitment the same id.
+    /// S4: an earlier price has the same SKU and the same day, or an earlier commitment or region the same id.
     #[error("S4")]
     Duplicate(Place),
     /// S5: no price has the SKU that a commitment is on, or the one that it is bought as.

@@ -6,6 +6,7 @@ mod faults;
 mod issuers;
 mod keys;
 mod prices;
+mod regions;
 
 pub use commitments::Commitment;
 pub use faults::{IssuerFault, Place, SheetFault};
@@ -14,3 +15,4 @@ pub use keys::{KeyFault, base_under, rows_under};
 pub use metering_model::{CommitmentCategory, ServiceCategory};
 pub use period_cut::{Day, Month};
 pub use prices::PriceRow;
+pub use regions::Region;

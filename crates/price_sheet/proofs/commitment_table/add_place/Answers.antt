@@ -1,7 +1,8 @@
 -- One place more.
 use Rattle.std.proofs.Common.{◌≡◌, length, subst, rules}
+use Rattle.std.proofs.lemmas.Result.{on_ok_weaker}
+use Rattle.metering_model.specs.Sheet.{Commitment}
 use Rattle.price_sheet.specs.Inner.Places.{Puts}
-use Rattle.price_sheet.proofs.PlaceLaws.{puts}
 use Rattle.price_sheet.proofs.IdLaws.{one_more_id}
 use Rattle.price_sheet.proofs.commitment_table.add_place.Goals as goal
 
@@ -9,8 +10,8 @@ pub returns : goal.returns
 returns c =
     let row = c.args.row.now in
     let place = length c.args.rows.now in
-    let old = c.args.places.now in
-    let new = c.insert.new.self in
-    let id : c.in_ok-id.id.items ≡ row.id = search rules in
-    let put : Puts c.in_ok-id.id.items place old.entries new.entries = puts old new c.in_ok-id.id.items place c.in_ok-insert.ensures.updates in
-    one_more_id c.args.rows.now row place old.entries new.entries (search rules) c.requires.new c.requires.indexed (subst (λ t. Puts t place old.entries new.entries) id put)
+    let old = c.args.places.now.entries in
+    let new = c.put_place.new.places.entries in
+    let id : c.as_bytes.result.now ≡ row.id = search rules in
+    on_ok_weaker c.put_place.result (λ (put : Puts c.as_bytes.result.now place old new).
+    one_more_id (λ (x : Commitment). x.id) c.args.rows.now row place old new (search rules) c.requires.new c.requires.indexed (subst (λ t. Puts t place old new) id put)) (search rules)
