@@ -8,6 +8,7 @@ use Rattle.std.proofs.Math.Bool.{and-true}
 use Rattle.std.proofs.lemmas.List.{get_or-replicate, length-replicate, get_or_past}
 use Rattle.std.proofs.lemmas.List.FromFn.{get_or-map-range_with_len}
 use Rattle.metering_model.specs.Batch.{Batch, Record, Reads, Amends}
+use Rattle.metering_model.specs.declared.Version.{Version}
 use Rattle.metering_model.specs.Cut.{Cut, zero_cut, last_of}
 use Rattle.metering_model.specs.Sheet.{Sheet, Issuer}
 use Rattle.metering_model.specs.Holding.{Holding, Position, Placed, placed, held, records_in_order, up_to}
@@ -21,8 +22,8 @@ use Rattle.batch_player.specs.RateInput.{rows_alone}
 use Rattle.batch_player.specs.Charges.{Metered, last_value, metered_at, metered_in}
 
 -- an agent's first batch
-abbrev pub first_batch : ℕ → List Record → Batch
-first_batch agent rs = record { agent = agent; seq = 1; records = rs }
+abbrev pub first_batch : Version → ℕ → List Record → Batch
+first_batch version agent rs = record { version = version; agent = agent; seq = 1; records = rs }
 
 -- ---- cuts
 
@@ -48,23 +49,23 @@ same_number : (n : ℕ) → (n == n) ≡ true
 same_number n = eq-eqb n n refl
 
 -- a batch that is held alone is held at its place
-held_alone : (agent : ℕ) (rs : List Record) → held (first_batch agent rs ∷ []) agent 1 ≡ Some (first_batch agent rs)
-held_alone agent rs = held-put_same [] (first_batch agent rs) IsHolding-nil
+held_alone : (version : Version) (agent : ℕ) (rs : List Record) → held (first_batch version agent rs ∷ []) agent 1 ≡ Some (first_batch version agent rs)
+held_alone version agent rs = held-put_same [] (first_batch version agent rs) IsHolding-nil
 
 -- so all of the agent can be closed up to it, where it is due
-can_close_alone : (base period agent : ℕ) (rs : List Record)
-    → can_close base period (first_batch agent rs ∷ []) agent 0 1 ≡ is_due base period (first_batch agent rs)
-can_close_alone base period agent rs =
-    ap (λ found. option_map_or (is_due base period) found false && true) (held_alone agent rs) ∙ and-true _
+can_close_alone : (version : Version) (base period agent : ℕ) (rs : List Record)
+    → can_close base period (first_batch version agent rs ∷ []) agent 0 1 ≡ is_due base period (first_batch version agent rs)
+can_close_alone version base period agent rs =
+    ap (λ found. option_map_or (is_due base period) found false && true) (held_alone version agent rs) ∙ and-true _
 
 -- and that is how far the agent can be closed
-front_alone : (base period agent : ℕ) (rs : List Record)
-    → front_of base period (first_batch agent rs ∷ []) agent 0 ≡ (if is_due base period (first_batch agent rs) then 1 else 0)
-front_alone base period agent rs =
-    let b = first_batch agent rs in
+front_alone : (version : Version) (base period agent : ℕ) (rs : List Record)
+    → front_of base period (first_batch version agent rs ∷ []) agent 0 ≡ (if is_due base period (first_batch version agent rs) then 1 else 0)
+front_alone version base period agent rs =
+    let b = first_batch version agent rs in
     let closes = can_close base period (b ∷ []) agent 0 in
     ap (λ (bs : List Batch). fold max 0 (filter closes (map (λ b. b.seq) bs))) (cond-true (agent == agent) (b ∷ []) [] (same_number agent))
-    ∙ (ap (λ t. fold max 0 (cond t (1 ∷ []) [])) (can_close_alone base period agent rs) ∙ ends (is_due base period b))
+    ∙ (ap (λ t. fold max 0 (cond t (1 ∷ []) [])) (can_close_alone version base period agent rs) ∙ ends (is_due base period b))
   where
     ends : (t : Bool) → fold max 0 (cond t (1 ∷ []) []) ≡ (if t then 1 else 0)
     ends true = refl
@@ -88,10 +89,10 @@ journal_of_all agent i (r ∷ rs) =
     ∙ ap (λ xs. record { place = place_of agent i; what = r } ∷ xs) (journal_of_all agent (i + 1) rs)
 
 -- what the journals give a reading is its last value in the batch
-pub value_alone : (agent index : ℕ) (rs : List Record)
-    → value_at (first_batch agent rs ∷ []) (place_of agent index) 1 ≡ last_value (placed_from agent 0 rs) (place_of agent index)
-value_alone agent index rs =
-    let journal : journal_until (first_batch agent rs ∷ []) agent 1 ≡ placed_from agent 0 rs =
+pub value_alone : (version : Version) (agent index : ℕ) (rs : List Record)
+    → value_at (first_batch version agent rs ∷ []) (place_of agent index) 1 ≡ last_value (placed_from agent 0 rs) (place_of agent index)
+value_alone version agent index rs =
+    let journal : journal_until (first_batch version agent rs ∷ []) agent 1 ≡ placed_from agent 0 rs =
     ap (filter (λ x. (x.place.agent == agent) && nat_le x.place.seq 1)) (append-nil (placed_from agent 0 rs)) ∙ journal_of_all agent 0 rs in
     ap (λ xs. unwrap_or (last_or None (filter_map (value_given_by (place_of agent index)) xs)) (pos 0)) journal
 
@@ -120,13 +121,13 @@ rows_from sheet issuer h period from to agent all i (Amends seq index value ∷ 
     rows_from sheet issuer h period from to agent all (i + 1) rs uncharged values
 
 -- the rows of a first batch
-rows_of_first : (sheet : Sheet) (issuer : Issuer) (agent : ℕ) (rs : List Record) (period : ℕ) → 1 ≤ agent → agent ≤ 64
-    → rows_alone sheet issuer (first_batch agent rs) period
-    ≡ (if is_due sheet.base period (first_batch agent rs) then map (row_of_metered sheet issuer period) (metered_in (first_batch agent rs)) else [])
-rows_of_first sheet issuer agent rs period from upto = by_due (is_due sheet.base period b) refl
+rows_of_first : (version : Version) (sheet : Sheet) (issuer : Issuer) (agent : ℕ) (rs : List Record) (period : ℕ) → 1 ≤ agent → agent ≤ 64
+    → rows_alone sheet issuer (first_batch version agent rs) period
+    ≡ (if is_due sheet.base period (first_batch version agent rs) then map (row_of_metered sheet issuer period) (metered_in (first_batch version agent rs)) else [])
+rows_of_first version sheet issuer agent rs period from upto = by_due (is_due sheet.base period b) refl
   where
     b : Batch
-    b = first_batch agent rs
+    b = first_batch version agent rs
 
     to : Cut
     to = front sheet.base (b ∷ []) (zero_cut 64) period
@@ -135,7 +136,7 @@ rows_of_first sheet issuer agent rs period from upto = by_due (is_due sheet.base
     charged h = map (λ x. x.row) (filter_map (placed_row sheet issuer (b ∷ []) period (zero_cut 64) to) (records_in_order h))
 
     reach : last_of to agent ≡ (if is_due sheet.base period b then 1 else 0)
-    reach = last_of_front sheet.base (b ∷ []) 64 period agent from upto ∙ front_alone sheet.base period agent rs
+    reach = last_of_front sheet.base (b ∷ []) 64 period agent from upto ∙ front_alone version sheet.base period agent rs
 
     by_due : (due : Bool) → is_due sheet.base period b ≡ due
         → charged (up_to to (b ∷ [])) ≡ (if due then map (row_of_metered sheet issuer period) (metered_in b) else [])
@@ -144,13 +145,13 @@ rows_of_first sheet issuer agent rs period from upto = by_due (is_due sheet.base
         ap charged (cond-true (nat_le 1 (last_of to agent)) (b ∷ []) [] (ap (nat_le 1) one))
         ∙ (ap (λ xs. map (λ x. x.row) (filter_map (placed_row sheet issuer (b ∷ []) period (zero_cut 64) to) xs)) (append-nil (placed b))
         ∙ rows_from sheet issuer (b ∷ []) period (zero_cut 64) to agent (placed b) 0 rs (last_of_zero 64 agent)
-        (λ index. ap (value_at (b ∷ []) (place_of agent index)) one ∙ value_alone agent index rs))
+        (λ index. ap (value_at (b ∷ []) (place_of agent index)) one ∙ value_alone version agent index rs))
     by_due false e =
         let none : last_of to agent ≡ 0 = reach ∙ ap (λ due. if due then 1 else 0) e in
         ap charged (cond-false (nat_le 1 (last_of to agent)) (b ∷ []) [] (ap (nat_le 1) none))
 
 -- a first batch by its parts
-pub first_is : (b : Batch) → b.seq ≡ 1 → first_batch b.agent b.records ≡ b
+pub first_is : (b : Batch) → b.seq ≡ 1 → first_batch b.version b.agent b.records ≡ b
 first_is b first = sym (ap (λ seq. record b { seq = seq }) first)
 
 -- The rows of a first batch: none before it is due, and then each reading's own, at its last value.
@@ -160,4 +161,4 @@ pub rows_alone_are : (sheet : Sheet) (issuer : Issuer) (b : Batch) (period : ℕ
     ≡ (if is_due sheet.base period b then map (row_of_metered sheet issuer period) (metered_in b) else [])
 rows_alone_are sheet issuer b period first from upto =
     subst (λ x. rows_alone sheet issuer x period ≡ (if is_due sheet.base period x then map (row_of_metered sheet issuer period) (metered_in x) else []))
-    (first_is b first) (rows_of_first sheet issuer b.agent b.records period from upto)
+    (first_is b first) (rows_of_first b.version sheet issuer b.agent b.records period from upto)

@@ -56,8 +56,8 @@ metered_of_batch text b read first =
     let holding = IsHolding-put [] b IsHolding-nil (IsWellFormed-read text b read) in
     let alone = subst (λ (x : Batch). (index : ℕ) → unsigned_abs (value_at (x ∷ []) (place_of b.agent index) 1) < value_limit) (sym (first_is b first)) (λ index. value_small (b ∷ []) (place_of b.agent index) 1 holding) in
     subst (λ x. All IsMetered (metered_in x)) (first_is b first)
-    (metered_from b.agent (placed (first_batch b.agent b.records)) 0 b.records
-    (λ index. subst (λ v. unsigned_abs v < value_limit) (value_alone b.agent index b.records) (alone index)) is.records)
+    (metered_from b.agent (placed (first_batch b.version b.agent b.records)) 0 b.records
+    (λ index. subst (λ v. unsigned_abs v < value_limit) (value_alone b.version b.agent index b.records) (alone index)) is.records)
 
 -- ---- the line of one reading
 

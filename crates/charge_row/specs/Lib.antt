@@ -1,2 +1,3 @@
 pub mod FocusRows
 pub mod PeriodTexts
+pub mod Regions

@@ -6,10 +6,11 @@ ghost use Rattle.metering_model.specs.Sheet.{Sheet as ModelSheet, service_catego
 ghost use Rattle.metering_model.specs.Dates.{IsBaseMonth};
 ghost use Rattle.metering_model.specs.Batch.{is_priced};
 ghost use Rattle.metering_model.specs.declared.ChargeClass.TheVariants.{New};
-ghost use Rattle.metering_model.specs.Row.{row, or_null, by_kind, category_text, class_text, priced_kind, price_of, commitment_of, charge};
+ghost use Rattle.metering_model.specs.Row.{row, or_null, by_kind, category_text, class_text, priced_kind, price_of, commitment_of, region_of, region_name_of, charge};
 ghost use Rattle.batch_view.specs.Lent.{model_reading};
 ghost use Rattle.charge_row.specs.FocusRows.{model_row};
 ghost use Rattle.charge_row.specs.PeriodTexts.{ArePeriodTexts};
+ghost use Rattle.charge_row.specs.Regions.{IsNamed};
 
 use crate::columns::FocusRow;
 use batch_view::{Kind, Reading};
@@ -256,13 +257,66 @@ fn pricing_category<'a>(kind: Kind, commitment: Option<&Commitment>) -> Option<&
     }
 }
 
+/// The columns that a reading's region gives.
+#[derive(Clone, Copy)]
+pub struct RegionColumns<'a> {
+    pub id: Option<&'a [u8]>,
+    pub name: Option<&'a [u8]>,
+}
+
+impl<'a> RegionColumns<'a> {
+    /// Those of no region: both are null.
+    pub fn none() -> RegionColumns<'a>
+        ensures id { option_copied result.id ≡ None }
+        ensures name { option_copied result.name ≡ None }
+    {
+        RegionColumns {
+            id: None,
+            name: None,
+        }
+    }
+}
+
+/// What the sheet calls a region, or else its id.
+fn region_name<'a>(sheet: &'a Sheet, id: &'a [u8]) -> &'a [u8]
+    ensures { result.now ≡ region_name_of sheet.now id.now }
+{
+    sheet.region(id).unwrap_or(id)
+}
+
+/// The columns of a reading's region. Where it is the region that is near, these are that one's, and the sheet is not asked.
+fn region_columns<'a>(
+    sheet: &'a Sheet,
+    reading: &Reading<'a>,
+    near: RegionColumns<'a>,
+) -> RegionColumns<'a>
+    requires { IsNamed sheet.now (option_copied near.id) (option_copied near.name) }
+    ensures id { option_copied result.id ≡ region_of (model_reading reading.now) }
+    ensures name { IsNamed sheet.now (option_copied result.id) (option_copied result.name) }
+{
+    let Some(region) = reading.region() else {
+        return RegionColumns::none();
+    };
+    let Some(id) = or_null(region.text) else {
+        return RegionColumns::none();
+    };
+    if near.id == Some(id) {
+        return near;
+    }
+    RegionColumns {
+        id: Some(id),
+        name: Some(region_name(sheet, id)),
+    }
+}
+
 // ---- rows
 
-/// The row of a reading by its price and its commitment, from an old value to a new one.
+/// The row of a reading by its price, its commitment and its region, from an old value to a new one.
 fn row_by<'a>(
     billing: &Billing<'a>,
     price: Option<&'a PriceRow>,
     commitment: Option<&'a Commitment>,
+    region: RegionColumns<'a>,
     reading: &Reading<'a>,
     class: ChargeClass,
     was: Value,
@@ -270,10 +324,14 @@ fn row_by<'a>(
 ) -> FocusRow<'a>
     requires was { is_priced reading.now.kind ≡ true → pos 0 ≤ℤ was }
     requires value { is_priced reading.now.kind ≡ true → pos 0 ≤ℤ now }
-    ensures { (sheet : ModelSheet) (period : ℕ)
+    ensures region_id { result.region_id ≡ region.entry.id }
+    ensures region_name { result.region_name ≡ region.entry.name }
+    ensures row { (sheet : ModelSheet) (period : ℕ)
         → ArePeriodTexts sheet.base period billing.now.start_text billing.now.end_text
         → price_of sheet (model_reading reading.now) ≡ option_copied price.entry
         → commitment_of sheet (model_reading reading.now) ≡ option_copied commitment.entry
+        → region_of (model_reading reading.now) ≡ option_copied region.entry.id
+        → IsNamed sheet (option_copied region.entry.id) (option_copied region.entry.name)
         → model_row result
         ≡ row sheet billing.now.issuer.now (model_reading reading.now) period class was now }
 {
@@ -311,6 +369,8 @@ fn row_by<'a>(
         pricing_unit: priced.pricing_unit,
         provider_name: issuer.provider().as_bytes(),
         publisher_name: issuer.publisher().as_bytes(),
+        region_id: region.id,
+        region_name: region.name,
         resource_id: or_null(reading.resource.text),
         service_category: priced.service_category,
         service_name: priced.service,
@@ -321,11 +381,13 @@ fn row_by<'a>(
     }
 }
 
-/// The row of a reading, from an old value to a new one, at the price in force on its day and under the commitment
-/// that it names. It takes no memory.
+/// The row of a reading, from an old value to a new one, at the price in force on its day, under the commitment that it names
+/// and in its region. The region of another row of this sheet may be near: where the two are the same, its name is taken over
+/// and not looked up again. It takes no memory.
 pub fn row<'a>(
     billing: &Billing<'a>,
     sheet: &'a Sheet,
+    near: RegionColumns<'a>,
     reading: &Reading<'a>,
     class: ChargeClass,
     was: Value,
@@ -333,11 +395,14 @@ pub fn row<'a>(
 ) -> FocusRow<'a>
     requires was { is_priced reading.now.kind ≡ true → pos 0 ≤ℤ was }
     requires value { is_priced reading.now.kind ≡ true → pos 0 ≤ℤ now }
-    ensures { (period : ℕ) → ArePeriodTexts sheet.now.base period billing.now.start_text billing.now.end_text
+    requires near { IsNamed sheet.now (option_copied near.id) (option_copied near.name) }
+    ensures row { (period : ℕ) → ArePeriodTexts sheet.now.base period billing.now.start_text billing.now.end_text
         → model_row result
         ≡ row sheet.now billing.now.issuer.now (model_reading reading.now) period class was now }
+    ensures named { IsNamed sheet.now (option_copied result.region_id) (option_copied result.region_name) }
 {
     let price = price_of(sheet, reading);
     let commitment = commitment_of(sheet, reading);
-    row_by(billing, price, commitment, reading, class, was, now)
+    let region = region_columns(sheet, reading, near);
+    row_by(billing, price, commitment, region, reading, class, was, now)
 }

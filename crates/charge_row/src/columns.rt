@@ -3,7 +3,7 @@
 use batch_view::Tags;
 use fx_money::{Cost, Delta, Price};
 
-/// A row of a FOCUS file. Its texts are lent by the batch, the issuer and the program; null is `None`.
+/// A row of a FOCUS file. Its texts are lent by the batch, the sheet, the issuer and the program; null is `None`.
 ///
 /// Costs are in units of 10^-12 of the currency, quantities and unit prices in millionths, and
 /// dates are texts `YYYY-MM-DDTHH:mm:ssZ` in UTC.
@@ -38,6 +38,8 @@ pub struct FocusRow<'a> {
     pub pricing_unit: Option<&'a [u8]>,
     pub provider_name: &'a [u8],
     pub publisher_name: &'a [u8],
+    pub region_id: Option<&'a [u8]>,
+    pub region_name: Option<&'a [u8]>,
     pub resource_id: Option<&'a [u8]>,
     pub service_category: &'a [u8],
     pub service_name: &'a [u8],

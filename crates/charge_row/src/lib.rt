@@ -4,6 +4,6 @@
 mod charges;
 mod columns;
 
-pub use charges::{Billing, row};
+pub use charges::{Billing, RegionColumns, row};
 pub use columns::FocusRow;
 pub use rating::{Issuer, IssuerFault, Sheet};

@@ -23,21 +23,21 @@ pub fn a_file_is_written_in_parts()
         (header_line ++ 10 ∷ []) ++ flat_map (flat_map row_text) parts ≡ file (flat_map (λ part. part) parts) }
 {}
 
-/// A reader of CSV with its usual settings gives of every file the 36 names, and then just the fields of
+/// A reader of CSV with its usual settings gives of every file the 38 names, and then just the fields of
 /// each row, in order. No file begins with a byte order mark, which such a reader would drop.
 pub fn a_file_is_read_back()
-    ensures names { (length column_names ≡ 36) × (join_with_byte 44 column_names ≡ header_line) }
+    ensures names { (length column_names ≡ 38) × (join_with_byte 44 column_names ≡ header_line) }
     ensures unmarked { (rows : List Row) → strip_bom (file rows) ≡ file rows }
     ensures read { (rows : List Row) →
         records default_config (file rows) ≡ column_names ∷ map fields_of_row rows }
 {}
 
-/// The header line is what a writer of CSV writes, with its usual settings, as the record of the 36 names, and each line of
-/// a file what it writes as the record of the row's 36 fields.
+/// The header line is what a writer of CSV writes, with its usual settings, as the record of the 38 names, and each line of
+/// a file what it writes as the record of the row's 38 fields.
 pub fn lines_are_records_of_csv()
     ensures header { csv.row_text csv.default_writer column_names ≡ header_line ++ 10 ∷ [] }
     ensures line { (r : Row) → csv.row_text csv.default_writer (fields_of_row r) ≡ row_text r }
-    ensures fields { (r : Row) → length (fields_of_row r) ≡ 36 }
+    ensures fields { (r : Row) → length (fields_of_row r) ≡ 38 }
 {}
 
 /// Tags whose keys rise are what `serde_json` writes of them as an object, in their order, and what it reads of that are just

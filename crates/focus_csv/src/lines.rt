@@ -53,7 +53,7 @@ fn lines_behind(alloc: Global, head: &[u8], rows: &[FocusRow<'_>]) -> Result<Vec
     Ok(text)
 }
 
-/// The header line of every file: the names of the 36 columns in order, and a line feed.
+/// The header line of every file: the names of the 38 columns in order, and a line feed.
 pub fn header_text() -> &'static [u8]
     ensures { result.now ≡ header_line ++ 10 ∷ [] }
 {
@@ -63,8 +63,8 @@ pub fn header_text() -> &'static [u8]
         ChargePeriodEnd,ChargePeriodStart,CommitmentDiscountCategory,CommitmentDiscountId,\
         CommitmentDiscountStatus,CommitmentDiscountType,ConsumedQuantity,ConsumedUnit,\
         ContractedCost,ContractedUnitPrice,EffectiveCost,InvoiceIssuerName,ListCost,ListUnitPrice,\
-        PricingCategory,PricingQuantity,PricingUnit,ProviderName,PublisherName,ResourceId,\
-        ServiceCategory,ServiceName,SkuId,SkuPriceId,SubAccountId,Tags\n"
+        PricingCategory,PricingQuantity,PricingUnit,ProviderName,PublisherName,RegionId,RegionName,\
+        ResourceId,ServiceCategory,ServiceName,SkuId,SkuPriceId,SubAccountId,Tags\n"
 }
 
 /// The text of the rows without a header line: a line for each row, in order.

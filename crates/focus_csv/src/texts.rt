@@ -91,15 +91,17 @@ fn category<'a>(row: &'a FocusRow<'a>) -> [&'a [u8]; 1]
     [text_or_null(row.pricing_category)]
 }
 
-/// In which unit it is priced, and who sells it.
+/// In which unit it is priced, who sells it, and in which region it was.
 #[inline(always)]
-fn pricing<'a>(row: &'a FocusRow<'a>) -> [&'a [u8]; 3]
+fn pricing<'a>(row: &'a FocusRow<'a>) -> [&'a [u8]; 5]
     ensures { map (λ f. f.now) result ≡ pricing_columns (model_row row.now) }
 {
     [
         text_or_null(row.pricing_unit),
         row.provider_name,
         row.publisher_name,
+        text_or_null(row.region_id),
+        text_or_null(row.region_name),
     ]
 }
 

@@ -1,2 +1,3 @@
 pub mod Left
+pub mod Near
 pub mod Places

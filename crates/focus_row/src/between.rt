@@ -1,25 +1,28 @@
 //! The rows between two cuts, batch by batch.
 
 ghost use Rattle.std.specs.Prelude.{◌≡◌, ◌≢◌, ◌≤◌, ◌≤ℤ◌, ◌+◌, ◌<◌, ◌++◌, [], true, pos, length, map, option_map, Some, None, IfOk, IfSome, IfNone, IfErr, OnOk, OnErr};
-ghost use Rattle.std.specs.Option.{is_some};
+ghost use Rattle.std.specs.Option.{is_some, option_copied};
 ghost use Rattle.metering_model.specs.Batch.{Reading as ModelReading, is_priced};
 ghost use Rattle.metering_model.specs.Cut.{IsAtLeast, last_of};
 ghost use Rattle.metering_model.specs.Holding.{reading_at, up_to};
 ghost use Rattle.metering_model.specs.ValueAtSequence.{value_at};
 ghost use Rattle.metering_model.specs.declared.ChargeClass.TheVariants.{New, Correction};
 ghost use Rattle.metering_model.specs.Row.{row};
+ghost use Rattle.metering_model.specs.Sheet.{Sheet as ModelSheet};
 ghost use Rattle.metering_model.specs.Rows.{row_of, row_of_reading, rows};
 ghost use Rattle.metering_model.specs.Step.{first_missing};
 ghost use Rattle.metering_model.specs.JournalRules.{MeetsJournalRules};
 ghost use Rattle.batch_view.specs.Lent.{model_reading, record_of};
 ghost use Rattle.batch_store.specs.Stores.{position_of};
 ghost use Rattle.charge_row.specs.FocusRows.{model_row};
+ghost use Rattle.charge_row.specs.Regions.{IsNamed};
 ghost use Rattle.focus_row.specs.Inner.Left.{MayBeCharged, record_at, rows_left};
+ghost use Rattle.focus_row.specs.Inner.Near.{AreNamed};
 
 use crate::places::{is_named, next_named};
 use batch_store::{Cut, Period, RecordPlace, Store};
 use batch_view::{Reading, Record, Value};
-use charge_row::{Billing, FocusRow, Issuer, Sheet, row};
+use charge_row::{Billing, FocusRow, Issuer, RegionColumns, Sheet, row};
 use metering_model::ChargeClass;
 use std::alloc::{AllocError, Global};
 use std::marker::Model;
@@ -69,6 +72,19 @@ impl<'a> Model for BetweenCuts<'a> {
         × AreAmended b.store.now.batches b.from.now b.to.now (map position_of b.amended.items) };
 }
 
+/// The region of the last row, which is near the next one.
+fn last_region<'a>(rows: &[FocusRow<'a>]) -> RegionColumns<'a>
+    ensures named { (sheet : ModelSheet) → AreNamed sheet rows.now → IsNamed sheet (option_copied result.id) (option_copied result.name) }
+{
+    match rows.last() {
+        Some(row) => RegionColumns {
+            id: row.region_id,
+            name: row.region_name,
+        },
+        None => RegionColumns::none(),
+    }
+}
+
 impl<'a> BetweenCuts<'a> {
     /// The value of a reading as of a sequence of its agent.
     fn value(&self, place: RecordPlace, upto: u32) -> Value
@@ -85,19 +101,27 @@ impl<'a> BetweenCuts<'a> {
     }
 
     /// The row of a reading above `from`: it is charged whole.
-    fn new_row(&self, place: RecordPlace, reading: &Reading<'a>) -> FocusRow<'a>
+    fn new_row(
+        &self,
+        near: RegionColumns<'a>,
+        place: RecordPlace,
+        reading: &Reading<'a>,
+    ) -> FocusRow<'a>
+        requires near { IsNamed self.now.sheet (option_copied near.id) (option_copied near.name) }
         requires from { 1 ≤ place.agent }
         requires to { place.agent ≤ self.now.agents }
         requires there { reading_at self.now.batches (position_of place) ≡ Some (model_reading reading.now) }
         requires within { place.seq ≤ last_of self.now.to place.agent }
-        ensures { model_row result ≡ row self.now.sheet self.now.issuer (model_reading reading.now) self.now.period New (pos 0)
+        ensures row { model_row result ≡ row self.now.sheet self.now.issuer (model_reading reading.now) self.now.period New (pos 0)
             (value_at self.now.batches (position_of place) (last_of self.now.to place.agent)) }
+        ensures named { IsNamed self.now.sheet (option_copied result.region_id) (option_copied result.region_name) }
     {
         let nothing = Value::new(0).unwrap();
         let now = self.value(place, self.to.get(place.agent));
         row(
             &self.billing,
             self.sheet,
+            near,
             reading,
             ChargeClass::New,
             nothing,
@@ -106,13 +130,20 @@ impl<'a> BetweenCuts<'a> {
     }
 
     /// The row of a reading up to `from` from its value there to the one at `to`, where these differ.
-    fn correction(&self, place: RecordPlace, reading: &Reading<'a>) -> Option<FocusRow<'a>>
+    fn correction(
+        &self,
+        near: RegionColumns<'a>,
+        place: RecordPlace,
+        reading: &Reading<'a>,
+    ) -> Option<FocusRow<'a>>
+        requires near { IsNamed self.now.sheet (option_copied near.id) (option_copied near.name) }
         requires from { 1 ≤ place.agent }
         requires to { place.agent ≤ self.now.agents }
         requires there { reading_at self.now.batches (position_of place) ≡ Some (model_reading reading.now) }
         requires within { place.seq ≤ last_of self.now.from place.agent }
-        ensures { option_map model_row result ≡ row_of_reading self.now.sheet self.now.issuer self.now.batches self.now.period
+        ensures row { option_map model_row result ≡ row_of_reading self.now.sheet self.now.issuer self.now.batches self.now.period
             self.now.from self.now.to (position_of place) (model_reading reading.now) }
+        ensures named { IfSome result (λ row. IsNamed self.now.sheet (option_copied row.region_id) (option_copied row.region_name)) }
     {
         if !is_named(&self.amended, place) {
             return None;
@@ -125,6 +156,7 @@ impl<'a> BetweenCuts<'a> {
         Some(row(
             &self.billing,
             self.sheet,
+            near,
             reading,
             ChargeClass::Correction,
             was,
@@ -132,22 +164,29 @@ impl<'a> BetweenCuts<'a> {
         ))
     }
 
-    /// The row of a record, where it has one.
-    fn row_of(&self, place: RecordPlace, what: &Record<'a>) -> Option<FocusRow<'a>>
+    /// The row of a record, where it has one. The region of another row may be near.
+    fn row_of(
+        &self,
+        near: RegionColumns<'a>,
+        place: RecordPlace,
+        what: &Record<'a>,
+    ) -> Option<FocusRow<'a>>
+        requires near { IsNamed self.now.sheet (option_copied near.id) (option_copied near.name) }
         requires from { 1 ≤ place.agent }
         requires to { place.agent ≤ self.now.agents }
         requires there { record_at self.now.batches (position_of place) ≡ Some (record_of what.now) }
         requires within { place.seq ≤ last_of self.now.to place.agent }
-        ensures { option_map model_row result ≡ row_of self.now.sheet self.now.issuer self.now.batches self.now.period
+        ensures row { option_map model_row result ≡ row_of self.now.sheet self.now.issuer self.now.batches self.now.period
             self.now.from self.now.to (position_of place) (record_of what.now) }
+        ensures named { IfSome result (λ row. IsNamed self.now.sheet (option_copied row.region_id) (option_copied row.region_name)) }
     {
         let Record::Reading(reading) = what else {
             return None;
         };
         if place.seq > self.from.get(place.agent) {
-            Some(self.new_row(place, reading))
+            Some(self.new_row(near, place, reading))
         } else {
-            self.correction(place, reading)
+            self.correction(near, place, reading)
         }
     }
 
@@ -172,7 +211,8 @@ impl<'a> BetweenCuts<'a> {
         for record in batch.records() {
             let place = RecordPlace { agent, seq, index };
             index += 1;
-            if let Some(row) = self.row_of(place, &record) {
+            let near = last_region(&rows);
+            if let Some(row) = self.row_of(near, place, &record) {
                 if rows.push(row).is_err() {
                     return Err(AllocError);
                 }

@@ -1,44 +1,56 @@
--- The columns of a line behind the first, in runs that change together.
-use Rattle.std.specs.Prelude.{ℕ, List, [], ◌∷◌}
+-- The columns of a line behind the first, in runs that change together. They are read off the table of columns: a run is told
+-- by the name that it begins with and the one behind it, so a column that comes to stand in between is in the run.
+use Rattle.std.specs.Prelude.{ℕ, if◌then◌else◌, List, [], ◌∷◌, map, codes}
 use Rattle.std.specs.List.{flat_map}
+use Rattle.std.specs.Str.{bytes_eq}
 use Rattle.metering_model.specs.NumberText.{spelling}
-use Rattle.metering_model.specs.File.{json_object, price_or_null, quantity_or_null, quoted, text_or_null}
+use Rattle.metering_model.specs.File.{Column, columns, json_object, price_or_null, quantity_or_null, quoted}
 use Rattle.metering_model.specs.Row.{Row}
 
 -- the texts of fields, each behind a comma
 abbrev pub behind : List (List ℕ) → List ℕ
 behind fs = flat_map (λ f. 44 ∷ quoted f) fs
 
+-- columns from the one of this name on
+abbrev pub from_name : List ℕ → List Column → List Column
+from_name name [] = []
+from_name name (c ∷ cs) = if bytes_eq c.name name then c ∷ cs else from_name name cs
+
+-- columns as far as the one of this name, which is left out
+abbrev pub up_to_name : List ℕ → List Column → List Column
+up_to_name name [] = []
+up_to_name name (c ∷ cs) = if bytes_eq c.name name then [] else c ∷ up_to_name name cs
+
+-- a row's fields from one name on, as far as another
+abbrev pub run_of : List ℕ → List ℕ → Row → List (List ℕ)
+run_of first next r = map (λ c. c.field r) (up_to_name next (from_name first columns))
+
 abbrev pub head_columns : Row → List (List ℕ)
-head_columns r =
-    r.billing_account_id ∷ r.billing_account_name ∷ r.billing_currency ∷ r.billing_period_end ∷ r.billing_period_start
-    ∷ r.charge_category ∷ text_or_null r.charge_class ∷ r.charge_description ∷ r.charge_frequency ∷ []
+head_columns = run_of (codes "BillingAccountId") (codes "ChargePeriodEnd")
 
 abbrev pub moment_columns : Row → List (List ℕ)
-moment_columns r =
-    r.charge_period_end ∷ r.charge_period_start ∷ text_or_null r.commitment_discount_category ∷ text_or_null r.commitment_discount_id
-    ∷ text_or_null r.commitment_discount_status ∷ text_or_null r.commitment_discount_type ∷ []
+moment_columns = run_of (codes "ChargePeriodEnd") (codes "ConsumedQuantity")
 
 abbrev pub unit_columns : Row → List (List ℕ)
-unit_columns r = text_or_null r.consumed_unit ∷ []
+unit_columns = run_of (codes "ConsumedUnit") (codes "ContractedCost")
 
 abbrev pub issuer_columns : Row → List (List ℕ)
-issuer_columns r = r.invoice_issuer_name ∷ []
+issuer_columns = run_of (codes "InvoiceIssuerName") (codes "ListCost")
 
 abbrev pub category_columns : Row → List (List ℕ)
-category_columns r = text_or_null r.pricing_category ∷ []
+category_columns = run_of (codes "PricingCategory") (codes "PricingQuantity")
 
 abbrev pub pricing_columns : Row → List (List ℕ)
-pricing_columns r = text_or_null r.pricing_unit ∷ r.provider_name ∷ r.publisher_name ∷ []
+pricing_columns = run_of (codes "PricingUnit") (codes "ResourceId")
 
 abbrev pub resource_columns : Row → List (List ℕ)
-resource_columns r = text_or_null r.resource_id ∷ []
+resource_columns = run_of (codes "ResourceId") (codes "ServiceCategory")
 
 abbrev pub service_columns : Row → List (List ℕ)
-service_columns r = r.service_category ∷ r.service_name ∷ text_or_null r.sku_id ∷ text_or_null r.sku_price_id ∷ []
+service_columns = run_of (codes "ServiceCategory") (codes "SubAccountId")
 
 abbrev pub account_columns : Row → List (List ℕ)
-account_columns r = text_or_null r.sub_account_id ∷ []
+account_columns = run_of (codes "SubAccountId") (codes "Tags")
 
 -- all of them, in order
 abbrev pub line_runs : Row → List (List (List ℕ))

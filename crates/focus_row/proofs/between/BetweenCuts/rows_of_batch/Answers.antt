@@ -1,6 +1,7 @@
 use Rattle.std.proofs.Common.{◌≡◌, ◌<◌, ◌≤◌, ◌+◌, List, [], ◌∷◌, ◌++◌, length, map, Some, true, is_some, refl, ap, subst, sym, ◌∙◌, arith, rules, append-nil}
 use Rattle.std.specs.Prelude.{slice_get}
 use Rattle.std.specs.Option.{option_and_then}
+use Rattle.std.proofs.lemmas.List.Elements.{All-nil, All-push}
 use Rattle.metering_model.specs.Batch.{Batch}
 use Rattle.metering_model.specs.Holding.{held, placed}
 use Rattle.metering_model.proofs.HoldingLaws.{held_place}
@@ -10,6 +11,7 @@ use Rattle.batch_view.specs.Lent.{record_of}
 use Rattle.charge_row.specs.FocusRows.{model_row}
 use Rattle.charge_row.specs.declared.columns.FocusRow.{FocusRow}
 use Rattle.focus_row.specs.Inner.Left.{Between, MayBeCharged, placed_from, rows_in, rows_left}
+use Rattle.focus_row.specs.Inner.Near.{AreNamed, HasItsName}
 use Rattle.focus_row.proofs.StopLaws.{first_left, push_row, pass_record, rows_first}
 use Rattle.focus_row.proofs.between.BetweenCuts.rows_of_batch.Goals as goal
 
@@ -36,6 +38,7 @@ loop-record-init c =
       held = subst (λ (w : RecordsLeft). held s.batches a q ≡ Some (batch_of w.bytes)) (sym start) found;
       few = subst (λ (w : RecordsLeft). length (batch_of w.bytes).records ≤ 1000) (sym start) few;
       index = ap (λ (w : RecordsLeft). w.index) start;
+      named = subst (AreNamed s.sheet) (sym c.new-rows.ensures.items) (All-nil (HasItsName s.sheet));
       rows = subst (λ (w : RecordsLeft). Rows w c.new-rows.result.items) (sym start) (subst (Rows (record { bytes = bytes; index = 0 })) (sym c.new-rows.ensures.items) refl);
     }
 
@@ -65,13 +68,14 @@ loop-record-preserved-else-is_err c =
     let added : c.push.new.self.items ≡ c.loop-record.rows.items ++ c.in-Some-row_of.row ∷ [] = search rules in
     let same = c.loop-record.invariant.index in
     let rows = push_row s a q c.loop-record.index (record_of c.in-Some.record) (records_left old) (records_left new) c.in-Some.ensures.steps.first
-    (rows_in s (placed_from a q 0 (batch_of old.bytes).records)) c.loop-record.rows.items c.push.new.self.items c.in-Some-row_of.row added c.in-Some-row_of.ensures c.loop-record.invariant.rows in
+    (rows_in s (placed_from a q 0 (batch_of old.bytes).records)) c.loop-record.rows.items c.push.new.self.items c.in-Some-row_of.row added c.in-Some-row_of.ensures.row c.loop-record.invariant.rows in
     record {
       can_next = tt;
       is_finite = tt;
       held = subst (λ (w : RecordsLeft). held s.batches a q ≡ Some (batch_of w.bytes)) (sym walk) c.loop-record.invariant.held;
       few = subst (λ (w : RecordsLeft). length (batch_of w.bytes).records ≤ 1000) (sym walk) c.loop-record.invariant.few;
       index = ap (λ (w : RecordsLeft). w.index) walk ∙ ap (λ n. n + 1) same;
+      named = subst (AreNamed s.sheet) (sym added) (All-push (HasItsName s.sheet) c.loop-record.rows.items c.in-Some-row_of.row c.loop-record.invariant.named c.in-Some-row_of.ensures.named);
       rows = rows ∙ ap (λ (w : RecordsLeft). rows_in s (placed_from a q 0 (batch_of w.bytes).records)) (sym walk);
     }
 
@@ -85,13 +89,14 @@ loop-record-preserved c =
     let walk : new ≡ record { bytes = old.bytes; index = old.index + 1 } = c.in-Some.ensures.steps.walk in
     let same = c.loop-record.invariant.index in
     let rows = pass_record s a q c.loop-record.index (record_of c.in-Some.record) (records_left old) (records_left new) c.in-Some.ensures.steps.first
-    (rows_in s (placed_from a q 0 (batch_of old.bytes).records)) c.loop-record.rows.items c.in_default.ensures c.loop-record.invariant.rows in
+    (rows_in s (placed_from a q 0 (batch_of old.bytes).records)) c.loop-record.rows.items c.in_default.ensures.row c.loop-record.invariant.rows in
     record {
       can_next = tt;
       is_finite = tt;
       held = subst (λ (w : RecordsLeft). held s.batches a q ≡ Some (batch_of w.bytes)) (sym walk) c.loop-record.invariant.held;
       few = subst (λ (w : RecordsLeft). length (batch_of w.bytes).records ≤ 1000) (sym walk) c.loop-record.invariant.few;
       index = ap (λ (w : RecordsLeft). w.index) walk ∙ ap (λ n. n + 1) same;
+      named = c.loop-record.invariant.named;
       rows = rows ∙ ap (λ (w : RecordsLeft). rows_in s (placed_from a q 0 (batch_of w.bytes).records)) (sym walk);
     }
 
