@@ -1,16 +1,7 @@
 -- What a node keeps over a restart, and its limits.
-use Rattle.std.specs.Prelude.{◌≡◌, ℕ, ◌≤◌, length, All, Some}
+use Rattle.std.specs.Prelude.{◌≡◌, ◌≤◌, ℕ, length, All, Some}
 use Rattle.metering_model.specs.Ballot.{Vote}
-use Rattle.metering_model.specs.World.{Kept}
-
--- what a node keeps, and the number of agents of its store
-pub record KeptAmong : Type 0 where
-  pub agents : ℕ
-  pub kept : Kept
-
--- Ballots of 99 nodes in rounds 1 to 10,000 are among these.
-abbrev pub IsBallotNumber : ℕ → Type 0
-IsBallotNumber ballot = (1 ≤ ballot) × (ballot ≤ 990_098)
+pub use Rattle.metering_model.specs.KeptText.{KeptAmong, IsBallotNumber}
 
 -- Numbers within their limits, and one number of agents in the store, the learned cuts and the vote's cut.
 pub record IsKept (k : KeptAmong) : Type 0 where

@@ -1,1 +1,3 @@
 pub mod Kept
+pub mod Offers
+pub mod Inner

@@ -1,6 +1,14 @@
-//! What a node keeps over a restart.
+//! What a node keeps over a restart, and its text.
 #![tactic(auto)]
 
+mod faults;
+mod head;
 mod kept;
+mod offers;
+mod reading;
+mod writing;
 
+pub use faults::KeptFault;
 pub use kept::{Kept, Parts};
+pub use metering_model::KeptCode;
+pub use offers::KeptOffer;

@@ -1,0 +1,3 @@
+-- Words of private functions and proofs.
+pub mod Head
+pub mod Left

@@ -1,0 +1,19 @@
+-- What a text that was handed in stands for, and the faults that are told of one.
+use Rattle.std.specs.Prelude.{◌≡◌, ℕ, List, Err}
+use Rattle.std.specs.Arc.{arc_value}
+use Rattle.metering_model.specs.KeptText.{kept_text, kept_in}
+use Rattle.metering_model.specs.World as model
+use Rattle.node_kept.specs.declared.faults.KeptFault.{KeptFault}
+use Rattle.node_kept.specs.declared.faults.KeptFault.TheVariants.{Refused, OutOfMemory}
+use Rattle.node_kept.specs.declared.offers.KeptOffer.{KeptOffer}
+use Rattle.node_kept.specs.declared.offers.KeptOffer.TheVariants.{Good, Bad}
+
+-- what was read by its text, and what could not be read by its fault
+abbrev pub offer_of : KeptOffer → model.KeptOffer
+offer_of (Good kept) = model.KeptGood (kept_text (arc_value kept))
+offer_of (Bad code line) = model.KeptBad (record { code = code; line = line })
+
+-- The fault is the first that the text has. Want of memory says nothing of it.
+abbrev pub IsFaultOf : List ℕ → KeptFault → Type 0
+IsFaultOf text (Refused code line) = kept_in text ≡ Err (record { code = code; line = line })
+IsFaultOf text OutOfMemory = Unit {0}

@@ -1,0 +1,15 @@
+//! Why a text is not read as what a node keeps.
+
+use metering_model::KeptCode;
+use thiserror::Error;
+
+/// Why nothing is read of a text: its first fault by line, or want of memory.
+#[derive(Clone, Copy, Debug, PartialEq, Eq, Drop, Error)]
+pub enum KeptFault {
+    /// The line, counted from 1, and what is wrong there.
+    #[error("{code} line {line}")]
+    Refused { code: KeptCode, line: u64 },
+    /// A growth was refused.
+    #[error("out of memory")]
+    OutOfMemory,
+}

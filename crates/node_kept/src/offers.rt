@@ -1,0 +1,69 @@
+//! What is handed in for a node to be revived from.
+
+ghost use Rattle.std.specs.Prelude.{◌≡◌, ◌↔◌, IfOk, IsTrue};
+ghost use Rattle.metering_model.specs.KeptText.{kept_offer_of};
+ghost use Rattle.node_kept.specs.Offers.{offer_of};
+
+use crate::faults::KeptFault;
+use crate::kept::Kept;
+use metering_model::KeptCode;
+use std::alloc::{AllocError, Global};
+use std::sync::Arc;
+
+/// What comes of a text that is handed in as what a node keeps.
+#[derive(Drop)]
+pub enum KeptOffer {
+    /// It is the text of this.
+    Good(Arc<Kept>),
+    /// It is of nothing that a node keeps: its first fault, at that line, counted from 1.
+    Bad { code: KeptCode, line: u64 },
+}
+
+impl KeptOffer {
+    /// Reads a text. An error says that there was no memory; the text is lost then.
+    pub fn read(alloc: Global, text: Vec<u8>) -> Result<KeptOffer, AllocError>
+        ensures { IfOk result (λ offer. offer_of offer ≡ kept_offer_of text.items) }
+    {
+        match Kept::read(alloc, &text) {
+            Ok(kept) => match Arc::new(alloc, kept) {
+                Ok(kept) => Ok(KeptOffer::Good(kept)),
+                Err(_) => Err(AllocError),
+            },
+            Err(KeptFault::Refused { code, line }) => Ok(KeptOffer::Bad { code, line }),
+            Err(KeptFault::OutOfMemory) => Err(AllocError),
+        }
+    }
+
+    /// The same offer once more: what was read is shared, and a fault is copied.
+    pub fn copy(&self) -> Result<KeptOffer, AllocError>
+        ensures { IfOk result (λ copy. offer_of copy ≡ offer_of self.now) }
+    {
+        match self {
+            KeptOffer::Good(kept) => match Arc::try_clone(kept) {
+                Ok(kept) => Ok(KeptOffer::Good(kept)),
+                Err(_) => Err(AllocError),
+            },
+            KeptOffer::Bad { code, line } => Ok(KeptOffer::Bad {
+                code: *code,
+                line: *line,
+            }),
+        }
+    }
+
+    /// Whether both are of the same text, or have the same fault. No memory is taken.
+    pub fn same(&self, other: &KeptOffer) -> bool
+        ensures { IsTrue result ↔ (offer_of self.now ≡ offer_of other.now) }
+    {
+        match (self, other) {
+            (KeptOffer::Good(one), KeptOffer::Good(two)) => one.same(two),
+            (
+                KeptOffer::Bad { code, line },
+                KeptOffer::Bad {
+                    code: code_two,
+                    line: line_two,
+                },
+            ) => *code == *code_two && *line == *line_two,
+            _ => false,
+        }
+    }
+}
