@@ -16,7 +16,8 @@ use Rattle.metering_model.proofs.AgreementLaws.{same_rows}
 use Rattle.metering_model.proofs.NextLaws.{held_below_next}
 use Rattle.group_laws.specs.Headline.{IsPrefixOf, AreTheCuts, IsExport, HoldsAfter}
 use Rattle.group_laws.proofs.EveryRun.{holds_after, cuts_grow}
-use Rattle.group_laws.proofs.StepCases.{IsKeptBySteps, play_kept, after, started, start_packet, journaling}
+use Rattle.group_laws.proofs.StepCases.{IsKeptBySteps, after, started, start_packet, journaling}
+use Rattle.group_laws.proofs.Forms.{play_kept}
 use Rattle.group_laws.proofs.Fits.{IsFitting, IsFitting-steps}
 use Rattle.group_laws.proofs.Agreed.{element_of, earlier_entry, are_the_cuts, the_cuts, cut_goes_on}
 use Rattle.group_laws.proofs.Asked.{one_each, asked}
@@ -24,7 +25,7 @@ use Rattle.group_laws.proofs.Answered.{kept, only}
 use Rattle.group_laws.proofs.Exports.{IsTaken, all_taken, is_export}
 use Rattle.group_state.specs.Reached.{IsReached}
 use Rattle.group_core.specs.Headline.{AreExportsOf, ExportsAgree, IsSameGroup, ListGrows, ExportsStay, AnswersEach}
-use Rattle.group_state.proofs.Reaching.{play_reached}
+use Rattle.group_state.proofs.Reaching.{forms_here, play_reached}
 use Rattle.group_core.proofs.Worlds.{fitting_here, same_cuts, same_exports, get_in_longer}
 
 -- ---- the journals only grow
@@ -121,7 +122,7 @@ module _ (w : World) (es : List Event) (h : IsReached w) where
   more_there : IsPartOf w.journals (play w es).1.journals
   more_there =
       let begun : HasMore (voter_count w) w.journals w = record { fitting = fitting_here w h; part = part_of_itself w.journals } in
-      (play_kept (HasMore (voter_count w) w.journals) (HasMore-steps (voter_count w) w.journals) es w begun).part
+      (play_kept (HasMore (voter_count w) w.journals) (HasMore-steps (voter_count w) w.journals) es w (forms_here w h) begun).part
 
   pub stay_in_run : ExportsStay w (play w es).1
   stay_in_run s e =
@@ -136,7 +137,7 @@ module _ (w : World) (es : List Event) (h : IsReached w) where
   pub exports_in_run : AreExportsOf (play w es).1 (play w es).0
   exports_in_run s has =
       let at = element_of (play w es).0 (Exported s) has in
-      let taken : IsTaken (voter_count w) (play w es).1 s = all_taken (voter_count w) es w (fitting_here w h) at.0 s at.1 in
+      let taken : IsTaken (voter_count w) (play w es).1 s = all_taken (voter_count w) es w (forms_here w h) (fitting_here w h) at.0 s at.1 in
       let u : World = (play w es).1 in
       record {
         cuts = the_cuts u (fitting_here u there);
@@ -154,7 +155,7 @@ module _ (w : World) (es : List Event) (h : IsReached w) where
   answers_in_run = record {
     one_each = one_each es w;
     asked = asked es w;
-    kept = kept (voter_count w) es w (fitting_here w h);
+    kept = kept (voter_count w) es w (forms_here w h) (fitting_here w h);
     had = more_there;
-    only = only (voter_count w) es w (fitting_here w h);
+    only = only (voter_count w) es w (forms_here w h) (fitting_here w h);
   }

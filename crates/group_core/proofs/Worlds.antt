@@ -5,7 +5,7 @@ use Rattle.std.proofs.lemmas.Option.{same_Some, none-some}
 use Rattle.metering_model.specs.Cut.{Cut}
 use Rattle.metering_model.specs.World.{World, Snapshot, voter_count, opening}
 use Rattle.group_laws.specs.Headline.{AtMostOneIsChosen, AreTheCuts, IsExport}
-use Rattle.group_laws.proofs.StepCases.{play_kept}
+use Rattle.group_laws.proofs.Forms.{HasForms-opening, play_kept}
 use Rattle.group_laws.proofs.Fits.{IsFitting, IsFitting-steps, IsFitting-opening}
 use Rattle.group_laws.proofs.Agreed.{the_cuts, one_chosen, are_the_cuts}
 use Rattle.group_laws.proofs.Exports.{one_export}
@@ -46,7 +46,7 @@ pub fitting_here : (w : World) → IsReached w → IsFitting (voter_count w) w
 fitting_here w h =
     let begun : World = opening h.voters h.observers h.agents h.sheet h.issuer in
     let led : IsFitting h.voters w = subst (IsFitting h.voters) h.leads
-    (play_kept (IsFitting h.voters) (IsFitting-steps h.voters) h.events begun (IsFitting-opening h.voters h.observers h.agents h.sheet h.issuer)) in
+    (play_kept (IsFitting h.voters) (IsFitting-steps h.voters) h.events begun (HasForms-opening h.voters h.observers h.agents h.sheet h.issuer) (IsFitting-opening h.voters h.observers h.agents h.sheet h.issuer)) in
     subst (λ N. IsFitting N w) (sym led.told.kept.count) led
 
 module _ (w : World) (h : IsReached w) where

@@ -3,8 +3,9 @@ use Rattle.std.specs.Arc.{arc_value}
 use Rattle.batch_view.specs.declared.owned.Offer.{Offer}
 use Rattle.batch_view.specs.declared.owned.Offer.TheVariants.{Good, Bad}
 use Rattle.metering_model.specs.World as model
+use Rattle.node_kept.specs.Offers as kept
 use Rattle.group_events.specs.declared.events.Event.{Event}
-use Rattle.group_events.specs.declared.events.Event.TheVariants.{Journal, Deliver, Start, Restart, Export}
+use Rattle.group_events.specs.declared.events.Event.TheVariants.{Journal, Deliver, Start, Restart, Export, Keep, Revive}
 
 -- a batch by its bytes, and what is none by its fault
 abbrev pub offer_of : Offer → model.Offer
@@ -17,3 +18,5 @@ event_of (Deliver packet node) = model.Deliver packet node
 event_of (Start node) = model.Start node
 event_of (Restart node) = model.Restart node
 event_of (Export node period) = model.Export node period
+event_of (Keep node) = model.Keep node
+event_of (Revive node offer) = model.Revive node (kept.offer_of offer)

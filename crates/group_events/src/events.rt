@@ -4,6 +4,7 @@ ghost use Rattle.std.specs.Prelude.{◌≡◌, ◌↔◌, IfOk, IsTrue};
 ghost use Rattle.group_events.specs.Events.{event_of, offer_of};
 
 use batch_view::Offer;
+use node_kept::KeptOffer;
 use std::alloc::AllocError;
 use std::sync::Arc;
 
@@ -20,6 +21,10 @@ pub enum Event {
     Restart { node: u8 },
     /// A node is asked for the file of a period.
     Export { node: u8, period: u16 },
+    /// A node is asked for the text of what it keeps.
+    Keep { node: u8 },
+    /// A node restarts from what was offered as the text of what it keeps.
+    Revive { node: u8, offer: KeptOffer },
 }
 
 /// What is offered once more: the same batch, shared, or the same fault.
@@ -47,7 +52,8 @@ fn is_same_offer(one: &Offer, two: &Offer) -> bool
 }
 
 impl Event {
-    /// An equal event, which shares the batch. An error comes only where the batch cannot be shared once more.
+    /// An equal event, which shares the batch, or what was read of a text. An error comes only where these cannot be shared once
+    /// more.
     pub fn copy(&self) -> Result<Event, AllocError>
         ensures { IfOk result (λ copy. event_of copy ≡ event_of self.now) }
     {
@@ -66,6 +72,11 @@ impl Event {
                 node: *node,
                 period: *period,
             }),
+            Event::Keep { node } => Ok(Event::Keep { node: *node }),
+            Event::Revive { node, offer } => match offer.copy() {
+                Ok(offer) => Ok(Event::Revive { node: *node, offer }),
+                Err(_) => Err(AllocError),
+            },
         }
     }
 
@@ -91,6 +102,14 @@ impl Event {
                     period: period_two,
                 },
             ) => *node == *node_two && *period == *period_two,
+            (Event::Keep { node }, Event::Keep { node: node_two }) => *node == *node_two,
+            (
+                Event::Revive { node, offer },
+                Event::Revive {
+                    node: node_two,
+                    offer: offer_two,
+                },
+            ) => *node == *node_two && offer.same(offer_two),
             _ => false,
         }
     }

@@ -1,7 +1,7 @@
 //! Replies: what a group answers to events.
 
 ghost use Rattle.std.specs.Prelude.{◌≡◌, ◌↔◌, true, IfOk, IfErr, IsTrue};
-ghost use Rattle.group_events.specs.Replies.{is_exported, reply_of};
+ghost use Rattle.group_events.specs.Replies.{grows, reply_of};
 
 use crate::Snapshot;
 use batch_store::Period;
@@ -30,15 +30,17 @@ pub enum Reply {
     Restarted,
     /// What the file of the period is made of.
     Exported(Snapshot),
+    /// The text of what the node keeps.
+    KeptText(Vec<u8>),
     /// Nothing was done, for this reason.
     Refused(Refusal),
 }
 
 impl Reply {
-    /// An equal reply. Memory is taken for a snapshot alone, which shares its batches.
+    /// An equal reply. Memory is taken for a snapshot alone, which shares its batches, and for a text, which is copied.
     pub fn copy(&self, alloc: Global) -> Result<Reply, AllocError>
         ensures copy { IfOk result (λ copy. reply_of copy ≡ reply_of self.now) }
-        ensures want { IfErr result (λ _. is_exported (reply_of self.now) ≡ true) }
+        ensures want { IfErr result (λ _. grows (reply_of self.now) ≡ true) }
     {
         match self {
             Reply::Journaled { packet } => Ok(Reply::Journaled { packet: *packet }),
@@ -55,11 +57,16 @@ impl Reply {
                 Ok(copy) => Ok(Reply::Exported(copy)),
                 Err(_) => Err(AllocError),
             },
+            Reply::KeptText(text) => match Vec::from_slice(alloc, text) {
+                Ok(copy) => Ok(Reply::KeptText(copy)),
+                Err(_) => Err(AllocError),
+            },
             Reply::Refused(refusal) => Ok(Reply::Refused(*refusal)),
         }
     }
 
-    /// Whether both are the same reply; snapshots are the same where all of their parts are equal. No memory is taken.
+    /// Whether both are the same reply; snapshots are the same where all of their parts are equal, texts where they are the same
+    /// bytes. No memory is taken.
     pub fn same(&self, other: &Reply) -> bool
         ensures { IsTrue result ↔ (reply_of self.now ≡ reply_of other.now) }
     {
@@ -83,6 +90,7 @@ impl Reply {
             ) => *ballot == *ballot_two && *packet == *packet_two,
             (Reply::Restarted, Reply::Restarted) => true,
             (Reply::Exported(one), Reply::Exported(two)) => one.same(two),
+            (Reply::KeptText(one), Reply::KeptText(two)) => *one == *two,
             (Reply::Refused(one), Reply::Refused(two)) => *one == *two,
             _ => false,
         }

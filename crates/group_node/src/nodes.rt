@@ -1,8 +1,9 @@
 //! Nodes: how they begin, start and restart, and what they have.
-ghost use Rattle.std.specs.Prelude.{◌≡◌, ◌+◌, ◌<◌, ◌≤◌, length, slice_get, IfOk, None};
+ghost use Rattle.std.specs.Prelude.{◌≡◌, ◌↔◌, IsTrue, ◌+◌, ◌<◌, ◌≤◌, length, slice_get, IfOk, None};
 ghost use Rattle.std.specs.Option.{option_copied, option_map};
 ghost use Rattle.std.specs.Arc.{arc_value};
 ghost use Rattle.metering_model.specs.Ballot.{ballot_of};
+ghost use Rattle.metering_model.specs.KeptText.{HasText, kept_text};
 ghost use Rattle.metering_model.specs.World.{current_period, new_kept, wake};
 ghost use Rattle.metering_model.specs.Step.{started_node};
 ghost use Rattle.group_node.specs.Nodes.{IsNodeAmong};
@@ -86,6 +87,21 @@ impl Node {
     {
         self.attempt = None;
         self.tally = Tally::new(alloc, self.voters);
+    }
+
+    /// The text of what the node keeps over a restart.
+    pub fn write_kept(&self, alloc: Global) -> Result<Vec<u8>, AllocError>
+        ensures { IfOk result (λ text. text.items ≡ kept_text (record { agents = self.now.agents; kept = self.now.node.kept })) }
+    {
+        self.kept.write(alloc)
+    }
+
+    /// Whether this, which has a text, is what the node keeps over a restart. No memory is taken.
+    pub fn keeps(&self, kept: &Kept) -> bool
+        ensures same { IsTrue result ↔ (kept.now ≡ record { agents = self.now.agents; kept = self.now.node.kept }) }
+        ensures text { HasText kept.now }
+    {
+        kept.parts().same(&self.kept)
     }
 
     /// Begins the next round of node i, and answers its ballot. It takes no memory.

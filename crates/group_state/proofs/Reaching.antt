@@ -6,7 +6,8 @@ use Rattle.metering_model.specs.Step.{step, play}
 use Rattle.metering_model.proofs.PlayLaws.{play-append}
 use Rattle.group_laws.specs.Headline.{HoldsAfter}
 use Rattle.group_laws.specs.EveryRun.{KeepsLimits}
-use Rattle.group_laws.proofs.EveryRun.{holds_after}
+use Rattle.group_laws.proofs.Forms.{HasForms}
+use Rattle.group_laws.proofs.EveryRun.{forms, holds_after}
 use Rattle.group_laws.proofs.Limits.{keeps_limits}
 use Rattle.group_state.specs.Reached.{MayOpen, IsReached}
 
@@ -36,6 +37,10 @@ pub headline_here : (w : World) (h : IsReached w) → HoldsAfter h.voters h.obse
 headline_here w h =
     subst (λ u. HoldsAfter h.voters h.observers h.agents h.sheet h.issuer h.events (play (opening h.voters h.observers h.agents h.sheet h.issuer) h.events).0 u) h.leads
     (holds_after h.voters h.observers h.agents h.sheet h.issuer h.events)
+
+-- what each node keeps has a form that is read back
+pub forms_here : (w : World) → IsReached w → HasForms w
+forms_here w h = subst HasForms h.leads (forms h.voters h.observers h.agents h.sheet h.issuer h.events)
 
 -- what the world has is in the ranges in which a group may be opened
 pub still_open : (w : World) (h : IsReached w) → MayOpen (voter_count w) h.observers w.agents w.sheet

@@ -5,11 +5,12 @@
 mod deliveries;
 mod exports;
 mod journaling;
+mod keeps;
 mod starts;
 mod state;
 mod steps;
 
 pub use batch_view::Offer;
-pub use group_events::{Ballot, Event, Period, Reply, Snapshot};
-pub use group_node::{Kept, Node, Packet};
+pub use group_events::{Ballot, Event, Kept, KeptFault, KeptOffer, Period, Reply, Snapshot};
+pub use group_node::{Node, Packet};
 pub use state::GroupState;

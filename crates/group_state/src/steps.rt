@@ -23,6 +23,8 @@ impl GroupState {
             Event::Start { node } => self.start(*node),
             Event::Restart { node } => Ok(self.restart(alloc, *node)),
             Event::Export { node, period } => self.export(alloc, *node, *period),
+            Event::Keep { node } => self.keep(alloc, *node),
+            Event::Revive { node, offer } => Ok(self.revive(alloc, *node, offer)),
         }
     }
 }

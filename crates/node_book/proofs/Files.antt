@@ -4,7 +4,7 @@ use Rattle.std.specs.Prelude.{slice_get, if◌then◌else◌}
 use Rattle.std.specs.List.{Contains}
 use Rattle.std.proofs.lemmas.Option.{same_Some, none-some, slice_get_within, get_or_from_slice_get}
 use Rattle.metering_model.specs.declared.Worker.{Worker}
-use Rattle.metering_model.specs.World.{Reply, Journaled, Delivered, Started, Restarted, Exported, Refused, Snapshot}
+use Rattle.metering_model.specs.World.{Reply, Journaled, Delivered, Started, Restarted, Exported, KeptText, Refused, Snapshot}
 use Rattle.metering_model.specs.History.{Entry}
 use Rattle.group_laws.specs.Headline.{HoldsAfter}
 use Rattle.node_book.specs.Books.{Book, Told, Log, Plan, file_in}
@@ -41,6 +41,7 @@ exported_of (Journaled k) period is = absurd (cc)
 exported_of (Delivered sent learned) period is = absurd (cc)
 exported_of (Started ballot k) period is = absurd (cc)
 exported_of Restarted period is = absurd (cc)
+exported_of (KeptText text) period is = absurd (cc)
 exported_of (Refused why) period is = absurd (cc)
 
 module _ (book : Book) (plan : Plan) (logs : List Log) (agree : Agree book plan logs)

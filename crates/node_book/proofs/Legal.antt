@@ -1,11 +1,12 @@
--- Legal histories: the empty one, and one more entry.
-use Rattle.std.proofs.Common.{◌≡◌, List, [], ◌∷◌, ◌++◌, map, refl, sym, ap, ◌∙◌, Result, Ok, Err}
-use Rattle.std.specs.Prelude.{OnErr}
+-- Legal histories: the empty one, and one more entry; and what is true of a reply whose copy takes memory.
+use Rattle.std.proofs.Common.{◌≡◌, Bool, true, false, List, [], ◌∷◌, ◌++◌, map, refl, sym, ap, ◌∙◌, Result, Ok, Err}
+use Rattle.std.specs.Prelude.{◌||◌, OnErr}
 use Rattle.std.proofs.lemmas.List.{map-append}
-use Rattle.metering_model.specs.World.{World}
+use Rattle.metering_model.specs.World.{World, Reply}
 use Rattle.metering_model.specs.Step.{step, play}
 use Rattle.metering_model.specs.History.{Entry, IsLegal}
 use Rattle.metering_model.proofs.PlayLaws.{play-last, replies-last}
+use Rattle.group_core.specs.Words.{is_exported, is_kept_text}
 
 pub legal_begun : (w : World) → IsLegal w [] w
 legal_begun w = record { replies = refl; world = refl }
@@ -31,6 +32,14 @@ module _ (o w v : World) (history : List Entry) (x : Entry) (h : IsLegal o histo
         ap (λ es. (play o es).1) events_more
         ∙ (play-last o (map (λ (e : Entry). e.event) history) x.event ∙ ap (λ r. r.1) led);
   }
+
+-- a reply whose copy takes memory is an export or a text
+pub by_growth : (r : Reply) (P : Type 0) → (is_exported r || is_kept_text r) ≡ true → (is_exported r ≡ true → P) → (is_kept_text r ≡ true → P) → P
+by_growth r P grows of_export of_text = by_test (is_exported r) grows of_export
+  where
+    by_test : (b : Bool) → (b || is_kept_text r) ≡ true → (b ≡ true → P) → P
+    by_test true is one = one refl
+    by_test false is one = of_text is
 
 -- what holds whatever the result, holds at its error
 pub on_err : {A E : Type 0} (r : Result A E) (P : Type 0) → P → OnErr r P

@@ -2,7 +2,7 @@
 use Rattle.std.specs.Prelude.{◌≡◌, ℕ, ◌+◌, ◌-◌, ◌≤◌, ◌==◌, ◌&&◌, nat_lt, nat_le, if◌then◌else◌, Bool, true, false, List, [], ◌∷◌, length, map, count_by, Some, slice_get}
 use Rattle.metering_model.specs.declared.Worker.{Worker}
 use Rattle.metering_model.specs.declared.Worker.TheVariants.{Agent, Node}
-use Rattle.metering_model.specs.World.{Event, Journal, Deliver, Start, Restart, Export, Reply, Exported, offer_of, opening}
+use Rattle.metering_model.specs.World.{Event, Journal, Deliver, Start, Restart, Export, Keep, Revive, Reply, Exported, offer_of, opening}
 use Rattle.metering_model.specs.History.{Entry}
 use Rattle.node_book.specs.Books.{Book, Told, Log, Plan, node_total, opened, file_in}
 
@@ -36,6 +36,8 @@ is_event_of_node i (Deliver packet node) = node == i
 is_event_of_node i (Start node) = node == i
 is_event_of_node i (Restart node) = false
 is_event_of_node i (Export node period) = node == i
+is_event_of_node i (Keep node) = false
+is_event_of_node i (Revive node offer) = false
 
 -- the worker is one of the plan's; a node, voter or observer, delivers, starts and exports at itself, and does nothing else
 abbrev pub may_do : Plan → Worker → Event → Bool

@@ -6,7 +6,7 @@ ghost use Rattle.metering_model.specs.World.{opening};
 ghost use Rattle.metering_model.specs.Step.{step};
 ghost use Rattle.metering_model.specs.History.{IsLegal};
 ghost use Rattle.group_laws.specs.Headline.{HoldsAfter};
-ghost use Rattle.group_core.specs.Words.{event_of, is_exported, is_refused, reply_of};
+ghost use Rattle.group_core.specs.Words.{event_of, is_exported, is_kept_text, is_refused, reply_of};
 ghost use Rattle.node_book.specs.Books.{opened};
 ghost use Rattle.node_book.specs.Kept.{entry_of, told_of};
 
@@ -110,14 +110,15 @@ impl Book {
     }
 
     /// Does one event, in one step, and writes it down at the end of the history. The receipt has its place there, and its
-    /// reply. A refused event, and an export that is answered, leave the world as it was. At an error, which says that there
-    /// was no memory, nothing was done.
+    /// reply. A refused event, an export that is answered and a kept text leave the world as it was. At an error, which says
+    /// that there was no memory, nothing was done.
     pub fn act(&mut self, alloc: Global, who: Worker, event: Event) -> Result<Receipt, AllocError>
         ensures history { IfOk result (λ _. self.new.history
             ≡ self.old.history ++ record { who = who; event = event_of event; reply = (step self.old.world (event_of event)).0 } ∷ []) }
         ensures world { IfOk result (λ _. self.new.world ≡ (step self.old.world (event_of event)).1) }
         ensures refused { IfOk result (λ receipt. is_refused (told_of receipt).reply ≡ true → self.new.world ≡ self.old.world) }
         ensures exported { IfOk result (λ receipt. is_exported (told_of receipt).reply ≡ true → self.new.world ≡ self.old.world) }
+        ensures kept { IfOk result (λ receipt. is_kept_text (told_of receipt).reply ≡ true → self.new.world ≡ self.old.world) }
         ensures group { opened self.new ≡ opened self.old }
         ensures receipt { IfOk result (λ receipt. told_of receipt
             ≡ record { index = length self.old.history; reply = (step self.old.world (event_of event)).0 }) }
@@ -125,7 +126,7 @@ impl Book {
     {
         self.history.reserve(1)?;
         let reply = self.world.step(alloc, &event)?;
-        // Want of memory is told of an export alone, and that has changed nothing.
+        // Want of memory is told of an export or a kept text alone, and these have changed nothing.
         let told = reply.copy(alloc)?;
         let index = self.history.len();
         self.history.push_reserved(Entry { who, event, reply });

@@ -1,9 +1,9 @@
 use Rattle.std.proofs.Common.{◌≡◌, true, IfOk, subst}
 use Rattle.metering_model.specs.World.{World}
-use Rattle.group_state.specs.Words.{event_of, is_exported, is_refused, reply_of}
+use Rattle.group_state.specs.Words.{event_of, is_exported, is_kept_text, is_refused, reply_of}
 use Rattle.group_core.specs.Headline.{IsSameGroup, ListGrows, ExportsStay}
 use Rattle.group_core.proofs.Calls.{reached_after_call, exports_of_call, same_group_after_call, grows_in_call, stay_in_call}
-use Rattle.group_core.proofs.Unchanged.{if_exported, if_refused}
+use Rattle.group_core.proofs.Unchanged.{if_exported, if_kept, if_refused}
 use Rattle.group_core.proofs.world.World.step.Goals as goal
 
 pub invariant_of-self : goal.invariant_of-self
@@ -18,6 +18,11 @@ pub returns-clause-exported : goal.returns-clause-exported
 returns-clause-exported c =
     subst (λ (w : World). IfOk c.step.result (λ r. is_exported (reply_of r) ≡ true → c.step.new.self ≡ w)) c.self.view_is
     (if_exported reply_of c.self.inside.state c.step.new.self (event_of c.args.event.now) c.step.result c.step.ensures.ok)
+
+pub returns-clause-kept : goal.returns-clause-kept
+returns-clause-kept c =
+    subst (λ (w : World). IfOk c.step.result (λ r. is_kept_text (reply_of r) ≡ true → c.step.new.self ≡ w)) c.self.view_is
+    (if_kept reply_of c.self.inside.state c.step.new.self (event_of c.args.event.now) c.step.result c.step.ensures.ok)
 
 pub returns-clause-exports : goal.returns-clause-exports
 returns-clause-exports c = exports_of_call reply_of c.step.result c.self.inside.state c.step.new.self (event_of c.args.event.now) c.self.invariant c.step.ensures.ok c.step.ensures.err

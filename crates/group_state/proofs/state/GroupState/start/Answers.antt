@@ -1,4 +1,4 @@
-use Rattle.std.proofs.Common.{◌<◌, length, map, refl, arith, ap, subst, ◌∙◌, sym}
+use Rattle.std.proofs.Common.{◌<◌, length, map, refl, arith, ap, subst, sym}
 use Rattle.std.proofs.lemmas.List.{length-map}
 use Rattle.metering_model.specs.World.{World}
 use Rattle.group_node.specs.Nodes.{NodeAmong}
