@@ -3,11 +3,12 @@
 ghost use Rattle.std.specs.Prelude.{◌≡◌, IfOk};
 ghost use Rattle.metering_model.specs.Schedule as model;
 ghost use Rattle.metering_model.specs.World as world;
-ghost use Rattle.group_core.specs.Words.{event_of, offer_of};
+ghost use Rattle.metering_model.specs.KeptText.{kept_offer_of};
+ghost use Rattle.group_core.specs.Words.{event_of, kept_offer, offer_of};
 ghost use Rattle.schedule_reader.specs.Events.{HasWholeLines, planned_of};
 
 use batch_view::Offer;
-use group_core::Event;
+use group_core::{Event, KeptOffer};
 use schedule_reader::Planned;
 use std::alloc::{AllocError, Global};
 
@@ -17,6 +18,14 @@ fn offer_of(alloc: Global, text: &[u8]) -> Result<Offer, AllocError>
 {
     let bytes = Vec::from_slice(alloc, text)?;
     Offer::read(alloc, bytes)
+}
+
+/// What the lines of a revival hand in: they are copied once, and the copy is read.
+fn kept_offer_of(alloc: Global, text: &[u8]) -> Result<KeptOffer, AllocError>
+    ensures { IfOk result (λ offer. kept_offer offer ≡ kept_offer_of text.now) }
+{
+    let bytes = Vec::from_slice(alloc, text)?;
+    KeptOffer::read(alloc, bytes)
 }
 
 /// The event that a schedule tells.
@@ -39,5 +48,10 @@ pub(crate) fn event_of(alloc: Global, planned: &Planned<'_>) -> Result<Event, Al
             node: *node,
             period: *period,
         }),
+        Planned::Keep { node } => Ok(Event::Keep { node: *node }),
+        Planned::Revive { node, text } => match kept_offer_of(alloc, text) {
+            Ok(offer) => Ok(Event::Revive { node: *node, offer }),
+            Err(_) => Err(AllocError),
+        },
     }
 }

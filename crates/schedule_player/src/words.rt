@@ -1,4 +1,4 @@
-//! The line of one reply, and the file behind it.
+//! The line of one reply, and the file or the kept text behind it.
 
 ghost use Rattle.std.specs.Prelude.{◌≡◌, ◌++◌, ◌∷◌, [], codes, OnOk};
 ghost use Rattle.metering_model.specs.Transcript.{file_of, if_any, line_count, refusal_text, reply_text, with_number};
@@ -71,7 +71,18 @@ fn put_exported(
     put_numbered(line, b" lines ", line_count(file) as u128)
 }
 
-/// Puts what is told of a reply into one text, and the file behind its line, where there is one, into the other.
+/// Appends a kept text to one text, and to the other what stands above it: how many lines it has.
+fn put_kept(kept: &[u8], line: &mut Vec<u8>, file: &mut Vec<u8>) -> Result<(), AllocError>
+    requires { file.old.items ≡ [] }
+    ensures file { OnOk result (file.new.items ≡ kept.now) }
+    ensures line { OnOk result (line.new.items ≡ line.old.items ++ with_number (codes "kept lines ") (line_count kept.now)) }
+{
+    file.extend_from_slice(kept)?;
+    put_numbered(line, b"kept lines ", line_count(kept) as u128)
+}
+
+/// Puts what is told of a reply into one text, and the file or the kept text behind its line, where there is one, into the
+/// other.
 fn put_words(
     alloc: Global,
     reply: &Reply,
@@ -92,11 +103,12 @@ fn put_words(
         Reply::Started { ballot, packet } => put_started(line, *ballot, *packet),
         Reply::Restarted => line.extend_from_slice(b"restarted"),
         Reply::Exported(snapshot) => put_exported(alloc, snapshot, line, file),
+        Reply::KeptText(text) => put_kept(text, line, file),
         Reply::Refused(refusal) => put_refused(line, *refusal),
     }
 }
 
-/// Makes one text the line of a reply, and the other the file behind it, which is empty where there is none.
+/// Makes one text the line of a reply, and the other the file or the kept text behind it, which is empty where there is none.
 pub(crate) fn set_words(
     alloc: Global,
     reply: &Reply,

@@ -1,5 +1,6 @@
 -- Events that were read stand at the front of what was left.
-use Rattle.std.proofs.Common.{◌≡◌, ℕ, zero, suc, ◌+◌, ◌<◌, ◌≤◌, ◌^◌, ◌==◌, Bool, true, false, cond, List, [], ◌∷◌, ◌++◌, length, take, drop, Option, Some, None, Result, Ok, decimal, codes, refl, sym, ap, ap₂, ◌∙◌, subst, arith, append_assoc, get_or, eqb-true, All}
+use Rattle.std.proofs.Common.{◌≡◌, ℕ, zero, suc, ◌+◌, ◌<◌, ◌≤◌, ◌^◌, ◌==◌, leb-true, le-leb, Bool, true, false, cond, List, [], ◌∷◌, ◌++◌, length, take, drop, Option, Some, None, Result, Ok, decimal, codes, refl, sym, ap, ap₂, ◌∙◌, subst, arith, append_assoc, get_or, eqb-true, All}
+use Rattle.std.specs.Prelude.{nat_le}
 use Rattle.std.specs.List.{position, flat_map}
 use Rattle.std.specs.Option.{option_map}
 use Rattle.std.proofs.lemmas.List.{length-append, take-append-drop}
@@ -9,16 +10,16 @@ use Rattle.std.proofs.lemmas.Option.{none-some, same_Some}
 use Rattle.metering_model.specs.Batch.{is_empty}
 use Rattle.metering_model.specs.BatchReading.{lines_in, whole_in}
 use Rattle.metering_model.specs.FirstFailure.{◌>>=◌}
-use Rattle.metering_model.specs.Schedule.{Planned, PlansJournal, PlansDelivery, PlansStart, PlansRestart, PlansExport, IsPlanned, planned_text, lines_text}
+use Rattle.metering_model.specs.Schedule.{Planned, PlansJournal, PlansDelivery, PlansStart, PlansRestart, PlansExport, PlansKeep, PlansRevival, IsPlanned, TextLines, planned_text, lines_text}
 use Rattle.metering_model.specs.Transcript.{line, with_number}
 use Rattle.metering_model.proofs.FieldLaws.{same_read, whole_read}
 use Rattle.metering_model.proofs.Splitting.{lines_of_text}
-use Rattle.metering_model.proofs.StepLaws.{step_ok, some_step, ok_same}
+use Rattle.metering_model.proofs.StepLaws.{step_ok, some_step, test_step, ok_same, ok_step_from, some_step_from, test_step_from}
 use Rattle.input_sections.specs.declared.faults.ScheduleCode.TheVariants.{Event}
 use Rattle.input_sections.specs.declared.faults.ScheduleFault.{ScheduleFault}
-use Rattle.input_sections.specs.Sections.{Unread, Section, left, begins_with, first_line, section_in}
-use Rattle.schedule_reader.specs.Schedules.{one_behind, both, two_at, two_in, two_behind, or_else, event_of_line, line_event, journal_event, event_in, events_in}
-use Rattle.schedule_reader.proofs.LineForms.{line_read, number_read, section_read}
+use Rattle.input_sections.specs.Sections.{Unread, Section, left, lines_left, begins_with, first_line, section_of, section_in}
+use Rattle.schedule_reader.specs.Schedules.{one_behind, both, two_at, two_in, two_behind, or_else, event_of_line, line_event, journal_event, if_lines, revival_of_line, revival_event, event_in, events_in}
+use Rattle.schedule_reader.proofs.LineForms.{line_read, number_read, section_front, section_read, front_lines, front_whole}
 
 -- ---- two numbers
 
@@ -88,8 +89,10 @@ event_line_read l =
     (λ x h. let r = number_read (codes "start ") 0 98 l x (omega arith) h in (ap line r.0, r.2)))
     (either l _ _ (mapped l PlansRestart (one_behind (codes "restart ") 98 l)
     (λ x h. let r = number_read (codes "restart ") 0 98 l x (omega arith) h in (ap line r.0, r.2)))
-    (mapped l (λ n. PlansExport n.0 n.1) (two_behind (codes "export ") 98 1_199 l)
-    (λ x h. let r = two_behind_read (codes "export ") 98 1_199 l x.0 x.1 (omega arith) (omega arith) h in (ap line r.0, (r.1, r.2))))))
+    (either l _ _ (mapped l (λ n. PlansExport n.0 n.1) (two_behind (codes "export ") 98 1_199 l)
+    (λ x h. let r = two_behind_read (codes "export ") 98 1_199 l x.0 x.1 (omega arith) (omega arith) h in (ap line r.0, (r.1, r.2))))
+    (mapped l PlansKeep (one_behind (codes "keep ") 98 l)
+    (λ x h. let r = number_read (codes "keep ") 0 98 l x (omega arith) h in (ap line r.0, r.2))))))
 
 -- ---- an event
 
@@ -122,13 +125,74 @@ section_whole word most u s small h =
     let ls : (lines_in s.text).lines ≡ read.0 = ap (λ t. (lines_in t).lines) read.3 ∙ ap (λ x. x.lines) (lines_of_text read.0 read.1.whole) in
     ap lines_text ls ∙ sym read.3
 
+-- ---- a revival
+
+if_lines_read : (o : Option (ℕ × ℕ)) (i n : ℕ) → if_lines o ≡ Some (i, n) → (o ≡ Some (i, n)) × (1 ≤ n)
+if_lines_read None i n h = absurd (none-some _ h)
+if_lines_read (Some p) i n h = by_test (nat_le 1 p.1) refl h
+  where
+    by_test : (b : Bool) → nat_le 1 p.1 ≡ b → cond b (Some p) None ≡ Some (i, n) → (◌≡◌ {A = Option (ℕ × ℕ)} (Some p) (Some (i, n))) × (1 ≤ n)
+    by_test true e k =
+        let same : ◌≡◌ {A = ℕ × ℕ} p (i, n) = same_Some _ _ k in
+        (k, subst (λ (q : ℕ × ℕ). 1 ≤ q.1) same (leb-true _ _ e))
+    by_test false e k = absurd (none-some _ k)
+
+-- the word in front of the number of lines
+abbrev pub revival_word : ℕ → List ℕ
+revival_word i = with_number (codes "revive ") i ++ codes " "
+
+revival_line_read : (l : List ℕ) (i n : ℕ) → revival_of_line l ≡ Some (i, n) → (l ≡ with_number (revival_word i) n) × (i ≤ 98) × (1 ≤ n) × (n ≤ 200_000)
+revival_line_read l i n h =
+    let some = if_lines_read (two_behind (codes "revive ") 98 200_000 l) i n h in
+    let two = two_behind_read (codes "revive ") 98 200_000 l i n (omega arith) (omega arith) some.0 in
+    (two.0 ∙ sym (append_assoc (with_number (codes "revive ") i) (codes " ") (decimal n)), two.1, some.1, two.2)
+
+revival_event_read : (u : Unread) (r : Planned × Unread) → revival_event u ≡ Ok r → Stands u r
+unfolding revival_event
+revival_event_read u r h =
+    let opening = step_ok (first_line Event u) _ r h in
+    let numbers = some_step (revival_of_line opening.0.0) _ _ r opening.2 in
+    let below = opening.0.1 in
+    let i = numbers.0.0 in
+    let n = numbers.0.1 in
+    let enough = test_step (nat_le n (length (lines_left below))) _ _ r numbers.2 in
+    let told = revival_line_read opening.0.0 i n numbers.1 in
+    let ls : TextLines = take n (lines_left below) in
+    let are = front_lines n 200_000 below told.2 told.3 (leb-true _ _ enough.0) in
+    let head = line (with_number (revival_word i) (length ls)) in
+    let is_head : line opening.0.0 ≡ head = ap line (told.0 ∙ ap (with_number (revival_word i)) (sym are.0)) in
+    let rest = left (section_of n below).rest in
+    let joined : left u ≡ head ++ (lines_text ls ++ rest) = (line_read Event u opening.0.0 below opening.1).0 ∙ ap₂ (λ a b. a ++ b) is_head (section_front n below) in
+    let lines : (lines_in (section_of n below).text).lines ≡ ls = ap (λ x. x.lines) (lines_of_text ls are.1.whole) in
+    let stands : Stands u (PlansRevival i ls, (section_of n below).rest) = (joined ∙ sym (append_assoc head (lines_text ls) rest), (told.1, are.1)) in
+    subst (Stands u) (ap (λ x. (PlansRevival i x, (section_of n below).rest)) (sym lines) ∙ ok_same _ _ enough.1) stands
+
+-- it is read where its opening line, its numbers and its lines are
+pub revival_taken : (u below : Unread) (l : List ℕ) (i n : ℕ) → first_line Event u ≡ Ok (l, below) → revival_of_line l ≡ Some (i, n) → n ≤ length (lines_left below)
+    → revival_event u ≡ Ok (PlansRevival i (lines_in (section_of n below).text).lines, (section_of n below).rest)
+unfolding revival_event
+revival_taken u below l i n first numbers enough =
+    ok_step_from (first_line Event u) _ (l, below) _ first
+    (some_step_from (revival_of_line l) _ _ (i, n) _ numbers
+    (test_step_from _ _ _ _ (le-leb n (length (lines_left below)) enough) refl))
+
+-- its text is whole lines
+pub revival_whole : (n : ℕ) (below : Unread) → lines_text (lines_in (section_of n below).text).lines ≡ (section_of n below).text
+revival_whole n below = ap (λ x. lines_text x.lines) (lines_of_text (take n (lines_left below)) (front_whole n below))
+
+-- ---- whatever event
+
 pub event_read : (u : Unread) (r : Planned × Unread) → event_in u ≡ Ok r → (left u ≡ planned_text r.0 ++ left r.1) × IsPlanned r.0
 unfolding event_in
 event_read u r h = cases (begins_with (codes "journal ") (left u)) h
   where
-    cases : (b : Bool) → cond b (journal_event u) (line_event u) ≡ Ok r → Stands u r
+    no_journal : (b : Bool) → cond b (revival_event u) (line_event u) ≡ Ok r → Stands u r
+    no_journal true k = revival_event_read u r k
+    no_journal false k = line_event_read u r k
+
+    cases : (b : Bool) → cond b (journal_event u) (cond (begins_with (codes "revive ") (left u)) (revival_event u) (line_event u)) ≡ Ok r → Stands u r
     cases true k = journal_event_read u r k
-    cases false k = line_event_read u r k
+    cases false k = no_journal (begins_with (codes "revive ") (left u)) k
 
 -- ---- all events
 
@@ -141,6 +205,8 @@ event_long (PlansDelivery k i) = omega (arith, length-append (with_number (codes
 event_long (PlansStart i) = omega (arith, length-append (with_number (codes "start ") i) (10 ∷ []))
 event_long (PlansRestart i) = omega (arith, length-append (with_number (codes "restart ") i) (10 ∷ []))
 event_long (PlansExport i p) = omega (arith, length-append (with_number (codes "export ") i ++ with_number (codes " ") p) (10 ∷ []))
+event_long (PlansKeep i) = omega (arith, length-append (with_number (codes "keep ") i) (10 ∷ []))
+event_long (PlansRevival i ls) = line_long (with_number (revival_word i) (length ls)) (lines_text ls)
 
 abbrev AreAll : List ℕ → List Planned → Type 0
 AreAll t es = (t ≡ flat_map planned_text es) × All IsPlanned es

@@ -17,7 +17,7 @@ use Rattle.metering_model.proofs.StepLaws.{step_ok, some_step, test_step, ok_sam
 use Rattle.input_sections.specs.declared.faults.ScheduleCode.{ScheduleCode}
 use Rattle.input_sections.specs.declared.faults.ScheduleFault.{ScheduleFault}
 use Rattle.input_sections.specs.Sections.{Unread, Section, left, lines_left, first_of, first_line, begins_with, number_behind, section_of, section_in, told, read_as}
-use Rattle.input_sections.proofs.LineLaws.{text_of_front}
+use Rattle.byte_text.proofs.PastLines.{text_of_front}
 
 -- ---- lines hold no line feed
 
@@ -89,6 +89,15 @@ section_front n u =
     let k = length (lines_text ls) in
     sym (take-append-drop k (left u)) ∙ ap₂ (λ a b. a ++ b) (text_of_front n (left u)) (sym (left_behind u.text u.from k))
 
+-- So many lines that are there hold no line feed.
+pub front_whole : (n : ℕ) (u : Unread) → list_all (lacks 10) (take n (lines_left u)) ≡ true
+front_whole n u = all_of_front (lacks 10) n (lines_left u) (lines_lack (left u))
+
+pub front_lines : (n most : ℕ) (u : Unread) → 1 ≤ n → n ≤ most → n ≤ length (lines_left u) → (length (take n (lines_left u)) ≡ n) × AreLines most (take n (lines_left u))
+front_lines n most u some below enough =
+    let long : length (take n (lines_left u)) ≡ n = length-take-le n (lines_left u) enough in
+    (long, record { some = omega (arith, some, long); at_most = omega (arith, below, long); whole = front_whole n u })
+
 -- a section that was read stands at the front, and its text is that of its lines
 pub section_read : (code : ScheduleCode) (word : List ℕ) (most : ℕ) (u : Unread) (s : Section) → most < 10 ^ 64 → section_in code word most u ≡ Ok s
     → (ls : TextLines) × (AreLines most ls) × (left u ≡ section_text word ls ++ left s.rest) × (s.text ≡ lines_text ls)
@@ -102,17 +111,12 @@ section_read code word most u s small h =
     let ls = take n (lines_left below) in
     let is : section_of n below ≡ s = ok_same _ _ enough.1 in
     let told = number_read word 1 most opening.0.0 n small number.1 in
-    let long : length ls ≡ n = length-take-le n (lines_left below) (leb-true _ _ enough.0) in
-    let head : line opening.0.0 ≡ line (with_number word (length ls)) = ap line (told.0 ∙ ap (with_number word) (sym long)) in
+    let lines = front_lines n most below told.1 told.2 (leb-true _ _ enough.0) in
+    let head : line opening.0.0 ≡ line (with_number word (length ls)) = ap line (told.0 ∙ ap (with_number word) (sym lines.0)) in
     let front = (line_read code u opening.0.0 below opening.1).0 in
     let joined : left u ≡ line (with_number word (length ls)) ++ (lines_text ls ++ left s.rest) =
     front ∙ ap₂ (λ a b. a ++ b) head (section_front n below ∙ ap (λ x. lines_text ls ++ left x.rest) is) in
-    let are : AreLines most ls = record {
-      some = omega (arith, told.1, long);
-      at_most = omega (arith, told.2, long);
-      whole = all_of_front (lacks 10) n (lines_left below) (lines_lack (left below));
-    } in
-    (ls, are, joined ∙ sym (append_assoc (line (with_number word (length ls))) (lines_text ls) (left s.rest)), sym (ap (λ x. x.text) is))
+    (ls, lines.1, joined ∙ sym (append_assoc (line (with_number word (length ls))) (lines_text ls) (left s.rest)), sym (ap (λ x. x.text) is))
 
 -- ---- what a reader made of it
 

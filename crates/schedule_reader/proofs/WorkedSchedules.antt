@@ -1,10 +1,10 @@
 -- Lines and texts of schedules, read as worked examples.
 use Rattle.std.proofs.Common.{◌≡◌, ℕ, List, [], ◌∷◌, Some, None, Ok, Err, refl, codes}
-use Rattle.metering_model.specs.Schedule.{PlansDelivery, PlansStart, PlansRestart, PlansExport, PlansJournal, lines_text}
+use Rattle.metering_model.specs.Schedule.{PlansDelivery, PlansStart, PlansRestart, PlansExport, PlansKeep, PlansJournal, PlansRevival, lines_text}
 use Rattle.input_sections.specs.declared.faults.ScheduleCode.TheVariants.{Head, Nodes, Agents, Sheet, Event, Lines}
 use Rattle.input_sections.specs.declared.faults.ScheduleFault.TheVariants.{Refused}
 use Rattle.input_sections.specs.Sections.{Unread, section_in, sheet_section}
-use Rattle.schedule_reader.specs.Schedules.{nodes_behind, event_of_line, event_in, journal_event, line_event, events_in, group_in, head_line, nodes_line, number_line, schedule_in}
+use Rattle.schedule_reader.specs.Schedules.{nodes_behind, event_of_line, event_in, journal_event, revival_of_line, revival_event, line_event, events_in, group_in, head_line, nodes_line, number_line, schedule_in}
 
 a_delivery : event_of_line (codes "deliver 12 3") ≡ Some (PlansDelivery 12 3)
 a_delivery = refl
@@ -38,25 +38,66 @@ one_event = refl
 -- a line behind a journal's lines is an event again
 behind_a_journal : events_in 40 (from_seven (codes "journal 1" ∷ codes "any" ∷ codes "start 3" ∷ []))
     ≡ Ok (PlansJournal (codes "any" ∷ []) ∷ PlansStart 3 ∷ [])
-unfolding events_in event_in line_event journal_event section_in
+unfolding events_in event_in line_event journal_event revival_event section_in
 behind_a_journal = refl
 
 -- told at the line that opens the journal
 too_few_lines : events_in 40 (from_seven (codes "start 3" ∷ codes "journal 2" ∷ codes "any" ∷ [])) ≡ Err (Refused Lines 8)
-unfolding events_in event_in line_event journal_event section_in
+unfolding events_in event_in line_event journal_event revival_event section_in
 too_few_lines = refl
 
 too_many_lines_named : events_in 40 (from_seven (codes "journal 1002" ∷ codes "any" ∷ [])) ≡ Err (Refused Event 7)
-unfolding events_in event_in line_event journal_event section_in
+unfolding events_in event_in line_event journal_event revival_event section_in
 too_many_lines_named = refl
 
 no_event : events_in 40 (from_seven (codes "start 3" ∷ codes "stop 3" ∷ codes "journal 2" ∷ [])) ≡ Err (Refused Event 8)
-unfolding events_in event_in line_event journal_event section_in
+unfolding events_in event_in line_event journal_event revival_event section_in
 no_event = refl
 
 no_line_feed : events_in 40 (record { text = codes "start 3"; from = 0; line = 7 }) ≡ Err (Refused Lines 7)
-unfolding events_in event_in line_event journal_event section_in
+unfolding events_in event_in line_event journal_event revival_event section_in
 no_line_feed = refl
+
+-- ---- keeps and revivals
+
+a_keep : event_of_line (codes "keep 98") ≡ Some (PlansKeep 98)
+a_keep = refl
+
+a_keep_of_no_node : event_of_line (codes "keep 99") ≡ None
+a_keep_of_no_node = refl
+
+one_line : revival_of_line (codes "revive 0 1") ≡ Some (0, 1)
+one_line = refl
+
+most_lines : revival_of_line (codes "revive 98 200000") ≡ Some (98, 200_000)
+most_lines = refl
+
+of_no_line : revival_of_line (codes "revive 0 0") ≡ None
+of_no_line = refl
+
+one_line_too_many : revival_of_line (codes "revive 0 200001") ≡ None
+one_line_too_many = refl
+
+a_revival_of_no_node : revival_of_line (codes "revive 99 1") ≡ None
+a_revival_of_no_node = refl
+
+no_number_of_lines : revival_of_line (codes "revive 0") ≡ None
+no_number_of_lines = refl
+
+-- a line behind a revival's lines is an event again
+behind_a_revival : events_in 40 (from_seven (codes "revive 2 2" ∷ codes "any" ∷ [] ∷ codes "keep 3" ∷ []))
+    ≡ Ok (PlansRevival 2 (codes "any" ∷ [] ∷ []) ∷ PlansKeep 3 ∷ [])
+unfolding events_in event_in line_event journal_event revival_event section_in
+behind_a_revival = refl
+
+-- told at the line that opens the revival
+too_few_kept_lines : events_in 40 (from_seven (codes "keep 3" ∷ codes "revive 3 2" ∷ codes "any" ∷ [])) ≡ Err (Refused Lines 8)
+unfolding events_in event_in line_event journal_event revival_event section_in
+too_few_kept_lines = refl
+
+no_kept_line_named : events_in 40 (from_seven (codes "revive 3 0" ∷ [])) ≡ Err (Refused Event 7)
+unfolding events_in event_in line_event journal_event revival_event section_in
+no_kept_line_named = refl
 
 -- ---- the line of the nodes
 

@@ -78,7 +78,7 @@ number_lacks_feed word n h small =
 -- ---- a section
 
 -- lines at the front are the section of so many lines, and what stands behind them is left
-lines_written : (u : Unread) (ls : TextLines) (rest : List ℕ) → list_all (lacks 10) ls ≡ true → left u ≡ lines_text ls ++ rest
+pub lines_written : (u : Unread) (ls : TextLines) (rest : List ℕ) → list_all (lacks 10) ls ≡ true → left u ≡ lines_text ls ++ rest
     → (length ls ≤ length (lines_left u)) × ((section_of (length ls) u).text ≡ lines_text ls) × (left (section_of (length ls) u).rest ≡ rest)
 lines_written u ls rest h stands =
     let are : lines_left u ≡ ls ++ (lines_in rest).lines = ap (λ t. (lines_in t).lines) stands ∙ lines_in_front ls rest h in

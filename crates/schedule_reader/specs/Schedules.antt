@@ -5,13 +5,13 @@ use Rattle.std.specs.Option.{option_map}
 use Rattle.metering_model.specs.FirstFailure.{◌>>=◌, holds_or}
 use Rattle.metering_model.specs.Batch.{is_empty}
 use Rattle.metering_model.specs.BatchReading.{is_same, lines_in, whole_in}
-use Rattle.metering_model.specs.Schedule.{Planned, PlansJournal, PlansDelivery, PlansStart, PlansRestart, PlansExport}
+use Rattle.metering_model.specs.Schedule.{Planned, PlansJournal, PlansDelivery, PlansStart, PlansRestart, PlansExport, PlansKeep, PlansRevival}
 use Rattle.metering_model.specs.Sheet as model
 use Rattle.input_sections.specs.declared.faults.ScheduleCode.{ScheduleCode}
-use Rattle.input_sections.specs.declared.faults.ScheduleCode.TheVariants.{Head, Nodes, Agents, Event}
+use Rattle.input_sections.specs.declared.faults.ScheduleCode.TheVariants.{Head, Nodes, Agents, Event, Lines}
 use Rattle.input_sections.specs.declared.faults.ScheduleFault.{ScheduleFault}
 use Rattle.input_sections.specs.declared.faults.ScheduleFault.TheVariants.{Refused}
-use Rattle.input_sections.specs.Sections.{Unread, left, whole_of, begins_with, first_line, number_behind, section_in, sheet_section, issuer_section}
+use Rattle.input_sections.specs.Sections.{Unread, left, lines_left, section_of, whole_of, begins_with, first_line, number_behind, section_in, sheet_section, issuer_section}
 
 -- ---- lines with numbers
 
@@ -68,7 +68,8 @@ event_of_line line =
     or_else (option_map (λ n. PlansDelivery n.0 n.1) (two_behind (codes "deliver ") 999_999 98 line))
     (or_else (option_map PlansStart (one_behind (codes "start ") 98 line))
     (or_else (option_map PlansRestart (one_behind (codes "restart ") 98 line))
-    (option_map (λ n. PlansExport n.0 n.1) (two_behind (codes "export ") 98 1_199 line))))
+    (or_else (option_map (λ n. PlansExport n.0 n.1) (two_behind (codes "export ") 98 1_199 line))
+    (option_map PlansKeep (one_behind (codes "keep ") 98 line)))))
 
 -- an event of one line, and what is left behind it
 unfoldable pub line_event : Unread → Result (Planned × Unread) ScheduleFault
@@ -83,8 +84,26 @@ journal_event u = do
   s ← section_in Event (codes "journal ") 1_001 u
   Ok (PlansJournal (lines_in s.text).lines, s.rest)
 
+-- the node and the number of lines, of which there is one at least
+abbrev pub if_lines : Option (ℕ × ℕ) → Option (ℕ × ℕ)
+if_lines (Some n) = if nat_le 1 n.1 then Some n else None
+if_lines None = None
+
+abbrev pub revival_of_line : List ℕ → Option (ℕ × ℕ)
+revival_of_line line = if_lines (two_behind (codes "revive ") 98 200_000 line)
+
+-- a revival, with its lines
+unfoldable pub revival_event : Unread → Result (Planned × Unread) ScheduleFault
+revival_event u = do
+  l ← first_line Event u
+  n ← ok_or (revival_of_line l.0) (Refused Event u.line)
+  _ ← holds_or (nat_le n.1 (length (lines_left l.1))) (Refused Lines u.line)
+  Ok (PlansRevival n.0 (lines_in (section_of n.1 l.1).text).lines, (section_of n.1 l.1).rest)
+
 unfoldable pub event_in : Unread → Result (Planned × Unread) ScheduleFault
-event_in u = if begins_with (codes "journal ") (left u) then journal_event u else line_event u
+event_in u =
+    if begins_with (codes "journal ") (left u) then journal_event u
+    else (if begins_with (codes "revive ") (left u) then revival_event u else line_event u)
 
 -- events until nothing is left, and no more than so many
 unfoldable pub events_in : ℕ → Unread → Result (List Planned) ScheduleFault

@@ -1,9 +1,9 @@
 //! The events of a schedule, one line or one journal at a time.
 
-ghost use Rattle.std.specs.Prelude.{◌≡◌, ◌≢◌, All, Ok, Err, map, codes, option_map, IfOk, IfErr, IfSome, MatchResult};
-ghost use Rattle.metering_model.specs.Schedule.{PlansDelivery, PlansStart, PlansRestart, PlansExport};
+ghost use Rattle.std.specs.Prelude.{◌≡◌, ◌≢◌, ◌≤◌, All, Ok, Err, map, codes, option_map, IfOk, IfErr, IfSome, MatchResult};
+ghost use Rattle.metering_model.specs.Schedule.{PlansDelivery, PlansStart, PlansRestart, PlansExport, PlansKeep};
 ghost use Rattle.schedule_reader.specs.Events.{HasWholeLines, planned_of};
-ghost use Rattle.schedule_reader.specs.Schedules.{one_behind, two_behind, event_of_line, line_event, journal_event, event_in, events_in};
+ghost use Rattle.schedule_reader.specs.Schedules.{one_behind, two_behind, event_of_line, line_event, journal_event, revival_of_line, revival_event, event_in, events_in};
 
 use crate::lines::{one_behind, two_behind};
 use input_sections::{ScheduleCode, ScheduleFault, Unread, read_section};
@@ -14,6 +14,9 @@ const LAST_NODE: u32 = 98;
 const LAST_PACKET: u32 = 999_999;
 
 const LAST_PERIOD: u32 = 1_199;
+
+/// A revival has no more lines than this.
+const MOST_LINES: u32 = 200_000;
 
 /// An event as it stands in a schedule. What is journaled is lent from the text, and not read.
 #[derive(Clone, Copy, Drop)]
@@ -28,6 +31,10 @@ pub enum Planned<'a> {
     Restart { node: u8 },
     /// A node is asked for the file of a period.
     Export { node: u8, period: u16 },
+    /// A node is asked for the text of what it keeps.
+    Keep { node: u8 },
+    /// A node restarts from these lines, each with its line feed.
+    Revive { node: u8, text: &'a [u8] },
 }
 
 fn delivery<'a>(line: &'a [u8]) -> Option<Planned<'a>>
@@ -68,6 +75,14 @@ fn export<'a>(line: &'a [u8]) -> Option<Planned<'a>>
     })
 }
 
+fn keep<'a>(line: &'a [u8]) -> Option<Planned<'a>>
+    ensures event { option_map planned_of result ≡ option_map PlansKeep (one_behind (codes "keep ") 98 line.now) }
+    ensures lines { IfSome result HasWholeLines }
+{
+    let node = one_behind(line, b"keep ", LAST_NODE)?;
+    Some(Planned::Keep { node: node as u8 })
+}
+
 /// The event that a line is, if it is one.
 fn event_of_line<'a>(line: &'a [u8]) -> Option<Planned<'a>>
     ensures event { option_map planned_of result ≡ event_of_line line.now }
@@ -82,7 +97,10 @@ fn event_of_line<'a>(line: &'a [u8]) -> Option<Planned<'a>>
     if let Some(event) = restart(line) {
         return Some(event);
     }
-    export(line)
+    if let Some(event) = export(line) {
+        return Some(event);
+    }
+    keep(line)
 }
 
 /// The event of the next line, and what is left behind it.
@@ -118,6 +136,54 @@ fn journal_event<'a>(unread: &Unread<'a>) -> Result<(Planned<'a>, Unread<'a>), S
     }
 }
 
+/// The node and the number of lines that a line tells which opens a revival: one line at least.
+fn revival_of_line(line: &[u8]) -> Option<(u32, u32)>
+    ensures value { result ≡ revival_of_line line.now }
+    ensures within { IfSome result (λ n. (n.0 ≤ 98) × (n.1 ≤ 200_000)) }
+{
+    let (node, count) = two_behind(line, b"revive ", LAST_NODE, MOST_LINES)?;
+    if count == 0 {
+        None
+    } else {
+        Some((node, count))
+    }
+}
+
+/// The revival that the next line opens, and what is left behind its lines.
+#[tactic(auto, unfolding(crate::specs::Schedules::revival_event))]
+fn revival_event<'a>(unread: &Unread<'a>) -> Result<(Planned<'a>, Unread<'a>), ScheduleFault>
+    ensures event { MatchResult result (λ r. revival_event unread.now ≡ Ok (planned_of r.0, r.1)) (λ fault. revival_event unread.now ≡ Err fault) }
+    ensures want { IfErr result (λ fault. fault ≢ ScheduleFault.OutOfMemory) }
+    ensures lines { IfOk result (λ r. HasWholeLines r.0) }
+{
+    let line = unread.line();
+    let (opening, below) = match unread.first_line(ScheduleCode::Event) {
+        Ok(parts) => parts,
+        Err(fault) => return Err(fault),
+    };
+    let Some((node, count)) = revival_of_line(opening) else {
+        return Err(ScheduleFault::Refused {
+            code: ScheduleCode::Event,
+            line,
+        });
+    };
+    let Some(rest) = below.behind_lines(count) else {
+        return Err(ScheduleFault::Refused {
+            code: ScheduleCode::Lines,
+            line,
+        });
+    };
+    let left = below.left();
+    let text = &left[..rest.from() - below.from()];
+    Ok((
+        Planned::Revive {
+            node: node as u8,
+            text,
+        },
+        rest,
+    ))
+}
+
 /// The next event, and what is left behind it.
 #[tactic(auto, unfolding(crate::specs::Schedules::event_in))]
 fn event_in<'a>(unread: &Unread<'a>) -> Result<(Planned<'a>, Unread<'a>), ScheduleFault>
@@ -127,6 +193,8 @@ fn event_in<'a>(unread: &Unread<'a>) -> Result<(Planned<'a>, Unread<'a>), Schedu
 {
     if unread.begins_with(b"journal ") {
         journal_event(unread)
+    } else if unread.begins_with(b"revive ") {
+        revival_event(unread)
     } else {
         line_event(unread)
     }
