@@ -14,6 +14,10 @@ use Rattle.schedule_player.specs.declared.PlayFault.{PlayFault}
 use Rattle.schedule_player.specs.declared.PlayFault.TheVariants as play
 use Rattle.input_sections.specs.declared.faults.ScheduleFault.TheVariants as section
 use Rattle.schedule_player.specs.Faults.{tells_of_reader, tells_of_writer}
+use Rattle.period_file.specs.declared.faults.FileFault.{FileFault}
+use Rattle.period_file.specs.declared.faults.FileFault.TheVariants as file
+use Rattle.period_file.specs.Faults.{tells_of_reader as file_read, tells_of_writer as file_wrote}
+use Rattle.period_file.specs.Files.{AppendsFront, AppendsPart}
 use Rattle.threads_player.specs.declared.RunFault.TheVariants as of_run
 use Rattle.threads_player.specs.declared.faults.ThreadsFault.{ThreadsFault}
 use Rattle.threads_player.specs.declared.faults.ThreadsFault.TheVariants as threads
@@ -23,16 +27,19 @@ use Rattle.threads_player.specs.declared.sizes.Size.{Size}
 use Rattle.command_line.specs.declared.words.LineFault.{LineFault}
 use Rattle.command_line.specs.declared.words.LineFault.TheVariants as on_line
 use Rattle.command_line.specs.declared.commands.Command.{Command}
-use Rattle.command_line.specs.declared.commands.Command.TheVariants.{Rate, Play as PlaySchedule, Threads as RunThreads}
+use Rattle.command_line.specs.declared.commands.Command.TheVariants.{Rate, Play as PlaySchedule, File as CutFile, Threads as RunThreads}
 use Rattle.command_line.specs.declared.endings.Fault.{Fault}
-use Rattle.command_line.specs.declared.endings.Fault.TheVariants.{Line, Play, Threads}
+use Rattle.command_line.specs.declared.endings.Fault.TheVariants.{Line, Play, File, Threads}
 use Rattle.command_line.specs.Endings.{Tells, ending_line, status_of}
-use Rattle.command_line.specs.Runs.{AsksFor, Ends, IsDone, IsPlayedInPart, Refuses, words_behind_name}
-use Rattle.command_line.specs.Inner.Outcomes.{ComesTo, IsEnding, Leaves}
+use Rattle.command_line.specs.Runs.{AsksFor, Ends, IsDone, IsLeftBy, IsPlayedInPart, IsUnwritten, Refuses, words_behind_name}
+use Rattle.command_line.specs.Inner.Outcomes.{ComesTo, IsEnding, IsKept, Leaves}
 use Rattle.command_line.proofs.WordLaws.{asks_for_threads}
 
 abbrev pub failed : PlayFault → Result (Unit {0}) PlayFault
 failed fault = Err fault
+
+abbrev pub not_cut : FileFault → Result (Unit {0}) FileFault
+not_cut fault = Err fault
 
 abbrev pub not_run : ThreadsFault → Result (Unit {0}) ThreadsFault
 not_run fault = Err fault
@@ -74,6 +81,14 @@ but_at_3_and_4 Same play.OutOfMemory same not_3 not_4 = absurd (not_4 refl)
 but_at_3_and_4 Same (play.Refused refusal) same not_3 not_4 = same (λ is. absurd (cc)) (λ is. absurd (cc))
 but_at_3_and_4 Same (play.Schedule bad) same not_3 not_4 = same (λ is. absurd (cc)) (λ is. absurd (cc))
 
+-- and so where an input is refused
+at_1 : (Same : Type 0) (fault : PlayFault) → (fault ≢ play.Write → fault ≢ play.OutOfMemory → Same) → status_of (Play fault) ≡ 1 → Same
+at_1 Same play.Read same one = absurd (cc)
+at_1 Same play.Write same one = absurd (cc)
+at_1 Same play.OutOfMemory same one = absurd (cc)
+at_1 Same (play.Refused refusal) same one = same (λ is. absurd (cc)) (λ is. absurd (cc))
+at_1 Same (play.Schedule bad) same one = same (λ is. absurd (cc)) (λ is. absurd (cc))
+
 only_memory : (fault : PlayFault) → fault ≢ play.Schedule section.OutOfMemory → status_of (Play fault) ≡ 4 → fault ≡ play.OutOfMemory
 only_memory play.Read plain four = absurd (cc)
 only_memory play.Write plain four = absurd (cc)
@@ -95,17 +110,85 @@ pub comes_to : {W : Type 0} (sink : SinkOf W) (command : Command) (fault : PlayF
     → sink.failed_calls writer' ≡ count_after (tells_of_writer (failed fault)) (sink.failed_calls writer)
     → (fault ≢ play.Write → fault ≢ play.OutOfMemory → writer' ≡ writer)
     → (status_of (Play fault) ≡ 1 → Refuses command known (Play fault))
+    → (writer' ≡ writer → IsLeftBy sink command (Play fault) known writer writer')
     → fault ≢ play.Schedule section.OutOfMemory
     → (fault ≡ play.OutOfMemory → (writer' ≡ writer) ⊎ ((command ≡ PlaySchedule) × IsPlayedInPart known (sink.contents writer) (sink.contents writer')))
     → ComesTo sink command (Play fault) known reads reads' writer writer'
-comes_to sink command fault known reads reads' writer writer' read wrote same refused plain part = record {
-  understood = is_no_line fault;
-  refused = refused;
-  device = is_device (writer' ≡ writer) fault _ _ _ _ read wrote same;
-  calm = is_calm fault _ _ _ _ read wrote;
-  unwritten = but_at_3_and_4 (writer' ≡ writer) fault same;
-  part = λ four. part (only_memory fault plain four);
-}
+comes_to sink command fault known reads reads' writer writer' read wrote same refused left plain part =
+    let kept : fault ≢ play.Write → fault ≢ play.OutOfMemory → IsKept sink command known writer writer' = λ no_write no_memory. inl (same no_write no_memory) in
+    record {
+      understood = is_no_line fault;
+      refused = λ one. (refused one, left (at_1 (writer' ≡ writer) fault same one));
+      device = is_device (IsKept sink command known writer writer') fault _ _ _ _ read wrote kept;
+      calm = is_calm fault _ _ _ _ read wrote;
+      unwritten = but_at_3_and_4 (IsKept sink command known writer writer') fault kept;
+      part = λ four. part_kept (part (only_memory fault plain four));
+    }
+  where
+    part_kept : (writer' ≡ writer) ⊎ ((command ≡ PlaySchedule) × IsPlayedInPart known (sink.contents writer) (sink.contents writer'))
+        → IsKept sink command known writer writer' ⊎ ((command ≡ PlaySchedule) × IsPlayedInPart known (sink.contents writer) (sink.contents writer'))
+    part_kept (inl unwritten) = inl (inl unwritten)
+    part_kept (inr both) = inr both
+
+-- ---- `file`
+
+file_no_line : (fault : FileFault) → status_of (File fault) ≢ 2
+file_no_line file.NoFile two = absurd (cc)
+file_no_line file.Torn two = absurd (cc)
+file_no_line file.TooLong two = absurd (cc)
+file_no_line file.Read two = absurd (cc)
+file_no_line file.Write two = absurd (cc)
+file_no_line file.OutOfMemory two = absurd (cc)
+
+file_device : (Same : Type 0) (fault : FileFault) (reads reads' writes writes' : ℕ)
+    → reads' ≡ count_after (file_read (not_cut fault)) reads → writes' ≡ count_after (file_wrote (not_cut fault)) writes
+    → Same → status_of (File fault) ≡ 3 → IsDevice Same (ending_line (File fault)) reads reads' writes writes'
+file_device Same file.NoFile reads reads' writes writes' read wrote same three = absurd (cc)
+file_device Same file.Torn reads reads' writes writes' read wrote same three = absurd (cc)
+file_device Same file.TooLong reads reads' writes writes' read wrote same three = absurd (cc)
+file_device Same file.Read reads reads' writes writes' read wrote same three = inl (refl, read, same)
+file_device Same file.Write reads reads' writes writes' read wrote same three = inr (refl, wrote, read)
+file_device Same file.OutOfMemory reads reads' writes writes' read wrote same three = absurd (cc)
+
+file_calm : (fault : FileFault) (reads reads' writes writes' : ℕ)
+    → reads' ≡ count_after (file_read (not_cut fault)) reads → writes' ≡ count_after (file_wrote (not_cut fault)) writes
+    → status_of (File fault) ≢ 3 → (reads' ≡ reads) × (writes' ≡ writes)
+file_calm file.NoFile reads reads' writes writes' read wrote other = (read, wrote)
+file_calm file.Torn reads reads' writes writes' read wrote other = (read, wrote)
+file_calm file.TooLong reads reads' writes writes' read wrote other = (read, wrote)
+file_calm file.Read reads reads' writes writes' read wrote other = absurd (other refl)
+file_calm file.Write reads reads' writes writes' read wrote other = absurd (other refl)
+file_calm file.OutOfMemory reads reads' writes writes' read wrote other = (read, wrote)
+
+-- what a refusal leaves
+file_left : {W : Type 0} (sink : SinkOf W) (period : ℕ) (fault : FileFault) (known : Option (List ℕ)) (writer writer' : W) → (fault ≡ file.NoFile → writer' ≡ writer)
+    → (fault ≡ file.Torn → AppendsPart known period (sink.contents writer) (sink.contents writer')) → AppendsFront known period (sink.contents writer) (sink.contents writer')
+    → status_of (File fault) ≡ 1 → IsLeftBy sink (CutFile period) (File fault) known writer writer'
+file_left sink period file.NoFile known writer writer' none torn front one = none refl
+file_left sink period file.Torn known writer writer' none torn front one = torn refl
+file_left sink period file.TooLong known writer writer' none torn front one = front
+file_left sink period file.Read known writer writer' none torn front one = absurd (cc)
+file_left sink period file.Write known writer writer' none torn front one = absurd (cc)
+file_left sink period file.OutOfMemory known writer writer' none torn front one = absurd (cc)
+
+pub file_comes_to : {W : Type 0} (sink : SinkOf W) (period : ℕ) (fault : FileFault) (known : Option (List ℕ)) (reads reads' : ℕ) (writer writer' : W)
+    → reads' ≡ count_after (file_read (not_cut fault)) reads
+    → sink.failed_calls writer' ≡ count_after (file_wrote (not_cut fault)) (sink.failed_calls writer)
+    → (fault ≡ file.NoFile → writer' ≡ writer)
+    → (fault ≡ file.Torn → AppendsPart known period (sink.contents writer) (sink.contents writer'))
+    → AppendsFront known period (sink.contents writer) (sink.contents writer')
+    → (status_of (File fault) ≡ 1 → Refuses (CutFile period) known (File fault))
+    → ComesTo sink (CutFile period) (File fault) known reads reads' writer writer'
+file_comes_to sink period fault known reads reads' writer writer' read wrote none torn front refused =
+    let kept : IsKept sink (CutFile period) known writer writer' = inr (period, refl, front) in
+    record {
+      understood = file_no_line fault;
+      refused = λ one. (refused one, file_left sink period fault known writer writer' none torn front one);
+      device = file_device (IsKept sink (CutFile period) known writer writer') fault _ _ _ _ read wrote kept;
+      calm = file_calm fault _ _ _ _ read wrote;
+      unwritten = λ not_3 not_4. kept;
+      part = λ four. inl kept;
+    }
 
 -- ---- `threads`
 
@@ -134,8 +217,8 @@ not_write threads.Write other = absurd (other refl)
 not_write threads.Refused other = λ same. absurd (cc)
 not_write (threads.Run fault) other = λ same. absurd (cc)
 
-not_3_at_4 : (status : ℕ) → status ≡ 4 → status ≢ 3
-not_3_at_4 status four three = absurd (omega (arith, four, three))
+not_3_at : (status other : ℕ) → status ≡ other → (other ≡ 3 → ⊥) → status ≢ 3
+not_3_at status other is differ three = differ (sym is ∙ three)
 
 -- a group is refused for what came of it, or for its sheet
 threads_refused : (Sheet : Type 0) (fault : ThreadsFault) → (fault ≡ threads.Refused → Sheet) → status_of (Threads fault) ≡ 1
@@ -151,11 +234,11 @@ pub threads_come_to : {W : Type 0} (sink : SinkOf W) (size : Size) (fault : Thre
     → ComesTo sink (RunThreads size) (Threads fault) known reads reads writer writer'
 threads_come_to sink size fault known reads writer writer' wrote same sheet = record {
   understood = threads_no_line fault;
-  refused = threads_refused IsSheetRefused fault sheet;
-  device = threads_device (writer' ≡ writer) fault _ _ _ wrote;
+  refused = λ one. (threads_refused IsSheetRefused fault sheet one, same (not_write fault (not_3_at (status_of (Threads fault)) 1 one (λ is. omega (arith, is)))));
+  device = threads_device (IsKept sink (RunThreads size) known writer writer') fault _ _ _ wrote;
   calm = λ other. (refl, threads_calm fault _ _ wrote other);
-  unwritten = λ not_3 not_4. same (not_write fault not_3);
-  part = λ four. inl (same (not_write fault (not_3_at_4 (status_of (Threads fault)) four)));
+  unwritten = λ not_3 not_4. inl (same (not_write fault not_3));
+  part = λ four. inl (inl (same (not_write fault (not_3_at (status_of (Threads fault)) 4 four (λ is. omega (arith, is))))));
 }
 
 -- ---- the whole run
@@ -170,6 +253,12 @@ tells_memory Told (Play play.OutOfMemory) four told = told
 tells_memory Told (Play (play.Refused refusal)) four told = absurd (cc)
 tells_memory Told (Play (play.Schedule (section.Refused code line))) four told = absurd (cc)
 tells_memory Told (Play (play.Schedule section.OutOfMemory)) four told = told
+tells_memory Told (File file.NoFile) four told = absurd (cc)
+tells_memory Told (File file.Torn) four told = absurd (cc)
+tells_memory Told (File file.TooLong) four told = absurd (cc)
+tells_memory Told (File file.Read) four told = absurd (cc)
+tells_memory Told (File file.Write) four told = absurd (cc)
+tells_memory Told (File file.OutOfMemory) four told = told
 tells_memory Told (Threads threads.Write) four told = absurd (cc)
 tells_memory Told (Threads threads.Refused) four told = absurd (cc)
 tells_memory Told (Threads (threads.Run of_run.OutOfMemory)) four told = told
@@ -178,20 +267,31 @@ tells_memory Told (Threads (threads.Run of_run.Mismatch)) four told = absurd (cc
 -- which of the two failed is told
 tells_device : (Told : List ℕ → Type 0) (Same : Type 0) (line : List ℕ) (reads reads' writes writes' : ℕ)
     → IsDevice Same line reads reads' writes writes' → Told line
-    → (((reads' ≡ next_count reads) × Same) × Told (ending_line (Play play.Read))) ⊎ (((writes' ≡ next_count writes) × (reads' ≡ reads)) × Told (ending_line (Play play.Write)))
-tells_device Told Same line reads reads' writes writes' (inl is) told = inl ((is.1, is.2), subst Told is.0 told)
+    → ((reads' ≡ next_count reads) × Same × Told (ending_line (Play play.Read))) ⊎ (((writes' ≡ next_count writes) × (reads' ≡ reads)) × Told (ending_line (Play play.Write)))
+tells_device Told Same line reads reads' writes writes' (inl is) told = inl (is.1, is.2, subst Told is.0 told)
 tells_device Told Same line reads reads' writes writes' (inr is) told = inr ((is.1, is.2), subst Told is.0 told)
 
+-- what is written of a file was asked for
+kept_of : (Same : Type 0) (Front : ℕ → Type 0) (Asked : Command → Type 0) (command : Command) → Asked command → Same ⊎ ((period : ℕ) × (command ≡ CutFile period) × Front period)
+    → Same ⊎ ((period : ℕ) × Asked (CutFile period) × Front period)
+kept_of Same Front Asked command asked (inl same) = inl same
+kept_of Same Front Asked command asked (inr it) = inr (it.0, subst Asked it.1 asked, it.2)
+
 -- what is written in part was asked to be played
-part_of : (Same Part : Type 0) (Asked : Command → Type 0) (command : Command) → Asked command → Same ⊎ ((command ≡ PlaySchedule) × Part) → Same ⊎ (Asked PlaySchedule × Part)
-part_of Same Part Asked command asked (inl same) = inl same
-part_of Same Part Asked command asked (inr both) = inr (subst Asked both.0 asked, both.1)
+part_of : (Kept Unwritten Part : Type 0) (Asked : Command → Type 0) (command : Command) → Asked command → (Kept → Unwritten) → Kept ⊎ ((command ≡ PlaySchedule) × Part) → Unwritten ⊎ (Asked PlaySchedule × Part)
+part_of Kept Unwritten Part Asked command asked kept (inl same) = inl (kept same)
+part_of Kept Unwritten Part Asked command asked kept (inr both) = inr (subst Asked both.0 asked, both.1)
+
+device_of : (Kept Unwritten : Type 0) (line : List ℕ) (reads reads' writes writes' : ℕ) → (Kept → Unwritten) → IsDevice Kept line reads reads' writes writes' → IsDevice Unwritten line reads reads' writes writes'
+device_of Kept Unwritten line reads reads' writes writes' kept (inl is) = inl (is.0, is.1, kept is.2)
+device_of Kept Unwritten line reads reads' writes writes' kept (inr is) = inr is
 
 -- what is done reads all, but where a group was asked for
 at_end_of : (Asked : Command → Type 0) (command : Command) (known left old new : Option (List ℕ)) → Asked command → IsDone command known left old new
     → ((size : Size) → Asked (RunThreads size) → ⊥) → IsAtEnd left
 at_end_of Asked (Rate period) known left old new asked done other = done.1
 at_end_of Asked PlaySchedule known left old new asked done other = done.1
+at_end_of Asked (CutFile period) known left old new asked done other = done.1
 at_end_of Asked (RunThreads size) known left old new asked done other = absurd (other size asked)
 
 -- every fault ends with a status from 1 to 4
@@ -204,15 +304,25 @@ in_range (Play play.OutOfMemory) = (omega arith, omega arith)
 in_range (Play (play.Refused refusal)) = (omega arith, omega arith)
 in_range (Play (play.Schedule (section.Refused code line))) = (omega arith, omega arith)
 in_range (Play (play.Schedule section.OutOfMemory)) = (omega arith, omega arith)
+in_range (File file.NoFile) = (omega arith, omega arith)
+in_range (File file.Torn) = (omega arith, omega arith)
+in_range (File file.TooLong) = (omega arith, omega arith)
+in_range (File file.Read) = (omega arith, omega arith)
+in_range (File file.Write) = (omega arith, omega arith)
+in_range (File file.OutOfMemory) = (omega arith, omega arith)
 in_range (Threads threads.Write) = (omega arith, omega arith)
 in_range (Threads threads.Refused) = (omega arith, omega arith)
 in_range (Threads (threads.Run of_run.OutOfMemory)) = (omega arith, omega arith)
 in_range (Threads (threads.Run of_run.Mismatch)) = (omega arith, omega arith)
 
 -- reading nothing takes no byte
-pub nothing_read : (known : Option (List ℕ)) → ConsumesAtMost 16_777_217 known known
-nothing_read None = let nothing : (taken : List ℕ) × Unit {0} × (length taken ≤ 16_777_217) = ([], tt, omega arith) in nothing
-nothing_read (Some bytes) = let nothing : (taken : List ℕ) × (bytes ≡ taken ++ bytes) × (length taken ≤ 16_777_217) = ([], refl, omega arith) in nothing
+pub nothing_read : (most : ℕ) (known : Option (List ℕ)) → ConsumesAtMost most known known
+nothing_read most None = let nothing : (taken : List ℕ) × Unit {0} × (length taken ≤ most) = ([], tt, omega arith) in nothing
+nothing_read most (Some bytes) = let nothing : (taken : List ℕ) × (bytes ≡ taken ++ bytes) × (length taken ≤ most) = ([], refl, omega arith) in nothing
+
+-- and few bytes are not many
+pub no_more_read : (known left : Option (List ℕ)) → ConsumesAtMost 16_777_217 known left → ConsumesAtMost 4_294_967_297 known left
+no_more_read known left it = let few = it.2 in (it.0, it.1, omega (arith, few))
 
 -- no fault ends with 0
 never_zero : (fault : Fault) (status : ℕ) → status ≡ status_of fault → status ≡ 0 → ⊥
@@ -230,15 +340,20 @@ given_of : {A B : Type 0} (args : Result (IntoIter (String A) B) Error) (command
 given_of (Ok given) command P asked = tt
 given_of (Err error) command P asked = absurd asked
 
+-- What is asked for is no file, where none is asked for.
+other_than : (Asked : Command → Type 0) (command : Command) → Asked command → ((period : ℕ) → ¬ Asked (CutFile period)) → (period : ℕ) → command ≢ CutFile period
+other_than Asked command asked none period is = none period (subst Asked is asked)
+
 -- A run whose words ask for a command leaves what this one leaves.
 pub ends : {R W E A B : Type 0} (source : SourceOf R) (sink : SinkOf W) (telling : SinkOf E) (args : Result (IntoIter (String A) B) Error) (command : Command) (outcome : Result (Unit {0}) Fault) (status : ℕ) (reader reader' : R) (writer writer' : W) (errors errors' : E)
     → AsksFor args command
     → Leaves sink command outcome (source.remaining reader) (source.remaining reader') (source.failed_calls reader) (source.failed_calls reader') writer writer'
     → IsEnding telling outcome status errors errors'
-    → ConsumesAtMost 16_777_217 (source.remaining reader) (source.remaining reader')
+    → (((period : ℕ) → command ≢ CutFile period) → ConsumesAtMost 16_777_217 (source.remaining reader) (source.remaining reader'))
+    → ConsumesAtMost 4_294_967_297 (source.remaining reader) (source.remaining reader')
     → ((size : Size) → AsksFor args (RunThreads size) → reader' ≡ reader)
     → Ends source sink telling args status reader reader' writer writer' errors errors'
-ends source sink telling args command (Ok x) status reader reader' writer writer' errors errors' asked leaves ending read unread =
+ends source sink telling args command (Ok x) status reader reader' writer writer' errors errors' asked leaves ending read read_by_file unread =
     let zero = ending.0 in
     record {
       range = omega (arith, zero);
@@ -253,27 +368,37 @@ ends source sink telling args command (Ok x) status reader reader' writer writer
       memory = λ is. absurd (omega (arith, zero, is));
       part = λ is. absurd (omega (arith, zero, is));
       unwritten = λ not_0 not_3 not_4. absurd (not_0 zero);
-      read = read;
+      read = λ none. read (other_than (AsksFor args) command asked none);
+      read_by_file = read_by_file;
       unread = unread;
       not_given = given_of args command _ asked;
     }
-ends source sink telling args command (Err fault) status reader reader' writer writer' errors errors' asked leaves ending read unread =
+ends source sink telling args command (Err fault) status reader reader' writer writer' errors errors' asked leaves ending read read_by_file unread =
     let same = ending.0 in
+    let known = source.remaining reader in
+    let kept : IsKept sink command known writer writer' → IsUnwritten sink args known writer writer' =
+    λ it. kept_of (writer' ≡ writer) (λ period. AppendsFront known period (sink.contents writer) (sink.contents writer')) (AsksFor args) command asked it in
     let told : List ℕ → Type 0 = λ line. (Appends (telling.contents errors) (telling.contents errors') line × (telling.failed_calls errors' ≡ telling.failed_calls errors)) ⊎ (AppendsPrefix (telling.contents errors) (telling.contents errors') line × (telling.failed_calls errors' ≡ next_count (telling.failed_calls errors))) in
     record {
       range = let to = (in_range fault).1 in omega (arith, same, to);
       done = λ is. absurd (never_zero fault status same is);
       end = λ is. absurd (never_zero fault status same is);
       silent = λ is. absurd (never_zero fault status same is);
-      refused = λ is. let one = sym same ∙ is in (command, fault, asked, one, leaves.refused one, ending.1);
+      refused = λ is. let one = sym same ∙ is in (command, fault, asked, one, (leaves.refused one).0, (leaves.refused one).1, ending.1);
       not_asked = λ is. absurd (leaves.understood (sym same ∙ is));
       untouched = λ is. absurd (leaves.understood (sym same ∙ is));
-      device = λ is. (command, asked, tells_device told (writer' ≡ writer) (ending_line fault) (source.failed_calls reader) (source.failed_calls reader') (sink.failed_calls writer) (sink.failed_calls writer') (leaves.device (sym same ∙ is)) ending.1);
+      device = λ is. (
+        command,
+        asked,
+        tells_device told (IsUnwritten sink args known writer writer') (ending_line fault) (source.failed_calls reader) (source.failed_calls reader') (sink.failed_calls writer) (sink.failed_calls writer')
+            (device_of (IsKept sink command known writer writer') (IsUnwritten sink args known writer writer') (ending_line fault) (source.failed_calls reader) (source.failed_calls reader') (sink.failed_calls writer) (sink.failed_calls writer') kept (leaves.device (sym same ∙ is))) ending.1,
+      );
       calm = λ other. leaves.calm (λ is. other (same ∙ is));
       memory = λ is. tells_memory told fault (sym same ∙ is) ending.1;
-      part = λ is. part_of _ _ (AsksFor args) command asked (leaves.part (sym same ∙ is));
-      unwritten = λ not_0 not_3 not_4. leaves.unwritten (λ is. not_3 (same ∙ is)) (λ is. not_4 (same ∙ is));
-      read = read;
+      part = λ is. part_of (IsKept sink command known writer writer') _ _ (AsksFor args) command asked kept (leaves.part (sym same ∙ is));
+      unwritten = λ not_0 not_3 not_4. kept (leaves.unwritten (λ is. not_3 (same ∙ is)) (λ is. not_4 (same ∙ is)));
+      read = λ none. read (other_than (AsksFor args) command asked none);
+      read_by_file = read_by_file;
       unread = unread;
       not_given = given_of args command _ asked;
     }
@@ -313,9 +438,10 @@ ends_at_words source sink telling args on_line.Line status reader writer errors 
   device = λ is. absurd (omega (arith, same, is));
   calm = λ other. (refl, refl);
   memory = λ is. absurd (omega (arith, same, is));
-  part = λ is. inl refl;
-  unwritten = λ not_0 not_3 not_4. refl;
-  read = nothing_read (source.remaining reader);
+  part = λ is. inl (inl refl);
+  unwritten = λ not_0 not_3 not_4. inl refl;
+  read = λ none. nothing_read 16_777_217 (source.remaining reader);
+  read_by_file = nothing_read 4_294_967_297 (source.remaining reader);
   unread = λ size asked. refl;
   not_given = missing_of args on_line.Line status same missing;
 }
@@ -330,9 +456,10 @@ ends_at_words source sink telling args on_line.OutOfMemory status reader writer 
   device = λ is. absurd (omega (arith, same, is));
   calm = λ other. (refl, refl);
   memory = λ is. told;
-  part = λ is. inl refl;
-  unwritten = λ not_0 not_3 not_4. refl;
-  read = nothing_read (source.remaining reader);
+  part = λ is. inl (inl refl);
+  unwritten = λ not_0 not_3 not_4. inl refl;
+  read = λ none. nothing_read 16_777_217 (source.remaining reader);
+  read_by_file = nothing_read 4_294_967_297 (source.remaining reader);
   unread = λ size asked. refl;
   not_given = missing_of args on_line.OutOfMemory status same missing;
 }

@@ -14,11 +14,10 @@ use Rattle.clap.proofs.WalkLemmas.{one_text-rows}
 use Rattle.clap.proofs.OnLiterals.{clap_on_literals}
 use Rattle.std.specs.Box.{box_value}
 use Rattle.std.specs.Borrow.{Bor}
-use Rattle.metering_model.specs.Dates.{IsPeriod}
 use Rattle.command_line.specs.declared.commands.Command.{Command}
-use Rattle.command_line.specs.declared.commands.Command.TheVariants.{Rate, Play, Threads}
+use Rattle.command_line.specs.declared.commands.Command.TheVariants.{Rate, Play, File, Threads}
 use Rattle.threads_player.specs.declared.sizes.Size.{Size}
-use Rattle.command_line.specs.CommandLine.{grammar_of_focusd, Asks, AsksForPlay, GivesNumber, GivesSize}
+use Rattle.command_line.specs.CommandLine.{grammar_of_focusd, Asks, AsksForPlay, GivesNumber, GivesPeriod, GivesSize}
 
 pub grammar_is_simple : is_simple grammar_of_focusd ≡ true
 unfolding clap_on_literals
@@ -37,6 +36,7 @@ only_memory (k ∷ ks) e none fault = absurd (cc)
 pub taken_of : (words : List Text) (command : Command) → Asks words command → fault_of grammar_of_focusd words ≡ []
 taken_of words (Rate period) asked = asked.taken
 taken_of words Play asked = asked.taken
+taken_of words (File period) asked = asked.taken
 taken_of words (Threads size) asked = asked.taken
 
 abbrev entered_of : {A : Type 0} → Option A → (A → Text) → (A → List Row) → Option (Text × List Row)
@@ -66,10 +66,11 @@ name_met m name rs entered =
 
 -- Words that ask for something meet one of the subcommands.
 pub meets_one : (words : List Text) (m : ArgMatches) (command : Command) → Asks words command → subcommand_rows_of m ≡ subcommand_of grammar_of_focusd words
-    → (subcommand_name_of m ≢ Some (codes "play")) → (subcommand_name_of m ≢ Some (codes "threads")) → (subcommand_name_of m ≢ Some (codes "rate")) → ⊥
-meets_one words m (Rate period) asked same no_play no_threads no_rate = no_rate (name_met m (codes "rate") asked.rows (same ∙ asked.named))
-meets_one words m Play asked same no_play no_threads no_rate = no_play (name_met m (codes "play") asked.rows (same ∙ asked.named))
-meets_one words m (Threads size) asked same no_play no_threads no_rate = no_threads (name_met m (codes "threads") asked.rows (same ∙ asked.named))
+    → (subcommand_name_of m ≢ Some (codes "play")) → (subcommand_name_of m ≢ Some (codes "threads")) → (subcommand_name_of m ≢ Some (codes "file")) → (subcommand_name_of m ≢ Some (codes "rate")) → ⊥
+meets_one words m (Rate period) asked same no_play no_threads no_file no_rate = no_rate (name_met m (codes "rate") asked.rows (same ∙ asked.named))
+meets_one words m Play asked same no_play no_threads no_file no_rate = no_play (name_met m (codes "play") asked.rows (same ∙ asked.named))
+meets_one words m (File period) asked same no_play no_threads no_file no_rate = no_file (name_met m (codes "file") asked.rows (same ∙ asked.named))
+meets_one words m (Threads size) asked same no_play no_threads no_file no_rate = no_threads (name_met m (codes "threads") asked.rows (same ∙ asked.named))
 
 -- What is met under the name `play` is asked for.
 pub asks_for_play : (words : List Text) (m : ArgMatches) (r : Option (Bor ArgMatches)) → is_some r ≡ true → (is_some r ≡ true → subcommand_name_of m ≡ Some (codes "play"))
@@ -125,24 +126,48 @@ threads_or_play same = let numbers : ◌≡◌ {A = ℕ} 116 112 = same in absur
 threads_or_rate : slice_index (codes "threads") 0 ≢ slice_index (codes "rate") 0
 threads_or_rate same = let numbers : ◌≡◌ {A = ℕ} 116 114 = same in absurd (omega (arith, numbers))
 
--- Words that ask for the subcommand whose rows were found ask for the number that is read there.
-pub is_read : (words : List Text) (f : Found) (r : Option ℕ) (command : Command) → Asks words command
-    → subcommand_of grammar_of_focusd words ≡ Some (codes "rate", rows_of f) → ((u : Text) → one_text f (codes "period") ≡ Some u → Reads 16 u r)
-    → (n : ℕ) × (r ≡ Some n) × IsPeriod n
-is_read words f r (Rate period) asked named value =
+file_or_rate : slice_index (codes "file") 0 ≢ slice_index (codes "rate") 0
+file_or_rate same = let numbers : ◌≡◌ {A = ℕ} 102 114 = same in absurd (omega (arith, numbers))
+
+file_or_play : slice_index (codes "file") 0 ≢ slice_index (codes "play") 0
+file_or_play same = let numbers : ◌≡◌ {A = ℕ} 102 112 = same in absurd (omega (arith, numbers))
+
+threads_or_file : slice_index (codes "threads") 0 ≢ slice_index (codes "file") 0
+threads_or_file same = let numbers : ◌≡◌ {A = ℕ} 116 102 = same in absurd (omega (arith, numbers))
+
+-- Where a text of the option spells a period, it is the one that is read.
+pub period_read : (f : Found) (r : Option ℕ) (period : ℕ) → GivesPeriod (rows_of f) period → ((u : Text) → one_text f (codes "period") ≡ Some u → Reads 16 u r) → r ≡ Some period
+period_read f r period gives value =
+    let small : period < 2 ^ 16 = omega (arith, gives.within) in
+    no_number 16 (codes "period") f r period gives.number small value
+
+-- Words that ask for the subcommand whose rows were found ask for a period that these give.
+pub rate_gives : (words : List Text) (rows : List Row) (command : Command) → Asks words command
+    → subcommand_of grammar_of_focusd words ≡ Some (codes "rate", rows) → (period : ℕ) × GivesPeriod rows period
+rate_gives words rows (Rate period) asked named =
     let both = ap (option_map (λ (p : Text × List Row). p.1)) (sym asked.named ∙ named) in
-    let same : asked.rows ≡ rows_of f = cc in
-    let gives : GivesNumber (rows_of f) (codes "period") period = record { text = asked.text; given = rw same at asked.given; spelled = asked.spelled } in
-    let small : period < 2 ^ 16 = omega (arith, asked.within) in
-    (period, no_number 16 (codes "period") f r period gives small value, asked.within)
-is_read words f r Play asked named value = absurd (other_names _ _ _ _ _ rate_or_play named asked.named)
-is_read words f r (Threads size) asked named value = absurd (other_names _ _ _ _ _ threads_or_rate asked.named named)
+    let same : asked.rows ≡ rows = cc in
+    (period, rw same at asked.given)
+rate_gives words rows Play asked named = absurd (other_names _ _ _ _ _ rate_or_play named asked.named)
+rate_gives words rows (File period) asked named = absurd (other_names _ _ _ _ _ file_or_rate asked.named named)
+rate_gives words rows (Threads size) asked named = absurd (other_names _ _ _ _ _ threads_or_rate asked.named named)
+
+pub file_gives : (words : List Text) (rows : List Row) (command : Command) → Asks words command
+    → subcommand_of grammar_of_focusd words ≡ Some (codes "file", rows) → (period : ℕ) × GivesPeriod rows period
+file_gives words rows (File period) asked named =
+    let both = ap (option_map (λ (p : Text × List Row). p.1)) (sym asked.named ∙ named) in
+    let same : asked.rows ≡ rows = cc in
+    (period, rw same at asked.given)
+file_gives words rows (Rate period) asked named = absurd (other_names _ _ _ _ _ file_or_rate named asked.named)
+file_gives words rows Play asked named = absurd (other_names _ _ _ _ _ file_or_play named asked.named)
+file_gives words rows (Threads size) asked named = absurd (other_names _ _ _ _ _ threads_or_file asked.named named)
 
 -- Words that ask for the subcommand whose rows were found ask for a size that these give.
 pub is_given : (words : List Text) (rows : List Row) (command : Command) → Asks words command
     → subcommand_of grammar_of_focusd words ≡ Some (codes "threads", rows) → (size : Size) × GivesSize rows size
 is_given words rows (Rate period) asked named = absurd (other_names _ _ _ _ _ threads_or_rate named asked.named)
 is_given words rows Play asked named = absurd (other_names _ _ _ _ _ threads_or_play named asked.named)
+is_given words rows (File period) asked named = absurd (other_names _ _ _ _ _ threads_or_file named asked.named)
 is_given words rows (Threads size) asked named =
     let both = ap (option_map (λ (p : Text × List Row). p.1)) (sym asked.named ∙ named) in
     let same : asked.rows ≡ rows = cc in
@@ -162,4 +187,5 @@ is_none (Some a) none = absurd (none a refl)
 pub asks_for_threads : (words : List Text) (command : Command) (size : Size) → Asks words command → Asks words (Threads size) → (other : Size) × (command ≡ Threads other)
 asks_for_threads words (Rate period) size asked threads = absurd (other_names _ _ _ _ _ threads_or_rate threads.named asked.named)
 asks_for_threads words Play size asked threads = absurd (other_names _ _ _ _ _ threads_or_play threads.named asked.named)
+asks_for_threads words (File period) size asked threads = absurd (other_names _ _ _ _ _ threads_or_file threads.named asked.named)
 asks_for_threads words (Threads other) size asked threads = (other, refl)

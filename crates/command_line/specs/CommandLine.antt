@@ -9,7 +9,7 @@ use Rattle.metering_model.specs.Dates.{IsPeriod}
 use Rattle.threads_player.specs.declared.sizes.Size.{Size}
 use Rattle.threads_player.specs.Groups.{IsSize}
 use Rattle.command_line.specs.declared.commands.Command.{Command}
-use Rattle.command_line.specs.declared.commands.Command.TheVariants.{Rate, Play, Threads}
+use Rattle.command_line.specs.declared.commands.Command.TheVariants.{Rate, Play, File, Threads}
 
 -- `--NAME N`, which may not be left out: a number from the one to the other
 abbrev pub number_option : Text → (least most : ℕ) → Rule
@@ -20,8 +20,9 @@ number_option name least most = record (new_rule name) {
   parser = Some (parser.Signed (pos least) (pos most));
 }
 
-abbrev pub rate_grammar : App
-rate_grammar = with_rule (new_app (codes "rate")) (number_option (codes "period") 0 1_199)
+-- of a subcommand that is asked for a period
+abbrev pub period_grammar : Text → App
+period_grammar name = with_rule (new_app name) (number_option (codes "period") 0 1_199)
 
 abbrev pub group_grammar : App
 group_grammar = with_rule (with_rule (new_app (codes "threads")) (number_option (codes "nodes") 1 9)) (number_option (codes "agents") 1 9)
@@ -38,7 +39,9 @@ abbrev pub play_grammar : App
 play_grammar = new_app (codes "play")
 
 abbrev pub grammar_of_focusd : App
-grammar_of_focusd = with_subcommand (with_subcommand (with_subcommand bare_grammar rate_grammar.top) play_grammar.top) threads_grammar.top
+grammar_of_focusd =
+    with_subcommand (with_subcommand (with_subcommand (with_subcommand bare_grammar (period_grammar (codes "rate")).top) play_grammar.top)
+    (period_grammar (codes "file")).top) threads_grammar.top
 
 -- The text is digits, perhaps behind a plus, and they make the number.
 abbrev pub SpellsNumber : Text → ℕ → Type 0
@@ -50,16 +53,24 @@ pub record GivesNumber (rows : List Row) (option : Text) (number : ℕ) : Type 0
   pub given : one_of option rows ≡ Some text
   pub spelled : SpellsNumber text number
 
--- The grammar takes the words, they name the subcommand `rate`, and the text of its option spells the period. Of a minus
--- zero `clap` hands on the zero alone.
+-- The text of the option spells the period, and it is one. Of a minus zero `clap` hands on the zero alone.
+pub record GivesPeriod (rows : List Row) (period : ℕ) : Type 0 where
+  pub number : GivesNumber rows (codes "period") period
+  pub within : IsPeriod period
+
+-- The grammar takes the words, they name the subcommand `rate`, and its option gives the period.
 pub record AsksForRate (words : List Text) (period : ℕ) : Type 0 where
   pub taken : fault_of grammar_of_focusd words ≡ []
   pub rows : List Row
   pub named : subcommand_of grammar_of_focusd words ≡ Some (codes "rate", rows)
-  pub text : Text
-  pub given : one_of (codes "period") rows ≡ Some text
-  pub spelled : SpellsNumber text period
-  pub within : IsPeriod period
+  pub given : GivesPeriod rows period
+
+-- The same of the subcommand `file`.
+pub record AsksForFile (words : List Text) (period : ℕ) : Type 0 where
+  pub taken : fault_of grammar_of_focusd words ≡ []
+  pub rows : List Row
+  pub named : subcommand_of grammar_of_focusd words ≡ Some (codes "file", rows)
+  pub given : GivesPeriod rows period
 
 -- The grammar takes the words, and they name the subcommand `play`.
 pub record AsksForPlay (words : List Text) : Type 0 where
@@ -86,4 +97,5 @@ pub record AsksForThreads (words : List Text) (size : Size) : Type 0 where
 abbrev pub Asks : List Text → Command → Type 0
 Asks words (Rate period) = AsksForRate words period
 Asks words Play = AsksForPlay words
+Asks words (File period) = AsksForFile words period
 Asks words (Threads size) = AsksForThreads words size

@@ -10,12 +10,13 @@ use Rattle.input_sections.specs.declared.faults.ScheduleCode.TheVariants as code
 use Rattle.input_sections.specs.declared.faults.ScheduleFault.TheVariants as section
 use Rattle.command_line.specs.declared.words.LineFault.TheVariants as on_line
 use Rattle.schedule_player.specs.declared.PlayFault.TheVariants as play
+use Rattle.period_file.specs.declared.faults.FileFault.TheVariants as file
 use Rattle.threads_player.specs.declared.RunFault.TheVariants as of_run
 use Rattle.threads_player.specs.declared.faults.ThreadsFault.TheVariants as threads
 use Rattle.command_line.specs.declared.endings.Fault.{Fault}
-use Rattle.command_line.specs.declared.endings.Fault.TheVariants.{Line, Play, Threads}
+use Rattle.command_line.specs.declared.endings.Fault.TheVariants.{Line, Play, File, Threads}
 
--- 1 refused input or a mismatch, 2 the command line, 3 a failed read or write, 4 want of memory
+-- 1 refused input, no whole file or a mismatch, 2 the command line, 3 a failed read or write, 4 want of memory
 abbrev pub status_of : Fault → ℕ
 status_of (Line on_line.Line) = 2
 status_of (Line on_line.OutOfMemory) = 4
@@ -25,6 +26,12 @@ status_of (Play (play.Schedule section.OutOfMemory)) = 4
 status_of (Play play.Read) = 3
 status_of (Play play.Write) = 3
 status_of (Play play.OutOfMemory) = 4
+status_of (File file.NoFile) = 1
+status_of (File file.Torn) = 1
+status_of (File file.TooLong) = 1
+status_of (File file.Read) = 3
+status_of (File file.Write) = 3
+status_of (File file.OutOfMemory) = 4
 status_of (Threads (threads.Run of_run.OutOfMemory)) = 4
 status_of (Threads (threads.Run of_run.Mismatch)) = 1
 status_of (Threads threads.Write) = 3
@@ -52,6 +59,12 @@ message_of (Play (play.Schedule section.OutOfMemory)) = codes "out of memory"
 message_of (Play play.Read) = codes "read failed"
 message_of (Play play.Write) = codes "write failed"
 message_of (Play play.OutOfMemory) = codes "out of memory"
+message_of (File file.NoFile) = codes "no file"
+message_of (File file.Torn) = codes "torn file"
+message_of (File file.TooLong) = codes "refused " ++ section_text code.TooLong 1
+message_of (File file.Read) = codes "read failed"
+message_of (File file.Write) = codes "write failed"
+message_of (File file.OutOfMemory) = codes "out of memory"
 message_of (Threads (threads.Run of_run.OutOfMemory)) = codes "out of memory"
 message_of (Threads (threads.Run of_run.Mismatch)) = codes "mismatch"
 message_of (Threads threads.Write) = codes "write failed"

@@ -18,6 +18,9 @@ use Rattle.schedule_player.specs.declared.PlayFault.{PlayFault}
 use Rattle.schedule_player.specs.declared.PlayFault.TheVariants as play
 use Rattle.schedule_player.specs.RateInput.{rated_file}
 use Rattle.schedule_player.specs.Charges.{IsFileOf}
+use Rattle.period_file.specs.Files.{AppendsFront, AppendsPart, IsFileOf as IsFirstFileOf, file_in}
+use Rattle.period_file.specs.declared.faults.FileFault.{FileFault}
+use Rattle.period_file.specs.declared.faults.FileFault.TheVariants as file
 use Rattle.threads_player.specs.Runs.{Run}
 use Rattle.threads_player.specs.declared.RunFault.TheVariants as of_run
 use Rattle.threads_player.specs.declared.faults.ThreadsFault.TheVariants as threads
@@ -30,7 +33,7 @@ use Rattle.command_line.specs.declared.words.LineFault.TheVariants as on_line
 use Rattle.command_line.specs.declared.endings.Fault.{Fault}
 use Rattle.command_line.specs.declared.endings.Fault.TheVariants as of_fault
 use Rattle.command_line.specs.declared.commands.Command.{Command}
-use Rattle.command_line.specs.declared.commands.Command.TheVariants.{Rate, Play, Threads}
+use Rattle.command_line.specs.declared.commands.Command.TheVariants.{Rate, Play, File, Threads}
 
 -- the words behind the program's name, which is the first
 abbrev pub words_behind_name : {A B : Type 0} → IntoIter (String A) B → List Text
@@ -42,26 +45,42 @@ AsksFor (Ok args) command = Asks (words_behind_name args) command
 AsksFor (Err error) command = ⊥
 
 -- What was asked for was done, and nothing else: the file of the input was written, or the transcript of the schedule that
--- the input is, and nothing remains to be read; or the report of a run of such a group was written.
+-- the input is, or the first file of the period in the input, and nothing remains to be read; or the report of a run of such a
+-- group was written.
 abbrev pub IsDone : Command → (known left old new : Option (List ℕ)) → Type 0
 IsDone (Rate period) known left old new = ((input text : List ℕ) × IsFileOf known period input text × Appends old new text) × IsAtEnd left
 IsDone Play known left old new = ((input text : List ℕ) × IsTranscriptOf known input text × Appends old new text) × IsAtEnd left
+IsDone (File period) known left old new = ((input file : List ℕ) × IsFirstFileOf known period input file × Appends old new file) × IsAtEnd left
 IsDone (Threads size) known left old new = (run : Run) × IsRunOf size run × Appends old new (report_text run)
 
--- The command refuses so. Of an input whose bytes are known: by its sections or by its batch, or as no schedule. Of a group:
--- what its workers brought back, or the sheet that is built in.
+-- The command refuses so. Of an input whose bytes are known: by its sections or by its batch, or as no schedule, or it has no
+-- whole file of the period. Of a group: what its workers brought back, or the sheet that is built in.
 abbrev pub Refuses : Command → Option (List ℕ) → Fault → Type 0
 Refuses (Rate period) known fault = (told : PlayFault) × (fault ≡ of_fault.Play told) × IfSome known (λ input. rated_file period input ≡ Err told)
 Refuses Play known fault = (told : ScheduleFault) × (fault ≡ of_fault.Play (play.Schedule told)) × IfSome known (λ input. schedule_in input ≡ Err told)
+Refuses (File period) known fault = (told : FileFault) × (fault ≡ of_fault.File told) × IfSome known (λ input. file_in period input ≡ Err told)
 Refuses (Threads size) known fault = (fault ≡ of_fault.Threads (threads.Run of_run.Mismatch)) ⊎ ((fault ≡ of_fault.Threads threads.Refused) × IsSheetRefused)
+
+-- What `file` leaves where it refuses: without a file nothing, of a torn one all that the input has, and of an input that is
+-- too long a front of the file. The others leave nothing at all.
+abbrev pub IsLeftBy : {W : Type 0} → SinkOf W → Command → Fault → (known : Option (List ℕ)) (writer writer' : W) → Type 0
+IsLeftBy sink (File period) (of_fault.File file.NoFile) known writer writer' = writer' ≡ writer
+IsLeftBy sink (File period) (of_fault.File file.Torn) known writer writer' = AppendsPart known period (sink.contents writer) (sink.contents writer')
+IsLeftBy sink (File period) (of_fault.File told) known writer writer' = AppendsFront known period (sink.contents writer) (sink.contents writer')
+IsLeftBy sink command fault known writer writer' = writer' ≡ writer
 
 -- Nothing was written but the transcript of the first events of the schedule that the input is.
 abbrev pub IsPlayedInPart : Option (List ℕ) → Option (List ℕ) → Option (List ℕ) → Type 0
 IsPlayedInPart known old new = (input text : List ℕ) × IsPrefixOfTranscript known input text × Appends old new text
 
--- One call of the reader failed, and the writer is as it was.
-abbrev pub ReaderFailed : {R W : Type 0} → SourceOf R → (reader reader' : R) (writer writer' : W) → Type 0
-ReaderFailed source reader reader' writer writer' = (source.failed_calls reader' ≡ next_count (source.failed_calls reader)) × (writer' ≡ writer)
+-- The writer is as it was; or the words ask for a period's file, and of that a front was written, as far as the input has it.
+abbrev pub IsUnwritten : {W A B : Type 0} → SinkOf W → Result (IntoIter (String A) B) Error → Option (List ℕ) → (writer writer' : W) → Type 0
+IsUnwritten sink args known writer writer' =
+    (writer' ≡ writer) ⊎ ((period : ℕ) × AsksFor args (File period) × AppendsFront known period (sink.contents writer) (sink.contents writer'))
+
+-- One call of the reader failed.
+abbrev pub ReaderFailed : {R : Type 0} → SourceOf R → (reader reader' : R) → Type 0
+ReaderFailed source reader reader' = source.failed_calls reader' ≡ next_count (source.failed_calls reader)
 
 -- One call of the writer failed, and none of the reader.
 abbrev pub WriterFailed : {R W : Type 0} → SourceOf R → SinkOf W → (reader reader' : R) (writer writer' : W) → Type 0
@@ -75,21 +94,25 @@ pub record Ends {R W E A B : Type 0} (source : SourceOf R) (sink : SinkOf W) (te
   pub end : status ≡ 0 → ((size : Size) → ¬ AsksFor args (Threads size)) → IsAtEnd (source.remaining reader')
   pub silent : status ≡ 0 → errors' ≡ errors
   -- 1: what was asked for is refused so.
-  pub refused : status ≡ 1 → (command : Command) × (fault : Fault) × AsksFor args command × (status_of fault ≡ 1) × Refuses command (source.remaining reader) fault × Tells telling fault errors errors'
+  pub refused : status ≡ 1 → (command : Command) × (fault : Fault) × AsksFor args command × (status_of fault ≡ 1) × Refuses command (source.remaining reader) fault
+      × IsLeftBy sink command fault (source.remaining reader) writer writer' × Tells telling fault errors errors'
   -- 2: nothing was asked for.
   pub not_asked : status ≡ 2 → ((command : Command) → ¬ AsksFor args command) × Tells telling (of_fault.Line on_line.Line) errors errors'
   pub untouched : status ≡ 2 → reader' ≡ reader
   -- 3: one call failed, and no other.
   pub device : status ≡ 3 → (command : Command) × AsksFor args command
-      × ((ReaderFailed source reader reader' writer writer' × Tells telling (of_fault.Play play.Read) errors errors')
+      × ((ReaderFailed source reader reader' × IsUnwritten sink args (source.remaining reader) writer writer' × Tells telling (of_fault.Play play.Read) errors errors')
       ⊎ (WriterFailed source sink reader reader' writer writer' × Tells telling (of_fault.Play play.Write) errors errors'))
   pub calm : status ≢ 3 → (source.failed_calls reader' ≡ source.failed_calls reader) × (sink.failed_calls writer' ≡ sink.failed_calls writer)
-  -- 4: memory was wanting; a schedule may have been played up to some event.
+  -- 4: memory was wanting; a schedule may have been played up to some event, or a file written up to some byte.
   pub memory : status ≡ 4 → Tells telling (of_fault.Play play.OutOfMemory) errors errors'
-  pub part : status ≡ 4 → (writer' ≡ writer) ⊎ (AsksFor args Play × IsPlayedInPart (source.remaining reader) (sink.contents writer) (sink.contents writer'))
-  -- But at these nothing was written. A group in threads takes nothing of the input, however it ends.
-  pub unwritten : status ≢ 0 → status ≢ 3 → status ≢ 4 → writer' ≡ writer
-  pub read : ConsumesAtMost 16_777_217 (source.remaining reader) (source.remaining reader')
+  pub part : status ≡ 4 → IsUnwritten sink args (source.remaining reader) writer writer'
+      ⊎ (AsksFor args Play × IsPlayedInPart (source.remaining reader) (sink.contents writer) (sink.contents writer'))
+  -- But at these nothing was written, save by `file`.
+  pub unwritten : status ≢ 0 → status ≢ 3 → status ≢ 4 → IsUnwritten sink args (source.remaining reader) writer writer'
+  -- At most so much is read, by `file` and by all others. A group in threads takes nothing of the input, however it ends.
+  pub read : ((period : ℕ) → ¬ AsksFor args (File period)) → ConsumesAtMost 16_777_217 (source.remaining reader) (source.remaining reader')
+  pub read_by_file : ConsumesAtMost 4_294_967_297 (source.remaining reader) (source.remaining reader')
   pub unread : (size : Size) → AsksFor args (Threads size) → reader' ≡ reader
   -- where the process gave no words
   pub not_given : IfErr args (λ error. (error_kind error ≡ NoMemory → status ≡ 4) × (error_kind error ≢ NoMemory → status ≡ 2))

@@ -7,7 +7,8 @@ use crate::refusals::put_section;
 use crate::words::LineFault;
 use byte_text::{Line, refusal_line};
 use counted_io::{Sink, write_all};
-use schedule_player::{PlayFault, ScheduleFault};
+use period_file::FileFault;
+use schedule_player::{PlayFault, ScheduleCode, ScheduleFault};
 use threads_player::{RunFault, ThreadsFault};
 
 /// Why the program did not do what it is asked for.
@@ -17,6 +18,8 @@ pub enum Fault {
     Line(LineFault),
     /// `rate` or `play`.
     Play(PlayFault),
+    /// `file`.
+    File(FileFault),
     /// `threads`.
     Threads(ThreadsFault),
 }
@@ -27,10 +30,14 @@ fn status(fault: &Fault) -> u8
     match fault {
         Fault::Play(PlayFault::Refused(_))
         | Fault::Play(PlayFault::Schedule(ScheduleFault::Refused { .. }))
+        | Fault::File(FileFault::NoFile | FileFault::Torn | FileFault::TooLong)
         | Fault::Threads(ThreadsFault::Run(RunFault::Mismatch) | ThreadsFault::Refused) => 1,
         Fault::Line(LineFault::Line) => 2,
-        Fault::Play(PlayFault::Read | PlayFault::Write) | Fault::Threads(ThreadsFault::Write) => 3,
+        Fault::Play(PlayFault::Read | PlayFault::Write)
+        | Fault::File(FileFault::Read | FileFault::Write)
+        | Fault::Threads(ThreadsFault::Write) => 3,
         Fault::Line(LineFault::OutOfMemory)
+        | Fault::File(FileFault::OutOfMemory)
         | Fault::Play(PlayFault::OutOfMemory)
         | Fault::Play(PlayFault::Schedule(ScheduleFault::OutOfMemory))
         | Fault::Threads(ThreadsFault::Run(RunFault::OutOfMemory)) => 4,
@@ -45,12 +52,21 @@ fn put_message(line: &mut Line, fault: &Fault)
 {
     match fault {
         Fault::Line(LineFault::Line) => line.put(b"bad command line"),
+        Fault::File(FileFault::NoFile) => line.put(b"no file"),
+        Fault::File(FileFault::Torn) => line.put(b"torn file"),
+        Fault::File(FileFault::TooLong) => {
+            line.put(b"refused ");
+            put_section(line, ScheduleCode::TooLong, 1);
+        }
         Fault::Line(LineFault::OutOfMemory)
+        | Fault::File(FileFault::OutOfMemory)
         | Fault::Play(PlayFault::OutOfMemory)
         | Fault::Play(PlayFault::Schedule(ScheduleFault::OutOfMemory))
         | Fault::Threads(ThreadsFault::Run(RunFault::OutOfMemory)) => line.put(b"out of memory"),
-        Fault::Play(PlayFault::Read) => line.put(b"read failed"),
-        Fault::Play(PlayFault::Write) | Fault::Threads(ThreadsFault::Write) => {
+        Fault::Play(PlayFault::Read) | Fault::File(FileFault::Read) => line.put(b"read failed"),
+        Fault::Play(PlayFault::Write)
+        | Fault::File(FileFault::Write)
+        | Fault::Threads(ThreadsFault::Write) => {
             line.put(b"write failed");
         }
         Fault::Play(PlayFault::Schedule(ScheduleFault::Refused { code, line: at })) => {

@@ -15,6 +15,7 @@ use crate::endings::{Fault, ending};
 use crate::words::{LineFault, command};
 use counted_io::{Sink, Source};
 use period_cut::Period;
+use period_file::file_text;
 use schedule_player::{play_text, rate_text};
 use std::alloc::Global;
 use std::env::Args;
@@ -88,6 +89,23 @@ fn play<R: Source, W: Sink>(alloc: Global, reader: &mut R, writer: &mut W) -> Re
     }
 }
 
+fn file<R: Source, W: Sink>(
+    alloc: Global,
+    period: Period,
+    reader: &mut R,
+    writer: &mut W,
+) -> Result<(), Fault>
+    ensures outcome { Leaves W.Sink (Command.File period) result
+        (R.remaining reader.old) (R.remaining reader.new)
+        (R.failed_calls reader.old) (R.failed_calls reader.new) writer.old writer.new }
+    ensures read { ConsumesAtMost 4_294_967_297 (R.remaining reader.old) (R.remaining reader.new) }
+{
+    match file_text(alloc, period, reader, writer) {
+        Ok(()) => Ok(()),
+        Err(fault) => Err(Fault::File(fault)),
+    }
+}
+
 // The group takes nothing of the input, whatever that is.
 fn threads<T: Threads + Wait + Sync, W: Sink>(
     rt: &T,
@@ -145,6 +163,7 @@ pub fn run_alone<R: Source, W: Sink, E: Sink>(
     match command {
         Command::Rate { period } => Ok(ended(rate(alloc, period, reader, writer), errors)),
         Command::Play => Ok(ended(play(alloc, reader, writer), errors)),
+        Command::File { period } => Ok(ended(file(alloc, period, reader, writer), errors)),
         Command::Threads { size } => Err(size),
     }
 }
@@ -152,11 +171,12 @@ pub fn run_alone<R: Source, W: Sink, E: Sink>(
 /// Does what the arguments ask for, of which the first is the program's name, and answers the status
 /// to end with.
 ///
-/// 0 says that it was done; 1 that the input is refused, or that a run in threads came to a mismatch;
-/// 2 that the words ask for nothing, or are no text; 3 that a read or a write failed; 4 that memory
-/// was wanting. In each case but 0 a line tells of it on `errors`, as far as that takes it. At most
-/// 16,777,217 bytes are read, and none at 2 or by `threads`. What is no group in threads is done by
-/// [`run_alone`], which no thread can keep from returning.
+/// 0 says that it was done; 1 that the input is refused, that it has no whole file of the period, or
+/// that a run in threads came to a mismatch; 2 that the words ask for nothing, or are no text; 3 that a
+/// read or a write failed; 4 that memory was wanting. In each case but 0 a line tells of it on
+/// `errors`, as far as that takes it. At most 16,777,217 bytes are read, by `file` at most
+/// 4,294,967,297, and none at 2 or by `threads`. What is no group in threads is done by [`run_alone`],
+/// which no thread can keep from returning.
 pub fn run<T: Threads + Wait + Sync, R: Source, W: Sink, E: Sink>(
     rt: &T,
     alloc: Global,

@@ -4,7 +4,7 @@ ghost use Rattle.std.specs.Prelude.{◌≡◌, ◌≢◌, ◌≤◌, ℕ, Err, I
 ghost use Rattle.clap.specs.Words.{app_of, found_of, kind_of, rows_of, rule_of};
 ghost use Rattle.clap.specs.declared.builder.command.Command.TheViews.{out-Command};
 ghost use Rattle.command_line.specs.declared.commands.Command.{Command};
-ghost use Rattle.command_line.specs.CommandLine.{grammar_of_focusd, group_grammar, number_option, rate_grammar, threads_grammar, Asks, GivesNumber, GivesSize};
+ghost use Rattle.command_line.specs.CommandLine.{grammar_of_focusd, group_grammar, number_option, period_grammar, threads_grammar, Asks, GivesNumber, GivesPeriod, GivesSize};
 ghost use Rattle.clap.specs.declared.builder.value_parser.ValueParser.TheVariants.{Signed};
 
 use crate::commands::Command;
@@ -50,15 +50,15 @@ fn number_option<'a>(alloc: Global, name: &'a str, parser: ValueParser<'a>) -> A
         .value_parser(parser)
 }
 
-// `rate --period P`
-fn rate_grammar<'a>(alloc: Global) -> Result<clap::Command<'a>, LineFault>
-    ensures app { IfOk result (λ c. app_of c ≡ rate_grammar) }
+// `rate --period P` or `file --period P`
+fn period_grammar<'a>(alloc: Global, name: &'a str) -> Result<clap::Command<'a>, LineFault>
+    ensures app { IfOk result (λ c. app_of c ≡ period_grammar name.entry.now) }
     ensures local { IfOk result (λ c. (out-Command c).has_globals ≡ false) }
     ensures memory { result ≢ Err LineFault.Line }
 {
     let period = number_option(alloc, "period", clap::value_parser!(u16).range(0..1200));
-    match clap::Command::new(alloc, "rate").arg(period) {
-        Ok(rate) => Ok(rate),
+    match clap::Command::new(alloc, name).arg(period) {
+        Ok(command) => Ok(command),
         Err(_) => Err(LineFault::OutOfMemory),
     }
 }
@@ -102,7 +102,8 @@ fn grammar<'a>(alloc: Global) -> Result<clap::Command<'a>, LineFault>
     ensures app { IfOk result (λ c. app_of c ≡ grammar_of_focusd) }
     ensures memory { result ≢ Err LineFault.Line }
 {
-    let rate = rate_grammar(alloc)?;
+    let rate = period_grammar(alloc, "rate")?;
+    let file = period_grammar(alloc, "file")?;
     let threads = threads_grammar(alloc)?;
     let focusd = clap::Command::new(alloc, "focusd")
         .no_binary_name(true)
@@ -113,10 +114,23 @@ fn grammar<'a>(alloc: Global) -> Result<clap::Command<'a>, LineFault>
     let Ok(playing) = rating.subcommand(clap::Command::new(alloc, "play")) else {
         return Err(LineFault::OutOfMemory);
     };
-    match playing.subcommand(threads) {
+    let Ok(filing) = playing.subcommand(file) else {
+        return Err(LineFault::OutOfMemory);
+    };
+    match filing.subcommand(threads) {
         Ok(grammar) => Ok(grammar),
         Err(_) => Err(LineFault::OutOfMemory),
     }
+}
+
+// The period that the option gives, where it is one
+fn period(matches: &ArgMatches<'_>) -> Option<Period>
+    ensures given { IfSome result (GivesPeriod (rows_of (found_of matches.now))) }
+    ensures not_given { result ≡ None → (period : ℕ)
+        → ¬ GivesPeriod (rows_of (found_of matches.now)) period }
+{
+    let number = matches.get_one::<u16>("period")?;
+    Period::new(number)
 }
 
 // The number of an option, where it is one from 1 to the other
@@ -169,14 +183,17 @@ pub fn command(alloc: Global, words: &[String]) -> Result<Command, LineFault>
         };
         return Ok(Command::Threads { size });
     }
+    if let Some(file) = matches.subcommand_matches("file") {
+        let Some(period) = period(file) else {
+            return Err(LineFault::Line);
+        };
+        return Ok(Command::File { period });
+    }
     let Some(rate) = matches.subcommand_matches("rate") else {
         return Err(LineFault::Line);
     };
-    let Some(number) = rate.get_one::<u16>("period") else {
+    let Some(period) = period(rate) else {
         return Err(LineFault::Line);
     };
-    match Period::new(number) {
-        Some(period) => Ok(Command::Rate { period }),
-        None => Err(LineFault::Line),
-    }
+    Ok(Command::Rate { period })
 }

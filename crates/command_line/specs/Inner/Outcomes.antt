@@ -3,10 +3,11 @@ use Rattle.std.specs.Prelude.{◌≡◌, ◌≢◌, ◌⊎◌, ℕ, List, Option
 use Rattle.counted_io.specs.Counts.{next_count}
 use Rattle.counted_io.specs.declared.writing.Sink.{Ghosts as SinkOf}
 use Rattle.schedule_player.specs.declared.PlayFault.TheVariants as play
+use Rattle.period_file.specs.Files.{AppendsFront}
 use Rattle.command_line.specs.Endings.{Tells, ending_line, status_of}
-use Rattle.command_line.specs.Runs.{IsDone, IsPlayedInPart, Refuses}
+use Rattle.command_line.specs.Runs.{IsDone, IsLeftBy, IsPlayedInPart, Refuses}
 use Rattle.command_line.specs.declared.commands.Command.{Command}
-use Rattle.command_line.specs.declared.commands.Command.TheVariants.{Play}
+use Rattle.command_line.specs.declared.commands.Command.TheVariants.{Play, File}
 use Rattle.command_line.specs.declared.endings.Fault.{Fault}
 use Rattle.command_line.specs.declared.endings.Fault.TheVariants as of_fault
 
@@ -15,16 +16,21 @@ pub record Does {W : Type 0} (sink : SinkOf W) (command : Command) (known left :
   pub done : IsDone command known left (sink.contents writer) (sink.contents writer')
   pub calm : (reads' ≡ reads) × (sink.failed_calls writer' ≡ sink.failed_calls writer)
 
+-- The writer is as it was; or a period's file is asked for, and of that a front was written.
+abbrev pub IsKept : {W : Type 0} → SinkOf W → Command → Option (List ℕ) → (writer writer' : W) → Type 0
+IsKept sink command known writer writer' =
+    (writer' ≡ writer) ⊎ ((period : ℕ) × (command ≡ File period) × AppendsFront known period (sink.contents writer) (sink.contents writer'))
+
 -- The command came to the fault.
 pub record ComesTo {W : Type 0} (sink : SinkOf W) (command : Command) (fault : Fault) (known : Option (List ℕ)) (reads reads' : ℕ) (writer writer' : W) : Type 0 where
   pub understood : status_of fault ≢ 2
-  pub refused : status_of fault ≡ 1 → Refuses command known fault
+  pub refused : status_of fault ≡ 1 → Refuses command known fault × IsLeftBy sink command fault known writer writer'
   pub device : status_of fault ≡ 3
-      → ((ending_line fault ≡ ending_line (of_fault.Play play.Read)) × (reads' ≡ next_count reads) × (writer' ≡ writer))
+      → ((ending_line fault ≡ ending_line (of_fault.Play play.Read)) × (reads' ≡ next_count reads) × IsKept sink command known writer writer')
       ⊎ ((ending_line fault ≡ ending_line (of_fault.Play play.Write)) × (sink.failed_calls writer' ≡ next_count (sink.failed_calls writer)) × (reads' ≡ reads))
   pub calm : status_of fault ≢ 3 → (reads' ≡ reads) × (sink.failed_calls writer' ≡ sink.failed_calls writer)
-  pub unwritten : status_of fault ≢ 3 → status_of fault ≢ 4 → writer' ≡ writer
-  pub part : status_of fault ≡ 4 → (writer' ≡ writer) ⊎ ((command ≡ Play) × IsPlayedInPart known (sink.contents writer) (sink.contents writer'))
+  pub unwritten : status_of fault ≢ 3 → status_of fault ≢ 4 → IsKept sink command known writer writer'
+  pub part : status_of fault ≡ 4 → IsKept sink command known writer writer' ⊎ ((command ≡ Play) × IsPlayedInPart known (sink.contents writer) (sink.contents writer'))
 
 abbrev pub Leaves : {W : Type 0} → SinkOf W → Command → Result (Unit {0}) Fault → (known left : Option (List ℕ)) (reads reads' : ℕ) (writer writer' : W) → Type 0
 Leaves sink command (Ok done) known left reads reads' writer writer' = Does sink command known left reads reads' writer writer'

@@ -1,7 +1,7 @@
-use Rattle.std.proofs.Common.{Err, ap, subst}
-use Rattle.command_line.specs.declared.commands.Command.TheVariants.{Rate, Play}
+use Rattle.std.proofs.Common.{Err, ap, refl, subst}
+use Rattle.command_line.specs.declared.commands.Command.TheVariants.{Rate, Play, File}
 use Rattle.command_line.specs.Runs.{AsksFor}
-use Rattle.command_line.proofs.RunLaws.{asks_for_no_threads, ends, ends_at_words}
+use Rattle.command_line.proofs.RunLaws.{asks_for_no_threads, ends, ends_at_words, no_more_read}
 use Rattle.command_line.proofs.runs.run_alone.Goals as goal
 
 pub returns-in-Err-clause-ended : goal.returns-in-Err-clause-ended
@@ -13,12 +13,19 @@ pub returns-in-Rate-clause-ended : goal.returns-in-Rate-clause-ended
 returns-in-Rate-clause-ended g c =
     let asked : AsksFor c.args.args (Rate c.in-Rate.period) = subst (AsksFor c.args.args) c.in-Rate.is c.in-Ok.ensures.asked in
     ends g.R.Source g.W.Sink g.E.Sink c.args.args (Rate c.in-Rate.period) c.rate.result c.ended.result _ _ _ _ _ _
-    asked c.rate.ensures.outcome c.ended.ensures.ending c.rate.ensures.read
+    asked c.rate.ensures.outcome c.ended.ensures.ending (λ other. c.rate.ensures.read) (no_more_read _ _ c.rate.ensures.read)
     (λ size threads. absurd (asks_for_no_threads c.args.args (Rate c.in-Rate.period) (λ other is. absurd (cc)) asked size threads))
 
 pub returns-in-Play-clause-ended : goal.returns-in-Play-clause-ended
 returns-in-Play-clause-ended g c =
     let asked : AsksFor c.args.args Play = subst (AsksFor c.args.args) c.in-Play.is c.in-Ok.ensures.asked in
     ends g.R.Source g.W.Sink g.E.Sink c.args.args Play c.play.result c.ended-in-Play.result _ _ _ _ _ _
-    asked c.play.ensures.outcome c.ended-in-Play.ensures.ending c.play.ensures.read
+    asked c.play.ensures.outcome c.ended-in-Play.ensures.ending (λ other. c.play.ensures.read) (no_more_read _ _ c.play.ensures.read)
     (λ size threads. absurd (asks_for_no_threads c.args.args Play (λ other is. absurd (cc)) asked size threads))
+
+pub returns-in-File-clause-ended : goal.returns-in-File-clause-ended
+returns-in-File-clause-ended g c =
+    let asked : AsksFor c.args.args (File c.in-File.period) = subst (AsksFor c.args.args) c.in-File.is c.in-Ok.ensures.asked in
+    ends g.R.Source g.W.Sink g.E.Sink c.args.args (File c.in-File.period) c.file.result c.ended-in-File.result _ _ _ _ _ _
+    asked c.file.ensures.outcome c.ended-in-File.ensures.ending (λ other. absurd (other c.in-File.period refl)) c.file.ensures.read
+    (λ size threads. absurd (asks_for_no_threads c.args.args (File c.in-File.period) (λ other is. absurd (cc)) asked size threads))

@@ -1,0 +1,124 @@
+-- Reading ahead, and what was taken of it.
+use Rattle.std.specs.Prelude.{◌≡◌, ℕ, ◌+◌, ◌<◌, ◌≤◌, min, true, List, ◌++◌, length, take, drop, Option, Some, None}
+use Rattle.std.specs.List.{list_all}
+use Rattle.std.specs.Io.KnownBytes.{Appends, Consumes, IsAtEnd}
+use Rattle.counted_io.specs.Writing.{AppendsSome}
+use Rattle.metering_model.specs.Batch.{lacks}
+use Rattle.metering_model.specs.Transcript.{line}
+use Rattle.metering_model.specs.Schedule.{TextLines, lines_text}
+use Rattle.transcript_laws.specs.FirstFiles.{NoFile, first_of_lines, lines_told}
+use Rattle.period_file.specs.declared.faults.FileFault.{FileFault}
+use Rattle.period_file.specs.declared.faults.FileFault.TheVariants as fault
+
+-- bytes that were read and not yet taken, and how many were read in all
+pub record Ahead : Type 0 where
+  pub bytes : List ℕ
+  pub read : ℕ
+
+-- More bytes came, and of these and those before them some were taken: the rest is ahead.
+pub record Takes (ahead rest : List ℕ) (read read' : ℕ) (left left' : Option (List ℕ)) (taken : List ℕ) : Type 0 where
+  pub came : List ℕ
+  pub consumed : Consumes left left' came
+  pub joined : ahead ++ came ≡ taken ++ rest
+  pub counted : read' ≡ read + length came
+
+-- no byte is left that ends a line, neither ahead nor to be read
+abbrev pub IsEnded : List ℕ → Option (List ℕ) → Type 0
+IsEnded rest left = (lacks 10 rest ≡ true) × IsAtEnd left
+
+-- a device's fault, want of memory, or too long an input
+abbrev pub IsOfReading : FileFault → Type 0
+IsOfReading fault.NoFile = ⊥
+IsOfReading fault.Torn = ⊥
+IsOfReading fault.TooLong = Unit {0}
+IsOfReading fault.Read = Unit {0}
+IsOfReading fault.Write = ⊥
+IsOfReading fault.OutOfMemory = Unit {0}
+
+-- the same, or a failed write
+abbrev pub IsOfCopying : FileFault → Type 0
+IsOfCopying fault.NoFile = ⊥
+IsOfCopying fault.Torn = ⊥
+IsOfCopying fault.TooLong = Unit {0}
+IsOfCopying fault.Read = Unit {0}
+IsOfCopying fault.Write = Unit {0}
+IsOfCopying fault.OutOfMemory = Unit {0}
+
+-- where too long an input is told, so much of it was read
+abbrev pub IsBeyond : FileFault → ℕ → Type 0
+IsBeyond told read = told ≡ fault.TooLong → 4_294_967_296 < read
+
+-- ---- lines
+
+-- a line ends at that byte
+pub record IsLineAt (text : List ℕ) (at : ℕ) : Type 0 where
+  pub within : at < length text
+  pub whole : lacks 10 (take at text) ≡ true
+  pub split : text ≡ line (take at text) ++ drop (at + 1) text
+
+-- So many lines stand at the front of a text, and have so many bytes.
+pub record AreInFront (text : List ℕ) (count at : ℕ) : Type 0 where
+  pub lines : TextLines
+  pub whole : list_all (lacks 10) lines ≡ true
+  pub counted : length lines ≡ count
+  pub within : at ≤ length text
+  pub split : text ≡ lines_text lines ++ drop at text
+  pub size : length (lines_text lines) ≡ at
+
+-- what is told of a line: the number, or where that is great another that is too great
+abbrev pub IsTold : Option ℕ → Option ℕ → Type 0
+IsTold (Some count) told = (number : ℕ) × (told ≡ Some number) × (count ≡ min 4_294_967_297 number)
+IsTold None told = told ≡ None
+
+-- Lines were taken, and none of them stands above a file of the period.
+pub record Passes (period : ℕ) (ahead rest : List ℕ) (read read' : ℕ) (left left' : Option (List ℕ)) : Type 0 where
+  pub lines : TextLines
+  pub whole : list_all (lacks 10) lines ≡ true
+  pub none : first_of_lines period lines ≡ NoFile
+  pub takes : Takes ahead rest read read' left left' (lines_text lines)
+
+-- Then one was, which does, and tells that so many follow.
+pub record Finds (period count : ℕ) (ahead rest : List ℕ) (read read' : ℕ) (left left' : Option (List ℕ)) : Type 0 where
+  pub lines : TextLines
+  pub whole : list_all (lacks 10) lines ≡ true
+  pub none : first_of_lines period lines ≡ NoFile
+  pub above : List ℕ
+  pub lacks_feed : lacks 10 above ≡ true
+  pub number : ℕ
+  pub is_told : lines_told period above ≡ Some number
+  pub is_count : count ≡ min 4_294_967_297 number
+  pub takes : Takes ahead rest read read' left left' (lines_text lines ++ line above)
+
+-- So many of the lines ahead were written, and taken.
+pub record CopiesAhead (count : ℕ) (ahead rest : List ℕ) (old new : Option (List ℕ)) : Type 0 where
+  pub lines : TextLines
+  pub whole : list_all (lacks 10) lines ≡ true
+  pub counted : length lines ≡ count
+  pub split : ahead ≡ lines_text lines ++ rest
+  pub appended : Appends old new (lines_text lines)
+
+-- Of at most so many of the lines ahead a prefix was written.
+pub record StopsAhead (most : ℕ) (ahead : List ℕ) (old new : Option (List ℕ)) : Type 0 where
+  pub lines : TextLines
+  pub rest : List ℕ
+  pub whole : list_all (lacks 10) lines ≡ true
+  pub few : length lines ≤ most
+  pub split : ahead ≡ lines_text lines ++ rest
+  pub appended : AppendsSome old new (lines_text lines)
+
+-- Lines were taken and written, fewer by so many than were asked for.
+pub record Copies (asked lacking : ℕ) (ahead rest : List ℕ) (read read' : ℕ) (left left' : Option (List ℕ)) (old new : Option (List ℕ)) : Type 0 where
+  pub lines : TextLines
+  pub whole : list_all (lacks 10) lines ≡ true
+  pub counted : length lines + lacking ≡ asked
+  pub takes : Takes ahead rest read read' left left' (lines_text lines)
+  pub appended : Appends old new (lines_text lines)
+
+-- Copying stopped: of lines that were read, at most as many as were asked for, a prefix was written.
+pub record Stops (asked : ℕ) (ahead : List ℕ) (read read' : ℕ) (left left' : Option (List ℕ)) (old new : Option (List ℕ)) : Type 0 where
+  pub lines : TextLines
+  pub rest : List ℕ
+  pub whole : list_all (lacks 10) lines ≡ true
+  pub few : length lines ≤ asked
+  pub takes : Takes ahead rest read read' left left' (lines_text lines)
+  pub appended : AppendsSome old new (lines_text lines)

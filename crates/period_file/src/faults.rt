@@ -1,0 +1,26 @@
+//! Why no file was written, or not all of it.
+
+use thiserror::Error;
+
+/// Why no file was written, or not all of it.
+#[derive(Clone, Copy, Debug, PartialEq, Eq, Drop, Error)]
+pub enum FileFault {
+    /// No whole line of the input stands above a file of the period.
+    #[error("no file")]
+    NoFile,
+    /// One does, but fewer whole lines follow than it says.
+    #[error("torn file")]
+    Torn,
+    /// The input has more bytes than are read.
+    #[error("refused L8 line 1")]
+    TooLong,
+    /// A call of the reader failed.
+    #[error("read failed")]
+    Read,
+    /// A call of the writer failed.
+    #[error("write failed")]
+    Write,
+    /// A growth was refused.
+    #[error("out of memory")]
+    OutOfMemory,
+}

@@ -1,0 +1,180 @@
+//! The first file of a period in what a source gives.
+
+ghost use Rattle.std.specs.Prelude.{◌≡◌, ◌<◌, ◌≤◌, ℕ, List, [], Some, None, Ok, Err, IfOk, IfErr, IfSome, OnOk, OnErr};
+ghost use Rattle.std.specs.Io.KnownBytes.{Appends, IsAtEnd};
+ghost use Rattle.counted_io.specs.Counts.{Rises, count_after};
+ghost use Rattle.counted_io.specs.Reading.{ConsumesAtMost};
+ghost use Rattle.period_file.specs.Faults.{tells_of_reader, tells_of_writer};
+ghost use Rattle.period_file.specs.Files.{AppendsFront, AppendsPart, IsFileOf, IsRefusal, file_in};
+ghost use Rattle.period_file.specs.Inner.Reading.{Copies, CopiesAhead, Finds, IsBeyond, IsEnded, IsLineAt, IsOfCopying, IsOfReading, Passes, Stops, StopsAhead, Takes};
+
+use crate::counts::{told_behind, words_above};
+use crate::faults::FileFault;
+use crate::lines::{line_end, lines_in_front};
+use crate::unread::Unread;
+use counted_io::{Sink, Source, write_all};
+use period_cut::Period;
+use std::alloc::Global;
+
+/// Takes lines up to the first that stands above a file of the period, and that one too. It answers how many lines that
+/// says, or None where there is no such line.
+fn find_line_above<S: Source>(
+    period: Period,
+    unread: &mut Unread,
+    source: &mut S,
+) -> Result<Option<u64>, FileFault>
+    requires { unread.old.read ≤ 4_294_967_296 }
+    ensures found { (count : ℕ) → result ≡ Ok (Some count)
+        → Finds period count unread.old.bytes unread.new.bytes unread.old.read unread.new.read
+        (S.remaining source.old) (S.remaining source.new) }
+    ensures none { result ≡ Ok None
+        → Passes period unread.old.bytes unread.new.bytes unread.old.read unread.new.read
+        (S.remaining source.old) (S.remaining source.new)
+        × IsEnded unread.new.bytes (S.remaining source.new) }
+    ensures takes { (taken : List ℕ) × Takes unread.old.bytes unread.new.bytes unread.old.read unread.new.read
+        (S.remaining source.old) (S.remaining source.new) taken }
+    ensures within { IfOk result (λ found. unread.new.read ≤ 4_294_967_296) }
+    ensures most { unread.new.read ≤ 4_294_967_297 }
+    ensures reading { IfErr result (λ fault. IsOfReading fault × IsBeyond fault unread.new.read) }
+    ensures count { S.failed_calls source.new
+        ≡ count_after (tells_of_reader result) (S.failed_calls source.old) }
+{
+    let words = words_above(period);
+    loop {
+        let Some(end) = line_end(unread, source)? else {
+            return Ok(None);
+        };
+        let told = told_behind(words.as_slice(), &unread.ahead()[..end]);
+        unread.take(end + 1);
+        if told.is_some() {
+            return Ok(told);
+        }
+    }
+}
+
+/// Writes the lines ahead, at most so many, in one write, and takes them. It answers how many they are.
+fn copy_ahead<W: Sink>(unread: &mut Unread, writer: &mut W, most: u64) -> Result<u64, FileFault>
+    ensures copied { IfOk result (λ count. CopiesAhead count unread.old.bytes unread.new.bytes
+        (W.contents writer.old) (W.contents writer.new)) }
+    ensures some { IfOk result (λ count. (end : ℕ) → IsLineAt unread.old.bytes end → 0 < most → 0 < count) }
+    ensures few { IfOk result (λ count. count ≤ most) }
+    ensures stopped { OnErr result (StopsAhead most unread.old.bytes (W.contents writer.old) (W.contents writer.new)) }
+    ensures fault { IfErr result (λ fault. fault ≡ FileFault.Write) }
+    ensures read { unread.new.read ≡ unread.old.read }
+    ensures write_fault { OnErr result (Rises (W.failed_calls writer.old) (W.failed_calls writer.new)) }
+    ensures count { W.failed_calls writer.new
+        ≡ count_after (tells_of_writer result) (W.failed_calls writer.old) }
+{
+    let (length, count) = lines_in_front(unread.ahead(), most);
+    let Ok(()) = write_all(writer, &unread.ahead()[..length]) else {
+        return Err(FileFault::Write);
+    };
+    unread.take(length);
+    Ok(count)
+}
+
+/// Writes the lines that follow, so many, and answers how many lack where fewer follow.
+fn copy_lines<S: Source, W: Sink>(
+    unread: &mut Unread,
+    source: &mut S,
+    writer: &mut W,
+    count: u64,
+) -> Result<u64, FileFault>
+    requires { unread.old.read ≤ 4_294_967_296 }
+    ensures copied { IfOk result (λ lacking. Copies count lacking unread.old.bytes unread.new.bytes
+        unread.old.read unread.new.read (S.remaining source.old) (S.remaining source.new)
+        (W.contents writer.old) (W.contents writer.new)) }
+    ensures ended { IfOk result (λ lacking. 0 < lacking → IsEnded unread.new.bytes (S.remaining source.new)) }
+    ensures stopped { OnErr result (Stops count unread.old.bytes unread.old.read unread.new.read
+        (S.remaining source.old) (S.remaining source.new) (W.contents writer.old) (W.contents writer.new)) }
+    ensures within { IfOk result (λ lacking. unread.new.read ≤ 4_294_967_296) }
+    ensures most { unread.new.read ≤ 4_294_967_297 }
+    ensures copying { IfErr result (λ fault. IsOfCopying fault × IsBeyond fault unread.new.read) }
+    ensures write_fault { result ≡ Err FileFault.Write → Rises (W.failed_calls writer.old) (W.failed_calls writer.new) }
+    ensures reads { S.failed_calls source.new
+        ≡ count_after (tells_of_reader result) (S.failed_calls source.old) }
+    ensures writes { W.failed_calls writer.new
+        ≡ count_after (tells_of_writer result) (W.failed_calls writer.old) }
+{
+    let mut lacking = count;
+    while lacking > 0 {
+        let Some(_) = line_end(unread, source)? else {
+            return Ok(lacking);
+        };
+        lacking -= copy_ahead(unread, writer, lacking)?;
+    }
+    Ok(0)
+}
+
+/// Reads all that follows, and drops it.
+fn drop_rest<S: Source>(unread: &mut Unread, source: &mut S) -> Result<(), FileFault>
+    requires { unread.old.read ≤ 4_294_967_296 }
+    ensures taken { (dropped : List ℕ) × Takes unread.old.bytes [] unread.old.read unread.new.read
+        (S.remaining source.old) (S.remaining source.new) dropped }
+    ensures end { OnOk result (IsAtEnd (S.remaining source.new)) }
+    ensures within { OnOk result (unread.new.read ≤ 4_294_967_296) }
+    ensures most { unread.new.read ≤ 4_294_967_297 }
+    ensures reading { IfErr result (λ fault. IsOfReading fault × IsBeyond fault unread.new.read) }
+    ensures count { S.failed_calls source.new
+        ≡ count_after (tells_of_reader result) (S.failed_calls source.old) }
+{
+    loop {
+        let length = unread.ahead().len();
+        unread.take(length);
+        let is_more = unread.fill(source)?;
+        if !is_more {
+            return Ok(());
+        }
+    }
+}
+
+/// Writes the first file of the period in the transcript that a reader gives: the lines that stand behind its line above,
+/// and nothing else. The rest of the input is read and dropped, and no file stands in memory.
+///
+/// `NoFile` tells that there is no such line, and then nothing was written; `Torn` that fewer lines follow than it says, and
+/// these were written. An input of more than 4 GiB is `TooLong`. At each other fault some front of the file was written.
+pub fn file_text<R: Source, W: Sink>(
+    alloc: Global,
+    period: Period,
+    reader: &mut R,
+    writer: &mut W,
+) -> Result<(), FileFault>
+    // With Ok just the period's first file was written.
+    ensures file { OnOk result ((input file : List ℕ) × IsFileOf (R.remaining reader.old) period input file
+        × Appends (W.contents writer.old) (W.contents writer.new) file) }
+
+    // Each refusal is that of the input.
+    ensures refused { IfErr result (λ fault. IsRefusal fault
+        → IfSome (R.remaining reader.old) (λ input. file_in period input ≡ Err fault)) }
+    ensures none { result ≡ Err FileFault.NoFile → writer.new ≡ writer.old }
+
+    // Of a torn file all went out that the input has, and at each other fault a front of that.
+    ensures torn { result ≡ Err FileFault.Torn → AppendsPart (R.remaining reader.old) period
+        (W.contents writer.old) (W.contents writer.new) }
+    ensures front { OnErr result (AppendsFront (R.remaining reader.old) period
+        (W.contents writer.old) (W.contents writer.new)) }
+
+    // `Read` and `Write` come of one failed call each, and no other call fails.
+    ensures read_fault { result ≡ Err FileFault.Read
+        → Rises (R.failed_calls reader.old) (R.failed_calls reader.new) }
+    ensures write_fault { result ≡ Err FileFault.Write
+        → Rises (W.failed_calls writer.old) (W.failed_calls writer.new) }
+    ensures reads { R.failed_calls reader.new
+        ≡ count_after (tells_of_reader result) (R.failed_calls reader.old) }
+    ensures writes { W.failed_calls writer.new
+        ≡ count_after (tells_of_writer result) (W.failed_calls writer.old) }
+
+    // With Ok nothing is left to read.
+    ensures end { OnOk result (IsAtEnd (R.remaining reader.new)) }
+    ensures read { ConsumesAtMost 4_294_967_297 (R.remaining reader.old) (R.remaining reader.new) }
+{
+    let mut unread = Unread::new(alloc);
+    let Some(count) = find_line_above(period, &mut unread, reader)? else {
+        return Err(FileFault::NoFile);
+    };
+    let lacking = copy_lines(&mut unread, reader, writer, count)?;
+    if lacking > 0 {
+        return Err(FileFault::Torn);
+    }
+    drop_rest(&mut unread, reader)
+}

@@ -1,0 +1,11 @@
+//! The file of one period, cut out of a transcript: from a source to a sink, with one line in memory.
+#![tactic(auto)]
+
+mod counts;
+mod faults;
+mod files;
+mod lines;
+mod unread;
+
+pub use faults::FileFault;
+pub use files::file_text;

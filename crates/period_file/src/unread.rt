@@ -1,0 +1,178 @@
+//! Bytes that were read and not yet taken.
+
+ghost use Rattle.std.specs.Prelude.{◌≡◌, ◌+◌, ◌<◌, ◌≤◌, [], length, take, drop, vec_len, true, false, Ok, IfOk, IfErr, OnErr, unwrap_or};
+ghost use Rattle.std.specs.Io.KnownBytes.{Consumes, IsAtEnd, Keeps};
+ghost use Rattle.std.specs.Result.{result_ok};
+ghost use Rattle.counted_io.specs.Counts.{count_after};
+ghost use Rattle.period_file.specs.Faults.{tells_of_reader};
+ghost use Rattle.period_file.specs.Inner.Reading.{Takes, IsOfReading, IsBeyond};
+
+use crate::faults::FileFault;
+use counted_io::Source;
+use std::alloc::Global;
+use std::marker::Model;
+
+/// An input has no more bytes than this.
+const MOST_BYTES: u64 = 4_294_967_296;
+
+/// So many bytes are asked for at a time.
+const BLOCK: usize = 65_536;
+
+/// What was read and not yet taken: a block at most behind the line that stands first. Contracts see the bytes, and how many
+/// were read in all.
+#[derive(Drop)]
+pub(crate) struct Unread {
+    bytes: Vec<u8>,
+    /// The first byte that was not taken.
+    from: usize,
+    read: u64,
+}
+
+impl Model for Unread {
+    ghost use Rattle.std.specs.Prelude.{◌≤◌, drop, vec_len};
+    ghost use Rattle.period_file.specs.Inner.Reading.{Ahead};
+
+    ghost Value = { Ahead };
+
+    ghost view = { λ u. record {
+      bytes = drop u.from u.bytes.items;
+      read = u.read;
+    } };
+
+    ghost invariant = { λ u. u.from ≤ vec_len u.bytes };
+}
+
+/// Moves the bytes behind the first ones to the front, and drops those.
+fn drop_front(bytes: &mut Vec<u8>, count: usize)
+    requires { count ≤ length bytes.old.items }
+    ensures { bytes.new.items ≡ drop count bytes.old.items }
+{
+    let length = bytes.len() - count;
+    bytes.as_mut_slice().copy_within(count.., 0);
+    bytes.truncate(length);
+}
+
+/// One read into room.
+fn read_some<S: Source>(source: &mut S, room: &mut [u8]) -> Result<usize, FileFault>
+    requires { 0 < length room.old }
+    ensures bound { IfOk result (λ came. came ≤ length room.new) }
+    ensures consumed { IfOk result (λ came. Consumes (S.remaining source.old)
+        (S.remaining source.new) (take came room.new)) }
+    ensures end { IfOk result (λ came. came ≡ 0 → IsAtEnd (S.remaining source.new)) }
+    ensures kept { OnErr result (Keeps (S.remaining source.old) (S.remaining source.new)) }
+    ensures fault { IfErr result (λ fault. fault ≡ FileFault.Read) }
+    ensures count { S.failed_calls source.new
+        ≡ count_after (tells_of_reader result) (S.failed_calls source.old) }
+{
+    match source.read(room) {
+        Ok(came) => Ok(came),
+        Err(_) => Err(FileFault::Read),
+    }
+}
+
+/// One read behind the first bytes, into the room that follows them.
+fn read_room<S: Source>(
+    source: &mut S,
+    bytes: &mut Vec<u8>,
+    length: usize,
+) -> Result<usize, FileFault>
+    requires { length < vec_len bytes.old }
+    ensures front { take length bytes.new.items ≡ take length bytes.old.items }
+    ensures length { vec_len bytes.new ≡ vec_len bytes.old }
+    ensures within { IfOk result (λ came. length + came ≤ vec_len bytes.new) }
+    ensures consumed { IfOk result (λ came. Consumes (S.remaining source.old)
+        (S.remaining source.new) (take came (drop length bytes.new.items))) }
+    ensures end { IfOk result (λ came. came ≡ 0 → IsAtEnd (S.remaining source.new)) }
+    ensures kept { OnErr result (Keeps (S.remaining source.old) (S.remaining source.new)) }
+    ensures fault { IfErr result (λ fault. fault ≡ FileFault.Read) }
+    ensures count { S.failed_calls source.new
+        ≡ count_after (tells_of_reader result) (S.failed_calls source.old) }
+{
+    read_some(source, &mut bytes[length..])
+}
+
+/// One read behind the first bytes, into the room that follows them. What the source does not fill goes.
+fn read_behind<S: Source>(
+    source: &mut S,
+    bytes: &mut Vec<u8>,
+    length: usize,
+) -> Result<usize, FileFault>
+    requires { length < vec_len bytes.old }
+    ensures front { take length bytes.new.items ≡ take length bytes.old.items }
+    ensures length { vec_len bytes.new ≡ length + unwrap_or (result_ok result) 0 }
+    ensures bound { vec_len bytes.new ≤ vec_len bytes.old }
+    ensures consumed { Consumes (S.remaining source.old) (S.remaining source.new) (drop length bytes.new.items) }
+    ensures end { result ≡ Ok 0 → IsAtEnd (S.remaining source.new) }
+    ensures fault { IfErr result (λ fault. fault ≡ FileFault.Read) }
+    ensures count { S.failed_calls source.new
+        ≡ count_after (tells_of_reader result) (S.failed_calls source.old) }
+{
+    match read_room(source, bytes, length) {
+        Ok(came) => {
+            bytes.truncate(length + came);
+            Ok(came)
+        }
+        Err(fault) => {
+            bytes.truncate(length);
+            Err(fault)
+        }
+    }
+}
+
+impl Unread {
+    /// Nothing was read.
+    pub(crate) fn new(alloc: Global) -> Unread
+        ensures bytes { result.bytes ≡ [] }
+        ensures read { result.read ≡ 0 }
+    {
+        Unread {
+            bytes: Vec::new(alloc),
+            from: 0,
+            read: 0,
+        }
+    }
+
+    /// The bytes ahead.
+    pub(crate) fn ahead(&self) -> &[u8]
+        ensures { result.now ≡ self.now.bytes }
+    {
+        &self.bytes[self.from..]
+    }
+
+    /// Takes so many of the bytes ahead.
+    pub(crate) fn take(&mut self, count: usize)
+        requires { count ≤ length self.old.bytes }
+        ensures bytes { self.new.bytes ≡ drop count self.old.bytes }
+        ensures read { self.new.read ≡ self.old.read }
+    {
+        self.from += count;
+    }
+
+    /// Reads a block more, and answers whether a byte came: none does at the end.
+    pub(crate) fn fill<S: Source>(&mut self, source: &mut S) -> Result<bool, FileFault>
+        requires { self.old.read ≤ 4_294_967_296 }
+        ensures takes { Takes self.old.bytes self.new.bytes self.old.read self.new.read
+            (S.remaining source.old) (S.remaining source.new) [] }
+        ensures more { result ≡ Ok true → length self.old.bytes < length self.new.bytes }
+        ensures end { result ≡ Ok false → (self.new ≡ self.old) × IsAtEnd (S.remaining source.new) }
+        ensures within { IfOk result (λ more. self.new.read ≤ 4_294_967_296) }
+        ensures most { self.new.read ≤ 4_294_967_297 }
+        ensures reading { IfErr result (λ fault. IsOfReading fault × IsBeyond fault self.new.read) }
+        ensures count { S.failed_calls source.new
+            ≡ count_after (tells_of_reader result) (S.failed_calls source.old) }
+    {
+        let most = (BLOCK as u64).min(MOST_BYTES + 1 - self.read) as usize;
+        drop_front(&mut self.bytes, self.from);
+        self.from = 0;
+        let length = self.bytes.len();
+        let Ok(()) = self.bytes.resize(length + most, 0) else {
+            return Err(FileFault::OutOfMemory);
+        };
+        let came = read_behind(source, &mut self.bytes, length)?;
+        self.read += came as u64;
+        if self.read > MOST_BYTES {
+            return Err(FileFault::TooLong);
+        }
+        Ok(came > 0)
+    }
+}
