@@ -98,6 +98,7 @@ const ALONE: &[Do] = &[
     Do::Deliver(2, 0),
     Do::Deliver(3, 0),
     Do::Deliver(4, 0),
+    Do::Keep(0),
     Do::Export(0),
 ];
 
@@ -109,6 +110,7 @@ const ALONE_SENT: &[Option<u32>] = &[
     Some(2),
     Some(3),
     Some(4),
+    None,
     None,
     None,
 ];

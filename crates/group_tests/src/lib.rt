@@ -6,7 +6,11 @@ mod gates;
 #[cfg(test)]
 mod growths;
 #[cfg(test)]
+mod kept;
+#[cfg(test)]
 mod limits;
+#[cfg(test)]
+mod revivals;
 #[cfg(test)]
 mod samples;
 #[cfg(test)]

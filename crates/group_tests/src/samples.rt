@@ -13,6 +13,7 @@ pub(crate) enum Do {
     Deliver(u32, u8),
     Start(u8),
     Export(u8),
+    Keep(u8),
 }
 
 /// A worked reading is journaled, delivered to two nodes of three, agreed on, and exported by both.
@@ -83,6 +84,7 @@ pub(crate) fn event_of(alloc: Global, step: Do) -> Result<Event, AllocError> {
         Do::Deliver(packet, node) => Ok(Event::Deliver { packet, node }),
         Do::Start(node) => Ok(Event::Start { node }),
         Do::Export(node) => Ok(Event::Export { node, period: 0 }),
+        Do::Keep(node) => Ok(Event::Keep { node }),
     }
 }
 

@@ -1,10 +1,15 @@
 //! The texts of faults.
 
-use command_line::{LineFault, PlayFault, RunFault, ScheduleCode, ScheduleFault, ThreadsFault};
+use command_line::{
+    FileFault, LineFault, PlayFault, RunFault, ScheduleCode, ScheduleFault, ThreadsFault,
+};
 use counted_io::{Failed, ReadFault};
 use focus_csv::CsvFault;
 use focus_row::RowFault;
-use metering_model::{BatchCode, BatchFault, BrokenRule, NumberFault, Refusal};
+use metering_model::{
+    BatchCode, BatchFault, BrokenRule, KeptCode, KeptTextFault, NumberFault, Refusal,
+};
+use node_kept::KeptFault;
 use std::alloc::{AllocError, Global};
 use std::fmt::Display;
 use std::test::Fail;
@@ -37,10 +42,42 @@ fn a_batch_is_refused_by_a_code(rt: HostRuntime) -> Result<(), Fail> {
 }
 
 #[test]
+fn a_kept_text_is_refused_by_a_code(rt: HostRuntime) -> Result<(), Fail> {
+    let codes = [
+        KeptCode::Head,
+        KeptCode::Cut,
+        KeptCode::Batch,
+        KeptCode::Order,
+        KeptCode::Extra,
+    ];
+    let fault = KeptTextFault {
+        code: KeptCode::Cut,
+        line: 1_201,
+    };
+    let refused = KeptFault::Refused {
+        code: KeptCode::Batch,
+        line: 4_294_967_296,
+    };
+    let mut text = String::new(rt.alloc());
+    tell(&mut text, &codes)?;
+    tell(&mut text, &[fault])?;
+    tell(&mut text, &[refused, KeptFault::OutOfMemory])?;
+    assert_eq!(rt;
+        text.as_str(),
+        "H1.H2.H3.H4.H5.H2 line 1201.H3 line 4294967296.out of memory."
+    );
+    Ok(())
+}
+
+#[test]
 fn an_event_is_refused_by_a_code(rt: HostRuntime) -> Result<(), Fail> {
     let fault = BatchFault {
         code: BatchCode::Count,
         line: 1_002,
+    };
+    let kept = KeptTextFault {
+        code: KeptCode::Order,
+        line: 65_537,
     };
     let refusals = [
         Refusal::BadBatch(fault),
@@ -59,12 +96,14 @@ fn an_event_is_refused_by_a_code(rt: HostRuntime) -> Result<(), Fail> {
         Refusal::WorldFull,
         Refusal::NoAgent,
         Refusal::Observer,
+        Refusal::BadKept(kept),
+        Refusal::NotKept,
     ];
     let mut text = String::new(rt.alloc());
     tell(&mut text, &refusals)?;
     assert_eq!(rt;
         text.as_str(),
-        "G1 V2 line 1002.G2 wanted 2.G3.G4.G5.G6.G7 learned 3.G8 agent 64 seq 1000000.G9.G10.G11.G12.G13."
+        "G1 V2 line 1002.G2 wanted 2.G3.G4.G5.G6.G7 learned 3.G8 agent 64 seq 1000000.G9.G10.G11.G12.G13.G14 H4 line 65537.G15."
     );
     Ok(())
 }
@@ -90,6 +129,25 @@ fn rows_and_files_are_told_why_they_are_not_there(rt: HostRuntime) -> Result<(),
     assert_eq!(rt;
         text.as_str(),
         "write failed.out of memory.read failed.out of memory.write failed."
+    );
+    Ok(())
+}
+
+#[test]
+fn a_period_is_told_why_it_has_no_file(rt: HostRuntime) -> Result<(), Fail> {
+    let of_file = [
+        FileFault::NoFile,
+        FileFault::Torn,
+        FileFault::TooLong,
+        FileFault::Read,
+        FileFault::Write,
+        FileFault::OutOfMemory,
+    ];
+    let mut text = String::new(rt.alloc());
+    tell(&mut text, &of_file)?;
+    assert_eq!(rt;
+        text.as_str(),
+        "no file.torn file.refused L8 line 1.read failed.write failed.out of memory."
     );
     Ok(())
 }

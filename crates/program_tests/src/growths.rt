@@ -1,6 +1,6 @@
 //! Growths that are refused, each in turn behind the gate: what is told then, and what went out.
 
-use command_line::{PlayFault, play_text, rate_text};
+use command_line::{FileFault, PlayFault, file_text, play_text, rate_text};
 use counted_io::{Counted, FakeReader, FakeWriter};
 use focus_row::Period;
 use std::alloc::{AllocError, Global};
@@ -85,5 +85,41 @@ fn a_refused_growth_leaves_whole_events(rt: HostRuntime) -> Result<(), Fail> {
     }
     assert_eq!(rt; answer, Err(PlayFault::OutOfMemory));
     assert!(rt; are_first_replies(text) || are_all_replies(text));
+    Ok(())
+}
+
+/// A transcript whose file of January has so many lines below its header line.
+fn shown(alloc: Global, lines: usize, above: &[u8]) -> Result<(Vec<u8>, Vec<u8>), AllocError> {
+    let mut file = joined(alloc, &[HEADER])?;
+    for _ in 0..lines {
+        file.extend_from_slice(LINE)?;
+    }
+    let text = joined(alloc, &[REPLIES, above, &file, b"restarted\n"])?;
+    Ok((text, file))
+}
+
+/// What is written of a file that is cut out are whole lines, the first ones. The file is longer than what is read at a time, so
+/// that some growths come when a part of it went out.
+#[test]
+fn a_refused_growth_leaves_a_front_of_the_file(rt: HostRuntime) -> Result<(), Fail> {
+    let (Ok((input, file)), Ok(room)) = (
+        shown(rt.alloc(), 600, b"exported period 0 lines 601\n"),
+        Vec::with_capacity(rt.alloc(), 262_144),
+    ) else {
+        return Ok(());
+    };
+    let january = Period::new(0).ok_or("no period")?;
+    let mut source = Counted::new(FakeReader::new(&input));
+    let mut sink = Counted::new(FakeWriter::new(room));
+    let answer = file_text(rt.alloc(), january, &mut source, &mut sink);
+    assert_eq!(rt; sink.failed_calls(), 0);
+    let text = sink.inner().taken.as_slice();
+    if answer.is_ok() {
+        assert_eq!(rt; text, file.as_slice());
+        return Ok(());
+    }
+    assert_eq!(rt; answer, Err(FileFault::OutOfMemory));
+    assert!(rt; file.starts_with(text));
+    assert!(rt; text.is_empty() || text.ends_with(b"\n"));
     Ok(())
 }

@@ -39,6 +39,15 @@ fn a_period_is_asked_for(rt: HostRuntime) -> Result<(), Fail> {
         let other = first_other(rt.alloc(), lines, Ok(Command::Rate { period }))?;
         assert_eq!(rt; other, None);
     }
+    for (lines, number) in [
+        ("file --period 0\nfile --period=-0", 0),
+        ("file --period +7\nfile --period 007", 7),
+        ("file --period=1199", 1_199),
+    ] {
+        let period = Period::new(number).ok_or("no period")?;
+        let other = first_other(rt.alloc(), lines, Ok(Command::File { period }))?;
+        assert_eq!(rt; other, None);
+    }
     Ok(())
 }
 
@@ -70,6 +79,11 @@ const NOTHING: &str = "rate --period -1
 rate --period 65536
 rate --period 0 --period 0
 rate --help
+file
+file --period 1200
+file --period 0 --period 0
+file rate --period 0
+rate --period 0 file
 --version
 help
 focusd rate --period 0

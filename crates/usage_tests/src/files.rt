@@ -10,18 +10,19 @@ use std::alloc::{AllocError, Global};
 use std::test::Fail;
 use worked_texts::{AMENDED, CORRECTION, HEADER, READ, SHEET};
 
-/// By what usage and its amendment are charged, and the cuts that part them.
+/// What is charged in a period, by what, and the cuts that bound it.
 #[derive(Drop)]
-struct Charged {
-    store: Store,
-    sheet: Sheet,
-    issuer: Issuer,
-    from: Cut,
-    to: Cut,
+pub(crate) struct Charged {
+    pub(crate) store: Store,
+    pub(crate) sheet: Sheet,
+    pub(crate) issuer: Issuer,
+    pub(crate) period: Period,
+    pub(crate) from: Cut,
+    pub(crate) to: Cut,
 }
 
 /// Puts the batch of these bytes, where they are one of the store's agents.
-fn put(store: &mut Store, alloc: Global, bytes: &[u8]) -> Result<bool, AllocError> {
+pub(crate) fn put(store: &mut Store, alloc: Global, bytes: &[u8]) -> Result<bool, AllocError> {
     let Offer::Good(batch) = offered(alloc, bytes)? else {
         return Ok(false);
     };
@@ -39,25 +40,26 @@ fn worked_store(alloc: Global) -> Result<Store, AllocError> {
     Ok(store)
 }
 
-/// None where memory runs out.
+/// An amendment in February of usage that was charged before. None where memory runs out.
 fn corrected(alloc: Global) -> Option<Charged> {
     Some(Charged {
         store: worked_store(alloc).ok()?,
         sheet: Sheet::read(alloc, SHEET).ok()?,
         issuer: Issuer::sample(alloc).ok()?,
+        period: Period::new(1)?,
         from: cut_of(alloc, 1).ok()?,
         to: cut_of(alloc, 2).ok()?,
     })
 }
 
-/// The rows between the two cuts, in February.
-fn rows_in(alloc: Global, of: &Charged) -> Result<Vec<FocusRow<'_>>, RowFault> {
+/// The rows between the two cuts.
+pub(crate) fn rows_in(alloc: Global, of: &Charged) -> Result<Vec<FocusRow<'_>>, RowFault> {
     let is_apart = of.from.agents() == 1 && of.to.agents() == 1 && of.to.at_least(&of.from);
-    let (Some(february), 1, true) = (Period::new(1), of.store.agents(), is_apart) else {
+    let (1, true) = (of.store.agents(), is_apart) else {
         return Err(RowFault::Missing { agent: 1, seq: 1 });
     };
     rows_of(
-        alloc, &of.store, &of.sheet, &of.issuer, february, &of.from, &of.to,
+        alloc, &of.store, &of.sheet, &of.issuer, of.period, &of.from, &of.to,
     )
 }
 

@@ -8,6 +8,8 @@ mod files;
 #[cfg(test)]
 mod numbers;
 #[cfg(test)]
+mod regions;
+#[cfg(test)]
 mod sheets;
 #[cfg(test)]
 mod stores;

@@ -52,18 +52,18 @@ BillingPeriodEnd,BillingPeriodStart,ChargeCategory,ChargeClass,ChargeDescription
 ChargePeriodEnd,ChargePeriodStart,CommitmentDiscountCategory,CommitmentDiscountId,\
 CommitmentDiscountStatus,CommitmentDiscountType,ConsumedQuantity,ConsumedUnit,ContractedCost,\
 ContractedUnitPrice,EffectiveCost,InvoiceIssuerName,ListCost,ListUnitPrice,PricingCategory,\
-PricingQuantity,PricingUnit,ProviderName,PublisherName,ResourceId,ServiceCategory,ServiceName,\
-SkuId,SkuPriceId,SubAccountId,Tags\n";
+PricingQuantity,PricingUnit,ProviderName,PublisherName,RegionId,RegionName,ResourceId,\
+ServiceCategory,ServiceName,SkuId,SkuPriceId,SubAccountId,Tags\n";
 
 /// The line of the reading in the file of January 2025.
 pub const LINE: &[u8] = b"0.12,A-100,Payer,USD,2025-02-01T00:00:00Z,2025-01-01T00:00:00Z,\
 Usage,,Virtual CPU time,Usage-Based,2025-01-10T02:00:00Z,2025-01-10T00:00:00Z,,,,,5400,Seconds,\
-0.12,0.08,0.12,Sample Cloud Ltd,0.15,0.1,Standard,1.5,Hours,Sample Cloud,Sample Cloud,vm-1,\
+0.12,0.08,0.12,Sample Cloud Ltd,0.15,0.1,Standard,1.5,Hours,Sample Cloud,Sample Cloud,,,vm-1,\
 Compute,Sample Compute,cpu,cpu-od,acc-7,\"{\"\"env\"\":\"\"prod\"\"}\"\n";
 
 /// What February is charged of the amendment, where January was charged the reading.
 pub const CORRECTION: &[u8] = b"0.04,A-100,Payer,USD,2025-03-01T00:00:00Z,\
 2025-02-01T00:00:00Z,Usage,Correction,Virtual CPU time,Usage-Based,2025-01-10T02:00:00Z,\
 2025-01-10T00:00:00Z,,,,,1800,Seconds,0.04,0.08,0.04,Sample Cloud Ltd,0.05,0.1,Standard,0.5,Hours,\
-Sample Cloud,Sample Cloud,vm-1,Compute,Sample Compute,cpu,cpu-od,acc-7,\
+Sample Cloud,Sample Cloud,,,vm-1,Compute,Sample Compute,cpu,cpu-od,acc-7,\
 \"{\"\"env\"\":\"\"prod\"\"}\"\n";
