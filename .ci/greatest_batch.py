@@ -9,8 +9,8 @@ HEAD = ('BilledCost BillingAccountId BillingAccountName BillingCurrency BillingP
         'ChargeClass ChargeDescription ChargeFrequency ChargePeriodEnd ChargePeriodStart CommitmentDiscountCategory '
         'CommitmentDiscountId CommitmentDiscountStatus CommitmentDiscountType ConsumedQuantity ConsumedUnit ContractedCost '
         'ContractedUnitPrice EffectiveCost InvoiceIssuerName ListCost ListUnitPrice PricingCategory PricingQuantity '
-        'PricingUnit ProviderName PublisherName ResourceId ServiceCategory ServiceName SkuId SkuPriceId SubAccountId '
-        'Tags').split()
+        'PricingUnit ProviderName PublisherName RegionId RegionName ResourceId ServiceCategory ServiceName SkuId SkuPriceId '
+        'SubAccountId Tags').split()
 
 # sku, price_id, from, description, service, category, consumed_unit, pricing_unit, per, list, contracted
 PRICES = [
@@ -71,15 +71,16 @@ def price_on(prices, sku, day):
     return max(rows, key=lambda p: p[2], default=None)
 
 
-# Of a reading whose value goes from one to another, in a period with these bounds.
-def row(reading, was, now, bounds, prices, commitments, issuer):
-    kind, start, end, account, resource, key, _, commitment, tags = reading
+# Of a reading whose value goes from one to another, in a period with these bounds. The names of regions are by their ids.
+def row(reading, was, now, bounds, prices, commitments, issuer, regions):
+    kind, start, end, account, resource, key, _, commitment, tags = reading[:9]
+    region = ''.join(reading[9:])
     c = dict.fromkeys(HEAD, '')
     c.update(BillingAccountId=issuer['account_id'], BillingAccountName=issuer['account_name'],
              BillingCurrency=issuer['currency'], BillingPeriodStart=bounds[0],
              BillingPeriodEnd=bounds[1], ChargePeriodStart=start, ChargePeriodEnd=end,
              InvoiceIssuerName=issuer['issuer'], ProviderName=issuer['provider'], PublisherName=issuer['publisher'],
-             ResourceId=resource, SubAccountId=account)
+             RegionId=region, RegionName=regions.get(region, region), ResourceId=resource, SubAccountId=account)
     c['ChargeCategory'] = dict(U='Usage', P='Purchase', C='Credit', T='Tax', A='Adjustment')[kind]
     c['ChargeFrequency'] = 'Usage-Based' if kind == 'U' else 'One-Time'
     pairs = [p.split('=', 1) for p in tags.split(';')] if tags else []
@@ -169,7 +170,7 @@ def main():
         out.write(','.join(HEAD) + '\n')
         for index, record in enumerate(made):
             if record[0] != 'X':
-                c = row(record, 0, values[index], JANUARY, PRICES, COMMITMENTS, dict(ISSUER))
+                c = row(record, 0, values[index], JANUARY, PRICES, COMMITMENTS, dict(ISSUER), {})
                 out.write(','.join(field(c[name]) for name in HEAD) + '\n')
 
 

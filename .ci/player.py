@@ -1,9 +1,9 @@
 """A player of schedules by docs/formats.md alone: what is told of a text of `focusd play`, made without the program.
 
-A sheet and an issuer are read by tomllib, and are right. Of a batch it tells that lines or fields are missing, and takes the
-fields themselves to be right.
+A sheet and an issuer are read by tomllib, and are right.
 """
 import copy
+import datetime
 import re
 import tomllib
 
@@ -58,6 +58,8 @@ EVENTS = (
     ("start N", (0, 98)),
     ("restart N", (0, 98)),
     ("export N N", (0, 98), (0, 1_199)),
+    ("keep N", (0, 98)),
+    ("revive N N", (0, 98), (1, 200_000)),
 )
 
 
@@ -76,26 +78,101 @@ def schedule_in(text):
     events = []
     while not lines.is_over():
         event = lines.next("L6", *EVENTS)
-        events.append((0, lines.section(event[1])) if event[0] == 0 else event)
+        counts = EVENTS[event[0]][0].startswith(("journal ", "revive "))
+        events.append([*event[:-1], lines.section(event[-1])] if counts else event)
     return World(*nodes[:1], sum(nodes), agents, tomllib.loads(sheet.decode()), tomllib.loads(issuer.decode())), events
 
 
+MOMENT = "[0-9]{4}-[0-9]{2}-[0-9]{2}T[0-9]{2}:[0-9]{2}:[0-9]{2}Z"
+DECIMAL = r"-?(0|[1-9][0-9]{0,11})([.][0-9]{0,5}[1-9])?"
+# Each field of a reading behind its kind, and of an amendment, with the fault that is told of it.
+READING = ("start V4", "end V4", "text V6", "text V6", "key V6", "value V5", "plan V6", "tags V7", "text V6")
+AMENDMENT = ("seq V5", "index V5", "value V5")
+
+
+def moment_in(text):
+    """The moment that a text is, or None."""
+    try:
+        return datetime.datetime.strptime(text, "%Y-%m-%dT%H:%M:%SZ") if re.fullmatch(MOMENT, text, re.A) else None
+    except ValueError:
+        return None
+
+
+def is_right(name, text, record):
+    """Whether a field of a record has the form that is asked of it."""
+    kind = record[0]
+    if name == "start":
+        return moment_in(text) is not None
+    if name == "end":
+        return moment_in(text) is not None and moment_in(record[1]) < moment_in(text)
+    if name == "value":
+        may_be_negative = kind in list("CTAX")
+        return re.fullmatch(DECIMAL, text, re.A) and text != "-0" and (may_be_negative or text[0] != "-")
+    if name in ("seq", "index"):
+        least, most = (1, 1_000_000) if name == "seq" else (0, 999)
+        return re.fullmatch(WHOLE, text, re.A) and least <= int(text) <= most
+    if not all(" " <= it <= "~" for it in text) or (name == "key" and not text) or (name == "plan" and text and kind in list("CTA")):
+        return False
+    keys = [it.split("=")[0] for it in text.split(";")] if name == "tags" and text else []
+    return all(keys) and all("=" in it for it in text.split(";") if keys) and all(a < b for a, b in zip(keys, keys[1:]))
+
+
 def batch_in(text):
-    """The agent, the sequence and the records of a batch."""
-    *lines, _ = text.decode().split("\n")
-    head = re.fullmatch(rf"B1\|{WHOLE}\|{WHOLE}\|{WHOLE}", lines[0])
+    """The agent, the sequence and the records of a batch. Of format B2 a reading has its region for a tenth field."""
+    *lines, _ = text.decode("latin-1").split("\n")
+    head = re.fullmatch(rf"B([12])\|{WHOLE}\|{WHOLE}\|{WHOLE}", lines[0]) if lines else None
     if len(text) > 65_536 or not head:
         raise Refused("G1 V8 line 1" if len(text) > 65_536 else "G1 V1 line 1")
-    agent, seq, count = map(int, head.groups())
+    version, agent, seq, count = map(int, head.groups())
     if not 1 <= agent <= 64 or not 1 <= seq <= 1_000_000 or count > 1_000:
         raise Refused("G1 V1 line 1")
     records = [it.split("|") for it in lines[1 : count + 1]]
     for place, record in enumerate(records):
-        if len(record) != {"X": 4}.get(record[0], 9 if record[0] in list("UPCTA") else 0):
+        if len(record) != {"X": 4}.get(record[0], 8 + version if record[0] in list("UPCTA") else 0):
             raise Refused(f"G1 V3 line {place + 2}")
+        for form, field in zip(AMENDMENT if record[0] == "X" else READING, record[1:]):
+            name, code = form.split()
+            if not is_right(name, field, record):
+                raise Refused(f"G1 {code} line {place + 2}")
     if len(lines) != count + 1:
         raise Refused(f"G1 V2 line {min(len(lines), count + 1) + 1}")
     return agent, seq, records
+
+
+def check_kept(text):
+    """Refuses what is no kept text, by its first fault."""
+    *lines, rest = text.split(b"\n")
+    at = 0
+
+    def fault(code):
+        return Refused(f"G14 {code} line {at + 1}")
+
+    def numbers(code, form, limits):
+        found = re.fullmatch(form.replace("N", WHOLE).encode(), lines[at]) if at < len(lines) else None
+        of = [int(it) for it in found.groups()] if found else []
+        if not found or not all(least <= it <= most for it, (least, most) in zip(of, limits)):
+            raise fault(code)
+        return of
+
+    limits = (1, 64), (0, 10_000), (0, 1_200), (0, 990_098), (0, 990_098), (0, 64_000_000)
+    agents, _, learned, _, ballot, batches = numbers("H1", r"K1\|N\|N\|N\|N\|N\|N", limits)
+    for at in range(1, 1 + learned + bool(ballot)):
+        numbers("H2", r"\|".join("N" * agents), [(0, 1_000_000)] * agents)
+    at, before = 1 + learned + bool(ballot), (0, 0)
+    for _ in range(batches):
+        found = re.fullmatch(rb"B\d\|[^|]*\|[^|]*\|(\d{1,4})", lines[at]) if at < len(lines) else None
+        behind = at + 1 + int(found[1]) if found else 0
+        if not found or len(lines) < behind:
+            raise fault("H3")
+        try:
+            agent, seq, _ = batch_in(b"".join(it + b"\n" for it in lines[at:behind]))
+        except Refused:
+            raise fault("H3") from None
+        if agent > agents or (agent, seq) <= before:
+            raise fault("H4")
+        at, before = behind, (agent, seq)
+    if at < len(lines) or rest:
+        raise fault("H5")
 
 
 # ---- the group
@@ -122,12 +199,14 @@ class World:
         self.nodes, self.agents, self.issuer = [Node() for _ in range(nodes)], agents, issuer
         self.prices = [tuple(it[key] for key in PRICE) for it in sheet.get("price", [])]
         self.commitments = [tuple(it[key] for key in COMMITMENT) for it in sheet.get("commitment", [])]
+        self.regions = {it["id"]: it["name"] for it in sheet.get("region", [])}
         self.base = sheet["base"]
-        self.journals, self.packets = [[] for _ in range(agents)], []
+        self.journals, self.packets, self.texts = [[] for _ in range(agents)], [], {}
 
     def reply(self, event):
         try:
-            return (self.journal, self.deliver, self.start, self.restart, self.export)[event[0]](*event[1:])
+            done = self.journal, self.deliver, self.start, self.restart, self.export, self.keep, self.revive
+            return done[event[0]](*event[1:])
         except Refused as why:
             return f"refused {why}\n"
 
@@ -173,6 +252,7 @@ class World:
                 self.check_priced(record)
         packet = self.send(("batch", agent, seq))
         journal.append(records)
+        self.texts[agent, seq] = text.decode()
         return f"journaled packet {packet}\n"
 
     # Ballots
@@ -246,6 +326,25 @@ class World:
         self.node(i).wake()
         return "restarted\n"
 
+    # What a node keeps
+
+    def kept_text(self, node):
+        ballot, *voted = node.vote or (0,)
+        cuts, ballots = node.learned + voted, (node.promised, ballot)
+        lines = [("K1", self.agents, node.round, len(node.learned), *ballots, len(node.held)), *cuts]
+        return "".join("|".join(map(str, it)) + "\n" for it in lines) + "".join(self.texts[it] for it in sorted(node.held))
+
+    def keep(self, i):
+        text = self.kept_text(self.node(i))
+        return "kept lines %d\n" % text.count("\n") + text
+
+    def revive(self, i, text):
+        node = self.node(i)
+        check_kept(text)
+        if text.decode("latin-1") != self.kept_text(node):
+            raise Refused("G15")
+        return self.restart(i)
+
     # Exports
 
     def export(self, i, period):
@@ -276,7 +375,8 @@ class World:
                         records.append((place, record))
             for place, record in records:
                 if place not in then or then[place] != now[place]:
-                    made = row(record, then.get(place, 0), now[place], bounds, self.prices, self.commitments, self.issuer)
+                    of_what = self.prices, self.commitments, self.issuer, self.regions
+                    made = row(record, then.get(place, 0), now[place], bounds, *of_what)
                     yield {**made, "ChargeClass": "Correction"} if place in then else made
 
 
