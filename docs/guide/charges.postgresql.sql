@@ -1,4 +1,4 @@
--- The 36 columns of a file in its order, for PostgreSQL. A cost has up to 12 decimals, so no number is a float.
+-- The 38 columns of a file in its order, for PostgreSQL. A cost has up to 12 decimals, so no number is a float.
 CREATE TABLE charges (
     "BilledCost" numeric NOT NULL,
     "BillingAccountId" text NOT NULL,
@@ -29,6 +29,8 @@ CREATE TABLE charges (
     "PricingUnit" text,
     "ProviderName" text NOT NULL,
     "PublisherName" text NOT NULL,
+    "RegionId" text,
+    "RegionName" text,
     "ResourceId" text,
     "ServiceCategory" text NOT NULL,
     "ServiceName" text NOT NULL,
