@@ -11,6 +11,14 @@ sheet_0_lines = codes "base = \"2025-01\"" ∷ codes "[[price]]" ∷ codes "sku 
     codes "pricing_unit = \"Hours\"" ∷ codes "per = 3600" ∷ codes "list = \"0.1\"" ∷
     codes "contracted = \"0.08\"" ∷ []
 
+-- the same with a region behind its price
+abbrev pub sheet_with_region_lines : TextLines
+sheet_with_region_lines = codes "base = \"2025-01\"" ∷ codes "[[price]]" ∷ codes "sku = \"cpu\"" ∷ codes "price_id = \"cpu-od\"" ∷
+    codes "from = \"2025-01-01\"" ∷ codes "description = \"Virtual CPU time\"" ∷
+    codes "service = \"Sample Compute\"" ∷ codes "category = \"Compute\"" ∷ codes "consumed_unit = \"Seconds\"" ∷
+    codes "pricing_unit = \"Hours\"" ∷ codes "per = 3600" ∷ codes "list = \"0.1\"" ∷
+    codes "contracted = \"0.08\"" ∷ codes "[[region]]" ∷ codes "id = \"eu-1\"" ∷ codes "name = \"Europe 1\"" ∷ []
+
 abbrev pub sheet_1_lines : TextLines
 sheet_1_lines = codes "base = \"2025-01\"" ∷ codes "[[price]]" ∷ codes "sku = \"cpu\"" ∷ codes "price_id = \"cpu-od\"" ∷
     codes "from = \"2025-01-01\"" ∷ codes "description = \"Virtual CPU time\"" ∷

@@ -13,9 +13,9 @@ use Rattle.metering_model.specs.File.{header_line, columns, fields_of_row, text_
 use Rattle.metering_model.specs.Front.{front}
 use Rattle.metering_model.specs.World.{Refused, BadBatch, Good, Journal, opening}
 use Rattle.metering_model.specs.Step.{step}
-use Rattle.metering_model.specs.Schedule.{lines_text, Schedule, PlansJournal, PlansDelivery, PlansStart, PlansExport, transcript_of}
+use Rattle.metering_model.specs.Schedule.{lines_text, Schedule, PlansJournal, PlansDelivery, PlansStart, PlansExport, schedule_text, transcript_of}
 use Rattle.metering_model.specs.Transcript.{line, reply_text}
-use Rattle.metering_model.proofs.Samples.{january_2025, sheet_0, sheet_0_lines, sheet_with_region, empty_sheet, issuer_1, issuer_1_lines, reading_1, row_1}
+use Rattle.metering_model.proofs.Samples.{january_2025, sheet_0, sheet_with_region, sheet_with_region_lines, empty_sheet, issuer_1, issuer_1_lines, reading_1, row_1}
 
 -- ---- the table of columns, written out
 
@@ -108,13 +108,23 @@ both_formats = record {
   voters = 1;
   observers = 0;
   agents = 1;
-  sheet = sheet_0_lines;
+  sheet = sheet_with_region_lines;
   issuer = issuer_1_lines;
   events =
       PlansJournal (codes "B1|1|1|1" ∷ reading_1 ∷ []) ∷ PlansJournal (codes "B2|1|2|2" ∷ codes "X|1|0|7200" ∷ (reading_1 ++ codes "|eu-1") ∷ []) ∷
       PlansJournal (codes "B1|1|3|1" ∷ codes "X|2|1|3600" ∷ []) ∷ PlansDelivery 0 0 ∷ PlansDelivery 1 0 ∷ PlansDelivery 2 0 ∷
       PlansStart 0 ∷ PlansDelivery 3 0 ∷ PlansDelivery 4 0 ∷ PlansDelivery 5 0 ∷ PlansDelivery 6 0 ∷ PlansExport 0 0 ∷ [];
 }
+
+both_formats_text : schedule_text both_formats ≡
+    lines_text (codes "SCHEDULE 1" ∷ codes "nodes 1" ∷ codes "agents 1" ∷ [])
+    ++ line (codes "sheet 16") ++ lines_text sheet_with_region_lines ++ line (codes "issuer 7") ++ lines_text issuer_1_lines
+    ++ lines_text (codes "journal 2" ∷ codes "B1|1|1|1" ∷ reading_1 ∷ codes "journal 3" ∷ codes "B2|1|2|2" ∷ codes "X|1|0|7200" ∷ (reading_1 ++ codes "|eu-1") ∷
+    codes "journal 2" ∷ codes "B1|1|3|1" ∷ codes "X|2|1|3600" ∷
+    codes "deliver 0 0" ∷ codes "deliver 1 0" ∷ codes "deliver 2 0" ∷ codes "start 0" ∷ codes "deliver 3 0" ∷ codes "deliver 4 0" ∷
+    codes "deliver 5 0" ∷ codes "deliver 6 0" ∷ codes "export 0 0" ∷ [])
+unfolding digits
+both_formats_text = refl
 
 both_formats_transcript : transcript_of sheet_with_region issuer_1 both_formats ≡
     lines_text (codes "journaled packet 0" ∷ codes "journaled packet 1" ∷ codes "journaled packet 2" ∷ codes "delivered" ∷ codes "delivered" ∷ codes "delivered" ∷

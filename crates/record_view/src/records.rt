@@ -467,6 +467,7 @@ fn plain_record<'a>(letter: &[u8], rest: Field<'a>) -> Option<Record<'a>>
 
 /// The record of a reading's line, from what stands behind its letter. What is not plain is read
 /// field by field, for its first fault.
+#[inline(always)]
 fn reading_behind<'a>(letter: &[u8], rest: Field<'a>) -> Result<Record<'a>, BatchCode>
     requires placed { IsPlaced (lent rest) }
     requires letter { is_same letter.now (codes "X") ≡ false }
@@ -508,7 +509,8 @@ fn in_region<'a>(what: &Record<'a>, region: Field<'a>) -> Result<Record<'a>, Bat
 }
 
 /// The record of a reading's line in format B2, from what stands behind its letter: what stands before the last bar is
-/// read as in format B1, and behind it stands the region.
+/// read as in format B1, and behind it stands the region. Apart, so that the path of format B1 stays short.
+#[inline(never)]
 fn reading_in_region<'a>(letter: &[u8], rest: Field<'a>) -> Result<Record<'a>, BatchCode>
     requires placed { IsPlaced (lent rest) }
     requires letter { is_same letter.now (codes "X") ≡ false }
@@ -533,6 +535,7 @@ fn reading_in_region<'a>(letter: &[u8], rest: Field<'a>) -> Result<Record<'a>, B
 }
 
 /// The record that the line at this span is in a batch of that format, or the rule that its first bad field breaks.
+#[inline(always)]
 pub fn read_record<'a>(
     version: Version,
     source: &'a [u8],
