@@ -6,11 +6,18 @@ use Rattle.std.proofs.lemmas.Bool.{ltb-true}
 use Rattle.std.proofs.lemmas.Option.{same_Some}
 use Rattle.metering_model.specs.declared.Worker.TheVariants.{Agent, Node}
 use Rattle.metering_model.specs.Holding.{Holding}
-use Rattle.metering_model.specs.World.{Event, Journal, Deliver, Start, Export, Reply, Journaled, Delivered, Started, Exported, Snapshot, offer_of, opening}
+use Rattle.metering_model.specs.World.{Event, Journal, Deliver, Start, Export, Keep, Revive, KeptOffer, Reply, Journaled, Delivered, Started, Exported, Snapshot, offer_of, opening}
 use Rattle.metering_model.specs.History.{Entry}
 use Rattle.metering_model.proofs.Samples.{sheet_0, issuer_1}
 use Rattle.node_book.specs.Books.{Book, Told, Log, Plan}
-use Rattle.node_book.specs.Agreement.{may_do, ExportsEach, IsLogAt, Agree}
+use Rattle.node_book.specs.Agreement.{is_event_of_node, may_do, ExportsEach, IsLogAt, Agree}
+
+-- what a node keeps is asked for by others, who also revive it: neither is an event of its own
+not_kept_by_itself : (node : ℕ) → is_event_of_node node (Keep node) ≡ false
+not_kept_by_itself node = refl
+
+not_revived_by_itself : (node : ℕ) (offer : KeptOffer) → is_event_of_node node (Revive node offer) ≡ false
+not_revived_by_itself node offer = refl
 
 module _ (text : List ℕ) (batches : Holding) where
   abbrev snapshot : Snapshot
