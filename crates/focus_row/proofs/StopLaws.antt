@@ -1,8 +1,9 @@
 -- The rows that are left from a place on: what may be passed over, and what a batch gives.
-use Rattle.std.proofs.Common.{◌≡◌, ℕ, zero, suc, ◌+◌, ◌<◌, ◌≤◌, ◌⊎◌, Bool, true, false, ◌&&◌, List, [], ◌∷◌, ◌++◌, length, map, filter, refl, sym, ap, subst, ◌∙◌, arith, Option, Some, None, inl, inr, cond, nat_lt, nat_le, pos, option_map, ℤ, get_or, drop}
+use Rattle.std.proofs.Common.{◌≡◌, ℕ, zero, suc, ◌+◌, ◌<◌, ◌≤◌, ◌⊎◌, Bool, true, false, ◌&&◌, List, [], ◌∷◌, ◌++◌, length, map, filter, refl, sym, ap, subst, ◌∙◌, arith, append-nil, append_assoc, Option, Some, None, inl, inr, cond, nat_lt, nat_le, pos, option_map, ℤ, get_or, drop, Result, Ok, Err}
 use Rattle.std.specs.Prelude.{All, if◌then◌else◌, slice_get, ◌≤ℤ◌}
 use Rattle.std.specs.List.{filter_map, cons_option, Contains}
 use Rattle.std.specs.Option.{option_and_then}
+use Rattle.std.specs.Result.{OnOk, is_ok}
 use Rattle.std.proofs.lemmas.Bool.{cond-true, cond-false, cases_lt, cases_eq, and_parts, leb-true, le-ltb}
 use Rattle.std.proofs.lemmas.Bool.Decides.{nat_tests}
 use Rattle.std.proofs.lemmas.Int.{ints}
@@ -229,21 +230,23 @@ first_left [] rest (suc i) x e = absurd (cc)
 first_left (y ∷ xs) rest zero x e = let same : y ≡ x = cc in (ap Some same, omega arith)
 first_left (y ∷ xs) rest (suc i) x e = let later = first_left xs rest i x e in (later.0, omega (arith, later.1))
 
-pushed : (xs : List FocusRow) (x : FocusRow) (ys : List Row) → map model_row (xs ++ x ∷ []) ++ ys ≡ map model_row xs ++ model_row x ∷ ys
-pushed [] x ys = refl
-pushed (y ∷ xs) x ys = ap (λ rs. model_row y ∷ rs) (pushed xs x ys)
+-- what holds where a call has an answer, holds behind one that has
+pub when_done : {A E : Type 0} (r : Result A E) (P : Type 0) → OnOk r P → is_ok r ≡ true → P
+when_done (Ok x) P holds e = holds
+when_done (Err x) P holds e = absurd (cc)
 
-module _ (s : Between) (a q i : ℕ) (r : Record) (before after : List Record) (first : before ≡ r ∷ after) (all : List Row) where
-  -- a record with a row, which is added
-  pub push_row : (xs ys : List FocusRow) (x : FocusRow) → ys ≡ xs ++ x ∷ []
-      → Some (model_row x) ≡ row_of s.sheet s.issuer s.batches s.period s.from s.to (record { agent = a; seq = q; index = i }) r
-      → map model_row xs ++ rows_in s (placed_from a q i before) ≡ all → map model_row ys ++ rows_in s (placed_from a q (i + 1) after) ≡ all
-  push_row xs ys x added is so_far =
-      ap (λ zs. map model_row zs ++ rows_in s (placed_from a q (i + 1) after)) added
-      ∙ (pushed xs x (rows_in s (placed_from a q (i + 1) after))
-      ∙ (ap (λ rs. map model_row xs ++ rs) (sym (one_more_record s a q i r before after (Some (model_row x)) first is)) ∙ so_far))
+-- the row of a record stands before the others, if there is one
+with_option : (xs : List Row) (o : Option Row) (ys : List Row) → (xs ++ cons_option o []) ++ ys ≡ xs ++ cons_option o ys
+with_option xs None ys = ap (λ zs. zs ++ ys) (append-nil xs)
+with_option xs (Some x) ys = append_assoc xs (x ∷ []) ys
 
-  -- a record without a row
-  pub pass_record : (xs : List FocusRow) → None ≡ row_of s.sheet s.issuer s.batches s.period s.from s.to (record { agent = a; seq = q; index = i }) r
-      → map model_row xs ++ rows_in s (placed_from a q i before) ≡ all → map model_row xs ++ rows_in s (placed_from a q (i + 1) after) ≡ all
-  pass_record xs is so_far = ap (λ rs. map model_row xs ++ rs) (sym (one_more_record s a q i r before after None first is)) ∙ so_far
+-- one more record: its row, if it has one, stands behind the others
+pub next_record : (s : Between) (a q i : ℕ) (r : Record) (before after : List Record) → before ≡ r ∷ after → (all : List Row) (xs ys : List FocusRow)
+    → map model_row ys ≡ map model_row xs ++ cons_option (row_of s.sheet s.issuer s.batches s.period s.from s.to (record { agent = a; seq = q; index = i }) r) []
+    → map model_row xs ++ rows_in s (placed_from a q i before) ≡ all → map model_row ys ++ rows_in s (placed_from a q (i + 1) after) ≡ all
+next_record s a q i r before after first all xs ys added so_far =
+    let o = row_of s.sheet s.issuer s.batches s.period s.from s.to (record { agent = a; seq = q; index = i }) r in
+    let left = rows_in s (placed_from a q (i + 1) after) in
+    ap (λ zs. zs ++ left) added
+    ∙ (with_option (map model_row xs) o left
+    ∙ (ap (λ zs. map model_row xs ++ zs) (sym (one_more_record s a q i r before after o first refl)) ∙ so_far))

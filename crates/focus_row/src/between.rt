@@ -1,6 +1,7 @@
 //! The rows between two cuts, batch by batch.
 
 ghost use Rattle.std.specs.Prelude.{◌≡◌, ◌≢◌, ◌≤◌, ◌≤ℤ◌, ◌+◌, ◌<◌, ◌++◌, [], true, pos, length, map, option_map, Some, None, IfOk, IfSome, IfNone, IfErr, OnOk, OnErr};
+ghost use Rattle.std.specs.List.{cons_option};
 ghost use Rattle.std.specs.Option.{is_some, option_copied};
 ghost use Rattle.metering_model.specs.Batch.{Reading as ModelReading, is_priced};
 ghost use Rattle.metering_model.specs.Cut.{IsAtLeast, last_of};
@@ -164,29 +165,52 @@ impl<'a> BetweenCuts<'a> {
         ))
     }
 
-    /// The row of a record, where it has one. The region of another row may be near.
-    fn row_of(
+    /// Puts the row of a record behind the others, where it has one. It is made where it stands, and the region of the row
+    /// before is near.
+    fn put_row(
         &self,
-        near: RegionColumns<'a>,
+        rows: &mut Vec<FocusRow<'a>>,
         place: RecordPlace,
         what: &Record<'a>,
-    ) -> Option<FocusRow<'a>>
-        requires near { IsNamed self.now.sheet (option_copied near.id) (option_copied near.name) }
+    ) -> Result<(), AllocError>
+        requires near { AreNamed self.now.sheet rows.old.items }
         requires from { 1 ≤ place.agent }
         requires to { place.agent ≤ self.now.agents }
         requires there { record_at self.now.batches (position_of place) ≡ Some (record_of what.now) }
         requires within { place.seq ≤ last_of self.now.to place.agent }
-        ensures row { option_map model_row result ≡ row_of self.now.sheet self.now.issuer self.now.batches self.now.period
-            self.now.from self.now.to (position_of place) (record_of what.now) }
-        ensures named { IfSome result (λ row. IsNamed self.now.sheet (option_copied row.region_id) (option_copied row.region_name)) }
+        ensures row { OnOk result (map model_row rows.new.items ≡ map model_row rows.old.items ++ cons_option (row_of self.now.sheet
+            self.now.issuer self.now.batches self.now.period self.now.from self.now.to (position_of place) (record_of what.now)) []) }
+        ensures named { OnOk result (AreNamed self.now.sheet rows.new.items) }
     {
         let Record::Reading(reading) = what else {
-            return None;
+            return Ok(());
         };
+        let near = last_region(rows);
         if place.seq > self.from.get(place.agent) {
-            Some(self.new_row(near, place, reading))
+            if rows.push(self.new_row(near, place, reading)).is_err() {
+                return Err(AllocError);
+            }
+            return Ok(());
+        }
+        let Some(row) = self.correction(near, place, reading) else {
+            return Ok(());
+        };
+        if rows.push(row).is_err() {
+            return Err(AllocError);
+        }
+        Ok(())
+    }
+
+    /// For how many rows of a batch with so many records room is made at once: above `from` each reading has one, up to it
+    /// few have.
+    fn room_for(&self, agent: u8, seq: u32, count: u16) -> usize
+        requires from { 1 ≤ agent }
+        requires to { agent ≤ self.now.agents }
+    {
+        if seq > self.from.get(agent) {
+            usize::from(count)
         } else {
-            self.correction(near, place, reading)
+            0
         }
     }
 
@@ -204,18 +228,17 @@ impl<'a> BetweenCuts<'a> {
         ensures { IfOk result (λ rows. map model_row rows.items ++ rows_left self.now agent (seq + 1) ≡ rows_left self.now agent seq) }
     {
         let batch = self.store.batch_at(agent, seq);
-        // For the proof alone: its clause says that a batch has at most 1,000 records.
-        let _count = batch.count();
-        let mut rows = Vec::new(alloc);
+        // Its clause also says, for the proof, that a batch has at most 1,000 records.
+        let count = batch.count();
+        let Ok(mut rows) = Vec::with_capacity(alloc, self.room_for(agent, seq, count)) else {
+            return Err(AllocError);
+        };
         let mut index = 0;
         for record in batch.records() {
             let place = RecordPlace { agent, seq, index };
             index += 1;
-            let near = last_region(&rows);
-            if let Some(row) = self.row_of(near, place, &record) {
-                if rows.push(row).is_err() {
-                    return Err(AllocError);
-                }
+            if self.put_row(&mut rows, place, &record).is_err() {
+                return Err(AllocError);
             }
         }
         Ok(rows)

@@ -12,7 +12,7 @@ use Rattle.charge_row.specs.FocusRows.{model_row}
 use Rattle.charge_row.specs.declared.columns.FocusRow.{FocusRow}
 use Rattle.focus_row.specs.Inner.Left.{Between, MayBeCharged, placed_from, rows_in, rows_left}
 use Rattle.focus_row.specs.Inner.Near.{AreNamed, HasItsName}
-use Rattle.focus_row.proofs.StopLaws.{first_left, push_row, pass_record, rows_first}
+use Rattle.focus_row.proofs.StopLaws.{first_left, next_record, rows_first, when_done}
 use Rattle.focus_row.proofs.between.BetweenCuts.rows_of_batch.Goals as goal
 
 pub batch_at-batch-requires-clause-there : goal.batch_at-batch-requires-clause-there
@@ -38,8 +38,8 @@ loop-record-init c =
       held = subst (λ (w : RecordsLeft). held s.batches a q ≡ Some (batch_of w.bytes)) (sym start) found;
       few = subst (λ (w : RecordsLeft). length (batch_of w.bytes).records ≤ 1000) (sym start) few;
       index = ap (λ (w : RecordsLeft). w.index) start;
-      named = subst (AreNamed s.sheet) (sym c.new-rows.ensures.items) (All-nil (HasItsName s.sheet));
-      rows = subst (λ (w : RecordsLeft). Rows w c.new-rows.result.items) (sym start) (subst (Rows (record { bytes = bytes; index = 0 })) (sym c.new-rows.ensures.items) refl);
+      named = subst (AreNamed s.sheet) (sym c.in-Ok.ensures.items) (All-nil (HasItsName s.sheet));
+      rows = subst (λ (w : RecordsLeft). Rows w c.in-Ok.rows.items) (sym start) (subst (Rows (record { bytes = bytes; index = 0 })) (sym c.in-Ok.ensures.items) refl);
     }
 
 pub overflow_add-index : goal.overflow_add-index
@@ -50,34 +50,12 @@ overflow_add-index c =
     let same = c.loop-record.invariant.index in
     omega arith
 
-pub row_of-requires-clause-there : goal.row_of-requires-clause-there
-row_of-requires-clause-there c =
+pub put_row-requires-clause-there : goal.put_row-requires-clause-there
+put_row-requires-clause-there c =
     let records = (batch_of c.loop-record.record-iterator.bytes).records in
     let left = first_left records _ c.loop-record.record-iterator.index _ c.in-Some.ensures.steps.first in
     ap (option_and_then (λ (b : Batch). slice_get b.records c.loop-record.index)) c.loop-record.invariant.held
     ∙ (ap (slice_get records) (sym c.loop-record.invariant.index) ∙ left.0)
-
-pub loop-record-preserved-else-is_err : goal.loop-record-preserved-else-is_err
-loop-record-preserved-else-is_err c =
-    let s = c.args.self.now in
-    let a = c.args.agent in
-    let q = c.args.seq in
-    let old = c.loop-record.record-iterator in
-    let new = c.next.new.self in
-    let walk : new ≡ record { bytes = old.bytes; index = old.index + 1 } = c.in-Some.ensures.steps.walk in
-    let added : c.push.new.self.items ≡ c.loop-record.rows.items ++ c.in-Some-row_of.row ∷ [] = search rules in
-    let same = c.loop-record.invariant.index in
-    let rows = push_row s a q c.loop-record.index (record_of c.in-Some.record) (records_left old) (records_left new) c.in-Some.ensures.steps.first
-    (rows_in s (placed_from a q 0 (batch_of old.bytes).records)) c.loop-record.rows.items c.push.new.self.items c.in-Some-row_of.row added c.in-Some-row_of.ensures.row c.loop-record.invariant.rows in
-    record {
-      can_next = tt;
-      is_finite = tt;
-      held = subst (λ (w : RecordsLeft). held s.batches a q ≡ Some (batch_of w.bytes)) (sym walk) c.loop-record.invariant.held;
-      few = subst (λ (w : RecordsLeft). length (batch_of w.bytes).records ≤ 1000) (sym walk) c.loop-record.invariant.few;
-      index = ap (λ (w : RecordsLeft). w.index) walk ∙ ap (λ n. n + 1) same;
-      named = subst (AreNamed s.sheet) (sym added) (All-push (HasItsName s.sheet) c.loop-record.rows.items c.in-Some-row_of.row c.loop-record.invariant.named c.in-Some-row_of.ensures.named);
-      rows = rows ∙ ap (λ (w : RecordsLeft). rows_in s (placed_from a q 0 (batch_of w.bytes).records)) (sym walk);
-    }
 
 pub loop-record-preserved : goal.loop-record-preserved
 loop-record-preserved c =
@@ -88,15 +66,17 @@ loop-record-preserved c =
     let new = c.next.new.self in
     let walk : new ≡ record { bytes = old.bytes; index = old.index + 1 } = c.in-Some.ensures.steps.walk in
     let same = c.loop-record.invariant.index in
-    let rows = pass_record s a q c.loop-record.index (record_of c.in-Some.record) (records_left old) (records_left new) c.in-Some.ensures.steps.first
-    (rows_in s (placed_from a q 0 (batch_of old.bytes).records)) c.loop-record.rows.items c.in_default.ensures.row c.loop-record.invariant.rows in
+    let ok = c.if-is_err.ensures.negation in
+    let added = when_done c.put_row.result _ c.put_row.ensures.row ok in
+    let rows = next_record s a q c.loop-record.index (record_of c.in-Some.record) (records_left old) (records_left new) c.in-Some.ensures.steps.first
+    (rows_in s (placed_from a q 0 (batch_of old.bytes).records)) c.loop-record.rows.items c.put_row.new.rows.items added c.loop-record.invariant.rows in
     record {
       can_next = tt;
       is_finite = tt;
       held = subst (λ (w : RecordsLeft). held s.batches a q ≡ Some (batch_of w.bytes)) (sym walk) c.loop-record.invariant.held;
       few = subst (λ (w : RecordsLeft). length (batch_of w.bytes).records ≤ 1000) (sym walk) c.loop-record.invariant.few;
       index = ap (λ (w : RecordsLeft). w.index) walk ∙ ap (λ n. n + 1) same;
-      named = c.loop-record.invariant.named;
+      named = when_done c.put_row.result _ c.put_row.ensures.named ok;
       rows = rows ∙ ap (λ (w : RecordsLeft). rows_in s (placed_from a q 0 (batch_of w.bytes).records)) (sym walk);
     }
 
