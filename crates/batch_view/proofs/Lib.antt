@@ -1,6 +1,7 @@
 pub mod BatchLemmas
 pub mod LineLemmas
 pub mod ExtentLemmas
+pub mod FirstLemmas
 pub mod RecordLemmas
 pub mod WalkLemmas
 pub mod TagsHold

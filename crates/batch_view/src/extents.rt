@@ -1,22 +1,36 @@
 //! How far a batch goes that has other bytes behind it.
 
-ghost use Rattle.std.specs.Prelude.{◌≡◌, ◌+◌, ◌≤◌, length, None, Some, MatchOption};
+ghost use Rattle.std.specs.Prelude.{◌≡◌, ◌≤◌, length, None, MatchOption};
 ghost use Rattle.metering_model.specs.BatchReading.{lines_in};
 ghost use Rattle.batch_view.specs.Extents.{counted, extent_in};
+ghost use Rattle.batch_view.specs.Inner.First.{IsFirstBatch, IsHeadFirst};
 
 use crate::batch::{BatchView, MOST_BYTES};
 use crate::head::{Head, head_of_line};
-use crate::lines::next_line;
-use byte_text::lines_length;
+use byte_text::{find_byte, lines_length};
+use record_view::Span;
 
 /// The head line that comes first, if one does.
 fn first_head(text: &[u8]) -> Option<Head>
     requires { length text.now ≤ 65536 }
-    ensures { MatchOption result (counted (lines_in text.now).lines ≡ None)
-        (λ h. counted (lines_in text.now).lines ≡ Some (h.count + 1)) }
+    ensures { MatchOption result (counted (lines_in text.now).lines ≡ None) (IsHeadFirst text.now) }
 {
-    let span = next_line(text, 0)?;
-    head_of_line(text, span)
+    let feed = find_byte(text, b'\n')?;
+    let line = Span {
+        from: 0,
+        to: feed as u32,
+    };
+    head_of_line(text, line)
+}
+
+/// The head of the batch that comes first, and how far it goes. The head line is read once.
+pub(crate) fn first_batch(text: &[u8]) -> Option<(Head, u32)>
+    ensures { MatchOption result (extent_in text.now ≡ None) (λ first. IsFirstBatch text.now first.0 first.1) }
+{
+    let front = &text[..text.len().min(MOST_BYTES)];
+    let head = first_head(front)?;
+    let records = lines_length(&front[head.records_from as usize..], u32::from(head.count))?;
+    Some((head, head.records_from + records as u32))
 }
 
 impl<'a> BatchView<'a> {
@@ -28,9 +42,9 @@ impl<'a> BatchView<'a> {
     pub fn extent(bytes: &[u8]) -> Option<u32>
         ensures { result ≡ extent_in bytes.now }
     {
-        let front = &bytes[..bytes.len().min(MOST_BYTES)];
-        let head = first_head(front)?;
-        let length = lines_length(front, u32::from(head.count) + 1)?;
-        Some(length as u32)
+        match first_batch(bytes) {
+            Some((_, length)) => Some(length),
+            None => None,
+        }
     }
 }

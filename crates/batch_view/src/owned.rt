@@ -1,6 +1,6 @@
 //! Batches that keep their bytes.
 
-ghost use Rattle.std.specs.Prelude.{◌≡◌, ◌↔◌, ◌<◌, length, Ok, IfOk, IfErr, IfSome, IsSome, IsTrue, Some, MatchOption};
+ghost use Rattle.std.specs.Prelude.{◌≡◌, ◌↔◌, ◌<◌, ℕ, length, take, Ok, Err, IfOk, IfErr, IfSome, IsSome, IsTrue, None, Some, MatchOption, MatchResult};
 ghost use Rattle.std.specs.Arc.{arc_value};
 ghost use Rattle.std.specs.List.{list_all, slice_get};
 ghost use Rattle.metering_model.specs.Batch.{Record};
@@ -9,14 +9,16 @@ ghost use Rattle.metering_model.specs.Front.{starts_before};
 ghost use Rattle.batch_view.specs.Batches.{batch_of};
 ghost use Rattle.batch_view.specs.Kept.{AreAmendmentsOf, AreFieldSpans, are_plain, texts_in, value_given_in};
 ghost use Rattle.batch_view.specs.Offers.{IsOfferOf};
-ghost use Rattle.batch_view.specs.Inner.Kept.{KeepsBatch};
+ghost use Rattle.batch_view.specs.Extents.{extent_in};
+ghost use Rattle.batch_view.specs.Inner.Kept.{IfFault, KeepsBatch};
 ghost use Rattle.batch_view.specs.Inner.Given.{HasReading, LacksReading};
 
 use crate::amendments::{is_before, last_amendment, latest_start, sorted_amendments};
 use crate::batch::{BatchView, check_batch};
 use crate::entries::{Entry, Found, entry_at, field_total, plain_flag};
+use crate::extents::first_batch;
 use crate::head::Head;
-use crate::reading::{Unkept, keep_batch};
+use crate::reading::{Unkept, keep_batch, keep_below};
 use metering_model::BatchFault;
 use record_view::{Span, Stamp, Value};
 use std::alloc::{AllocError, AllocFailed, Global};
@@ -187,6 +189,32 @@ fn keep_parts(
     }
 }
 
+/// What comes of bytes of which this was kept.
+fn offer_of(
+    alloc: Global,
+    bytes: Vec<u8>,
+    kept: Result<(Head, Vec<Entry>), Unkept>,
+) -> Result<Offer, AllocFailed<Vec<u8>>>
+    requires { MatchResult kept
+        (λ kept. KeepsBatch bytes.items kept.0 kept.1.items)
+        (λ why. IfFault why (λ fault. batch_in bytes.items ≡ Err fault)) }
+    ensures answer { IfOk result (IsOfferOf bytes.items) }
+    ensures back { IfErr result (λ refused. refused.value.items ≡ bytes.items) }
+    ensures want { IfErr result (λ _. batch_in bytes.items ≡ Ok (batch_of bytes.items)) }
+{
+    match kept {
+        Ok((head, entries)) => match keep_parts(alloc, bytes, head, entries) {
+            Ok(batch) => Ok(Offer::Good(batch)),
+            Err(value) => Err(AllocFailed { value }),
+        },
+        Err(Unkept::Fault(fault)) => Ok(Offer::Bad(fault)),
+        Err(Unkept::NoMemory) => match check_batch(&bytes) {
+            Ok(_) => Err(AllocFailed { value: bytes }),
+            Err(fault) => Ok(Offer::Bad(fault)),
+        },
+    }
+}
+
 impl Offer {
     /// Keeps just these bytes where they are a batch, and else tells their first fault.
     /// An error says that there was no memory to keep the batch; the bytes are lost then. It comes for a batch alone:
@@ -208,16 +236,35 @@ impl Offer {
         ensures back { IfErr result (λ refused. refused.value.items ≡ bytes.items) }
         ensures want { IfErr result (λ _. batch_in bytes.items ≡ Ok (batch_of bytes.items)) }
     {
-        match keep_batch(alloc, &bytes) {
-            Ok((head, entries)) => match keep_parts(alloc, bytes, head, entries) {
-                Ok(batch) => Ok(Offer::Good(batch)),
-                Err(value) => Err(AllocFailed { value }),
-            },
-            Err(Unkept::Fault(fault)) => Ok(Offer::Bad(fault)),
-            Err(Unkept::NoMemory) => match check_batch(&bytes) {
-                Ok(_) => Err(AllocFailed { value: bytes }),
-                Err(fault) => Ok(Offer::Bad(fault)),
-            },
+        let kept = keep_batch(alloc, &bytes);
+        offer_of(alloc, bytes, kept)
+    }
+
+    /// The batch that stands first in a text, and how long it is, in bytes: its head line and the lines that this counts.
+    /// Just these bytes are copied, once, and are answered as by `read`. What stands behind them is not looked at.
+    ///
+    /// `None` where no head line comes first, fewer lines follow, or all together have more than 65,536 bytes.
+    /// An error says that there was no memory to keep the batch. It comes for a batch alone.
+    pub fn read_first(alloc: Global, text: &[u8]) -> Result<Option<(Offer, u32)>, AllocError>
+        ensures answer { IfOk result (λ answer. MatchOption answer
+            (extent_in text.now ≡ None)
+            (λ first. (extent_in text.now ≡ Some first.1) × IsOfferOf (take first.1 text.now) first.0)) }
+        ensures want { IfErr result (λ _. (n : ℕ) × (extent_in text.now ≡ Some n) × (batch_in (take n text.now) ≡ Ok (batch_of (take n text.now)))) }
+    {
+        let Some((head, length)) = first_batch(text) else {
+            return Ok(None);
+        };
+        let first = &text[..length as usize];
+        let Ok(bytes) = Vec::from_slice(alloc, first) else {
+            return match check_batch(first) {
+                Ok(_) => Err(AllocError),
+                Err(fault) => Ok(Some((Offer::Bad(fault), length))),
+            };
+        };
+        let kept = keep_below(alloc, &bytes, head);
+        match offer_of(alloc, bytes, kept) {
+            Ok(offer) => Ok(Some((offer, length))),
+            Err(_) => Err(AllocError),
         }
     }
 }

@@ -2,7 +2,7 @@
 
 ghost use Rattle.std.specs.Prelude.{◌≡◌, ◌≤◌, ◌+◌, length, drop, Err, MatchResult};
 ghost use Rattle.metering_model.specs.BatchReading.{batch_in, lines_in, records_in};
-ghost use Rattle.batch_view.specs.Inner.Lines.{IsBehindLines};
+ghost use Rattle.batch_view.specs.Inner.Lines.{BeginsWithHead, IsBehindLines};
 ghost use Rattle.batch_view.specs.Inner.Kept.{IfFault, KeepsEntries, KeepsBatch};
 
 use crate::entries::{Entry, entry_from};
@@ -59,22 +59,18 @@ fn keep_entries(
     Ok((entries, at))
 }
 
-/// The head of the batch that these bytes are, and what is kept of its records.
-pub(crate) fn keep_batch(alloc: Global, bytes: &[u8]) -> Result<(Head, Vec<Entry>), Unkept>
+/// What is kept of the records of bytes that begin with this head, which is handed back where they are a batch.
+pub(crate) fn keep_below(
+    alloc: Global,
+    bytes: &[u8],
+    head: Head,
+) -> Result<(Head, Vec<Entry>), Unkept>
+    requires short { length bytes.now ≤ 65536 }
+    requires begins { BeginsWithHead bytes.now head }
     ensures { MatchResult result
         (λ kept. KeepsBatch bytes.now kept.0 kept.1.items)
         (λ why. IfFault why (λ fault. batch_in bytes.now ≡ Err fault)) }
 {
-    if bytes.len() > MOST_BYTES {
-        return Err(Unkept::Fault(BatchFault {
-            code: BatchCode::TooLong,
-            line: 1,
-        }));
-    }
-    let head = match read_head(bytes) {
-        Ok(head) => head,
-        Err(fault) => return Err(Unkept::Fault(fault)),
-    };
     let (entries, end) = match keep_entries(
         alloc,
         head.version,
@@ -92,4 +88,22 @@ pub(crate) fn keep_batch(alloc: Global, bytes: &[u8]) -> Result<(Head, Vec<Entry
         }));
     }
     Ok((head, entries))
+}
+
+/// The head of the batch that these bytes are, and what is kept of its records.
+pub(crate) fn keep_batch(alloc: Global, bytes: &[u8]) -> Result<(Head, Vec<Entry>), Unkept>
+    ensures { MatchResult result
+        (λ kept. KeepsBatch bytes.now kept.0 kept.1.items)
+        (λ why. IfFault why (λ fault. batch_in bytes.now ≡ Err fault)) }
+{
+    if bytes.len() > MOST_BYTES {
+        return Err(Unkept::Fault(BatchFault {
+            code: BatchCode::TooLong,
+            line: 1,
+        }));
+    }
+    match read_head(bytes) {
+        Ok(head) => keep_below(alloc, bytes, head),
+        Err(fault) => Err(Unkept::Fault(fault)),
+    }
 }

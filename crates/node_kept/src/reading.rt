@@ -13,7 +13,7 @@ use crate::faults::KeptFault;
 use crate::head::{Head, head_of_line};
 use crate::kept::{Kept, Parts};
 use batch_store::{Cut, Store};
-use batch_view::{BatchView, Offer, OwnedBatch};
+use batch_view::{Offer, OwnedBatch};
 use byte_text::first_line;
 use metering_model::KeptCode;
 use paxos_ballot::{Acceptor, Ballot, Vote};
@@ -98,17 +98,17 @@ fn read_batch<'a>(
         code: KeptCode::Batch,
         line,
     };
-    let Some(length) = BatchView::extent(text) else {
-        return Err(fault);
+    let (offer, length) = match Offer::read_first(alloc, text) {
+        Ok(Some(first)) => first,
+        Ok(None) => return Err(fault),
+        Err(_) => return Err(KeptFault::OutOfMemory),
     };
-    let (front, behind) = text.split_at(length as usize);
-    let Ok(bytes) = Vec::from_slice(alloc, front) else {
-        return Err(KeptFault::OutOfMemory);
-    };
-    match Offer::read(alloc, bytes) {
-        Ok(Offer::Good(batch)) => Ok((batch, behind)),
-        Ok(Offer::Bad(_)) => Err(fault),
-        Err(_) => Err(KeptFault::OutOfMemory),
+    match offer {
+        Offer::Good(batch) => {
+            let (_, behind) = text.split_at(length as usize);
+            Ok((batch, behind))
+        }
+        Offer::Bad(_) => Err(fault),
     }
 }
 
