@@ -12,6 +12,7 @@ use Rattle.metering_model.specs.SheetRules.{is_label, IsDay}
 use Rattle.metering_model.specs.FirstFailure.{holds_or}
 use Rattle.metering_model.proofs.StepLaws.{step_iff, ok_same}
 use Rattle.metering_model.proofs.DayLaws.{day_read}
+use Rattle.sheet_text.specs.Names.{Key, key_name}
 use Rattle.sheet_text.specs.Keys.{label_under, day_under, base_under, price_under, per_under, rows_in, rows_or_none, rows_under}
 
 pub holds_true : {E : Type 0} (b : Bool) (e : E) (u : Unit {0}) → holds_or b e ≡ Ok u → b ≡ true
@@ -22,13 +23,13 @@ some_of_ok : {A E : Type 0} (o : Option A) (e : E) (x : A) → ok_or o e ≡ Ok 
 some_of_ok (Some y) e x h = cc
 some_of_ok None e x h = absurd (cc)
 
-pub label_read : (key : List ℕ) (table : Members) (x : List ℕ) → label_under key table ≡ Ok x → IsTrue (is_label x)
+pub label_read : (key : Key) (table : Members) (x : List ℕ) → label_under key table ≡ Ok x → IsTrue (is_label x)
 unfolding label_under
 label_read key table x h =
     let text = simp step_iff at h in
     subst (λ t. is_label t ≡ true) (ok_same text.0 x text.2.2) (holds_true (is_label text.0) _ _ text.2.1)
 
-pub day_is_read : (key : List ℕ) (table : Members) (d : ℤ) → day_under key table ≡ Ok d → IsDay d
+pub day_is_read : (key : Key) (table : Members) (d : ℤ) → day_under key table ≡ Ok d → IsDay d
 unfolding day_under
 day_is_read key table d h =
     let text = simp step_iff at h in
@@ -44,7 +45,7 @@ below_limit (Some m) n h =
     let parts = within_limit _ m n h in
     subst (λ k. k < price_limit) parts.1 (ltb-true m price_limit parts.0)
 
-pub price_is_read : (key : List ℕ) (table : Members) (n : ℕ) → price_under key table ≡ Ok n → n < price_limit
+pub price_is_read : (key : Key) (table : Members) (n : ℕ) → price_under key table ≡ Ok n → n < price_limit
 unfolding price_under
 price_is_read key table n h =
     let text = simp step_iff at h in
@@ -53,7 +54,7 @@ price_is_read key table n h =
 in_range : (z : ℤ) → int_le (pos 1) z ≡ true → int_le z (pos 1_000_000_000) ≡ true → (1 ≤ unsigned_abs z) × (unsigned_abs z ≤ 1_000_000_000)
 in_range z low high = (grind (arith, ints), grind (arith, ints))
 
-pub per_is_read : (key : List ℕ) (table : Members) (n : ℕ) → per_under key table ≡ Ok n → (1 ≤ n) × (n ≤ 1_000_000_000)
+pub per_is_read : (key : Key) (table : Members) (n : ℕ) → per_under key table ≡ Ok n → (1 ≤ n) × (n ≤ 1_000_000_000)
 unfolding per_under
 per_is_read key table n h =
     let value = simp step_iff at h in
@@ -61,7 +62,7 @@ per_is_read key table n h =
     let both = and_parts (int_le (pos 1) number.0) (int_le number.0 (pos 1_000_000_000)) (holds_true _ _ _ number.2.1) in
     subst (λ k. (1 ≤ k) × (k ≤ 1_000_000_000)) (ok_same (unsigned_abs number.0) n number.2.2) (in_range number.0 both.0 both.1)
 
-pub base_is_read : (key : List ℕ) (table : Members) (m : ℕ) → base_under key table ≡ Ok m → IsBaseMonth m
+pub base_is_read : (key : Key) (table : Members) (m : ℕ) → base_under key table ≡ Ok m → IsBaseMonth m
 unfolding base_under
 base_is_read key table m h =
     let text = simp step_iff at h in
@@ -70,17 +71,17 @@ base_is_read key table m h =
     subst IsBaseMonth (ok_same month.0 m month.2.2) (leb-true 24_000 month.0 both.0, leb-true month.0 25_211 both.1)
 
 -- the rows under a key
-few_rows : (value : Data) (tables : List Members) → rows_in value ≡ Ok tables → length tables ≤ 10_000
+few_rows : (key : Key) (value : Data) (tables : List Members) → rows_in key value ≡ Ok tables → length tables ≤ 10_000
 unfolding rows_in
-few_rows value tables h =
+few_rows key value tables h =
     let items = simp step_iff at h in
     let read = items.2 in
     subst (λ t. length t ≤ 10_000) (ok_same read.0 tables read.2.2) (leb-true (length read.0) 10_000 (holds_true _ _ _ read.2.1))
 
-few_or_none : (found : Option Data) (tables : List Members) → rows_or_none found ≡ Ok tables → length tables ≤ 10_000
-few_or_none None tables h = subst (λ t. length t ≤ 10_000) (ok_same [] tables h) (omega arith)
-few_or_none (Some value) tables h = few_rows value tables h
+few_or_none : (key : Key) (found : Option Data) (tables : List Members) → rows_or_none key found ≡ Ok tables → length tables ≤ 10_000
+few_or_none key None tables h = subst (λ t. length t ≤ 10_000) (ok_same [] tables h) (omega arith)
+few_or_none key (Some value) tables h = few_rows key value tables h
 
-pub few_under : (key : List ℕ) (table : Members) (tables : List Members) → rows_under key table ≡ Ok tables → length tables ≤ 10_000
+pub few_under : (key : Key) (table : Members) (tables : List Members) → rows_under key table ≡ Ok tables → length tables ≤ 10_000
 unfolding rows_under
-few_under key table tables h = few_or_none (get_member key table) tables h
+few_under key table tables h = few_or_none key (get_member (key_name key) table) tables h

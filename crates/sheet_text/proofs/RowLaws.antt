@@ -1,10 +1,12 @@
 -- What is read of a table of the sheet, and of an issuer, meets the rules.
-use Rattle.std.proofs.Common.{◌≡◌, ℕ, true, List, Result, Ok, codes, subst}
+use Rattle.std.proofs.Common.{◌≡◌, ℕ, true, List, Result, Ok, subst}
 use Rattle.toml.specs.Data.{Members}
 use Rattle.metering_model.specs.Sheet.{PriceRow, Commitment, Region, Issuer}
 use Rattle.metering_model.specs.SheetRules.{IsPriceRow, IsCommitment, IsRegion, IsIssuer}
 use Rattle.metering_model.specs.FirstFailure.{◌>>=◌}
 use Rattle.metering_model.proofs.StepLaws.{step_ok, step_iff, ok_same}
+use Rattle.sheet_text.specs.Names.{Key}
+use Rattle.sheet_text.specs.declared.names.Key.TheVariants as keys
 use Rattle.sheet_text.specs.Keys.{service_category_under}
 use Rattle.sheet_text.specs.RowReading.{price_row_in, commitment_in, region_in}
 use Rattle.sheet_text.specs.IssuerReading.{currency_under, is_currency, issuer_in}
@@ -24,23 +26,23 @@ price_row_read table row h =
     through (IsPriceRow row) _ _ row behind_price_id (λ from from_is behind_from.
     through (IsPriceRow row) _ _ row behind_from (λ description description_is behind_description.
     through (IsPriceRow row) _ _ row behind_description (λ service service_is behind_service.
-    through (IsPriceRow row) (service_category_under (codes "category") table) _ row behind_service (λ category category_is behind_category.
+    through (IsPriceRow row) (service_category_under keys.Category table) _ row behind_service (λ category category_is behind_category.
     through (IsPriceRow row) _ _ row behind_category (λ consumed_unit consumed_unit_is behind_consumed_unit.
     through (IsPriceRow row) _ _ row behind_consumed_unit (λ pricing_unit pricing_unit_is behind_pricing_unit.
     through (IsPriceRow row) _ _ row behind_pricing_unit (λ per per_is behind_per.
     through (IsPriceRow row) _ _ row behind_per (λ list list_is behind_list.
     through (IsPriceRow row) _ _ row behind_list (λ contracted contracted_is behind_contracted.
     subst IsPriceRow (ok_same _ row behind_contracted) (record {
-      sku = label_read (codes "sku") table sku sku_is;
-      price_id = label_read (codes "price_id") table price_id price_id_is;
-      from = day_is_read (codes "from") table from from_is;
-      description = label_read (codes "description") table description description_is;
-      service = label_read (codes "service") table service service_is;
-      consumed_unit = label_read (codes "consumed_unit") table consumed_unit consumed_unit_is;
-      pricing_unit = label_read (codes "pricing_unit") table pricing_unit pricing_unit_is;
-      per = per_is_read (codes "per") table per per_is;
-      list = price_is_read (codes "list") table list list_is;
-      contracted = price_is_read (codes "contracted") table contracted contracted_is;
+      sku = label_read keys.Sku table sku sku_is;
+      price_id = label_read keys.PriceId table price_id price_id_is;
+      from = day_is_read keys.From table from from_is;
+      description = label_read keys.Description table description description_is;
+      service = label_read keys.Service table service service_is;
+      consumed_unit = label_read keys.ConsumedUnit table consumed_unit consumed_unit_is;
+      pricing_unit = label_read keys.PricingUnit table pricing_unit pricing_unit_is;
+      per = per_is_read keys.Per table per per_is;
+      list = price_is_read keys.List table list list_is;
+      contracted = price_is_read keys.Contracted table contracted contracted_is;
     }))))))))))))
 
 pub commitment_read : (table : Members) (row : Commitment) → commitment_in table ≡ Ok row → IsCommitment row
@@ -53,11 +55,11 @@ commitment_read table row h =
     let kind = category.2 in
     let rate = kind.2 in
     subst IsCommitment (ok_same _ row rate.2) (record {
-      id = label_read (codes "id") table id.0 id.1;
-      sku = label_read (codes "sku") table sku.0 sku.1;
-      buy = label_read (codes "buy") table buy.0 buy.1;
-      kind = label_read (codes "type") table kind.0 kind.1;
-      rate = price_is_read (codes "rate") table rate.0 rate.1;
+      id = label_read keys.Id table id.0 id.1;
+      sku = label_read keys.Sku table sku.0 sku.1;
+      buy = label_read keys.Buy table buy.0 buy.1;
+      kind = label_read keys.Kind table kind.0 kind.1;
+      rate = price_is_read keys.Rate table rate.0 rate.1;
     })
 
 pub region_read : (table : Members) (row : Region) → region_in table ≡ Ok row → IsRegion row
@@ -66,11 +68,11 @@ region_read table row h =
     let id = simp step_iff at h in
     let name = id.2 in
     subst IsRegion (ok_same _ row name.2) (record {
-      id = label_read (codes "id") table id.0 id.1;
-      name = label_read (codes "name") table name.0 name.1;
+      id = label_read keys.Id table id.0 id.1;
+      name = label_read keys.Name table name.0 name.1;
     })
 
-currency_read : (key : List ℕ) (table : Members) (x : List ℕ) → currency_under key table ≡ Ok x → is_currency x ≡ true
+currency_read : (key : Key) (table : Members) (x : List ℕ) → currency_under key table ≡ Ok x → is_currency x ≡ true
 unfolding currency_under
 currency_read key table x h =
     let text = simp step_iff at h in
@@ -87,11 +89,11 @@ issuer_read table issuer h =
     let currency = account_name.2 in
     let other_service = currency.2 in
     subst IsIssuer (ok_same _ issuer other_service.2) (record {
-      provider = label_read (codes "provider") table provider.0 provider.1;
-      publisher = label_read (codes "publisher") table publisher.0 publisher.1;
-      issuer = label_read (codes "issuer") table name.0 name.1;
-      account_id = label_read (codes "account_id") table account_id.0 account_id.1;
-      account_name = label_read (codes "account_name") table account_name.0 account_name.1;
-      currency = currency_read (codes "currency") table currency.0 currency.1;
-      other_service = label_read (codes "other_service") table other_service.0 other_service.1;
+      provider = label_read keys.Provider table provider.0 provider.1;
+      publisher = label_read keys.Publisher table publisher.0 publisher.1;
+      issuer = label_read keys.Issuer table name.0 name.1;
+      account_id = label_read keys.AccountId table account_id.0 account_id.1;
+      account_name = label_read keys.AccountName table account_name.0 account_name.1;
+      currency = currency_read keys.Currency table currency.0 currency.1;
+      other_service = label_read keys.OtherService table other_service.0 other_service.1;
     })

@@ -1,5 +1,5 @@
 -- Reading an issuer: its seven texts in order, or the first fault.
-use Rattle.std.specs.Prelude.{ℕ, Bool, ◌&&◌, ◌==◌, List, length, Option, Some, None, Result, Ok, Err, codes}
+use Rattle.std.specs.Prelude.{ℕ, Bool, ◌&&◌, ◌==◌, List, length, Option, Some, None, Result, Ok, Err}
 use Rattle.std.specs.List.{list_all}
 use Rattle.toml.specs.Data.{Members}
 use Rattle.toml.specs.Parse.{parse_document}
@@ -10,27 +10,29 @@ use Rattle.sheet_text.specs.declared.faults.IssuerFault.{IssuerFault}
 use Rattle.sheet_text.specs.declared.faults.IssuerFault.TheVariants as faults
 use Rattle.sheet_text.specs.declared.keys.KeyFault.TheVariants as key_faults
 use Rattle.sheet_text.specs.declared.keys.KeyFault.TheVariants.{BadValue}
+use Rattle.sheet_text.specs.Names.{Key}
+use Rattle.sheet_text.specs.declared.names.Key.TheVariants as keys
 use Rattle.sheet_text.specs.Keys.{KeyFault, text_under, label_under}
 
 -- three letters A to Z
 abbrev pub is_currency : List ℕ → Bool
 is_currency t = list_all is_capital t && (length t == 3)
 
-unfoldable pub currency_under : List ℕ → Members → Result (List ℕ) KeyFault
+unfoldable pub currency_under : Key → Members → Result (List ℕ) KeyFault
 currency_under key table = do
   text ← text_under key table
-  _ ← holds_or (is_currency text) BadValue
+  _ ← holds_or (is_currency text) (BadValue key)
   Ok text
 
 unfoldable pub issuer_in : Members → Result Issuer KeyFault
 issuer_in table = do
-  provider ← label_under (codes "provider") table
-  publisher ← label_under (codes "publisher") table
-  issuer ← label_under (codes "issuer") table
-  account_id ← label_under (codes "account_id") table
-  account_name ← label_under (codes "account_name") table
-  currency ← currency_under (codes "currency") table
-  other_service ← label_under (codes "other_service") table
+  provider ← label_under keys.Provider table
+  publisher ← label_under keys.Publisher table
+  issuer ← label_under keys.Issuer table
+  account_id ← label_under keys.AccountId table
+  account_name ← label_under keys.AccountName table
+  currency ← currency_under keys.Currency table
+  other_service ← label_under keys.OtherService table
   Ok (record {
     provider = provider;
     publisher = publisher;
@@ -42,8 +44,8 @@ issuer_in table = do
   })
 
 abbrev pub issuer_fault : KeyFault → IssuerFault
-issuer_fault key_faults.Missing = faults.Missing
-issuer_fault key_faults.BadValue = faults.BadValue
+issuer_fault (key_faults.Missing key) = faults.Missing key
+issuer_fault (key_faults.BadValue key) = faults.BadValue key
 issuer_fault key_faults.OutOfMemory = faults.OutOfMemory
 
 abbrev pub told : Result Issuer KeyFault → Result Issuer IssuerFault

@@ -1,3 +1,4 @@
+pub mod Names
 pub mod Keys
 pub mod RowReading
 pub mod IssuerReading

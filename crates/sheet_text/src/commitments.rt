@@ -6,6 +6,7 @@ ghost use Rattle.sheet_text.specs.RowReading.{commitment_in};
 ghost use Rattle.sheet_text.specs.Gives.{Gives};
 
 use crate::keys::{KeyFault, commitment_category_under, label_under, price_under};
+use crate::names::Key;
 use fx_money::Price;
 use metering_model::CommitmentCategory;
 use std::alloc::Global;
@@ -45,12 +46,12 @@ impl Commitment {
     pub fn read(alloc: Global, table: &Table) -> Result<Commitment, KeyFault>
         ensures { Gives (λ row. row) result (commitment_in (table_view table.now)) }
     {
-        let id = label_under(alloc, table, "id")?;
-        let sku = label_under(alloc, table, "sku")?;
-        let buy = label_under(alloc, table, "buy")?;
-        let category = commitment_category_under(table, "category")?;
-        let kind = label_under(alloc, table, "type")?;
-        let rate = price_under(table, "rate")?;
+        let id = label_under(alloc, table, Key::Id)?;
+        let sku = label_under(alloc, table, Key::Sku)?;
+        let buy = label_under(alloc, table, Key::Buy)?;
+        let category = commitment_category_under(table, Key::Category)?;
+        let kind = label_under(alloc, table, Key::Kind)?;
+        let rate = price_under(table, Key::Rate)?;
         Ok(Commitment {
             id,
             sku,

@@ -10,6 +10,7 @@ ghost use Rattle.sheet_text.specs.Samples.{sample_issuer};
 
 use crate::faults::IssuerFault;
 use crate::keys::{KeyFault, label_under, text_under};
+use crate::names::Key;
 use std::alloc::{AllocError, Global};
 use std::marker::Model;
 use toml::Table;
@@ -72,13 +73,13 @@ impl Issuer {
         ensures gives { Gives (λ i. i) result (issuer_in (table_view table.now)) }
         ensures rules { IfOk result IsIssuer }
     {
-        let provider = label_under(alloc, table, "provider")?;
-        let publisher = label_under(alloc, table, "publisher")?;
-        let issuer = label_under(alloc, table, "issuer")?;
-        let account_id = label_under(alloc, table, "account_id")?;
-        let account_name = label_under(alloc, table, "account_name")?;
-        let currency = currency_under(alloc, table, "currency")?;
-        let other_service = label_under(alloc, table, "other_service")?;
+        let provider = label_under(alloc, table, Key::Provider)?;
+        let publisher = label_under(alloc, table, Key::Publisher)?;
+        let issuer = label_under(alloc, table, Key::Issuer)?;
+        let account_id = label_under(alloc, table, Key::AccountId)?;
+        let account_name = label_under(alloc, table, Key::AccountName)?;
+        let currency = currency_under(alloc, table, Key::Currency)?;
+        let other_service = label_under(alloc, table, Key::OtherService)?;
         Ok(Issuer {
             provider,
             publisher,
@@ -173,8 +174,8 @@ fn issuer_fault(fault: KeyFault) -> IssuerFault
     ensures { result ≡ issuer_fault fault }
 {
     match fault {
-        KeyFault::Missing => IssuerFault::Missing,
-        KeyFault::BadValue => IssuerFault::BadValue,
+        KeyFault::Missing(key) => IssuerFault::Missing(key),
+        KeyFault::BadValue(key) => IssuerFault::BadValue(key),
         KeyFault::OutOfMemory => IssuerFault::OutOfMemory,
     }
 }
@@ -195,13 +196,13 @@ fn is_currency(text: &[u8]) -> bool
 
 /// The currency under a key.
 #[tactic(auto, unfolding(crate::specs::IssuerReading::currency_under))]
-fn currency_under(alloc: Global, table: &Table, key: &str) -> Result<String, KeyFault>
-    ensures gives { Gives (λ t. string_bytes t) result (currency_under key.now (table_view table.now)) }
+fn currency_under(alloc: Global, table: &Table, key: Key) -> Result<String, KeyFault>
+    ensures gives { Gives (λ t. string_bytes t) result (currency_under key (table_view table.now)) }
     ensures currency { IfOk result (λ t. IsTrue (is_currency (string_bytes t))) }
 {
     let text = text_under(table, key)?;
     if !is_currency(text.as_bytes()) {
-        return Err(KeyFault::BadValue);
+        return Err(KeyFault::BadValue(key));
     }
     Ok(String::from_str(alloc, text)?)
 }

@@ -8,6 +8,7 @@ ghost use Rattle.metering_model.specs.SheetRules.{is_printable, is_label};
 ghost use Rattle.sheet_text.specs.Keys.{value_under, text_under, label_under, day_under, base_under, price_under, per_under, service_category_in, service_category_under, commitment_category_in, commitment_category_under, tables_in, rows_in, rows_under};
 ghost use Rattle.sheet_text.specs.Gives.{Gives};
 
+use crate::names::Key;
 use byte_text::is_same;
 use fx_money::Price;
 use metering_model::{CommitmentCategory, ServiceCategory};
@@ -24,8 +25,8 @@ const MOST_UNITS: i64 = 1_000_000_000;
 /// What is wrong under a key.
 #[derive(Clone, Copy, Drop)]
 pub enum KeyFault {
-    Missing,
-    BadValue,
+    Missing(Key),
+    BadValue(Key),
     OutOfMemory,
 }
 
@@ -42,26 +43,26 @@ impl From<AllocError> for KeyFault {
 
 /// What stands under a key.
 #[tactic(auto, unfolding(crate::specs::Keys::value_under))]
-pub(crate) fn value_under<'a>(table: &'a Table, key: &str) -> Result<&'a Value, KeyFault>
-    ensures gives { Gives (λ v. view v.now) result (value_under key.now (table_view table.now)) }
+pub(crate) fn value_under<'a>(table: &'a Table, key: Key) -> Result<&'a Value, KeyFault>
+    ensures gives { Gives (λ v. view v.now) result (value_under key (table_view table.now)) }
     ensures want { IfErr result (λ fault. fault ≢ KeyFault.OutOfMemory) }
 {
-    match table.get(key) {
+    match table.get(key.name()) {
         Some(value) => Ok(value),
-        None => Err(KeyFault::Missing),
+        None => Err(KeyFault::Missing(key)),
     }
 }
 
 /// The string under a key.
 #[tactic(auto, unfolding(crate::specs::Keys::text_under))]
-pub(crate) fn text_under<'a>(table: &'a Table, key: &str) -> Result<&'a str, KeyFault>
-    ensures gives { Gives (λ t. t.now) result (text_under key.now (table_view table.now)) }
+pub(crate) fn text_under<'a>(table: &'a Table, key: Key) -> Result<&'a str, KeyFault>
+    ensures gives { Gives (λ t. t.now) result (text_under key (table_view table.now)) }
     ensures want { IfErr result (λ fault. fault ≢ KeyFault.OutOfMemory) }
 {
     let value = value_under(table, key)?;
     match value.as_str() {
         Some(text) => Ok(text),
-        None => Err(KeyFault::BadValue),
+        None => Err(KeyFault::BadValue(key)),
     }
 }
 
@@ -86,67 +87,67 @@ fn is_label(text: &[u8]) -> bool
 
 /// The label under a key.
 #[tactic(auto, unfolding(crate::specs::Keys::label_under))]
-pub(crate) fn label_under(alloc: Global, table: &Table, key: &str) -> Result<String, KeyFault>
-    ensures gives { Gives (λ t. string_bytes t) result (label_under key.now (table_view table.now)) }
+pub(crate) fn label_under(alloc: Global, table: &Table, key: Key) -> Result<String, KeyFault>
+    ensures gives { Gives (λ t. string_bytes t) result (label_under key (table_view table.now)) }
     ensures label { IfOk result (λ t. IsTrue (is_label (string_bytes t))) }
 {
     let text = text_under(table, key)?;
     if !is_label(text.as_bytes()) {
-        return Err(KeyFault::BadValue);
+        return Err(KeyFault::BadValue(key));
     }
     Ok(String::from_str(alloc, text)?)
 }
 
 /// The day under a key.
 #[tactic(auto, unfolding(crate::specs::Keys::day_under))]
-pub(crate) fn day_under(table: &Table, key: &str) -> Result<Day, KeyFault>
-    ensures { Gives (λ d. d) result (day_under key.now (table_view table.now)) }
+pub(crate) fn day_under(table: &Table, key: Key) -> Result<Day, KeyFault>
+    ensures { Gives (λ d. d) result (day_under key (table_view table.now)) }
 {
     let text = text_under(table, key)?;
     match Day::read(text.as_bytes()) {
         Some(day) => Ok(day),
-        None => Err(KeyFault::BadValue),
+        None => Err(KeyFault::BadValue(key)),
     }
 }
 
 /// The base month under a key. No memory is taken, and want of it is never told.
 #[tactic(auto, unfolding(crate::specs::Keys::base_under))]
-pub fn base_under(table: &Table, key: &str) -> Result<Month, KeyFault>
-    ensures gives { Gives (λ m. m) result (base_under key.now (table_view table.now)) }
+pub fn base_under(table: &Table, key: Key) -> Result<Month, KeyFault>
+    ensures gives { Gives (λ m. m) result (base_under key (table_view table.now)) }
     ensures want { IfErr result (λ fault. fault ≢ KeyFault.OutOfMemory) }
     ensures base { IfOk result IsBaseMonth }
 {
     let text = text_under(table, key)?;
     match Month::read(text.as_bytes()) {
         Some(month) if month.is_base() => Ok(month),
-        _ => Err(KeyFault::BadValue),
+        _ => Err(KeyFault::BadValue(key)),
     }
 }
 
 /// The price under a key.
 #[tactic(auto, unfolding(crate::specs::Keys::price_under))]
-pub(crate) fn price_under(table: &Table, key: &str) -> Result<Price, KeyFault>
-    ensures { Gives (λ p. p) result (price_under key.now (table_view table.now)) }
+pub(crate) fn price_under(table: &Table, key: Key) -> Result<Price, KeyFault>
+    ensures { Gives (λ p. p) result (price_under key (table_view table.now)) }
 {
     let text = text_under(table, key)?;
     match Price::read(text.as_bytes()) {
         Ok(price) => Ok(price),
-        Err(_) => Err(KeyFault::BadValue),
+        Err(_) => Err(KeyFault::BadValue(key)),
     }
 }
 
 /// How many metered units make one priced unit.
 #[tactic(auto, unfolding(crate::specs::Keys::per_under))]
-pub(crate) fn per_under(table: &Table, key: &str) -> Result<u32, KeyFault>
-    ensures gives { Gives (λ n. n) result (per_under key.now (table_view table.now)) }
+pub(crate) fn per_under(table: &Table, key: Key) -> Result<u32, KeyFault>
+    ensures gives { Gives (λ n. n) result (per_under key (table_view table.now)) }
     ensures range { IfOk result (λ n. (1 ≤ n) × (n ≤ 1_000_000_000)) }
 {
     let value = value_under(table, key)?;
     let Some(number) = value.as_integer() else {
-        return Err(KeyFault::BadValue);
+        return Err(KeyFault::BadValue(key));
     };
     if number < 1 || MOST_UNITS < number {
-        return Err(KeyFault::BadValue);
+        return Err(KeyFault::BadValue(key));
     }
     Ok(number as u32)
 }
@@ -172,13 +173,13 @@ fn service_category_in(text: &[u8]) -> Option<ServiceCategory>
 
 /// The service category under a key.
 #[tactic(auto, unfolding(crate::specs::Keys::service_category_under))]
-pub(crate) fn service_category_under(table: &Table, key: &str) -> Result<ServiceCategory, KeyFault>
-    ensures { Gives (λ c. c) result (service_category_under key.now (table_view table.now)) }
+pub(crate) fn service_category_under(table: &Table, key: Key) -> Result<ServiceCategory, KeyFault>
+    ensures { Gives (λ c. c) result (service_category_under key (table_view table.now)) }
 {
     let text = text_under(table, key)?;
     match service_category_in(text.as_bytes()) {
         Some(category) => Ok(category),
-        None => Err(KeyFault::BadValue),
+        None => Err(KeyFault::BadValue(key)),
     }
 }
 
@@ -199,27 +200,27 @@ fn commitment_category_in(text: &[u8]) -> Option<CommitmentCategory>
 #[tactic(auto, unfolding(crate::specs::Keys::commitment_category_under))]
 pub(crate) fn commitment_category_under(
     table: &Table,
-    key: &str,
+    key: Key,
 ) -> Result<CommitmentCategory, KeyFault>
-    ensures { Gives (λ c. c) result (commitment_category_under key.now (table_view table.now)) }
+    ensures { Gives (λ c. c) result (commitment_category_under key (table_view table.now)) }
 {
     let text = text_under(table, key)?;
     match commitment_category_in(text.as_bytes()) {
         Some(category) => Ok(category),
-        None => Err(KeyFault::BadValue),
+        None => Err(KeyFault::BadValue(key)),
     }
 }
 
 /// The tables of an array that has nothing but tables.
 #[tactic(auto, using(crate::proofs::Tables::one_more_table))]
-fn tables_in<'a>(alloc: Global, values: &'a Array) -> Result<Vec<&'a Table>, KeyFault>
+fn tables_in<'a>(alloc: Global, key: Key, values: &'a Array) -> Result<Vec<&'a Table>, KeyFault>
     ensures { Gives (λ rows. map (λ t. table_view t.now) rows.items) result
-        (ok_or (tables_in (array_view values.now)) KeyFault.BadValue) }
+        (ok_or (tables_in (array_view values.now)) (KeyFault.BadValue key)) }
 {
     let mut tables = Vec::new(alloc);
     for value in values {
         let Some(table) = value.as_table() else {
-            return Err(KeyFault::BadValue);
+            return Err(KeyFault::BadValue(key));
         };
         if tables.push(table).is_err() {
             return Err(KeyFault::OutOfMemory);
@@ -230,33 +231,29 @@ fn tables_in<'a>(alloc: Global, values: &'a Array) -> Result<Vec<&'a Table>, Key
 
 /// The tables of an array of at most 10,000 tables.
 #[tactic(auto, unfolding(crate::specs::Keys::rows_in))]
-fn rows_in<'a>(alloc: Global, value: &'a Value) -> Result<Vec<&'a Table>, KeyFault>
-    ensures gives { Gives (λ rows. map (λ t. table_view t.now) rows.items) result (rows_in (view value.now)) }
+fn rows_in<'a>(alloc: Global, key: Key, value: &'a Value) -> Result<Vec<&'a Table>, KeyFault>
+    ensures gives { Gives (λ rows. map (λ t. table_view t.now) rows.items) result (rows_in key (view value.now)) }
     ensures few { IfOk result (λ rows. length rows.items ≤ 10_000) }
 {
     let Some(values) = value.as_array() else {
-        return Err(KeyFault::BadValue);
+        return Err(KeyFault::BadValue(key));
     };
-    let tables = tables_in(alloc, values)?;
+    let tables = tables_in(alloc, key, values)?;
     if MOST_ROWS < tables.len() {
-        return Err(KeyFault::BadValue);
+        return Err(KeyFault::BadValue(key));
     }
     Ok(tables)
 }
 
 /// The rows under a key, in order; none where the key is not there.
 #[tactic(auto, unfolding(crate::specs::Keys::rows_under))]
-pub fn rows_under<'a>(
-    alloc: Global,
-    table: &'a Table,
-    key: &str,
-) -> Result<Vec<&'a Table>, KeyFault>
+pub fn rows_under<'a>(alloc: Global, table: &'a Table, key: Key) -> Result<Vec<&'a Table>, KeyFault>
     ensures gives { Gives (λ rows. map (λ t. table_view t.now) rows.items) result
-        (rows_under key.now (table_view table.now)) }
+        (rows_under key (table_view table.now)) }
     ensures few { IfOk result (λ rows. length rows.items ≤ 10_000) }
 {
-    match table.get(key) {
-        Some(value) => rows_in(alloc, value),
+    match table.get(key.name()) {
+        Some(value) => rows_in(alloc, key, value),
         None => Ok(Vec::new(alloc)),
     }
 }

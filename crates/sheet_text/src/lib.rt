@@ -5,6 +5,7 @@ mod commitments;
 mod faults;
 mod issuers;
 mod keys;
+mod names;
 mod prices;
 mod regions;
 
@@ -13,6 +14,7 @@ pub use faults::{IssuerFault, Place, SheetFault};
 pub use issuers::Issuer;
 pub use keys::{KeyFault, base_under, rows_under};
 pub use metering_model::{CommitmentCategory, ServiceCategory};
+pub use names::Key;
 pub use period_cut::{Day, Month};
 pub use prices::PriceRow;
 pub use regions::Region;

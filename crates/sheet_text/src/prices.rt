@@ -9,6 +9,7 @@ ghost use Rattle.sheet_text.specs.Gives.{Gives};
 use crate::keys::{
     KeyFault, day_under, label_under, per_under, price_under, service_category_under,
 };
+use crate::names::Key;
 use fx_money::Price;
 use metering_model::ServiceCategory;
 use period_cut::Day;
@@ -61,17 +62,17 @@ impl PriceRow {
     pub fn read(alloc: Global, table: &Table) -> Result<PriceRow, KeyFault>
         ensures { Gives (λ row. row) result (price_row_in (table_view table.now)) }
     {
-        let sku = label_under(alloc, table, "sku")?;
-        let price_id = label_under(alloc, table, "price_id")?;
-        let from = day_under(table, "from")?;
-        let description = label_under(alloc, table, "description")?;
-        let service = label_under(alloc, table, "service")?;
-        let category = service_category_under(table, "category")?;
-        let consumed_unit = label_under(alloc, table, "consumed_unit")?;
-        let pricing_unit = label_under(alloc, table, "pricing_unit")?;
-        let per = per_under(table, "per")?;
-        let list = price_under(table, "list")?;
-        let contracted = price_under(table, "contracted")?;
+        let sku = label_under(alloc, table, Key::Sku)?;
+        let price_id = label_under(alloc, table, Key::PriceId)?;
+        let from = day_under(table, Key::From)?;
+        let description = label_under(alloc, table, Key::Description)?;
+        let service = label_under(alloc, table, Key::Service)?;
+        let category = service_category_under(table, Key::Category)?;
+        let consumed_unit = label_under(alloc, table, Key::ConsumedUnit)?;
+        let pricing_unit = label_under(alloc, table, Key::PricingUnit)?;
+        let per = per_under(table, Key::Per)?;
+        let list = price_under(table, Key::List)?;
+        let contracted = price_under(table, Key::Contracted)?;
         Ok(PriceRow {
             sku,
             price_id,

@@ -6,6 +6,7 @@ ghost use Rattle.sheet_text.specs.RowReading.{region_in};
 ghost use Rattle.sheet_text.specs.Gives.{Gives};
 
 use crate::keys::{KeyFault, label_under};
+use crate::names::Key;
 use std::alloc::Global;
 use std::marker::Model;
 use toml::Table;
@@ -35,8 +36,8 @@ impl Region {
     pub fn read(alloc: Global, table: &Table) -> Result<Region, KeyFault>
         ensures { Gives (λ row. row) result (region_in (table_view table.now)) }
     {
-        let id = label_under(alloc, table, "id")?;
-        let name = label_under(alloc, table, "name")?;
+        let id = label_under(alloc, table, Key::Id)?;
+        let name = label_under(alloc, table, Key::Name)?;
         Ok(Region { id, name })
     }
 

@@ -7,11 +7,11 @@ use Rattle.sheet_text.proofs.keys.rows_under.Goals as goal
 pub returns-in-Some-clause-gives : goal.returns-in-Some-clause-gives
 unfolding rows_under
 returns-in-Some-clause-gives c =
-    let found = table_get c.get.result c.args.key.now c.args.table.now.entries c.get.ensures.value in
-    rw (← rw c.in-Some.is at found) c.rows_in.ensures.gives
+    let found = table_get c.get.result c.name.result.now c.args.table.now.entries c.get.ensures.value in
+    rw (← rw (c.name.ensures, c.in-Some.is) at found) c.rows_in.ensures.gives
 
 pub returns-in-None-clause-gives : goal.returns-in-None-clause-gives
 unfolding rows_under
 returns-in-None-clause-gives c =
-    let found = table_get c.get.result c.args.key.now c.args.table.now.entries c.get.ensures.value in
-    rw (← rw c.in-None.is at found) (search rules)
+    let found = table_get c.get.result c.name.result.now c.args.table.now.entries c.get.ensures.value in
+    rw (← rw (c.name.ensures, c.in-None.is) at found) (search rules)

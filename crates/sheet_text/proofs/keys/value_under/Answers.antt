@@ -6,11 +6,11 @@ use Rattle.sheet_text.proofs.keys.value_under.Goals as goal
 pub returns-in-Some-clause-gives : goal.returns-in-Some-clause-gives
 unfolding value_under
 returns-in-Some-clause-gives c =
-    let found = table_get c.get.result c.args.key.now c.args.table.now.entries c.get.ensures.value in
-    rw (← rw c.in-Some.is at found)
+    let found = table_get c.get.result c.name.result.now c.args.table.now.entries c.get.ensures.value in
+    rw (← rw (c.name.ensures, c.in-Some.is) at found)
 
 pub returns-in-None-clause-gives : goal.returns-in-None-clause-gives
 unfolding value_under
 returns-in-None-clause-gives c =
-    let found = table_get c.get.result c.args.key.now c.args.table.now.entries c.get.ensures.value in
-    rw (← rw c.in-None.is at found)
+    let found = table_get c.get.result c.name.result.now c.args.table.now.entries c.get.ensures.value in
+    rw (← rw (c.name.ensures, c.in-None.is) at found)
