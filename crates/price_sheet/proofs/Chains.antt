@@ -10,8 +10,8 @@ use Rattle.price_sheet.specs.SheetReading.{fault_at, at_place}
 
 pub placed_fails : {A : Type 0} (place : Place) (e : KeyFault) (r : Result A KeyFault) → Fails e r → fault_at place e ≢ sheet_faults.OutOfMemory → at_place place r ≡ Err (fault_at place e)
 placed_fails place key_faults.OutOfMemory r h told_apart = absurd (told_apart refl)
-placed_fails place key_faults.Missing r h told_apart = ap (at_place place) h
-placed_fails place key_faults.BadValue r h told_apart = ap (at_place place) h
+placed_fails place (key_faults.Missing key) r h told_apart = ap (at_place place) h
+placed_fails place (key_faults.BadValue key) r h told_apart = ap (at_place place) h
 
 -- ---- what was read, and what it is told as
 
@@ -20,8 +20,8 @@ pub taken_as : {A : Type 0} (tell : Result A KeyFault → Result A SheetFault) (
     → tell (Err key_faults.OutOfMemory) ≡ Err sheet_faults.OutOfMemory → Gives (λ x. x) r read → told ≡ tell r → IfOk told (λ x. tell read ≡ Ok x)
 taken_as tell (Ok x) read (Ok y) want gives is = ap tell gives ∙ sym is
 taken_as tell (Err key_faults.OutOfMemory) read (Ok y) want gives is = absurd (cc)
-taken_as tell (Err key_faults.Missing) read (Ok y) want gives is = ap tell gives ∙ sym is
-taken_as tell (Err key_faults.BadValue) read (Ok y) want gives is = ap tell gives ∙ sym is
+taken_as tell (Err (key_faults.Missing key)) read (Ok y) want gives is = ap tell gives ∙ sym is
+taken_as tell (Err (key_faults.BadValue key)) read (Ok y) want gives is = ap tell gives ∙ sym is
 taken_as tell r read (Err fault) want gives is = tt
 
 -- told as a fault that is not want of memory, so is what is read
@@ -33,5 +33,5 @@ refused_as tell (Ok x) read (Err fault) want gives is = λ other. ap tell gives 
 refused_as tell (Err key_faults.OutOfMemory) read (Err fault) want gives is = λ other.
     let same : fault ≡ sheet_faults.OutOfMemory = cc in
     absurd (other same)
-refused_as tell (Err key_faults.Missing) read (Err fault) want gives is = λ other. ap tell gives ∙ sym is
-refused_as tell (Err key_faults.BadValue) read (Err fault) want gives is = λ other. ap tell gives ∙ sym is
+refused_as tell (Err (key_faults.Missing key)) read (Err fault) want gives is = λ other. ap tell gives ∙ sym is
+refused_as tell (Err (key_faults.BadValue key)) read (Err fault) want gives is = λ other. ap tell gives ∙ sym is

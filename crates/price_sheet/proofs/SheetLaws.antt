@@ -1,5 +1,5 @@
 -- What is read of the tables of a sheet is a sheet.
-use Rattle.std.proofs.Common.{◌≡◌, ℕ, ◌+◌, Bool, true, false, not, ◌&&◌, ◌||◌, ◌==◌, List, [], ◌∷◌, ◌++◌, length, All, Result, Ok, Err, int_eq, codes, refl, ap, subst, ◌∙◌, length-append, arith}
+use Rattle.std.proofs.Common.{◌≡◌, ℕ, ◌+◌, Bool, true, false, not, ◌&&◌, ◌||◌, ◌==◌, List, [], ◌∷◌, ◌++◌, length, All, Result, Ok, Err, int_eq, refl, ap, subst, ◌∙◌, length-append, arith}
 use Rattle.std.specs.List.{list_any}
 use Rattle.std.specs.Cmp.{nat_eq_equiv, int_eq_equiv}
 use Rattle.std.proofs.lemmas.Bool.{and_parts, and_from}
@@ -11,6 +11,7 @@ use Rattle.metering_model.specs.Sheet.{PriceRow, Commitment, Region, Sheet}
 use Rattle.metering_model.specs.SheetRules.{IsPriceRow, IsCommitment, IsRegion, IsSheet, are_apart, has_same_key, has_same_id, has_same_region}
 use Rattle.metering_model.proofs.StepLaws.{step_ok, step_iff, ok_same}
 use Rattle.sheet_text.specs.declared.keys.KeyFault.{KeyFault}
+use Rattle.sheet_text.specs.declared.names.Key.TheVariants as keys
 use Rattle.price_sheet.specs.SheetReading.{at_place, next_price, next_commitment, next_region, prices_in, commitments_in, regions_in, prices_sku, sheet_of_rows, sheet_in}
 use Rattle.sheet_text.specs.declared.faults.Place.{Place}
 use Rattle.sheet_text.proofs.KeyLaws.{holds_true, base_is_read, few_under}
@@ -85,12 +86,12 @@ one_more_commitment : (prices : List PriceRow) (rows : List Commitment) (table :
 unfolding next_commitment
 one_more_commitment prices rows table row are h =
     let read = simp step_iff at h in
-    let same = ok_same read.0 row read.2.2.2 in
+    let same = ok_same read.0 row read.2.2.2.2 in
     let new = not_false (list_any (has_same_id read.0) rows) (holds_true _ _ _ read.2.1) in
     subst (λ r. AreCommitments prices (rows ++ r ∷ [])) same (record {
       rows = All-push IsCommitment rows read.0 are.rows (commitment_read table read.0 (placed_ok _ _ read.0 read.1));
       apart = apart_push has_same_id (λ c d. same_comm c.id d.id) rows read.0 are.apart new;
-      priced = All-push (λ c. (prices_sku prices c.sku && prices_sku prices c.buy) ≡ true) rows read.0 are.priced (holds_true _ _ _ read.2.2.1);
+      priced = All-push (λ c. (prices_sku prices c.sku && prices_sku prices c.buy) ≡ true) rows read.0 are.priced (and_from _ _ (holds_true _ _ _ read.2.2.1) (holds_true _ _ _ read.2.2.2.1));
     })
 
 commitments_read : (prices : List PriceRow) (rows : List Commitment) (tables : List Members) (all : List Commitment) → AreCommitments prices rows → commitments_in prices rows tables ≡ Ok all → AreCommitments prices all × (length all ≡ length rows + length tables)
@@ -139,11 +140,11 @@ sheet_read table sheet h =
     let rows = prices_read [] price_tables.0 prices.0 (record { rows = All-nil IsPriceRow; apart = refl }) prices.1 in
     let bought = commitments_read prices.0 [] commitment_tables.0 commitments.0 (record { rows = All-nil IsCommitment; apart = refl; priced = All-nil (λ c. (prices_sku prices.0 c.sku && prices_sku prices.0 c.buy) ≡ true) }) commitments.1 in
     let named = regions_read [] region_tables.0 regions.0 (record { rows = All-nil IsRegion; apart = refl }) regions.1 in
-    let few_prices = few_under (codes "price") table price_tables.0 (placed_ok _ _ _ price_tables.1) in
-    let few_commitments = few_under (codes "commitment") table commitment_tables.0 (placed_ok _ _ _ commitment_tables.1) in
-    let few_regions = few_under (codes "region") table region_tables.0 (placed_ok _ _ _ region_tables.1) in
+    let few_prices = few_under keys.Price table price_tables.0 (placed_ok _ _ _ price_tables.1) in
+    let few_commitments = few_under keys.Commitment table commitment_tables.0 (placed_ok _ _ _ commitment_tables.1) in
+    let few_regions = few_under keys.Region table region_tables.0 (placed_ok _ _ _ region_tables.1) in
     subst IsSheet (ok_same _ sheet regions.2) (record {
-      base = base_is_read (codes "base") table base.0 (placed_ok _ _ _ base.1);
+      base = base_is_read keys.Base table base.0 (placed_ok _ _ _ base.1);
       prices = rows.0.rows;
       price_count = omega (arith, rows.1, few_prices);
       one_price = rows.0.apart;

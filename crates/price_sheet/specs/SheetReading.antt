@@ -1,5 +1,5 @@
 -- Reading a price sheet: the sheet that a text is, or its first fault in the order in which it is read.
-use Rattle.std.specs.Prelude.{ℕ, ◌+◌, Bool, not, ◌&&◌, List, [], ◌∷◌, ◌++◌, length, Option, Some, None, Result, Ok, Err, codes}
+use Rattle.std.specs.Prelude.{ℕ, ◌+◌, Bool, not, List, [], ◌∷◌, ◌++◌, length, Option, Some, None, Result, Ok, Err}
 use Rattle.std.specs.List.{list_any}
 use Rattle.toml.specs.Data.{Members}
 use Rattle.toml.specs.Parse.{parse_document}
@@ -12,14 +12,15 @@ use Rattle.sheet_text.specs.declared.faults.Place.TheVariants as places
 use Rattle.sheet_text.specs.declared.faults.SheetFault.{SheetFault}
 use Rattle.sheet_text.specs.declared.faults.SheetFault.TheVariants as faults
 use Rattle.sheet_text.specs.declared.keys.KeyFault.TheVariants as key_faults
+use Rattle.sheet_text.specs.declared.names.Key.TheVariants as keys
 use Rattle.sheet_text.specs.Keys.{base_under, rows_under}
 use Rattle.sheet_text.specs.declared.keys.KeyFault.{KeyFault}
 use Rattle.sheet_text.specs.RowReading.{price_row_in, commitment_in, region_in}
 
 -- the fault of a key, told of the place of its table
 abbrev pub fault_at : Place → KeyFault → SheetFault
-fault_at place key_faults.Missing = faults.Missing place
-fault_at place key_faults.BadValue = faults.BadValue place
+fault_at place (key_faults.Missing key) = faults.Missing place key
+fault_at place (key_faults.BadValue key) = faults.BadValue place key
 fault_at place key_faults.OutOfMemory = faults.OutOfMemory
 
 abbrev pub at_place : {A : Type 0} → Place → Result A KeyFault → Result A SheetFault
@@ -51,12 +52,14 @@ next_price rows table = placed_price rows (price_row_in table)
 abbrev pub prices_sku : List PriceRow → List ℕ → Bool
 prices_sku prices sku = list_any (λ p. is_same p.sku sku) prices
 
--- what was read of one more table: a commitment whose id no earlier one has, and whose two SKUs are priced, or a fault
+-- what was read of one more table: a commitment whose id no earlier one has, and whose two SKUs are priced, or a fault, which
+-- tells the key of the first SKU that is not
 abbrev pub placed_commitment : List PriceRow → List Commitment → Result Commitment KeyFault → Result Commitment SheetFault
 placed_commitment prices rows read = do
   row ← at_place (commitment_place rows) read
   _ ← holds_or (not (list_any (has_same_id row) rows)) (faults.Duplicate (commitment_place rows))
-  _ ← holds_or (prices_sku prices row.sku && prices_sku prices row.buy) (faults.UnknownSku (commitment_place rows))
+  _ ← holds_or (prices_sku prices row.sku) (faults.UnknownSku (commitment_place rows) keys.Sku)
+  _ ← holds_or (prices_sku prices row.buy) (faults.UnknownSku (commitment_place rows) keys.Buy)
   Ok row
 
 -- the commitment of one more table
@@ -107,10 +110,10 @@ sheet_of_rows base price_tables commitment_tables region_tables = do
 -- the sheet that a table is: first what stands at the top, then the rows
 unfoldable pub sheet_in : Members → Result Sheet SheetFault
 sheet_in table = do
-  base ← at_place places.Top (base_under (codes "base") table)
-  price_tables ← at_place places.Top (rows_under (codes "price") table)
-  commitment_tables ← at_place places.Top (rows_under (codes "commitment") table)
-  region_tables ← at_place places.Top (rows_under (codes "region") table)
+  base ← at_place places.Top (base_under keys.Base table)
+  price_tables ← at_place places.Top (rows_under keys.Price table)
+  commitment_tables ← at_place places.Top (rows_under keys.Commitment table)
+  region_tables ← at_place places.Top (rows_under keys.Region table)
   sheet_of_rows base price_tables commitment_tables region_tables
 
 abbrev pub sheet_of_document : Option Members → Result Sheet SheetFault

@@ -12,7 +12,7 @@ ghost use Rattle.price_sheet.specs.Inner.Places.{found_at, IndexesIds};
 use crate::places::{fault_at, put_place, row_placed};
 use crate::price_table::PriceTable;
 use indexmap::IndexMap;
-use sheet_text::{Commitment, KeyFault, Place, SheetFault};
+use sheet_text::{Commitment, Key, KeyFault, Place, SheetFault};
 use std::alloc::{AllocError, Global};
 use std::marker::Model;
 use toml::Table;
@@ -131,8 +131,11 @@ fn placed_commitment(
     if is_named_before(rows, places, &row) {
         return Err(SheetFault::Duplicate(place));
     }
-    if !prices.has_sku(row.sku().as_bytes()) || !prices.has_sku(row.buy().as_bytes()) {
-        return Err(SheetFault::UnknownSku(place));
+    if !prices.has_sku(row.sku().as_bytes()) {
+        return Err(SheetFault::UnknownSku(place, Key::Sku));
+    }
+    if !prices.has_sku(row.buy().as_bytes()) {
+        return Err(SheetFault::UnknownSku(place, Key::Buy));
     }
     Ok(row)
 }

@@ -10,7 +10,7 @@ mod sheets;
 mod starts;
 
 pub use sheet_text::{
-    Commitment, CommitmentCategory, Issuer, IssuerFault, Place, PriceRow, Region, ServiceCategory,
-    SheetFault,
+    Commitment, CommitmentCategory, Issuer, IssuerFault, Key, Place, PriceRow, Region,
+    ServiceCategory, SheetFault,
 };
 pub use sheets::Sheet;

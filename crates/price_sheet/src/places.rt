@@ -14,8 +14,8 @@ pub(crate) fn fault_at(place: Place, fault: KeyFault) -> SheetFault
     ensures { result ≡ fault_at place fault }
 {
     match fault {
-        KeyFault::Missing => SheetFault::Missing(place),
-        KeyFault::BadValue => SheetFault::BadValue(place),
+        KeyFault::Missing(key) => SheetFault::Missing(place, key),
+        KeyFault::BadValue(key) => SheetFault::BadValue(place, key),
         KeyFault::OutOfMemory => SheetFault::OutOfMemory,
     }
 }

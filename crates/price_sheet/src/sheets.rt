@@ -1,6 +1,6 @@
 //! The price sheet.
 
-ghost use Rattle.std.specs.Prelude.{◌≡◌, ◌≢◌, ◌↔◌, ◌≤◌, Ok, Err, IfOk, IfErr, IsOk, IsTrue, [], length, map, codes};
+ghost use Rattle.std.specs.Prelude.{◌≡◌, ◌≢◌, ◌↔◌, ◌≤◌, Ok, Err, IfOk, IfErr, IsOk, IsTrue, [], length, map};
 ghost use Rattle.std.specs.Option.{option_copied};
 ghost use Rattle.toml.specs.View.{table_view};
 ghost use Rattle.toml.specs.Errors.{IsBlank};
@@ -14,7 +14,9 @@ use crate::commitment_table::CommitmentTable;
 use crate::places::fault_at;
 use crate::price_table::PriceTable;
 use crate::region_table::RegionTable;
-use sheet_text::{Commitment, Day, Month, Place, PriceRow, SheetFault, base_under, rows_under};
+use sheet_text::{
+    Commitment, Day, Key, Month, Place, PriceRow, SheetFault, base_under, rows_under,
+};
 use std::alloc::{AllocError, Global};
 use std::marker::Model;
 use toml::Table;
@@ -84,21 +86,21 @@ impl Sheet {
     fn of_table(alloc: Global, table: &Table) -> Result<Sheet, SheetFault>
         ensures taken { IfOk result (λ sheet. sheet_in (table_view table.now) ≡ Ok sheet) }
         ensures refused { IfErr result (λ fault. fault ≢ SheetFault.OutOfMemory → sheet_in (table_view table.now) ≡ Err fault) }
-        ensures want { IfErr result (λ fault. fault ≡ SheetFault.OutOfMemory → IsOk (base_under (codes "base") (table_view table.now))) }
+        ensures want { IfErr result (λ fault. fault ≡ SheetFault.OutOfMemory → IsOk (base_under Key.Base (table_view table.now))) }
     {
-        let base = match base_under(table, "base") {
+        let base = match base_under(table, Key::Base) {
             Ok(base) => base,
             Err(fault) => return Err(fault_at(Place::Top, fault)),
         };
-        let price_tables = match rows_under(alloc, table, "price") {
+        let price_tables = match rows_under(alloc, table, Key::Price) {
             Ok(tables) => tables,
             Err(fault) => return Err(fault_at(Place::Top, fault)),
         };
-        let commitment_tables = match rows_under(alloc, table, "commitment") {
+        let commitment_tables = match rows_under(alloc, table, Key::Commitment) {
             Ok(tables) => tables,
             Err(fault) => return Err(fault_at(Place::Top, fault)),
         };
-        let region_tables = match rows_under(alloc, table, "region") {
+        let region_tables = match rows_under(alloc, table, Key::Region) {
             Ok(tables) => tables,
             Err(fault) => return Err(fault_at(Place::Top, fault)),
         };
