@@ -6,4 +6,4 @@ mod columns;
 
 pub use charges::{Billing, RegionColumns, row};
 pub use columns::FocusRow;
-pub use rating::{Issuer, IssuerFault, Sheet};
+pub use rating::{Issuer, IssuerFault, Key, Sheet};

@@ -12,7 +12,7 @@ ghost use Rattle.focus_csv.specs.Faults.{is_sink_fault};
 use counted_io::Sink;
 pub use files::{put_file, write_rows};
 pub use focus_row::{
-    Cut, FocusRow, Issuer, IssuerFault, Period, RowsBetween, Sheet, Store, rows_between,
+    Cut, FocusRow, Issuer, IssuerFault, Key, Period, RowsBetween, Sheet, Store, rows_between,
 };
 use lines::file_bytes;
 pub use lines::{header_text, row_texts};

@@ -9,5 +9,5 @@ mod whole;
 pub use batch_store::{Cut, Period, Store};
 pub use batch_view::Tags;
 pub use between::{RowsBetween, rows_between};
-pub use charge_row::{FocusRow, Issuer, IssuerFault, Sheet};
+pub use charge_row::{FocusRow, Issuer, IssuerFault, Key, Sheet};
 pub use whole::{RowFault, rows_of};

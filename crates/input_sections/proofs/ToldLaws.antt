@@ -13,22 +13,22 @@ pub sheet_refused : (fault : SheetFault) (line : ℕ) (told : ScheduleFault) →
     → (fault ≢ sheets.OutOfMemory) × (told ≡ Refused Sheet line)
 sheet_refused sheets.OutOfMemory line told is other = absurd (other is)
 sheet_refused sheets.NotToml line told is other = (λ same. absurd (cc), is)
-sheet_refused (sheets.Missing place) line told is other = (λ same. absurd (cc), is)
-sheet_refused (sheets.BadValue place) line told is other = (λ same. absurd (cc), is)
+sheet_refused (sheets.Missing place key) line told is other = (λ same. absurd (cc), is)
+sheet_refused (sheets.BadValue place key) line told is other = (λ same. absurd (cc), is)
 sheet_refused (sheets.Duplicate place) line told is other = (λ same. absurd (cc), is)
-sheet_refused (sheets.UnknownSku place) line told is other = (λ same. absurd (cc), is)
+sheet_refused (sheets.UnknownSku place key) line told is other = (λ same. absurd (cc), is)
 
 pub sheet_wants : (fault : SheetFault) (line : ℕ) → told_of_sheet fault line ≡ OutOfMemory → fault ≡ sheets.OutOfMemory
 sheet_wants sheets.OutOfMemory line is = refl
 sheet_wants sheets.NotToml line is = absurd (cc)
-sheet_wants (sheets.Missing place) line is = absurd (cc)
-sheet_wants (sheets.BadValue place) line is = absurd (cc)
+sheet_wants (sheets.Missing place key) line is = absurd (cc)
+sheet_wants (sheets.BadValue place key) line is = absurd (cc)
 sheet_wants (sheets.Duplicate place) line is = absurd (cc)
-sheet_wants (sheets.UnknownSku place) line is = absurd (cc)
+sheet_wants (sheets.UnknownSku place key) line is = absurd (cc)
 
 pub issuer_refused : (fault : IssuerFault) (line : ℕ) (told : ScheduleFault) → told ≡ told_of_issuer fault line → told ≢ OutOfMemory
     → (fault ≢ issuers.OutOfMemory) × (told ≡ Refused Issuer line)
 issuer_refused issuers.OutOfMemory line told is other = absurd (other is)
 issuer_refused issuers.NotToml line told is other = (λ same. absurd (cc), is)
-issuer_refused issuers.Missing line told is other = (λ same. absurd (cc), is)
-issuer_refused issuers.BadValue line told is other = (λ same. absurd (cc), is)
+issuer_refused (issuers.Missing key) line told is other = (λ same. absurd (cc), is)
+issuer_refused (issuers.BadValue key) line told is other = (λ same. absurd (cc), is)

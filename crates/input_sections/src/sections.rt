@@ -76,10 +76,10 @@ fn told_of_sheet(fault: SheetFault, line: u32) -> ScheduleFault
     match fault {
         SheetFault::OutOfMemory => ScheduleFault::OutOfMemory,
         SheetFault::NotToml
-        | SheetFault::Missing(_)
-        | SheetFault::BadValue(_)
+        | SheetFault::Missing(_, _)
+        | SheetFault::BadValue(_, _)
         | SheetFault::Duplicate(_)
-        | SheetFault::UnknownSku(_) => ScheduleFault::Refused {
+        | SheetFault::UnknownSku(_, _) => ScheduleFault::Refused {
             code: ScheduleCode::Sheet,
             line,
         },
@@ -92,7 +92,7 @@ fn told_of_issuer(fault: IssuerFault, line: u32) -> ScheduleFault
 {
     match fault {
         IssuerFault::OutOfMemory => ScheduleFault::OutOfMemory,
-        IssuerFault::NotToml | IssuerFault::Missing | IssuerFault::BadValue => {
+        IssuerFault::NotToml | IssuerFault::Missing(_) | IssuerFault::BadValue(_) => {
             ScheduleFault::Refused {
                 code: ScheduleCode::Issuer,
                 line,

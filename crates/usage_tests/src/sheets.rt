@@ -1,6 +1,6 @@
 //! A sheet and an issuer where memory runs out, and the faults of a sheet's regions.
 
-use price_sheet::{Issuer, IssuerFault, Place, Sheet, SheetFault};
+use price_sheet::{Issuer, IssuerFault, Key, Place, Sheet, SheetFault};
 use std::alloc::{AllocError, Global};
 use std::test::Fail;
 use worked_texts::ISSUER;
@@ -57,7 +57,7 @@ id = "eu-1"
 "#;
 
 /// What stands behind these rows, and the fault that is told then.
-const BEHIND: [(&str, Option<SheetFault>); 13] = [
+const BEHIND: [(&str, Option<SheetFault>); 14] = [
     ("", None),
     (
         "[[region]]\nid = \"cm-1\"\nname = \"Europe 1\"\nextra = 1\n",
@@ -65,27 +65,27 @@ const BEHIND: [(&str, Option<SheetFault>); 13] = [
     ),
     (
         "[[region]]\nid = \"eu-2\"\n",
-        Some(SheetFault::Missing(Place::Region(2))),
+        Some(SheetFault::Missing(Place::Region(2), Key::Name)),
     ),
     (
         "[[region]]\nname = 1\n",
-        Some(SheetFault::Missing(Place::Region(2))),
+        Some(SheetFault::Missing(Place::Region(2), Key::Id)),
     ),
     (
         "[[region]]\nid = 1\n",
-        Some(SheetFault::BadValue(Place::Region(2))),
+        Some(SheetFault::BadValue(Place::Region(2), Key::Id)),
     ),
     (
         "[[region]]\nid = \"\"\nname = \"b\"\n",
-        Some(SheetFault::BadValue(Place::Region(2))),
+        Some(SheetFault::BadValue(Place::Region(2), Key::Id)),
     ),
     (
         "[[region]]\nid = \"a\"\nname = \"\"\n",
-        Some(SheetFault::BadValue(Place::Region(2))),
+        Some(SheetFault::BadValue(Place::Region(2), Key::Name)),
     ),
     (
         "[[region]]\nid = \"a\"\nname = \"b\\u007F\"\n",
-        Some(SheetFault::BadValue(Place::Region(2))),
+        Some(SheetFault::BadValue(Place::Region(2), Key::Name)),
     ),
     (
         "[[region]]\nid = \"eu-1\"\nname = \"b\"\n[[region]]\n",
@@ -93,20 +93,24 @@ const BEHIND: [(&str, Option<SheetFault>); 13] = [
     ),
     (
         "[[region]]\nid = \"a\"\nname = \"b\"\n[[region]]\nid = \"eu-1\"\n",
-        Some(SheetFault::Missing(Place::Region(3))),
+        Some(SheetFault::Missing(Place::Region(3), Key::Name)),
     ),
     // The faults of prices and commitments come first, wherever they stand.
     (
         "[[region]]\nid = \"a\"\n[[price]]\nsku = \"ops\"\n",
-        Some(SheetFault::Missing(Place::Price(4))),
+        Some(SheetFault::Missing(Place::Price(4), Key::PriceId)),
     ),
     (
         "[[region]]\nid = \"a\"\n[[commitment]]\nid = \"cm-1\"\n",
-        Some(SheetFault::Missing(Place::Commitment(2))),
+        Some(SheetFault::Missing(Place::Commitment(2), Key::Sku)),
     ),
     (
         "[[commitment]]\nid = \"cm-2\"\nsku = \"gpu\"\nbuy = \"ops\"\ncategory = \"Usage\"\ntype = \"Reserved\"\nrate = \"1\"\n[[region]]\n",
-        Some(SheetFault::UnknownSku(Place::Commitment(2))),
+        Some(SheetFault::UnknownSku(Place::Commitment(2), Key::Sku)),
+    ),
+    (
+        "[[commitment]]\nid = \"cm-2\"\nsku = \"ops\"\nbuy = \"gpu\"\ncategory = \"Usage\"\ntype = \"Reserved\"\nrate = \"1\"\n[[region]]\n",
+        Some(SheetFault::UnknownSku(Place::Commitment(2), Key::Buy)),
     ),
 ];
 
@@ -151,5 +155,46 @@ fn a_refused_growth_leaves_no_sheet_or_no_issuer(rt: HostRuntime) {
 #[test]
 fn a_fault_of_a_region_is_told_behind_those_of_other_rows(rt: HostRuntime) -> Result<(), Fail> {
     assert_eq!(rt; first_told_otherwise(rt.alloc())?, None);
+    Ok(())
+}
+
+#[test]
+fn a_fault_tells_its_code_its_place_and_its_key(rt: HostRuntime) -> Result<(), Fail> {
+    let alloc = rt.alloc();
+    let of_sheets = [
+        (SheetFault::NotToml, "S1"),
+        (
+            SheetFault::Missing(Place::Price(2), Key::Per),
+            "S2 price 2 per",
+        ),
+        (SheetFault::BadValue(Place::Top, Key::Base), "S3 top base"),
+        (
+            SheetFault::Duplicate(Place::Commitment(3)),
+            "S4 commitment 3",
+        ),
+        (
+            SheetFault::Duplicate(Place::Region(10_000)),
+            "S4 region 10000",
+        ),
+        (
+            SheetFault::UnknownSku(Place::Commitment(1), Key::Buy),
+            "S5 commitment 1 buy",
+        ),
+        (SheetFault::OutOfMemory, "S6"),
+    ];
+    for (fault, text) in &of_sheets {
+        let written = format!(in alloc; "{fault}")?;
+        assert_eq!(rt; written.as_str(), *text);
+    }
+    let of_issuers = [
+        (IssuerFault::NotToml, "I1"),
+        (IssuerFault::Missing(Key::Currency), "I2 currency"),
+        (IssuerFault::BadValue(Key::OtherService), "I3 other_service"),
+        (IssuerFault::OutOfMemory, "I4"),
+    ];
+    for (fault, text) in &of_issuers {
+        let written = format!(in alloc; "{fault}")?;
+        assert_eq!(rt; written.as_str(), *text);
+    }
     Ok(())
 }

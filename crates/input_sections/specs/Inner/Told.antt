@@ -11,13 +11,13 @@ use Rattle.input_sections.specs.declared.faults.ScheduleFault.TheVariants.{Refus
 abbrev pub told_of_sheet : SheetFault → ℕ → ScheduleFault
 told_of_sheet sheets.OutOfMemory line = OutOfMemory
 told_of_sheet sheets.NotToml line = Refused Sheet line
-told_of_sheet (sheets.Missing place) line = Refused Sheet line
-told_of_sheet (sheets.BadValue place) line = Refused Sheet line
+told_of_sheet (sheets.Missing place key) line = Refused Sheet line
+told_of_sheet (sheets.BadValue place key) line = Refused Sheet line
 told_of_sheet (sheets.Duplicate place) line = Refused Sheet line
-told_of_sheet (sheets.UnknownSku place) line = Refused Sheet line
+told_of_sheet (sheets.UnknownSku place key) line = Refused Sheet line
 
 abbrev pub told_of_issuer : IssuerFault → ℕ → ScheduleFault
 told_of_issuer issuers.OutOfMemory line = OutOfMemory
 told_of_issuer issuers.NotToml line = Refused Issuer line
-told_of_issuer issuers.Missing line = Refused Issuer line
-told_of_issuer issuers.BadValue line = Refused Issuer line
+told_of_issuer (issuers.Missing key) line = Refused Issuer line
+told_of_issuer (issuers.BadValue key) line = Refused Issuer line
