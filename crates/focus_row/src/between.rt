@@ -102,6 +102,7 @@ impl<'a> BetweenCuts<'a> {
     }
 
     /// The row of a reading above `from`: it is charged whole.
+    #[inline(always)]
     fn new_row(
         &self,
         near: RegionColumns<'a>,
@@ -165,8 +166,36 @@ impl<'a> BetweenCuts<'a> {
         ))
     }
 
-    /// Puts the row of a record behind the others, where it has one. It is made where it stands, and the region of the row
-    /// before is near.
+    /// Puts the correction of a reading up to `from` behind the other rows, where it has one. It stands apart, so that the way of
+    /// readings above `from` clears no room for it.
+    #[inline(never)]
+    fn put_correction(
+        &self,
+        rows: &mut Vec<FocusRow<'a>>,
+        near: RegionColumns<'a>,
+        place: RecordPlace,
+        reading: &Reading<'a>,
+    ) -> Result<(), AllocError>
+        requires named { AreNamed self.now.sheet rows.old.items }
+        requires near { IsNamed self.now.sheet (option_copied near.id) (option_copied near.name) }
+        requires from { 1 ≤ place.agent }
+        requires to { place.agent ≤ self.now.agents }
+        requires there { reading_at self.now.batches (position_of place) ≡ Some (model_reading reading.now) }
+        requires within { place.seq ≤ last_of self.now.from place.agent }
+        ensures row { OnOk result (map model_row rows.new.items ≡ map model_row rows.old.items ++ cons_option (row_of_reading self.now.sheet
+            self.now.issuer self.now.batches self.now.period self.now.from self.now.to (position_of place) (model_reading reading.now)) []) }
+        ensures named { OnOk result (AreNamed self.now.sheet rows.new.items) }
+    {
+        let Some(row) = self.correction(near, place, reading) else {
+            return Ok(());
+        };
+        if rows.push(row).is_err() {
+            return Err(AllocError);
+        }
+        Ok(())
+    }
+
+    /// Puts the row of a record behind the others, where it has one. The region of the row before is near.
     fn put_row(
         &self,
         rows: &mut Vec<FocusRow<'a>>,
@@ -186,16 +215,10 @@ impl<'a> BetweenCuts<'a> {
             return Ok(());
         };
         let near = last_region(rows);
-        if place.seq > self.from.get(place.agent) {
-            if rows.push(self.new_row(near, place, reading)).is_err() {
-                return Err(AllocError);
-            }
-            return Ok(());
+        if place.seq <= self.from.get(place.agent) {
+            return self.put_correction(rows, near, place, reading);
         }
-        let Some(row) = self.correction(near, place, reading) else {
-            return Ok(());
-        };
-        if rows.push(row).is_err() {
+        if rows.push(self.new_row(near, place, reading)).is_err() {
             return Err(AllocError);
         }
         Ok(())
