@@ -9,4 +9,4 @@ mod rate;
 pub use faults::PlayFault;
 pub use files::file_between;
 pub use input::read_input;
-pub use rate::{rate_batch, rate_text};
+pub use rate::{first_refusal, rate_batch, rate_text};

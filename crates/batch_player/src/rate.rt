@@ -211,7 +211,7 @@ fn file_of_batch(
 }
 
 /// Why a group of 64 agents in which nothing has happened does not journal the batch. No memory is taken.
-fn first_refusal(sheet: &Sheet, view: &BatchView<'_>) -> Option<Refusal>
+pub fn first_refusal(sheet: &Sheet, view: &BatchView<'_>) -> Option<Refusal>
     ensures taken { result ≡ None → ((batch_of view.now).seq ≡ 1)
         × (first_broken sheet.now (put [] (batch_of view.now)) (placed (batch_of view.now)) ≡ None) }
     ensures journaled { result ≡ None → (issuer : model.Issuer)

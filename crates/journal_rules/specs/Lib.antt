@@ -1,1 +1,2 @@
+pub mod FirstBad
 pub mod Inner

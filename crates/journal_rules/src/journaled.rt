@@ -8,6 +8,7 @@ ghost use Rattle.metering_model.specs.JournalRules.{is_fit_commitment, is_fit_re
 ghost use Rattle.batch_view.specs.Batches.{batch_of};
 ghost use Rattle.batch_view.specs.Lent.{model_reading, record_of};
 ghost use Rattle.batch_store.specs.Stores.{position_of};
+ghost use Rattle.journal_rules.specs.FirstBad.{first_bad};
 ghost use Rattle.journal_rules.specs.Inner.Journaled.{stored_in};
 
 use batch_store::{RecordPlace, Store};
@@ -178,9 +179,10 @@ impl<'a> Journaled<'a> {
         }
     }
 
-    /// The rule that the first bad record of the batch breaks.
-    pub(crate) fn first_broken(&self, sheet: &Sheet) -> Option<BrokenRule>
-        ensures { result ≡ first_broken sheet.now self.now.batches (placed self.now.batch) }
+    /// The index of the first bad record of the batch, and the rule that it breaks.
+    pub(crate) fn first_bad(&self, sheet: &Sheet) -> Option<(u16, BrokenRule)>
+        ensures rule { option_map (λ r. r.1) result ≡ first_broken sheet.now self.now.batches (placed self.now.batch) }
+        ensures index { option_map (λ r. r.0) result ≡ option_map (λ p. p.index) (first_bad sheet.now self.now.batches (placed self.now.batch)) }
     {
         let agent = self.batch.agent();
         let seq = self.batch.seq();
@@ -190,10 +192,20 @@ impl<'a> Journaled<'a> {
         for record in self.batch.records() {
             let place = RecordPlace { agent, seq, index };
             if let Some(rule) = self.broken_by(sheet, place, &record) {
-                return Some(rule);
+                return Some((index, rule));
             }
             index += 1;
         }
         None
+    }
+
+    /// The rule that the first bad record of the batch breaks.
+    pub(crate) fn first_broken(&self, sheet: &Sheet) -> Option<BrokenRule>
+        ensures { result ≡ first_broken sheet.now self.now.batches (placed self.now.batch) }
+    {
+        match self.first_bad(sheet) {
+            Some((_, rule)) => Some(rule),
+            None => None,
+        }
     }
 }

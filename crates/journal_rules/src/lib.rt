@@ -4,4 +4,4 @@
 mod journaled;
 mod rules;
 
-pub use rules::{first_broken, first_broken_alone, first_broken_up_to};
+pub use rules::{first_bad_alone, first_broken, first_broken_alone, first_broken_up_to};

@@ -2,12 +2,13 @@
 //! to a cut.
 
 ghost use Rattle.std.specs.Prelude.{◌≡◌, ◌≤◌, ◌+◌, true, [], None, Some, length, MatchOption};
-ghost use Rattle.std.specs.Option.{is_some};
+ghost use Rattle.std.specs.Option.{is_some, option_map};
 ghost use Rattle.metering_model.specs.Batch.{Batch};
 ghost use Rattle.metering_model.specs.Holding.{held, placed, put, records_in_order, up_to};
 ghost use Rattle.metering_model.specs.Step.{first_missing};
 ghost use Rattle.metering_model.specs.JournalRules.{first_broken};
 ghost use Rattle.batch_view.specs.Batches.{batch_of};
+ghost use Rattle.journal_rules.specs.FirstBad.{first_bad};
 ghost use Rattle.journal_rules.specs.Inner.Left.{broken_left};
 
 use crate::journaled::Journaled;
@@ -40,6 +41,17 @@ pub fn first_broken_alone(sheet: &Sheet, batch: &BatchView<'_>) -> Option<Broken
     // For the proof alone: its clause says that the agent is one of 64.
     let _agent = batch.agent();
     Journaled { store: None, batch }.first_broken(sheet)
+}
+
+/// The index of the first bad record of a batch, in journals that have it and no other, and the rule that it breaks. No memory
+/// is taken.
+pub fn first_bad_alone(sheet: &Sheet, batch: &BatchView<'_>) -> Option<(u16, BrokenRule)>
+    ensures rule { option_map (λ r. r.1) result ≡ first_broken sheet.now (put [] (batch_of batch.now)) (placed (batch_of batch.now)) }
+    ensures index { option_map (λ r. r.0) result ≡ option_map (λ p. p.index) (first_bad sheet.now (put [] (batch_of batch.now)) (placed (batch_of batch.now))) }
+{
+    // For the proof alone: its clause says that the agent is one of 64.
+    let _agent = batch.agent();
+    Journaled { store: None, batch }.first_bad(sheet)
 }
 
 /// The rule that the first bad record of a batch that the store has breaks.

@@ -8,6 +8,7 @@ mod playing;
 mod words;
 
 pub use batch_player::{PlayFault, file_between, rate_batch, rate_text};
+pub use events::event_of;
 pub use input_sections::{ScheduleCode, ScheduleFault};
-pub use play::play_text;
+pub use play::{opening_world, play_text};
 pub use schedule_reader::{Planned, Schedule};

@@ -25,7 +25,7 @@ use std::alloc::{AllocError, Global};
 use std::sync::Arc;
 
 /// A group before any event, by a sheet and an issuer that all its nodes share.
-fn opening_world(
+pub fn opening_world(
     alloc: Global,
     voters: u8,
     observers: u8,

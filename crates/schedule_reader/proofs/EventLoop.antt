@@ -21,7 +21,7 @@ pub nonempty : {A : Type 0} (t : List ℕ) (x y : A) → 0 < length t → cond (
 nonempty [] x y some = absurd (omega arith)
 nonempty (c ∷ cs) x y some = refl
 
-empty : {A : Type 0} (t : List ℕ) (x y : A) → length t ≤ 0 → cond (is_empty t) x y ≡ x
+pub empty : {A : Type 0} (t : List ℕ) (x y : A) → length t ≤ 0 → cond (is_empty t) x y ≡ x
 empty [] x y none = refl
 empty (c ∷ cs) x y none = absurd (omega arith)
 

@@ -8,3 +8,5 @@ pub mod WrittenEvents
 pub mod NodeLines
 pub mod WrittenSchedules
 pub mod WorkedFaults
+pub mod PreambleLaws
+pub mod FaultLoop

@@ -97,7 +97,7 @@ joined_left : (a b c d : List ℕ) → a ++ (b ++ (c ++ d)) ≡ a ++ b ++ c ++ d
 joined_left a b c d = sym (append_assoc a b (c ++ d)) ∙ sym (append_assoc (a ++ b) c d)
 
 -- What stands in front of the sheet.
-record IsGroupAt (text : List ℕ) (r : ℕ × ℕ × ℕ × Unread) : Type 0 where
+pub record IsGroupAt (text : List ℕ) (r : ℕ × ℕ × ℕ × Unread) : Type 0 where
   pub front : text ≡ line (codes "SCHEDULE 1") ++ line (nodes_text r.0 r.1) ++ line (with_number (codes "agents ") r.2) ++ left r.3
   pub short : length text ≤ 16_777_216
   pub nodes : (1 ≤ r.0) × (r.0 + r.1 ≤ 99)
@@ -128,7 +128,7 @@ group_of_lines text u v nodes agents whole head nodes_are agents_are =
       );
     }
 
-group_read : (text : List ℕ) (r : ℕ × ℕ × ℕ × Unread) → group_in text ≡ Ok r → IsGroupAt text r
+pub group_read : (text : List ℕ) (r : ℕ × ℕ × ℕ × Unread) → group_in text ≡ Ok r → IsGroupAt text r
 unfolding group_in
 group_read text r h =
     let whole = step_ok (whole_of text) _ r h in

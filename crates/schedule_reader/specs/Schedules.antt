@@ -1,5 +1,5 @@
 -- Reading a whole schedule: the group, its sheet and its issuer, and its events, or the first fault by line.
-use Rattle.std.specs.Prelude.{ℕ, zero, suc, ◌+◌, ◌==◌, nat_le, if◌then◌else◌, List, [], ◌∷◌, length, take, drop, Option, Some, None, Result, Ok, ok_or, codes}
+use Rattle.std.specs.Prelude.{ℕ, zero, suc, ◌+◌, ◌==◌, nat_le, if◌then◌else◌, List, [], ◌∷◌, length, take, drop, Option, Some, None, Result, Ok, Err, ok_or, codes}
 use Rattle.std.specs.List.{position}
 use Rattle.std.specs.Option.{option_map}
 use Rattle.metering_model.specs.FirstFailure.{◌>>=◌, holds_or}
@@ -112,6 +112,11 @@ events_in (suc most) u =
     if is_empty (left u) then Ok []
     else (event_in u >>= λ (e : Planned × Unread). events_in most e.1 >>= λ (es : List Planned). Ok (e.0 ∷ es))
 
+-- the fault, where there is one
+abbrev pub fault_of : {A : Type 0} → Result A ScheduleFault → Option ScheduleFault
+fault_of (Ok x) = None
+fault_of (Err fault) = Some fault
+
 -- ---- the whole
 
 -- What is read of a schedule. The lines of its sections are no longer there.
@@ -152,6 +157,23 @@ group_in text = do
   nodes ← nodes_line head
   agents ← number_line Agents (codes "agents ") 64 nodes.2
   Ok (nodes.0, nodes.1, agents.0, agents.1)
+
+-- What stands above the events, and what is left behind it.
+pub record Preamble : Type 0 where
+  pub voters : ℕ
+  pub observers : ℕ
+  pub agents : ℕ
+  pub sheet : model.Sheet
+  pub issuer : model.Issuer
+  pub rest : Unread
+
+-- what a text gives above its events, or its first fault by line
+unfoldable pub preamble_in : List ℕ → Result Preamble ScheduleFault
+preamble_in text = do
+  group ← group_in text
+  sheet ← sheet_section group.3
+  issuer ← issuer_section sheet.1
+  Ok (record { voters = group.0; observers = group.1; agents = group.2; sheet = sheet.0; issuer = issuer.0; rest = issuer.1 })
 
 -- What a text gives, or its first fault by line. No text has more events than bytes.
 unfoldable pub schedule_in : List ℕ → Result ReadSchedule ScheduleFault

@@ -1,9 +1,9 @@
 //! The events of a schedule, one line or one journal at a time.
 
-ghost use Rattle.std.specs.Prelude.{◌≡◌, ◌≢◌, ◌≤◌, All, Ok, Err, map, codes, option_map, IfOk, IfErr, IfSome, MatchResult};
+ghost use Rattle.std.specs.Prelude.{◌≡◌, ◌≢◌, ◌≤◌, All, Ok, Err, Some, map, codes, option_map, IfOk, IfErr, IfSome, MatchResult};
 ghost use Rattle.metering_model.specs.Schedule.{PlansDelivery, PlansStart, PlansRestart, PlansExport, PlansKeep};
 ghost use Rattle.schedule_reader.specs.Events.{HasWholeLines, planned_of};
-ghost use Rattle.schedule_reader.specs.Schedules.{one_behind, two_behind, event_of_line, line_event, journal_event, revival_of_line, revival_event, event_in, events_in};
+ghost use Rattle.schedule_reader.specs.Schedules.{one_behind, two_behind, event_of_line, line_event, journal_event, revival_of_line, revival_event, event_in, events_in, fault_of};
 
 use crate::lines::{one_behind, two_behind};
 use input_sections::{ScheduleCode, ScheduleFault, Unread, read_section};
@@ -184,9 +184,9 @@ fn revival_event<'a>(unread: &Unread<'a>) -> Result<(Planned<'a>, Unread<'a>), S
     ))
 }
 
-/// The next event, and what is left behind it.
+/// The next event, and what is left behind it. No memory is taken.
 #[tactic(auto, unfolding(crate::specs::Schedules::event_in))]
-fn event_in<'a>(unread: &Unread<'a>) -> Result<(Planned<'a>, Unread<'a>), ScheduleFault>
+pub fn event_in<'a>(unread: &Unread<'a>) -> Result<(Planned<'a>, Unread<'a>), ScheduleFault>
     ensures event { MatchResult result (λ r. event_in unread.now ≡ Ok (planned_of r.0, r.1)) (λ fault. event_in unread.now ≡ Err fault) }
     ensures want { IfErr result (λ fault. fault ≢ ScheduleFault.OutOfMemory) }
     ensures lines { IfOk result (λ r. HasWholeLines r.0) }
@@ -226,4 +226,23 @@ pub(crate) fn events_in<'a>(
         here = rest;
     }
     Ok(events)
+}
+
+/// The first fault of the events that are left, no more than `most`. No memory is taken.
+pub fn fault_in_events(unread: Unread<'_>, most: usize) -> Option<ScheduleFault>
+    ensures value { result ≡ fault_of (events_in most unread.entry) }
+    ensures want { result ≢ Some ScheduleFault.OutOfMemory }
+{
+    let mut here = unread;
+    for _ in 0..most {
+        if here.left().is_empty() {
+            return None;
+        }
+        let (_, rest) = match event_in(&here) {
+            Ok(parts) => parts,
+            Err(fault) => return Some(fault),
+        };
+        here = rest;
+    }
+    None
 }

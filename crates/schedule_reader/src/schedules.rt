@@ -3,7 +3,7 @@
 ghost use Rattle.std.specs.Prelude.{◌≡◌, ◌≢◌, ◌+◌, ◌≤◌, All, Ok, Err, IfOk, IfErr, IsOk, MatchResult, length, map, codes};
 ghost use Rattle.metering_model.specs.SheetRules.{IsSheet, IsIssuer};
 ghost use Rattle.schedule_reader.specs.Events.{HasWholeLines, planned_of};
-ghost use Rattle.schedule_reader.specs.Schedules.{head_line, nodes_line, number_line, group_in, schedule_in};
+ghost use Rattle.schedule_reader.specs.Schedules.{head_line, nodes_line, number_line, group_in, preamble_in, schedule_in};
 ghost use Rattle.schedule_reader.specs.Forms.{IsRead};
 
 use crate::events::{Planned, events_in};
@@ -117,11 +117,57 @@ fn group_in<'a>(text: &'a [u8]) -> Result<(u8, u8, u8, Unread<'a>), ScheduleFaul
     }
 }
 
+/// What stands above the events of a schedule, and what is left behind it: the events, of which none was read.
+#[derive(Drop)]
+pub struct Preamble<'a> {
+    /// At least 1, and with the observers at most 99.
+    pub voters: u8,
+    pub observers: u8,
+    /// From 1 to 64.
+    pub agents: u8,
+    pub sheet: Sheet,
+    pub issuer: Issuer,
+    pub rest: Unread<'a>,
+}
+
+impl<'a> Preamble<'a> {
+    /// Reads what stands above the events of a schedule. A text that has no such is refused at its first fault by line, or with
+    /// want of memory.
+    #[tactic(auto, unfolding(crate::specs::Schedules::preamble_in))]
+    pub fn read(alloc: Global, text: &'a [u8]) -> Result<Preamble<'a>, ScheduleFault>
+        ensures taken { IfOk result (λ p. preamble_in text.now
+            ≡ Ok (record { voters = p.voters; observers = p.observers; agents = p.agents; sheet = p.sheet; issuer = p.issuer; rest = p.rest })) }
+        ensures refused { IfErr result (λ fault. fault ≢ ScheduleFault.OutOfMemory → preamble_in text.now ≡ Err fault) }
+        ensures want { IfErr result (λ fault. fault ≡ ScheduleFault.OutOfMemory → IsOk (group_in text.now)) }
+        ensures group { IfOk result (λ p. (1 ≤ p.voters) × (p.voters + p.observers ≤ 99) × (1 ≤ p.agents) × (p.agents ≤ 64)) }
+        ensures rules { IfOk result (λ p. IsSheet p.sheet × IsIssuer p.issuer) }
+    {
+        let (voters, observers, agents, unread) = match group_in(text) {
+            Ok(parts) => parts,
+            Err(fault) => return Err(fault),
+        };
+        let (sheet, unread) = match read_sheet(alloc, &unread) {
+            Ok(parts) => parts,
+            Err(fault) => return Err(fault),
+        };
+        match read_issuer(alloc, &unread) {
+            Ok((issuer, rest)) => Ok(Preamble {
+                voters,
+                observers,
+                agents,
+                sheet,
+                issuer,
+                rest,
+            }),
+            Err(fault) => Err(fault),
+        }
+    }
+}
+
 impl<'a> Schedule<'a> {
     /// Reads the text of a schedule, once and from the top; journals are lent from it and not read.
     ///
     /// A text that is none is refused at its first fault by line, or with want of memory.
-    #[tactic(auto, unfolding(crate::specs::Schedules::schedule_in))]
     pub fn read(alloc: Global, text: &'a [u8]) -> Result<Schedule<'a>, ScheduleFault>
         ensures taken { IfOk result (λ s. schedule_in text.now
             ≡ Ok (record { voters = s.voters; observers = s.observers; agents = s.agents; sheet = s.sheet; issuer = s.issuer; events = map planned_of s.events.items })) }
@@ -132,19 +178,19 @@ impl<'a> Schedule<'a> {
         ensures lines { IfOk result (λ s. All HasWholeLines s.events.items) }
         ensures rules { IfOk result (λ s. IsSheet s.sheet × IsIssuer s.issuer) }
     {
-        let (voters, observers, agents, unread) = match group_in(text) {
-            Ok(parts) => parts,
+        let above = match Preamble::read(alloc, text) {
+            Ok(above) => above,
             Err(fault) => return Err(fault),
         };
-        let (sheet, unread) = match read_sheet(alloc, &unread) {
-            Ok(parts) => parts,
-            Err(fault) => return Err(fault),
-        };
-        let (issuer, unread) = match read_issuer(alloc, &unread) {
-            Ok(parts) => parts,
-            Err(fault) => return Err(fault),
-        };
-        match events_in(alloc, unread, text.len()) {
+        let Preamble {
+            voters,
+            observers,
+            agents,
+            sheet,
+            issuer,
+            rest,
+        } = above;
+        match events_in(alloc, rest, text.len()) {
             Ok(events) => Ok(Schedule {
                 voters,
                 observers,

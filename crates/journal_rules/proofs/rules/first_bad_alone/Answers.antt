@@ -1,0 +1,7 @@
+use Rattle.std.proofs.Common.{arith}
+use Rattle.batch_view.specs.Batches.{batch_of}
+use Rattle.journal_rules.proofs.OneMore.{alone_there}
+use Rattle.journal_rules.proofs.rules.first_bad_alone.Goals as goal
+
+pub invariant_of-first_bad : goal.invariant_of-first_bad
+invariant_of-first_bad c = (omega (arith, c.agent-agent.ensures.value, c.agent-agent.ensures.range.1), alone_there (batch_of c.args.batch.now))
