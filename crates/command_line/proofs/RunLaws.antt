@@ -14,6 +14,9 @@ use Rattle.schedule_player.specs.declared.PlayFault.{PlayFault}
 use Rattle.schedule_player.specs.declared.PlayFault.TheVariants as play
 use Rattle.input_sections.specs.declared.faults.ScheduleFault.TheVariants as section
 use Rattle.schedule_player.specs.Faults.{tells_of_reader, tells_of_writer}
+use Rattle.metering_model.specs.Transcript.{line_count}
+use Rattle.input_check.specs.Checks.{IsSaidOf, said_of_input}
+use Rattle.input_check.proofs.LineLaws.{nothing_said}
 use Rattle.period_file.specs.declared.faults.FileFault.{FileFault}
 use Rattle.period_file.specs.declared.faults.FileFault.TheVariants as file
 use Rattle.period_file.specs.Faults.{tells_of_reader as file_read, tells_of_writer as file_wrote}
@@ -27,11 +30,11 @@ use Rattle.threads_player.specs.declared.sizes.Size.{Size}
 use Rattle.command_line.specs.declared.words.LineFault.{LineFault}
 use Rattle.command_line.specs.declared.words.LineFault.TheVariants as on_line
 use Rattle.command_line.specs.declared.commands.Command.{Command}
-use Rattle.command_line.specs.declared.commands.Command.TheVariants.{Rate, Play as PlaySchedule, File as CutFile, Threads as RunThreads}
+use Rattle.command_line.specs.declared.commands.Command.TheVariants.{Rate, Play as PlaySchedule, Check, File as CutFile, Threads as RunThreads}
 use Rattle.command_line.specs.declared.endings.Fault.{Fault}
-use Rattle.command_line.specs.declared.endings.Fault.TheVariants.{Line, Play, File, Threads}
+use Rattle.command_line.specs.declared.endings.Fault.TheVariants.{Line, Play, Faults, File, Threads}
 use Rattle.command_line.specs.Endings.{Tells, ending_line, status_of}
-use Rattle.command_line.specs.Runs.{AsksFor, Ends, IsDone, IsLeftBy, IsPlayedInPart, IsUnwritten, Refuses, words_behind_name}
+use Rattle.command_line.specs.Runs.{AsksFor, Ends, IsDone, IsLeftBy, IsPlayedInPart, IsUnwritten, Refuses, SaysOf, words_behind_name}
 use Rattle.command_line.specs.Inner.Outcomes.{ComesTo, IsEnding, IsKept, Leaves}
 use Rattle.command_line.proofs.WordLaws.{asks_for_threads}
 
@@ -110,7 +113,7 @@ pub comes_to : {W : Type 0} (sink : SinkOf W) (command : Command) (fault : PlayF
     → sink.failed_calls writer' ≡ count_after (tells_of_writer (failed fault)) (sink.failed_calls writer)
     → (fault ≢ play.Write → fault ≢ play.OutOfMemory → writer' ≡ writer)
     → (status_of (Play fault) ≡ 1 → Refuses command known (Play fault))
-    → (writer' ≡ writer → IsLeftBy sink command (Play fault) known writer writer')
+    → (status_of (Play fault) ≡ 1 → writer' ≡ writer → IsLeftBy sink command (Play fault) known writer writer')
     → fault ≢ play.Schedule section.OutOfMemory
     → (fault ≡ play.OutOfMemory → (writer' ≡ writer) ⊎ ((command ≡ PlaySchedule) × IsPlayedInPart known (sink.contents writer) (sink.contents writer')))
     → ComesTo sink command (Play fault) known reads reads' writer writer'
@@ -118,10 +121,10 @@ comes_to sink command fault known reads reads' writer writer' read wrote same re
     let kept : fault ≢ play.Write → fault ≢ play.OutOfMemory → IsKept sink command known writer writer' = λ no_write no_memory. inl (same no_write no_memory) in
     record {
       understood = is_no_line fault;
-      refused = λ one. (refused one, left (at_1 (writer' ≡ writer) fault same one));
+      refused = λ one. (refused one, left one (at_1 (writer' ≡ writer) fault same one));
       device = is_device (IsKept sink command known writer writer') fault _ _ _ _ read wrote kept;
       calm = is_calm fault _ _ _ _ read wrote;
-      unwritten = but_at_3_and_4 (IsKept sink command known writer writer') fault kept;
+      unwritten = λ not_3 not_4. inl (but_at_3_and_4 (IsKept sink command known writer writer') fault kept not_3 not_4);
       part = λ four. part_kept (part (only_memory fault plain four));
     }
   where
@@ -129,6 +132,30 @@ comes_to sink command fault known reads reads' writer writer' read wrote same re
         → IsKept sink command known writer writer' ⊎ ((command ≡ PlaySchedule) × IsPlayedInPart known (sink.contents writer) (sink.contents writer'))
     part_kept (inl unwritten) = inl (inl unwritten)
     part_kept (inr both) = inr both
+
+-- ---- `check`
+
+-- where no line is said, nothing is
+pub silent : (known old new : Option (List ℕ)) (count : ℕ) → (input text : List ℕ) × IsSaidOf known input text × Appends old new text × (count ≡ line_count text)
+    → count ≡ 0 → (input : List ℕ) × IsSaidOf known input [] × Appends old new []
+silent known old new count said zero =
+    let none : said_of_input said.0 ≡ [] = nothing_said said.0 (sym (ap line_count said.2.is_said) ∙ (sym said.4 ∙ zero)) in
+    let empty : said.1 ≡ [] = said.2.is_said ∙ none in
+    (said.0, subst (IsSaidOf known said.0) empty said.2, subst (Appends old new) empty said.3)
+
+-- something is wrong, and the lines that say so were written
+pub says : {W : Type 0} (sink : SinkOf W) (count : ℕ) (known : Option (List ℕ)) (reads reads' : ℕ) (writer writer' : W)
+    → reads' ≡ reads → sink.failed_calls writer' ≡ sink.failed_calls writer
+    → (input text : List ℕ) × IsSaidOf known input text × Appends (sink.contents writer) (sink.contents writer') text × (count ≡ line_count text)
+    → ComesTo sink Check (Faults count) known reads reads' writer writer'
+says sink count known reads reads' writer writer' read wrote said = record {
+  understood = λ two. absurd (omega (arith, two));
+  refused = λ one. ((said.0, said.1, said.2, ap Faults said.4), (said.0, said.1, said.2, said.3));
+  device = λ three. absurd (omega (arith, three));
+  calm = λ other. (read, wrote);
+  unwritten = λ not_3 not_4. inr (refl, (said.0, said.1, said.2, said.3));
+  part = λ four. absurd (omega (arith, four));
+}
 
 -- ---- `file`
 
@@ -186,7 +213,7 @@ file_comes_to sink period fault known reads reads' writer writer' read wrote non
       refused = λ one. (refused one, file_left sink period fault known writer writer' none torn front one);
       device = file_device (IsKept sink (CutFile period) known writer writer') fault _ _ _ _ read wrote kept;
       calm = file_calm fault _ _ _ _ read wrote;
-      unwritten = λ not_3 not_4. kept;
+      unwritten = λ not_3 not_4. inl kept;
       part = λ four. inl kept;
     }
 
@@ -237,7 +264,7 @@ threads_come_to sink size fault known reads writer writer' wrote same sheet = re
   refused = λ one. (threads_refused IsSheetRefused fault sheet one, same (not_write fault (not_3_at (status_of (Threads fault)) 1 one (λ is. omega (arith, is)))));
   device = threads_device (IsKept sink (RunThreads size) known writer writer') fault _ _ _ wrote;
   calm = λ other. (refl, threads_calm fault _ _ wrote other);
-  unwritten = λ not_3 not_4. inl (same (not_write fault not_3));
+  unwritten = λ not_3 not_4. inl (inl (same (not_write fault not_3)));
   part = λ four. inl (inl (same (not_write fault (not_3_at (status_of (Threads fault)) 4 four (λ is. omega (arith, is))))));
 }
 
@@ -253,6 +280,7 @@ tells_memory Told (Play play.OutOfMemory) four told = told
 tells_memory Told (Play (play.Refused refusal)) four told = absurd (cc)
 tells_memory Told (Play (play.Schedule (section.Refused code line))) four told = absurd (cc)
 tells_memory Told (Play (play.Schedule section.OutOfMemory)) four told = told
+tells_memory Told (Faults count) four told = absurd (omega (arith, four))
 tells_memory Told (File file.NoFile) four told = absurd (cc)
 tells_memory Told (File file.Torn) four told = absurd (cc)
 tells_memory Told (File file.TooLong) four told = absurd (cc)
@@ -277,10 +305,10 @@ kept_of : (Same : Type 0) (Front : ℕ → Type 0) (Asked : Command → Type 0) 
 kept_of Same Front Asked command asked (inl same) = inl same
 kept_of Same Front Asked command asked (inr it) = inr (it.0, subst Asked it.1 asked, it.2)
 
--- what is written in part was asked to be played
-part_of : (Kept Unwritten Part : Type 0) (Asked : Command → Type 0) (command : Command) → Asked command → (Kept → Unwritten) → Kept ⊎ ((command ≡ PlaySchedule) × Part) → Unwritten ⊎ (Asked PlaySchedule × Part)
-part_of Kept Unwritten Part Asked command asked kept (inl same) = inl (kept same)
-part_of Kept Unwritten Part Asked command asked kept (inr both) = inr (subst Asked both.0 asked, both.1)
+-- what is written by the one command was asked of it
+part_of : (Kept Unwritten Part : Type 0) (Asked : Command → Type 0) (one command : Command) → Asked command → (Kept → Unwritten) → Kept ⊎ ((command ≡ one) × Part) → Unwritten ⊎ (Asked one × Part)
+part_of Kept Unwritten Part Asked one command asked kept (inl same) = inl (kept same)
+part_of Kept Unwritten Part Asked one command asked kept (inr both) = inr (subst Asked both.0 asked, both.1)
 
 device_of : (Kept Unwritten : Type 0) (line : List ℕ) (reads reads' writes writes' : ℕ) → (Kept → Unwritten) → IsDevice Kept line reads reads' writes writes' → IsDevice Unwritten line reads reads' writes writes'
 device_of Kept Unwritten line reads reads' writes writes' kept (inl is) = inl (is.0, is.1, kept is.2)
@@ -291,6 +319,7 @@ at_end_of : (Asked : Command → Type 0) (command : Command) (known left old new
     → ((size : Size) → Asked (RunThreads size) → ⊥) → IsAtEnd left
 at_end_of Asked (Rate period) known left old new asked done other = done.1
 at_end_of Asked PlaySchedule known left old new asked done other = done.1
+at_end_of Asked Check known left old new asked done other = done.1
 at_end_of Asked (CutFile period) known left old new asked done other = done.1
 at_end_of Asked (RunThreads size) known left old new asked done other = absurd (other size asked)
 
@@ -304,6 +333,7 @@ in_range (Play play.OutOfMemory) = (omega arith, omega arith)
 in_range (Play (play.Refused refusal)) = (omega arith, omega arith)
 in_range (Play (play.Schedule (section.Refused code line))) = (omega arith, omega arith)
 in_range (Play (play.Schedule section.OutOfMemory)) = (omega arith, omega arith)
+in_range (Faults count) = (omega arith, omega arith)
 in_range (File file.NoFile) = (omega arith, omega arith)
 in_range (File file.Torn) = (omega arith, omega arith)
 in_range (File file.TooLong) = (omega arith, omega arith)
@@ -395,8 +425,9 @@ ends source sink telling args command (Err fault) status reader reader' writer w
       );
       calm = λ other. leaves.calm (λ is. other (same ∙ is));
       memory = λ is. tells_memory told fault (sym same ∙ is) ending.1;
-      part = λ is. part_of (IsKept sink command known writer writer') _ _ (AsksFor args) command asked kept (leaves.part (sym same ∙ is));
-      unwritten = λ not_0 not_3 not_4. kept (leaves.unwritten (λ is. not_3 (same ∙ is)) (λ is. not_4 (same ∙ is)));
+      part = λ is. part_of (IsKept sink command known writer writer') _ _ (AsksFor args) PlaySchedule command asked kept (leaves.part (sym same ∙ is));
+      unwritten = λ not_0 not_3 not_4. part_of (IsKept sink command known writer writer') _ (SaysOf known (sink.contents writer) (sink.contents writer')) (AsksFor args) Check command asked kept
+          (leaves.unwritten (λ is. not_3 (same ∙ is)) (λ is. not_4 (same ∙ is)));
       read = λ none. read (other_than (AsksFor args) command asked none);
       read_by_file = read_by_file;
       unread = unread;
@@ -439,7 +470,7 @@ ends_at_words source sink telling args on_line.Line status reader writer errors 
   calm = λ other. (refl, refl);
   memory = λ is. absurd (omega (arith, same, is));
   part = λ is. inl (inl refl);
-  unwritten = λ not_0 not_3 not_4. inl refl;
+  unwritten = λ not_0 not_3 not_4. inl (inl refl);
   read = λ none. nothing_read 16_777_217 (source.remaining reader);
   read_by_file = nothing_read 4_294_967_297 (source.remaining reader);
   unread = λ size asked. refl;
@@ -457,7 +488,7 @@ ends_at_words source sink telling args on_line.OutOfMemory status reader writer 
   calm = λ other. (refl, refl);
   memory = λ is. told;
   part = λ is. inl (inl refl);
-  unwritten = λ not_0 not_3 not_4. inl refl;
+  unwritten = λ not_0 not_3 not_4. inl (inl refl);
   read = λ none. nothing_read 16_777_217 (source.remaining reader);
   read_by_file = nothing_read 4_294_967_297 (source.remaining reader);
   unread = λ size asked. refl;

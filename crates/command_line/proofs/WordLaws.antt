@@ -1,5 +1,5 @@
 -- What a parse that succeeds, or fails, says of what the words ask for.
-use Rattle.std.proofs.Common.{◌≡◌, ◌≢◌, ◌∙◌, sym, ap, ℕ, ◌<◌, ◌^◌, List, [], ◌∷◌, codes, slice_index, Option, Some, None, IfSome, is_some, option_map, true, refl, inl, inr, arith}
+use Rattle.std.proofs.Common.{◌≡◌, ◌≢◌, ◌∙◌, sym, ap, ℕ, ◌<◌, ◌^◌, List, [], ◌∷◌, codes, slice_index, Option, Some, None, IfSome, is_some, option_map, true, false, refl, inl, inr, arith}
 use Rattle.std.specs.Str.Parse.{ParsesUnsigned, ExplainsUnsignedError, HasUnsignedDigitsIfOk}
 use Rattle.clap.specs.Words.{ReadsOne, Row, Text, found_of, is_simple, kind_of, one_text, rows_of, subcommand_of, subcommand_rows_of}
 use Rattle.clap.specs.Matches.{subcommand_name_of}
@@ -15,9 +15,9 @@ use Rattle.clap.proofs.OnLiterals.{clap_on_literals}
 use Rattle.std.specs.Box.{box_value}
 use Rattle.std.specs.Borrow.{Bor}
 use Rattle.command_line.specs.declared.commands.Command.{Command}
-use Rattle.command_line.specs.declared.commands.Command.TheVariants.{Rate, Play, File, Threads}
+use Rattle.command_line.specs.declared.commands.Command.TheVariants.{Rate, Play, Check, File, Threads}
 use Rattle.threads_player.specs.declared.sizes.Size.{Size}
-use Rattle.command_line.specs.CommandLine.{grammar_of_focusd, Asks, AsksForPlay, GivesNumber, GivesPeriod, GivesSize}
+use Rattle.command_line.specs.CommandLine.{grammar_of_focusd, Asks, AsksForCheck, AsksForPlay, GivesNumber, GivesPeriod, GivesSize}
 
 pub grammar_is_simple : is_simple grammar_of_focusd ≡ true
 unfolding clap_on_literals
@@ -36,6 +36,7 @@ only_memory (k ∷ ks) e none fault = absurd (cc)
 pub taken_of : (words : List Text) (command : Command) → Asks words command → fault_of grammar_of_focusd words ≡ []
 taken_of words (Rate period) asked = asked.taken
 taken_of words Play asked = asked.taken
+taken_of words Check asked = asked.taken
 taken_of words (File period) asked = asked.taken
 taken_of words (Threads size) asked = asked.taken
 
@@ -66,11 +67,12 @@ name_met m name rs entered =
 
 -- Words that ask for something meet one of the subcommands.
 pub meets_one : (words : List Text) (m : ArgMatches) (command : Command) → Asks words command → subcommand_rows_of m ≡ subcommand_of grammar_of_focusd words
-    → (subcommand_name_of m ≢ Some (codes "play")) → (subcommand_name_of m ≢ Some (codes "threads")) → (subcommand_name_of m ≢ Some (codes "file")) → (subcommand_name_of m ≢ Some (codes "rate")) → ⊥
-meets_one words m (Rate period) asked same no_play no_threads no_file no_rate = no_rate (name_met m (codes "rate") asked.rows (same ∙ asked.named))
-meets_one words m Play asked same no_play no_threads no_file no_rate = no_play (name_met m (codes "play") asked.rows (same ∙ asked.named))
-meets_one words m (File period) asked same no_play no_threads no_file no_rate = no_file (name_met m (codes "file") asked.rows (same ∙ asked.named))
-meets_one words m (Threads size) asked same no_play no_threads no_file no_rate = no_threads (name_met m (codes "threads") asked.rows (same ∙ asked.named))
+    → (subcommand_name_of m ≢ Some (codes "play")) → (subcommand_name_of m ≢ Some (codes "check")) → (subcommand_name_of m ≢ Some (codes "threads")) → (subcommand_name_of m ≢ Some (codes "file")) → (subcommand_name_of m ≢ Some (codes "rate")) → ⊥
+meets_one words m (Rate period) asked same no_play no_check no_threads no_file no_rate = no_rate (name_met m (codes "rate") asked.rows (same ∙ asked.named))
+meets_one words m Play asked same no_play no_check no_threads no_file no_rate = no_play (name_met m (codes "play") asked.rows (same ∙ asked.named))
+meets_one words m Check asked same no_play no_check no_threads no_file no_rate = no_check (name_met m (codes "check") asked.rows (same ∙ asked.named))
+meets_one words m (File period) asked same no_play no_check no_threads no_file no_rate = no_file (name_met m (codes "file") asked.rows (same ∙ asked.named))
+meets_one words m (Threads size) asked same no_play no_check no_threads no_file no_rate = no_threads (name_met m (codes "threads") asked.rows (same ∙ asked.named))
 
 -- What is met under the name `play` is asked for.
 pub asks_for_play : (words : List Text) (m : ArgMatches) (r : Option (Bor ArgMatches)) → is_some r ≡ true → (is_some r ≡ true → subcommand_name_of m ≡ Some (codes "play"))
@@ -81,6 +83,17 @@ asks_for_play words m (Some p) there found has_rows taken same = record {
   taken = taken;
   rows = rows_of (found_of p.now);
   named = sym same ∙ met m (codes "play") (rows_of (found_of p.now)) (found there) has_rows;
+}
+
+-- What is met under the name `check` is asked for.
+pub asks_for_check : (words : List Text) (m : ArgMatches) (r : Option (Bor ArgMatches)) → is_some r ≡ true → (is_some r ≡ true → subcommand_name_of m ≡ Some (codes "check"))
+    → IfSome r (λ p. option_map (λ (q : Text × List Row). q.1) (subcommand_rows_of m) ≡ Some (rows_of (found_of p.now))) → fault_of grammar_of_focusd words ≡ []
+    → subcommand_rows_of m ≡ subcommand_of grammar_of_focusd words → AsksForCheck words
+asks_for_check words m None there found has_rows taken same = absurd (cc)
+asks_for_check words m (Some p) there found has_rows taken same = record {
+  taken = taken;
+  rows = rows_of (found_of p.now);
+  named = sym same ∙ met m (codes "check") (rows_of (found_of p.now)) (found there) has_rows;
 }
 
 -- what `get_one` says of a number of so many bits
@@ -135,6 +148,15 @@ file_or_play same = let numbers : ◌≡◌ {A = ℕ} 102 112 = same in absurd (
 threads_or_file : slice_index (codes "threads") 0 ≢ slice_index (codes "file") 0
 threads_or_file same = let numbers : ◌≡◌ {A = ℕ} 116 102 = same in absurd (omega (arith, numbers))
 
+check_or_rate : slice_index (codes "check") 0 ≢ slice_index (codes "rate") 0
+check_or_rate same = let numbers : ◌≡◌ {A = ℕ} 99 114 = same in absurd (omega (arith, numbers))
+
+check_or_file : slice_index (codes "check") 0 ≢ slice_index (codes "file") 0
+check_or_file same = let numbers : ◌≡◌ {A = ℕ} 99 102 = same in absurd (omega (arith, numbers))
+
+check_or_threads : slice_index (codes "check") 0 ≢ slice_index (codes "threads") 0
+check_or_threads same = let numbers : ◌≡◌ {A = ℕ} 99 116 = same in absurd (omega (arith, numbers))
+
 -- Where a text of the option spells a period, it is the one that is read.
 pub period_read : (f : Found) (r : Option ℕ) (period : ℕ) → GivesPeriod (rows_of f) period → ((u : Text) → one_text f (codes "period") ≡ Some u → Reads 16 u r) → r ≡ Some period
 period_read f r period gives value =
@@ -149,6 +171,7 @@ rate_gives words rows (Rate period) asked named =
     let same : asked.rows ≡ rows = cc in
     (period, rw same at asked.given)
 rate_gives words rows Play asked named = absurd (other_names _ _ _ _ _ rate_or_play named asked.named)
+rate_gives words rows Check asked named = absurd (other_names _ _ _ _ _ check_or_rate asked.named named)
 rate_gives words rows (File period) asked named = absurd (other_names _ _ _ _ _ file_or_rate asked.named named)
 rate_gives words rows (Threads size) asked named = absurd (other_names _ _ _ _ _ threads_or_rate asked.named named)
 
@@ -160,6 +183,7 @@ file_gives words rows (File period) asked named =
     (period, rw same at asked.given)
 file_gives words rows (Rate period) asked named = absurd (other_names _ _ _ _ _ file_or_rate named asked.named)
 file_gives words rows Play asked named = absurd (other_names _ _ _ _ _ file_or_play named asked.named)
+file_gives words rows Check asked named = absurd (other_names _ _ _ _ _ check_or_file asked.named named)
 file_gives words rows (Threads size) asked named = absurd (other_names _ _ _ _ _ threads_or_file asked.named named)
 
 -- Words that ask for the subcommand whose rows were found ask for a size that these give.
@@ -167,6 +191,7 @@ pub is_given : (words : List Text) (rows : List Row) (command : Command) → Ask
     → subcommand_of grammar_of_focusd words ≡ Some (codes "threads", rows) → (size : Size) × GivesSize rows size
 is_given words rows (Rate period) asked named = absurd (other_names _ _ _ _ _ threads_or_rate named asked.named)
 is_given words rows Play asked named = absurd (other_names _ _ _ _ _ threads_or_play named asked.named)
+is_given words rows Check asked named = absurd (other_names _ _ _ _ _ check_or_threads asked.named named)
 is_given words rows (File period) asked named = absurd (other_names _ _ _ _ _ threads_or_file named asked.named)
 is_given words rows (Threads size) asked named =
     let both = ap (option_map (λ (p : Text × List Row). p.1)) (sym asked.named ∙ named) in
@@ -187,5 +212,14 @@ is_none (Some a) none = absurd (none a refl)
 pub asks_for_threads : (words : List Text) (command : Command) (size : Size) → Asks words command → Asks words (Threads size) → (other : Size) × (command ≡ Threads other)
 asks_for_threads words (Rate period) size asked threads = absurd (other_names _ _ _ _ _ threads_or_rate threads.named asked.named)
 asks_for_threads words Play size asked threads = absurd (other_names _ _ _ _ _ threads_or_play threads.named asked.named)
+asks_for_threads words Check size asked threads = absurd (other_names _ _ _ _ _ check_or_threads asked.named threads.named)
 asks_for_threads words (File period) size asked threads = absurd (other_names _ _ _ _ _ threads_or_file threads.named asked.named)
 asks_for_threads words (Threads other) size asked threads = (other, refl)
+
+-- what is there is not absent
+pub not_there : {A : Type 0} (o : Option A) → is_some o ≡ true → is_some o ≡ false → ⊥
+not_there o there absent = absurd (cc)
+
+pub not_some : {A : Type 0} (o : Option A) → is_some o ≡ true → o ≡ None → ⊥
+not_some None there none = absurd (cc)
+not_some (Some a) there none = absurd (cc)

@@ -9,7 +9,7 @@ use Rattle.metering_model.specs.Dates.{IsPeriod}
 use Rattle.threads_player.specs.declared.sizes.Size.{Size}
 use Rattle.threads_player.specs.Groups.{IsSize}
 use Rattle.command_line.specs.declared.commands.Command.{Command}
-use Rattle.command_line.specs.declared.commands.Command.TheVariants.{Rate, Play, File, Threads}
+use Rattle.command_line.specs.declared.commands.Command.TheVariants.{Rate, Play, Check, File, Threads}
 
 -- `--NAME N`, which may not be left out: a number from the one to the other
 abbrev pub number_option : Text → (least most : ℕ) → Rule
@@ -35,13 +35,13 @@ abbrev pub bare_grammar : App
 bare_grammar = let a = new_app (codes "focusd") in record a { top = record a.top { no_binary_name = true; subcommand_required = true } }
 
 -- no option at all
-abbrev pub play_grammar : App
-play_grammar = new_app (codes "play")
+abbrev pub plain_grammar : Text → App
+plain_grammar name = new_app name
 
 abbrev pub grammar_of_focusd : App
 grammar_of_focusd =
-    with_subcommand (with_subcommand (with_subcommand (with_subcommand bare_grammar (period_grammar (codes "rate")).top) play_grammar.top)
-    (period_grammar (codes "file")).top) threads_grammar.top
+    with_subcommand (with_subcommand (with_subcommand (with_subcommand (with_subcommand bare_grammar (period_grammar (codes "rate")).top)
+    (plain_grammar (codes "play")).top) (plain_grammar (codes "check")).top) (period_grammar (codes "file")).top) threads_grammar.top
 
 -- The text is digits, perhaps behind a plus, and they make the number.
 abbrev pub SpellsNumber : Text → ℕ → Type 0
@@ -78,6 +78,12 @@ pub record AsksForPlay (words : List Text) : Type 0 where
   pub rows : List Row
   pub named : subcommand_of grammar_of_focusd words ≡ Some (codes "play", rows)
 
+-- The same of the subcommand `check`.
+pub record AsksForCheck (words : List Text) : Type 0 where
+  pub taken : fault_of grammar_of_focusd words ≡ []
+  pub rows : List Row
+  pub named : subcommand_of grammar_of_focusd words ≡ Some (codes "check", rows)
+
 -- The texts of the four options spell the size, and it is one that is run.
 pub record GivesSize (rows : List Row) (size : Size) : Type 0 where
   pub nodes : GivesNumber rows (codes "nodes") size.nodes
@@ -97,5 +103,6 @@ pub record AsksForThreads (words : List Text) (size : Size) : Type 0 where
 abbrev pub Asks : List Text → Command → Type 0
 Asks words (Rate period) = AsksForRate words period
 Asks words Play = AsksForPlay words
+Asks words Check = AsksForCheck words
 Asks words (File period) = AsksForFile words period
 Asks words (Threads size) = AsksForThreads words size

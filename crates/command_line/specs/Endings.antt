@@ -5,7 +5,6 @@ use Rattle.counted_io.specs.Counts.{next_count}
 use Rattle.counted_io.specs.Writing.{AppendsPrefix}
 use Rattle.counted_io.specs.declared.writing.Sink.{Ghosts as SinkOf}
 use Rattle.metering_model.specs.Transcript.{line, refusal_text, with_number}
-use Rattle.input_sections.specs.declared.faults.ScheduleCode.{ScheduleCode}
 use Rattle.input_sections.specs.declared.faults.ScheduleCode.TheVariants as code
 use Rattle.input_sections.specs.declared.faults.ScheduleFault.TheVariants as section
 use Rattle.command_line.specs.declared.words.LineFault.TheVariants as on_line
@@ -13,8 +12,9 @@ use Rattle.schedule_player.specs.declared.PlayFault.TheVariants as play
 use Rattle.period_file.specs.declared.faults.FileFault.TheVariants as file
 use Rattle.threads_player.specs.declared.RunFault.TheVariants as of_run
 use Rattle.threads_player.specs.declared.faults.ThreadsFault.TheVariants as threads
+use Rattle.input_check.specs.Words.{section_text}
 use Rattle.command_line.specs.declared.endings.Fault.{Fault}
-use Rattle.command_line.specs.declared.endings.Fault.TheVariants.{Line, Play, File, Threads}
+use Rattle.command_line.specs.declared.endings.Fault.TheVariants.{Line, Play, Faults, File, Threads}
 
 -- 1 refused input, no whole file or a mismatch, 2 the command line, 3 a failed read or write, 4 want of memory
 abbrev pub status_of : Fault → ℕ
@@ -26,6 +26,7 @@ status_of (Play (play.Schedule section.OutOfMemory)) = 4
 status_of (Play play.Read) = 3
 status_of (Play play.Write) = 3
 status_of (Play play.OutOfMemory) = 4
+status_of (Faults count) = 1
 status_of (File file.NoFile) = 1
 status_of (File file.Torn) = 1
 status_of (File file.TooLong) = 1
@@ -37,19 +38,6 @@ status_of (Threads (threads.Run of_run.Mismatch)) = 1
 status_of (Threads threads.Write) = 3
 status_of (Threads threads.Refused) = 1
 
-abbrev pub section_code_text : ScheduleCode → List ℕ
-section_code_text code.Head = codes "L1"
-section_code_text code.Nodes = codes "L2"
-section_code_text code.Agents = codes "L3"
-section_code_text code.Sheet = codes "L4"
-section_code_text code.Issuer = codes "L5"
-section_code_text code.Event = codes "L6"
-section_code_text code.Lines = codes "L7"
-section_code_text code.TooLong = codes "L8"
-
-abbrev pub section_text : ScheduleCode → ℕ → List ℕ
-section_text code line = section_code_text code ++ with_number (codes " line ") line
-
 abbrev pub message_of : Fault → List ℕ
 message_of (Line on_line.Line) = codes "bad command line"
 message_of (Line on_line.OutOfMemory) = codes "out of memory"
@@ -59,6 +47,7 @@ message_of (Play (play.Schedule section.OutOfMemory)) = codes "out of memory"
 message_of (Play play.Read) = codes "read failed"
 message_of (Play play.Write) = codes "write failed"
 message_of (Play play.OutOfMemory) = codes "out of memory"
+message_of (Faults count) = with_number (codes "faults ") count
 message_of (File file.NoFile) = codes "no file"
 message_of (File file.Torn) = codes "torn file"
 message_of (File file.TooLong) = codes "refused " ++ section_text code.TooLong 1

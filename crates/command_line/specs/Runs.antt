@@ -1,11 +1,12 @@
 -- What a run of the program takes and leaves.
-use Rattle.std.specs.Prelude.{◌≡◌, ◌≢◌, ◌≤◌, ◌⊎◌, ℕ, List, String, Option, Result, Ok, Err, IfSome, IfErr, map, drop, string_bytes}
+use Rattle.std.specs.Prelude.{◌≡◌, ◌≢◌, ◌≤◌, ◌⊎◌, ℕ, List, [], String, Option, Result, Ok, Err, IfSome, IfErr, map, drop, string_bytes}
 use Rattle.std.specs.Io.KnownBytes.{Appends, IsAtEnd}
 use Rattle.std.specs.IoError.{error_kind}
 use Rattle.std.specs.declared.io.ErrorKind.TheVariants.{OutOfMemory as NoMemory}
 use Rattle.std.specs.Vec.Iter.{into_iter_items}
 use Rattle.std.specs.declared.vec.IntoIter.{IntoIter}
 use Rattle.std.specs.declared.io.Error.{Error}
+use Rattle.metering_model.specs.Transcript.{line_count}
 use Rattle.clap.specs.Words.{Text}
 use Rattle.counted_io.specs.Counts.{next_count}
 use Rattle.counted_io.specs.Reading.{ConsumesAtMost}
@@ -18,6 +19,7 @@ use Rattle.schedule_player.specs.declared.PlayFault.{PlayFault}
 use Rattle.schedule_player.specs.declared.PlayFault.TheVariants as play
 use Rattle.schedule_player.specs.RateInput.{rated_file}
 use Rattle.schedule_player.specs.Charges.{IsFileOf}
+use Rattle.input_check.specs.Checks.{IsSaidOf}
 use Rattle.period_file.specs.Files.{AppendsFront, AppendsPart, IsFileOf as IsFirstFileOf, file_in}
 use Rattle.period_file.specs.declared.faults.FileFault.{FileFault}
 use Rattle.period_file.specs.declared.faults.FileFault.TheVariants as file
@@ -33,7 +35,7 @@ use Rattle.command_line.specs.declared.words.LineFault.TheVariants as on_line
 use Rattle.command_line.specs.declared.endings.Fault.{Fault}
 use Rattle.command_line.specs.declared.endings.Fault.TheVariants as of_fault
 use Rattle.command_line.specs.declared.commands.Command.{Command}
-use Rattle.command_line.specs.declared.commands.Command.TheVariants.{Rate, Play, File, Threads}
+use Rattle.command_line.specs.declared.commands.Command.TheVariants.{Rate, Play, Check, File, Threads}
 
 -- the words behind the program's name, which is the first
 abbrev pub words_behind_name : {A B : Type 0} → IntoIter (String A) B → List Text
@@ -45,11 +47,12 @@ AsksFor (Ok args) command = Asks (words_behind_name args) command
 AsksFor (Err error) command = ⊥
 
 -- What was asked for was done, and nothing else: the file of the input was written, or the transcript of the schedule that
--- the input is, or the first file of the period in the input, and nothing remains to be read; or the report of a run of such a
+-- the input is, or nothing is said of the input and nothing was written, or the first file of the period in the input, and nothing remains to be read; or the report of a run of such a
 -- group was written.
 abbrev pub IsDone : Command → (known left old new : Option (List ℕ)) → Type 0
 IsDone (Rate period) known left old new = ((input text : List ℕ) × IsFileOf known period input text × Appends old new text) × IsAtEnd left
 IsDone Play known left old new = ((input text : List ℕ) × IsTranscriptOf known input text × Appends old new text) × IsAtEnd left
+IsDone Check known left old new = ((input : List ℕ) × IsSaidOf known input [] × Appends old new []) × IsAtEnd left
 IsDone (File period) known left old new = ((input file : List ℕ) × IsFirstFileOf known period input file × Appends old new file) × IsAtEnd left
 IsDone (Threads size) known left old new = (run : Run) × IsRunOf size run × Appends old new (report_text run)
 
@@ -58,12 +61,18 @@ IsDone (Threads size) known left old new = (run : Run) × IsRunOf size run × Ap
 abbrev pub Refuses : Command → Option (List ℕ) → Fault → Type 0
 Refuses (Rate period) known fault = (told : PlayFault) × (fault ≡ of_fault.Play told) × IfSome known (λ input. rated_file period input ≡ Err told)
 Refuses Play known fault = (told : ScheduleFault) × (fault ≡ of_fault.Play (play.Schedule told)) × IfSome known (λ input. schedule_in input ≡ Err told)
+Refuses Check known fault = (input text : List ℕ) × IsSaidOf known input text × (fault ≡ of_fault.Faults (line_count text))
 Refuses (File period) known fault = (told : FileFault) × (fault ≡ of_fault.File told) × IfSome known (λ input. file_in period input ≡ Err told)
 Refuses (Threads size) known fault = (fault ≡ of_fault.Threads (threads.Run of_run.Mismatch)) ⊎ ((fault ≡ of_fault.Threads threads.Refused) × IsSheetRefused)
 
--- What `file` leaves where it refuses: without a file nothing, of a torn one all that the input has, and of an input that is
+-- Known contents grew by what is said of the input.
+abbrev pub SaysOf : (known old new : Option (List ℕ)) → Type 0
+SaysOf known old new = (input text : List ℕ) × IsSaidOf known input text × Appends old new text
+
+-- What `check` and `file` leave where they refuse. `check` leaves what it says; without a file nothing, of a torn one all that the input has, and of an input that is
 -- too long a front of the file. The others leave nothing at all.
 abbrev pub IsLeftBy : {W : Type 0} → SinkOf W → Command → Fault → (known : Option (List ℕ)) (writer writer' : W) → Type 0
+IsLeftBy sink Check fault known writer writer' = SaysOf known (sink.contents writer) (sink.contents writer')
 IsLeftBy sink (File period) (of_fault.File file.NoFile) known writer writer' = writer' ≡ writer
 IsLeftBy sink (File period) (of_fault.File file.Torn) known writer writer' = AppendsPart known period (sink.contents writer) (sink.contents writer')
 IsLeftBy sink (File period) (of_fault.File told) known writer writer' = AppendsFront known period (sink.contents writer) (sink.contents writer')
@@ -108,8 +117,9 @@ pub record Ends {R W E A B : Type 0} (source : SourceOf R) (sink : SinkOf W) (te
   pub memory : status ≡ 4 → Tells telling (of_fault.Play play.OutOfMemory) errors errors'
   pub part : status ≡ 4 → IsUnwritten sink args (source.remaining reader) writer writer'
       ⊎ (AsksFor args Play × IsPlayedInPart (source.remaining reader) (sink.contents writer) (sink.contents writer'))
-  -- But at these nothing was written, save by `file`.
+  -- But at these nothing was written, save by `file` and `check`.
   pub unwritten : status ≢ 0 → status ≢ 3 → status ≢ 4 → IsUnwritten sink args (source.remaining reader) writer writer'
+      ⊎ (AsksFor args Check × SaysOf (source.remaining reader) (sink.contents writer) (sink.contents writer'))
   -- At most so much is read, by `file` and by all others. A group in threads takes nothing of the input, however it ends.
   pub read : ((period : ℕ) → ¬ AsksFor args (File period)) → ConsumesAtMost 16_777_217 (source.remaining reader) (source.remaining reader')
   pub read_by_file : ConsumesAtMost 4_294_967_297 (source.remaining reader) (source.remaining reader')

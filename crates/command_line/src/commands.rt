@@ -10,6 +10,8 @@ pub enum Command {
     Rate { period: Period },
     /// `play`: the transcript of a schedule.
     Play,
+    /// `check`: what is wrong with an input.
+    Check,
     /// `file --period P`: the file of that billing period in a transcript.
     File { period: Period },
     /// `threads --nodes N --agents A --batches K --periods P`: the report of a group of that size,

@@ -3,10 +3,10 @@
 ghost use Rattle.std.specs.Prelude.{◌≡◌, ◌+◌, ◌≤◌, ◌++◌, length};
 ghost use Rattle.command_line.specs.Endings.{Tells, ending_line, message_of, status_of};
 
-use crate::refusals::put_section;
 use crate::words::LineFault;
 use byte_text::{Line, refusal_line};
 use counted_io::{Sink, write_all};
+use input_check::put_section;
 use period_file::FileFault;
 use schedule_player::{PlayFault, ScheduleCode, ScheduleFault};
 use threads_player::{RunFault, ThreadsFault};
@@ -16,8 +16,10 @@ use threads_player::{RunFault, ThreadsFault};
 pub enum Fault {
     /// The command line.
     Line(LineFault),
-    /// `rate` or `play`.
+    /// `rate` or `play`, or a device of `check`.
     Play(PlayFault),
+    /// `check` wrote so many lines of what is wrong.
+    Faults(u64),
     /// `file`.
     File(FileFault),
     /// `threads`.
@@ -30,6 +32,7 @@ fn status(fault: &Fault) -> u8
     match fault {
         Fault::Play(PlayFault::Refused(_))
         | Fault::Play(PlayFault::Schedule(ScheduleFault::Refused { .. }))
+        | Fault::Faults(_)
         | Fault::File(FileFault::NoFile | FileFault::Torn | FileFault::TooLong)
         | Fault::Threads(ThreadsFault::Run(RunFault::Mismatch) | ThreadsFault::Refused) => 1,
         Fault::Line(LineFault::Line) => 2,
@@ -52,6 +55,10 @@ fn put_message(line: &mut Line, fault: &Fault)
 {
     match fault {
         Fault::Line(LineFault::Line) => line.put(b"bad command line"),
+        Fault::Faults(count) => {
+            line.put(b"faults ");
+            line.put_long_number(*count);
+        }
         Fault::File(FileFault::NoFile) => line.put(b"no file"),
         Fault::File(FileFault::Torn) => line.put(b"torn file"),
         Fault::File(FileFault::TooLong) => {

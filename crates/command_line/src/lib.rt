@@ -4,7 +4,6 @@
 
 mod commands;
 mod endings;
-mod refusals;
 mod runs;
 mod words;
 

@@ -14,6 +14,7 @@ use crate::commands::Command;
 use crate::endings::{Fault, ending};
 use crate::words::{LineFault, command};
 use counted_io::{Sink, Source};
+use input_check::check_text;
 use period_cut::Period;
 use period_file::file_text;
 use schedule_player::{play_text, rate_text};
@@ -85,6 +86,20 @@ fn play<R: Source, W: Sink>(alloc: Global, reader: &mut R, writer: &mut W) -> Re
 {
     match play_text(alloc, reader, writer) {
         Ok(()) => Ok(()),
+        Err(fault) => Err(Fault::Play(fault)),
+    }
+}
+
+// Where something is wrong, the lines that say so were written, and their number is the fault.
+fn check<R: Source, W: Sink>(alloc: Global, reader: &mut R, writer: &mut W) -> Result<(), Fault>
+    ensures outcome { Leaves W.Sink Command.Check result
+        (R.remaining reader.old) (R.remaining reader.new)
+        (R.failed_calls reader.old) (R.failed_calls reader.new) writer.old writer.new }
+    ensures read { ConsumesAtMost 16_777_217 (R.remaining reader.old) (R.remaining reader.new) }
+{
+    match check_text(alloc, reader, writer) {
+        Ok(0) => Ok(()),
+        Ok(count) => Err(Fault::Faults(count)),
         Err(fault) => Err(Fault::Play(fault)),
     }
 }
@@ -163,6 +178,7 @@ pub fn run_alone<R: Source, W: Sink, E: Sink>(
     match command {
         Command::Rate { period } => Ok(ended(rate(alloc, period, reader, writer), errors)),
         Command::Play => Ok(ended(play(alloc, reader, writer), errors)),
+        Command::Check => Ok(ended(check(alloc, reader, writer), errors)),
         Command::File { period } => Ok(ended(file(alloc, period, reader, writer), errors)),
         Command::Threads { size } => Err(size),
     }
@@ -171,8 +187,8 @@ pub fn run_alone<R: Source, W: Sink, E: Sink>(
 /// Does what the arguments ask for, of which the first is the program's name, and answers the status
 /// to end with.
 ///
-/// 0 says that it was done; 1 that the input is refused, that it has no whole file of the period, or
-/// that a run in threads came to a mismatch; 2 that the words ask for nothing, or are no text; 3 that a
+/// 0 says that it was done; 1 that the input is refused, that `check` wrote what is wrong with it, that
+/// it has no whole file of the period, or that a run in threads came to a mismatch; 2 that the words ask for nothing, or are no text; 3 that a
 /// read or a write failed; 4 that memory was wanting. In each case but 0 a line tells of it on
 /// `errors`, as far as that takes it. At most 16,777,217 bytes are read, by `file` at most
 /// 4,294,967,297, and none at 2 or by `threads`. What is no group in threads is done by [`run_alone`],

@@ -114,7 +114,10 @@ fn grammar<'a>(alloc: Global) -> Result<clap::Command<'a>, LineFault>
     let Ok(playing) = rating.subcommand(clap::Command::new(alloc, "play")) else {
         return Err(LineFault::OutOfMemory);
     };
-    let Ok(filing) = playing.subcommand(file) else {
+    let Ok(checking) = playing.subcommand(clap::Command::new(alloc, "check")) else {
+        return Err(LineFault::OutOfMemory);
+    };
+    let Ok(filing) = checking.subcommand(file) else {
         return Err(LineFault::OutOfMemory);
     };
     match filing.subcommand(threads) {
@@ -176,6 +179,9 @@ pub fn command(alloc: Global, words: &[String]) -> Result<Command, LineFault>
     };
     if matches.subcommand_matches("play").is_some() {
         return Ok(Command::Play);
+    }
+    if matches.subcommand_matches("check").is_some() {
+        return Ok(Command::Check);
     }
     if let Some(threads) = matches.subcommand_matches("threads") {
         let Some(size) = size(threads) else {

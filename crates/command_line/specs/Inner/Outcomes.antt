@@ -5,9 +5,9 @@ use Rattle.counted_io.specs.declared.writing.Sink.{Ghosts as SinkOf}
 use Rattle.schedule_player.specs.declared.PlayFault.TheVariants as play
 use Rattle.period_file.specs.Files.{AppendsFront}
 use Rattle.command_line.specs.Endings.{Tells, ending_line, status_of}
-use Rattle.command_line.specs.Runs.{IsDone, IsLeftBy, IsPlayedInPart, Refuses}
+use Rattle.command_line.specs.Runs.{IsDone, IsLeftBy, IsPlayedInPart, Refuses, SaysOf}
 use Rattle.command_line.specs.declared.commands.Command.{Command}
-use Rattle.command_line.specs.declared.commands.Command.TheVariants.{Play, File}
+use Rattle.command_line.specs.declared.commands.Command.TheVariants.{Play, Check, File}
 use Rattle.command_line.specs.declared.endings.Fault.{Fault}
 use Rattle.command_line.specs.declared.endings.Fault.TheVariants as of_fault
 
@@ -29,7 +29,8 @@ pub record ComesTo {W : Type 0} (sink : SinkOf W) (command : Command) (fault : F
       → ((ending_line fault ≡ ending_line (of_fault.Play play.Read)) × (reads' ≡ next_count reads) × IsKept sink command known writer writer')
       ⊎ ((ending_line fault ≡ ending_line (of_fault.Play play.Write)) × (sink.failed_calls writer' ≡ next_count (sink.failed_calls writer)) × (reads' ≡ reads))
   pub calm : status_of fault ≢ 3 → (reads' ≡ reads) × (sink.failed_calls writer' ≡ sink.failed_calls writer)
-  pub unwritten : status_of fault ≢ 3 → status_of fault ≢ 4 → IsKept sink command known writer writer'
+  pub unwritten : status_of fault ≢ 3 → status_of fault ≢ 4
+      → IsKept sink command known writer writer' ⊎ ((command ≡ Check) × SaysOf known (sink.contents writer) (sink.contents writer'))
   pub part : status_of fault ≡ 4 → IsKept sink command known writer writer' ⊎ ((command ≡ Play) × IsPlayedInPart known (sink.contents writer) (sink.contents writer'))
 
 abbrev pub Leaves : {W : Type 0} → SinkOf W → Command → Result (Unit {0}) Fault → (known left : Option (List ℕ)) (reads reads' : ℕ) (writer writer' : W) → Type 0

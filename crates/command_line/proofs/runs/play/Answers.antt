@@ -28,6 +28,6 @@ returns-in-Err-clause-outcome g c =
     let told = c.in-Err.ensures in
     comes_to g.W.Sink PlaySchedule fault known _ _ _ _ told.reads told.writes told.untouched
     (λ one. refuses known fault one (λ refusal is. told.unrefused refusal (ap Err is)) (λ bad is. told.section bad (ap Err is)))
-    (λ same. same)
+    (λ one same. same)
     (λ is. told.plain_memory (ap Err is))
     (λ is. inr (refl, told.memory (ap Err is)))

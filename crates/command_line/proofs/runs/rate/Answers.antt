@@ -32,6 +32,6 @@ returns-in-Err-clause-outcome g c =
     comes_to g.W.Sink (Rate c.args.period) fault known _ _ _ _ told.reads told.writes
     (λ no_write no_memory. told.untouched no_write)
     (λ one. (fault, refl, refuses _ known fault one (λ refusal is. told.refused refusal (ap Err is)) (λ bad is. told.section bad (ap Err is))))
-    (λ same. same)
+    (λ one same. same)
     (λ is. told.plain_memory (ap Err is))
     (λ is. inl (told.untouched (λ write. absurd (cc))))

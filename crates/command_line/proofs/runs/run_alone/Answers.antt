@@ -1,5 +1,5 @@
 use Rattle.std.proofs.Common.{Err, ap, refl, subst}
-use Rattle.command_line.specs.declared.commands.Command.TheVariants.{Rate, Play, File}
+use Rattle.command_line.specs.declared.commands.Command.TheVariants.{Rate, Play, Check, File}
 use Rattle.command_line.specs.Runs.{AsksFor}
 use Rattle.command_line.proofs.RunLaws.{asks_for_no_threads, ends, ends_at_words, no_more_read}
 use Rattle.command_line.proofs.runs.run_alone.Goals as goal
@@ -29,3 +29,10 @@ returns-in-File-clause-ended g c =
     ends g.R.Source g.W.Sink g.E.Sink c.args.args (File c.in-File.period) c.file.result c.ended-in-File.result _ _ _ _ _ _
     asked c.file.ensures.outcome c.ended-in-File.ensures.ending (λ other. absurd (other c.in-File.period refl)) c.file.ensures.read
     (λ size threads. absurd (asks_for_no_threads c.args.args (File c.in-File.period) (λ other is. absurd (cc)) asked size threads))
+
+pub returns-in-Check-clause-ended : goal.returns-in-Check-clause-ended
+returns-in-Check-clause-ended g c =
+    let asked : AsksFor c.args.args Check = subst (AsksFor c.args.args) c.in-Check.is c.in-Ok.ensures.asked in
+    ends g.R.Source g.W.Sink g.E.Sink c.args.args Check c.check.result c.ended-in-Check.result _ _ _ _ _ _
+    asked c.check.ensures.outcome c.ended-in-Check.ensures.ending (λ other. c.check.ensures.read) (no_more_read _ _ c.check.ensures.read)
+    (λ size threads. absurd (asks_for_no_threads c.args.args Check (λ other is. absurd (cc)) asked size threads))

@@ -1,7 +1,7 @@
 use Rattle.std.proofs.Common.{◌≡◌, ◌∙◌, sym, ap, map, string_bytes, codes, is_some, true, refl, rules}
 use Rattle.clap.specs.Words.{app_of, found_of, is_simple, rows_of, subcommand_of}
 use Rattle.clap.specs.Faults.{fault_of, is_simple_and_free}
-use Rattle.command_line.proofs.WordLaws.{asks_for_play, grammar_is_simple, grammar_is_free, only_memory, taken_of, met, file_gives, rate_gives, is_given, is_none}
+use Rattle.command_line.proofs.WordLaws.{asks_for_check, asks_for_play, grammar_is_simple, grammar_is_free, only_memory, taken_of, meets_one, met, file_gives, rate_gives, is_given, is_none, not_some, not_there}
 use Rattle.command_line.proofs.words.command.Goals as goal
 
 pub returns-in-Err-clause-not_asked : goal.returns-in-Err-clause-not_asked
@@ -98,3 +98,25 @@ returns-in_default-size-clause-not_asked c is command asked =
     let named = ap (λ a. subcommand_of a words) (sym app) ∙ (sym matches.1 ∙ inside) in
     let given = is_given words (rows_of found) command asked named in
     c.size.ensures.not_given (is_none c.size.result c.in_default-size.not-Some) given.0 given.1
+
+pub returns-then-is_some-2-clause-asked : goal.returns-then-is_some-2-clause-asked
+returns-then-is_some-2-clause-asked c =
+    let app = c.in_ok-grammar.ensures.app in
+    let words = map string_bytes c.args.words.now in
+    let matches = c.in-Ok.ensures.matches (ap is_simple app ∙ grammar_is_simple) in
+    let kinds = c.in-Ok.ensures.kinds (ap is_simple_and_free app ∙ grammar_is_free) in
+    let yes : is_some c.subcommand_matches-2.result ≡ true = search rules in
+    asks_for_check words c.in-Ok.matches c.subcommand_matches-2.result yes c.subcommand_matches-2.ensures.found.0 c.subcommand_matches-2.ensures.rows
+    (ap (λ a. fault_of a words) (sym app) ∙ kinds) (matches.1 ∙ ap (λ a. subcommand_of a words) app)
+
+pub returns-in_default-subcommand_matches-2-clause-not_asked : goal.returns-in_default-subcommand_matches-2-clause-not_asked
+returns-in_default-subcommand_matches-2-clause-not_asked c is command asked =
+    let app = c.in_ok-grammar.ensures.app in
+    let words = map string_bytes c.args.words.now in
+    let matches = c.in-Ok.ensures.matches (ap is_simple app ∙ grammar_is_simple) in
+    meets_one words c.in-Ok.matches command asked (matches.1 ∙ ap (λ a. subcommand_of a words) app)
+    (λ named. not_there c.subcommand_matches.result (c.subcommand_matches.ensures.found.1 named) (sym c.is_some.ensures ∙ c.if-is_some.false))
+    (λ named. not_there c.subcommand_matches-2.result (c.subcommand_matches-2.ensures.found.1 named) (sym c.is_some-2.ensures ∙ c.if-is_some-2.false))
+    (λ named. not_some c.subcommand_matches-3.result (c.subcommand_matches-3.ensures.found.1 named) (is_none c.subcommand_matches-3.result c.in_default.not-Some))
+    (λ named. not_some c.subcommand_matches-4.result (c.subcommand_matches-4.ensures.found.1 named) (is_none c.subcommand_matches-4.result c.in_default-subcommand_matches.not-Some))
+    (λ named. not_some c.subcommand_matches-5.result (c.subcommand_matches-5.ensures.found.1 named) (is_none c.subcommand_matches-5.result c.in_default-subcommand_matches-2.not-Some))

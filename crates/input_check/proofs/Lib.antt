@@ -1,0 +1,3 @@
+pub mod SaidLaws
+pub mod LineLaws
+pub mod RefusedLaws

@@ -1,0 +1,105 @@
+-- What is said of an input is nothing, or has a line feed at least.
+use Rattle.std.proofs.Common.{◌≡◌, ◌⊎◌, ℕ, zero, suc, ◌+◌, ◌-◌, ◌≤◌, ◌==◌, Bool, true, false, cond, List, [], ◌∷◌, ◌++◌, length, take, Option, Result, Ok, Err, codes, refl, sym, subst, inl, inr, arith}
+use Rattle.std.proofs.lemmas.List.Sums.{sum_by-append}
+use Rattle.metering_model.specs.Batch.{Batch, is_empty}
+use Rattle.metering_model.specs.Schedule.{Planned, event_of}
+use Rattle.metering_model.specs.Sheet as model
+use Rattle.metering_model.specs.Step.{step}
+use Rattle.metering_model.specs.Transcript.{line, line_count, refusal_text, reply_text, with_number}
+use Rattle.metering_model.specs.World.{World, Reply, Journaled, Delivered, Started, Restarted, Exported, KeptText, Refused, opening}
+use Rattle.metering_model.specs.declared.Refusal.{Refusal}
+use Rattle.input_sections.specs.declared.faults.ScheduleFault.{ScheduleFault}
+use Rattle.input_sections.specs.declared.faults.ScheduleFault.TheVariants as section
+use Rattle.input_sections.specs.RateInput.{RateInput, rate_input_in}
+use Rattle.input_sections.specs.Sections.{Unread, begins_with, left}
+use Rattle.schedule_reader.specs.Schedules.{Preamble, event_in, events_in, preamble_in}
+use Rattle.batch_player.specs.RateInput.{journaled_in}
+use Rattle.input_check.specs.Words.{section_text}
+use Rattle.input_check.specs.Checks.{line_within, reason, said_behind, said_below, said_of_batch, said_of_events, said_of_fault, said_of_input, said_of_journaled, said_of_rating, said_of_reply, said_of_schedule}
+
+abbrev IsNoneOrLines : List ℕ → Type 0
+IsNoneOrLines t = (t ≡ []) ⊎ (1 ≤ line_count t)
+
+behind : (a b : List ℕ) → 1 ≤ line_count b → 1 ≤ line_count (a ++ b)
+behind a b some = omega (arith, some, sum_by-append (λ x. cond (x == 10) 1 0) a b)
+
+joined : (a b : List ℕ) → IsNoneOrLines a → IsNoneOrLines b → IsNoneOrLines (a ++ b)
+joined a b (inl none) other = subst (λ (t : List ℕ). IsNoneOrLines (t ++ b)) (sym none) other
+joined a b (inr some) other = inr (omega (arith, some, sum_by-append (λ x. cond (x == 10) 1 0) a b))
+
+one_line : (t : List ℕ) → 1 ≤ line_count (line t)
+one_line t = behind t (10 ∷ []) (omega arith)
+
+of_fault : (text : List ℕ) (fault : ScheduleFault) → IsNoneOrLines (said_of_fault text fault)
+of_fault text (section.Refused code n) = inr (one_line (section_text code n ++ reason text code n))
+of_fault text section.OutOfMemory = inl refl
+
+of_reply : (n : ℕ) (reply : Reply) → IsNoneOrLines (said_of_reply n reply)
+of_reply n (Journaled k) = inl refl
+of_reply n (Delivered sent learned) = inl refl
+of_reply n (Started b k) = inl refl
+of_reply n Restarted = inl refl
+of_reply n (Exported s) = inl refl
+of_reply n (KeptText text) = inl refl
+of_reply n (Refused why) = inr (behind (with_number (codes "line ") n ++ codes ": ") (reply_text (Refused why)) (one_line (codes "refused " ++ refusal_text why)))
+
+of_events : (most : ℕ) (w : World) (u : Unread) → IsNoneOrLines (said_of_events most w u)
+unfolding said_of_events
+of_events zero w u = inl refl
+of_events (suc most) w u = by_test (λ v x. of_events most v x) (is_empty (left u))
+  where
+    by_event : ((v : World) (x : Unread) → IsNoneOrLines (said_of_events most v x)) → (r : Result (Planned × Unread) ScheduleFault)
+        → IsNoneOrLines (elim r [ Ok e ↦ said_of_reply u.line (step w (event_of e.0)).0 ++ said_of_events most (step w (event_of e.0)).1 e.1 | Err fault ↦ [] ])
+    by_event rest (Ok e) = joined (said_of_reply u.line (step w (event_of e.0)).0) (said_of_events most (step w (event_of e.0)).1 e.1) (of_reply u.line (step w (event_of e.0)).0) (rest (step w (event_of e.0)).1 e.1)
+    by_event rest (Err fault) = inl refl
+
+    by_test : ((v : World) (x : Unread) → IsNoneOrLines (said_of_events most v x)) → (b : Bool) → IsNoneOrLines (cond b [] (elim (event_in u) [ Ok e ↦ said_of_reply u.line (step w (event_of e.0)).0 ++ said_of_events most (step w (event_of e.0)).1 e.1 | Err fault ↦ [] ]))
+    by_test rest true = inl refl
+    by_test rest false = by_event rest (event_in u)
+
+of_schedule : (text : List ℕ) → IsNoneOrLines (said_of_schedule text)
+unfolding said_of_schedule
+of_schedule text = below (preamble_in text)
+  where
+    above : (p : Preamble) (r : Result (List Planned) ScheduleFault) → IsNoneOrLines (said_behind text p r)
+    above p (Ok events) = of_events (length text) (opening p.voters p.observers p.agents p.sheet p.issuer) p.rest
+    above p (Err fault) = of_fault text fault
+
+    below : (r : Result Preamble ScheduleFault) → IsNoneOrLines (said_below text r)
+    below (Ok p) = above p (events_in (length text) p.rest)
+    below (Err fault) = of_fault text fault
+
+of_batch : (sheet : model.Sheet) (issuer : model.Issuer) (lines : ℕ) (text : List ℕ) → IsNoneOrLines (said_of_batch sheet issuer lines text)
+unfolding said_of_batch
+of_batch sheet issuer lines text = by_answer (journaled_in sheet issuer text)
+  where
+    by_answer : (r : Result Batch Refusal) → IsNoneOrLines (said_of_journaled sheet lines text r)
+    by_answer (Ok b) = inl refl
+    by_answer (Err why) = inr (one_line (with_number (codes "line ") (lines + line_within sheet text why) ++ codes ": " ++ refusal_text why))
+
+of_rating : (text : List ℕ) → IsNoneOrLines (said_of_rating text)
+unfolding said_of_rating
+of_rating text = by_input (rate_input_in text)
+  where
+    by_input : (r : Result RateInput ScheduleFault) → IsNoneOrLines (elim r [
+      | Ok given ↦ said_of_batch given.sheet given.issuer (line_count (take (length text - length given.batch) text)) given.batch
+      | Err fault ↦ said_of_fault text fault
+    ])
+    by_input (Ok given) = of_batch given.sheet given.issuer (line_count (take (length text - length given.batch) text)) given.batch
+    by_input (Err fault) = of_fault text fault
+
+of_input : (text : List ℕ) → IsNoneOrLines (said_of_input text)
+unfolding said_of_input
+of_input text = by_word (begins_with (codes "SCHEDULE") text)
+  where
+    by_word : (b : Bool) → IsNoneOrLines (cond b (said_of_schedule text) (said_of_rating text))
+    by_word true = of_schedule text
+    by_word false = of_rating text
+
+none_of : (t : List ℕ) → IsNoneOrLines t → line_count t ≡ 0 → t ≡ []
+none_of t (inl none) no_line = none
+none_of t (inr some) no_line = absurd (omega (arith, some, no_line))
+
+-- where no line is said, nothing is
+pub nothing_said : (text : List ℕ) → line_count (said_of_input text) ≡ 0 → said_of_input text ≡ []
+nothing_said text no_line = none_of (said_of_input text) (of_input text) no_line

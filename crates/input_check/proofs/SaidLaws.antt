@@ -1,0 +1,230 @@
+-- What is said, case by case.
+use Rattle.std.proofs.Common.{◌≡◌, ◌≢◌, ℕ, zero, suc, ◌+◌, ◌-◌, ◌<◌, ◌≤◌, Bool, true, false, cond, List, [], ◌∷◌, ◌++◌, length, take, drop, Option, Some, None, IfSome, Result, Ok, Err, OnOk, codes, refl, sym, ap, ◌∙◌, subst, arith, le-leb, append-nil, append_assoc}
+use Rattle.std.specs.Prelude.{nat_le}
+use Rattle.std.specs.Str.{IsUtf8, is_utf8}
+use Rattle.std.specs.Fmt.{digits}
+use Rattle.std.proofs.lemmas.Str.{IsUtf8-from_is_utf8, is_utf8-from_IsUtf8}
+use Rattle.std.proofs.lemmas.Bool.Decides.{nat_tests}
+use Rattle.std.proofs.lemmas.List.{length-drop}
+use Rattle.metering_model.specs.Batch.{Batch}
+use Rattle.metering_model.specs.FirstFailure.{◌>>=◌, holds_or}
+use Rattle.metering_model.specs.Schedule.{Planned, event_of}
+use Rattle.metering_model.specs.Sheet as model
+use Rattle.metering_model.specs.Step.{step}
+use Rattle.metering_model.specs.Transcript.{line_count}
+use Rattle.metering_model.specs.World.{World, opening}
+use Rattle.metering_model.specs.declared.Refusal.{Refusal}
+use Rattle.metering_model.proofs.StepLaws.{ok_step_from, test_step_from}
+use Rattle.input_sections.specs.declared.faults.ScheduleCode.{ScheduleCode}
+use Rattle.input_sections.specs.declared.faults.ScheduleCode.TheVariants as codes_of
+use Rattle.input_sections.specs.declared.faults.ScheduleFault.{ScheduleFault}
+use Rattle.input_sections.specs.declared.faults.ScheduleFault.TheVariants as section
+use Rattle.input_sections.specs.Sections.{Section, Unread, begins_with, left, lines_left, section_in, section_of, whole_of}
+use Rattle.input_sections.specs.RateInput.{RateInput, rate_input_in}
+use Rattle.schedule_reader.specs.Schedules.{Preamble, event_in, events_in, fault_of, group_in, preamble_in}
+use Rattle.schedule_reader.proofs.EventLoop.{nonempty, empty}
+use Rattle.batch_player.specs.RateInput.{journaled_in}
+use Rattle.input_check.specs.Checks.{IsSaidOf, from_line, line_within, said_at, said_behind, said_below, said_by, said_of_batch, said_of_events, said_of_fault, said_of_input, said_of_journaled, said_of_rating, said_of_reply, said_of_schedule, said_of_text, section_on, text_of}
+
+step_err : {A B E : Type 0} (r : Result A E) (f : A → Result B E) (e : E) → r ≡ Err e → (r >>= f) ≡ Err e
+step_err r f e is = ap (λ s. s >>= f) is
+
+-- ---- a section
+
+too_few : (m n : ℕ) → n < m → nat_le m n ≡ false
+too_few m n below = grind (arith, nat_tests)
+
+module _ (code : ScheduleCode) (n : ℕ) (text : List ℕ) where
+  pub line_there : (u : Unread) → whole_of text ≡ Ok u → n - 1 ≤ length (lines_left u) → from_line code n text ≡ Ok (section_of (n - 1) u).rest
+  unfolding from_line
+  line_there u is enough = ok_step_from (whole_of text) _ u _ is (test_step_from (nat_le (n - 1) (length (lines_left u))) _ _ _ (le-leb _ _ enough) refl)
+
+  pub line_at : (u v : Unread) → whole_of text ≡ Ok u → n - 1 ≤ length (lines_left u) → v ≡ (section_of (n - 1) u).rest → from_line code n text ≡ Ok v
+  line_at u v is enough rest = subst (λ w. from_line code n text ≡ Ok w) (sym rest) (line_there u is enough)
+
+  pub no_line : (u : Unread) → whole_of text ≡ Ok u → length (lines_left u) < n - 1 → from_line code n text ≡ Err (section.Refused code n)
+  unfolding from_line
+  no_line u is few =
+      ok_step_from (whole_of text) _ u _ is (ap (λ b. holds_or b (section.Refused code n) >>= λ _. Ok (section_of (n - 1) u).rest) (too_few (n - 1) (length (lines_left u)) few))
+
+  pub no_whole : (fault : ScheduleFault) → whole_of text ≡ Err fault → from_line code n text ≡ Err fault
+  unfolding from_line
+  no_whole fault is = ap (λ r. r >>= λ (u : Unread). holds_or (nat_le (n - 1) (length (lines_left u))) (section.Refused code n) >>= λ _. Ok (section_of (n - 1) u).rest) is
+
+  module _ (word : List ℕ) (most : ℕ) where
+    pub section_there : (v : Unread) (s : Section) → from_line code n text ≡ Ok v → section_in code word most v ≡ Ok s → section_on code word most n text ≡ Some s.text
+    unfolding section_on
+    section_there v s at is = ap text_of (ok_step_from (from_line code n text) _ v _ at is)
+
+    pub no_section : (v : Unread) (fault : ScheduleFault) → from_line code n text ≡ Ok v → section_in code word most v ≡ Err fault → section_on code word most n text ≡ None
+    unfolding section_on
+    no_section v fault at is = ap text_of (ok_step_from (from_line code n text) _ v _ at is)
+
+    pub nowhere : (fault : ScheduleFault) → from_line code n text ≡ Err fault → section_on code word most n text ≡ None
+    unfolding section_on
+    nowhere fault at = ap (λ r. text_of (r >>= λ (u : Unread). section_in code word most u)) at
+
+pub said_of_utf8 : {A E : Type 0} (words : E → List ℕ) (reader : List ℕ → Result A E) (text : List ℕ) → IsUtf8 text → said_of_text words reader text ≡ said_by words (reader text)
+unfolding said_of_text
+said_of_utf8 words reader text utf8 = ap (λ b. cond b (said_by words (reader text)) (codes ": not UTF-8")) (is_utf8-from_IsUtf8 text utf8)
+
+pub said_of_other : {A E : Type 0} (words : E → List ℕ) (reader : List ℕ → Result A E) (text : List ℕ) → ¬ IsUtf8 text → said_of_text words reader text ≡ codes ": not UTF-8"
+unfolding said_of_text
+said_of_other words reader text other = by_test (is_utf8 text) refl
+  where
+    by_test : (b : Bool) → is_utf8 text ≡ b → cond b (said_by words (reader text)) (codes ": not UTF-8") ≡ codes ": not UTF-8"
+    by_test true e = absurd (other (IsUtf8-from_is_utf8 text e))
+    by_test false e = refl
+
+-- ---- events
+
+pub said_none : (most : ℕ) (w : World) (u : Unread) → length (left u) ≤ 0 → said_of_events (suc most) w u ≡ []
+unfolding said_of_events
+said_none most w u none = empty (left u) _ _ none
+
+pub said_no_more : (most : ℕ) (w : World) (u : Unread) (fault : ScheduleFault) → 0 < length (left u) → event_in u ≡ Err fault → said_of_events (suc most) w u ≡ []
+unfolding said_of_events
+said_no_more most w u fault some is =
+    nonempty (left u) _ _ some
+    ∙ ap (λ r. elim r [ Ok e ↦ said_of_reply u.line (step w (event_of e.0)).0 ++ said_of_events most (step w (event_of e.0)).1 e.1 | Err fault ↦ [] ]) is
+
+pub said_next : (most : ℕ) (w : World) (u v : Unread) (e : Planned) → 0 < length (left u) → event_in u ≡ Ok (e, v)
+    → said_of_events (suc most) w u ≡ said_of_reply u.line (step w (event_of e)).0 ++ said_of_events most (step w (event_of e)).1 v
+unfolding said_of_events
+said_next most w u v e some is =
+    nonempty (left u) _ _ some
+    ∙ ap (λ r. elim r [ Ok e ↦ said_of_reply u.line (step w (event_of e.0)).0 ++ said_of_events most (step w (event_of e.0)).1 e.1 | Err fault ↦ [] ]) is
+
+pub said_end : (w : World) (u : Unread) → said_of_events 0 w u ≡ []
+unfolding said_of_events
+said_end w u = refl
+
+module _ (told : List ℕ) (k : ℕ) (w : World) (u : Unread) where
+  pub said_all : (n : ℕ) (before : List ℕ) → n ≡ suc k → length (left u) ≤ 0 → before ≡ told ++ said_of_events n w u → told ≡ before
+  said_all n before more none is = sym (is ∙ (ap (λ m. told ++ said_of_events m w u) more ∙ (ap (λ t. told ++ t) (said_none k w u none) ∙ append-nil told)))
+
+  pub said_whole : (n : ℕ) (before : List ℕ) (fault : ScheduleFault) → n ≡ suc k → 0 < length (left u) → event_in u ≡ Err fault → before ≡ told ++ said_of_events n w u → told ≡ before
+  said_whole n before fault more some bad is = sym (is ∙ (ap (λ m. told ++ said_of_events m w u) more ∙ (ap (λ t. told ++ t) (said_no_more k w u fault some bad) ∙ append-nil told)))
+
+  pub said_more : (n : ℕ) (before told' : List ℕ) (v : Unread) (w' : World) (e : Planned) → n ≡ suc k → 0 < length (left u) → event_in u ≡ Ok (e, v)
+      → told' ≡ told ++ said_of_reply u.line (step w (event_of e)).0 → w' ≡ (step w (event_of e)).1
+      → before ≡ told ++ said_of_events n w u → before ≡ told' ++ said_of_events k w' v
+  said_more n before told' v w' e more some is told_is world_is so =
+      so ∙ (ap (λ m. told ++ said_of_events m w u) more ∙ (ap (λ t. told ++ t) (said_next k w u v e some is)
+      ∙ (sym (append_assoc told (said_of_reply u.line (step w (event_of e)).0) (said_of_events k (step w (event_of e)).1 v))
+      ∙ (ap (λ t. t ++ said_of_events k (step w (event_of e)).1 v) (sym told_is) ∙ ap (λ x. told' ++ said_of_events k x v) (sym world_is)))))
+
+pub said_at_end : (told : List ℕ) (w : World) (u : Unread) (n : ℕ) (before : List ℕ) → n ≡ 0 → before ≡ told ++ said_of_events n w u → told ≡ before
+said_at_end told w u n before none is = sym (is ∙ (ap (λ m. told ++ said_of_events m w u) none ∙ (ap (λ t. told ++ t) (said_end w u) ∙ append-nil told)))
+
+-- ---- a schedule
+
+module _ (text : List ℕ) where
+  pub no_schedule : (fault : ScheduleFault) → preamble_in text ≡ Err fault → said_of_schedule text ≡ said_of_fault text fault
+  unfolding said_of_schedule
+  no_schedule fault is = ap (said_below text) is
+
+  by_fault : (p : Preamble) (r : Result (List Planned) ScheduleFault) (fault : ScheduleFault) → fault_of r ≡ Some fault → said_behind text p r ≡ said_of_fault text fault
+  by_fault p (Ok events) fault is = absurd (cc)
+  by_fault p (Err other) fault is = let same : other ≡ fault = cc in ap (said_of_fault text) same
+
+  by_none : (p : Preamble) (r : Result (List Planned) ScheduleFault) → fault_of r ≡ None
+      → said_behind text p r ≡ said_of_events (length text) (opening p.voters p.observers p.agents p.sheet p.issuer) p.rest
+  by_none p (Ok events) is = refl
+  by_none p (Err other) is = absurd (cc)
+
+  pub no_events : (p : Preamble) (fault : ScheduleFault) → preamble_in text ≡ Ok p → fault_of (events_in (length text) p.rest) ≡ Some fault
+      → said_of_schedule text ≡ said_of_fault text fault
+  unfolding said_of_schedule
+  no_events p fault is bad = ap (said_below text) is ∙ by_fault p (events_in (length text) p.rest) fault bad
+
+  pub events_there : (p : Preamble) → preamble_in text ≡ Ok p → fault_of (events_in (length text) p.rest) ≡ None
+      → said_of_schedule text ≡ said_of_events (length text) (opening p.voters p.observers p.agents p.sheet p.issuer) p.rest
+  unfolding said_of_schedule
+  events_there p is well = ap (said_below text) is ∙ by_none p (events_in (length text) p.rest) well
+
+-- ---- a batch
+
+pub refused_batch : (sheet : model.Sheet) (issuer : model.Issuer) (lines : ℕ) (text : List ℕ) (why : Refusal) → journaled_in sheet issuer text ≡ Err why
+    → said_of_batch sheet issuer lines text ≡ said_at (lines + line_within sheet text why) why
+unfolding said_of_batch
+refused_batch sheet issuer lines text why is = ap (said_of_journaled sheet lines text) is
+
+pub taken_batch : (sheet : model.Sheet) (issuer : model.Issuer) (lines : ℕ) (text : List ℕ) (b : Batch) → journaled_in sheet issuer text ≡ Ok b
+    → said_of_batch sheet issuer lines text ≡ []
+unfolding said_of_batch
+taken_batch sheet issuer lines text b is = ap (said_of_journaled sheet lines text) is
+
+-- what stands above the batch is as long as the batch is not
+above : (text : List ℕ) (from : ℕ) → from ≤ length text → length text - length (drop from text) ≡ from
+above text from within = omega (arith, within, length-drop from text)
+
+pub rated_well : (text : List ℕ) (sheet : model.Sheet) (issuer : model.Issuer) (from : ℕ) → from ≤ length text
+    → rate_input_in text ≡ Ok (record { sheet = sheet; issuer = issuer; batch = drop from text })
+    → said_of_rating text ≡ said_of_batch sheet issuer (line_count (take from text)) (drop from text)
+unfolding said_of_rating
+rated_well text sheet issuer from within is =
+    ap (λ r. elim r [
+      | Ok given ↦ said_of_batch given.sheet given.issuer (line_count (take (length text - length given.batch) text)) given.batch
+      | Err fault ↦ said_of_fault text fault
+    ]) is
+    ∙ ap (λ k. said_of_batch sheet issuer (line_count (take k text)) (drop from text)) (above text from within)
+
+pub rated_badly : (text : List ℕ) (fault : ScheduleFault) → rate_input_in text ≡ Err fault → said_of_rating text ≡ said_of_fault text fault
+unfolding said_of_rating
+rated_badly text fault is =
+    ap (λ r. elim r [
+      | Ok given ↦ said_of_batch given.sheet given.issuer (line_count (take (length text - length given.batch) text)) given.batch
+      | Err fault ↦ said_of_fault text fault
+    ]) is
+
+-- ---- any input
+
+pub said_as_schedule : (text : List ℕ) → begins_with (codes "SCHEDULE") text ≡ true → said_of_input text ≡ said_of_schedule text
+unfolding said_of_input
+said_as_schedule text is = ap (λ b. cond b (said_of_schedule text) (said_of_rating text)) is
+
+pub said_as_rating : (text : List ℕ) → begins_with (codes "SCHEDULE") text ≡ false → said_of_input text ≡ said_of_rating text
+unfolding said_of_input
+said_as_rating text is = ap (λ b. cond b (said_of_schedule text) (said_of_rating text)) is
+
+too_long : (text : List ℕ) → 16_777_216 < length text → whole_of text ≡ Err (section.Refused codes_of.TooLong 1)
+too_long text long = ap (λ b. holds_or b (section.Refused codes_of.TooLong 1) >>= λ _. let u : Unread = record { text = text; from = 0; line = 1 } in Ok u) (too_few (length text) 16_777_216 long)
+
+-- of an input that is too long nothing else is said
+pub said_of_long : (text : List ℕ) → 16_777_216 < length text → said_of_input text ≡ codes "L8 line 1" ++ 10 ∷ []
+unfolding said_of_input said_of_schedule said_of_rating preamble_in group_in rate_input_in digits
+said_of_long text long = by_word (begins_with (codes "SCHEDULE") text)
+  where
+    preamble_too_long : whole_of text ≡ Err (section.Refused codes_of.TooLong 1) → preamble_in text ≡ Err (section.Refused codes_of.TooLong 1)
+    preamble_too_long is = step_err _ _ _ (step_err (whole_of text) _ _ is)
+
+    rating_too_long : whole_of text ≡ Err (section.Refused codes_of.TooLong 1) → said_of_rating text ≡ codes "L8 line 1" ++ 10 ∷ []
+    rating_too_long is = rated_badly text (section.Refused codes_of.TooLong 1) (step_err (whole_of text) _ _ is)
+
+    by_word : (b : Bool) → cond b (said_of_schedule text) (said_of_rating text) ≡ codes "L8 line 1" ++ 10 ∷ []
+    by_word true = ap (said_below text) (preamble_too_long (too_long text long))
+    by_word false = rating_too_long (too_long text long)
+
+unfoldable zeros : ℕ → List ℕ
+zeros zero = []
+zeros (suc n) = 0 ∷ zeros n
+
+length-zeros : (n : ℕ) → length (zeros n) ≡ n
+unfolding zeros
+length-zeros zero = refl
+length-zeros (suc n) = ap suc (length-zeros n)
+
+-- whatever was read, where it is known at all
+pub said_where_long : (known : Option (List ℕ)) → IfSome known (λ input. 16_777_216 < length input)
+    → (input : List ℕ) × IsSaidOf known input (codes "L8 line 1" ++ 10 ∷ [])
+said_where_long (Some input) long = (input, record { is_input = refl; is_said = sym (said_of_long input long) })
+said_where_long None long =
+    let input = zeros 16_777_217 in
+    (input, record { is_input = tt; is_said = sym (said_of_long input (omega (arith, length-zeros 16_777_217))) })
+
+-- ---- what holds of a call that ends well
+
+pub both_on_ok : {E P Q R : Type 0} (result : Result (Unit {0}) E) → (P → Q → R) → OnOk result P → OnOk result Q → OnOk result R
+both_on_ok (Ok done) f p q = f p q
+both_on_ok (Err fault) f p q = tt

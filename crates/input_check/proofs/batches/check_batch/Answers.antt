@@ -1,0 +1,27 @@
+use Rattle.std.proofs.Common.{◌≡◌, ◌++◌, List, ℕ, OnOk, Some, None, refl, sym, ap, subst, ◌∙◌, append-nil}
+use Rattle.metering_model.specs.declared.Refusal.TheVariants.{BadBatch}
+use Rattle.batch_player.proofs.JournaledLaws.{no_batch}
+use Rattle.input_check.proofs.SaidLaws.{refused_batch, taken_batch}
+use Rattle.input_check.proofs.batches.check_batch.Goals as goal
+
+pub returns-in-Err : goal.returns-in-Err
+returns-in-Err c = λ issuer.
+    let fault = c.in-Err.fault in
+    let text = c.args.text.now in
+    let said = sym (refused_batch c.args.sheet.now issuer c.args.lines text (BadBatch fault) (no_batch c.args.sheet.now issuer text fault c.in-Err.ensures.err)) in
+    subst (λ (t : List ℕ). OnOk c.put_at.result (c.put_at.new.told.items ≡ c.args.told.now.items ++ t)) said (rw c.from.ensures at c.put_at.ensures)
+
+pub returns-in-None : goal.returns-in-None
+returns-in-None c = λ issuer.
+    let told = c.args.told.now.items in
+    let taken = rw c.in-Ok.ensures.ok.0 at (c.in-None.ensures.journaled refl issuer) in
+    sym (ap (λ t. told ++ t) (taken_batch c.args.sheet.now issuer c.args.lines c.args.text.now _ taken) ∙ append-nil told)
+
+pub returns-in-Some : goal.returns-in-Some
+returns-in-Some c = λ issuer.
+    let why = c.in-Some.refusal in
+    let refused = rw c.in-Ok.ensures.ok.0 at (c.in-Some.ensures.refused why refl issuer) in
+    let within = rw c.in-Ok.ensures.ok.0 at c.line_within-within.ensures in
+    let said = sym (refused_batch c.args.sheet.now issuer c.args.lines c.args.text.now why refused) in
+    subst (λ (t : List ℕ). OnOk c.put_at-in-Some.result (c.put_at-in-Some.new.told.items ≡ c.args.told.now.items ++ t)) said
+    (rw within at (rw c.from-in-Some.ensures at c.put_at-in-Some.ensures))

@@ -1,0 +1,35 @@
+use Rattle.std.proofs.Common.{◌≡◌, ◌+◌, ◌-◌, ◌<◌, ◌≤◌, suc, length, sym, ap, ◌∙◌, arith}
+use Rattle.std.proofs.lemmas.Bool.Decides.{nat_tests}
+use Rattle.input_sections.specs.Sections.{left}
+use Rattle.input_check.proofs.SaidLaws.{said_all, said_at_end, said_more, said_whole}
+use Rattle.input_check.proofs.events.check_events.Goals as goal
+
+pub returns-then-is_empty : goal.returns-then-is_empty
+returns-then-is_empty c =
+    let k = c.args.most - (c.loop.counter + 1) in
+    let more : c.args.most - c.loop.counter ≡ suc k = omega (arith, c.loop-test.true) in
+    let same = ap length c.left.ensures in
+    let none : length (left c.loop.here) ≤ 0 = grind (arith, nat_tests, same, c.is_empty.ensures, c.if-is_empty.true) in
+    said_all c.loop.told.items k c.loop.world c.loop.here _ _ more none c.loop.invariant
+
+pub returns-in_default : goal.returns-in_default
+returns-in_default c =
+    let k = c.args.most - (c.loop.counter + 1) in
+    let more : c.args.most - c.loop.counter ≡ suc k = omega (arith, c.loop-test.true) in
+    let same = ap length c.left.ensures in
+    let some : 0 < length (left c.loop.here) = grind (arith, nat_tests, same, c.is_empty.ensures, c.if-is_empty.false) in
+    said_whole c.loop.told.items k c.loop.world c.loop.here _ _ _ more some c.in_default.ensures.event c.loop.invariant
+
+pub loop-preserved : goal.loop-preserved
+loop-preserved c =
+    let k = c.args.most - (c.loop.counter + 1) in
+    let more : c.args.most - c.loop.counter ≡ suc k = omega (arith, c.loop-test.true) in
+    let same = ap length c.left.ensures in
+    let some : 0 < length (left c.loop.here) = grind (arith, nat_tests, same, c.is_empty.ensures, c.if-is_empty.false) in
+    let said = rw c.line.ensures at c.in_ok-check_event.ensures.said in
+    said_more c.loop.told.items k c.loop.world c.loop.here _ _ _ _ _ _ more some c.in-Ok.ensures.event said c.in_ok-check_event.ensures.world c.loop.invariant
+
+pub returns : goal.returns
+returns c =
+    let none : c.args.most - c.loop.counter ≡ 0 = omega (arith, c.loop-test.false) in
+    said_at_end c.loop.told.items c.loop.world c.loop.here _ _ none c.loop.invariant

@@ -1,0 +1,8 @@
+use Rattle.input_check.proofs.RefusedLaws.{says_what_is_played, says_what_is_rated}
+use Rattle.input_check.proofs.laws.what_is_said_is_what_is_refused.Goals as goal
+
+pub returns-clause-rated : goal.returns-clause-rated
+returns-clause-rated c = says_what_is_rated
+
+pub returns-clause-played : goal.returns-clause-played
+returns-clause-played c = says_what_is_played

@@ -1,0 +1,166 @@
+-- What is said of an input: a line for each thing that is wrong with it, which names the line of the input; nothing where nothing is.
+use Rattle.std.specs.Prelude.{ℕ, zero, suc, ◌+◌, ◌-◌, nat_le, if◌then◌else◌, List, [], ◌∷◌, ◌++◌, length, take, Option, Some, None, Result, Ok, Err, IfSome, codes, ◌≡◌}
+use Rattle.std.specs.Str.{is_utf8}
+use Rattle.metering_model.specs.FirstFailure.{◌>>=◌, holds_or}
+use Rattle.metering_model.specs.Batch.{is_empty}
+use Rattle.metering_model.specs.declared.Refusal.{Refusal}
+use Rattle.metering_model.specs.declared.Refusal.TheVariants as refusal
+use Rattle.metering_model.specs.Holding.{Position, placed, put}
+use Rattle.metering_model.specs.Schedule.{Planned, event_of}
+use Rattle.metering_model.specs.Sheet as model
+use Rattle.metering_model.specs.Step.{step}
+use Rattle.metering_model.specs.Transcript.{line, line_count, refusal_text, reply_text, with_number}
+use Rattle.metering_model.specs.World.{World, Reply, Refused as IsRefused, opening}
+use Rattle.batch_view.specs.Batches.{batch_of}
+use Rattle.journal_rules.specs.FirstBad.{first_bad}
+use Rattle.price_sheet.specs.SheetReading.{sheet_of_text}
+use Rattle.sheet_text.specs.IssuerReading.{issuer_of_text}
+use Rattle.input_sections.specs.declared.faults.ScheduleCode.{ScheduleCode}
+use Rattle.input_sections.specs.declared.faults.ScheduleCode.TheVariants as code
+use Rattle.input_sections.specs.declared.faults.ScheduleFault.{ScheduleFault}
+use Rattle.input_sections.specs.declared.faults.ScheduleFault.TheVariants as section
+use Rattle.input_sections.specs.Sections.{Section, Unread, begins_with, left, lines_left, section_in, section_of, whole_of}
+use Rattle.input_sections.specs.RateInput.{rate_input_in}
+use Rattle.schedule_reader.specs.Schedules.{Preamble, ReadSchedule, event_in, events_in, preamble_in}
+use Rattle.schedule_player.specs.Transcripts.{replies_to}
+use Rattle.batch_player.specs.declared.faults.PlayFault.{PlayFault}
+use Rattle.batch_player.specs.declared.faults.PlayFault.TheVariants as play
+use Rattle.batch_player.specs.RateInput.{journaled_in}
+use Rattle.input_check.specs.Words.{issuer_fault_text, section_text, sheet_fault_text}
+
+-- ---- a section
+
+-- what is left of a text from a line on, counted from 1; the code where the text has fewer lines
+unfoldable pub from_line : ScheduleCode → ℕ → List ℕ → Result Unread ScheduleFault
+from_line code n text = do
+  u ← whole_of text
+  _ ← holds_or (nat_le (n - 1) (length (lines_left u))) (section.Refused code n)
+  Ok (section_of (n - 1) u).rest
+
+-- the text of the section that such a line opens
+abbrev pub text_of : Result Section ScheduleFault → Option (List ℕ)
+text_of (Ok s) = Some s.text
+text_of (Err fault) = None
+
+unfoldable pub section_on : ScheduleCode → List ℕ → ℕ → ℕ → List ℕ → Option (List ℕ)
+section_on code word most n text = text_of (from_line code n text >>= λ (u : Unread). section_in code word most u)
+
+-- what its reader says of it
+abbrev pub said_by : {A E : Type 0} → (E → List ℕ) → Result A E → List ℕ
+said_by words (Ok x) = []
+said_by words (Err fault) = codes ": " ++ words fault
+
+unfoldable pub said_of_text : {A E : Type 0} → (E → List ℕ) → (List ℕ → Result A E) → List ℕ → List ℕ
+said_of_text words reader text = if is_utf8 text then said_by words (reader text) else codes ": not UTF-8"
+
+abbrev pub said_of : {A E : Type 0} → (E → List ℕ) → (List ℕ → Result A E) → Option (List ℕ) → List ℕ
+said_of words reader (Some text) = said_of_text words reader text
+said_of words reader None = []
+
+-- of a section with a sheet or an issuer, which are the ones with readers of their own
+abbrev pub reason : List ℕ → ScheduleCode → ℕ → List ℕ
+reason text code.Sheet n = said_of sheet_fault_text sheet_of_text (section_on code.Sheet (codes "sheet ") 200_000 n text)
+reason text code.Issuer n = said_of issuer_fault_text issuer_of_text (section_on code.Issuer (codes "issuer ") 100 n text)
+reason text code.Head n = []
+reason text code.Nodes n = []
+reason text code.Agents n = []
+reason text code.Event n = []
+reason text code.Lines n = []
+reason text code.TooLong n = []
+
+-- the line of the fault that a text has as a schedule, or by its sections
+abbrev pub said_of_fault : List ℕ → ScheduleFault → List ℕ
+said_of_fault text (section.Refused code n) = line (section_text code n ++ reason text code n)
+said_of_fault text section.OutOfMemory = []
+
+-- ---- the events of a schedule
+
+-- of a reply to the event that begins on a line: that it is refused, where it is
+abbrev pub said_of_reply : ℕ → Reply → List ℕ
+said_of_reply n (IsRefused why) = with_number (codes "line ") n ++ codes ": " ++ reply_text (IsRefused why)
+said_of_reply n reply = []
+
+-- of the events that are left, played from a world on
+unfoldable pub said_of_events : ℕ → World → Unread → List ℕ
+said_of_events zero w u = []
+said_of_events (suc most) w u =
+    if is_empty (left u) then []
+    else elim (event_in u) [ Ok e ↦ said_of_reply u.line (step w (event_of e.0)).0 ++ said_of_events most (step w (event_of e.0)).1 e.1 | Err fault ↦ [] ]
+
+-- Where the events are some, each that is refused; else the first fault.
+abbrev pub said_behind : List ℕ → Preamble → Result (List Planned) ScheduleFault → List ℕ
+said_behind text p (Ok events) = said_of_events (length text) (opening p.voters p.observers p.agents p.sheet p.issuer) p.rest
+said_behind text p (Err fault) = said_of_fault text fault
+
+abbrev pub said_below : List ℕ → Result Preamble ScheduleFault → List ℕ
+said_below text (Ok p) = said_behind text p (events_in (length text) p.rest)
+said_below text (Err fault) = said_of_fault text fault
+
+unfoldable pub said_of_schedule : List ℕ → List ℕ
+said_of_schedule text = said_below text (preamble_in text)
+
+-- ---- the batch that is to be rated
+
+-- A batch's first line is its head, and below it stand its records.
+abbrev pub line_of : Option Position → ℕ
+line_of (Some place) = place.index + 2
+line_of None = 1
+
+-- on which line of its text a batch is refused
+abbrev pub line_within : model.Sheet → List ℕ → Refusal → ℕ
+line_within sheet text (refusal.BadBatch fault) = fault.line
+line_within sheet text refusal.BadTarget = line_of (first_bad sheet (put [] (batch_of text)) (placed (batch_of text)))
+line_within sheet text refusal.Unpriced = line_of (first_bad sheet (put [] (batch_of text)) (placed (batch_of text)))
+line_within sheet text other = 1
+
+-- that an input is refused at a line of it
+abbrev pub said_at : ℕ → Refusal → List ℕ
+said_at n why = line (with_number (codes "line ") n ++ codes ": " ++ refusal_text why)
+
+-- of a batch behind so many lines
+abbrev pub said_of_journaled : {A : Type 0} → model.Sheet → ℕ → List ℕ → Result A Refusal → List ℕ
+said_of_journaled sheet lines text (Ok b) = []
+said_of_journaled sheet lines text (Err why) = said_at (lines + line_within sheet text why) why
+
+unfoldable pub said_of_batch : model.Sheet → model.Issuer → ℕ → List ℕ → List ℕ
+said_of_batch sheet issuer lines text = said_of_journaled sheet lines text (journaled_in sheet issuer text)
+
+unfoldable pub said_of_rating : List ℕ → List ℕ
+said_of_rating text =
+    elim (rate_input_in text) [
+      | Ok given ↦ said_of_batch given.sheet given.issuer (line_count (take (length text - length given.batch) text)) given.batch
+      | Err fault ↦ said_of_fault text fault
+    ]
+
+-- ---- beside what is refused
+
+-- of replies to events that begin on these lines, each that refuses
+abbrev pub said_of_replies : List ℕ → List Reply → List ℕ
+said_of_replies [] replies = []
+said_of_replies (n ∷ ns) [] = []
+said_of_replies (n ∷ ns) (r ∷ rs) = said_of_reply n r ++ said_of_replies ns rs
+
+-- Where `rate` gives a file nothing is said, else just why it refuses, with a line of the input.
+abbrev pub SaysWhatIsRated : List ℕ → Result (List ℕ) PlayFault → List ℕ → Type 0
+SaysWhatIsRated text (Ok file) said = said ≡ []
+SaysWhatIsRated text (Err (play.Refused why)) said = (n : ℕ) × (said ≡ said_at n why)
+SaysWhatIsRated text (Err (play.Schedule fault)) said = said ≡ said_of_fault text fault
+SaysWhatIsRated text (Err play.Read) said = ⊥
+SaysWhatIsRated text (Err play.Write) said = ⊥
+SaysWhatIsRated text (Err play.OutOfMemory) said = ⊥
+
+-- Where the text is a schedule, just which of its group's replies refuse is said, with a line for each event; else its first fault.
+abbrev pub SaysWhatIsPlayed : List ℕ → Result ReadSchedule ScheduleFault → List ℕ → Type 0
+SaysWhatIsPlayed text (Ok s) said = (lines : List ℕ) × (length lines ≡ length s.events) × (said ≡ said_of_replies lines (replies_to s s.events))
+SaysWhatIsPlayed text (Err fault) said = said ≡ said_of_fault text fault
+
+-- ---- any input
+
+-- what `play` would read where it begins with this word, else what `rate` would read
+unfoldable pub said_of_input : List ℕ → List ℕ
+said_of_input text = if begins_with (codes "SCHEDULE") text then said_of_schedule text else said_of_rating text
+
+-- The text is what is said of an input, which is all that a reader gives where its bytes are known.
+pub record IsSaidOf (known : Option (List ℕ)) (input text : List ℕ) : Type 0 where
+  pub is_input : IfSome known (λ bytes. input ≡ bytes)
+  pub is_said : text ≡ said_of_input input

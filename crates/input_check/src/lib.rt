@@ -1,0 +1,13 @@
+//! What is wrong with an input, said line by line: what the reader of a section found, where a batch is refused, which events of
+//! a schedule are.
+#![tactic(auto)]
+
+mod batches;
+mod checks;
+mod events;
+pub mod laws;
+mod sections;
+mod words;
+
+pub use checks::{check_text, put_faults};
+pub use words::put_section;
