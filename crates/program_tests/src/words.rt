@@ -83,6 +83,8 @@ file
 file --period 1200
 file --period 0 --period 0
 file rate --period 0
+check --period 0
+check play
 rate --period 0 file
 --version
 help
@@ -95,7 +97,9 @@ threads
 ";
 
 #[test]
-fn other_words_ask_for_nothing(rt: HostRuntime) -> Result<(), Fail> {
+fn check_has_no_words_and_others_ask_for_nothing(rt: HostRuntime) -> Result<(), Fail> {
+    let other = first_other(rt.alloc(), "check", Ok(Command::Check))?;
+    assert_eq!(rt; other, None);
     let other = first_other(rt.alloc(), NOTHING, Err(LineFault::Line))?;
     assert_eq!(rt; other, None);
     Ok(())
