@@ -77,7 +77,7 @@ const ELEVEN: &[u8] =
 
 const AMENDMENT_OF_FIVE: &[u8] = b"B2|1|2|1\nX|1|0|7200|eu-1\n";
 
-const AMENDMENT_OF_TEN: &[u8] = b"B2|1|2|1\nX|1|0|7200|||||||eu-1\n";
+const AMENDMENT_OF_TEN: &[u8] = b"B2|1|2|1\nX|1|0|7200||||||eu-1\n";
 
 /// A tab in the region, and with it tags that are none, or an end before the start.
 const TAB: &[u8] = b"B2|1|1|1\nC|2025-01-10T00:00:00Z|2025-01-10T02:00:00Z|||Gift|-1|||eu\t1\n";

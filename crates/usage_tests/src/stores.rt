@@ -81,6 +81,31 @@ fn cut_again(alloc: Global, seq: u32) -> Result<Cut, AllocError> {
     }
 }
 
+/// Whether a cut's line is written and read as it, each again where the first call finds no memory.
+fn is_read_back(alloc: Global, seq: u32, line: &[u8]) -> Result<bool, AllocError> {
+    let cut = cut_again(alloc, seq)?;
+    let text = match cut.write(alloc) {
+        Ok(text) => text,
+        Err(_) => cut.write(alloc)?,
+    };
+    let read = match Cut::read(alloc, line, 1) {
+        Ok(read) => read,
+        Err(_) => Cut::read(alloc, line, 1)?,
+    };
+    let is_same = match read {
+        Some(read) => read.same(&cut),
+        None => false,
+    };
+    Ok(is_same && text.as_slice() == line)
+}
+
+#[test]
+fn a_refused_growth_of_a_cuts_line_changes_nothing(rt: HostRuntime) -> Result<(), Fail> {
+    assert!(rt; is_read_back(rt.alloc(), 0, b"0")?);
+    assert!(rt; is_read_back(rt.alloc(), 1_000_000, b"1000000")?);
+    Ok(())
+}
+
 /// Whether a part is shared up to the batch behind the gap, asked for again where the first call finds no memory.
 fn shares_again(store: &Store, alloc: Global) -> Result<bool, Fail> {
     let five = cut_again(alloc, 5)?;
