@@ -15,75 +15,82 @@ use Rattle.input_sections.specs.declared.faults.ScheduleFault.{ScheduleFault}
 use Rattle.schedule_reader.specs.Schedules.{Preamble, ReadSchedule, event_in, events_in, preamble_in, schedule_in}
 use Rattle.schedule_reader.proofs.PreambleLaws.{behind, by_preamble}
 use Rattle.batch_player.specs.RateInput.{journaled_in, or_refused, or_schedule, rated_file, rows_alone}
-use Rattle.input_check.specs.Checks.{SaysWhatIsPlayed, SaysWhatIsRated, line_within, said_below, said_behind, said_of_batch, said_of_events, said_of_fault, said_of_input, said_of_journaled, said_of_rating, said_of_replies, said_of_reply, said_of_schedule}
+use Rattle.input_check.specs.Checks.{SaysWhatIsPlayed, SaysWhatIsRated, event_lines, line_of_refusal, line_within, lines_of_events, said_at, said_below, said_behind, said_of_batch, said_of_events, said_of_fault, said_of_input, said_of_journaled, said_of_rating, said_of_replies, said_of_reply, said_of_schedule}
 use Rattle.input_check.proofs.SaidLaws.{said_as_rating, said_as_schedule}
 
 -- ---- what is to be rated
 
 rated : (period : ℕ) (text : List ℕ) → SaysWhatIsRated text (rated_file period text) (said_of_rating text)
-unfolding rated_file said_of_rating said_of_batch
-rated period text = by_input (rate_input_in text)
+unfolding rated_file said_of_rating said_of_batch line_of_refusal
+rated period text = by_input (rate_input_in text) refl
   where
-    by_batch : (given : RateInput) (lines : ℕ) (r : Result Batch Refusal)
-        → SaysWhatIsRated text (or_refused (r >>= λ (b : Batch). Ok (file (rows_alone given.sheet given.issuer b period)))) (said_of_journaled given.sheet lines given.batch r)
-    by_batch given lines (Ok b) = refl
-    by_batch given lines (Err why) = (lines + line_within given.sheet given.batch why, refl)
+    lines_above : RateInput → ℕ
+    lines_above given = line_count (take (length text - length given.batch) text)
 
-    by_input : (r : Result RateInput ScheduleFault)
+    by_batch : (given : RateInput) → rate_input_in text ≡ Ok given → (r : Result Batch Refusal)
+        → SaysWhatIsRated text (or_refused (r >>= λ (b : Batch). Ok (file (rows_alone given.sheet given.issuer b period)))) (said_of_journaled given.sheet (lines_above given) given.batch r)
+    by_batch given is (Ok b) = refl
+    by_batch given is (Err why) = ap (λ n. said_at n why) (sym (ap (λ r. elim r [
+      | Ok has ↦ line_count (take (length text - length has.batch) text) + line_within has.sheet has.batch why
+      | Err fault ↦ 0
+    ]) is))
+
+    by_input : (r : Result RateInput ScheduleFault) → rate_input_in text ≡ r
         → SaysWhatIsRated text (or_schedule r >>= λ (given : RateInput). or_refused (journaled_in given.sheet given.issuer given.batch >>= λ (b : Batch). Ok (file (rows_alone given.sheet given.issuer b period))))
         (elim r [
           | Ok given ↦ said_of_batch given.sheet given.issuer (line_count (take (length text - length given.batch) text)) given.batch
           | Err fault ↦ said_of_fault text fault
         ])
-    by_input (Ok given) = by_batch given (line_count (take (length text - length given.batch) text)) (journaled_in given.sheet given.issuer given.batch)
-    by_input (Err fault) = refl
+    by_input (Ok given) is = by_batch given is (journaled_in given.sheet given.issuer given.batch)
+    by_input (Err fault) is = refl
 
 pub says_what_is_rated : (period : ℕ) (text : List ℕ) → begins_with (codes "SCHEDULE") text ≡ false → SaysWhatIsRated text (rated_file period text) (said_of_input text)
 says_what_is_rated period text is = subst (SaysWhatIsRated text (rated_file period text)) (sym (said_as_rating text is)) (rated period text)
 
 -- ---- what is to be played
 
--- just which replies to these events refuse is said, with a line for each of them
-record IsSaidOfAll (w : World) (es : List Planned) (said : List ℕ) : Type 0 where
-  pub lines : List ℕ
+-- just which replies to these events refuse is said, each by its line
+record IsSaidOfAll (w : World) (es : List Planned) (lines said : List ℕ) : Type 0 where
   pub each : length lines ≡ length es
   pub is : said ≡ said_of_replies lines (play w (map event_of es)).0
 
-all_said : (most : ℕ) (w : World) (u : Unread) (es : List Planned) → events_in most u ≡ Ok es → IsSaidOfAll w es (said_of_events most w u)
-unfolding events_in said_of_events
-all_said zero w u es h = subst (λ xs. IsSaidOfAll w xs []) (ok_same _ _ h) (record { lines = []; each = refl; is = refl })
+all_said : (most : ℕ) (w : World) (u : Unread) (es : List Planned) → events_in most u ≡ Ok es → IsSaidOfAll w es (lines_of_events most u) (said_of_events most w u)
+unfolding events_in said_of_events lines_of_events
+all_said zero w u es h = subst (λ xs. IsSaidOfAll w xs [] []) (ok_same _ _ h) (record { each = refl; is = refl })
 all_said (suc most) w u es h = by_test (λ v x xs is. all_said most v x xs is) (is_empty (left u)) (event_in u) h
   where
-    by_test : ((v : World) (x : Unread) (xs : List Planned) → events_in most x ≡ Ok xs → IsSaidOfAll v xs (said_of_events most v x)) → (b : Bool) (r : Result (Planned × Unread) ScheduleFault)
+    by_test : ((v : World) (x : Unread) (xs : List Planned) → events_in most x ≡ Ok xs → IsSaidOfAll v xs (lines_of_events most x) (said_of_events most v x)) → (b : Bool) (r : Result (Planned × Unread) ScheduleFault)
         → cond b (Ok []) (r >>= λ (e : Planned × Unread). events_in most e.1 >>= λ (rest : List Planned). Ok (e.0 ∷ rest)) ≡ Ok es
-        → IsSaidOfAll w es (cond b [] (elim r [ Ok e ↦ said_of_reply u.line (step w (event_of e.0)).0 ++ said_of_events most (step w (event_of e.0)).1 e.1 | Err fault ↦ [] ]))
-    by_test behind_it true r k = subst (λ xs. IsSaidOfAll w xs []) (ok_same _ _ k) (record { lines = []; each = refl; is = refl })
+        → IsSaidOfAll w es (cond b [] (elim r [ Ok e ↦ u.line ∷ lines_of_events most e.1 | Err fault ↦ [] ]))
+        (cond b [] (elim r [ Ok e ↦ said_of_reply u.line (step w (event_of e.0)).0 ++ said_of_events most (step w (event_of e.0)).1 e.1 | Err fault ↦ [] ]))
+    by_test behind_it true r k = subst (λ xs. IsSaidOfAll w xs [] []) (ok_same _ _ k) (record { each = refl; is = refl })
     by_test behind_it false (Err fault) k = absurd (cc)
     by_test behind_it false (Ok e) k =
         let rest = step_ok (events_in most e.1) (λ (more : List Planned). Ok (e.0 ∷ more)) es k in
         let next = (step w (event_of e.0)).1 in
+        let said = said_of_reply u.line (step w (event_of e.0)).0 ++ said_of_events most next e.1 in
         let more = behind_it next e.1 rest.0 rest.1 in
-        let all : IsSaidOfAll w (e.0 ∷ rest.0) (said_of_reply u.line (step w (event_of e.0)).0 ++ said_of_events most next e.1) = record {
-          lines = u.line ∷ more.lines;
+        let all : IsSaidOfAll w (e.0 ∷ rest.0) (u.line ∷ lines_of_events most e.1) said = record {
           each = ap suc more.each;
           is = ap (λ t. said_of_reply u.line (step w (event_of e.0)).0 ++ t) more.is;
         } in
-        subst (λ xs. IsSaidOfAll w xs (said_of_reply u.line (step w (event_of e.0)).0 ++ said_of_events most next e.1)) (ok_same _ _ rest.2) all
+        subst (λ xs. IsSaidOfAll w xs (u.line ∷ lines_of_events most e.1) said) (ok_same _ _ rest.2) all
 
 played : (text : List ℕ) → SaysWhatIsPlayed text (schedule_in text) (said_of_schedule text)
-unfolding said_of_schedule
-played text = subst (λ r. SaysWhatIsPlayed text r (said_below text (preamble_in text))) (sym (by_preamble text)) (below (preamble_in text))
+unfolding said_of_schedule event_lines
+played text = subst (λ r. SaysWhatIsPlayed text r (said_below text (preamble_in text))) (sym (by_preamble text)) (below (preamble_in text) refl)
   where
-    by_events : (p : Preamble) (r : Result (List Planned) ScheduleFault) → events_in (length text) p.rest ≡ r
+    by_events : (p : Preamble) → preamble_in text ≡ Ok p → (r : Result (List Planned) ScheduleFault) → events_in (length text) p.rest ≡ r
         → SaysWhatIsPlayed text (r >>= λ (events : List Planned). Ok (record { voters = p.voters; observers = p.observers; agents = p.agents; sheet = p.sheet; issuer = p.issuer; events = events })) (said_behind text p r)
-    by_events p (Ok events) is =
+    by_events p above (Ok events) is =
         let all = all_said (length text) (opening p.voters p.observers p.agents p.sheet p.issuer) p.rest events is in
-        (all.lines, all.each, all.is)
-    by_events p (Err fault) is = refl
+        let lines : lines_of_events (length text) p.rest ≡ event_lines text = sym (ap (λ r. elim r [ Ok q ↦ lines_of_events (length text) q.rest | Err fault ↦ [] ]) above) in
+        subst (λ ls. (length ls ≡ length events) × (said_behind text p (Ok events) ≡ said_of_replies ls (play (opening p.voters p.observers p.agents p.sheet p.issuer) (map event_of events)).0)) lines (all.each, all.is)
+    by_events p above (Err fault) is = refl
 
-    below : (r : Result Preamble ScheduleFault) → SaysWhatIsPlayed text (r >>= behind text) (said_below text r)
-    below (Ok p) = by_events p (events_in (length text) p.rest) refl
-    below (Err fault) = refl
+    below : (r : Result Preamble ScheduleFault) → preamble_in text ≡ r → SaysWhatIsPlayed text (r >>= behind text) (said_below text r)
+    below (Ok p) above = by_events p above (events_in (length text) p.rest) refl
+    below (Err fault) above = refl
 
 pub says_what_is_played : (text : List ℕ) → begins_with (codes "SCHEDULE") text ≡ true → SaysWhatIsPlayed text (schedule_in text) (said_of_input text)
 says_what_is_played text is = subst (SaysWhatIsPlayed text (schedule_in text)) (sym (said_as_schedule text is)) (played text)

@@ -140,18 +140,36 @@ said_of_replies [] replies = []
 said_of_replies (n ∷ ns) [] = []
 said_of_replies (n ∷ ns) (r ∷ rs) = said_of_reply n r ++ said_of_replies ns rs
 
--- Where `rate` gives a file nothing is said, else just why it refuses, with a line of the input.
+-- on which line of a text that is to be rated its batch is refused
+unfoldable pub line_of_refusal : List ℕ → Refusal → ℕ
+line_of_refusal text why =
+    elim (rate_input_in text) [
+      | Ok given ↦ line_count (take (length text - length given.batch) text) + line_within given.sheet given.batch why
+      | Err fault ↦ 0
+    ]
+
+-- on which line each of the events that are left begins
+unfoldable pub lines_of_events : ℕ → Unread → List ℕ
+lines_of_events zero u = []
+lines_of_events (suc most) u =
+    if is_empty (left u) then []
+    else elim (event_in u) [ Ok e ↦ u.line ∷ lines_of_events most e.1 | Err fault ↦ [] ]
+
+unfoldable pub event_lines : List ℕ → List ℕ
+event_lines text = elim (preamble_in text) [ Ok p ↦ lines_of_events (length text) p.rest | Err fault ↦ [] ]
+
+-- Where `rate` gives a file nothing is said, else just why it refuses, with its line of the input.
 abbrev pub SaysWhatIsRated : List ℕ → Result (List ℕ) PlayFault → List ℕ → Type 0
 SaysWhatIsRated text (Ok file) said = said ≡ []
-SaysWhatIsRated text (Err (play.Refused why)) said = (n : ℕ) × (said ≡ said_at n why)
+SaysWhatIsRated text (Err (play.Refused why)) said = said ≡ said_at (line_of_refusal text why) why
 SaysWhatIsRated text (Err (play.Schedule fault)) said = said ≡ said_of_fault text fault
 SaysWhatIsRated text (Err play.Read) said = ⊥
 SaysWhatIsRated text (Err play.Write) said = ⊥
 SaysWhatIsRated text (Err play.OutOfMemory) said = ⊥
 
--- Where the text is a schedule, just which of its group's replies refuse is said, with a line for each event; else its first fault.
+-- Where the text is a schedule, just which of its group's replies refuse is said, each by the line of its event; else its first fault.
 abbrev pub SaysWhatIsPlayed : List ℕ → Result ReadSchedule ScheduleFault → List ℕ → Type 0
-SaysWhatIsPlayed text (Ok s) said = (lines : List ℕ) × (length lines ≡ length s.events) × (said ≡ said_of_replies lines (replies_to s s.events))
+SaysWhatIsPlayed text (Ok s) said = (length (event_lines text) ≡ length s.events) × (said ≡ said_of_replies (event_lines text) (replies_to s s.events))
 SaysWhatIsPlayed text (Err fault) said = said ≡ said_of_fault text fault
 
 -- ---- any input

@@ -68,7 +68,7 @@ fn write_faults<W: Sink>(alloc: Global, input: &[u8], writer: &mut W) -> Result<
 /// Reads what `play` or `rate` would read, and writes what is wrong with it: a line for each thing. It answers how many lines
 /// these are.
 ///
-/// At most 16,777,217 bytes are read, and all of them before anything is written. After `Write` a prefix of the lines was
+/// At most 16,777,217 bytes are read. After `Write` a prefix of the lines was
 /// written, and after any other fault nothing. Neither `Schedule` nor `Refused` is ever answered.
 pub fn check_text<R: Source, W: Sink>(
     alloc: Global,
