@@ -145,12 +145,12 @@ silent known old new count said zero =
 
 -- something is wrong, and the lines that say so were written
 pub says : {W : Type 0} (sink : SinkOf W) (count : ℕ) (known : Option (List ℕ)) (reads reads' : ℕ) (writer writer' : W)
-    → reads' ≡ reads → sink.failed_calls writer' ≡ sink.failed_calls writer
+    → count ≢ 0 → reads' ≡ reads → sink.failed_calls writer' ≡ sink.failed_calls writer
     → (input text : List ℕ) × IsSaidOf known input text × Appends (sink.contents writer) (sink.contents writer') text × (count ≡ line_count text)
     → ComesTo sink Check (Faults count) known reads reads' writer writer'
-says sink count known reads reads' writer writer' read wrote said = record {
+says sink count known reads reads' writer writer' some read wrote said = record {
   understood = λ two. absurd (omega (arith, two));
-  refused = λ one. ((said.0, said.1, said.2, ap Faults said.4), (said.0, said.1, said.2, said.3));
+  refused = λ one. ((said.0, said.1, said.2, (λ none. some (said.4 ∙ ap line_count none)), ap Faults said.4), (said.0, said.1, said.2, said.3));
   device = λ three. absurd (omega (arith, three));
   calm = λ other. (read, wrote);
   unwritten = λ not_3 not_4. inr (refl, (said.0, said.1, said.2, said.3));

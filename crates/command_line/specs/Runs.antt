@@ -61,7 +61,7 @@ IsDone (Threads size) known left old new = (run : Run) × IsRunOf size run × Ap
 abbrev pub Refuses : Command → Option (List ℕ) → Fault → Type 0
 Refuses (Rate period) known fault = (told : PlayFault) × (fault ≡ of_fault.Play told) × IfSome known (λ input. rated_file period input ≡ Err told)
 Refuses Play known fault = (told : ScheduleFault) × (fault ≡ of_fault.Play (play.Schedule told)) × IfSome known (λ input. schedule_in input ≡ Err told)
-Refuses Check known fault = (input text : List ℕ) × IsSaidOf known input text × (fault ≡ of_fault.Faults (line_count text))
+Refuses Check known fault = (input text : List ℕ) × IsSaidOf known input text × (text ≢ []) × (fault ≡ of_fault.Faults (line_count text))
 Refuses (File period) known fault = (told : FileFault) × (fault ≡ of_fault.File told) × IfSome known (λ input. file_in period input ≡ Err told)
 Refuses (Threads size) known fault = (fault ≡ of_fault.Threads (threads.Run of_run.Mismatch)) ⊎ ((fault ≡ of_fault.Threads threads.Refused) × IsSheetRefused)
 
