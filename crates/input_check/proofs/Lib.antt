@@ -1,3 +1,4 @@
 pub mod SaidLaws
 pub mod LineLaws
+pub mod NeverWants
 pub mod RefusedLaws

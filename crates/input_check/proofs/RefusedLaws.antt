@@ -12,10 +12,12 @@ use Rattle.metering_model.proofs.StepLaws.{ok_same, step_ok}
 use Rattle.input_sections.specs.RateInput.{RateInput, rate_input_in}
 use Rattle.input_sections.specs.Sections.{Unread, begins_with, left}
 use Rattle.input_sections.specs.declared.faults.ScheduleFault.{ScheduleFault}
+use Rattle.input_sections.specs.declared.faults.ScheduleFault.TheVariants as section
 use Rattle.schedule_reader.specs.Schedules.{Preamble, ReadSchedule, event_in, events_in, preamble_in, schedule_in}
 use Rattle.schedule_reader.proofs.PreambleLaws.{behind, by_preamble}
 use Rattle.batch_player.specs.RateInput.{journaled_in, or_refused, or_schedule, rated_file, rows_alone}
 use Rattle.input_check.specs.Checks.{SaysWhatIsPlayed, SaysWhatIsRated, event_lines, line_of_refusal, line_within, lines_of_events, said_at, said_below, said_behind, said_of_batch, said_of_events, said_of_fault, said_of_input, said_of_journaled, said_of_rating, said_of_replies, said_of_reply, said_of_schedule}
+use Rattle.input_check.proofs.NeverWants.{NeverWants, a_preamble, a_rating, some_events}
 use Rattle.input_check.proofs.SaidLaws.{said_as_rating, said_as_schedule}
 
 -- ---- what is to be rated
@@ -42,7 +44,8 @@ rated period text = by_input (rate_input_in text) refl
           | Err fault ↦ said_of_fault text fault
         ])
     by_input (Ok given) is = by_batch given is (journaled_in given.sheet given.issuer given.batch)
-    by_input (Err fault) is = refl
+    by_input (Err (section.Refused code n)) is = refl
+    by_input (Err section.OutOfMemory) is = absurd (subst NeverWants is (a_rating text))
 
 pub says_what_is_rated : (period : ℕ) (text : List ℕ) → begins_with (codes "SCHEDULE") text ≡ false → SaysWhatIsRated text (rated_file period text) (said_of_input text)
 says_what_is_rated period text is = subst (SaysWhatIsRated text (rated_file period text)) (sym (said_as_rating text is)) (rated period text)
@@ -86,11 +89,13 @@ played text = subst (λ r. SaysWhatIsPlayed text r (said_below text (preamble_in
         let all = all_said (length text) (opening p.voters p.observers p.agents p.sheet p.issuer) p.rest events is in
         let lines : lines_of_events (length text) p.rest ≡ event_lines text = sym (ap (λ r. elim r [ Ok q ↦ lines_of_events (length text) q.rest | Err fault ↦ [] ]) above) in
         subst (λ ls. (length ls ≡ length events) × (said_behind text p (Ok events) ≡ said_of_replies ls (play (opening p.voters p.observers p.agents p.sheet p.issuer) (map event_of events)).0)) lines (all.each, all.is)
-    by_events p above (Err fault) is = refl
+    by_events p above (Err (section.Refused code n)) is = refl
+    by_events p above (Err section.OutOfMemory) is = absurd (subst NeverWants is (some_events (length text) p.rest))
 
     below : (r : Result Preamble ScheduleFault) → preamble_in text ≡ r → SaysWhatIsPlayed text (r >>= behind text) (said_below text r)
     below (Ok p) above = by_events p above (events_in (length text) p.rest) refl
-    below (Err fault) above = refl
+    below (Err (section.Refused code n)) above = refl
+    below (Err section.OutOfMemory) above = absurd (subst NeverWants above (a_preamble text))
 
 pub says_what_is_played : (text : List ℕ) → begins_with (codes "SCHEDULE") text ≡ true → SaysWhatIsPlayed text (schedule_in text) (said_of_input text)
 says_what_is_played text is = subst (SaysWhatIsPlayed text (schedule_in text)) (sym (said_as_schedule text is)) (played text)

@@ -162,7 +162,8 @@ event_lines text = elim (preamble_in text) [ Ok p ↦ lines_of_events (length te
 abbrev pub SaysWhatIsRated : List ℕ → Result (List ℕ) PlayFault → List ℕ → Type 0
 SaysWhatIsRated text (Ok file) said = said ≡ []
 SaysWhatIsRated text (Err (play.Refused why)) said = said ≡ said_at (line_of_refusal text why) why
-SaysWhatIsRated text (Err (play.Schedule fault)) said = said ≡ said_of_fault text fault
+SaysWhatIsRated text (Err (play.Schedule (section.Refused code n))) said = said ≡ line (section_text code n ++ reason text code n)
+SaysWhatIsRated text (Err (play.Schedule section.OutOfMemory)) said = ⊥
 SaysWhatIsRated text (Err play.Read) said = ⊥
 SaysWhatIsRated text (Err play.Write) said = ⊥
 SaysWhatIsRated text (Err play.OutOfMemory) said = ⊥
@@ -170,7 +171,8 @@ SaysWhatIsRated text (Err play.OutOfMemory) said = ⊥
 -- Where the text is a schedule, just which of its group's replies refuse is said, each by the line of its event; else its first fault.
 abbrev pub SaysWhatIsPlayed : List ℕ → Result ReadSchedule ScheduleFault → List ℕ → Type 0
 SaysWhatIsPlayed text (Ok s) said = (length (event_lines text) ≡ length s.events) × (said ≡ said_of_replies (event_lines text) (replies_to s s.events))
-SaysWhatIsPlayed text (Err fault) said = said ≡ said_of_fault text fault
+SaysWhatIsPlayed text (Err (section.Refused code n)) said = said ≡ line (section_text code n ++ reason text code n)
+SaysWhatIsPlayed text (Err section.OutOfMemory) said = ⊥
 
 -- ---- any input
 
