@@ -21,7 +21,7 @@ use std::alloc::{AllocError, Global};
 
 /// Appends what is wrong with an input: a line for each thing, or nothing. A text that begins with `SCHEDULE` is taken for a
 /// schedule, any other for what is to be rated.
-pub fn put_faults(alloc: Global, text: &[u8], told: &mut Vec<u8>) -> Result<(), AllocError>
+fn put_faults(alloc: Global, text: &[u8], told: &mut Vec<u8>) -> Result<(), AllocError>
     ensures { OnOk result (told.new.items ≡ told.old.items ++ said_of_input text.now) }
 {
     match behind_word(text, b"SCHEDULE") {
@@ -68,8 +68,8 @@ fn write_faults<W: Sink>(alloc: Global, input: &[u8], writer: &mut W) -> Result<
 /// Reads what `play` or `rate` would read, and writes what is wrong with it: a line for each thing. It answers how many lines
 /// these are.
 ///
-/// At most 16,777,217 bytes are read. After `Write` a prefix of the lines was
-/// written, and after any other fault nothing. Neither `Schedule` nor `Refused` is ever answered.
+/// At most 16,777,217 bytes are read. After `Write` a prefix of the lines was written, and after any other fault nothing.
+/// Neither `Schedule` nor `Refused` is ever answered.
 pub fn check_text<R: Source, W: Sink>(
     alloc: Global,
     reader: &mut R,

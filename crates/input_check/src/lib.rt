@@ -9,5 +9,5 @@ pub mod laws;
 mod sections;
 mod words;
 
-pub use checks::{check_text, put_faults};
+pub use checks::check_text;
 pub use words::put_section;
