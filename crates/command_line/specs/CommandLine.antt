@@ -34,14 +34,11 @@ threads_grammar = with_rule (with_rule group_grammar (number_option (codes "batc
 abbrev pub bare_grammar : App
 bare_grammar = let a = new_app (codes "focusd") in record a { top = record a.top { no_binary_name = true; subcommand_required = true } }
 
--- no option at all
-abbrev pub plain_grammar : Text → App
-plain_grammar name = new_app name
-
+-- `play` and `check` have no option at all.
 abbrev pub grammar_of_focusd : App
 grammar_of_focusd =
     with_subcommand (with_subcommand (with_subcommand (with_subcommand (with_subcommand bare_grammar (period_grammar (codes "rate")).top)
-    (plain_grammar (codes "play")).top) (plain_grammar (codes "check")).top) (period_grammar (codes "file")).top) threads_grammar.top
+    (new_app (codes "play")).top) (new_app (codes "check")).top) (period_grammar (codes "file")).top) threads_grammar.top
 
 -- The text is digits, perhaps behind a plus, and they make the number.
 abbrev pub SpellsNumber : Text → ℕ → Type 0

@@ -47,8 +47,8 @@ AsksFor (Ok args) command = Asks (words_behind_name args) command
 AsksFor (Err error) command = ⊥
 
 -- What was asked for was done, and nothing else: the file of the input was written, or the transcript of the schedule that
--- the input is, or nothing is said of the input and nothing was written, or the first file of the period in the input, and nothing remains to be read; or the report of a run of such a
--- group was written.
+-- the input is, or nothing is said of the input and nothing was written, or the first file of the period in the input, and
+-- nothing remains to be read; or the report of a run of such a group was written.
 abbrev pub IsDone : Command → (known left old new : Option (List ℕ)) → Type 0
 IsDone (Rate period) known left old new = ((input text : List ℕ) × IsFileOf known period input text × Appends old new text) × IsAtEnd left
 IsDone Play known left old new = ((input text : List ℕ) × IsTranscriptOf known input text × Appends old new text) × IsAtEnd left
@@ -69,8 +69,8 @@ Refuses (Threads size) known fault = (fault ≡ of_fault.Threads (threads.Run of
 abbrev pub SaysOf : (known old new : Option (List ℕ)) → Type 0
 SaysOf known old new = (input text : List ℕ) × IsSaidOf known input text × Appends old new text
 
--- What `check` and `file` leave where they refuse. `check` leaves what it says; without a file nothing, of a torn one all that the input has, and of an input that is
--- too long a front of the file. The others leave nothing at all.
+-- What `check` and `file` leave where they refuse. `check` leaves what it says; without a file nothing, of a torn one all that
+-- the input has, and of an input that is too long a front of the file. The others leave nothing at all.
 abbrev pub IsLeftBy : {W : Type 0} → SinkOf W → Command → Fault → (known : Option (List ℕ)) (writer writer' : W) → Type 0
 IsLeftBy sink Check fault known writer writer' = SaysOf known (sink.contents writer) (sink.contents writer')
 IsLeftBy sink (File period) (of_fault.File file.NoFile) known writer writer' = writer' ≡ writer
