@@ -34,7 +34,7 @@ pub(crate) struct LinePieces {
 }
 
 /// How many pieces stand behind the first number.
-const PIECES: usize = 17;
+const PIECES: usize = 18;
 
 impl LinePieces {
     /// Pieces of no row, all of them empty.
@@ -60,13 +60,22 @@ impl LinePieces {
         self.are_held = false;
     }
 
-    /// Makes the piece of the tags.
-    fn set_tags(&mut self, row: &FocusRow<'_>) -> Result<(), AllocError>
+    /// Makes the piece of the tags. One that is held is of the tags before, and stays where the text of these is the same.
+    fn set_tags(
+        &mut self,
+        is_held: bool,
+        before: &FocusRow<'_>,
+        row: &FocusRow<'_>,
+    ) -> Result<(), AllocError>
+        requires { IsTrue is_held → self.old.tags.items ≡ behind (json_object (model_row before.now).tags ∷ []) }
         ensures tags { OnOk result (self.new.tags.items ≡ behind (json_object (model_row row.now).tags ∷ [])) }
         ensures numbers { self.new.numbers ≡ self.old.numbers }
         ensures texts { self.new.texts ≡ self.old.texts }
         ensures held { self.new.are_held ≡ self.old.are_held }
     {
+        if is_held && before.tags.text() == row.tags.text() {
+            return Ok(());
+        }
         if set_plain_tags(&mut self.tags, row.tags)? {
             return Ok(());
         }
@@ -89,7 +98,7 @@ impl LinePieces {
         self.are_held = false;
         self.numbers.set(are_held, before, row)?;
         self.texts.set(&mut self.odd, are_held, before, row)?;
-        self.set_tags(row)?;
+        self.set_tags(are_held, before, row)?;
         self.are_held = true;
         Ok(())
     }
@@ -112,6 +121,7 @@ impl LinePieces {
             self.texts.category.as_slice(),
             self.numbers.pricing_quantity.as_bytes(),
             self.texts.pricing.as_slice(),
+            self.texts.region.as_slice(),
             self.texts.resource.as_slice(),
             self.texts.service.as_slice(),
             self.texts.account.as_slice(),

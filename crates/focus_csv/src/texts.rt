@@ -4,7 +4,7 @@ ghost use Rattle.std.specs.Prelude.{◌≡◌, [], map, IsTrue, OnOk};
 ghost use Rattle.std.specs.Option.{option_copied};
 ghost use Rattle.metering_model.specs.File.{text_or_null};
 ghost use Rattle.focus_row.specs.Rows.{model_row};
-ghost use Rattle.focus_csv.specs.Inner.Runs.{behind, head_columns, moment_columns, unit_columns, issuer_columns, category_columns, pricing_columns, resource_columns, service_columns, account_columns};
+ghost use Rattle.focus_csv.specs.Inner.Runs.{behind, head_columns, moment_columns, unit_columns, issuer_columns, category_columns, pricing_columns, region_columns, resource_columns, service_columns, account_columns};
 ghost use Rattle.focus_csv.specs.Inner.Pieces.{AreTextsOf, text_bytes};
 
 use crate::fields::set_piece;
@@ -21,6 +21,7 @@ pub(crate) struct TextPieces {
     pub(crate) issuer: Vec<u8>,
     pub(crate) category: Vec<u8>,
     pub(crate) pricing: Vec<u8>,
+    pub(crate) region: Vec<u8>,
     pub(crate) resource: Vec<u8>,
     pub(crate) service: Vec<u8>,
     pub(crate) account: Vec<u8>,
@@ -91,18 +92,23 @@ fn category<'a>(row: &'a FocusRow<'a>) -> [&'a [u8]; 1]
     [text_or_null(row.pricing_category)]
 }
 
-/// In which unit it is priced, who sells it, and in which region it was.
+/// In which unit it is priced, and who sells it.
 #[inline(always)]
-fn pricing<'a>(row: &'a FocusRow<'a>) -> [&'a [u8]; 5]
+fn pricing<'a>(row: &'a FocusRow<'a>) -> [&'a [u8]; 3]
     ensures { map (λ f. f.now) result ≡ pricing_columns (model_row row.now) }
 {
     [
         text_or_null(row.pricing_unit),
         row.provider_name,
         row.publisher_name,
-        text_or_null(row.region_id),
-        text_or_null(row.region_name),
     ]
+}
+
+#[inline(always)]
+fn region<'a>(row: &'a FocusRow<'a>) -> [&'a [u8]; 2]
+    ensures { map (λ f. f.now) result ≡ region_columns (model_row row.now) }
+{
+    [text_or_null(row.region_id), text_or_null(row.region_name)]
 }
 
 #[inline(always)]
@@ -143,6 +149,7 @@ impl TextPieces {
             issuer: Vec::new(alloc),
             category: Vec::new(alloc),
             pricing: Vec::new(alloc),
+            region: Vec::new(alloc),
             resource: Vec::new(alloc),
             service: Vec::new(alloc),
             account: Vec::new(alloc),
@@ -189,6 +196,13 @@ impl TextPieces {
             are_held,
             &pricing(before),
             &pricing(row),
+        )?;
+        set_piece(
+            odd,
+            &mut self.region,
+            are_held,
+            &region(before),
+            &region(row),
         )?;
         set_piece(
             odd,

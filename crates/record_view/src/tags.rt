@@ -186,6 +186,14 @@ impl<'a> Tags<'a> {
         Tags { rest: text }
     }
 
+    /// The tags as they stand in the batch, `key=value` between semicolons, or the empty text. So where two texts are the same, the
+    /// tags are.
+    pub fn text(&self) -> &'a [u8]
+        ensures { tags_in result.now ≡ Some (map tag_of (lent_tags self.now)) }
+    {
+        self.rest.text
+    }
+
     /// The first tag, and the others.
     fn split_first(self) -> Option<((Field<'a>, Field<'a>), Tags<'a>)>
         ensures { MatchOption result (lent_tags self.entry ≡ [])

@@ -6,13 +6,13 @@ use Rattle.metering_model.specs.Row.{Row}
 use Rattle.focus_csv.specs.declared.pieces.LinePieces.{LinePieces}
 use Rattle.focus_csv.specs.declared.texts.TextPieces.{TextPieces}
 use Rattle.focus_csv.specs.declared.numbers.NumberPieces.{NumberPieces}
-use Rattle.focus_csv.specs.Inner.Runs.{behind, head_columns, moment_columns, unit_columns, issuer_columns, category_columns, pricing_columns, resource_columns, service_columns, account_columns}
+use Rattle.focus_csv.specs.Inner.Runs.{behind, head_columns, moment_columns, unit_columns, issuer_columns, category_columns, pricing_columns, region_columns, resource_columns, service_columns, account_columns}
 
 -- all bytes of the pieces of texts
 abbrev pub text_bytes : TextPieces → List ℕ
 text_bytes p =
-    p.head.items ++ p.moment.items ++ p.unit.items ++ p.issuer.items ++ p.category.items ++ p.pricing.items ++ p.resource.items
-    ++ p.service.items ++ p.account.items
+    p.head.items ++ p.moment.items ++ p.unit.items ++ p.issuer.items ++ p.category.items ++ p.pricing.items ++ p.region.items
+    ++ p.resource.items ++ p.service.items ++ p.account.items
 
 -- all bytes of the pieces of numbers
 abbrev pub number_bytes : NumberPieces → List ℕ
@@ -31,6 +31,7 @@ pub record AreTextsOf (p : TextPieces) (r : Row) : Type 0 where
   pub issuer : p.issuer.items ≡ behind (issuer_columns r)
   pub category : p.category.items ≡ behind (category_columns r)
   pub pricing : p.pricing.items ≡ behind (pricing_columns r)
+  pub region : p.region.items ≡ behind (region_columns r)
   pub resource : p.resource.items ≡ behind (resource_columns r)
   pub service : p.service.items ≡ behind (service_columns r)
   pub account : p.account.items ≡ behind (account_columns r)

@@ -41,7 +41,10 @@ abbrev pub category_columns : Row → List (List ℕ)
 category_columns = run_of (codes "PricingCategory") (codes "PricingQuantity")
 
 abbrev pub pricing_columns : Row → List (List ℕ)
-pricing_columns = run_of (codes "PricingUnit") (codes "ResourceId")
+pricing_columns = run_of (codes "PricingUnit") (codes "RegionId")
+
+abbrev pub region_columns : Row → List (List ℕ)
+region_columns = run_of (codes "RegionId") (codes "ResourceId")
 
 abbrev pub resource_columns : Row → List (List ℕ)
 resource_columns = run_of (codes "ResourceId") (codes "ServiceCategory")
@@ -58,5 +61,5 @@ line_runs r =
     head_columns r ∷ moment_columns r ∷ (quantity_or_null r.consumed_quantity ∷ []) ∷ unit_columns r
     ∷ (spelling 12 r.contracted_cost ∷ []) ∷ (price_or_null r.contracted_unit_price ∷ []) ∷ (spelling 12 r.effective_cost ∷ [])
     ∷ issuer_columns r ∷ (spelling 12 r.list_cost ∷ []) ∷ (price_or_null r.list_unit_price ∷ []) ∷ category_columns r
-    ∷ (quantity_or_null r.pricing_quantity ∷ []) ∷ pricing_columns r ∷ resource_columns r ∷ service_columns r ∷ account_columns r
-    ∷ (json_object r.tags ∷ []) ∷ []
+    ∷ (quantity_or_null r.pricing_quantity ∷ []) ∷ pricing_columns r ∷ region_columns r ∷ resource_columns r ∷ service_columns r
+    ∷ account_columns r ∷ (json_object r.tags ∷ []) ∷ []
