@@ -1,4 +1,5 @@
 pub mod SaidLaws
+pub mod FaultLoop
 pub mod LineLaws
 pub mod NeverWants
 pub mod RefusedLaws

@@ -6,6 +6,7 @@ use Rattle.std.specs.Fmt.{digits}
 use Rattle.std.proofs.lemmas.Str.{IsUtf8-from_is_utf8, is_utf8-from_IsUtf8}
 use Rattle.std.proofs.lemmas.Bool.Decides.{nat_tests}
 use Rattle.std.proofs.lemmas.List.{length-drop}
+use Rattle.std.proofs.Math.Seq.{take-append_seam}
 use Rattle.metering_model.specs.Batch.{Batch}
 use Rattle.metering_model.specs.FirstFailure.{◌>>=◌, holds_or}
 use Rattle.metering_model.specs.Schedule.{Planned, event_of}
@@ -21,9 +22,10 @@ use Rattle.input_sections.specs.declared.faults.ScheduleFault.{ScheduleFault}
 use Rattle.input_sections.specs.declared.faults.ScheduleFault.TheVariants as section
 use Rattle.input_sections.specs.Sections.{Section, Unread, begins_with, left, lines_left, section_in, section_of, whole_of}
 use Rattle.input_sections.specs.RateInput.{RateInput, rate_input_in}
-use Rattle.schedule_reader.specs.Schedules.{Preamble, event_in, events_in, fault_of, group_in, preamble_in}
+use Rattle.schedule_reader.specs.Schedules.{Preamble, event_in, events_in, group_in, preamble_in}
 use Rattle.schedule_reader.proofs.EventLoop.{nonempty, empty}
 use Rattle.batch_player.specs.RateInput.{journaled_in}
+use Rattle.input_check.specs.Inner.Faults.{fault_of}
 use Rattle.input_check.specs.Checks.{IsSaidOf, from_line, line_within, said_at, said_behind, said_below, said_by, said_of_batch, said_of_events, said_of_fault, said_of_input, said_of_journaled, said_of_rating, said_of_reply, said_of_schedule, said_of_text, section_on, text_of}
 
 step_err : {A B E : Type 0} (r : Result A E) (f : A → Result B E) (e : E) → r ≡ Err e → (r >>= f) ≡ Err e
@@ -142,6 +144,11 @@ module _ (text : List ℕ) where
       → said_of_schedule text ≡ said_of_events (length text) (opening p.voters p.observers p.agents p.sheet p.issuer) p.rest
   unfolding said_of_schedule
   events_there p is well = ap (said_below text) is ∙ by_none p (events_in (length text) p.rest) well
+
+-- what was put behind a text is taken back, and something else is put there
+pub put_instead : (told more both cut said after : List ℕ) (n : ℕ) → n ≡ length told → both ≡ told ++ more → cut ≡ take n both → after ≡ cut ++ said → after ≡ told ++ said
+put_instead told more both cut said after n long is cut_is after_is =
+    after_is ∙ ap (λ t. t ++ said) (cut_is ∙ (ap (λ m. take m both) long ∙ (ap (take (length told)) is ∙ take-append_seam told more)))
 
 -- ---- a batch
 

@@ -1,20 +1,22 @@
 //! The events of a schedule that are refused.
 
-ghost use Rattle.std.specs.Prelude.{◌≡◌, ◌≤◌, ◌+◌, ◌++◌, OnOk};
+ghost use Rattle.std.specs.Prelude.{◌≡◌, ◌≤◌, ◌+◌, ◌++◌, IfOk, OnOk};
 ghost use Rattle.metering_model.specs.Schedule.{event_of};
 ghost use Rattle.metering_model.specs.Step.{step};
 ghost use Rattle.metering_model.specs.World as model;
 ghost use Rattle.group_core.specs.Words.{reply_of};
 ghost use Rattle.schedule_reader.specs.Events.{HasWholeLines, planned_of};
+ghost use Rattle.schedule_reader.specs.Schedules.{events_in};
 ghost use Rattle.input_check.specs.Checks.{said_of_events, said_of_reply, said_of_schedule};
+ghost use Rattle.input_check.specs.Inner.Faults.{fault_of};
 
 use crate::sections::put_fault;
 use byte_text::{Line, refusal_line};
 use group_core::{Reply, World};
-use input_sections::Unread;
+use input_sections::{ScheduleFault, Unread};
 use metering_model::Refusal;
 use schedule_player::{event_of, opening_world};
-use schedule_reader::{Planned, Preamble, event_in, fault_in_events};
+use schedule_reader::{Planned, Preamble, event_in};
 use std::alloc::{AllocError, Global};
 
 /// Appends that the event which begins on a line is refused.
@@ -63,28 +65,31 @@ fn check_event(
     put_reply(told, line, &reply)
 }
 
-/// Does the events that are left in turn, no more than `most`. No file of an export is made.
+/// Does the events that are left in turn, no more than `most`, and answers the fault of the first that is none, or of what
+/// stands where one would: that is not done, nor what stands behind it. No file of an export is made.
 fn check_events(
     alloc: Global,
     world: &mut World,
     unread: Unread<'_>,
     most: usize,
     told: &mut Vec<u8>,
-) -> Result<(), AllocError>
-    ensures { OnOk result (told.new.items ≡ told.old.items ++ said_of_events most world.old unread.entry) }
+) -> Result<Option<ScheduleFault>, AllocError>
+    ensures said { OnOk result (told.new.items ≡ told.old.items ++ said_of_events most world.old unread.entry) }
+    ensures fault { IfOk result (λ fault. fault ≡ fault_of (events_in most unread.entry)) }
 {
     let mut here = unread;
     for _ in 0..most {
         if here.left().is_empty() {
-            return Ok(());
+            return Ok(None);
         }
-        let Ok((planned, rest)) = event_in(&here) else {
-            return Ok(());
+        let (planned, rest) = match event_in(&here) {
+            Ok(parts) => parts,
+            Err(fault) => return Ok(Some(fault)),
         };
         check_event(alloc, world, here.line(), &planned, told)?;
         here = rest;
     }
-    Ok(())
+    Ok(None)
 }
 
 /// Plays the events behind what stands above them, no more than `most`, in a group in which nothing has happened.
@@ -93,11 +98,12 @@ fn check_behind(
     above: Preamble<'_>,
     most: usize,
     told: &mut Vec<u8>,
-) -> Result<(), AllocError>
+) -> Result<Option<ScheduleFault>, AllocError>
     requires nodes { (1 ≤ above.voters) × (above.voters + above.observers ≤ 99) }
     requires agents { (1 ≤ above.agents) × (above.agents ≤ 64) }
-    ensures { OnOk result (told.new.items ≡ told.old.items ++ said_of_events most
+    ensures said { OnOk result (told.new.items ≡ told.old.items ++ said_of_events most
         (model.opening above.entry.voters above.entry.observers above.entry.agents above.entry.sheet above.entry.issuer) above.entry.rest) }
+    ensures fault { IfOk result (λ fault. fault ≡ fault_of (events_in most above.entry.rest)) }
 {
     let Preamble {
         voters,
@@ -111,7 +117,8 @@ fn check_behind(
     check_events(alloc, &mut world, rest, most, told)
 }
 
-/// Appends what is said of a text that is to be a schedule.
+/// Appends what is said of a text that is to be a schedule. Where it turns out to be none, what was said of its events is
+/// taken back.
 pub(crate) fn check_schedule(
     alloc: Global,
     text: &[u8],
@@ -123,8 +130,12 @@ pub(crate) fn check_schedule(
         Ok(above) => above,
         Err(fault) => return put_fault(alloc, told, text, fault),
     };
-    match fault_in_events(above.rest.again(), text.len()) {
-        Some(fault) => put_fault(alloc, told, text, fault),
-        None => check_behind(alloc, above, text.len(), told),
+    let before = told.len();
+    match check_behind(alloc, above, text.len(), told)? {
+        Some(fault) => {
+            told.truncate(before);
+            put_fault(alloc, told, text, fault)
+        }
+        None => Ok(()),
     }
 }

@@ -54,17 +54,6 @@ impl<'a> Unread<'a> {
         })
     }
 
-    /// The same once more, of the same text.
-    pub fn again(&self) -> Unread<'a>
-        ensures { result ≡ self.now }
-    {
-        Unread {
-            text: self.text,
-            from: self.from,
-            line: self.line,
-        }
-    }
-
     /// The bytes that are left.
     pub fn left(&self) -> &'a [u8]
         ensures { result.now ≡ left self.now }

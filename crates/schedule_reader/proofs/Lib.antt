@@ -9,4 +9,3 @@ pub mod NodeLines
 pub mod WrittenSchedules
 pub mod WorkedFaults
 pub mod PreambleLaws
-pub mod FaultLoop

@@ -1,5 +1,5 @@
 -- Reading a whole schedule: the group, its sheet and its issuer, and its events, or the first fault by line.
-use Rattle.std.specs.Prelude.{ℕ, zero, suc, ◌+◌, ◌==◌, nat_le, if◌then◌else◌, List, [], ◌∷◌, length, take, drop, Option, Some, None, Result, Ok, Err, ok_or, codes}
+use Rattle.std.specs.Prelude.{ℕ, zero, suc, ◌+◌, ◌==◌, nat_le, if◌then◌else◌, List, [], ◌∷◌, length, take, drop, Option, Some, None, Result, Ok, ok_or, codes}
 use Rattle.std.specs.List.{position}
 use Rattle.std.specs.Option.{option_map}
 use Rattle.metering_model.specs.FirstFailure.{◌>>=◌, holds_or}
@@ -111,11 +111,6 @@ events_in zero u = Ok []
 events_in (suc most) u =
     if is_empty (left u) then Ok []
     else (event_in u >>= λ (e : Planned × Unread). events_in most e.1 >>= λ (es : List Planned). Ok (e.0 ∷ es))
-
--- the fault, where there is one
-abbrev pub fault_of : {A : Type 0} → Result A ScheduleFault → Option ScheduleFault
-fault_of (Ok x) = None
-fault_of (Err fault) = Some fault
 
 -- ---- the whole
 

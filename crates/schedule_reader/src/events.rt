@@ -3,7 +3,7 @@
 ghost use Rattle.std.specs.Prelude.{◌≡◌, ◌≢◌, ◌≤◌, All, Ok, Err, Some, map, codes, option_map, IfOk, IfErr, IfSome, MatchResult};
 ghost use Rattle.metering_model.specs.Schedule.{PlansDelivery, PlansStart, PlansRestart, PlansExport, PlansKeep};
 ghost use Rattle.schedule_reader.specs.Events.{HasWholeLines, planned_of};
-ghost use Rattle.schedule_reader.specs.Schedules.{one_behind, two_behind, event_of_line, line_event, journal_event, revival_of_line, revival_event, event_in, events_in, fault_of};
+ghost use Rattle.schedule_reader.specs.Schedules.{one_behind, two_behind, event_of_line, line_event, journal_event, revival_of_line, revival_event, event_in, events_in};
 
 use crate::lines::{one_behind, two_behind};
 use input_sections::{ScheduleCode, ScheduleFault, Unread, read_section};
@@ -226,23 +226,4 @@ pub(crate) fn events_in<'a>(
         here = rest;
     }
     Ok(events)
-}
-
-/// The first fault of the events that are left, no more than `most`. No memory is taken.
-pub fn fault_in_events(unread: Unread<'_>, most: usize) -> Option<ScheduleFault>
-    ensures value { result ≡ fault_of (events_in most unread.entry) }
-    ensures want { result ≢ Some ScheduleFault.OutOfMemory }
-{
-    let mut here = unread;
-    for _ in 0..most {
-        if here.left().is_empty() {
-            return None;
-        }
-        let (_, rest) = match event_in(&here) {
-            Ok(parts) => parts,
-            Err(fault) => return Some(fault),
-        };
-        here = rest;
-    }
-    None
 }

@@ -6,5 +6,5 @@ pub mod laws;
 mod lines;
 mod schedules;
 
-pub use events::{Planned, event_in, fault_in_events};
+pub use events::{Planned, event_in};
 pub use schedules::{Preamble, Schedule};
