@@ -81,14 +81,14 @@ fn a_list_price_is_asked_for(rt: HostRuntime) -> Result<(), Fail> {
     let first = Day::read(b"2025-01-01").ok_or("no day")?;
     let before = Day::read(b"2024-12-31").ok_or("no day")?;
     let wrong = format!(in alloc; "{SHEET}{NO_TEXT}")?;
-    for (text, day, told) in [
-        (SHEET, first, "0.1 for 3600 Seconds"),
-        (SHEET, before, "cpu has no price yet"),
-        (wrong.as_str(), first, "price 2: bad sku"),
-        ("", first, "no sheet: S2 top base"),
-    ] {
-        assert_eq!(rt; list_price(alloc, text, "cpu", day)?.as_str(), told);
-    }
+    let price = list_price(alloc, SHEET, "cpu", first)?;
+    assert_eq!(rt; price.as_str(), "0.1 for 3600 Seconds");
+    let none = list_price(alloc, SHEET, "cpu", before)?;
+    assert_eq!(rt; none.as_str(), "cpu has no price yet");
+    let wrong = list_price(alloc, &wrong, "cpu", first)?;
+    assert_eq!(rt; wrong.as_str(), "price 2: bad sku");
+    let none = list_price(alloc, "", "cpu", first)?;
+    assert_eq!(rt; none.as_str(), "no sheet: S2 top base");
     Ok(())
 }
 
