@@ -33,23 +33,59 @@ pub(crate) fn put(store: &mut Store, alloc: Global, bytes: &[u8]) -> Result<bool
 }
 
 /// Usage and its amendment.
-fn worked_store(alloc: Global) -> Result<Store, AllocError> {
+pub(crate) fn worked_store(alloc: Global) -> Result<Store, AllocError> {
     let mut store = Store::new(alloc, 1)?;
     put(&mut store, alloc, READ)?;
     put(&mut store, alloc, AMENDED)?;
     Ok(store)
 }
 
+/// The prices of this text, and the sample's issuer.
+fn prices_of(alloc: Global, text: &str) -> Option<(Sheet, Issuer)> {
+    let issuer = Issuer::sample(alloc).ok()?;
+    match Sheet::read(alloc, text) {
+        Ok(sheet) => Some((sheet, issuer)),
+        Err(_) => None,
+    }
+}
+
+/// The cuts of one agent's first batches.
+fn cuts_of(alloc: Global, from: u32, to: u32) -> Option<(Cut, Cut)> {
+    let from = cut_of(alloc, from).ok()?;
+    match cut_of(alloc, to) {
+        Ok(to) => Some((from, to)),
+        Err(_) => None,
+    }
+}
+
+impl Charged {
+    /// What the sample's issuer charges in a period by the prices of this text, from one cut of one agent to another. None
+    /// where memory runs out, or there is no such sheet or period.
+    pub(crate) fn new(
+        alloc: Global,
+        store: Store,
+        text: &str,
+        period: u16,
+        cuts: (u32, u32),
+    ) -> Option<Charged> {
+        let period = Period::new(period)?;
+        let (from, to) = cuts_of(alloc, cuts.0, cuts.1)?;
+        let (sheet, issuer) = prices_of(alloc, text)?;
+        Some(Charged {
+            store,
+            sheet,
+            issuer,
+            period,
+            from,
+            to,
+        })
+    }
+}
+
 /// An amendment in February of usage that was charged before. None where memory runs out.
 fn corrected(alloc: Global) -> Option<Charged> {
-    Some(Charged {
-        store: worked_store(alloc).ok()?,
-        sheet: Sheet::read(alloc, SHEET).ok()?,
-        issuer: Issuer::sample(alloc).ok()?,
-        period: Period::new(1)?,
-        from: cut_of(alloc, 1).ok()?,
-        to: cut_of(alloc, 2).ok()?,
-    })
+    let store = worked_store(alloc).ok()?;
+    Charged::new(alloc, store, SHEET, 1, (1, 2))
 }
 
 /// The rows between the two cuts.

@@ -6,7 +6,7 @@ use batch_store::{RecordPlace, Store};
 use batch_view::{BatchCode, BatchFault, BatchView, Offer, OwnedBatch, Reading, Record};
 use counted_io::Counted;
 use focus_csv::write_file;
-use focus_row::{Issuer, Period, Sheet};
+use focus_row::Period;
 use std::alloc::{AllocError, Global};
 use std::test::Fail;
 use worked_texts::{HEADER, READ, SHEET};
@@ -215,14 +215,10 @@ fn charged_in_january(alloc: Global) -> Result<Charged, Fail> {
         }
     }
     let sheet = format!(in alloc; "{SHEET}{REGION}")?;
-    Ok(Charged {
-        store,
-        sheet: Sheet::read(alloc, sheet.as_str())?,
-        issuer: Issuer::sample(alloc)?,
-        period: Period::new(0).ok_or("no period")?,
-        from: cut_of(alloc, 0)?,
-        to: cut_of(alloc, 2)?,
-    })
+    match Charged::new(alloc, store, sheet.as_str(), 0, (0, 2)) {
+        Some(of) => Ok(of),
+        None => Err(Fail::from("nothing is charged")),
+    }
 }
 
 /// The file of what is charged.
