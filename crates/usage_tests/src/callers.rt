@@ -1,0 +1,128 @@
+//! What a caller writes: the functions that stand word for word in the READMEs of `price_sheet`, `batch_store` and `focus_csv`.
+
+use crate::files::{Charged, worked_store};
+use batch_store::{Cut, Month, Period, Store};
+use batch_view::{Day, Offer};
+use counted_io::Counted;
+use focus_csv::{CsvFault, write_file};
+use focus_row::{Issuer, RowFault, rows_of};
+use price_sheet::{Place, Sheet, SheetFault};
+use std::alloc::{AllocError, Global};
+use std::test::Fail;
+use worked_texts::{AMENDED, HEADER, LINE, READ, SHEET};
+
+/// The list price of a SKU on a day, or why there is none.
+fn list_price(alloc: Global, text: &str, sku: &str, day: Day) -> Result<String, AllocError> {
+    let sheet = match Sheet::read(alloc, text) {
+        Ok(sheet) => sheet,
+        Err(SheetFault::BadValue(Place::Price(row), key)) => {
+            return format!(in alloc; "price {row}: bad {key}");
+        }
+        Err(SheetFault::OutOfMemory) => return Err(AllocError),
+        Err(fault) => return format!(in alloc; "no sheet: {fault}"),
+    };
+    let Some(row) = sheet.price(sku.as_bytes(), day) else {
+        return format!(in alloc; "{sku} has no price yet");
+    };
+    let list = row.list().write(alloc)?;
+    format!(in alloc; "{list} for {} {}", row.per(), row.consumed_unit())
+}
+
+/// The first batch that agent 1 lacks, and how far all are due.
+fn missing_and_due(
+    alloc: Global,
+    texts: &[&[u8]],
+    period: Period,
+) -> Result<Option<(u32, Cut)>, AllocError> {
+    let mut store = Store::new(alloc, 2)?;
+    for text in texts {
+        match Offer::read(alloc, text.to_vec(alloc)?)? {
+            Offer::Good(batch) if batch.view().agent() <= store.agents() => {
+                store.put(batch)?;
+            }
+            _ => return Ok(None),
+        }
+    }
+    let before = Cut::zero(alloc, store.agents())?;
+    let due = store.due_front(alloc, &before, period, Month::of(2025, 1))?;
+    Ok(Some((store.first_absent(1), due)))
+}
+
+/// A period's file between two cuts. None where batches are missing, or break a rule.
+fn file_of(
+    alloc: Global,
+    store: &Store,
+    sheet: &Sheet,
+    issuer: &Issuer,
+    period: Period,
+    from: &Cut,
+    to: &Cut,
+) -> Result<Option<Vec<u8>>, CsvFault> {
+    if store.agents() != from.agents() || store.agents() != to.agents() || !to.at_least(from) {
+        return Ok(None);
+    }
+    let rows = match rows_of(alloc, store, sheet, issuer, period, from, to) {
+        Ok(rows) => rows,
+        Err(RowFault::OutOfMemory) => return Err(CsvFault::OutOfMemory),
+        Err(_) => return Ok(None),
+    };
+    let mut sink = Counted::new(Vec::new(alloc));
+    write_file(alloc, &rows, &mut sink)?;
+    Ok(Some(sink.into_inner()))
+}
+
+/// A second price whose SKU is no text.
+const NO_TEXT: &str = "[[price]]\nsku = 1\n";
+
+#[test]
+fn a_list_price_is_asked_for(rt: HostRuntime) -> Result<(), Fail> {
+    let alloc = rt.alloc();
+    let first = Day::read(b"2025-01-01").ok_or("no day")?;
+    let before = Day::read(b"2024-12-31").ok_or("no day")?;
+    let wrong = format!(in alloc; "{SHEET}{NO_TEXT}")?;
+    let price = list_price(alloc, SHEET, "cpu", first)?;
+    assert_eq!(rt; price.as_str(), "0.1 for 3600 Seconds");
+    let none = list_price(alloc, SHEET, "cpu", before)?;
+    assert_eq!(rt; none.as_str(), "cpu has no price yet");
+    let wrong = list_price(alloc, &wrong, "cpu", first)?;
+    assert_eq!(rt; wrong.as_str(), "price 2: bad sku");
+    let none = list_price(alloc, "", "cpu", first)?;
+    assert_eq!(rt; none.as_str(), "no sheet: S2 top base");
+    Ok(())
+}
+
+/// The third batch, of February.
+const IN_FEBRUARY: &[u8] =
+    b"B1|1|3|1\nU|2025-02-10T00:00:00Z|2025-02-10T02:00:00Z|acc-7|vm-1|cpu|5400||env=prod\n";
+
+#[test]
+fn what_is_missing_and_what_is_due_is_asked_for(rt: HostRuntime) -> Result<(), Fail> {
+    let alloc = rt.alloc();
+    let january = Period::new(0).ok_or("no period")?;
+    let texts = [READ, AMENDED, IN_FEBRUARY];
+    let Some((missing, due)) = missing_and_due(alloc, &texts, january)? else {
+        return Err(Fail::from("no batch"));
+    };
+    assert_eq!(rt; missing, 4);
+    assert_eq!(rt; due.write(alloc)?.as_slice(), b"2|0".as_slice());
+    let of_another = [READ, b"B1|3|1|0\n"];
+    assert!(rt; missing_and_due(alloc, &of_another, january)?.is_none());
+    Ok(())
+}
+
+#[test]
+fn the_file_of_a_period_is_asked_for(rt: HostRuntime) -> Result<(), Fail> {
+    let alloc = rt.alloc();
+    let store = worked_store(alloc)?;
+    let Some(of) = Charged::new(alloc, store, SHEET, 0, (0, 1)) else {
+        return Err(Fail::from("nothing is charged"));
+    };
+    let period = file_of(
+        alloc, &of.store, &of.sheet, &of.issuer, of.period, &of.from, &of.to,
+    )?;
+    let Some(file) = period else {
+        return Err(Fail::from("no file"));
+    };
+    assert_eq!(rt; file.strip_prefix(HEADER), Some(LINE));
+    Ok(())
+}
