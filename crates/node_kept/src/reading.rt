@@ -71,15 +71,11 @@ fn read_cuts<'a>(
     };
     let mut rest = text;
     for index in 0..count {
-        match read_cut(alloc, rest, SECOND_LINE + u64::from(index), agents) {
-            Ok((cut, behind)) => {
-                if cuts.push(cut).is_err() {
-                    return Err(KeptFault::OutOfMemory);
-                }
-                rest = behind;
-            }
-            Err(fault) => return Err(fault),
+        let (cut, behind) = read_cut(alloc, rest, SECOND_LINE + u64::from(index), agents)?;
+        if cuts.push(cut).is_err() {
+            return Err(KeptFault::OutOfMemory);
         }
+        rest = behind;
     }
     Ok((cuts, rest))
 }
@@ -148,10 +144,7 @@ fn read_batches<'a>(
     let mut line = first;
     let mut last = Place { agent: 0, seq: 0 };
     for _ in 0..count {
-        let (batch, behind) = match read_batch(alloc, rest, line) {
-            Ok(read) => read,
-            Err(fault) => return Err(fault),
-        };
+        let (batch, behind) = read_batch(alloc, rest, line)?;
         let view = batch.view();
         let place = Place {
             agent: view.agent(),
@@ -213,15 +206,9 @@ fn read_parts(alloc: Global, text: &[u8], head: Head) -> Result<Parts, KeptFault
         (λ fault. IfTold fault (λ f. kept_below (lines_in text.now).lines (lines_in text.now).rest (head_of head) ≡ Err f)) }
 {
     let count = head.learned + cuts_of_vote(head.ballot);
-    let (cuts, rest) = match read_cuts(alloc, text, head.agents, count) {
-        Ok(read) => read,
-        Err(fault) => return Err(fault),
-    };
+    let (cuts, rest) = read_cuts(alloc, text, head.agents, count)?;
     let first = SECOND_LINE + u64::from(count);
-    let (store, line, rest) = match read_batches(alloc, rest, first, head.agents, head.batches) {
-        Ok(read) => read,
-        Err(fault) => return Err(fault),
-    };
+    let (store, line, rest) = read_batches(alloc, rest, first, head.agents, head.batches)?;
     if !rest.is_empty() {
         return Err(KeptFault::Refused {
             code: KeptCode::Extra,
@@ -250,9 +237,7 @@ impl Kept {
         let Some(head) = head_of_line(first) else {
             return Err(fault);
         };
-        match read_parts(alloc, below, head) {
-            Ok(parts) => Ok(Kept::of(parts)),
-            Err(fault) => Err(fault),
-        }
+        let parts = read_parts(alloc, below, head)?;
+        Ok(Kept::of(parts))
     }
 }
