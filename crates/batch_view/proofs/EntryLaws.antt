@@ -74,8 +74,8 @@ all_fit bytes h es kept = all_fit_from es (batch_of bytes).records kept.entries.
 -- ---- latest starts
 
 start_alike : (moment : ℤ) (f : Found) (v : ℤ) (r : Record) → FitsRecord f v r → found_before moment f ≡ starts_before moment r
-start_alike moment (Reading plain kind start end) v (Reads r) fits = ap (λ s. int_lt s moment) fits.1
-start_alike moment (Reading plain kind start end) v (Amends seq index value) fits = absurd fits
+start_alike moment (Reading kind start end) v (Reads r) fits = ap (λ s. int_lt s moment) fits.1
+start_alike moment (Reading kind start end) v (Amends seq index value) fits = absurd fits
 start_alike moment (Amend seq index) v (Reads r) fits = absurd fits
 start_alike moment (Amend seq index) v (Amends s i value) fits = refl
 
@@ -88,8 +88,8 @@ starts_alike moment (e ∷ es) (r ∷ rs) fits = ap₂ (λ a b. a && b) (start_a
 -- ---- amendments
 
 amendment_alike : (own : ℕ) (f : Found) (v : ℤ) (r : Record) → FitsRecord f v r → amendment_found own v f ≡ amendment_of own r
-amendment_alike own (Reading plain kind start end) v (Reads r) fits = refl
-amendment_alike own (Reading plain kind start end) v (Amends seq index value) fits = absurd fits
+amendment_alike own (Reading kind start end) v (Reads r) fits = refl
+amendment_alike own (Reading kind start end) v (Amends seq index value) fits = absurd fits
 amendment_alike own (Amend seq index) v (Reads r) fits = absurd fits
 amendment_alike own (Amend seq index) v (Amends s i value) fits = cc
 
@@ -154,13 +154,13 @@ field_spans_of bytes h es index e kept is =
     record { line = entry.line; is_line = entry.is_line; fields = entry.at.spans }
 
 -- an entry of a reading is that of one, with its value
-pub has_reading : (bytes : List ℕ) (h : Head) (es : List Entry) (seq index : ℕ) (e : Entry) (plain : Bool) (kind : Kind) (start end : ℤ) → KeepsBatch bytes h es
-    → seq ≡ h.seq → slice_get es index ≡ Some e → e.found ≡ Reading plain kind start end → HasReading (batch_of bytes) seq index e.value
-has_reading bytes h es seq index e plain kind start end kept own is found =
+pub has_reading : (bytes : List ℕ) (h : Head) (es : List Entry) (seq index : ℕ) (e : Entry) (kind : Kind) (start end : ℤ) → KeepsBatch bytes h es
+    → seq ≡ h.seq → slice_get es index ≡ Some e → e.found ≡ Reading kind start end → HasReading (batch_of bytes) seq index e.value
+has_reading bytes h es seq index e kind start end kept own is found =
     let of = entry_of bytes h es index e kept is in
     by_record of.entry.at.what of.got (subst (λ f. FitsRecord f e.value of.entry.at.what) found of.entry.at.fits)
   where
-    by_record : (r : Record) → slice_get (batch_of bytes).records index ≡ Some r → FitsRecord (Reading plain kind start end) e.value r → HasReading (batch_of bytes) seq index e.value
+    by_record : (r : Record) → slice_get (batch_of bytes).records index ≡ Some r → FitsRecord (Reading kind start end) e.value r → HasReading (batch_of bytes) seq index e.value
     by_record (Reads r) got fits = record { reading = r; own = own ∙ kept.head.seq; got = got; value_is = fits.3 }
     by_record (Amends s i v) got fits = absurd fits
 
@@ -172,22 +172,22 @@ lacks_reading bytes h es seq index e s i kept is found = λ r own got.
 
 -- ---- the record of an entry
 
-reading_of : (version : Version) (bytes : List ℕ) (line : Span) (e : Entry) (plain : Bool) (n : Numbers) → IsEntryAt version bytes line e → e.found ≡ Reading plain n.kind n.start n.end → n.value ≡ e.value
+reading_of : (version : Version) (bytes : List ℕ) (line : Span) (e : Entry) (n : Numbers) → IsEntryAt version bytes line e → e.found ≡ Reading n.kind n.start n.end → n.value ≡ e.value
     → IsReadingAt version bytes line n.kind n.start n.end n.value
-reading_of version bytes line e plain n at found same = by_record at.what at.read (subst (λ f. FitsRecord f e.value at.what) found at.fits)
+reading_of version bytes line e n at found same = by_record at.what at.read (subst (λ f. FitsRecord f e.value at.what) found at.fits)
   where
-    by_record : (r : Record) → record_in version (fields_in (slice_range bytes line.from line.to)) ≡ Ok r → FitsRecord (Reading plain n.kind n.start n.end) e.value r
+    by_record : (r : Record) → record_in version (fields_in (slice_range bytes line.from line.to)) ≡ Ok r → FitsRecord (Reading n.kind n.start n.end) e.value r
         → IsReadingAt version bytes line n.kind n.start n.end n.value
     by_record (Reads r) read fits = record { reading = r; read = read; kind_is = fits.0; start_is = fits.1; end_is = fits.2; value_is = same ∙ fits.3 }
     by_record (Amends s i v) read fits = absurd fits
 
-pub reading_on : (version : Version) (bytes : List ℕ) (line : Span) (e : Entry) (plain : Bool) (n : Numbers) → IsEntryAt version bytes line e → e.found ≡ Reading plain n.kind n.start n.end → n.value ≡ e.value
+pub reading_on : (version : Version) (bytes : List ℕ) (line : Span) (e : Entry) (n : Numbers) → IsEntryAt version bytes line e → e.found ≡ Reading n.kind n.start n.end → n.value ≡ e.value
     → IsReadingOn version bytes e.spans n line
-reading_on version bytes line e plain n at found same = record {
+reading_on version bytes line e n at found same = record {
   ordered = at.ordered;
   within = at.within;
   are = ap (λ f. take (field_total version f) e.spans) (sym found) ∙ at.spans;
-  numbers = reading_of version bytes line e plain n at found same;
+  numbers = reading_of version bytes line e n at found same;
 }
 
 lends_none : (ps : List LentText) → length ps ≡ 4 → lent_fields ps ≡ []

@@ -1,15 +1,14 @@
 -- The front of a text is enough to say how far its first batch goes.
-use Rattle.std.proofs.Common.{◌≡◌, ℕ, zero, suc, ◌+◌, ◌-◌, ◌<◌, ◌≤◌, ◌&&◌, Bool, true, false, cond, List, [], ◌∷◌, ◌++◌, length, take, drop, Option, Some, None, Result, Ok, Err, refl, sym, ap, subst, ◌∙◌, arith, length-take, nat_le, le-leb, leb-true}
+use Rattle.std.proofs.Common.{◌≡◌, ℕ, zero, suc, ◌+◌, ◌-◌, ◌<◌, ◌≤◌, Bool, true, false, List, [], ◌∷◌, ◌++◌, length, take, drop, Option, Some, None, refl, sym, ap, subst, ◌∙◌, arith, length-take, nat_le, le-leb, leb-true}
 use Rattle.std.specs.Option.{option_map, option_and_then}
 use Rattle.std.specs.Result.{result_ok}
 use Rattle.std.proofs.lemmas.Bool.{and_from, and_parts, leb-false, false_from_ne_true, cond-true, cond-false}
-use Rattle.std.proofs.lemmas.List.{take-append-drop, drop-drop, length-append}
+use Rattle.std.proofs.lemmas.List.{take-append-drop}
 use Rattle.std.proofs.lemmas.Option.{same_Some, none-some}
-use Rattle.metering_model.specs.declared.BatchCode.{BatchCode}
 use Rattle.metering_model.specs.BatchReading.{HeadLine, head_in, fields_in, lines_in}
 use Rattle.metering_model.specs.Schedule.{lines_text}
 use Rattle.byte_text.specs.Lines.{IsPast}
-use Rattle.byte_text.proofs.PastLines.{front_length, front_within, longer_front, text_of_front, HasFront, has_front}
+use Rattle.byte_text.proofs.PastLines.{front_length, longer_front, HasFront, has_front}
 use Rattle.batch_view.specs.Extents.{counted, batch_length, extent_in}
 
 -- ---- a text and its front

@@ -10,4 +10,3 @@ pub mod AmendedLemmas
 pub mod NamedLemmas
 pub mod EntryLaws
 pub mod GivenLaws
-pub mod PlainTexts

@@ -1,7 +1,6 @@
 -- What a batch keeps beside its bytes, so that whoever has it need not read it again.
-use Rattle.std.specs.Prelude.{◌≡◌, ℕ, ◌+◌, ◌&&◌, ◌||◌, ◌==◌, Bool, not, nat_lt, nat_le, List, [], ◌∷◌, ◌++◌, Option, Some, None, ℤ}
-use Rattle.std.specs.List.{slice_get, list_all, flat_map, filter_map, enumerate_from, last_or}
-use Rattle.std.specs.Option.{option_to_list}
+use Rattle.std.specs.Prelude.{◌≡◌, ℕ, ◌+◌, ◌&&◌, ◌||◌, ◌==◌, Bool, nat_lt, List, Option, Some, None, ℤ}
+use Rattle.std.specs.List.{slice_get, filter_map, enumerate_from, last_or}
 use Rattle.std.specs.List.Sorted.{IsPermutation, IsSortedBy}
 use Rattle.metering_model.specs.Batch.{Batch, Record, Reads, Amends}
 use Rattle.metering_model.specs.BatchReading.{lines_in}
@@ -17,20 +16,6 @@ pub record AreFieldSpans (bytes : List ℕ) (index : ℕ) (spans : List Span) : 
   pub line : Span
   pub is_line : slice_get (line_spans 0 (lines_in bytes).lines) (index + 1) ≡ Some line
   pub fields : spans ≡ spans_at bytes line
-
--- neither CSV nor JSON quotes a text for such a byte, or escapes it: not below a space, no `"`, no `,` and no `\`
-abbrev pub is_plain_byte : ℕ → Bool
-is_plain_byte c = nat_le 32 c && not (c == 34) && not (c == 44) && not (c == 92)
-
--- the texts of a record, of its tags each key and each value, and its region; none of an amendment
-abbrev pub texts_in : Record → List (List ℕ)
-texts_in (Reads r) =
-    r.start_text ∷ r.end_text ∷ r.account ∷ r.resource ∷ r.key ∷ r.commitment ∷ flat_map (λ t. t.key ∷ t.value ∷ []) r.tags ++ option_to_list r.region
-texts_in (Amends seq index value) = []
-
--- each byte of each of these texts is plain
-abbrev pub are_plain : List (List ℕ) → Bool
-are_plain ts = list_all (λ t. list_all is_plain_byte t) ts
 
 -- the amendment that a record is, with the record's own index
 abbrev pub amendment_of : ℕ → Record → Option Amendment

@@ -1,15 +1,14 @@
 //! What is kept of each record, made when a batch is read.
 
-ghost use Rattle.std.specs.Prelude.{◌≡◌, ◌≤◌, ◌+◌, not, length, take, drop, slice_range, Ok, Err, IsOk, IfOk, IfErr, MatchResult, MatchOption};
-ghost use Rattle.std.specs.List.{list_any, slice_get};
+ghost use Rattle.std.specs.Prelude.{◌≡◌, ◌≤◌, ◌+◌, length, take, drop, slice_range, Ok, Err, IsOk, IfOk, IfErr, MatchResult, MatchOption};
+ghost use Rattle.std.specs.List.{slice_get};
 ghost use Rattle.metering_model.specs.BatchReading.{batch_in, lines_in, records_in, record_in, fields_in};
 ghost use Rattle.record_view.specs.Lent.{record_of, IsLentRecord};
 ghost use Rattle.record_view.specs.Spans.{spans_at, IsRecordAt};
 ghost use Rattle.batch_view.specs.Inner.Lines.{lines_from, first_record, IsBehindLines, IsHeadOf};
-ghost use Rattle.batch_view.specs.Inner.Entries.{field_total, FitsRecord, FlagsPlain, flag, is_quoted, IsEntryAt, KeepsRecord, AreEntries};
+ghost use Rattle.batch_view.specs.Inner.Entries.{field_total, FitsRecord, IsEntryAt, KeepsRecord, AreEntries};
 
 use crate::batch::record_from;
-use memchr::memchr3;
 use metering_model::{BatchCode, BatchFault, Kind, Version};
 use record_view::{Numbers, Record, Span, Stamp, Value, field_spans, kept_reading};
 use std::alloc::Global;
@@ -17,9 +16,7 @@ use std::alloc::Global;
 /// What a record is, without its texts.
 #[derive(Clone, Copy)]
 pub(crate) enum Found {
-    /// `plain` says that no byte of its line is one that CSV or JSON quotes or escapes.
     Reading {
-        plain: bool,
         kind: Kind,
         start: Stamp,
         end: Stamp,
@@ -54,16 +51,6 @@ pub(crate) fn field_total(version: Version, found: Found) -> usize
     }
 }
 
-/// Whether the record is known to have no byte in its texts that CSV or JSON quotes or escapes.
-pub(crate) fn plain_flag(found: Found) -> bool
-    ensures { result ≡ flag found }
-{
-    match found {
-        Found::Reading { plain, .. } => plain,
-        Found::Amend { .. } => true,
-    }
-}
-
 /// What is kept of the record at that index.
 pub(crate) fn entry_at(entries: &[Entry], index: u16) -> Option<&Entry>
     ensures { MatchOption result (length entries.now ≤ index) (λ e. slice_get entries.now index ≡ Some e.now) }
@@ -76,14 +63,6 @@ pub(crate) fn entry_at(entries: &[Entry], index: u16) -> Option<&Entry>
     }
 }
 
-/// Whether the text has no byte for which CSV or JSON quotes or escapes a text of a record. (Below a space a record has
-/// none.)
-fn is_unquoted(text: &[u8]) -> bool
-    ensures { result ≡ not (list_any is_quoted text.now) }
-{
-    memchr3(b'"', b',', b'\\', text).is_none()
-}
-
 /// What is kept of a record that was read from that line.
 fn entry_of(version: Version, source: &[u8], line: Span, what: &Record<'_>) -> Entry
     requires ordered { line.from ≤ line.to }
@@ -93,7 +72,6 @@ fn entry_of(version: Version, source: &[u8], line: Span, what: &Record<'_>) -> E
     requires lent { IsLentRecord source.now line what.now }
     ensures fits { FitsRecord result.found result.value (record_of what.now) }
     ensures spans { take (field_total version result.found) result.spans ≡ spans_at source.now line }
-    ensures plain { FlagsPlain result.found (slice_range source.now line.from line.to) }
 {
     let spans = field_spans(version, source, line, what);
     match what {
@@ -101,7 +79,6 @@ fn entry_of(version: Version, source: &[u8], line: Span, what: &Record<'_>) -> E
             spans,
             value: reading.value,
             found: Found::Reading {
-                plain: is_unquoted(&source[line.from as usize..line.to as usize]),
                 kind: reading.kind,
                 start: reading.start,
                 end: reading.end,

@@ -7,7 +7,7 @@ ghost use Rattle.metering_model.specs.Batch.{Record};
 ghost use Rattle.metering_model.specs.BatchReading.{batch_in};
 ghost use Rattle.metering_model.specs.Front.{starts_before};
 ghost use Rattle.batch_view.specs.Batches.{batch_of};
-ghost use Rattle.batch_view.specs.Kept.{AreAmendmentsOf, AreFieldSpans, are_plain, texts_in, value_given_in};
+ghost use Rattle.batch_view.specs.Kept.{AreAmendmentsOf, AreFieldSpans, value_given_in};
 ghost use Rattle.batch_view.specs.Offers.{IsOfferOf};
 ghost use Rattle.batch_view.specs.Extents.{extent_in};
 ghost use Rattle.batch_view.specs.Inner.Kept.{IfFault, KeepsBatch};
@@ -15,7 +15,7 @@ ghost use Rattle.batch_view.specs.Inner.Given.{HasReading, LacksReading};
 
 use crate::amendments::{is_before, last_amendment, latest_start, sorted_amendments};
 use crate::batch::{BatchView, check_batch};
-use crate::entries::{Entry, Found, entry_at, field_total, plain_flag};
+use crate::entries::{Entry, Found, entry_at, field_total};
 use crate::extents::first_batch;
 use crate::head::Head;
 use crate::reading::{Unkept, keep_batch, keep_below};
@@ -88,17 +88,6 @@ impl OwnedBatch {
     {
         let entry = entry_at(&self.entries, index)?;
         Some(&entry.spans[..field_total(self.head.version, entry.found)])
-    }
-
-    /// Whether the record at that index is known to have plain texts alone: where it is true, none has a byte that CSV or
-    /// JSON quotes or escapes. It was found when the batch was read.
-    pub fn is_plain(&self, index: u16) -> bool
-        ensures { IsTrue result → (r : Record) → slice_get (batch_of self.now).records index ≡ Some r → IsTrue (are_plain (texts_in r)) }
-    {
-        match entry_at(&self.entries, index) {
-            Some(entry) => plain_flag(entry.found),
-            None => false,
-        }
     }
 
     /// The amendments, by the position that each names, then by their own index. No memory is taken.

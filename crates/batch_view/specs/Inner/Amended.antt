@@ -8,7 +8,7 @@ use Rattle.batch_view.specs.declared.entries.Entry.{Entry}
 use Rattle.batch_view.specs.declared.owned.Amendment.{Amendment}
 
 abbrev pub amendment_found : ℕ → ℤ → Found → Option Amendment
-amendment_found own value (Reading plain kind start end) = None
+amendment_found own value (Reading kind start end) = None
 amendment_found own value (Amend seq index) = Some (record { seq = seq; index = index; value = value; own = own })
 
 -- the amendments among the records, in order
@@ -42,7 +42,7 @@ abbrev pub IsSmall : Amendment → Type 0
 IsSmall a = (a.index < 65_536) × (a.own < 65_536)
 
 abbrev pub found_before : ℤ → Found → Bool
-found_before moment (Reading plain kind start end) = int_lt start moment
+found_before moment (Reading kind start end) = int_lt start moment
 found_before moment (Amend seq index) = true
 
 -- whether the record starts before that moment, if it is a reading

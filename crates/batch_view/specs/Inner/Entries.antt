@@ -1,6 +1,6 @@
 -- What is kept of each record of a batch.
-use Rattle.std.specs.Prelude.{◌≡◌, ℕ, ◌+◌, ◌≤◌, List, length, take, drop, slice_range, Option, Some, IfSome, Ok, ℤ, Bool, true, not, ◌==◌, ◌||◌, MatchOption}
-use Rattle.std.specs.List.{slice_get, list_any}
+use Rattle.std.specs.Prelude.{◌≡◌, ℕ, ◌+◌, ◌≤◌, List, length, take, drop, slice_range, Option, Some, IfSome, Ok, ℤ, MatchOption}
+use Rattle.std.specs.List.{slice_get}
 use Rattle.metering_model.specs.Batch.{Record, Reads, Amends}
 use Rattle.metering_model.specs.BatchReading.{lines_in, record_in, fields_in}
 use Rattle.metering_model.specs.declared.Version.{Version}
@@ -16,29 +16,15 @@ use denote.Ref.{Bor}
 
 -- how many fields the record has, in a batch of that format
 abbrev pub field_total : Version → Found → ℕ
-field_total version (Reading plain kind start end) = reading_fields version
+field_total version (Reading kind start end) = reading_fields version
 field_total version (Amend seq index) = 4
 
 -- the record has this kind, these stamps or this target, and this value
 abbrev pub FitsRecord : Found → ℤ → Record → Type 0
-FitsRecord (Reading plain kind start end) value (Reads r) = (kind ≡ r.kind) × (start ≡ r.start) × (end ≡ r.end) × (value ≡ r.value)
-FitsRecord (Reading plain kind start end) value (Amends seq index v) = ⊥
+FitsRecord (Reading kind start end) value (Reads r) = (kind ≡ r.kind) × (start ≡ r.start) × (end ≡ r.end) × (value ≡ r.value)
+FitsRecord (Reading kind start end) value (Amends seq index v) = ⊥
 FitsRecord (Amend s i) value (Reads r) = ⊥
 FitsRecord (Amend s i) value (Amends seq index v) = (s ≡ seq) × (i ≡ index) × (value ≡ v)
-
--- a quote, a comma or a backslash: of the bytes that a record may have, those for which CSV or JSON quotes or escapes a text
-abbrev pub is_quoted : ℕ → Bool
-is_quoted c = c == 34 || c == 44 || c == 92
-
--- the flag of a reading says whether its line has no such byte
-abbrev pub FlagsPlain : Found → List ℕ → Type 0
-FlagsPlain (Reading plain kind start end) line = plain ≡ not (list_any is_quoted line)
-FlagsPlain (Amend seq index) line = Unit {0}
-
--- what an entry says of plainness: an amendment has no text
-abbrev pub flag : Found → Bool
-flag (Reading plain kind start end) = plain
-flag (Amend seq index) = true
 
 -- The entry is that of the record which the line at this span is, in a batch of that format.
 pub record IsEntryAt (version : Version) (bytes : List ℕ) (line : Span) (e : Entry) : Type 0 where
@@ -48,7 +34,6 @@ pub record IsEntryAt (version : Version) (bytes : List ℕ) (line : Span) (e : E
   pub read : record_in version (fields_in (slice_range bytes line.from line.to)) ≡ Ok what
   pub fits : FitsRecord e.found e.value what
   pub spans : take (field_total version e.found) e.spans ≡ spans_at bytes line
-  pub plain : FlagsPlain e.found (slice_range bytes line.from line.to)
 
 -- The entry is that of the record at that index, at its line's spans.
 pub record IsEntry (version : Version) (bytes : List ℕ) (index : ℕ) (e : Entry) : Type 0 where

@@ -1,4 +1,4 @@
-use Rattle.std.proofs.Common.{◌≡◌, ℕ, ◌<◌, List, length, take, drop, subst, arith}
+use Rattle.std.proofs.Common.{ℕ, ◌<◌, List, length, take, drop, subst, arith}
 use Rattle.std.proofs.lemmas.List.{take_rest}
 use Rattle.metering_model.specs.BatchReading.{lines_in}
 use Rattle.byte_text.specs.Lines.{IsPast}

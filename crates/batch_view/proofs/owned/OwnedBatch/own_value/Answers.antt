@@ -8,7 +8,7 @@ returns-in-Reading c =
     let is : slice_get c.self.inside.entries.items c.args.index ≡ Some c.in_ok-entry.entry.now = rw c.deref.ensures.value at c.in_ok-entry.ensures in
     let own : c.args.seq ≡ c.self.inside.head.seq = search rules in
     rw (← c.self.view_is)
-    (has_reading c.self.inside.bytes.items c.self.inside.head c.self.inside.entries.items c.args.seq c.args.index c.in_ok-entry.entry.now _ _ _ _
+    (has_reading c.self.inside.bytes.items c.self.inside.head c.self.inside.entries.items c.args.seq c.args.index c.in_ok-entry.entry.now _ _ _
     c.self.invariant.batch own is c.in-Reading.is)
 
 pub returns-in-Amend : goal.returns-in-Amend
