@@ -13,6 +13,7 @@ use Rattle.metering_model.specs.declared.KeptCode.{KeptCode}
 use Rattle.metering_model.specs.declared.KeptCode.TheVariants.{Head as BadHead, Extra as HasExtra}
 use Rattle.metering_model.specs.KeptText.{KeptAmong, KeptHead, BatchesRead, at_kept_line, cuts_in, batches_in, cuts_of_vote, kept_head_in, kept_below, kept_of_lines, kept_of_parts, kept_in}
 use Rattle.metering_model.proofs.Splitting.{ended, lines_give_back}
+use Rattle.node_kept.specs.Offers.{BeginsWithHead, first_head}
 use Rattle.node_kept.specs.Inner.Left.{AreCutsOf, AreBatchesOf}
 
 -- ---- the end of a text
@@ -86,3 +87,15 @@ pub good_head : (text l below : List ℕ) (h : KeptHead) → lines_in text ≡ w
 good_head text l below h e good =
     ap (λ (ls : Lines). kept_of_lines ls.lines ls.rest) e
     ∙ ap (λ (r : Result KeptHead KeptCode). at_kept_line 1 r >>= kept_below (lines_in below).lines (lines_in below).rest) good
+
+-- a text that was read begins with a head line
+pub read_begins : (text : List ℕ) (k : KeptAmong) → kept_in text ≡ Ok k → BeginsWithHead text
+read_begins text k e = by_lines (lines_in text).lines e
+  where
+    by_head : (r : Result KeptHead KeptCode) (ls : List (List ℕ)) → (at_kept_line 1 r >>= kept_below ls (lines_in text).rest) ≡ Ok k → (h : KeptHead) × (r ≡ Ok h)
+    by_head (Ok h) ls e = (h, refl)
+    by_head (Err code) ls e = absurd (cc)
+
+    by_lines : (ls : List (List ℕ)) → kept_of_lines ls (lines_in text).rest ≡ Ok k → (h : KeptHead) × (first_head ls ≡ Ok h)
+    by_lines [] e = absurd (cc)
+    by_lines (l ∷ ls) e = by_head (kept_head_in (fields_in l)) ls e

@@ -1,8 +1,8 @@
 //! What is handed in for a node to be revived from.
 
-ghost use Rattle.std.specs.Prelude.{◌≡◌, ◌↔◌, IfOk, IsTrue};
+ghost use Rattle.std.specs.Prelude.{◌≡◌, ◌↔◌, IfErr, IfOk, IsTrue};
 ghost use Rattle.metering_model.specs.KeptText.{kept_offer_of};
-ghost use Rattle.node_kept.specs.Offers.{offer_of};
+ghost use Rattle.node_kept.specs.Offers.{BeginsWithHead, offer_of};
 
 use crate::faults::KeptFault;
 use crate::kept::Kept;
@@ -20,9 +20,10 @@ pub enum KeptOffer {
 }
 
 impl KeptOffer {
-    /// Reads a text. An error says that there was no memory; the text is lost then.
+    /// Reads a text. An error says that there was no memory, which is asked for behind a head line alone; the text is lost then.
     pub fn read(alloc: Global, text: Vec<u8>) -> Result<KeptOffer, AllocError>
-        ensures { IfOk result (λ offer. offer_of offer ≡ kept_offer_of text.items) }
+        ensures read { IfOk result (λ offer. offer_of offer ≡ kept_offer_of text.items) }
+        ensures want { IfErr result (λ _. BeginsWithHead text.items) }
     {
         match Kept::read(alloc, &text) {
             Ok(kept) => match Arc::new(alloc, kept) {

@@ -5,7 +5,7 @@ ghost use Rattle.std.specs.Arc.{arc_value};
 ghost use Rattle.metering_model.specs.BatchReading.{lines_in};
 ghost use Rattle.metering_model.specs.KeptText.{at_kept_line, batches_in, cuts_in, cuts_of_vote, kept_below, kept_in, kept_of_parts, next_batch};
 ghost use Rattle.batch_view.specs.Batches.{batch_of};
-ghost use Rattle.node_kept.specs.Offers.{IsFaultOf};
+ghost use Rattle.node_kept.specs.Offers.{BeginsWithHead, IsFaultOf};
 ghost use Rattle.node_kept.specs.Inner.Head.{head_of};
 ghost use Rattle.node_kept.specs.Inner.Left.{AreBatchesOf, AreCutsOf, IfTold, IsNextOf, comes_behind};
 
@@ -71,15 +71,11 @@ fn read_cuts<'a>(
     };
     let mut rest = text;
     for index in 0..count {
-        match read_cut(alloc, rest, SECOND_LINE + u64::from(index), agents) {
-            Ok((cut, behind)) => {
-                if cuts.push(cut).is_err() {
-                    return Err(KeptFault::OutOfMemory);
-                }
-                rest = behind;
-            }
-            Err(fault) => return Err(fault),
+        let (cut, behind) = read_cut(alloc, rest, SECOND_LINE + u64::from(index), agents)?;
+        if cuts.push(cut).is_err() {
+            return Err(KeptFault::OutOfMemory);
         }
+        rest = behind;
     }
     Ok((cuts, rest))
 }
@@ -148,10 +144,7 @@ fn read_batches<'a>(
     let mut line = first;
     let mut last = Place { agent: 0, seq: 0 };
     for _ in 0..count {
-        let (batch, behind) = match read_batch(alloc, rest, line) {
-            Ok(read) => read,
-            Err(fault) => return Err(fault),
-        };
+        let (batch, behind) = read_batch(alloc, rest, line)?;
         let view = batch.view();
         let place = Place {
             agent: view.agent(),
@@ -213,15 +206,9 @@ fn read_parts(alloc: Global, text: &[u8], head: Head) -> Result<Parts, KeptFault
         (λ fault. IfTold fault (λ f. kept_below (lines_in text.now).lines (lines_in text.now).rest (head_of head) ≡ Err f)) }
 {
     let count = head.learned + cuts_of_vote(head.ballot);
-    let (cuts, rest) = match read_cuts(alloc, text, head.agents, count) {
-        Ok(read) => read,
-        Err(fault) => return Err(fault),
-    };
+    let (cuts, rest) = read_cuts(alloc, text, head.agents, count)?;
     let first = SECOND_LINE + u64::from(count);
-    let (store, line, rest) = match read_batches(alloc, rest, first, head.agents, head.batches) {
-        Ok(read) => read,
-        Err(fault) => return Err(fault),
-    };
+    let (store, line, rest) = read_batches(alloc, rest, first, head.agents, head.batches)?;
     if !rest.is_empty() {
         return Err(KeptFault::Refused {
             code: KeptCode::Extra,
@@ -234,11 +221,12 @@ fn read_parts(alloc: Global, text: &[u8], head: Head) -> Result<Parts, KeptFault
 impl Kept {
     /// What a node keeps whose text this is, or the text's first fault by line.
     ///
-    /// Each batch is copied once. Bytes from which a node may be revived are compared with what it keeps where that is done;
+    /// Each batch is copied once, and no memory is taken before the head line is read. Bytes from which a node may be revived are compared with what it keeps where that is done;
     /// here only their form is looked at.
     pub fn read(alloc: Global, text: &[u8]) -> Result<Kept, KeptFault>
         ensures ok { IfOk result (λ kept. kept_in text.now ≡ Ok kept) }
         ensures refused { IfErr result (IsFaultOf text.now) }
+        ensures want { result ≡ Err KeptFault.OutOfMemory → BeginsWithHead text.now }
     {
         let fault = KeptFault::Refused {
             code: KeptCode::Head,
@@ -250,9 +238,7 @@ impl Kept {
         let Some(head) = head_of_line(first) else {
             return Err(fault);
         };
-        match read_parts(alloc, below, head) {
-            Ok(parts) => Ok(Kept::of(parts)),
-            Err(fault) => Err(fault),
-        }
+        let parts = read_parts(alloc, below, head)?;
+        Ok(Kept::of(parts))
     }
 }
