@@ -4,6 +4,7 @@ mod FileParts
 mod JsonText
 mod LineLaws
 mod OneMore
+mod PlainTags
 mod ReadBack
 mod RowTexts
 mod Sinks

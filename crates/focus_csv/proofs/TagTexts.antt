@@ -19,12 +19,6 @@ all_left [] = refl
 all_left (t ∷ []) = append-nil (json_member t)
 all_left (t ∷ u ∷ us) = ap (λ x. json_member t ++ 44 ∷ x) (all_left (u ∷ us))
 
-pub one_less : (text separator : List ℕ) (t : Tag) (ts : List Tag)
-    → (text ++ (separator ++ json_member t)) ++ members_left (44 ∷ []) ts ≡ text ++ members_left separator (t ∷ ts)
-one_less text separator t ts =
-    append_assoc text (separator ++ json_member t) (members_left (44 ∷ []) ts)
-    ∙ ap (λ x. text ++ x) (append_assoc separator (json_member t) (members_left (44 ∷ []) ts))
-
 -- ---- plain tags
 
 abbrev twice : ℕ → List ℕ
@@ -49,10 +43,10 @@ plain_inner : (t : List ℕ) → is_odd t ≡ false → marked (λ c. (c == 34) 
 plain_inner [] h = refl
 plain_inner (c ∷ cs) h = unmarked_byte ((c == 34) || (c == 92)) (is_odd cs) c cs (marked (λ x. (x == 34) || (x == 92)) 92 cs) h (plain_inner cs)
 
-pub plain_string : (t : List ℕ) → is_odd t ≡ false → 34 ∷ (t ++ 34 ∷ []) ≡ json_string t
+plain_string : (t : List ℕ) → is_odd t ≡ false → 34 ∷ (t ++ 34 ∷ []) ≡ json_string t
 plain_string t h = ap (λ x. 34 ∷ (x ++ 34 ∷ [])) (sym (plain_inner t h))
 
-doubled_string : (t : List ℕ) → is_odd t ≡ false → doubled (json_string t) ≡ 34 ∷ 34 ∷ (t ++ 34 ∷ 34 ∷ [])
+pub doubled_string : (t : List ℕ) → is_odd t ≡ false → doubled (json_string t) ≡ 34 ∷ 34 ∷ (t ++ 34 ∷ 34 ∷ [])
 doubled_string t h =
     ap doubled (sym (plain_string t h)) ∙ ap (λ x. 34 ∷ 34 ∷ x) (flat_map-append twice t (34 ∷ []) ∙ ap (λ x. x ++ 34 ∷ 34 ∷ []) (plain_doubled t h))
 
@@ -80,6 +74,23 @@ plain_put old front begin t k v is =
     ∙ ap (λ x. old ++ (x ++ rest)) is
     ∙ ap (λ x. old ++ x) (append_assoc front end rest)
     ∙ ap (λ x. old ++ (front ++ x)) (sym (doubled_member t k v))
+
+-- a string is quoted in a field, since its quotation marks are
+pub string_quoted : (t : List ℕ) → quoted (json_string t) ≡ 34 ∷ (doubled (json_string t) ++ 34 ∷ [])
+string_quoted t = refl
+
+-- what is put behind a text for any tag
+pub odd_put : (old front : List ℕ) (t : Tag)
+    → (((old ++ front) ++ doubled (json_string t.key)) ++ 58 ∷ []) ++ doubled (json_string t.value) ≡ old ++ (front ++ doubled (json_member t))
+odd_put old front t =
+    let key = doubled (json_string t.key) in
+    let value = doubled (json_string t.value) in
+    append_assoc ((old ++ front) ++ key) (58 ∷ []) value
+    ∙ append_assoc (old ++ front) key (58 ∷ value)
+    ∙ append_assoc old front (key ++ 58 ∷ value)
+    ∙ ap (λ x. old ++ (front ++ x))
+    (sym (append_assoc key (58 ∷ []) value)
+    ∙ sym (flat_map-append twice (json_string t.key ++ 58 ∷ []) (json_string t.value) ∙ ap (λ x. x ++ value) (flat_map-append twice (json_string t.key) (58 ∷ []))))
 
 -- one tag less is left within the quotation marks
 pub one_less_doubled : (text : List ℕ) (t : Tag) (ts : List Tag)

@@ -30,11 +30,7 @@ fn put_next(odd: &mut OddFields, text: &mut Vec<u8>, field: &[u8]) -> Result<(),
 }
 
 /// Makes a piece that of these fields, each behind a comma.
-pub(crate) fn make_piece(
-    odd: &mut OddFields,
-    piece: &mut Vec<u8>,
-    fields: &[&[u8]],
-) -> Result<(), AllocError>
+fn make_piece(odd: &mut OddFields, piece: &mut Vec<u8>, fields: &[&[u8]]) -> Result<(), AllocError>
     ensures { OnOk result (piece.new.items ≡ behind (map (λ f. f.now) fields.now)) }
 {
     piece.clear();

@@ -1,9 +1,10 @@
 //! Odd fields, which a reader of CSV would cut as they stand. `csv` writes them.
 
-ghost use Rattle.std.specs.Prelude.{◌≡◌, ◌∷◌, ◌++◌, IfOk, OnOk};
+ghost use Rattle.std.specs.Prelude.{◌≡◌, [], ◌∷◌, ◌++◌, IfOk, OnOk};
 ghost use Rattle.csv.specs.Writing.{writer_under};
 ghost use Rattle.metering_model.specs.File.{quoted};
 ghost use Rattle.focus_csv.specs.Inner.OddFields.{IsReady};
+ghost use Rattle.focus_csv.specs.Inner.Strings.{doubled};
 
 use csv::Writer;
 use std::alloc::{AllocError, Global};
@@ -80,6 +81,25 @@ fn put_by(writer: &mut Writer<Vec<u8>>, text: &mut Vec<u8>, field: &[u8]) -> Res
     Ok(())
 }
 
+/// Appends what stands between the quotation marks of a field that has to be quoted, as the writer writes it.
+fn put_within_by(
+    writer: &mut Writer<Vec<u8>>,
+    text: &mut Vec<u8>,
+    field: &[u8],
+) -> Result<(), AllocError>
+    requires ready { IsReady writer.old }
+    requires quoted { quoted field.now ≡ 34 ∷ doubled field.now ++ 34 ∷ [] }
+    ensures ready { OnOk result (IsReady writer.new) }
+    ensures put { OnOk result (text.new.items ≡ text.old.items ++ doubled field.now) }
+{
+    // A comma and a quotation mark, and the one behind the field.
+    let from = writer.get_ref().len() + 2;
+    write_next(writer, field)?;
+    let to = writer.get_ref().len() - 1;
+    text.extend_from_slice(&writer.get_ref()[from..to])?;
+    Ok(())
+}
+
 impl OddFields {
     pub(crate) fn new(alloc: Global) -> OddFields {
         OddFields {
@@ -88,15 +108,38 @@ impl OddFields {
         }
     }
 
+    /// What memory is taken from.
+    pub(crate) fn alloc(&self) -> Global {
+        self.alloc
+    }
+
+    /// A writer that is ready, which is let go.
+    fn ready(&mut self) -> Result<Box<Writer<Vec<u8>>>, AllocError>
+        ensures { IfOk result (λ w. IsReady w.value) }
+    {
+        match self.writer.take() {
+            Some(writer) if writer.get_ref().len() < ENOUGH => Ok(writer),
+            _ => boxed(self.alloc),
+        }
+    }
+
     /// Appends a comma and a field.
     pub(crate) fn put_next(&mut self, text: &mut Vec<u8>, field: &[u8]) -> Result<(), AllocError>
         ensures { OnOk result (text.new.items ≡ text.old.items ++ 44 ∷ quoted field.now) }
     {
-        let mut writer = match self.writer.take() {
-            Some(writer) if writer.get_ref().len() < ENOUGH => writer,
-            _ => boxed(self.alloc)?,
-        };
+        let mut writer = self.ready()?;
         put_by(&mut writer, text, field)?;
+        self.writer = Some(writer);
+        Ok(())
+    }
+
+    /// Appends what stands between the quotation marks of a field that has to be quoted.
+    pub(crate) fn put_within(&mut self, text: &mut Vec<u8>, field: &[u8]) -> Result<(), AllocError>
+        requires { quoted field.now ≡ 34 ∷ doubled field.now ++ 34 ∷ [] }
+        ensures { OnOk result (text.new.items ≡ text.old.items ++ doubled field.now) }
+    {
+        let mut writer = self.ready()?;
+        put_within_by(&mut writer, text, field)?;
         self.writer = Some(writer);
         Ok(())
     }

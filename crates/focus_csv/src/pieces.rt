@@ -10,10 +10,10 @@ ghost use Rattle.focus_csv.specs.Inner.Beginnings.{BeginsWith};
 ghost use Rattle.focus_csv.specs.Inner.Pieces.{AreOf, line_bytes};
 ghost use Rattle.focus_csv.specs.Inner.Runs.{behind, line_runs};
 
-use crate::fields::{make_piece, put_pieces};
+use crate::fields::put_pieces;
 use crate::numbers::NumberPieces;
 use crate::odd::OddFields;
-use crate::tags::{set_json, set_plain_tags};
+use crate::tags::set_tags;
 use crate::texts::TextPieces;
 use focus_row::FocusRow;
 use std::alloc::{AllocError, Global};
@@ -22,11 +22,8 @@ use std::alloc::{AllocError, Global};
 /// again. Their memory is held as well.
 #[derive(Drop)]
 pub(crate) struct LinePieces {
-    alloc: Global,
     numbers: NumberPieces,
     texts: TextPieces,
-    /// Odd tags as a JSON object, before it is quoted.
-    json: Vec<u8>,
     tags: Vec<u8>,
     odd: OddFields,
     /// Whether they are those of the row before.
@@ -43,10 +40,8 @@ impl LinePieces {
         ensures forgotten { result.are_held ≡ false }
     {
         LinePieces {
-            alloc,
             numbers: NumberPieces::new(alloc),
             texts: TextPieces::new(alloc),
-            json: Vec::new(alloc),
             tags: Vec::new(alloc),
             odd: OddFields::new(alloc),
             are_held: false,
@@ -76,11 +71,7 @@ impl LinePieces {
         if is_held && before.tags.text() == row.tags.text() {
             return Ok(());
         }
-        if set_plain_tags(&mut self.tags, row.tags)? {
-            return Ok(());
-        }
-        set_json(self.alloc, &mut self.json, row.tags)?;
-        make_piece(&mut self.odd, &mut self.tags, &[self.json.as_slice()])
+        set_tags(&mut self.odd, &mut self.tags, row.tags)
     }
 
     /// Makes the pieces those of a row, and only those again that differ from the row before, if they are held from it.

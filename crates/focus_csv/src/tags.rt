@@ -1,4 +1,4 @@
-//! Tags as the field of a JSON object. Plain ones are copied, and odd strings are written by `serde_json`.
+//! Tags as the field of a JSON object. What is plain is copied, and an odd string is written by `serde_json` and `csv`.
 
 ghost use Rattle.std.specs.Prelude.{◌≡◌, ◌∷◌, [], ◌++◌, map, false, IfOk, IsTrue, List, ℕ, OnOk};
 ghost use Rattle.metering_model.specs.Batch.{is_text};
@@ -8,19 +8,21 @@ ghost use Rattle.batch_view.specs.TagTexts.{tag_of};
 ghost use Rattle.focus_csv.specs.Inner.Runs.{behind};
 ghost use Rattle.focus_csv.specs.Inner.Strings.{is_odd, doubled};
 
+use crate::odd::OddFields;
 use batch_view::Tags;
+use memchr::memchr2;
 use serde_json::Value;
 use std::alloc::{AllocError, Global};
 use std::str;
 
-/// Whether a string stands in JSON otherwise than between its quotation marks. (No tag has a control character.)
+/// Whether a text has a byte before which JSON puts a backslash. (No tag has a control character.)
 fn is_odd(text: &[u8]) -> bool
     ensures { result ≡ is_odd text.now }
 {
-    text.iter().any(|c| *c == b'"' || *c == b'\\')
+    memchr2(b'"', b'\\', text).is_some()
 }
 
-// ---- plain tags, within the quotation marks of their field
+// ---- a tag, within the quotation marks of its field
 
 /// Appends a plain tag. What comes before it ends with the quotation mark of its key, which stands twice.
 fn put_plain_tag(
@@ -42,91 +44,107 @@ fn put_plain_tag(
     Ok(())
 }
 
-/// Makes a piece that of tags, if all of them are plain, and tells whether they are.
-pub(crate) fn set_plain_tags(piece: &mut Vec<u8>, tags: Tags<'_>) -> Result<bool, AllocError>
-    ensures { IfOk result (λ is_made. IsTrue is_made
-        → piece.new.items ≡ behind (json_object (map tag_of (lent_tags tags.entry)) ∷ [])) }
-{
-    piece.clear();
-    let mut left = tags;
-    let Some((key, value)) = left.next() else {
-        piece.extend_from_slice(b",{}")?;
-        return Ok(true);
-    };
-    if is_odd(key.text) || is_odd(value.text) {
-        return Ok(false);
-    }
-    put_plain_tag(piece, b",\"{\"\"", key.text, value.text)?;
-    for (key, value) in left {
-        if is_odd(key.text) || is_odd(value.text) {
-            return Ok(false);
-        }
-        put_plain_tag(piece, b",\"\"", key.text, value.text)?;
-    }
-    piece.extend_from_slice(b"}\"")?;
-    Ok(true)
-}
-
-// ---- a JSON object
-
-/// Appends a text as a string, as `serde_json` writes it.
-fn put_odd_string(alloc: Global, json: &mut Vec<u8>, text: &[u8]) -> Result<(), AllocError>
+/// A text as a string, as `serde_json` writes it.
+fn json_of(alloc: Global, text: &[u8]) -> Result<Vec<u8>, AllocError>
     requires { IsTrue (is_text text.now) }
-    ensures { OnOk result (json.new.items ≡ json.old.items ++ json_string text.now) }
+    ensures { IfOk result (λ v. v.items ≡ json_string text.now) }
 {
     let Ok(text) = str::from_utf8(text) else {
         unreachable!()
     };
     let string = Value::try_from_str(alloc, text)?;
-    let written = string.to_vec(alloc)?;
-    json.extend_from_slice(written.as_slice())?;
-    Ok(())
+    string.to_vec(alloc)
 }
 
 /// Appends a text as a string.
-fn put_string(alloc: Global, json: &mut Vec<u8>, text: &[u8]) -> Result<(), AllocError>
+fn put_string(odd: &mut OddFields, piece: &mut Vec<u8>, text: &[u8]) -> Result<(), AllocError>
     requires { IsTrue (is_text text.now) }
-    ensures { OnOk result (json.new.items ≡ json.old.items ++ json_string text.now) }
+    ensures { OnOk result (piece.new.items ≡ piece.old.items ++ doubled (json_string text.now)) }
 {
     if is_odd(text) {
-        return put_odd_string(alloc, json, text);
+        let json = json_of(odd.alloc(), text)?;
+        return odd.put_within(piece, json.as_slice());
     }
-    json.push(b'"')?;
-    json.extend_from_slice(text)?;
-    json.push(b'"')?;
+    piece.extend_from_slice(b"\"\"")?;
+    piece.extend_from_slice(text)?;
+    piece.extend_from_slice(b"\"\"")?;
     Ok(())
 }
 
-/// Appends one more member, and in front of it what parts it from the one before.
-fn put_member(
-    alloc: Global,
-    json: &mut Vec<u8>,
-    separator: &[u8],
+/// Appends a tag, and in front of it what parts it from the one before.
+fn put_odd_tag(
+    odd: &mut OddFields,
+    piece: &mut Vec<u8>,
+    front: &[u8],
     key: &[u8],
     value: &[u8],
 ) -> Result<(), AllocError>
     requires key { IsTrue (is_text key.now) }
     requires value { IsTrue (is_text value.now) }
-    ensures { OnOk result (json.new.items ≡ json.old.items
-        ++ (separator.now ++ json_member (record { key = key.now; value = value.now }))) }
+    ensures { OnOk result (piece.new.items
+        ≡ piece.old.items ++ (front.now ++ doubled (json_member (record { key = key.now; value = value.now })))) }
 {
-    json.extend_from_slice(separator)?;
-    put_string(alloc, json, key)?;
-    json.push(b':')?;
-    put_string(alloc, json, value)
+    piece.extend_from_slice(front)?;
+    put_string(odd, piece, key)?;
+    piece.push(b':')?;
+    put_string(odd, piece, value)?;
+    Ok(())
 }
 
-/// Makes the text that of the tags: one JSON object without blanks, by rising keys.
-pub(crate) fn set_json(alloc: Global, json: &mut Vec<u8>, tags: Tags<'_>) -> Result<(), AllocError>
-    ensures { OnOk result (json.new.items ≡ json_object (map tag_of (lent_tags tags.entry))) }
+/// Appends a tag, and in front of it what parts it from the one before; `begin` is that and two quotation marks.
+fn put_tag(
+    odd: &mut OddFields,
+    piece: &mut Vec<u8>,
+    is_plain: bool,
+    front: &[u8],
+    begin: &[u8],
+    key: &[u8],
+    value: &[u8],
+) -> Result<(), AllocError>
+    requires begin { begin.now ≡ front.now ++ 34 ∷ 34 ∷ [] }
+    requires key { IsTrue (is_text key.now) }
+    requires value { IsTrue (is_text value.now) }
+    requires plain { IsTrue is_plain → (is_odd key.now ≡ false) × (is_odd value.now ≡ false) }
+    ensures { OnOk result (piece.new.items
+        ≡ piece.old.items ++ (front.now ++ doubled (json_member (record { key = key.now; value = value.now })))) }
 {
-    json.clear();
-    json.push(b'{')?;
-    let mut separator: &[u8] = b"";
-    for (key, value) in tags {
-        put_member(alloc, json, separator, key.text, value.text)?;
-        separator = b",";
+    if is_plain {
+        put_plain_tag(piece, begin, key, value)?;
+        return Ok(());
     }
-    json.push(b'}')?;
+    put_odd_tag(odd, piece, front, key, value)
+}
+
+// ---- all tags
+
+/// Makes a piece that of tags: one JSON object without blanks, by rising keys. Where their text has no odd byte, none is asked
+/// for in a tag.
+pub(crate) fn set_tags(
+    odd: &mut OddFields,
+    piece: &mut Vec<u8>,
+    tags: Tags<'_>,
+) -> Result<(), AllocError>
+    ensures { OnOk result (piece.new.items ≡ behind (json_object (map tag_of (lent_tags tags.entry)) ∷ [])) }
+{
+    piece.clear();
+    let is_plain = !is_odd(tags.text());
+    let mut left = tags;
+    let Some((key, value)) = left.next() else {
+        piece.extend_from_slice(b",{}")?;
+        return Ok(());
+    };
+    put_tag(
+        odd,
+        piece,
+        is_plain,
+        b",\"{",
+        b",\"{\"\"",
+        key.text,
+        value.text,
+    )?;
+    for (key, value) in left {
+        put_tag(odd, piece, is_plain, b",", b",\"\"", key.text, value.text)?;
+    }
+    piece.extend_from_slice(b"}\"")?;
     Ok(())
 }

@@ -76,18 +76,9 @@ pub fn rate_input(alloc: Global, text: &[u8]) -> Result<RateInput, ScheduleFault
     ensures want { IfErr result (λ fault. fault ≡ ScheduleFault.OutOfMemory → IsOk (whole_of text.now)) }
     ensures rules { IfOk result (λ r. IsSheet r.sheet × IsIssuer r.issuer) }
 {
-    let unread = match Unread::whole(text) {
-        Ok(unread) => unread,
-        Err(fault) => return Err(fault),
-    };
-    let (sheet, unread) = match sheet_or_default(alloc, unread) {
-        Ok(parts) => parts,
-        Err(fault) => return Err(fault),
-    };
-    let (issuer, unread) = match issuer_or_sample(alloc, unread) {
-        Ok(parts) => parts,
-        Err(fault) => return Err(fault),
-    };
+    let unread = Unread::whole(text)?;
+    let (sheet, unread) = sheet_or_default(alloc, unread)?;
+    let (issuer, unread) = issuer_or_sample(alloc, unread)?;
     Ok(RateInput {
         sheet,
         issuer,

@@ -49,10 +49,7 @@ pub fn read_section<'a>(
     ensures want { IfErr result (λ fault. fault ≢ ScheduleFault.OutOfMemory) }
 {
     let line = unread.line();
-    let (opening, below) = match unread.first_line(code) {
-        Ok(parts) => parts,
-        Err(fault) => return Err(fault),
-    };
+    let (opening, below) = unread.first_line(code)?;
     let Some(count) = number_behind(opening, word, most) else {
         return Err(ScheduleFault::Refused { code, line });
     };
@@ -155,14 +152,9 @@ pub fn read_sheet<'a>(
     ensures rules { IfOk result (λ r. IsSheet r.0) }
     ensures text { IfOk result (λ r. r.1.text ≡ unread.now.text) }
 {
-    let section = match read_section(unread, ScheduleCode::Sheet, b"sheet ", 200_000) {
-        Ok(section) => section,
-        Err(fault) => return Err(fault),
-    };
-    match sheet_of(alloc, section.text, unread.line()) {
-        Ok(sheet) => Ok((sheet, section.rest)),
-        Err(fault) => Err(fault),
-    }
+    let section = read_section(unread, ScheduleCode::Sheet, b"sheet ", 200_000)?;
+    let sheet = sheet_of(alloc, section.text, unread.line())?;
+    Ok((sheet, section.rest))
 }
 
 /// Reads a section of up to 100 lines that is an issuer. Want of memory is told only of a section that is UTF-8.
@@ -178,12 +170,7 @@ pub fn read_issuer<'a>(
     ensures rules { IfOk result (λ r. IsIssuer r.0) }
     ensures text { IfOk result (λ r. r.1.text ≡ unread.now.text) }
 {
-    let section = match read_section(unread, ScheduleCode::Issuer, b"issuer ", 100) {
-        Ok(section) => section,
-        Err(fault) => return Err(fault),
-    };
-    match issuer_of(alloc, section.text, unread.line()) {
-        Ok(issuer) => Ok((issuer, section.rest)),
-        Err(fault) => Err(fault),
-    }
+    let section = read_section(unread, ScheduleCode::Issuer, b"issuer ", 100)?;
+    let issuer = issuer_of(alloc, section.text, unread.line())?;
+    Ok((issuer, section.rest))
 }

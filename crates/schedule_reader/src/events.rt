@@ -110,10 +110,7 @@ fn line_event<'a>(unread: &Unread<'a>) -> Result<(Planned<'a>, Unread<'a>), Sche
     ensures want { IfErr result (λ fault. fault ≢ ScheduleFault.OutOfMemory) }
     ensures lines { IfOk result (λ r. HasWholeLines r.0) }
 {
-    let (line, rest) = match unread.first_line(ScheduleCode::Event) {
-        Ok(parts) => parts,
-        Err(fault) => return Err(fault),
-    };
+    let (line, rest) = unread.first_line(ScheduleCode::Event)?;
     match event_of_line(line) {
         Some(event) => Ok((event, rest)),
         None => Err(ScheduleFault::Refused {
@@ -130,10 +127,8 @@ fn journal_event<'a>(unread: &Unread<'a>) -> Result<(Planned<'a>, Unread<'a>), S
     ensures want { IfErr result (λ fault. fault ≢ ScheduleFault.OutOfMemory) }
     ensures lines { IfOk result (λ r. HasWholeLines r.0) }
 {
-    match read_section(unread, ScheduleCode::Event, b"journal ", 1_001) {
-        Ok(section) => Ok((Planned::Journal(section.text), section.rest)),
-        Err(fault) => Err(fault),
-    }
+    let section = read_section(unread, ScheduleCode::Event, b"journal ", 1_001)?;
+    Ok((Planned::Journal(section.text), section.rest))
 }
 
 /// The node and the number of lines that a line tells which opens a revival: one line at least.
@@ -157,10 +152,7 @@ fn revival_event<'a>(unread: &Unread<'a>) -> Result<(Planned<'a>, Unread<'a>), S
     ensures lines { IfOk result (λ r. HasWholeLines r.0) }
 {
     let line = unread.line();
-    let (opening, below) = match unread.first_line(ScheduleCode::Event) {
-        Ok(parts) => parts,
-        Err(fault) => return Err(fault),
-    };
+    let (opening, below) = unread.first_line(ScheduleCode::Event)?;
     let Some((node, count)) = revival_of_line(opening) else {
         return Err(ScheduleFault::Refused {
             code: ScheduleCode::Event,
@@ -216,10 +208,7 @@ pub(crate) fn events_in<'a>(
         if here.left().is_empty() {
             return Ok(events);
         }
-        let (event, rest) = match event_in(&here) {
-            Ok(parts) => parts,
-            Err(fault) => return Err(fault),
-        };
+        let (event, rest) = event_in(&here)?;
         let Ok(_) = events.push(event) else {
             return Err(ScheduleFault::OutOfMemory);
         };

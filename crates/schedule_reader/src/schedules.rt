@@ -33,10 +33,7 @@ fn head_line<'a>(unread: &Unread<'a>) -> Result<Unread<'a>, ScheduleFault>
     ensures head { MatchResult result (λ rest. head_line unread.now ≡ Ok rest) (λ fault. head_line unread.now ≡ Err fault) }
     ensures want { IfErr result (λ fault. fault ≢ ScheduleFault.OutOfMemory) }
 {
-    let (line, rest) = match unread.first_line(ScheduleCode::Head) {
-        Ok(parts) => parts,
-        Err(fault) => return Err(fault),
-    };
+    let (line, rest) = unread.first_line(ScheduleCode::Head)?;
     if is_same(line, b"SCHEDULE 1") {
         Ok(rest)
     } else {
@@ -60,10 +57,7 @@ fn number_line<'a>(
     ensures within { IfOk result (λ r. r.0 ≤ most) }
     ensures want { IfErr result (λ fault. fault ≢ ScheduleFault.OutOfMemory) }
 {
-    let (line, rest) = match unread.first_line(code) {
-        Ok(parts) => parts,
-        Err(fault) => return Err(fault),
-    };
+    let (line, rest) = unread.first_line(code)?;
     match number_behind(line, word, most) {
         Some(number) => Ok((number, rest)),
         None => Err(ScheduleFault::Refused {
@@ -80,10 +74,7 @@ fn nodes_line<'a>(unread: &Unread<'a>) -> Result<(u32, u32, Unread<'a>), Schedul
     ensures within { IfOk result (λ r. r.0 + r.1 ≤ 99) }
     ensures want { IfErr result (λ fault. fault ≢ ScheduleFault.OutOfMemory) }
 {
-    let (line, rest) = match unread.first_line(ScheduleCode::Nodes) {
-        Ok(parts) => parts,
-        Err(fault) => return Err(fault),
-    };
+    let (line, rest) = unread.first_line(ScheduleCode::Nodes)?;
     match nodes_behind(line) {
         Some((voters, observers)) => Ok((voters, observers, rest)),
         None => Err(ScheduleFault::Refused {
@@ -99,22 +90,11 @@ fn group_in<'a>(text: &'a [u8]) -> Result<(u8, u8, u8, Unread<'a>), ScheduleFaul
     ensures group { MatchResult result (λ r. group_in text.now ≡ Ok (r.0, r.1, r.2, r.3)) (λ fault. group_in text.now ≡ Err fault) }
     ensures want { IfErr result (λ fault. fault ≢ ScheduleFault.OutOfMemory) }
 {
-    let whole = match Unread::whole(text) {
-        Ok(unread) => unread,
-        Err(fault) => return Err(fault),
-    };
-    let head = match head_line(&whole) {
-        Ok(unread) => unread,
-        Err(fault) => return Err(fault),
-    };
-    let (voters, observers, rest) = match nodes_line(&head) {
-        Ok(parts) => parts,
-        Err(fault) => return Err(fault),
-    };
-    match number_line(&rest, ScheduleCode::Agents, b"agents ", 64) {
-        Ok((agents, rest)) => Ok((voters as u8, observers as u8, agents as u8, rest)),
-        Err(fault) => Err(fault),
-    }
+    let whole = Unread::whole(text)?;
+    let head = head_line(&whole)?;
+    let (voters, observers, rest) = nodes_line(&head)?;
+    let (agents, rest) = number_line(&rest, ScheduleCode::Agents, b"agents ", 64)?;
+    Ok((voters as u8, observers as u8, agents as u8, rest))
 }
 
 /// What stands above the events of a schedule, and what is left behind it: the events, of which none was read.
@@ -142,25 +122,17 @@ impl<'a> Preamble<'a> {
         ensures group { IfOk result (λ p. (1 ≤ p.voters) × (p.voters + p.observers ≤ 99) × (1 ≤ p.agents) × (p.agents ≤ 64)) }
         ensures rules { IfOk result (λ p. IsSheet p.sheet × IsIssuer p.issuer) }
     {
-        let (voters, observers, agents, unread) = match group_in(text) {
-            Ok(parts) => parts,
-            Err(fault) => return Err(fault),
-        };
-        let (sheet, unread) = match read_sheet(alloc, &unread) {
-            Ok(parts) => parts,
-            Err(fault) => return Err(fault),
-        };
-        match read_issuer(alloc, &unread) {
-            Ok((issuer, rest)) => Ok(Preamble {
-                voters,
-                observers,
-                agents,
-                sheet,
-                issuer,
-                rest,
-            }),
-            Err(fault) => Err(fault),
-        }
+        let (voters, observers, agents, unread) = group_in(text)?;
+        let (sheet, unread) = read_sheet(alloc, &unread)?;
+        let (issuer, rest) = read_issuer(alloc, &unread)?;
+        Ok(Preamble {
+            voters,
+            observers,
+            agents,
+            sheet,
+            issuer,
+            rest,
+        })
     }
 }
 
@@ -178,10 +150,7 @@ impl<'a> Schedule<'a> {
         ensures lines { IfOk result (λ s. All HasWholeLines s.events.items) }
         ensures rules { IfOk result (λ s. IsSheet s.sheet × IsIssuer s.issuer) }
     {
-        let above = match Preamble::read(alloc, text) {
-            Ok(above) => above,
-            Err(fault) => return Err(fault),
-        };
+        let above = Preamble::read(alloc, text)?;
         let Preamble {
             voters,
             observers,
@@ -190,16 +159,14 @@ impl<'a> Schedule<'a> {
             issuer,
             rest,
         } = above;
-        match events_in(alloc, rest, text.len()) {
-            Ok(events) => Ok(Schedule {
-                voters,
-                observers,
-                agents,
-                sheet,
-                issuer,
-                events,
-            }),
-            Err(fault) => Err(fault),
-        }
+        let events = events_in(alloc, rest, text.len())?;
+        Ok(Schedule {
+            voters,
+            observers,
+            agents,
+            sheet,
+            issuer,
+            events,
+        })
     }
 }

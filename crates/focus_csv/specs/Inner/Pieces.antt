@@ -22,7 +22,7 @@ number_bytes p =
 
 -- all bytes of the pieces of a line
 abbrev pub line_bytes : LinePieces → List ℕ
-line_bytes p = number_bytes p.numbers ++ text_bytes p.texts ++ p.json.items ++ p.tags.items
+line_bytes p = number_bytes p.numbers ++ text_bytes p.texts ++ p.tags.items
 
 pub record AreTextsOf (p : TextPieces) (r : Row) : Type 0 where
   pub head : p.head.items ≡ behind (head_columns r)

@@ -1,5 +1,6 @@
 use Rattle.std.proofs.Common.{◌≡◌, ◌+◌, ◌-◌, ◌<◌, ◌≤◌, suc, map, length, sym, ap, ◌∙◌, arith, subst, All}
 use Rattle.std.proofs.lemmas.Bool.Decides.{nat_tests}
+use Rattle.std.proofs.lemmas.Result.{err_from_is_err_and}
 use Rattle.std.proofs.lemmas.List.Elements.{All-push}
 use Rattle.input_sections.specs.Sections.{left}
 use Rattle.schedule_reader.specs.Events.{HasWholeLines, planned_of}
@@ -17,14 +18,15 @@ returns-then-is_empty-clause-taken c =
     let none : length (left c.loop.here) ≤ 0 = grind (arith, nat_tests, same, c.is_empty.ensures, c.if-is_empty.true) in
     c.loop.invariant.events ∙ ap (λ n. in_front found (events_in n c.loop.here)) more ∙ found_whole k c.loop.here found none
 
-pub returns-in-Err-clause-refused : goal.returns-in-Err-clause-refused
-returns-in-Err-clause-refused c = λ _.
+pub returns-in_err-event-clause-refused : goal.returns-in_err-event-clause-refused
+returns-in_err-event-clause-refused c =
+    let p = err_from_is_err_and c.from_residual.result c.from_residual.ensures.1 in
     let found = map planned_of c.loop.events.items in
     let k = c.args.most - (c.loop.counter + 1) in
     let more : c.args.most - c.loop.counter ≡ suc k = omega (arith, c.loop-test.true) in
     let same = ap length c.left.ensures in
     let some : 0 < length (left c.loop.here) = grind (arith, nat_tests, same, c.is_empty.ensures, c.if-is_empty.false) in
-    c.loop.invariant.events ∙ ap (λ n. in_front found (events_in n c.loop.here)) more ∙ found_fault k c.loop.here c.in-Err.fault found some c.in-Err.ensures.event
+    rw (p.1, p.2) (λ _. c.loop.invariant.events ∙ ap (λ n. in_front found (events_in n c.loop.here)) more ∙ found_fault k c.loop.here c.in_err-event.field-0.0 found some c.in_err-event.ensures.event)
 
 pub loop-preserved : goal.loop-preserved
 loop-preserved c =
@@ -33,14 +35,14 @@ loop-preserved c =
     let more : c.args.most - c.loop.counter ≡ suc k = omega (arith, c.loop-test.true) in
     let same = ap length c.left.ensures in
     let some : 0 < length (left c.loop.here) = grind (arith, nat_tests, same, c.is_empty.ensures, c.if-is_empty.false) in
-    let event = c.in-Ok.parts.0 in
-    let rest = c.in-Ok.parts.1 in
-    let pushed = ap (map planned_of) c.in-Ok-push.ensures.items ∙ map_more planned_of c.loop.events.items event in
+    let event = c.in_ok-event.event in
+    let rest = c.in_ok-event.rest in
+    let pushed = ap (map planned_of) c.in-Ok.ensures.items ∙ map_more planned_of c.loop.events.items event in
     record {
       events = c.loop.invariant.events ∙ ap (λ n. in_front found (events_in n c.loop.here)) more
-          ∙ found_next k c.loop.here rest (planned_of event) found some c.in-Ok.ensures.event
+          ∙ found_next k c.loop.here rest (planned_of event) found some c.in_ok-event.ensures.event
           ∙ ap (λ es. in_front es (events_in k rest)) (sym pushed);
-      lines = subst (All HasWholeLines) (sym c.in-Ok-push.ensures.items) (All-push HasWholeLines c.loop.events.items event c.loop.invariant.lines c.in-Ok.ensures.lines);
+      lines = subst (All HasWholeLines) (sym c.in-Ok.ensures.items) (All-push HasWholeLines c.loop.events.items event c.loop.invariant.lines c.in_ok-event.ensures.lines);
     }
 
 pub returns-clause-taken : goal.returns-clause-taken
