@@ -1,6 +1,6 @@
 //! Fields of a line, as a reader of CSV takes them back.
 
-ghost use Rattle.std.specs.Prelude.{◌≡◌, ◌||◌, ◌==◌, ◌∷◌, ◌++◌, map, OnOk, OnErr, IsTrue};
+ghost use Rattle.std.specs.Prelude.{◌≡◌, ◌||◌, ◌==◌, ◌∷◌, ◌++◌, map, OnOk, OnErr};
 ghost use Rattle.std.specs.List.{flat_map, list_any};
 ghost use Rattle.metering_model.specs.File.{quoted};
 ghost use Rattle.focus_csv.specs.Inner.Beginnings.{BeginsWith};
@@ -30,7 +30,11 @@ fn put_next(odd: &mut OddFields, text: &mut Vec<u8>, field: &[u8]) -> Result<(),
 }
 
 /// Makes a piece that of these fields, each behind a comma.
-fn make_piece(odd: &mut OddFields, piece: &mut Vec<u8>, fields: &[&[u8]]) -> Result<(), AllocError>
+pub(crate) fn make_piece(
+    odd: &mut OddFields,
+    piece: &mut Vec<u8>,
+    fields: &[&[u8]],
+) -> Result<(), AllocError>
     ensures { OnOk result (piece.new.items ≡ behind (map (λ f. f.now) fields.now)) }
 {
     piece.clear();
@@ -38,38 +42,6 @@ fn make_piece(odd: &mut OddFields, piece: &mut Vec<u8>, fields: &[&[u8]]) -> Res
         put_next(odd, piece, *field)?;
     }
     Ok(())
-}
-
-/// Whether texts are the same.
-fn are_same(some: &[&[u8]], others: &[&[u8]]) -> bool
-    ensures { IsTrue result → map (λ f. f.now) some.now ≡ map (λ f. f.now) others.now }
-{
-    if some.len() != others.len() {
-        return false;
-    }
-    for i in 0..some.len() {
-        if some[i] != others[i] {
-            return false;
-        }
-    }
-    true
-}
-
-/// Makes a piece that of these fields. One that is held is of the fields before, and stays where these are the same.
-pub(crate) fn set_piece(
-    odd: &mut OddFields,
-    piece: &mut Vec<u8>,
-    is_held: bool,
-    before: &[&[u8]],
-    fields: &[&[u8]],
-) -> Result<(), AllocError>
-    requires { IsTrue is_held → piece.old.items ≡ behind (map (λ f. f.now) before.now) }
-    ensures { OnOk result (piece.new.items ≡ behind (map (λ f. f.now) fields.now)) }
-{
-    if is_held && are_same(before, fields) {
-        return Ok(());
-    }
-    make_piece(odd, piece, fields)
 }
 
 /// Appends pieces, one behind the other. At want of memory the text is as before, or has some of them behind it.

@@ -31,7 +31,7 @@ pub(crate) struct LinePieces {
 }
 
 /// How many pieces stand behind the first number.
-const PIECES: usize = 18;
+const PIECES: usize = 20;
 
 impl LinePieces {
     /// Pieces of no row, all of them empty.
@@ -99,7 +99,8 @@ impl LinePieces {
         ensures { (r : Row) → AreOf self.now r → map (λ p. p.now) result ≡ map behind (line_runs r) }
     {
         [
-            self.texts.head.as_slice(),
+            self.texts.billing.as_slice(),
+            self.texts.charge.as_slice(),
             self.texts.moment.as_slice(),
             self.numbers.consumed_quantity.as_bytes(),
             self.texts.unit.as_slice(),
@@ -112,6 +113,7 @@ impl LinePieces {
             self.texts.category.as_slice(),
             self.numbers.pricing_quantity.as_bytes(),
             self.texts.pricing.as_slice(),
+            self.texts.seller.as_slice(),
             self.texts.region.as_slice(),
             self.texts.resource.as_slice(),
             self.texts.service.as_slice(),

@@ -4,23 +4,25 @@ ghost use Rattle.std.specs.Prelude.{◌≡◌, [], map, IsTrue, OnOk};
 ghost use Rattle.std.specs.Option.{option_copied};
 ghost use Rattle.metering_model.specs.File.{text_or_null};
 ghost use Rattle.focus_row.specs.Rows.{model_row};
-ghost use Rattle.focus_csv.specs.Inner.Runs.{behind, head_columns, moment_columns, unit_columns, issuer_columns, category_columns, pricing_columns, region_columns, resource_columns, service_columns, account_columns};
+ghost use Rattle.focus_csv.specs.Inner.Runs.{behind, billing_columns, charge_columns, moment_columns, unit_columns, issuer_columns, category_columns, pricing_columns, seller_columns, region_columns, resource_columns, service_columns, account_columns};
 ghost use Rattle.focus_csv.specs.Inner.Pieces.{AreTextsOf, text_bytes};
 
-use crate::fields::set_piece;
+use crate::fields::make_piece;
 use crate::odd::OddFields;
 use focus_row::FocusRow;
 use std::alloc::{AllocError, Global};
 
-/// The pieces between the numbers, each with a comma before each of its fields.
+/// The pieces between the numbers, each with a comma before each of its fields. The columns of a piece change together.
 #[derive(Drop)]
 pub(crate) struct TextPieces {
-    pub(crate) head: Vec<u8>,
+    pub(crate) billing: Vec<u8>,
+    pub(crate) charge: Vec<u8>,
     pub(crate) moment: Vec<u8>,
     pub(crate) unit: Vec<u8>,
     pub(crate) issuer: Vec<u8>,
     pub(crate) category: Vec<u8>,
     pub(crate) pricing: Vec<u8>,
+    pub(crate) seller: Vec<u8>,
     pub(crate) region: Vec<u8>,
     pub(crate) resource: Vec<u8>,
     pub(crate) service: Vec<u8>,
@@ -38,10 +40,11 @@ fn text_or_null<'a>(text: Option<&'a [u8]>) -> &'a [u8]
     }
 }
 
-/// Who bills and for which period, and what is charged.
+// Each of these makes the piece that of a row. One that is held is of the row before, and stays where its columns are the same.
+
 #[inline(always)]
-fn head<'a>(row: &'a FocusRow<'a>) -> [&'a [u8]; 9]
-    ensures { map (λ f. f.now) result ≡ head_columns (model_row row.now) }
+fn billing<'a>(row: &'a FocusRow<'a>) -> [&'a [u8]; 5]
+    ensures { map (λ f. f.now) result ≡ billing_columns (model_row row.now) }
 {
     [
         row.billing_account_id,
@@ -49,92 +52,270 @@ fn head<'a>(row: &'a FocusRow<'a>) -> [&'a [u8]; 9]
         row.billing_currency,
         &row.billing_period_end,
         &row.billing_period_start,
-        row.charge_category,
-        text_or_null(row.charge_class),
-        row.charge_description,
-        row.charge_frequency,
     ]
+}
+
+/// Who bills, and for which period.
+fn set_billing(
+    odd: &mut OddFields,
+    piece: &mut Vec<u8>,
+    are_held: bool,
+    before: &FocusRow<'_>,
+    row: &FocusRow<'_>,
+) -> Result<(), AllocError>
+    requires { IsTrue are_held → piece.old.items ≡ behind (billing_columns (model_row before.now)) }
+    ensures { OnOk result (piece.new.items ≡ behind (billing_columns (model_row row.now))) }
+{
+    if are_held
+        && before.billing_account_id == row.billing_account_id
+        && before.billing_account_name == row.billing_account_name
+        && before.billing_currency == row.billing_currency
+        && before.billing_period_end == row.billing_period_end
+        && before.billing_period_start == row.billing_period_start
+    {
+        return Ok(());
+    }
+    make_piece(odd, piece, &billing(row))
+}
+
+/// What is charged.
+fn set_charge(
+    odd: &mut OddFields,
+    piece: &mut Vec<u8>,
+    are_held: bool,
+    before: &FocusRow<'_>,
+    row: &FocusRow<'_>,
+) -> Result<(), AllocError>
+    requires { IsTrue are_held → piece.old.items ≡ behind (charge_columns (model_row before.now)) }
+    ensures { OnOk result (piece.new.items ≡ behind (charge_columns (model_row row.now))) }
+{
+    if are_held
+        && before.charge_category == row.charge_category
+        && before.charge_class == row.charge_class
+        && before.charge_description == row.charge_description
+        && before.charge_frequency == row.charge_frequency
+    {
+        return Ok(());
+    }
+    make_piece(
+        odd,
+        piece,
+        &[
+            row.charge_category,
+            text_or_null(row.charge_class),
+            row.charge_description,
+            row.charge_frequency,
+        ],
+    )
 }
 
 /// When it was, and under which commitment.
-#[inline(always)]
-fn moment<'a>(row: &'a FocusRow<'a>) -> [&'a [u8]; 6]
-    ensures { map (λ f. f.now) result ≡ moment_columns (model_row row.now) }
+fn set_moment(
+    odd: &mut OddFields,
+    piece: &mut Vec<u8>,
+    are_held: bool,
+    before: &FocusRow<'_>,
+    row: &FocusRow<'_>,
+) -> Result<(), AllocError>
+    requires { IsTrue are_held → piece.old.items ≡ behind (moment_columns (model_row before.now)) }
+    ensures { OnOk result (piece.new.items ≡ behind (moment_columns (model_row row.now))) }
 {
-    [
-        row.charge_period_end,
-        row.charge_period_start,
-        text_or_null(row.commitment_discount_category),
-        text_or_null(row.commitment_discount_id),
-        text_or_null(row.commitment_discount_status),
-        text_or_null(row.commitment_discount_type),
-    ]
+    if are_held
+        && before.charge_period_end == row.charge_period_end
+        && before.charge_period_start == row.charge_period_start
+        && before.commitment_discount_category == row.commitment_discount_category
+        && before.commitment_discount_id == row.commitment_discount_id
+        && before.commitment_discount_status == row.commitment_discount_status
+        && before.commitment_discount_type == row.commitment_discount_type
+    {
+        return Ok(());
+    }
+    make_piece(
+        odd,
+        piece,
+        &[
+            row.charge_period_end,
+            row.charge_period_start,
+            text_or_null(row.commitment_discount_category),
+            text_or_null(row.commitment_discount_id),
+            text_or_null(row.commitment_discount_status),
+            text_or_null(row.commitment_discount_type),
+        ],
+    )
 }
 
-#[inline(always)]
-fn unit<'a>(row: &'a FocusRow<'a>) -> [&'a [u8]; 1]
-    ensures { map (λ f. f.now) result ≡ unit_columns (model_row row.now) }
+/// In which unit it was consumed.
+fn set_unit(
+    odd: &mut OddFields,
+    piece: &mut Vec<u8>,
+    are_held: bool,
+    before: &FocusRow<'_>,
+    row: &FocusRow<'_>,
+) -> Result<(), AllocError>
+    requires { IsTrue are_held → piece.old.items ≡ behind (unit_columns (model_row before.now)) }
+    ensures { OnOk result (piece.new.items ≡ behind (unit_columns (model_row row.now))) }
 {
-    [text_or_null(row.consumed_unit)]
+    if are_held && before.consumed_unit == row.consumed_unit {
+        return Ok(());
+    }
+    make_piece(odd, piece, &[text_or_null(row.consumed_unit)])
 }
 
-#[inline(always)]
-fn issuer<'a>(row: &'a FocusRow<'a>) -> [&'a [u8]; 1]
-    ensures { map (λ f. f.now) result ≡ issuer_columns (model_row row.now) }
+/// Who issues the invoice.
+fn set_issuer(
+    odd: &mut OddFields,
+    piece: &mut Vec<u8>,
+    are_held: bool,
+    before: &FocusRow<'_>,
+    row: &FocusRow<'_>,
+) -> Result<(), AllocError>
+    requires { IsTrue are_held → piece.old.items ≡ behind (issuer_columns (model_row before.now)) }
+    ensures { OnOk result (piece.new.items ≡ behind (issuer_columns (model_row row.now))) }
 {
-    [row.invoice_issuer_name]
+    if are_held && before.invoice_issuer_name == row.invoice_issuer_name {
+        return Ok(());
+    }
+    make_piece(odd, piece, &[row.invoice_issuer_name])
 }
 
-#[inline(always)]
-fn category<'a>(row: &'a FocusRow<'a>) -> [&'a [u8]; 1]
-    ensures { map (λ f. f.now) result ≡ category_columns (model_row row.now) }
+/// How it is priced.
+fn set_category(
+    odd: &mut OddFields,
+    piece: &mut Vec<u8>,
+    are_held: bool,
+    before: &FocusRow<'_>,
+    row: &FocusRow<'_>,
+) -> Result<(), AllocError>
+    requires { IsTrue are_held → piece.old.items ≡ behind (category_columns (model_row before.now)) }
+    ensures { OnOk result (piece.new.items ≡ behind (category_columns (model_row row.now))) }
 {
-    [text_or_null(row.pricing_category)]
+    if are_held && before.pricing_category == row.pricing_category {
+        return Ok(());
+    }
+    make_piece(odd, piece, &[text_or_null(row.pricing_category)])
 }
 
-/// In which unit it is priced, and who sells it.
-#[inline(always)]
-fn pricing<'a>(row: &'a FocusRow<'a>) -> [&'a [u8]; 3]
-    ensures { map (λ f. f.now) result ≡ pricing_columns (model_row row.now) }
+/// In which unit it is priced.
+fn set_pricing(
+    odd: &mut OddFields,
+    piece: &mut Vec<u8>,
+    are_held: bool,
+    before: &FocusRow<'_>,
+    row: &FocusRow<'_>,
+) -> Result<(), AllocError>
+    requires { IsTrue are_held → piece.old.items ≡ behind (pricing_columns (model_row before.now)) }
+    ensures { OnOk result (piece.new.items ≡ behind (pricing_columns (model_row row.now))) }
 {
-    [
-        text_or_null(row.pricing_unit),
-        row.provider_name,
-        row.publisher_name,
-    ]
+    if are_held && before.pricing_unit == row.pricing_unit {
+        return Ok(());
+    }
+    make_piece(odd, piece, &[text_or_null(row.pricing_unit)])
 }
 
-#[inline(always)]
-fn region<'a>(row: &'a FocusRow<'a>) -> [&'a [u8]; 2]
-    ensures { map (λ f. f.now) result ≡ region_columns (model_row row.now) }
+/// Who provides it, and who publishes it.
+fn set_seller(
+    odd: &mut OddFields,
+    piece: &mut Vec<u8>,
+    are_held: bool,
+    before: &FocusRow<'_>,
+    row: &FocusRow<'_>,
+) -> Result<(), AllocError>
+    requires { IsTrue are_held → piece.old.items ≡ behind (seller_columns (model_row before.now)) }
+    ensures { OnOk result (piece.new.items ≡ behind (seller_columns (model_row row.now))) }
 {
-    [text_or_null(row.region_id), text_or_null(row.region_name)]
+    if are_held
+        && before.provider_name == row.provider_name
+        && before.publisher_name == row.publisher_name
+    {
+        return Ok(());
+    }
+    make_piece(odd, piece, &[row.provider_name, row.publisher_name])
 }
 
-#[inline(always)]
-fn resource<'a>(row: &'a FocusRow<'a>) -> [&'a [u8]; 1]
-    ensures { map (λ f. f.now) result ≡ resource_columns (model_row row.now) }
+/// Where it was.
+fn set_region(
+    odd: &mut OddFields,
+    piece: &mut Vec<u8>,
+    are_held: bool,
+    before: &FocusRow<'_>,
+    row: &FocusRow<'_>,
+) -> Result<(), AllocError>
+    requires { IsTrue are_held → piece.old.items ≡ behind (region_columns (model_row before.now)) }
+    ensures { OnOk result (piece.new.items ≡ behind (region_columns (model_row row.now))) }
 {
-    [text_or_null(row.resource_id)]
+    if are_held && before.region_id == row.region_id && before.region_name == row.region_name {
+        return Ok(());
+    }
+    make_piece(
+        odd,
+        piece,
+        &[text_or_null(row.region_id), text_or_null(row.region_name)],
+    )
 }
 
-#[inline(always)]
-fn service<'a>(row: &'a FocusRow<'a>) -> [&'a [u8]; 4]
-    ensures { map (λ f. f.now) result ≡ service_columns (model_row row.now) }
+/// What was used.
+fn set_resource(
+    odd: &mut OddFields,
+    piece: &mut Vec<u8>,
+    are_held: bool,
+    before: &FocusRow<'_>,
+    row: &FocusRow<'_>,
+) -> Result<(), AllocError>
+    requires { IsTrue are_held → piece.old.items ≡ behind (resource_columns (model_row before.now)) }
+    ensures { OnOk result (piece.new.items ≡ behind (resource_columns (model_row row.now))) }
 {
-    [
-        row.service_category,
-        row.service_name,
-        text_or_null(row.sku_id),
-        text_or_null(row.sku_price_id),
-    ]
+    if are_held && before.resource_id == row.resource_id {
+        return Ok(());
+    }
+    make_piece(odd, piece, &[text_or_null(row.resource_id)])
 }
 
-#[inline(always)]
-fn account<'a>(row: &'a FocusRow<'a>) -> [&'a [u8]; 1]
-    ensures { map (λ f. f.now) result ≡ account_columns (model_row row.now) }
+/// Which service, at which price.
+fn set_service(
+    odd: &mut OddFields,
+    piece: &mut Vec<u8>,
+    are_held: bool,
+    before: &FocusRow<'_>,
+    row: &FocusRow<'_>,
+) -> Result<(), AllocError>
+    requires { IsTrue are_held → piece.old.items ≡ behind (service_columns (model_row before.now)) }
+    ensures { OnOk result (piece.new.items ≡ behind (service_columns (model_row row.now))) }
 {
-    [text_or_null(row.sub_account_id)]
+    if are_held
+        && before.service_category == row.service_category
+        && before.service_name == row.service_name
+        && before.sku_id == row.sku_id
+        && before.sku_price_id == row.sku_price_id
+    {
+        return Ok(());
+    }
+    make_piece(
+        odd,
+        piece,
+        &[
+            row.service_category,
+            row.service_name,
+            text_or_null(row.sku_id),
+            text_or_null(row.sku_price_id),
+        ],
+    )
+}
+
+/// On whose account.
+fn set_account(
+    odd: &mut OddFields,
+    piece: &mut Vec<u8>,
+    are_held: bool,
+    before: &FocusRow<'_>,
+    row: &FocusRow<'_>,
+) -> Result<(), AllocError>
+    requires { IsTrue are_held → piece.old.items ≡ behind (account_columns (model_row before.now)) }
+    ensures { OnOk result (piece.new.items ≡ behind (account_columns (model_row row.now))) }
+{
+    if are_held && before.sub_account_id == row.sub_account_id {
+        return Ok(());
+    }
+    make_piece(odd, piece, &[text_or_null(row.sub_account_id)])
 }
 
 impl TextPieces {
@@ -143,12 +324,14 @@ impl TextPieces {
         ensures { text_bytes result ≡ [] }
     {
         TextPieces {
-            head: Vec::new(alloc),
+            billing: Vec::new(alloc),
+            charge: Vec::new(alloc),
             moment: Vec::new(alloc),
             unit: Vec::new(alloc),
             issuer: Vec::new(alloc),
             category: Vec::new(alloc),
             pricing: Vec::new(alloc),
+            seller: Vec::new(alloc),
             region: Vec::new(alloc),
             resource: Vec::new(alloc),
             service: Vec::new(alloc),
@@ -167,63 +350,17 @@ impl TextPieces {
         requires { IsTrue are_held → AreTextsOf self.old (model_row before.now) }
         ensures { OnOk result (AreTextsOf self.new (model_row row.now)) }
     {
-        set_piece(odd, &mut self.head, are_held, &head(before), &head(row))?;
-        set_piece(
-            odd,
-            &mut self.moment,
-            are_held,
-            &moment(before),
-            &moment(row),
-        )?;
-        set_piece(odd, &mut self.unit, are_held, &unit(before), &unit(row))?;
-        set_piece(
-            odd,
-            &mut self.issuer,
-            are_held,
-            &issuer(before),
-            &issuer(row),
-        )?;
-        set_piece(
-            odd,
-            &mut self.category,
-            are_held,
-            &category(before),
-            &category(row),
-        )?;
-        set_piece(
-            odd,
-            &mut self.pricing,
-            are_held,
-            &pricing(before),
-            &pricing(row),
-        )?;
-        set_piece(
-            odd,
-            &mut self.region,
-            are_held,
-            &region(before),
-            &region(row),
-        )?;
-        set_piece(
-            odd,
-            &mut self.resource,
-            are_held,
-            &resource(before),
-            &resource(row),
-        )?;
-        set_piece(
-            odd,
-            &mut self.service,
-            are_held,
-            &service(before),
-            &service(row),
-        )?;
-        set_piece(
-            odd,
-            &mut self.account,
-            are_held,
-            &account(before),
-            &account(row),
-        )
+        set_billing(odd, &mut self.billing, are_held, before, row)?;
+        set_charge(odd, &mut self.charge, are_held, before, row)?;
+        set_moment(odd, &mut self.moment, are_held, before, row)?;
+        set_unit(odd, &mut self.unit, are_held, before, row)?;
+        set_issuer(odd, &mut self.issuer, are_held, before, row)?;
+        set_category(odd, &mut self.category, are_held, before, row)?;
+        set_pricing(odd, &mut self.pricing, are_held, before, row)?;
+        set_seller(odd, &mut self.seller, are_held, before, row)?;
+        set_region(odd, &mut self.region, are_held, before, row)?;
+        set_resource(odd, &mut self.resource, are_held, before, row)?;
+        set_service(odd, &mut self.service, are_held, before, row)?;
+        set_account(odd, &mut self.account, are_held, before, row)
     }
 }

@@ -74,20 +74,31 @@ fn file_of(
 /// A second price whose SKU is no text.
 const NO_TEXT: &str = "[[price]]\nsku = 1\n";
 
+/// Whether that is what is said of a price.
+fn is_said(alloc: Global, text: &str, sku: &str, day: Day, said: &str) -> bool {
+    match list_price(alloc, text, sku, day) {
+        Ok(price) => price.as_str() == said,
+        Err(_) => false,
+    }
+}
+
+/// The same where one more row stands in the worked sheet.
+fn is_said_with(alloc: Global, row: &str, day: Day, said: &str) -> bool {
+    match format!(in alloc; "{SHEET}{row}") {
+        Ok(text) => is_said(alloc, text.as_str(), "cpu", day, said),
+        Err(_) => false,
+    }
+}
+
 #[test]
 fn a_list_price_is_asked_for(rt: HostRuntime) -> Result<(), Fail> {
     let alloc = rt.alloc();
     let first = Day::read(b"2025-01-01").ok_or("no day")?;
     let before = Day::read(b"2024-12-31").ok_or("no day")?;
-    let wrong = format!(in alloc; "{SHEET}{NO_TEXT}")?;
-    let price = list_price(alloc, SHEET, "cpu", first)?;
-    assert_eq!(rt; price.as_str(), "0.1 for 3600 Seconds");
-    let none = list_price(alloc, SHEET, "cpu", before)?;
-    assert_eq!(rt; none.as_str(), "cpu has no price yet");
-    let wrong = list_price(alloc, &wrong, "cpu", first)?;
-    assert_eq!(rt; wrong.as_str(), "price 2: bad sku");
-    let none = list_price(alloc, "", "cpu", first)?;
-    assert_eq!(rt; none.as_str(), "no sheet: S2 top base");
+    assert!(rt; is_said(alloc, SHEET, "cpu", first, "0.1 for 3600 Seconds"));
+    assert!(rt; is_said(alloc, SHEET, "cpu", before, "cpu has no price yet"));
+    assert!(rt; is_said_with(alloc, NO_TEXT, first, "price 2: bad sku"));
+    assert!(rt; is_said(alloc, "", "cpu", first, "no sheet: S2 top base"));
     Ok(())
 }
 
@@ -95,34 +106,59 @@ fn a_list_price_is_asked_for(rt: HostRuntime) -> Result<(), Fail> {
 const IN_FEBRUARY: &[u8] =
     b"B1|1|3|1\nU|2025-02-10T00:00:00Z|2025-02-10T02:00:00Z|acc-7|vm-1|cpu|5400||env=prod\n";
 
-#[test]
-fn what_is_missing_and_what_is_due_is_asked_for(rt: HostRuntime) -> Result<(), Fail> {
-    let alloc = rt.alloc();
-    let january = Period::new(0).ok_or("no period")?;
-    let texts = [READ, AMENDED, IN_FEBRUARY];
-    let Some((missing, due)) = missing_and_due(alloc, &texts, january)? else {
-        return Err(Fail::from("no batch"));
+/// Whether the first batch that is missing has this sequence, and the cut that is due this line.
+fn is_due(alloc: Global, told: &(u32, Cut), missing: u32, line: &[u8]) -> bool {
+    match told.1.write(alloc) {
+        Ok(text) => told.0 == missing && text.as_slice() == line,
+        Err(_) => false,
+    }
+}
+
+/// Whether that is so of these batches in January; without a line, whether one of them is no batch of the group.
+fn are_due(alloc: Global, texts: &[&[u8]], missing: u32, line: Option<&[u8]>) -> bool {
+    let Some(january) = Period::new(0) else {
+        return false;
     };
-    assert_eq!(rt; missing, 4);
-    assert_eq!(rt; due.write(alloc)?.as_slice(), b"2|0".as_slice());
-    let of_another = [READ, b"B1|3|1|0\n"];
-    assert!(rt; missing_and_due(alloc, &of_another, january)?.is_none());
-    Ok(())
+    match (missing_and_due(alloc, texts, january), line) {
+        (Ok(Some(told)), Some(line)) => is_due(alloc, &told, missing, line),
+        (Ok(None), None) => true,
+        _ => false,
+    }
 }
 
 #[test]
-fn the_file_of_a_period_is_asked_for(rt: HostRuntime) -> Result<(), Fail> {
+fn what_is_missing_and_what_is_due_is_asked_for(rt: HostRuntime) {
     let alloc = rt.alloc();
-    let store = worked_store(alloc)?;
-    let Some(of) = Charged::new(alloc, store, SHEET, 0, (0, 1)) else {
-        return Err(Fail::from("nothing is charged"));
-    };
-    let period = file_of(
+    assert!(rt; are_due(alloc, &[READ, AMENDED, IN_FEBRUARY], 4, Some(b"2|0")));
+    assert!(rt; are_due(alloc, &[READ, b"B1|3|1|0\n"], 0, None));
+}
+
+/// Whether the file has the worked line alone behind its header line.
+fn is_worked(file: Result<Option<Vec<u8>>, CsvFault>) -> bool {
+    match file {
+        Ok(Some(file)) => file.strip_prefix(HEADER) == Some(LINE),
+        _ => false,
+    }
+}
+
+/// Whether it is the file of January, in which usage is charged.
+fn is_asked_for(alloc: Global, of: &Charged) -> bool {
+    is_worked(file_of(
         alloc, &of.store, &of.sheet, &of.issuer, of.period, &of.from, &of.to,
-    )?;
-    let Some(file) = period else {
-        return Err(Fail::from("no file"));
+    ))
+}
+
+/// What is charged in January.
+fn charged(alloc: Global) -> Option<Charged> {
+    let store = worked_store(alloc).ok()?;
+    Charged::new(alloc, store, SHEET, 0, (0, 1))
+}
+
+#[test]
+fn the_file_of_a_period_is_asked_for(rt: HostRuntime) {
+    let is_worked = match charged(rt.alloc()) {
+        Some(of) => is_asked_for(rt.alloc(), &of),
+        None => false,
     };
-    assert_eq!(rt; file.strip_prefix(HEADER), Some(LINE));
-    Ok(())
+    assert!(rt; is_worked);
 }

@@ -7,7 +7,6 @@ use counted_io::{Counted, FakeWriter};
 use focus_csv::{CsvFault, row_texts, write_file};
 use focus_row::{Cut, FocusRow, Issuer, Period, RowFault, Sheet, rows_of};
 use std::alloc::{AllocError, Global};
-use std::test::Fail;
 use worked_texts::{AMENDED, CORRECTION, HEADER, READ, SHEET};
 
 /// What is charged in a period, by what, and the cuts that bound it.
@@ -150,25 +149,45 @@ fn first_other_prefix(alloc: Global, rows: &[FocusRow<'_>]) -> Result<Option<usi
     Ok(None)
 }
 
+/// Whether the text of the rows is that of the correction.
+fn is_correction(alloc: Global, rows: &[FocusRow<'_>]) -> bool {
+    match texts_again(alloc, rows) {
+        Ok(text) => text.as_slice() == CORRECTION,
+        Err(_) => false,
+    }
+}
+
+/// Whether what is charged is the correction, however often memory runs out once.
+fn is_corrected_again(alloc: Global, of: &Charged) -> bool {
+    match rows_again(alloc, of) {
+        Ok(rows) => is_correction(alloc, &rows) && is_told(alloc, &rows),
+        Err(_) => false,
+    }
+}
+
 /// Rows, and then their texts, are asked for again where the first call finds no memory, and come out as if it had.
 #[test]
-fn a_refused_growth_changes_no_row(rt: HostRuntime) -> Result<(), Fail> {
-    let Some(of) = corrected(rt.alloc()) else {
-        return Ok(());
+fn a_refused_growth_changes_no_row(rt: HostRuntime) {
+    let is_so = match corrected(rt.alloc()) {
+        Some(of) => is_corrected_again(rt.alloc(), &of),
+        None => true,
     };
-    let rows = rows_again(rt.alloc(), &of)?;
-    let text = texts_again(rt.alloc(), &rows)?;
-    assert_eq!(rt; text.as_slice(), CORRECTION);
-    assert!(rt; is_told(rt.alloc(), &rows));
-    Ok(())
+    assert!(rt; is_so);
+}
+
+/// Whether each sink that fails is given just the bytes before it does.
+fn goes_out(alloc: Global, of: &Charged) -> bool {
+    match rows_in(alloc, of) {
+        Ok(rows) => matches!(first_other_prefix(alloc, &rows), Ok(None)),
+        Err(_) => false,
+    }
 }
 
 #[test]
-fn a_file_goes_out_up_to_a_failed_call(rt: HostRuntime) -> Result<(), Fail> {
-    let Some(of) = corrected(rt.alloc()) else {
-        return Err(Fail::from("nothing is charged"));
+fn a_file_goes_out_up_to_a_failed_call(rt: HostRuntime) {
+    let is_so = match corrected(rt.alloc()) {
+        Some(of) => goes_out(rt.alloc(), &of),
+        None => false,
     };
-    let rows = rows_in(rt.alloc(), &of)?;
-    assert_eq!(rt; first_other_prefix(rt.alloc(), &rows)?, None);
-    Ok(())
+    assert!(rt; is_so);
 }

@@ -1,12 +1,11 @@
 //! Batches of both formats: where usage was, the faults of a region, and what files call it.
 
 use crate::files::{Charged, put, rows_in};
-use crate::stores::cut_of;
 use batch_store::{RecordPlace, Store};
 use batch_view::{BatchCode, BatchFault, BatchView, Offer, OwnedBatch, Reading, Record};
 use counted_io::Counted;
 use focus_csv::write_file;
-use focus_row::Period;
+use focus_row::FocusRow;
 use std::alloc::{AllocError, Global};
 use std::test::Fail;
 use worked_texts::{HEADER, READ, SHEET};
@@ -186,70 +185,64 @@ fn value_of(store: &Store, seq: u32) -> Option<i64> {
     Some(store.value_at(place, 1_000_000)?.millionths())
 }
 
+/// A store of these batches, each of which is new.
+fn store_of(alloc: Global, batches: &[&[u8]]) -> Option<Store> {
+    let mut store = Store::new(alloc, 1).ok()?;
+    for bytes in batches {
+        match put(&mut store, alloc, bytes) {
+            Ok(true) => {}
+            _ => return None,
+        }
+    }
+    Some(store)
+}
+
 #[test]
-fn amendments_reach_from_one_format_into_the_other(rt: HostRuntime) -> Result<(), Fail> {
-    let alloc = rt.alloc();
-    let mut store = Store::new(alloc, 1)?;
-    let mut all = true;
-    for bytes in [READ, IN_EU, AMENDS_B1, AMENDS_B2] {
-        match Offer::read(alloc, bytes.to_vec(alloc)?)? {
-            Offer::Good(batch) if batch.view().agent() == 1 => {
-                // For the proof alone: its clause says that the agents are 1 to 64.
-                all = store.agents() == 1 && store.put(batch)? && all;
-            }
-            _ => all = false,
-        }
-    }
-    assert!(rt; all);
-    assert!(rt; value_of(&store, 1) == Some(7_200_000_000));
-    assert!(rt; value_of(&store, 2) == Some(3_600_000_000));
-    Ok(())
+fn amendments_reach_from_one_format_into_the_other(rt: HostRuntime) {
+    let (first, second) = match store_of(rt.alloc(), &[READ, IN_EU, AMENDS_B1, AMENDS_B2]) {
+        Some(store) => (value_of(&store, 1), value_of(&store, 2)),
+        None => (None, None),
+    };
+    assert!(rt; first == Some(7_200_000_000));
+    assert!(rt; second == Some(3_600_000_000));
 }
 
-/// Usage in both formats, charged in January, with amendments behind it.
-fn charged_in_january(alloc: Global) -> Result<Charged, Fail> {
-    let mut store = Store::new(alloc, 1)?;
-    for bytes in [READ, IN_THREE, AMENDS_B1, AMENDS_EU] {
-        if !put(&mut store, alloc, bytes)? {
-            return Err(Fail::from("it is no next batch"));
-        }
-    }
-    let sheet = format!(in alloc; "{SHEET}{REGION}")?;
-    match Charged::new(alloc, store, sheet.as_str(), 0, (0, 2)) {
-        Some(of) => Ok(of),
-        None => Err(Fail::from("nothing is charged")),
-    }
+/// What is charged in a period, between two cuts, of usage in both formats and amendments behind it, by this sheet.
+fn charged_by(alloc: Global, sheet: &str, period: u16, cuts: (u32, u32)) -> Option<Charged> {
+    let store = store_of(alloc, &[READ, IN_THREE, AMENDS_B1, AMENDS_EU])?;
+    Charged::new(alloc, store, sheet, period, cuts)
 }
 
-/// The file of what is charged.
-fn file_of(alloc: Global, of: &Charged) -> Result<Vec<u8>, Fail> {
-    let rows = rows_in(alloc, of)?;
+/// Whether the file of the rows is these lines behind the header line.
+fn has_lines(alloc: Global, rows: &[FocusRow<'_>], lines: &[u8]) -> bool {
     let mut sink = Counted::new(Vec::new(alloc));
-    write_file(alloc, &rows, &mut sink)?;
-    Ok(sink.into_inner())
+    match write_file(alloc, rows, &mut sink) {
+        Ok(()) => sink.into_inner().strip_prefix(HEADER) == Some(lines),
+        Err(_) => false,
+    }
 }
 
-/// The file with these lines behind its header line.
-fn file_with(alloc: Global, lines: &[u8]) -> Result<Vec<u8>, AllocError> {
-    let mut file = HEADER.to_vec(alloc)?;
-    file.extend_from_slice(lines)?;
-    Ok(file)
+/// The same of what is charged.
+fn has_file(alloc: Global, of: &Charged, lines: &[u8]) -> bool {
+    match rows_in(alloc, of) {
+        Ok(rows) => has_lines(alloc, &rows, lines),
+        Err(_) => false,
+    }
+}
+
+/// The same of what is charged by the worked sheet with a region.
+fn is_charged(alloc: Global, period: u16, cuts: (u32, u32), lines: &[u8]) -> bool {
+    let Ok(sheet) = format!(in alloc; "{SHEET}{REGION}") else {
+        return false;
+    };
+    match charged_by(alloc, sheet.as_str(), period, cuts) {
+        Some(of) => has_file(alloc, &of, lines),
+        None => false,
+    }
 }
 
 #[test]
-fn files_tell_the_region_of_usage_in_the_second_format(rt: HostRuntime) -> Result<(), Fail> {
-    let alloc = rt.alloc();
-    let mut of = charged_in_january(alloc)?;
-    assert_eq!(rt;
-        file_of(alloc, &of)?.as_slice(),
-        file_with(alloc, JANUARY)?.as_slice()
-    );
-    of.period = Period::new(1).ok_or("no period")?;
-    of.from = cut_of(alloc, 2)?;
-    of.to = cut_of(alloc, 4)?;
-    assert_eq!(rt;
-        file_of(alloc, &of)?.as_slice(),
-        file_with(alloc, FEBRUARY)?.as_slice()
-    );
-    Ok(())
+fn files_tell_the_region_of_usage_in_the_second_format(rt: HostRuntime) {
+    assert!(rt; is_charged(rt.alloc(), 0, (0, 2), JANUARY));
+    assert!(rt; is_charged(rt.alloc(), 1, (2, 4), FEBRUARY));
 }

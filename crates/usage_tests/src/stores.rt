@@ -81,76 +81,141 @@ fn cut_again(alloc: Global, seq: u32) -> Result<Cut, AllocError> {
     }
 }
 
-/// Whether a cut's line is written and read as it, each again where the first call finds no memory.
-fn is_read_back(alloc: Global, seq: u32, line: &[u8]) -> Result<bool, AllocError> {
-    let cut = cut_again(alloc, seq)?;
+/// Whether the cut is written as this line, again where the first call finds no memory.
+fn is_written(cut: &Cut, alloc: Global, line: &[u8]) -> bool {
     let text = match cut.write(alloc) {
-        Ok(text) => text,
-        Err(_) => cut.write(alloc)?,
+        Ok(text) => Ok(text),
+        Err(_) => cut.write(alloc),
     };
+    match text {
+        Ok(text) => text.as_slice() == line,
+        Err(_) => false,
+    }
+}
+
+/// Whether the line is read as the cut, again where the first call finds no memory.
+fn is_read(cut: &Cut, alloc: Global, line: &[u8]) -> bool {
     let read = match Cut::read(alloc, line, 1) {
-        Ok(read) => read,
-        Err(_) => Cut::read(alloc, line, 1)?,
+        Ok(read) => Ok(read),
+        Err(_) => Cut::read(alloc, line, 1),
     };
-    let is_same = match read {
-        Some(read) => read.same(&cut),
-        None => false,
-    };
-    Ok(is_same && text.as_slice() == line)
+    match read {
+        Ok(Some(read)) => read.same(cut),
+        _ => false,
+    }
+}
+
+/// Whether a cut's line is written and read as it, each again where the first call finds no memory.
+fn is_read_back(alloc: Global, seq: u32, line: &[u8]) -> bool {
+    match cut_again(alloc, seq) {
+        Ok(cut) => is_written(&cut, alloc, line) && is_read(&cut, alloc, line),
+        Err(_) => false,
+    }
 }
 
 #[test]
-fn a_refused_growth_of_a_cuts_line_changes_nothing(rt: HostRuntime) -> Result<(), Fail> {
-    assert!(rt; is_read_back(rt.alloc(), 0, b"0")?);
-    assert!(rt; is_read_back(rt.alloc(), 1_000_000, b"1000000")?);
-    Ok(())
+fn a_refused_growth_of_a_cuts_line_changes_nothing(rt: HostRuntime) {
+    assert!(rt; is_read_back(rt.alloc(), 0, b"0"));
+    assert!(rt; is_read_back(rt.alloc(), 1_000_000, b"1000000"));
+}
+
+/// Cuts of one agent, each made again where the first call finds no memory.
+#[derive(Drop)]
+struct Cuts {
+    zero: Cut,
+    one: Cut,
+    three: Cut,
+    five: Cut,
+}
+
+fn cuts_again(alloc: Global) -> Option<Cuts> {
+    let zero = cut_again(alloc, 0).ok()?;
+    let one = cut_again(alloc, 1).ok()?;
+    let three = cut_again(alloc, 3).ok()?;
+    let five = cut_again(alloc, 5).ok()?;
+    Some(Cuts {
+        zero,
+        one,
+        three,
+        five,
+    })
 }
 
 /// Whether a part is shared up to the batch behind the gap, asked for again where the first call finds no memory.
-fn shares_again(store: &Store, alloc: Global) -> Result<bool, Fail> {
-    let five = cut_again(alloc, 5)?;
+fn shares_again(store: &Store, alloc: Global, five: &Cut) -> bool {
     if store.agents() != 1 || five.agents() != 1 {
-        return Err(Fail::from("other agents"));
+        return false;
     }
-    let part = match store.share(alloc, &five) {
-        Ok(part) => part,
-        Err(_) => store.share(alloc, &five)?,
+    let part = match store.share(alloc, five) {
+        Ok(part) => Ok(part),
+        Err(_) => store.share(alloc, five),
     };
-    Ok(first_absent(&part) == 4 && has(&part, 5))
+    match part {
+        Ok(part) => first_absent(&part) == 4 && has(&part, 5),
+        Err(_) => false,
+    }
 }
 
 /// Whether the store can be closed up to the gap, asked again where the first call finds no memory.
-fn closes_again(store: &Store, alloc: Global) -> Result<bool, Fail> {
-    let january = Period::new(0).ok_or("no period")?;
-    let base = Month::of(2025, 1);
-    let zero = cut_again(alloc, 0)?;
-    if store.agents() != 1 || zero.agents() != 1 {
-        return Err(Fail::from("other agents"));
-    }
-    let front = match store.due_front(alloc, &zero, january, base) {
-        Ok(front) => front,
-        Err(_) => store.due_front(alloc, &zero, january, base)?,
+fn closes_again(store: &Store, alloc: Global, zero: &Cut, three: &Cut) -> bool {
+    let Some(january) = Period::new(0) else {
+        return false;
     };
-    Ok(front.same(&cut_again(alloc, 3)?))
+    if store.agents() != 1 || zero.agents() != 1 {
+        return false;
+    }
+    let base = Month::of(2025, 1);
+    let front = match store.due_front(alloc, zero, january, base) {
+        Ok(front) => Ok(front),
+        Err(_) => store.due_front(alloc, zero, january, base),
+    };
+    match front {
+        Ok(front) => front.same(three),
+        Err(_) => false,
+    }
 }
 
 /// Whether the one place that is amended is told, asked for again where the first call finds no memory.
-fn names_again(store: &Store, alloc: Global) -> Result<bool, Fail> {
-    let one = cut_again(alloc, 1)?;
-    let five = cut_again(alloc, 5)?;
-    if store.agents() != 1 || one.agents() != 1 || five.agents() != 1 || !five.at_least(&one) {
-        return Err(Fail::from("no such cuts"));
+fn names_again(store: &Store, alloc: Global, one: &Cut, five: &Cut) -> bool {
+    if store.agents() != 1 || one.agents() != 1 || five.agents() != 1 || !five.at_least(one) {
+        return false;
     }
-    let places = match store.amended(alloc, &one, &five) {
-        Ok(places) => places,
-        Err(_) => store.amended(alloc, &one, &five)?,
+    let places = match store.amended(alloc, one, five) {
+        Ok(places) => Ok(places),
+        Err(_) => store.amended(alloc, one, five),
     };
     let amended = RecordPlace {
         agent: 1,
         seq: 1,
         index: 0,
     };
-    Ok(places.as_slice() == [amended].as_slice())
+    match places {
+        Ok(places) => places.as_slice() == [amended].as_slice(),
+        Err(_) => false,
+    }
+}
+
+/// Whether each batch is put again where the first call finds no memory.
+fn fills_again(store: &mut Store, alloc: Global) -> Result<bool, Fail> {
+    let mut all = true;
+    for bytes in [AHEAD, AMENDED_TWICE, READ, AMENDED] {
+        let batch = batch_again(alloc, bytes)?;
+        all = is_put_again(store, batch)? && all;
+    }
+    Ok(all)
+}
+
+/// Whether each answer is given again where the first call finds no memory.
+fn answers_again(store: &Store, alloc: Global) -> bool {
+    match cuts_again(alloc) {
+        Some(cuts) => {
+            shares_again(store, alloc, &cuts.five)
+                && closes_again(store, alloc, &cuts.zero, &cuts.three)
+                && names_again(store, alloc, &cuts.one, &cuts.five)
+                && first_absent(store) == 4
+        }
+        None => false,
+    }
 }
 
 /// Each call that may find no memory is made again where it does: with each growth refused in turn the answers of the
@@ -162,14 +227,8 @@ fn a_refused_growth_of_a_store_changes_nothing(rt: HostRuntime) -> Result<(), Fa
         Ok(store) => store,
         Err(_) => Store::new(alloc, 1)?,
     };
-    let mut all = true;
-    for bytes in [AHEAD, AMENDED_TWICE, READ, AMENDED] {
-        let batch = batch_again(alloc, bytes)?;
-        all = is_put_again(&mut store, batch)? && all;
-    }
-    all = shares_again(&store, alloc)? && all;
-    all = closes_again(&store, alloc)? && all;
-    all = names_again(&store, alloc)? && all;
-    assert!(rt; all && first_absent(&store) == 4);
+    let is_filled = fills_again(&mut store, alloc)?;
+    let is_answered = answers_again(&store, alloc);
+    assert!(rt; is_filled && is_answered);
     Ok(())
 }

@@ -6,12 +6,12 @@ use Rattle.metering_model.specs.Row.{Row}
 use Rattle.focus_csv.specs.declared.pieces.LinePieces.{LinePieces}
 use Rattle.focus_csv.specs.declared.texts.TextPieces.{TextPieces}
 use Rattle.focus_csv.specs.declared.numbers.NumberPieces.{NumberPieces}
-use Rattle.focus_csv.specs.Inner.Runs.{behind, head_columns, moment_columns, unit_columns, issuer_columns, category_columns, pricing_columns, region_columns, resource_columns, service_columns, account_columns}
+use Rattle.focus_csv.specs.Inner.Runs.{behind, billing_columns, charge_columns, moment_columns, unit_columns, issuer_columns, category_columns, pricing_columns, seller_columns, region_columns, resource_columns, service_columns, account_columns}
 
 -- all bytes of the pieces of texts
 abbrev pub text_bytes : TextPieces → List ℕ
 text_bytes p =
-    p.head.items ++ p.moment.items ++ p.unit.items ++ p.issuer.items ++ p.category.items ++ p.pricing.items ++ p.region.items
+    p.billing.items ++ p.charge.items ++ p.moment.items ++ p.unit.items ++ p.issuer.items ++ p.category.items ++ p.pricing.items ++ p.seller.items ++ p.region.items
     ++ p.resource.items ++ p.service.items ++ p.account.items
 
 -- all bytes of the pieces of numbers
@@ -25,12 +25,14 @@ abbrev pub line_bytes : LinePieces → List ℕ
 line_bytes p = number_bytes p.numbers ++ text_bytes p.texts ++ p.tags.items
 
 pub record AreTextsOf (p : TextPieces) (r : Row) : Type 0 where
-  pub head : p.head.items ≡ behind (head_columns r)
+  pub billing : p.billing.items ≡ behind (billing_columns r)
+  pub charge : p.charge.items ≡ behind (charge_columns r)
   pub moment : p.moment.items ≡ behind (moment_columns r)
   pub unit : p.unit.items ≡ behind (unit_columns r)
   pub issuer : p.issuer.items ≡ behind (issuer_columns r)
   pub category : p.category.items ≡ behind (category_columns r)
   pub pricing : p.pricing.items ≡ behind (pricing_columns r)
+  pub seller : p.seller.items ≡ behind (seller_columns r)
   pub region : p.region.items ≡ behind (region_columns r)
   pub resource : p.resource.items ≡ behind (resource_columns r)
   pub service : p.service.items ≡ behind (service_columns r)

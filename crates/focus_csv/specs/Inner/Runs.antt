@@ -25,8 +25,11 @@ up_to_name name (c ∷ cs) = if bytes_eq c.name name then [] else c ∷ up_to_na
 abbrev pub run_of : List ℕ → List ℕ → Row → List (List ℕ)
 run_of first next r = map (λ c. c.field r) (up_to_name next (from_name first columns))
 
-abbrev pub head_columns : Row → List (List ℕ)
-head_columns = run_of (codes "BillingAccountId") (codes "ChargePeriodEnd")
+abbrev pub billing_columns : Row → List (List ℕ)
+billing_columns = run_of (codes "BillingAccountId") (codes "ChargeCategory")
+
+abbrev pub charge_columns : Row → List (List ℕ)
+charge_columns = run_of (codes "ChargeCategory") (codes "ChargePeriodEnd")
 
 abbrev pub moment_columns : Row → List (List ℕ)
 moment_columns = run_of (codes "ChargePeriodEnd") (codes "ConsumedQuantity")
@@ -41,7 +44,10 @@ abbrev pub category_columns : Row → List (List ℕ)
 category_columns = run_of (codes "PricingCategory") (codes "PricingQuantity")
 
 abbrev pub pricing_columns : Row → List (List ℕ)
-pricing_columns = run_of (codes "PricingUnit") (codes "RegionId")
+pricing_columns = run_of (codes "PricingUnit") (codes "ProviderName")
+
+abbrev pub seller_columns : Row → List (List ℕ)
+seller_columns = run_of (codes "ProviderName") (codes "RegionId")
 
 abbrev pub region_columns : Row → List (List ℕ)
 region_columns = run_of (codes "RegionId") (codes "ResourceId")
@@ -58,8 +64,8 @@ account_columns = run_of (codes "SubAccountId") (codes "Tags")
 -- all of them, in order
 abbrev pub line_runs : Row → List (List (List ℕ))
 line_runs r =
-    head_columns r ∷ moment_columns r ∷ (quantity_or_null r.consumed_quantity ∷ []) ∷ unit_columns r
+    billing_columns r ∷ charge_columns r ∷ moment_columns r ∷ (quantity_or_null r.consumed_quantity ∷ []) ∷ unit_columns r
     ∷ (spelling 12 r.contracted_cost ∷ []) ∷ (price_or_null r.contracted_unit_price ∷ []) ∷ (spelling 12 r.effective_cost ∷ [])
     ∷ issuer_columns r ∷ (spelling 12 r.list_cost ∷ []) ∷ (price_or_null r.list_unit_price ∷ []) ∷ category_columns r
-    ∷ (quantity_or_null r.pricing_quantity ∷ []) ∷ pricing_columns r ∷ region_columns r ∷ resource_columns r ∷ service_columns r
+    ∷ (quantity_or_null r.pricing_quantity ∷ []) ∷ pricing_columns r ∷ seller_columns r ∷ region_columns r ∷ resource_columns r ∷ service_columns r
     ∷ account_columns r ∷ (json_object r.tags ∷ []) ∷ []
