@@ -1,4 +1,4 @@
-//! Odd fields, which a reader of CSV would cut as they stand. `csv` writes them.
+//! What a reader of CSV would cut as it stands: odd fields, and odd strings of tags. `csv` writes them.
 
 ghost use Rattle.std.specs.Prelude.{◌≡◌, [], ◌∷◌, ◌++◌, IfOk, OnOk};
 ghost use Rattle.csv.specs.Writing.{writer_under};
@@ -92,7 +92,7 @@ fn put_within_by(
     ensures ready { OnOk result (IsReady writer.new) }
     ensures put { OnOk result (text.new.items ≡ text.old.items ++ doubled field.now) }
 {
-    // A comma and a quotation mark, and the one behind the field.
+    // In front stand a comma and a quotation mark, and behind the field one more.
     let from = writer.get_ref().len() + 2;
     write_next(writer, field)?;
     let to = writer.get_ref().len() - 1;
@@ -113,7 +113,7 @@ impl OddFields {
         self.alloc
     }
 
-    /// A writer that is ready, which is let go.
+    /// Takes the writer out, or makes one where there is none or its text is long: it is ready.
     fn ready(&mut self) -> Result<Box<Writer<Vec<u8>>>, AllocError>
         ensures { IfOk result (λ w. IsReady w.value) }
     {

@@ -56,7 +56,7 @@ fn json_of(alloc: Global, text: &[u8]) -> Result<Vec<u8>, AllocError>
     string.to_vec(alloc)
 }
 
-/// Appends a text as a string.
+/// Appends a text as a string, each quotation mark twice.
 fn put_string(odd: &mut OddFields, piece: &mut Vec<u8>, text: &[u8]) -> Result<(), AllocError>
     requires { IsTrue (is_text text.now) }
     ensures { OnOk result (piece.new.items ≡ piece.old.items ++ doubled (json_string text.now)) }
@@ -71,7 +71,7 @@ fn put_string(odd: &mut OddFields, piece: &mut Vec<u8>, text: &[u8]) -> Result<(
     Ok(())
 }
 
-/// Appends a tag, and in front of it what parts it from the one before.
+/// Appends a front and a tag, of which either string may be odd.
 fn put_odd_tag(
     odd: &mut OddFields,
     piece: &mut Vec<u8>,
@@ -91,7 +91,7 @@ fn put_odd_tag(
     Ok(())
 }
 
-/// Appends a tag, and in front of it what parts it from the one before; `begin` is that and two quotation marks.
+/// Appends a front and a tag; `begin` is the front and two quotation marks.
 fn put_tag(
     odd: &mut OddFields,
     piece: &mut Vec<u8>,

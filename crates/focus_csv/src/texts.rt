@@ -12,7 +12,7 @@ use crate::odd::OddFields;
 use focus_row::FocusRow;
 use std::alloc::{AllocError, Global};
 
-/// The pieces between the numbers, each with a comma before each of its fields. The columns of a piece change together.
+/// The pieces between the numbers, each with a comma before each of its fields. The columns of a piece mostly change together.
 #[derive(Drop)]
 pub(crate) struct TextPieces {
     pub(crate) billing: Vec<u8>,
@@ -40,8 +40,7 @@ fn text_or_null<'a>(text: Option<&'a [u8]>) -> &'a [u8]
     }
 }
 
-// Each of these makes the piece that of a row. One that is held is of the row before, and stays where its columns are the same.
-
+/// The columns of who bills, and for which period.
 #[inline(always)]
 fn billing<'a>(row: &'a FocusRow<'a>) -> [&'a [u8]; 5]
     ensures { map (λ f. f.now) result ≡ billing_columns (model_row row.now) }
@@ -54,6 +53,8 @@ fn billing<'a>(row: &'a FocusRow<'a>) -> [&'a [u8]; 5]
         &row.billing_period_start,
     ]
 }
+
+// Each of these makes the piece that of a row. One that is held is of the row before, and stays where its columns are the same.
 
 /// Who bills, and for which period.
 fn set_billing(

@@ -1,39 +1,53 @@
 //! A group that has sent all its packets.
 
-use crate::samples::{issuer, sheet};
+use crate::samples::alone;
 use group_core::{Event, Offer, Refusal, Reply, World};
-use std::alloc::Global;
+use std::alloc::{AllocError, Global};
 use std::test::Fail;
 
-/// What is answered to the journaling of an agent's batch without records.
-fn journal(world: &mut World, alloc: Global, seq: u32) -> Result<Reply, Fail> {
+/// A batch without records of the one agent, as it is journaled.
+fn batch(alloc: Global, seq: u32) -> Result<Event, AllocError> {
     let text = format!(in alloc; "B1|1|{seq}|0\n")?;
-    let offer = Offer::read(alloc, text.into_bytes())?;
-    Ok(world.step(alloc, &Event::Journal(offer))?)
+    Ok(Event::Journal(Offer::read(alloc, text.into_bytes())?))
 }
 
-/// Journals 999,999 batches, each of which is the next packet.
-fn fill(world: &mut World, alloc: Global) -> Result<(), Fail> {
+/// Whether an event is answered so.
+fn is_answered(world: &mut World, alloc: Global, event: &Event, wanted: &Reply) -> bool {
+    match world.step(alloc, event) {
+        Ok(reply) => reply.same(wanted),
+        Err(_) => false,
+    }
+}
+
+/// Whether the journaling of that batch is.
+fn is_journaled(world: &mut World, alloc: Global, seq: u32, wanted: &Reply) -> bool {
+    match batch(alloc, seq) {
+        Ok(event) => is_answered(world, alloc, &event, wanted),
+        Err(_) => false,
+    }
+}
+
+/// Whether 999,999 batches are journaled, each of which is the next packet.
+fn is_filled(world: &mut World, alloc: Global) -> bool {
     for seq in 1..=999_999u32 {
-        let wanted = Reply::Journaled { packet: seq };
-        if !journal(world, alloc, seq)?.same(&wanted) {
-            return Err(Fail::from("another reply"));
+        if !is_journaled(world, alloc, seq, &Reply::Journaled { packet: seq }) {
+            return false;
         }
     }
-    Ok(())
+    true
 }
 
 /// All but one of the packets carry a batch.
 #[test]
 fn a_world_has_1_000_000_packets(rt: HostRuntime) -> Result<(), Fail> {
     let alloc = rt.alloc();
-    let mut world = World::new(alloc, 1, 0, 1, sheet(alloc)?, issuer(alloc)?)?;
+    let mut world = alone(alloc)?;
     let start = Event::Start { node: 0 };
-    let begun = world.step(alloc, &start)?;
-    assert!(rt; matches!(begun, Reply::Started { .. }));
-    fill(&mut world, alloc)?;
     let full = Reply::Refused(Refusal::WorldFull);
-    assert!(rt; journal(&mut world, alloc, 1_000_000)?.same(&full));
-    assert!(rt; world.step(alloc, &start)?.same(&full));
+    let is_begun = matches!(world.step(alloc, &start), Ok(Reply::Started { .. }));
+    let is_filled = is_filled(&mut world, alloc);
+    let is_told = is_journaled(&mut world, alloc, 1_000_000, &full)
+        && is_answered(&mut world, alloc, &start, &full);
+    assert!(rt; is_begun && is_filled && is_told);
     Ok(())
 }

@@ -1,8 +1,8 @@
 //! What nodes keep is told as texts, and they are revived from these.
 
 use crate::kept::{LEARNED, PROMISED, VOTED};
-use crate::samples::{is_file, issuer, sheet};
-use group_core::{Event, ExportFile, KeptOffer, Offer, Refusal, Reply, World};
+use crate::samples::{alone, is_file, issuer, sheet};
+use group_core::{Event, ExportFile, KeptOffer, Offer, Refusal, Reply, Snapshot, World};
 use metering_model::{KeptCode, KeptTextFault};
 use std::alloc::{AllocError, Global};
 use std::test::Fail;
@@ -116,22 +116,26 @@ const KEPT_BYTES: &[Act<'static>] = &[
     Act::Export(0),
 ];
 
-/// A group of one node and one agent.
-fn alone(alloc: Global) -> Result<World, AllocError> {
-    World::new(alloc, 1, 0, 1, sheet(alloc)?, issuer(alloc)?)
+/// Whether the snapshot has the worked file.
+fn is_put(alloc: Global, snapshot: &Snapshot) -> bool {
+    let mut text = Vec::new(alloc);
+    snapshot.put_csv(alloc, &mut text).is_ok() && is_file(&text)
+}
+
+/// Whether the first node exports that file.
+fn is_exported(alloc: Global, world: &mut World) -> bool {
+    match world.step(alloc, &Event::Export { node: 0, period: 0 }) {
+        Ok(Reply::Exported(snapshot)) => is_put(alloc, &snapshot),
+        _ => false,
+    }
 }
 
 #[test]
 fn the_worked_node_is_kept_and_revived(rt: HostRuntime) -> Result<(), Fail> {
     let mut world = alone(rt.alloc())?;
-    assert!(rt; are_answered(rt.alloc(), &mut world, KEPT_BYTES)?);
-    let Reply::Exported(snapshot) = world.step(rt.alloc(), &Event::Export { node: 0, period: 0 })?
-    else {
-        return Err(Fail::from("no export"));
-    };
-    let mut text = Vec::new(rt.alloc());
-    snapshot.put_csv(rt.alloc(), &mut text)?;
-    assert!(rt; is_file(&text));
+    let are_answered = matches!(are_answered(rt.alloc(), &mut world, KEPT_BYTES), Ok(true));
+    let is_exported = is_exported(rt.alloc(), &mut world);
+    assert!(rt; are_answered && is_exported);
     Ok(())
 }
 
@@ -167,7 +171,8 @@ fn a_node_is_revived_from_the_text_of_another_that_keeps_the_same(
 ) -> Result<(), Fail> {
     let alloc = rt.alloc();
     let mut world = World::new(alloc, 2, 0, 1, sheet(alloc)?, issuer(alloc)?)?;
-    assert!(rt; are_answered(alloc, &mut world, OF_ANOTHER)?);
+    let are_answered = matches!(are_answered(alloc, &mut world, OF_ANOTHER), Ok(true));
+    assert!(rt; are_answered);
     Ok(())
 }
 
@@ -198,12 +203,13 @@ const OBSERVES: &[Act<'static>] = &[
 fn an_observer_keeps_what_it_has_learned(rt: HostRuntime) -> Result<(), Fail> {
     let alloc = rt.alloc();
     let mut world = World::new(alloc, 1, 1, 1, sheet(alloc)?, issuer(alloc)?)?;
-    assert!(rt; are_answered(alloc, &mut world, OBSERVES)?);
+    let are_answered = matches!(are_answered(alloc, &mut world, OBSERVES), Ok(true));
+    assert!(rt; are_answered);
     Ok(())
 }
 
-/// The one node of a group closes a period, which is its next, with four packets.
-fn closes(alloc: Global, world: &mut World, period: u16) -> Result<bool, AllocError> {
+/// Whether the one node of a group closes a period, which is its next, with four packets.
+fn closes(alloc: Global, world: &mut World, period: u16) -> bool {
     let first = u32::from(period) * 4;
     let acts = [
         Act::Start(0, u32::from(period) + 1, first),
@@ -212,7 +218,17 @@ fn closes(alloc: Global, world: &mut World, period: u16) -> Result<bool, AllocEr
         Act::Send(first + 2, 0, first + 3),
         Act::Learn(first + 3, 0, period),
     ];
-    are_answered(alloc, world, &acts)
+    matches!(are_answered(alloc, world, &acts), Ok(true))
+}
+
+/// Whether it closes each of 1,200.
+fn closes_all(alloc: Global, world: &mut World) -> bool {
+    for period in 0..1_200u16 {
+        if !closes(alloc, world, period) {
+            return false;
+        }
+    }
+    true
 }
 
 /// What it keeps once it has closed all periods without a batch of its 64 agents.
@@ -229,20 +245,22 @@ fn all_closed(alloc: Global) -> Result<Vec<u8>, AllocError> {
     Ok(text)
 }
 
+/// Whether it keeps this text, and is revived from it.
+fn is_kept(alloc: Global, world: &mut World, text: &[u8]) -> bool {
+    let acts = [Act::Keep(0, text), Act::Revive(0, text), Act::Keep(0, text)];
+    matches!(are_answered(alloc, world, &acts), Ok(true))
+}
+
 #[test]
 fn a_node_keeps_1_200_cuts_of_64_agents(rt: HostRuntime) -> Result<(), Fail> {
     let alloc = rt.alloc();
     let mut world = World::new(alloc, 1, 0, 64, sheet(alloc)?, issuer(alloc)?)?;
-    for period in 0..1_200u16 {
-        assert!(rt; closes(alloc, &mut world, period)?);
-    }
-    let text = all_closed(alloc)?;
-    let acts = [
-        Act::Keep(0, &text),
-        Act::Revive(0, &text),
-        Act::Keep(0, &text),
-    ];
-    assert!(rt; are_answered(alloc, &mut world, &acts)?);
+    let is_closed = closes_all(alloc, &mut world);
+    let is_kept = match all_closed(alloc) {
+        Ok(text) => is_kept(alloc, &mut world, &text),
+        Err(_) => false,
+    };
+    assert!(rt; is_closed && is_kept);
     Ok(())
 }
 
@@ -266,16 +284,33 @@ fn answer_again(alloc: Global, world: &mut World, event: &Event) -> Result<Reply
     }
 }
 
+/// Whether an event is answered as it is to be.
+fn is_answered_again(alloc: Global, world: &mut World, event: &Event, act: Act<'_>) -> bool {
+    match answer_again(alloc, world, event) {
+        Ok(reply) => is_answer(&reply, act),
+        Err(_) => false,
+    }
+}
+
+/// Whether each of the worked node's is.
+fn are_answered_again(alloc: Global, world: &mut World) -> bool {
+    for act in KEPT_BYTES {
+        let is_so = match made_again(alloc, *act) {
+            Ok(event) => is_answered_again(alloc, world, &event, *act),
+            Err(_) => false,
+        };
+        if !is_so {
+            return false;
+        }
+    }
+    true
+}
+
 /// Whichever growth is refused, each event is answered as if none had been.
 #[test]
-fn a_refused_growth_changes_nothing_that_is_kept(rt: HostRuntime) -> Result<(), Fail> {
-    let Ok(mut world) = alone(rt.alloc()) else {
-        return Ok(());
-    };
-    for act in KEPT_BYTES {
-        let event = made_again(rt.alloc(), *act)?;
-        let reply = answer_again(rt.alloc(), &mut world, &event)?;
-        assert!(rt; is_answer(&reply, *act));
+fn a_refused_growth_changes_nothing_that_is_kept(rt: HostRuntime) {
+    if let Ok(mut world) = alone(rt.alloc()) {
+        let are_answered = are_answered_again(rt.alloc(), &mut world);
+        assert!(rt; are_answered);
     }
-    Ok(())
 }

@@ -77,6 +77,11 @@ pub(crate) fn world(alloc: Global) -> Result<World, AllocError> {
     World::new(alloc, 3, 0, 1, sheet(alloc)?, issuer(alloc)?)
 }
 
+/// A group of one node and one agent.
+pub(crate) fn alone(alloc: Global) -> Result<World, AllocError> {
+    World::new(alloc, 1, 0, 1, sheet(alloc)?, issuer(alloc)?)
+}
+
 /// The event, of period 0 where it is an export.
 pub(crate) fn event_of(alloc: Global, step: Do) -> Result<Event, AllocError> {
     match step {

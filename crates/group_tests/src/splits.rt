@@ -4,7 +4,6 @@ use crate::samples::{issuer, packet_in, sheet};
 use counted_io::{Counted, FakeWriter};
 use group_core::{Event, ExportFile, Offer, Reply, Snapshot, World};
 use std::alloc::{AllocError, Global};
-use std::test::Fail;
 use std::thread::Threads;
 
 /// So many rows are split, and fewer are not. With 4 processors a part has 4,000 of them.
@@ -77,30 +76,36 @@ fn taken(alloc: Global, agents: u8, rows: u32) -> Result<Snapshot, AllocError> {
 }
 
 /// Whether its file has so many lines, and is the same whichever way it is made.
-fn is_same(
+fn is_same(rt: &(impl Threads + Sync), alloc: Global, snapshot: &Snapshot, lines: u32) -> bool {
+    let mut whole = Counted::new(Vec::new(alloc));
+    let mut split = Counted::new(Vec::new(alloc));
+    let are_written = snapshot.write_csv(alloc, &mut whole).is_ok()
+        && snapshot.write_csv_split(rt, alloc, &mut split).is_ok();
+    let count = split.inner().iter().filter(|byte| **byte == b'\n').count();
+    are_written && count == lines as usize && split.inner().as_slice() == whole.inner().as_slice()
+}
+
+/// The same where each of so many agents has journaled so many readings.
+fn is_same_of(
     rt: &(impl Threads + Sync),
     alloc: Global,
-    snapshot: &Snapshot,
+    agents: u8,
+    rows: u32,
     lines: u32,
-) -> Result<bool, Fail> {
-    let mut whole = Counted::new(Vec::new(alloc));
-    snapshot.write_csv(alloc, &mut whole)?;
-    let mut split = Counted::new(Vec::new(alloc));
-    snapshot.write_csv_split(rt, alloc, &mut split)?;
-    let count = split.inner().iter().filter(|byte| **byte == b'\n').count();
-    Ok(count == lines as usize && split.inner().as_slice() == whole.inner().as_slice())
+) -> bool {
+    match taken(alloc, agents, rows) {
+        Ok(snapshot) => is_same(rt, alloc, &snapshot, lines),
+        Err(_) => false,
+    }
 }
 
 /// Of no row, one and two, and of as many as are split, one fewer, and one and three more, of which the last part has fewer.
 #[test]
-fn a_file_that_is_split_is_the_same(rt: HostRuntime) -> Result<(), Fail> {
-    let three = taken(rt.alloc(), 3, 1_000)?;
-    assert!(rt; is_same(&rt, rt.alloc(), &three, 3_001)?);
+fn a_file_that_is_split_is_the_same(rt: HostRuntime) {
+    assert!(rt; is_same_of(&rt, rt.alloc(), 3, 1_000, 3_001));
     for rows in [0, 1, 2, SPLIT - 1, SPLIT, SPLIT + 1, SPLIT + 3] {
-        let snapshot = taken(rt.alloc(), 1, rows)?;
-        assert!(rt; is_same(&rt, rt.alloc(), &snapshot, rows.saturating_add(1))?);
+        assert!(rt; is_same_of(&rt, rt.alloc(), 1, rows, rows.saturating_add(1)));
     }
-    Ok(())
 }
 
 /// Whether a sink that takes all of a call, or a byte of each, and fails at that call is told as such, and has been given
@@ -121,49 +126,68 @@ fn is_front(
         && is_written == (taken.len() == file.len())
 }
 
-/// With 64 processors a file of 16,000 rows has ten parts, and with one it goes out at once.
-#[test]
-fn a_split_file_goes_out_up_to_a_failed_call(rt: HostRuntime) -> Result<(), Fail> {
-    let alloc = rt.alloc();
-    let snapshot = taken(alloc, 1, SPLIT)?;
-    let mut file = Vec::new(alloc);
-    snapshot.put_csv(alloc, &mut file)?;
+/// Whether that is so of each sink that fails at one of twelve calls, or takes nothing from it on, and of one that takes a byte a
+/// call.
+fn are_fronts(rt: &(impl Threads + Sync), alloc: Global, snapshot: &Snapshot, file: &[u8]) -> bool {
     for call in 1..=12 {
         let failing = FakeWriter::new(Vec::new(alloc)).failing_at(call);
-        assert!(rt; is_front(&rt, alloc, &snapshot, &file, failing));
         let full = FakeWriter::new(Vec::new(alloc)).full_from(call);
-        assert!(rt; is_front(&rt, alloc, &snapshot, &file, full));
+        if !is_front(rt, alloc, snapshot, file, failing)
+            || !is_front(rt, alloc, snapshot, file, full)
+        {
+            return false;
+        }
     }
     let slow = FakeWriter::new(Vec::new(alloc)).byte_by_byte();
-    assert!(rt; is_front(&rt, alloc, &snapshot, &file, slow));
-    Ok(())
+    is_front(rt, alloc, snapshot, file, slow)
+}
+
+/// The same of its own file.
+fn goes_out_up_to_a_fault(rt: &(impl Threads + Sync), alloc: Global, snapshot: &Snapshot) -> bool {
+    let mut file = Vec::new(alloc);
+    snapshot.put_csv(alloc, &mut file).is_ok() && are_fronts(rt, alloc, snapshot, &file)
+}
+
+/// With 64 processors a file of 16,000 rows has ten parts, and with one it goes out at once.
+#[test]
+fn a_split_file_goes_out_up_to_a_failed_call(rt: HostRuntime) {
+    let is_so = match taken(rt.alloc(), 1, SPLIT) {
+        Ok(snapshot) => goes_out_up_to_a_fault(&rt, rt.alloc(), &snapshot),
+        Err(_) => false,
+    };
+    assert!(rt; is_so);
+}
+
+/// Whether it is the file of as many rows as are split.
+fn has_lines(file: Option<Vec<u8>>) -> bool {
+    match file {
+        Some(file) => file.iter().filter(|byte| **byte == b'\n').count() == 16_001,
+        None => false,
+    }
 }
 
 /// The file, which is asked for again where it is not written. Where no call of its sink failed none was made.
-fn split_again(
-    rt: &(impl Threads + Sync),
-    alloc: Global,
-    snapshot: &Snapshot,
-) -> Result<Vec<u8>, Fail> {
+fn split_again(rt: &(impl Threads + Sync), alloc: Global, snapshot: &Snapshot) -> Option<Vec<u8>> {
     let mut sink = Counted::new(Vec::new(alloc));
     if snapshot.write_csv_split(rt, alloc, &mut sink).is_ok() {
-        return Ok(sink.into_inner());
+        return Some(sink.into_inner());
     }
     if sink.failed_calls() == 0 && !sink.inner().is_empty() {
-        return Err(Fail::from("something was written"));
+        return None;
     }
     let mut again = Counted::new(Vec::new(alloc));
-    snapshot.write_csv_split(rt, alloc, &mut again)?;
-    Ok(again.into_inner())
+    match snapshot.write_csv_split(rt, alloc, &mut again) {
+        Ok(()) => Some(again.into_inner()),
+        Err(_) => None,
+    }
 }
 
 /// The file is asked for again where a growth was refused, in whichever thread, and has a line for each reading.
 #[test]
-fn a_refused_growth_gives_no_split_file(rt: HostRuntime) -> Result<(), Fail> {
-    let Ok(snapshot) = taken(rt.alloc(), 1, SPLIT) else {
-        return Ok(());
+fn a_refused_growth_gives_no_split_file(rt: HostRuntime) {
+    let is_so = match taken(rt.alloc(), 1, SPLIT) {
+        Ok(snapshot) => has_lines(split_again(&rt, rt.alloc(), &snapshot)),
+        Err(_) => true,
     };
-    let file = split_again(&rt, rt.alloc(), &snapshot)?;
-    assert_eq!(rt; file.iter().filter(|byte| **byte == b'\n').count(), 16_001);
-    Ok(())
+    assert!(rt; is_so);
 }

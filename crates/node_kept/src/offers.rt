@@ -20,7 +20,8 @@ pub enum KeptOffer {
 }
 
 impl KeptOffer {
-    /// Reads a text. An error says that there was no memory, which is asked for behind a head line alone; the text is lost then.
+    /// Reads a text. An error says that there was no memory, and comes only of a text that begins with a head line; the text is
+    /// lost then.
     pub fn read(alloc: Global, text: Vec<u8>) -> Result<KeptOffer, AllocError>
         ensures read { IfOk result (λ offer. offer_of offer ≡ kept_offer_of text.items) }
         ensures want { IfErr result (λ _. BeginsWithHead text.items) }

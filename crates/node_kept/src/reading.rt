@@ -221,8 +221,8 @@ fn read_parts(alloc: Global, text: &[u8], head: Head) -> Result<Parts, KeptFault
 impl Kept {
     /// What a node keeps whose text this is, or the text's first fault by line.
     ///
-    /// Each batch is copied once, and no memory is taken before the head line is read. Bytes from which a node may be revived are compared with what it keeps where that is done;
-    /// here only their form is looked at.
+    /// Each batch is copied once. Want of memory is told only of a text that begins with a head line. Bytes from which a node may
+    /// be revived are compared with what it keeps where that is done; here only their form is looked at.
     pub fn read(alloc: Global, text: &[u8]) -> Result<Kept, KeptFault>
         ensures ok { IfOk result (λ kept. kept_in text.now ≡ Ok kept) }
         ensures refused { IfErr result (IsFaultOf text.now) }

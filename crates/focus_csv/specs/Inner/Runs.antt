@@ -1,4 +1,4 @@
--- The columns of a line behind the first, in runs that change together. They are read off the table of columns: a run is told
+-- The columns of a line behind the first, in runs that mostly change together. They are read off the table of columns: a run is told
 -- by the name that it begins with and the one behind it, so a column that comes to stand in between is in the run.
 use Rattle.std.specs.Prelude.{ℕ, if◌then◌else◌, List, [], ◌∷◌, map, codes}
 use Rattle.std.specs.List.{flat_map}
