@@ -3,7 +3,6 @@
 use command_line::{PlayFault, ScheduleCode, ScheduleFault, play_text};
 use counted_io::Counted;
 use std::alloc::{AllocError, Global};
-use std::test::Fail;
 use worked_texts::{HEADER, SECTIONS};
 
 /// The transcript of a schedule, or in words why there is none.
@@ -37,21 +36,43 @@ fn schedule(alloc: Global, events: &[u8]) -> Result<Vec<u8>, AllocError> {
     Ok(text)
 }
 
+/// Whether the transcript of these events is the replies, and the file without a row.
+fn is_told(alloc: Global, events: &[u8]) -> bool {
+    let Ok(schedule) = schedule(alloc, events) else {
+        return false;
+    };
+    match transcript(alloc, &schedule) {
+        Ok(Ok(text)) => text.strip_prefix(REPLIES) == Some(HEADER),
+        _ => false,
+    }
+}
+
+/// Whether there is none, for this reason.
+fn is_refused(alloc: Global, schedule: &[u8], why: &str) -> bool {
+    match transcript(alloc, schedule) {
+        Ok(Err(told)) => told.as_str() == why,
+        _ => false,
+    }
+}
+
+/// The same of the schedule with these events.
+fn are_refused(alloc: Global, events: &[u8], why: &str) -> bool {
+    match schedule(alloc, events) {
+        Ok(schedule) => is_refused(alloc, &schedule, why),
+        Err(_) => false,
+    }
+}
+
+/// The head has three lines, and the sections have 14 and 8.
 #[test]
-fn a_transcript_is_asked_for(rt: HostRuntime) -> Result<(), Fail> {
-    let alloc = rt.alloc();
-    let Ok(text) = transcript(alloc, &schedule(alloc, EVENTS)?)? else {
-        return Err(Fail::from("no transcript"));
-    };
-    assert_eq!(rt; text.strip_prefix(REPLIES), Some(HEADER));
-    let Err(why) = transcript(alloc, &schedule(alloc, b"stop 0\n")?)? else {
-        return Err(Fail::from("a transcript"));
-    };
-    // The head has three lines, and the sections have 14 and 8.
-    assert_eq!(rt; why.as_str(), "line 26 is no event");
-    let Err(why) = transcript(alloc, b"SCHEDULE 1\nnodes 0\n")? else {
-        return Err(Fail::from("a transcript"));
-    };
-    assert_eq!(rt; why.as_str(), "line 2 breaks rule L2");
-    Ok(())
+fn a_transcript_is_asked_for(rt: HostRuntime) {
+    assert!(rt; is_told(rt.alloc(), EVENTS));
+    assert!(rt; are_refused(rt.alloc(), b"stop 0\n", "line 26 is no event"));
+    assert!(rt;
+        is_refused(
+            rt.alloc(),
+            b"SCHEDULE 1\nnodes 0\n",
+            "line 2 breaks rule L2"
+        )
+    );
 }

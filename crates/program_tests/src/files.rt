@@ -42,36 +42,41 @@ fn between(
     period: Period,
     from: &Cut,
     to: &Cut,
-) -> Result<Vec<u8>, Fail> {
+) -> Option<Vec<u8>> {
     let (sheet, issuer) = rules;
     if store.agents() != 1 || to.agents() != 1 || from.agents() != 1 || !to.at_least(from) {
-        return Err(Fail::from("no such cuts"));
+        return None;
     }
-    let Ok(_rows) = rows_of(alloc, store, sheet, issuer, period, from, to) else {
-        return Err(Fail::from("no rows"));
-    };
-    Ok(file_between(alloc, store, sheet, issuer, period, from, to)?)
+    rows_of(alloc, store, sheet, issuer, period, from, to).ok()?;
+    file_between(alloc, store, sheet, issuer, period, from, to).ok()
 }
 
 /// The file of a period between two last sequences.
-fn told(alloc: Global, store: &Store, period: u16, seqs: (u32, u32)) -> Result<Vec<u8>, Fail> {
-    let period = Period::new(period).ok_or("no period")?;
-    let sheet = Sheet::read(alloc, SHEET)?;
-    let issuer = Issuer::sample(alloc)?;
-    let from = cut_of(alloc, seqs.0)?;
-    let to = cut_of(alloc, seqs.1)?;
-    between(alloc, store, (&sheet, &issuer), period, &from, &to)
+fn told(alloc: Global, store: &Store, period: u16, seqs: (u32, u32)) -> Option<Vec<u8>> {
+    let period = Period::new(period)?;
+    let from = cut_of(alloc, seqs.0).ok()?;
+    let to = cut_of(alloc, seqs.1).ok()?;
+    match (Sheet::read(alloc, SHEET), Issuer::sample(alloc)) {
+        (Ok(sheet), Ok(issuer)) => { between(alloc, store, (&sheet, &issuer), period, &from, &to) }
+        _ => None,
+    }
+}
+
+/// Whether that is these lines behind the header line.
+fn has_lines(alloc: Global, store: &Store, period: u16, seqs: (u32, u32), lines: &[u8]) -> bool {
+    match told(alloc, store, period, seqs) {
+        Some(file) => file.strip_prefix(HEADER) == Some(lines),
+        None => false,
+    }
 }
 
 /// Above the first batch its amendment alone is charged, as a correction in the next period.
 #[test]
 fn a_file_begins_behind_its_first_cut(rt: HostRuntime) -> Result<(), Fail> {
     let store = store(rt.alloc())?;
-    let first = told(rt.alloc(), &store, 0, (0, 1))?;
-    assert_eq!(rt; first.strip_prefix(HEADER), Some(LINE));
-    let second = told(rt.alloc(), &store, 1, (1, 2))?;
-    assert_eq!(rt; second.strip_prefix(HEADER), Some(CORRECTION));
-    let third = told(rt.alloc(), &store, 1, (2, 2))?;
-    assert_eq!(rt; third.as_slice(), HEADER);
+    let first = has_lines(rt.alloc(), &store, 0, (0, 1), LINE);
+    let second = has_lines(rt.alloc(), &store, 1, (1, 2), CORRECTION);
+    let third = has_lines(rt.alloc(), &store, 1, (2, 2), b"");
+    assert!(rt; first && second && third);
     Ok(())
 }

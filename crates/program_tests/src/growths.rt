@@ -16,25 +16,27 @@ fn joined(alloc: Global, parts: &[&[u8]]) -> Result<Vec<u8>, AllocError> {
     Ok(text)
 }
 
+/// Whether the file of the input is written, or want of memory is told and no call was made.
+fn is_all_or_nothing(alloc: Global, january: Period, input: &[u8], room: Vec<u8>) -> bool {
+    let mut source = Counted::new(FakeReader::new(input));
+    let mut sink = Counted::new(FakeWriter::new(room));
+    match rate_text(alloc, january, &mut source, &mut sink) {
+        Ok(()) => sink.inner().taken.strip_prefix(HEADER) == Some(LINE),
+        Err(fault) => fault == PlayFault::OutOfMemory && sink.inner().calls == 0,
+    }
+}
+
 /// A file is written whole, or nothing of it.
 #[test]
 fn a_refused_growth_leaves_nothing_written(rt: HostRuntime) -> Result<(), Fail> {
-    let (Ok(input), Ok(room)) = (
+    let january = Period::new(0).ok_or("no period")?;
+    if let (Ok(input), Ok(room)) = (
         joined(rt.alloc(), &[SECTIONS, READ]),
         Vec::with_capacity(rt.alloc(), 4_096),
-    ) else {
-        return Ok(());
-    };
-    let january = Period::new(0).ok_or("no period")?;
-    let mut source = Counted::new(FakeReader::new(&input));
-    let mut sink = Counted::new(FakeWriter::new(room));
-    let answer = rate_text(rt.alloc(), january, &mut source, &mut sink);
-    if answer.is_ok() {
-        assert_eq!(rt; sink.inner().taken.strip_prefix(HEADER), Some(LINE));
-        return Ok(());
+    ) {
+        let is_so = is_all_or_nothing(rt.alloc(), january, &input, room);
+        assert!(rt; is_so);
     }
-    assert_eq!(rt; answer, Err(PlayFault::OutOfMemory));
-    assert_eq!(rt; sink.inner().calls, 0);
     Ok(())
 }
 
@@ -68,24 +70,29 @@ fn are_all_replies(text: &[u8]) -> bool {
     }
 }
 
+/// Whether all replies are written, or want of memory is told and the first ones were, whole.
+fn are_whole_replies(alloc: Global, input: &[u8], room: Vec<u8>) -> bool {
+    let mut source = Counted::new(FakeReader::new(input));
+    let mut sink = Counted::new(FakeWriter::new(room));
+    let answer = play_text(alloc, &mut source, &mut sink);
+    let text = sink.inner().taken.as_slice();
+    sink.failed_calls() == 0
+        && match answer {
+            Ok(()) => are_all_replies(text),
+            Err(fault) => {
+                fault == PlayFault::OutOfMemory
+                    && (are_first_replies(text) || are_all_replies(text))
+            }
+        }
+}
+
 /// What is written of a transcript are whole replies, the first ones.
 #[test]
-fn a_refused_growth_leaves_whole_events(rt: HostRuntime) -> Result<(), Fail> {
-    let (Ok(input), Ok(room)) = (schedule(rt.alloc()), Vec::with_capacity(rt.alloc(), 4_096)) else {
-        return Ok(());
-    };
-    let mut source = Counted::new(FakeReader::new(&input));
-    let mut sink = Counted::new(FakeWriter::new(room));
-    let answer = play_text(rt.alloc(), &mut source, &mut sink);
-    assert_eq!(rt; sink.failed_calls(), 0);
-    let text = sink.inner().taken.as_slice();
-    if answer.is_ok() {
-        assert!(rt; are_all_replies(text));
-        return Ok(());
+fn a_refused_growth_leaves_whole_events(rt: HostRuntime) {
+    if let (Ok(input), Ok(room)) = (schedule(rt.alloc()), Vec::with_capacity(rt.alloc(), 4_096)) {
+        let is_so = are_whole_replies(rt.alloc(), &input, room);
+        assert!(rt; is_so);
     }
-    assert_eq!(rt; answer, Err(PlayFault::OutOfMemory));
-    assert!(rt; are_first_replies(text) || are_all_replies(text));
-    Ok(())
 }
 
 /// A transcript whose file of January has so many lines below its header line.
@@ -98,28 +105,36 @@ fn shown(alloc: Global, lines: usize, above: &[u8]) -> Result<(Vec<u8>, Vec<u8>)
     Ok((text, file))
 }
 
+/// Whether the text is of the file's first lines, each of them whole.
+fn are_first_lines(text: &[u8], file: &[u8]) -> bool {
+    file.starts_with(text) && (text.is_empty() || text.ends_with(b"\n"))
+}
+
+/// Whether the file is written, or want of memory is told and its first lines were.
+fn is_front(alloc: Global, january: Period, shown: &(Vec<u8>, Vec<u8>), room: Vec<u8>) -> bool {
+    let (input, file) = shown;
+    let mut source = Counted::new(FakeReader::new(input));
+    let mut sink = Counted::new(FakeWriter::new(room));
+    let answer = file_text(alloc, january, &mut source, &mut sink);
+    let text = sink.inner().taken.as_slice();
+    sink.failed_calls() == 0
+        && match answer {
+            Ok(()) => text == file.as_slice(),
+            Err(fault) => fault == FileFault::OutOfMemory && are_first_lines(text, file),
+        }
+}
+
 /// What is written of a file that is cut out are whole lines, the first ones. The file is longer than what is read at a time, so
 /// that some growths come when a part of it went out.
 #[test]
 fn a_refused_growth_leaves_a_front_of_the_file(rt: HostRuntime) -> Result<(), Fail> {
-    let (Ok((input, file)), Ok(room)) = (
+    let january = Period::new(0).ok_or("no period")?;
+    if let (Ok(shown), Ok(room)) = (
         shown(rt.alloc(), 600, b"exported period 0 lines 601\n"),
         Vec::with_capacity(rt.alloc(), 262_144),
-    ) else {
-        return Ok(());
-    };
-    let january = Period::new(0).ok_or("no period")?;
-    let mut source = Counted::new(FakeReader::new(&input));
-    let mut sink = Counted::new(FakeWriter::new(room));
-    let answer = file_text(rt.alloc(), january, &mut source, &mut sink);
-    assert_eq!(rt; sink.failed_calls(), 0);
-    let text = sink.inner().taken.as_slice();
-    if answer.is_ok() {
-        assert_eq!(rt; text, file.as_slice());
-        return Ok(());
+    ) {
+        let is_so = is_front(rt.alloc(), january, &shown, room);
+        assert!(rt; is_so);
     }
-    assert_eq!(rt; answer, Err(FileFault::OutOfMemory));
-    assert!(rt; file.starts_with(text));
-    assert!(rt; text.is_empty() || text.ends_with(b"\n"));
     Ok(())
 }
