@@ -46,7 +46,7 @@ pub fn file_between(
     let _agents = store.agents();
     let _base = sheet.base_month();
     let mut text = Vec::new(alloc);
-    let left = rows_between(alloc, store, sheet, issuer, period, from, to)?;
-    put_file(alloc, left, &mut text)?;
+    let batches = rows_between(alloc, store, sheet, issuer, period, from, to)?;
+    put_file(alloc, &batches, &mut text)?;
     Ok(text)
 }

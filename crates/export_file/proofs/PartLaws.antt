@@ -1,15 +1,16 @@
--- The lines of all parts are the lines of all rows, and rooms are written one behind the other.
-use Rattle.std.proofs.Common.{◌≡◌, ℕ, zero, suc, ◌+◌, ◌*◌, ◌<◌, ◌≤◌, ◌&&◌, Bool, true, List, [], ◌∷◌, ◌++◌, length, map, take, drop, get_or, refl, sym, ap, ap₂, ◌∙◌, append_assoc, arith}
+-- The lines of all parts are the lines of all batches, and rooms are written one behind the other.
+use Rattle.std.proofs.Common.{inl, inr, min, ◌≡◌, ℕ, suc, ◌+◌, ◌-◌, ◌*◌, ◌<◌, ◌≤◌, true, List, [], ◌∷◌, ◌++◌, length, take, drop, get_or, sym, ap, ap₂, ◌∙◌, append_assoc, arith}
 use Rattle.std.specs.Prelude.{IsTrue, Result, Ok, Err, OnErr}
 use Rattle.std.specs.List.{flat_map, list_all}
-use Rattle.std.proofs.lemmas.Bool.{and_parts}
-use Rattle.std.proofs.lemmas.List.{append-nil, drop-drop, drop_all, map-append, take-append-drop, take_all, take_more}
+use Rattle.std.proofs.lemmas.Bool.{and_parts, cases_lt}
+use Rattle.std.proofs.lemmas.List.{append-nil, drop-drop, drop_all, length-drop, take-append-drop, take_all, take_more}
 use Rattle.std.proofs.lemmas.Grind.{flat_map-append}
 use Rattle.std.proofs.Math.Seq.{take-add}
 use Rattle.metering_model.specs.File.{row_text}
-use Rattle.focus_csv.specs.Rows.{FocusRow, model_row}
+use Rattle.metering_model.specs.Row.{Row}
+use Rattle.focus_csv.specs.Rows.{batch_lines}
 use Rattle.export_file.specs.declared.split.Room.{Room}
-use Rattle.export_file.specs.Parts.{lines_of, part_of, texts_in}
+use Rattle.export_file.specs.Parts.{part_of, texts_in}
 
 -- what holds whatever the answer is
 pub on_err : {T E P : Type 0} (r : Result T E) → P → OnErr r P
@@ -18,8 +19,35 @@ on_err (Err e) p = p
 
 -- ---- the lines of parts
 
-lines_join : (some more : List FocusRow) → lines_of (some ++ more) ≡ lines_of some ++ lines_of more
-lines_join some more = ap (flat_map row_text) (map-append model_row some more) ∙ flat_map-append row_text (map model_row some) (map model_row more)
+lines_join : (some more : List (List Row)) → batch_lines (some ++ more) ≡ batch_lines some ++ batch_lines more
+lines_join some more = flat_map-append (flat_map row_text) some more
+
+take_fewest : {X : Type 0} (n : ℕ) (xs : List X) → take (min n (length xs)) xs ≡ take n xs
+take_fewest n xs = elim (cases_lt (length xs) n) [
+  | inr less ↦ let count : min n (length xs) ≡ n = omega arith in ap (λ k. take k xs) count
+  | inl more ↦
+      let count : min n (length xs) ≡ length xs = omega arith in
+      ap (λ k. take k xs) count ∙ take_all (length xs) xs (omega arith) ∙ sym (take_all n xs (omega arith))
+]
+
+-- from where a part begins to where it ends
+pub part_is : (batches : List (List Row)) (size k all from to : ℕ) → all ≡ length batches → from ≡ min (k * size) all → to ≡ from + min size (all - from)
+    → take (to - from) (drop from batches) ≡ part_of batches size k
+part_is batches size k all from to is begins ends = elim (cases_lt all (k * size)) [
+  | inr inside ↦
+      let start : from ≡ k * size = omega (arith, begins, inside) in
+      let rest = drop (k * size) batches in
+      let left : length rest ≡ all - from = length-drop (k * size) batches ∙ omega (arith, is, start) in
+      let count : to - from ≡ min size (length rest) = omega (arith, ends, left) in
+      ap (λ n. take (to - from) (drop n batches)) start ∙ ap (λ n. take n rest) count ∙ take_fewest size rest
+  | inl past ↦
+      let none : drop from batches ≡ [] = drop_all from batches (omega (arith, begins, is, past)) in
+      let none_of_it : drop (k * size) batches ≡ [] = drop_all (k * size) batches (omega (arith, is, past)) in
+      take_all (to - from) (drop from batches) (omega (arith, length-drop from batches, begins, is, past))
+      ∙ none
+      ∙ sym none_of_it
+      ∙ sym (take_all size (drop (k * size) batches) (omega (arith, length-drop (k * size) batches, is, past)))
+]
 
 none_of : (n : ℕ) → 0 * n ≡ 0
 none_of n = omega arith
@@ -30,32 +58,32 @@ times_more k n = grind arith
 one_more_of : (k n : ℕ) → suc k * n ≡ n + k * n
 one_more_of k n = let same : suc k ≡ k + 1 = omega arith in ap (λ m. m * n) same ∙ times_more k n
 
-abbrev AreLines : List FocusRow → List Room → ℕ → Type 0
-AreLines rows rooms size =
-    (k : ℕ) (d : Room) → k < length rooms → IsTrue (get_or rooms k d).is_made → (get_or rooms k d).text.items ≡ lines_of (part_of rows size k)
+abbrev AreLines : List (List Row) → List Room → ℕ → Type 0
+AreLines batches rooms size =
+    (k : ℕ) (d : Room) → k < length rooms → IsTrue (get_or rooms k d).is_made → (get_or rooms k d).text.items ≡ batch_lines (part_of batches size k)
 
-later_lines : (rows : List FocusRow) (r : Room) (rs : List Room) (size : ℕ) → AreLines rows (r ∷ rs) size → AreLines (drop size rows) rs size
-later_lines rows r rs size each k d within made =
+later_lines : (batches : List (List Row)) (r : Room) (rs : List Room) (size : ℕ) → AreLines batches (r ∷ rs) size → AreLines (drop size batches) rs size
+later_lines batches r rs size each k d within made =
     each (suc k) d (omega arith) made
-    ∙ ap (λ n. lines_of (take size (drop n rows))) (one_more_of k size)
-    ∙ ap (λ t. lines_of (take size t)) (sym (drop-drop (k * size) size rows))
+    ∙ ap (λ n. batch_lines (take size (drop n batches))) (one_more_of k size)
+    ∙ ap (λ t. batch_lines (take size t)) (sym (drop-drop (k * size) size batches))
 
-parts_joined : (rows : List FocusRow) (rooms : List Room) (size : ℕ) → AreLines rows rooms size → list_all (λ room. room.is_made) rooms ≡ true
-    → texts_in rooms ≡ lines_of (take (length rooms * size) rows)
-parts_joined rows [] size each made = ap (λ n. lines_of (take n rows)) (sym (none_of size))
-parts_joined rows (r ∷ rs) size each made =
+parts_joined : (batches : List (List Row)) (rooms : List Room) (size : ℕ) → AreLines batches rooms size → list_all (λ room. room.is_made) rooms ≡ true
+    → texts_in rooms ≡ batch_lines (take (length rooms * size) batches)
+parts_joined batches [] size each made = ap (λ n. batch_lines (take n batches)) (sym (none_of size))
+parts_joined batches (r ∷ rs) size each made =
     let parts = and_parts r.is_made (list_all (λ room. room.is_made) rs) made in
     let rest = length rs * size in
-    ap₂ ◌++◌ (each 0 r (omega arith) parts.0 ∙ ap (λ n. lines_of (take size (drop n rows))) (none_of size))
-    (parts_joined (drop size rows) rs size (later_lines rows r rs size each) parts.1)
-    ∙ sym (lines_join (take size rows) (take rest (drop size rows)))
-    ∙ ap lines_of (sym (take-add size rest rows))
-    ∙ ap (λ n. lines_of (take n rows)) (sym (one_more_of (length rs) size))
+    ap₂ ◌++◌ (each 0 r (omega arith) parts.0 ∙ ap (λ n. batch_lines (take size (drop n batches))) (none_of size))
+    (parts_joined (drop size batches) rs size (later_lines batches r rs size each) parts.1)
+    ∙ sym (lines_join (take size batches) (take rest (drop size batches)))
+    ∙ ap batch_lines (sym (take-add size rest batches))
+    ∙ ap (λ n. batch_lines (take n batches)) (sym (one_more_of (length rs) size))
 
-pub all_joined : (rows : List FocusRow) (rooms : List Room) (count size : ℕ) → length rooms ≡ count → length rows ≤ count * size → AreLines rows rooms size
-    → list_all (λ room. room.is_made) rooms ≡ true → texts_in rooms ≡ lines_of rows
-all_joined rows rooms count size long enough each made =
-    parts_joined rows rooms size each made ∙ ap lines_of (take_all (length rooms * size) rows (omega (arith, enough, ap (λ n. n * size) long)))
+pub all_joined : (batches : List (List Row)) (rooms : List Room) (count size : ℕ) → length rooms ≡ count → length batches ≤ count * size → AreLines batches rooms size
+    → list_all (λ room. room.is_made) rooms ≡ true → texts_in rooms ≡ batch_lines batches
+all_joined batches rooms count size long enough each made =
+    parts_joined batches rooms size each made ∙ ap batch_lines (take_all (length rooms * size) batches (omega (arith, enough, ap (λ n. n * size) long)))
 
 -- ---- rooms that are written
 

@@ -9,7 +9,7 @@ ghost use Rattle.counted_io.specs.Writing.{AppendsPrefix, AppendsSome};
 ghost use Rattle.metering_model.specs.Rows.{rows};
 ghost use Rattle.metering_model.specs.Transcript.{file_of};
 ghost use Rattle.metering_model.specs.World as model;
-ghost use Rattle.focus_csv.specs.Rows.{model_row};
+ghost use Rattle.focus_csv.specs.Rows.{joined, model_row};
 ghost use Rattle.focus_csv.specs.Faults.{is_sink_fault};
 
 pub use counted_io::Counted;
@@ -49,7 +49,7 @@ pub trait ExportFile {
             ≡ count_after (is_sink_fault result) (W.failed_calls sink.old) };
 
     /// Writes the same bytes. All lines are made before the first byte goes out, and those of many rows in several threads at
-    /// once; rows and lines are in memory together.
+    /// once; of the rows, a batch's for each thread are in memory.
     ///
     /// `Write` comes only from a failed call of the sink, and that is the only one: a prefix of the file that is not all
     /// of it went out. At want of memory the sink is as it was.
@@ -76,9 +76,9 @@ pub trait ExportFile {
         ensures kept { OnErr result (text.new.items ≡ text.old.items) };
 }
 
-/// The rows of the file that are to come: all of them.
-fn rows_of(alloc: Global, snapshot: &Snapshot) -> Result<RowsBetween<'_>, AllocError>
-    ensures { IfOk result (λ left. left
+/// The rows of the file, batch by batch.
+fn batches_of(alloc: Global, snapshot: &Snapshot) -> Result<RowsBetween<'_>, AllocError>
+    ensures { IfOk result (λ batches. joined batches
         ≡ rows snapshot.now.sheet snapshot.now.issuer snapshot.now.batches snapshot.now.period snapshot.now.from snapshot.now.to) }
 {
     let to = snapshot.to();
@@ -97,15 +97,15 @@ impl ExportFile for Snapshot {
     ghost taken = { λ s. s };
 
     fn rows(&self, alloc: Global) -> Result<Vec<FocusRow<'_>>, AllocError> {
-        let left = rows_of(alloc, self)?;
-        left.rest(alloc)
+        let batches = batches_of(alloc, self)?;
+        batches.all(alloc)
     }
 
     fn write_csv<W: Sink>(&self, alloc: Global, sink: &mut W) -> Result<(), CsvFault> {
-        let Ok(left) = rows_of(alloc, self) else {
+        let Ok(batches) = batches_of(alloc, self) else {
             return Err(CsvFault::OutOfMemory);
         };
-        write_rows(alloc, left, sink)
+        write_rows(alloc, &batches, sink)
     }
 
     fn write_csv_split<R: Threads + Sync, W: Sink>(
@@ -114,14 +114,14 @@ impl ExportFile for Snapshot {
         alloc: Global,
         sink: &mut W,
     ) -> Result<(), CsvFault> {
-        let Ok(rows) = self.rows(alloc) else {
+        let Ok(batches) = batches_of(alloc, self) else {
             return Err(CsvFault::OutOfMemory);
         };
-        write_split(rt, alloc, rows.as_slice(), sink)
+        write_split(rt, alloc, &batches, sink)
     }
 
     fn put_csv(&self, alloc: Global, text: &mut Vec<u8>) -> Result<(), AllocError> {
-        let left = rows_of(alloc, self)?;
-        put_file(alloc, left, text)
+        let batches = batches_of(alloc, self)?;
+        put_file(alloc, &batches, text)
     }
 }

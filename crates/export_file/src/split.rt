@@ -1,29 +1,33 @@
-//! The file of rows whose lines are made in several threads at once: parts of the rows, each in room of its own.
+//! The file of a snapshot whose lines are made in several threads at once: parts of its batches, each in room of its own.
 
-ghost use Rattle.std.specs.Prelude.{◌≡◌, ◌≢◌, ℕ, ◌<◌, ◌≤◌, ◌*◌, ◌++◌, ◌∷◌, [], length, map, slice_index_or, true, is_err, IsTrue, IfOk, IfErr, Err, OnOk, OnErr};
+ghost use Rattle.std.specs.Prelude.{◌≡◌, ◌≢◌, ℕ, ◌<◌, ◌≤◌, ◌*◌, ◌-◌, ◌++◌, ◌∷◌, [], length, min, slice_index_or, true, is_err, IsTrue, IfOk, IfErr, Err, OnOk, OnErr};
 ghost use Rattle.std.specs.List.{flat_map, list_all};
 ghost use Rattle.std.specs.Io.KnownBytes.{Appends};
 ghost use Rattle.counted_io.specs.Counts.{Rises, count_after};
 ghost use Rattle.counted_io.specs.Writing.{AppendsPrefix};
-ghost use Rattle.metering_model.specs.File.{file, header_line, row_text};
-ghost use Rattle.focus_csv.specs.Rows.{model_row};
+ghost use Rattle.metering_model.specs.File.{file, header_line};
+ghost use Rattle.focus_csv.specs.Rows.{batch_lines, joined};
 ghost use Rattle.focus_csv.specs.Faults.{is_sink_fault};
-ghost use Rattle.export_file.specs.Parts.{part_of, lines_of, texts_in};
+ghost use Rattle.export_file.specs.Parts.{part_of, texts_in};
 
 use counted_io::{Failed, Sink, write_all};
-use focus_csv::{CsvFault, FocusRow, header_text, row_texts, write_file};
+use focus_csv::laws::a_file_is_written_in_parts;
+use focus_csv::{CsvFault, RowsBetween, header_text, put_batches, put_file};
 use rayon::current_num_threads;
 use rayon::prelude::*;
 use std::alloc::{AllocError, Global};
 use std::thread::Threads;
 
-/// With fewer rows no thread is worth what it costs.
-const LEAST_ROWS: usize = 16_000;
-
-/// The rows of the least part, some 512 KiB of text.
+/// So many rows at least there are for each part, some 512 KiB of text. For fewer no thread is worth what it costs.
 const LEAST_PART: usize = 1_600;
 
-/// Room for the lines of one part of the rows.
+/// `rayon` starts no more threads.
+const MOST_PARTS: usize = 32;
+
+/// For each row so many bytes are asked for at once, so that the lines of a part seldom outgrow their room.
+const LINE_ROOM: usize = 400;
+
+/// Room for the lines of one part of the batches.
 #[derive(Drop)]
 struct Room {
     text: Vec<u8>,
@@ -31,12 +35,49 @@ struct Room {
     is_made: bool,
 }
 
+/// Where the part of that number begins, where each but the last has so many of all batches.
+fn part_start(all: usize, size: usize, k: usize) -> usize
+    ensures { result ≡ min (k * size) all }
+{
+    match k.checked_mul(size) {
+        Some(from) => from.min(all),
+        None => all,
+    }
+}
+
+/// An empty text with room for about so many lines, or without where there is none: it can still grow.
+fn text_for(alloc: Global, rows: usize) -> Vec<u8>
+    ensures { result.items ≡ [] }
+{
+    match Vec::with_capacity(alloc, rows.saturating_mul(LINE_ROOM)) {
+        Ok(text) => text,
+        Err(_) => Vec::new(alloc),
+    }
+}
+
+/// The lines of the part of that number.
+fn part_lines(
+    alloc: Global,
+    batches: &RowsBetween<'_>,
+    size: usize,
+    k: usize,
+) -> Result<Vec<u8>, AllocError>
+    ensures { IfOk result (λ text. text.items ≡ batch_lines (part_of batches.now size k)) }
+{
+    let all = batches.batches();
+    let from = part_start(all, size, k);
+    let to = from + size.min(all - from);
+    let mut text = text_for(alloc, batches.estimated_rows(from, to));
+    put_batches(alloc, batches, from, to, &mut text)?;
+    Ok(text)
+}
+
 impl Room {
-    /// Makes the lines of a part, as far as there is memory.
-    fn fill(&mut self, alloc: Global, part: &[FocusRow<'_>])
-        ensures { IsTrue self.new.is_made → self.new.text.items ≡ lines_of part.now }
+    /// Makes the lines of the part of that number, as far as there is memory.
+    fn fill(&mut self, alloc: Global, batches: &RowsBetween<'_>, size: usize, k: usize)
+        ensures { IsTrue self.new.is_made → self.new.text.items ≡ batch_lines (part_of batches.now size k) }
     {
-        match row_texts(alloc, part) {
+        match part_lines(alloc, batches, size, k) {
             Ok(text) => {
                 self.text = text;
                 self.is_made = true;
@@ -44,18 +85,6 @@ impl Room {
             Err(_) => self.is_made = false,
         }
     }
-}
-
-/// The part of that number, where each but the last has so many rows.
-fn part_at<'a, 'b>(rows: &'a [FocusRow<'b>], size: usize, k: usize) -> &'a [FocusRow<'b>]
-    ensures { result.now ≡ part_of rows.now size k }
-{
-    let from = match k.checked_mul(size) {
-        Some(from) => from.min(rows.len()),
-        None => rows.len(),
-    };
-    let rest = &rows[from..];
-    &rest[..size.min(rest.len())]
 }
 
 /// So many rooms, with no lines made.
@@ -80,19 +109,19 @@ fn fill_rooms(
     rt: &(impl Threads + Sync),
     alloc: Global,
     rooms: &mut [Room],
-    rows: &[FocusRow<'_>],
+    batches: &RowsBetween<'_>,
     size: usize,
 )
     ensures len { length rooms.new ≡ length rooms.old }
     ensures each { (k : ℕ) (d : Room) → k < length rooms.old → IsTrue (slice_index_or rooms.new k d).is_made
-        → (slice_index_or rooms.new k d).text.items ≡ lines_of (part_of rows.now size k) }
+        → (slice_index_or rooms.new k d).text.items ≡ batch_lines (part_of batches.now size k) }
 {
     par_for_each_mut(
         rt,
         rooms,
         |k: usize, room: &mut Room|
-            ensures { IsTrue room.new.is_made → room.new.text.items ≡ lines_of (part_of rows.entry.now size k) }
-        { room.fill(alloc, part_at(rows, size, k)) },
+            ensures { IsTrue room.new.is_made → room.new.text.items ≡ batch_lines (part_of batches.entry.now size k) }
+        { room.fill(alloc, batches, size, k) },
     );
 }
 
@@ -103,21 +132,21 @@ fn are_made(rooms: &[Room]) -> bool
     rooms.iter().all(|room| room.is_made)
 }
 
-/// The lines of all rows, in order, in so many rooms.
+/// The lines of all batches, in order, in so many rooms.
 fn lines_in_rooms(
     rt: &(impl Threads + Sync),
     alloc: Global,
-    rows: &[FocusRow<'_>],
+    batches: &RowsBetween<'_>,
     count: usize,
     size: usize,
 ) -> Result<Vec<Room>, AllocError>
-    requires { length rows.now ≤ count * size }
-    ensures { IfOk result (λ rooms. texts_in rooms.items ≡ lines_of rows.now) }
+    requires { length batches.now ≤ count * size }
+    ensures { IfOk result (λ rooms. texts_in rooms.items ≡ batch_lines batches.now) }
 {
     let Ok(mut rooms) = make_rooms(alloc, count) else {
         return Err(AllocError);
     };
-    fill_rooms(rt, alloc, rooms.as_mut_slice(), rows, size);
+    fill_rooms(rt, alloc, rooms.as_mut_slice(), batches, size);
     if are_made(&rooms) {
         Ok(rooms)
     } else {
@@ -141,39 +170,77 @@ fn write_rooms<W: Sink>(sink: &mut W, rooms: &[Room]) -> Result<(), Failed>
     Ok(())
 }
 
-/// How many parts rows are split into: one, where no thread is worth it, and at most as many as there are processors.
-fn part_count(rt: &impl Threads, rows: usize) -> usize
-    ensures { 1 ≤ result }
+/// The file, whose lines this thread makes.
+fn file_text(alloc: Global, batches: &RowsBetween<'_>) -> Result<Vec<u8>, AllocError>
+    ensures { IfOk result (λ text. text.items ≡ file (joined batches.now)) }
 {
-    if rows < LEAST_ROWS {
-        return 1;
-    }
-    current_num_threads(rt).min(rows / LEAST_PART)
+    let mut text = text_for(alloc, batches.estimated_rows(0, batches.batches()));
+    put_file(alloc, batches, &mut text)?;
+    Ok(text)
 }
 
-/// Writes the file of the rows as `write_file` does. The lines of many rows are made in several threads at once.
-pub(crate) fn write_split<W: Sink>(
-    rt: &(impl Threads + Sync),
+/// Writes the file, whose lines this thread makes.
+fn write_unsplit<W: Sink>(
     alloc: Global,
-    rows: &[FocusRow<'_>],
+    batches: &RowsBetween<'_>,
     sink: &mut W,
 ) -> Result<(), CsvFault>
     ensures written { OnOk result
-        (Appends (W.contents sink.old) (W.contents sink.new) (file (map model_row rows.now))) }
+        (Appends (W.contents sink.old) (W.contents sink.new) (file (joined batches.now))) }
     ensures prefix { result ≡ Err CsvFault.Write
-        → AppendsPrefix (W.contents sink.old) (W.contents sink.new) (file (map model_row rows.now)) }
+        → AppendsPrefix (W.contents sink.old) (W.contents sink.new) (file (joined batches.now)) }
     ensures fault { result ≡ Err CsvFault.Write
         → Rises (W.failed_calls sink.old) (W.failed_calls sink.new) }
     ensures count { W.failed_calls sink.new
         ≡ count_after (is_sink_fault result) (W.failed_calls sink.old) }
     ensures kept { IfErr result (λ fault. fault ≢ CsvFault.Write → sink.new ≡ sink.old) }
 {
-    let count = part_count(rt, rows.len());
-    if count == 1 {
-        return write_file(alloc, rows, sink);
+    let Ok(text) = file_text(alloc, batches) else {
+        return Err(CsvFault::OutOfMemory);
+    };
+    match write_all(sink, text.as_slice()) {
+        Ok(()) => Ok(()),
+        Err(_) => Err(CsvFault::Write),
     }
-    let size = rows.len().div_ceil(count);
-    let Ok(rooms) = lines_in_rooms(rt, alloc, rows, count, size) else {
+}
+
+/// How many parts the batches are split into: one, where no thread is worth it, and no more than there are processors. Few rows
+/// are told before the processors are counted, which takes longer than their file.
+fn part_count(rt: &impl Threads, batches: &RowsBetween<'_>) -> usize
+    ensures { 1 ≤ result }
+{
+    let most = batches.estimated_rows(0, batches.batches()) / LEAST_PART;
+    if most < 2 {
+        return 1;
+    }
+    current_num_threads(rt).min(most).min(MOST_PARTS)
+}
+
+/// Writes the file of the batches. The lines of many rows are made in several threads at once, and all before the first byte
+/// goes out.
+pub(crate) fn write_split<W: Sink>(
+    rt: &(impl Threads + Sync),
+    alloc: Global,
+    batches: &RowsBetween<'_>,
+    sink: &mut W,
+) -> Result<(), CsvFault>
+    ensures written { OnOk result
+        (Appends (W.contents sink.old) (W.contents sink.new) (file (joined batches.now))) }
+    ensures prefix { result ≡ Err CsvFault.Write
+        → AppendsPrefix (W.contents sink.old) (W.contents sink.new) (file (joined batches.now)) }
+    ensures fault { result ≡ Err CsvFault.Write
+        → Rises (W.failed_calls sink.old) (W.failed_calls sink.new) }
+    ensures count { W.failed_calls sink.new
+        ≡ count_after (is_sink_fault result) (W.failed_calls sink.old) }
+    ensures kept { IfErr result (λ fault. fault ≢ CsvFault.Write → sink.new ≡ sink.old) }
+{
+    a_file_is_written_in_parts();
+    let count = part_count(rt, batches);
+    if count == 1 {
+        return write_unsplit(alloc, batches, sink);
+    }
+    let size = batches.batches().div_ceil(count);
+    let Ok(rooms) = lines_in_rooms(rt, alloc, batches, count, size) else {
         return Err(CsvFault::OutOfMemory);
     };
     match write_rooms(sink, rooms.as_slice()) {

@@ -21,14 +21,3 @@ longer_begins text longer begun more is begins = (more ++ begins.0, begins.1 ∙
 -- cut back to its length, the text is as before
 pub cut_back : (text begun : List ℕ) (n : ℕ) → n ≡ length begun → BeginsWith text begun → take n text ≡ begun
 cut_back text begun n is begins = ap (λ m. take m text) is ∙ ap (take (length begun)) begins.1 ∙ take-append_seam begun begins.0
-
--- nothing stands behind the text
-pub ended : (text rest all : List ℕ) → text ++ rest ≡ all → rest ≡ [] → text ≡ all
-ended text rest all is none = sym (append-nil text) ∙ ap (λ t. text ++ t) (sym none) ∙ is
-
--- what is long enough, and is all with more behind it, begins as all does
-pub prefix_of_all : (text rest begun more : List ℕ) → text ++ rest ≡ begun ++ more → length begun ≤ length text → BeginsWith text begun
-prefix_of_all text rest begun more is long =
-    let n = length begun in
-    let begin : take n text ≡ begun = sym (take-append-le n text rest long) ∙ ap (take n) is ∙ take-append_seam begun more in
-    (drop n text, sym (take-append-drop n text) ∙ ap (λ t. t ++ drop n text) begin)

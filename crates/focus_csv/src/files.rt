@@ -1,12 +1,14 @@
 //! The file of rows between two cuts, batch by batch.
 
-ghost use Rattle.std.specs.Prelude.{◌≡◌, ◌<◌, ◌≤◌, [], ◌++◌, true, false, Err, length, IfOk, OnOk, OnErr};
+ghost use Rattle.std.specs.Prelude.{◌≡◌, ◌<◌, ◌≤◌, ◌-◌, [], ◌++◌, Err, length, take, drop, slice_index_or, OnOk, OnErr};
 ghost use Rattle.std.specs.List.{flat_map};
 ghost use Rattle.std.specs.Io.KnownBytes.{Appends};
 ghost use Rattle.counted_io.specs.Counts.{Rises, count_after};
 ghost use Rattle.counted_io.specs.Writing.{AppendsPrefix, AppendsSome};
 ghost use Rattle.metering_model.specs.File.{file, row_text};
+ghost use Rattle.focus_row.specs.Rows.{joined};
 ghost use Rattle.focus_csv.specs.Faults.{is_sink_fault};
+ghost use Rattle.focus_csv.specs.Rows.{batch_lines};
 ghost use Rattle.focus_csv.specs.Inner.Beginnings.{BeginsWith};
 
 use crate::CsvFault;
@@ -17,58 +19,64 @@ use counted_io::Sink;
 use focus_row::RowsBetween;
 use std::alloc::{AllocError, Global};
 
-/// Appends the lines of the next batch that has any, and tells whether there was one. At want of memory the text is as
-/// before, or has some of the lines behind it.
-fn put_next(
+/// Appends the lines of the batch of that number. At want of memory the text is as before, or has some of the lines behind it.
+fn put_batch(
     alloc: Global,
-    left: &mut RowsBetween<'_>,
+    batches: &RowsBetween<'_>,
+    k: usize,
     pieces: &mut LinePieces,
     text: &mut Vec<u8>,
-) -> Result<bool, AllocError>
-    ensures put { OnOk result (text.new.items ++ flat_map row_text left.new ≡ text.old.items ++ flat_map row_text left.old) }
-    ensures long { OnOk result (length text.old.items ≤ length text.new.items) }
-    ensures some { IfOk result (λ is_more. is_more ≡ true → length left.new < length left.old) }
-    ensures end { IfOk result (λ is_more. is_more ≡ false
-        → (flat_map row_text left.old ≡ []) × (flat_map row_text left.new ≡ [])) }
+) -> Result<(), AllocError>
+    requires { k < length batches.now }
+    ensures put { OnOk result (text.new.items ≡ text.old.items ++ flat_map row_text (slice_index_or batches.now k [])) }
     ensures begins { OnErr result (BeginsWith text.new.items text.old.items) }
 {
-    let Ok(next) = left.next_batch(alloc) else {
+    let Ok(rows) = batches.rows_of_batch(alloc, k) else {
         return Err(AllocError);
     };
-    let Some(rows) = next else {
-        return Ok(false);
-    };
     put_lines(pieces, &rows, text)?;
-    Ok(true)
+    Ok(())
 }
 
-/// Appends the lines of the rows that are still to come. At want of memory the text is as before, or has some of the
-/// lines behind it.
-fn put_left(alloc: Global, left: &mut RowsBetween<'_>, text: &mut Vec<u8>) -> Result<(), AllocError>
-    ensures put { OnOk result (text.new.items ≡ text.old.items ++ flat_map row_text left.old) }
+/// Appends the lines of the batches from one number to before another, in order. At want of memory the text is as before, or
+/// has some of the lines behind it.
+fn put_each(
+    alloc: Global,
+    batches: &RowsBetween<'_>,
+    from: usize,
+    to: usize,
+    text: &mut Vec<u8>,
+) -> Result<(), AllocError>
+    requires order { from ≤ to }
+    requires within { to ≤ length batches.now }
+    ensures put { OnOk result (text.new.items ≡ text.old.items ++ batch_lines (take (to - from) (drop from batches.now))) }
     ensures begins { OnErr result (BeginsWith text.new.items text.old.items) }
 {
     let mut pieces = LinePieces::new(alloc);
-    loop {
-        let is_more = put_next(alloc, left, &mut pieces, text)?;
-        if !is_more {
-            return Ok(());
-        }
+    for k in from..to {
+        put_batch(alloc, batches, k, &mut pieces, text)?;
     }
+    Ok(())
 }
 
-/// Appends the file of the rows that are still to come, to a text that its caller may use again: the header line, and a
-/// line for each row in order. Of the rows, one batch's are in memory at a time.
+/// Appends the lines of the batches from one number to before another, in order, to a text that its caller may use again. Of
+/// the rows, one batch's are in memory at a time.
 ///
 /// At want of memory the text is as before.
-pub fn put_file(alloc: Global, left: RowsBetween<'_>, text: &mut Vec<u8>) -> Result<(), AllocError>
-    ensures put { OnOk result (text.new.items ≡ text.old.items ++ file left.entry) }
+pub fn put_batches(
+    alloc: Global,
+    batches: &RowsBetween<'_>,
+    from: usize,
+    to: usize,
+    text: &mut Vec<u8>,
+) -> Result<(), AllocError>
+    requires order { from ≤ to }
+    requires within { to ≤ length batches.now }
+    ensures put { OnOk result (text.new.items ≡ text.old.items ++ batch_lines (take (to - from) (drop from batches.now))) }
     ensures kept { OnErr result (text.new.items ≡ text.old.items) }
 {
     let before = text.len();
-    text.extend_from_slice(header_text())?;
-    let mut left = left;
-    match put_left(alloc, &mut left, text) {
+    match put_each(alloc, batches, from, to, text) {
         Ok(()) => Ok(()),
         Err(error) => {
             text.truncate(before);
@@ -77,42 +85,65 @@ pub fn put_file(alloc: Global, left: RowsBetween<'_>, text: &mut Vec<u8>) -> Res
     }
 }
 
-/// Writes the file of the rows that are still to come: the header line, and a line for each row in order, batch by batch.
-/// Of the rows, one batch's are in memory at a time, and their text.
+/// Appends the file of rows to a text that its caller may use again: the header line, and a line for each row in order. Of
+/// the rows, one batch's are in memory at a time.
+///
+/// At want of memory the text is as before.
+pub fn put_file(
+    alloc: Global,
+    batches: &RowsBetween<'_>,
+    text: &mut Vec<u8>,
+) -> Result<(), AllocError>
+    ensures put { OnOk result (text.new.items ≡ text.old.items ++ file (joined batches.now)) }
+    ensures kept { OnErr result (text.new.items ≡ text.old.items) }
+{
+    let before = text.len();
+    text.extend_from_slice(header_text())?;
+    match put_each(alloc, batches, 0, batches.batches(), text) {
+        Ok(()) => Ok(()),
+        Err(error) => {
+            text.truncate(before);
+            Err(error)
+        }
+    }
+}
+
+/// Writes the file of rows: the header line, and a line for each row in order, batch by batch. Of the rows, one batch's are in
+/// memory at a time, and their text.
 ///
 /// `Write` comes only from a failed call of the sink, and that is the only one: a prefix of the file that is not all of it
 /// went out. At want of memory no call failed, and a prefix of the file went out.
 pub fn write_rows<W: Sink>(
     alloc: Global,
-    left: RowsBetween<'_>,
+    batches: &RowsBetween<'_>,
     sink: &mut W,
 ) -> Result<(), CsvFault>
-    ensures written { OnOk result (Appends (W.contents sink.old) (W.contents sink.new) (file left.entry)) }
+    ensures written { OnOk result (Appends (W.contents sink.old) (W.contents sink.new) (file (joined batches.now))) }
     ensures prefix { result ≡ Err CsvFault.Write
-        → AppendsPrefix (W.contents sink.old) (W.contents sink.new) (file left.entry) }
+        → AppendsPrefix (W.contents sink.old) (W.contents sink.new) (file (joined batches.now)) }
     ensures fault { result ≡ Err CsvFault.Write
         → Rises (W.failed_calls sink.old) (W.failed_calls sink.new) }
     ensures memory { result ≡ Err CsvFault.OutOfMemory
-        → AppendsSome (W.contents sink.old) (W.contents sink.new) (file left.entry) }
+        → AppendsSome (W.contents sink.old) (W.contents sink.new) (file (joined batches.now)) }
     ensures count { W.failed_calls sink.new
         ≡ count_after (is_sink_fault result) (W.failed_calls sink.old) }
 {
-    let mut left = left;
     let mut pieces = LinePieces::new(alloc);
     let mut text = Vec::new(alloc);
     if text.extend_from_slice(header_text()).is_err() {
         return Err(CsvFault::OutOfMemory);
     }
-    loop {
+    for k in 0..batches.batches() {
         if let Err(fault) = write_text(sink, text.as_slice()) {
             return Err(fault);
         }
         text.clear();
-        let Ok(is_more) = put_next(alloc, &mut left, &mut pieces, &mut text) else {
+        let Ok(()) = put_batch(alloc, batches, k, &mut pieces, &mut text) else {
             return Err(CsvFault::OutOfMemory);
         };
-        if !is_more {
-            return Ok(());
-        }
     }
+    if let Err(fault) = write_text(sink, text.as_slice()) {
+        return Err(fault);
+    }
+    Ok(())
 }

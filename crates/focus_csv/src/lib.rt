@@ -10,7 +10,7 @@ ghost use Rattle.focus_row.specs.Rows.{model_row};
 ghost use Rattle.focus_csv.specs.Faults.{is_sink_fault};
 
 use counted_io::Sink;
-pub use files::{put_file, write_rows};
+pub use files::{put_batches, put_file, write_rows};
 pub use focus_row::{
     Cut, FocusRow, Issuer, IssuerFault, Key, Period, RowsBetween, Sheet, Store, rows_between,
 };

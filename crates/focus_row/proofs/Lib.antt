@@ -1,3 +1,4 @@
 pub mod PlaceOrder
 pub mod BetweenLaws
 pub mod StopLaws
+pub mod BatchLaws

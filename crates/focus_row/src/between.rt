@@ -1,7 +1,7 @@
 //! The rows between two cuts, batch by batch.
 
-ghost use Rattle.std.specs.Prelude.{◌≡◌, ◌≢◌, ◌≤◌, ◌≤ℤ◌, ◌+◌, ◌<◌, ◌++◌, [], true, pos, length, map, option_map, Some, None, IfOk, IfSome, IfNone, IfErr, OnOk, OnErr};
-ghost use Rattle.std.specs.List.{cons_option};
+ghost use Rattle.std.specs.Prelude.{◌≡◌, ◌≤◌, ◌≤ℤ◌, ◌+◌, ◌-◌, ◌*◌, ◌<◌, ◌++◌, [], true, pos, length, map, option_map, slice_index_or, All, Some, None, IfOk, IfSome, IfNone, OnOk};
+ghost use Rattle.std.specs.List.{cons_option, flat_map};
 ghost use Rattle.std.specs.Option.{is_some, option_copied};
 ghost use Rattle.metering_model.specs.Batch.{Reading as ModelReading, is_priced};
 ghost use Rattle.metering_model.specs.Cut.{IsAtLeast, last_of};
@@ -17,7 +17,8 @@ ghost use Rattle.batch_view.specs.Lent.{model_reading, record_of};
 ghost use Rattle.batch_store.specs.Stores.{position_of};
 ghost use Rattle.charge_row.specs.FocusRows.{model_row};
 ghost use Rattle.charge_row.specs.Regions.{IsNamed};
-ghost use Rattle.focus_row.specs.Inner.Left.{MayBeCharged, record_at, rows_left};
+ghost use Rattle.focus_row.specs.Rows.{joined};
+ghost use Rattle.focus_row.specs.Inner.Left.{IsWithin, MayBeCharged, record_at, rows_left, rows_of_batch, rows_of_place};
 ghost use Rattle.focus_row.specs.Inner.Near.{AreNamed};
 
 use crate::places::{is_named, next_named};
@@ -27,6 +28,13 @@ use charge_row::{Billing, FocusRow, Issuer, RegionColumns, Sheet, row};
 use metering_model::ChargeClass;
 use std::alloc::{AllocError, Global};
 use std::marker::Model;
+
+/// The place of a batch in the journals.
+#[derive(Clone, Copy)]
+struct BatchPlace {
+    agent: u8,
+    seq: u32,
+}
 
 /// What is charged between two cuts, and by what.
 #[derive(Drop)]
@@ -229,12 +237,25 @@ impl<'a> BetweenCuts<'a> {
     fn room_for(&self, agent: u8, seq: u32, count: u16) -> usize
         requires from { 1 ≤ agent }
         requires to { agent ≤ self.now.agents }
+        ensures { result ≤ count }
     {
         if seq > self.from.get(agent) {
             usize::from(count)
         } else {
             0
         }
+    }
+
+    /// As many rows as room is made for, of the batch of an agent at a sequence.
+    fn estimated_rows(&self, agent: u8, seq: u32) -> usize
+        requires from { 1 ≤ agent }
+        requires to { agent ≤ self.now.agents }
+        requires first { 1 ≤ seq }
+        requires within { seq ≤ last_of self.now.to agent }
+        ensures { result ≤ 1_000 }
+    {
+        let batch = self.store.batch_at(agent, seq);
+        self.room_for(agent, seq, batch.count())
     }
 
     /// The rows of the batch of an agent at a sequence.
@@ -248,7 +269,7 @@ impl<'a> BetweenCuts<'a> {
         requires to { agent ≤ self.now.agents }
         requires first { 1 ≤ seq }
         requires within { seq ≤ last_of self.now.to agent }
-        ensures { IfOk result (λ rows. map model_row rows.items ++ rows_left self.now agent (seq + 1) ≡ rows_left self.now agent seq) }
+        ensures { IfOk result (λ rows. map model_row rows.items ≡ rows_of_batch self.now agent seq) }
     {
         let batch = self.store.batch_at(agent, seq);
         // Its clause also says, for the proof, that a batch has at most 1,000 records.
@@ -294,7 +315,8 @@ impl<'a> BetweenCuts<'a> {
         ensures agent { IfSome result (λ stop. (agent ≤ stop.0) × (stop.0 ≤ self.now.agents) × (stop.0 ≤ 64)) }
         ensures seq { IfSome result (λ stop. (1 ≤ stop.1) × (stop.1 ≤ 1_000_000) × (stop.1 ≤ last_of self.now.to stop.0)) }
         ensures behind { IfSome result (λ stop. stop.0 ≡ agent → seq ≤ stop.1) }
-        ensures some { IfSome result (λ stop. rows_left self.now stop.0 stop.1 ≡ rows_left self.now agent seq) }
+        ensures some { IfSome result (λ stop. rows_of_batch self.now stop.0 stop.1 ++ rows_left self.now stop.0 (stop.1 + 1)
+            ≡ rows_left self.now agent seq) }
         ensures none { IfNone result (rows_left self.now agent seq ≡ []) }
     {
         let agents = self.store.agents();
@@ -307,71 +329,95 @@ impl<'a> BetweenCuts<'a> {
         }
         None
     }
+
+    /// The batches that may have rows, in journal order.
+    fn places(&self, alloc: Global) -> Result<Vec<BatchPlace>, AllocError>
+        ensures all { IfOk result (λ places. flat_map (rows_of_place self.now) places.items ≡ rows_left self.now 1 1) }
+        ensures within { IfOk result (λ places. All (IsWithin self.now) places.items) }
+    {
+        let mut places = Vec::new(alloc);
+        let mut agent = 1;
+        let mut seq = 1;
+        while let Some((next_agent, next_seq)) = self.next_stop(agent, seq) {
+            let place = BatchPlace {
+                agent: next_agent,
+                seq: next_seq,
+            };
+            places.push(place)?;
+            agent = next_agent;
+            seq = next_seq + 1;
+        }
+        Ok(places)
+    }
 }
 
-/// The rows between two cuts that are still to come, in journal order.
+/// The rows between two cuts, batch by batch in journal order. It holds where they are, and makes those of a batch each time
+/// that they are asked for.
 #[derive(Drop)]
 pub struct RowsBetween<'a> {
     cuts: BetweenCuts<'a>,
-    /// The next batch is this agent's at this sequence, or comes behind that.
-    agent: u8,
-    seq: u32,
+    /// The batches that may have rows.
+    places: Vec<BatchPlace>,
 }
 
 impl<'a> Model for RowsBetween<'a> {
-    ghost use Rattle.std.specs.Prelude.{List, ◌≤◌};
+    ghost use Rattle.std.specs.Prelude.{List, All, map};
     ghost use Rattle.metering_model.specs.Row.{Row};
-    ghost use Rattle.focus_row.specs.Inner.Left.{rows_left};
+    ghost use Rattle.focus_row.specs.Inner.Left.{IsWithin, rows_of_batch, rows_of_place};
 
-    ghost Value = { List Row };
+    ghost Value = { List (List Row) };
 
-    ghost view = { λ r. rows_left r.cuts r.agent r.seq };
+    ghost view = { λ r. map (rows_of_place r.cuts) r.places.items };
 
-    ghost invariant = { λ r. (1 ≤ r.agent) × (r.agent ≤ 64) × (1 ≤ r.seq) × (r.seq ≤ 1_000_001) };
+    ghost invariant = { λ r. All (IsWithin r.cuts) r.places.items };
 }
 
 impl<'a> RowsBetween<'a> {
-    /// The rows of the next batch that has any; None at the end. Memory is taken for these alone, and want of it
-    /// changes nothing.
-    pub fn next_batch(&mut self, alloc: Global) -> Result<Option<Vec<FocusRow<'a>>>, AllocError>
-        ensures given { IfOk result (λ batch. IfSome batch (λ rows. map model_row rows.items ++ self.new ≡ self.old)) }
-        ensures some { IfOk result (λ batch. IfSome batch (λ rows. length self.new < length self.old)) }
-        ensures end { IfOk result (λ batch. IfNone batch ((self.old ≡ []) × (self.new ≡ []))) }
-        ensures kept { IfErr result (λ _. self.new ≡ self.old) }
+    /// How many batches there are. Some may have no row.
+    pub fn batches(&self) -> usize
+        ensures { result ≡ length self.now }
     {
-        let mut agent = self.agent;
-        let mut seq = self.seq;
-        while let Some((next_agent, next_seq)) = self.cuts.next_stop(agent, seq) {
-            let Ok(rows) = self.cuts.rows_of_batch(alloc, next_agent, next_seq) else {
-                return Err(AllocError);
-            };
-            agent = next_agent;
-            seq = next_seq + 1;
-            if !rows.is_empty() {
-                self.agent = agent;
-                self.seq = seq;
-                return Ok(Some(rows));
-            }
-        }
-        Ok(None)
+        self.places.len()
     }
 
-    /// All rows that are still to come. It takes itself by value, so want of memory leaves none that is half taken.
-    pub fn rest(mut self, alloc: Global) -> Result<Vec<FocusRow<'a>>, AllocError>
-        ensures { IfOk result (λ all. map model_row all.items ≡ self.entry) }
+    /// How many records those batches above the earlier cut have that stand from one number to before another. With few
+    /// amendments that is about how many rows the batches have.
+    pub fn estimated_rows(&self, from: usize, to: usize) -> usize
+        requires order { from ≤ to }
+        requires within { to ≤ length self.now }
+        ensures { result ≤ 1_000 * (to - from) }
+    {
+        let mut count: usize = 0;
+        for k in from..to {
+            let place = self.places[k];
+            count = count.saturating_add(self.cuts.estimated_rows(place.agent, place.seq));
+        }
+        count
+    }
+
+    /// The rows of the batch of that number, in order. Memory is taken for these alone.
+    pub fn rows_of_batch(&self, alloc: Global, k: usize) -> Result<Vec<FocusRow<'a>>, AllocError>
+        requires { k < length self.now }
+        ensures { IfOk result (λ rows. map model_row rows.items ≡ slice_index_or self.now k []) }
+    {
+        let place = self.places[k];
+        self.cuts.rows_of_batch(alloc, place.agent, place.seq)
+    }
+
+    /// All rows, in order.
+    pub fn all(&self, alloc: Global) -> Result<Vec<FocusRow<'a>>, AllocError>
+        ensures { IfOk result (λ all. map model_row all.items ≡ joined self.now) }
     {
         let mut all = Vec::new(alloc);
-        loop {
-            let Ok(next) = self.next_batch(alloc) else {
+        for k in 0..self.batches() {
+            let Ok(mut rows) = self.rows_of_batch(alloc, k) else {
                 return Err(AllocError);
-            };
-            let Some(mut rows) = next else {
-                return Ok(all);
             };
             if all.append(&mut rows).is_err() {
                 return Err(AllocError);
             }
         }
+        Ok(all)
     }
 }
 
@@ -391,7 +437,7 @@ pub fn rows_between<'a>(
     requires grows { IsAtLeast to.now from.now }
     requires whole { first_missing store.now.batches to.now ≡ None }
     requires met { MeetsJournalRules sheet.now (up_to to.now store.now.batches) }
-    ensures { IfOk result (λ left. left ≡ rows sheet.now issuer.now store.now.batches period from.now to.now) }
+    ensures { IfOk result (λ batches. joined batches ≡ rows sheet.now issuer.now store.now.batches period from.now to.now) }
 {
     let amended = store.amended(alloc, from, to)?;
     // For the proof alone: its clause says that the agents are 1 to 64, and their batches a holding.
@@ -405,9 +451,6 @@ pub fn rows_between<'a>(
         to,
         amended,
     };
-    Ok(RowsBetween {
-        cuts,
-        agent: 1,
-        seq: 1,
-    })
+    let places = cuts.places(alloc)?;
+    Ok(RowsBetween { cuts, places })
 }

@@ -67,10 +67,10 @@ pub fn rows_of<'a>(
     if let Some(rule) = first_broken_up_to(store, sheet, to) {
         return Err(RowFault::Broken(rule));
     }
-    let Ok(left) = rows_between(alloc, store, sheet, issuer, period, from, to) else {
+    let Ok(batches) = rows_between(alloc, store, sheet, issuer, period, from, to) else {
         return Err(RowFault::OutOfMemory);
     };
-    match left.rest(alloc) {
+    match batches.all(alloc) {
         Ok(all) => Ok(all),
         Err(_) => Err(RowFault::OutOfMemory),
     }

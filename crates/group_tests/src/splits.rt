@@ -6,8 +6,11 @@ use group_core::{Event, ExportFile, Offer, Reply, Snapshot, World};
 use std::alloc::{AllocError, Global};
 use std::thread::Threads;
 
-/// So many rows are split, and fewer are not. With 4 processors a part has 4,000 of them.
-const SPLIT: u32 = 16_000;
+/// So many rows are split in two, where there are two processors, and fewer are not split.
+const SPLIT: u32 = 3_200;
+
+/// So many are split in four, where there are as many processors: three parts of two batches, and one of one.
+const FOUR: u32 = 6_400;
 
 /// The text of a batch of so many readings. The first has tags that have to be escaped, and a resource that has to be quoted.
 fn text_of(alloc: Global, agent: u8, seq: u32, readings: u32) -> Result<Vec<u8>, AllocError> {
@@ -99,11 +102,25 @@ fn is_same_of(
     }
 }
 
-/// Of no row, one and two, and of as many as are split, one fewer, and one and three more, of which the last part has fewer.
+/// Of several agents; of no row, one and two; of as many as are split, one fewer and one more; and, told for four processors, of four
+/// parts whose last has one batch, of as many rows as fill four parts of two batches, one fewer, and one more, which leaves the
+/// last part empty.
 #[test]
 fn a_file_that_is_split_is_the_same(rt: HostRuntime) {
     assert!(rt; is_same_of(&rt, rt.alloc(), 3, 1_000, 3_001));
-    for rows in [0, 1, 2, SPLIT - 1, SPLIT, SPLIT + 1, SPLIT + 3] {
+    assert!(rt; is_same_of(&rt, rt.alloc(), 7, 1_000, 7_001));
+    for rows in [
+        0,
+        1,
+        2,
+        SPLIT - 1,
+        SPLIT,
+        SPLIT + 1,
+        FOUR,
+        7_999,
+        8_000,
+        8_001,
+    ] {
         assert!(rt; is_same_of(&rt, rt.alloc(), 1, rows, rows.saturating_add(1)));
     }
 }
@@ -148,20 +165,20 @@ fn goes_out_up_to_a_fault(rt: &(impl Threads + Sync), alloc: Global, snapshot: &
     snapshot.put_csv(alloc, &mut file).is_ok() && are_fronts(rt, alloc, snapshot, &file)
 }
 
-/// With 64 processors a file of 16,000 rows has ten parts, and with one it goes out at once.
+/// With one processor the file goes out at once.
 #[test]
 fn a_split_file_goes_out_up_to_a_failed_call(rt: HostRuntime) {
-    let is_so = match taken(rt.alloc(), 1, SPLIT) {
+    let is_so = match taken(rt.alloc(), 1, FOUR) {
         Ok(snapshot) => goes_out_up_to_a_fault(&rt, rt.alloc(), &snapshot),
         Err(_) => false,
     };
     assert!(rt; is_so);
 }
 
-/// Whether it is the file of as many rows as are split.
+/// Whether it is the file of 6,400 rows.
 fn has_lines(file: Option<Vec<u8>>) -> bool {
     match file {
-        Some(file) => file.iter().filter(|byte| **byte == b'\n').count() == 16_001,
+        Some(file) => file.iter().filter(|byte| **byte == b'\n').count() == 6_401,
         None => false,
     }
 }
@@ -185,7 +202,7 @@ fn split_again(rt: &(impl Threads + Sync), alloc: Global, snapshot: &Snapshot) -
 /// The file is asked for again where a growth was refused, in whichever thread, and has a line for each reading.
 #[test]
 fn a_refused_growth_gives_no_split_file(rt: HostRuntime) {
-    let is_so = match taken(rt.alloc(), 1, SPLIT) {
+    let is_so = match taken(rt.alloc(), 1, FOUR) {
         Ok(snapshot) => has_lines(split_again(&rt, rt.alloc(), &snapshot)),
         Err(_) => true,
     };

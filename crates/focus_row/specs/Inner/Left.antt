@@ -1,16 +1,17 @@
 -- The rows of the batches up to a cut from an agent's sequence on.
-use Rattle.std.specs.Prelude.{◌≡◌, ℕ, List, map, length, Option, None, slice_get}
+use Rattle.std.specs.Prelude.{◌≡◌, ◌≤◌, ℕ, List, [], map, length, Option, Some, None, slice_get}
 use Rattle.std.specs.List.{filter_map}
 use Rattle.std.specs.Option.{option_and_then}
-use Rattle.metering_model.specs.Batch.{Record}
+use Rattle.metering_model.specs.Batch.{Batch, Record}
 use Rattle.metering_model.specs.Sheet.{Sheet, Issuer}
-use Rattle.metering_model.specs.Cut.{Cut, IsAtLeast}
-use Rattle.metering_model.specs.Holding.{Holding, Position, Placed, held, up_to, records_in_order}
+use Rattle.metering_model.specs.Cut.{Cut, IsAtLeast, last_of}
+use Rattle.metering_model.specs.Holding.{Holding, Position, Placed, held, placed, up_to, records_in_order}
 use Rattle.metering_model.specs.Step.{first_missing}
 use Rattle.metering_model.specs.JournalRules.{MeetsJournalRules}
 use Rattle.metering_model.specs.Row.{Row}
 use Rattle.metering_model.specs.Rows.{placed_row}
 use Rattle.batch_store.specs.Stores.{IsStored}
+use Rattle.focus_row.specs.declared.between.BatchPlace.{BatchPlace}
 pub use Rattle.journal_rules.specs.Inner.Left.{is_from, left, placed_from}
 
 abbrev pub record_at : Holding → Position → Option Record
@@ -41,3 +42,22 @@ rows_in b xs = map (λ x. x.row) (filter_map (placed_row b.sheet b.issuer b.batc
 -- the rows of the batches from an agent's sequence on
 unfoldable pub rows_left : Between → ℕ → ℕ → List Row
 rows_left b agent seq = rows_in b (records_in_order (left agent seq (up_to b.to b.batches)))
+
+-- the rows of the batch that is held there
+abbrev pub rows_of_held : Between → Option Batch → List Row
+rows_of_held b None = []
+rows_of_held b (Some x) = rows_in b (placed x)
+
+-- the rows of the batch of an agent at a sequence
+abbrev pub rows_of_batch : Between → ℕ → ℕ → List Row
+rows_of_batch b agent seq = rows_of_held b (held b.batches agent seq)
+
+abbrev pub rows_of_place : Between → BatchPlace → List Row
+rows_of_place b p = rows_of_batch b p.agent p.seq
+
+-- A batch of one of the agents, up to the later cut.
+pub record IsWithin (b : Between) (p : BatchPlace) : Type 0 where
+  pub from : 1 ≤ p.agent
+  pub to : p.agent ≤ b.agents
+  pub first : 1 ≤ p.seq
+  pub last : p.seq ≤ last_of b.to p.agent

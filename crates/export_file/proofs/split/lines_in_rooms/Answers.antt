@@ -14,5 +14,5 @@ returns-then-are_made g c =
     let whole = all_changed old new c.in-Ok.rooms.len long same in
     let made = ap (list_all (λ room. room.is_made)) (sym whole ∙ sym c.deref.ensures.value) ∙ sym c.if-are_made.ensures in
     ap texts_in whole
-    ∙ all_joined c.args.rows.now new c.args.count c.args.size (same ∙ c.in-Ok.ensures) c.requires
+    ∙ all_joined c.args.batches.now new c.args.count c.args.size (same ∙ c.in-Ok.ensures) c.requires
     (λ k d within is. c.fill_rooms.ensures.each k d (subst (λ n. k < n) c.fill_rooms.ensures.len within) is) made

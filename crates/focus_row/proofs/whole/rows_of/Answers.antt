@@ -14,15 +14,15 @@ returns-in_default-rows_between-clause-memory c is = (
       (sym c.first_broken_up_to.ensures ∙ c.in_default-first_broken_up_to.is),
 )
 
-pub returns-in-Ok-rest-clause-whole : goal.returns-in-Ok-rest-clause-whole
-returns-in-Ok-rest-clause-whole c = (
+pub returns-in-Ok-all-clause-whole : goal.returns-in-Ok-all-clause-whole
+returns-in-Ok-all-clause-whole c = (
   sym c.first_missing.ensures ∙ c.in_default.is,
   rules_met c.args.store.now.batches c.args.to.now c.agents-agents.ensures.stored.is_holding (sym c.first_missing.ensures ∙ c.in_default.is) c.args.sheet.now
       (sym c.first_broken_up_to.ensures ∙ c.in_default-first_broken_up_to.is),
 )
 
-pub returns-in-Err-clause-memory : goal.returns-in-Err-clause-memory
-returns-in-Err-clause-memory c is = (
+pub returns-clause-memory : goal.returns-clause-memory
+returns-clause-memory c is = (
   sym c.first_missing.ensures ∙ c.in_default.is,
   rules_met c.args.store.now.batches c.args.to.now c.agents-agents.ensures.stored.is_holding (sym c.first_missing.ensures ∙ c.in_default.is) c.args.sheet.now
       (sym c.first_broken_up_to.ensures ∙ c.in_default-first_broken_up_to.is),

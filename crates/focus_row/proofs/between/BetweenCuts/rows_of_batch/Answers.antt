@@ -1,7 +1,7 @@
-use Rattle.std.proofs.Common.{◌≡◌, ◌<◌, ◌≤◌, ◌+◌, List, [], ◌∷◌, ◌++◌, length, map, Some, true, is_some, refl, ap, subst, sym, ◌∙◌, arith, rules, append-nil}
+use Rattle.std.proofs.Common.{◌≡◌, ◌<◌, ◌≤◌, ◌+◌, List, ◌++◌, length, map, Some, true, is_some, refl, ap, subst, sym, ◌∙◌, arith, append-nil}
 use Rattle.std.specs.Prelude.{slice_get}
 use Rattle.std.specs.Option.{option_and_then}
-use Rattle.std.proofs.lemmas.List.Elements.{All-nil, All-push}
+use Rattle.std.proofs.lemmas.List.Elements.{All-nil}
 use Rattle.metering_model.specs.Batch.{Batch}
 use Rattle.metering_model.specs.Holding.{held, placed}
 use Rattle.metering_model.proofs.HoldingLaws.{held_place}
@@ -10,9 +10,9 @@ use Rattle.batch_view.specs.Batches.{RecordsLeft, batch_of, records_left}
 use Rattle.batch_view.specs.Lent.{record_of}
 use Rattle.charge_row.specs.FocusRows.{model_row}
 use Rattle.charge_row.specs.declared.columns.FocusRow.{FocusRow}
-use Rattle.focus_row.specs.Inner.Left.{Between, MayBeCharged, placed_from, rows_in, rows_left}
+use Rattle.focus_row.specs.Inner.Left.{Between, MayBeCharged, placed_from, rows_in, rows_of_held}
 use Rattle.focus_row.specs.Inner.Near.{AreNamed, HasItsName}
-use Rattle.focus_row.proofs.StopLaws.{first_left, next_record, rows_first, when_done}
+use Rattle.focus_row.proofs.StopLaws.{first_left, next_record, when_done}
 use Rattle.focus_row.proofs.between.BetweenCuts.rows_of_batch.Goals as goal
 
 pub batch_at-batch-requires-clause-there : goal.batch_at-batch-requires-clause-there
@@ -97,4 +97,4 @@ returns c =
     let here : rows_in s (placed_from a q 0 (batch_of old.bytes).records) ≡ rows_in s (placed (batch_of old.bytes)) =
     ap (λ n. rows_in s (placed_from n q 0 (batch_of old.bytes).records)) (sym place.0)
     ∙ ap (λ n. rows_in s (placed_from (batch_of old.bytes).agent n 0 (batch_of old.bytes).records)) (sym place.1) in
-    ap (λ rs. rs ++ rows_left s a (q + 1)) (all ∙ here) ∙ sym (rows_first s ok a q (batch_of old.bytes) found c.requires.within)
+    all ∙ here ∙ ap (rows_of_held s) (sym found)
