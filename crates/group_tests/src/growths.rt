@@ -153,15 +153,33 @@ fn are_acted(alloc: Global, book: &mut Book) -> Result<bool, Fail> {
     Ok(matches!(book.history().last(), Some(entry) if matches!(entry.reply, Reply::Exported(_))))
 }
 
+/// A receipt with its file, made in this thread alone or in further ones.
+fn made(
+    rt: &(impl Threads + Sync),
+    alloc: Global,
+    receipt: Receipt,
+    is_alone: bool,
+) -> Result<Done, AllocError> {
+    if is_alone {
+        return Done::in_one_thread(alloc, receipt);
+    }
+    Done::new(rt, alloc, receipt)
+}
+
 /// The export once more, with its file, which is made of yet another one where it finds no memory.
-fn done_again(rt: &(impl Threads + Sync), alloc: Global, book: &mut Book) -> Result<Done, Fail> {
+fn done_again(
+    rt: &(impl Threads + Sync),
+    alloc: Global,
+    book: &mut Book,
+    is_alone: bool,
+) -> Result<Done, Fail> {
     let export = || Event::Export { node: 0, period: 0 };
     let receipt = act_again(alloc, book, export(), export())?;
-    match Done::new(rt, alloc, receipt) {
+    match made(rt, alloc, receipt, is_alone) {
         Ok(done) => Ok(done),
         Err(_) => {
             let receipt = book.act(alloc, Worker::Node(0), export())?;
-            Ok(Done::new(rt, alloc, receipt)?)
+            Ok(made(rt, alloc, receipt, is_alone)?)
         }
     }
 }
@@ -176,8 +194,10 @@ fn a_refused_growth_leaves_the_book(rt: HostRuntime) -> Result<(), Fail> {
     };
     assert!(rt; are_acted(rt.alloc(), &mut book)?);
     if book.history().len() == ALONE.len() {
-        let done = done_again(&rt, rt.alloc(), &mut book)?;
-        assert!(rt; matches!(done.file(), Some(file) if is_file(file)));
+        for is_alone in [false, true] {
+            let done = done_again(&rt, rt.alloc(), &mut book, is_alone)?;
+            assert!(rt; matches!(done.file(), Some(file) if is_file(file)));
+        }
     }
     Ok(())
 }

@@ -35,7 +35,7 @@ impl Model for Done {
     ghost invariant = { λ d. bytes_in d.file ≡ file_in (reply_of d.receipt.reply) };
 }
 
-/// The file of a snapshot, in memory.
+/// The file of a snapshot, in memory, that of many rows made in several threads.
 fn rendered(
     rt: &(impl Threads + Sync),
     alloc: Global,
@@ -49,6 +49,15 @@ fn rendered(
         Ok(()) => Ok(sink.into_inner()),
         Err(_) => Err(AllocError),
     }
+}
+
+/// The file of a snapshot, in memory, made in this thread.
+fn rendered_here(alloc: Global, snapshot: &Snapshot) -> Result<Vec<u8>, AllocError>
+    ensures { IfOk result (λ text. text.items ≡ file_of snapshot.now) }
+{
+    let mut text = Vec::new(alloc);
+    snapshot.put_csv(alloc, &mut text)?;
+    Ok(text)
 }
 
 /// The file of a reply, where it is an export.
@@ -68,6 +77,19 @@ fn rendered_if_exported(
     }
 }
 
+/// The same, made in this thread.
+fn rendered_here_if_exported(alloc: Global, reply: &Reply) -> Result<Option<Vec<u8>>, AllocError>
+    ensures { IfOk result (λ file. bytes_in file ≡ file_in (reply_of reply.now)) }
+{
+    match reply {
+        Reply::Exported(snapshot) => match rendered_here(alloc, snapshot) {
+            Ok(text) => Ok(Some(text)),
+            Err(_) => Err(AllocError),
+        },
+        _ => Ok(None),
+    }
+}
+
 impl Done {
     /// Renders the file, where the reply is an export, and that of many rows in several threads at once.
     pub fn new(
@@ -78,6 +100,14 @@ impl Done {
         ensures { IfOk result (λ done. done ≡ told_of receipt) }
     {
         let file = rendered_if_exported(rt, alloc, &receipt.reply)?;
+        Ok(Done { receipt, file })
+    }
+
+    /// The same in this thread alone, for a caller whose threads keep all processors busy.
+    pub fn in_one_thread(alloc: Global, receipt: Receipt) -> Result<Done, AllocError>
+        ensures { IfOk result (λ done. done ≡ told_of receipt) }
+    {
+        let file = rendered_here_if_exported(alloc, &receipt.reply)?;
         Ok(Done { receipt, file })
     }
 

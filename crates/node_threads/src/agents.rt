@@ -4,10 +4,9 @@ use crate::desks::{Desk, Report};
 use node_book::{Done, Event, Log, Offer, Reply, Worker};
 use std::alloc::{AllocError, Global};
 use std::sync::Wait;
-use std::thread::Threads;
 
 /// Reads a text and journals it, and tells the nodes of its packet.
-fn journal<R: Threads + Wait + Sync>(
+fn journal<R: Wait>(
     rt: &R,
     alloc: Global,
     desk: &Desk,
@@ -19,11 +18,11 @@ fn journal<R: Threads + Wait + Sync>(
     if let Reply::Journaled { packet } = &receipt.reply {
         desk.send(rt, *packet)?;
     }
-    Done::new(rt, alloc, receipt)
+    Done::in_one_thread(alloc, receipt)
 }
 
 /// Journals these texts in turn.
-fn journal_all<R: Threads + Wait + Sync>(
+fn journal_all<R: Wait>(
     rt: &R,
     alloc: Global,
     desk: &Desk,
@@ -41,7 +40,7 @@ fn journal_all<R: Threads + Wait + Sync>(
 }
 
 /// The thread of an agent. Want of memory is told to the main thread at once.
-pub(crate) fn run_agent<R: Threads + Wait + Sync>(
+pub(crate) fn run_agent<R: Wait>(
     rt: &R,
     alloc: Global,
     desk: &Desk,

@@ -9,11 +9,12 @@ use std::sync::Wait;
 use std::thread;
 use std::thread::Threads;
 
-/// Which node a thread is, and how often it asks its gate.
+/// Which node a thread is, how often it asks its gate, and whether its files are made in further threads.
 #[derive(Clone, Copy, Drop)]
 pub(crate) struct Seat {
     pub node: u8,
     pub turns: u32,
+    pub is_split: bool,
 }
 
 /// How far a node is: what it has done, how many periods it has learned, and how many of these it has exported.
@@ -67,9 +68,15 @@ impl Progress {
         &mut self,
         rt: &R,
         alloc: Global,
+        seat: Seat,
         receipt: Receipt,
     ) -> Result<(), AllocError> {
-        self.done.push(Done::new(rt, alloc, receipt)?)?;
+        let done = if seat.is_split {
+            Done::new(rt, alloc, receipt)?
+        } else {
+            Done::in_one_thread(alloc, receipt)?
+        };
+        self.done.push(done)?;
         Ok(())
     }
 
@@ -94,7 +101,7 @@ impl Progress {
         if is_answered {
             pass(gate, seat, period);
         }
-        self.keep(rt, alloc, receipt)?;
+        self.keep(rt, alloc, seat, receipt)?;
         if is_answered {
             gate.done(node, period);
             self.exported = self.exported.saturating_add(1);
@@ -132,7 +139,7 @@ impl Progress {
     ) -> Result<(), AllocError> {
         let receipt = desk.act(rt, alloc, Worker::Node(seat.node), event)?;
         let next = next_of(&receipt.reply);
-        self.keep(rt, alloc, receipt)?;
+        self.keep(rt, alloc, seat, receipt)?;
         match next {
             Next::Sent(packet) => desk.send(rt, packet),
             Next::Learned => {

@@ -126,6 +126,15 @@ fn lead_and_join<R: Threads + Wait>(
     exported
 }
 
+/// Whether files are made in further threads: where there are two processors at least for each node. Nodes export at about the
+/// same time, and with fewer they would only slow each other. Each then counts all processors as its own.
+fn is_split(rt: &impl Threads, nodes: usize) -> bool {
+    match thread::available_parallelism(rt) {
+        Ok(processors) => nodes <= processors.get() / 2,
+        Err(_) => false,
+    }
+}
+
 /// Starts a thread for each node and each agent, leads the nodes through the periods, and gives what all threads bring back:
 /// first the agents' logs, then the nodes'.
 pub(crate) fn run_threads<R: Threads + Wait + Sync, G: Gate + Sync>(
@@ -144,11 +153,16 @@ pub(crate) fn run_threads<R: Threads + Wait + Sync, G: Gate + Sync>(
         let mut are_all = true;
         let mut node = 0u8;
         let turns = work.turns;
+        let is_split = is_split(rt, inboxes.nodes.len());
         for notes in &inboxes.nodes {
             if !are_all {
                 break;
             }
-            let seat = Seat { node, turns };
+            let seat = Seat {
+                node,
+                turns,
+                is_split,
+            };
             match scope.spawn(move || run_node(rt, alloc, desk, gate, seat, notes)) {
                 Ok(handle) => are_all = nodes.push(handle).is_ok(),
                 Err(_) => are_all = false,
