@@ -1,8 +1,8 @@
 //! What nodes keep is told as texts, and they are revived from these.
 
 use crate::kept::{LEARNED, PROMISED, VOTED};
-use crate::samples::{alone, is_file, issuer, sheet};
-use group_core::{Event, ExportFile, KeptOffer, Offer, Refusal, Reply, Snapshot, World};
+use crate::samples::{alone, is_put, issuer, sheet};
+use group_core::{Event, KeptOffer, Offer, Refusal, Reply, World};
 use metering_model::{KeptCode, KeptTextFault};
 use std::alloc::{AllocError, Global};
 use std::test::Fail;
@@ -115,12 +115,6 @@ const KEPT_BYTES: &[Act<'static>] = &[
     Act::Refuse(0, SHORT, TOO_SHORT),
     Act::Export(0),
 ];
-
-/// Whether the snapshot has the worked file.
-fn is_put(alloc: Global, snapshot: &Snapshot) -> bool {
-    let mut text = Vec::new(alloc);
-    snapshot.put_csv(alloc, &mut text).is_ok() && is_file(&text)
-}
 
 /// Whether the first node exports that file.
 fn is_exported(alloc: Global, world: &mut World) -> bool {

@@ -1,6 +1,6 @@
 //! What the tests have in common: sheet and issuer, the worked events with their answers, and a plan.
 
-use group_core::{Event, Issuer, Offer, Reply, Sheet, World};
+use group_core::{Event, ExportFile, Issuer, Offer, Reply, Sheet, Snapshot, World};
 use node_threads::Plan;
 use std::alloc::{AllocError, Global};
 use std::sync::Arc;
@@ -128,6 +128,12 @@ pub(crate) fn are_sent(replies: &[Reply], packets: &[Option<u32>]) -> bool {
 /// Whether the text is the file of the worked reading in January 2025.
 pub(crate) fn is_file(text: &[u8]) -> bool {
     text.strip_prefix(HEADER) == Some(LINE)
+}
+
+/// Whether the snapshot appends the worked file to a text.
+pub(crate) fn is_put(alloc: Global, snapshot: &Snapshot) -> bool {
+    let mut text = Vec::new(alloc);
+    snapshot.put_csv(alloc, &mut text).is_ok() && is_file(&text)
 }
 
 /// The texts of one agent: a reading, and its amendment.

@@ -1,6 +1,6 @@
 //! What a group answers where memory is found.
 
-use crate::samples::{WHOLE_PATH_SENT, are_sent, is_file, whole_path, world};
+use crate::samples::{WHOLE_PATH_SENT, are_sent, is_file, is_put, whole_path, world};
 use counted_io::Counted;
 use group_core::{Event, ExportFile, Snapshot, World};
 use std::alloc::{AllocError, Global};
@@ -33,12 +33,6 @@ fn agreed(alloc: Global) -> Result<World, Fail> {
 fn is_written(alloc: Global, snapshot: &Snapshot) -> bool {
     let mut sink = Counted::new(Vec::new(alloc));
     snapshot.write_csv(alloc, &mut sink).is_ok() && is_file(sink.inner())
-}
-
-/// Whether it appends that to a text.
-fn is_put(alloc: Global, snapshot: &Snapshot) -> bool {
-    let mut text = Vec::new(alloc);
-    snapshot.put_csv(alloc, &mut text).is_ok() && is_file(&text)
 }
 
 /// Whether it has one row.
