@@ -1,3 +1,4 @@
+pub mod LineCounts
 pub mod Offered
 pub mod PlayedLaws
 pub mod Results
