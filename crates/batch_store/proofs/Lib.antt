@@ -13,3 +13,4 @@ pub mod RisingPlaces
 pub mod AmenderLemmas
 pub mod Spared
 mod SameBatches
+pub mod Clones

@@ -47,7 +47,7 @@ counted_take n zero h c = tt
 counted_take n (suc k) [] c = tt
 counted_take n (suc k) (b ∷ h) c = (c.0, counted_take (n + 1) k h c.1)
 
-clones_same : (xs bs : List Shared) → AllZip (λ a b. arc_value b ≡ arc_value a) xs bs → (batches_shared bs ≡ batches_shared xs) × (length bs ≡ length xs)
+pub clones_same : (xs bs : List Shared) → AllZip (λ a b. arc_value b ≡ arc_value a) xs bs → (batches_shared bs ≡ batches_shared xs) × (length bs ≡ length xs)
 clones_same [] [] z = (refl, refl)
 clones_same [] (b ∷ bs) z = absurd z
 clones_same (a ∷ xs) [] z = absurd z

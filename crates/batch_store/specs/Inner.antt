@@ -4,3 +4,4 @@ pub mod Fronts
 pub mod Values
 pub mod Amended
 pub mod Amenders
+pub mod Rows

@@ -7,6 +7,7 @@ mod fronts;
 mod indexed;
 pub mod laws;
 mod missing;
+mod row;
 mod shelf;
 mod stores;
 mod values;

@@ -7,6 +7,7 @@ ghost use Rattle.metering_model.specs.Holding.{put};
 ghost use Rattle.batch_view.specs.Batches.{batch_of};
 ghost use Rattle.batch_store.specs.Inner.Shelves.{AreFiled, AreOf, Rises, at_seq, from_seq, up_to_seq, contents, filed_up_to};
 
+use crate::row::Row;
 use batch_view::OwnedBatch;
 use std::alloc::{AllocError, Global};
 use std::collections::BTreeMap;
@@ -20,7 +21,7 @@ const MOST_BATCHES: u32 = 1_000_000;
 /// number, and those ahead of a gap in a map.
 #[derive(Drop)]
 pub(crate) struct Shelf {
-    whole: Vec<Arc<OwnedBatch>>,
+    whole: Row,
     ahead: BTreeMap<u32, Arc<OwnedBatch>>,
 }
 
@@ -30,9 +31,9 @@ impl Model for Shelf {
 
     ghost Value = { Holding };
 
-    ghost view = { λ s. on_shelf s.whole.items s.ahead.entries };
+    ghost view = { λ s. on_shelf s.whole s.ahead.entries };
 
-    ghost invariant = { λ s. IsShelf s.whole.items s.ahead.entries };
+    ghost invariant = { λ s. IsShelf s.whole s.ahead.entries };
 }
 
 /// The batches that are filed up to a sequence, shared.
@@ -57,7 +58,7 @@ impl Shelf {
         ensures { result ≡ [] }
     {
         Shelf {
-            whole: Vec::new(alloc),
+            whole: Row::new(alloc),
             ahead: BTreeMap::new(alloc),
         }
     }
@@ -76,7 +77,7 @@ impl Shelf {
         if seq == 0 {
             return None;
         }
-        Some(&self.whole[seq as usize - 1])
+        Some(self.whole.at(seq as usize - 1))
     }
 
     /// The first batch from a sequence on.
@@ -86,7 +87,7 @@ impl Shelf {
     {
         let first = seq.max(1);
         if first as usize <= self.whole.len() {
-            return Some(&self.whole[first as usize - 1]);
+            return Some(self.whole.at(first as usize - 1));
         }
         let mut later = self.ahead.range(first..);
         match later.next() {
@@ -114,17 +115,20 @@ impl Shelf {
     fn move_first(&mut self) -> bool
         ensures { self.new ≡ self.old }
     {
-        match self.ahead.first_key_value() {
-            Some((seq, _)) if *seq as usize == self.whole.len() + 1 => {}
+        let next = match self.ahead.first_key_value() {
+            Some((seq, batch)) if *seq as usize == self.whole.len() + 1 => Arc::try_clone(batch),
             _ => return false,
-        }
-        if self.whole.try_reserve(1).is_err() {
+        };
+        let Ok(batch) = next else {
             return false;
-        }
-        match self.ahead.pop_first() {
-            Some((_, batch)) => self.whole.push(batch).is_ok(),
-            None => false,
-        }
+        };
+        let Ok(()) = self.whole.push(batch) else {
+            return false;
+        };
+        let Some(_) = self.ahead.pop_first() else {
+            return false;
+        };
+        true
     }
 
     /// Moves what a filled gap leaves without one. What finds no room stays in the map.
@@ -177,8 +181,7 @@ impl Shelf {
         ensures { IfOk result (λ part. part ≡ up_to_seq last self.now) }
     {
         let count = self.whole.len().min(last as usize);
-        let mut whole: Vec<Arc<OwnedBatch>> = Vec::with_capacity(alloc, count)?;
-        whole.extend_from_slice(&self.whole[..count])?;
+        let whole = self.whole.share(count)?;
         let ahead = share_filed(&self.ahead, alloc, last)?;
         Ok(Shelf { whole, ahead })
     }

@@ -1,14 +1,19 @@
-use Rattle.std.proofs.Common.{◌≡◌, ◌∷◌, ◌++◌, [], true, sym, subst, arith}
-use Rattle.std.proofs.lemmas.Grind.{common_steps}
-use Rattle.std.specs.Result.{is_ok}
-use Rattle.batch_store.specs.Inner.Shelves.{IsShelf}
-use Rattle.batch_store.proofs.ShelfLemmas.{moved_first}
+-- The first of the map stands behind those without a gap, by another hand.
+use Rattle.std.proofs.Common.{◌∙◌, arith}
+use Rattle.batch_store.proofs.Clones.{moved_clone, on_same_shelf, same_shelf}
 use Rattle.batch_store.proofs.shelf.Shelf.move_first.Goals as goal
 
-pub invariant_of-self-in-Some-pop_first-2 : goal.invariant_of-self-in-Some-pop_first-2
-invariant_of-self-in-Some-pop_first-2 c =
-    let whole = c.self.inside.whole.items in
-    let moved = moved_first whole c.self.inside.ahead.entries (c.in-Some-pop_first.field-0-0, c.in-Some-pop_first.batch) c.pop_first.new.self.entries c.in-Some.seq.now c.in-Some.field-0-1.now c.self.invariant c.in-Some.ensures.first (omega arith) c.in-Some-pop_first.ensures.removal in
-    let room : is_ok c.push.result ≡ true = grind (arith, common_steps) in
-    let now : c.push.new.self.items ≡ whole ++ c.in-Some-pop_first.batch ∷ [] = grind (arith, common_steps, room) in
-    subst (λ xs. IsShelf xs c.pop_first.new.self.entries) (sym now) moved.is
+pub invariant_of-self : goal.invariant_of-self
+invariant_of-self c = same_shelf c.self.inside.whole c.push.new.self c.self.inside.ahead.entries c.in_default-push.ensures.kept c.self.invariant
+
+pub returns-in_default-push : goal.returns-in_default-push
+returns-in_default-push c = on_same_shelf c.self.inside.whole c.push.new.self c.self.inside.ahead.entries c.in_default-push.ensures.kept ∙ c.self.view_is
+
+pub invariant_of-self-2 : goal.invariant_of-self-2
+invariant_of-self-2 c =
+    (moved_clone c.self.inside.whole c.self.inside.ahead.entries c.in-Some-pop_first.field-0 c.pop_first.new.self.entries c.in-Some.seq.now c.in-Some.batch.now c.in-Ok.batch c.push.new.self c.self.invariant c.in-Some.ensures.first (omega arith) c.in-Some-pop_first.ensures.removal c.in-Ok.ensures c.in-Ok-push.ensures.added).0
+
+pub returns : goal.returns
+returns c =
+    (moved_clone c.self.inside.whole c.self.inside.ahead.entries c.in-Some-pop_first.field-0 c.pop_first.new.self.entries c.in-Some.seq.now c.in-Some.batch.now c.in-Ok.batch c.push.new.self c.self.invariant c.in-Some.ensures.first (omega arith) c.in-Some-pop_first.ensures.removal c.in-Ok.ensures c.in-Ok-push.ensures.added).1
+    ∙ c.self.view_is
