@@ -4,3 +4,4 @@ pub mod PlayedLaws
 pub mod Results
 pub mod Texts
 pub mod TranscriptLaws
+pub mod Held

@@ -1,15 +1,17 @@
 //! The lines of replies that wait to be written.
 
-ghost use Rattle.std.specs.Prelude.{◌≡◌, ◌↔◌, ◌≤◌, ◌++◌, [], length, IsTrue, OnOk, OnErr, is_err};
+ghost use Rattle.std.specs.Prelude.{◌≡◌, ◌↔◌, ◌≤◌, ◌++◌, [], true, false, length, None, Some, IfSome, IsTrue, OnOk, OnErr, is_err};
 ghost use Rattle.std.specs.Io.KnownBytes.{Appends};
 ghost use Rattle.counted_io.specs.Counts.{Rises, count_after};
 ghost use Rattle.counted_io.specs.Writing.{AppendsPrefix};
+ghost use Rattle.metering_model.specs.World.{Snapshot, Exported};
 ghost use Rattle.metering_model.specs.Transcript.{reply_text};
 ghost use Rattle.group_core.specs.Words.{reply_of};
+ghost use Rattle.schedule_player.specs.Inner.Held.{FitsReply, IsHeldAfter, told, waiting};
 
 use crate::words::set_words;
 use counted_io::{Failed, Sink, write_all};
-use group_core::Reply;
+use group_core::{Period, Reply};
 use std::alloc::{AllocError, Global};
 use std::marker::Model;
 
@@ -19,82 +21,141 @@ const MANY_BYTES: usize = 65_536;
 /// What a transcript says of some replies, one behind the other, which waits to be written.
 ///
 /// The buffers are used again. The file of the last reply stands by itself, so that its lines are counted before the line
-/// above it is made, and none of them is copied.
+/// above it is made, and none of them is copied. It stays when it was written: the next export of its period is the same,
+/// at whatever node, so that its text is at hand.
 #[derive(Drop)]
 pub(crate) struct ReplyLines {
     lines: Vec<u8>,
-    file: Vec<u8>,
     line: Vec<u8>,
+    file: Vec<u8>,
+    /// Whether the file waits behind the lines.
+    waits: bool,
+    /// The period of the export that `line` and `file` tell of, where they tell of one.
+    held: Option<Period>,
 }
 
 impl Model for ReplyLines {
-    ghost use Rattle.std.specs.Prelude.{ℕ, List, ◌++◌};
+    ghost use Rattle.std.specs.Prelude.{◌++◌};
+    ghost use Rattle.schedule_player.specs.Inner.Held.{Waiting, told, waiting};
 
-    ghost Value = { List ℕ };
+    ghost Value = { Waiting };
 
-    ghost view = { λ r. r.lines.items ++ r.file.items };
+    ghost view = { λ r. record {
+      text = r.lines.items ++ waiting r.waits r.file.items;
+      held = told r.held r.line.items r.file.items;
+    } };
 }
 
-/// Moves a file behind the lines before it, where there is one.
-fn join_file(lines: &mut Vec<u8>, file: &mut Vec<u8>) -> Result<(), AllocError>
-    ensures joined { OnOk result ((lines.new.items ≡ lines.old.items ++ file.old.items) × (file.new.items ≡ [])) }
-    ensures kept { OnErr result ((lines.new.items ≡ lines.old.items) × (file.new.items ≡ file.old.items)) }
+/// What waits of a file.
+fn waiting(waits: bool, file: &[u8]) -> &[u8]
+    ensures { result.now ≡ waiting waits file.now }
 {
-    lines.extend_from_slice(file)?;
-    file.clear();
+    if waits { file } else { &[] }
+}
+
+/// Puts a file that waits behind the lines before it. It stays at hand.
+fn join_file(lines: &mut Vec<u8>, waits: &mut bool, file: &[u8]) -> Result<(), AllocError>
+    ensures joined { OnOk result ((lines.new.items ≡ lines.old.items ++ waiting waits.old file.now) × (waits.new ≡ false)) }
+    ensures kept { OnErr result ((lines.new.items ≡ lines.old.items) × (waits.new ≡ waits.old)) }
+{
+    lines.extend_from_slice(waiting(*waits, file))?;
+    *waits = false;
+    Ok(())
+}
+
+/// The period of an export, if a reply is one.
+fn exported(reply: &Reply) -> Option<Period>
+    ensures { IfSome result (λ period. (s : Snapshot) × (reply_of reply.now ≡ Exported s) × (period ≡ s.period)) }
+{
+    match reply {
+        Reply::Exported(snapshot) => Some(snapshot.period()),
+        _ => None,
+    }
+}
+
+/// Whether a reply is an export of the period.
+fn is_export_of(period: Option<Period>, reply: &Reply) -> bool
+    ensures { IsTrue result → (s : Snapshot) × (reply_of reply.now ≡ Exported s) × (period ≡ Some s.period) }
+{
+    match (period, exported(reply)) {
+        (Some(held), Some(period)) => held.number() == period.number(),
+        _ => false,
+    }
+}
+
+/// Makes a line and a file those of a reply. Where they are of an export of the same period, they are its own.
+fn hold(
+    alloc: Global,
+    reply: &Reply,
+    held: &mut Option<Period>,
+    line: &mut Vec<u8>,
+    file: &mut Vec<u8>,
+) -> Result<(), AllocError>
+    requires { FitsReply (told held.old line.old.items file.old.items) (reply_of reply.now) }
+    ensures text { OnOk result (line.new.items ++ file.new.items ≡ reply_text (reply_of reply.now)) }
+    ensures held { OnOk result (IsHeldAfter (told held.old line.old.items file.old.items) (reply_of reply.now) (told held.new line.new.items file.new.items)) }
+{
+    if is_export_of(*held, reply) {
+        return Ok(());
+    }
+    *held = None;
+    set_words(alloc, reply, line, file)?;
+    *held = exported(reply);
     Ok(())
 }
 
 impl ReplyLines {
-    /// Nothing waits.
+    /// Nothing waits, and nothing is at hand.
     pub(crate) fn new(alloc: Global) -> ReplyLines
-        ensures { result ≡ [] }
+        ensures text { result.text ≡ [] }
+        ensures held { result.held ≡ None }
     {
         ReplyLines {
             lines: Vec::new(alloc),
-            file: Vec::new(alloc),
             line: Vec::new(alloc),
+            file: Vec::new(alloc),
+            waits: false,
+            held: None,
         }
     }
 
     /// Puts the text of one more reply behind those that wait. Where memory is refused, nothing of it waits.
     pub(crate) fn add(&mut self, alloc: Global, reply: &Reply) -> Result<(), AllocError>
-        ensures added { OnOk result (self.new ≡ self.old ++ reply_text (reply_of reply.now)) }
-        ensures kept { OnErr result (self.new ≡ self.old) }
+        requires fits { FitsReply self.old.held (reply_of reply.now) }
+        ensures added { OnOk result (self.new.text ≡ self.old.text ++ reply_text (reply_of reply.now)) }
+        ensures held { OnOk result (IsHeldAfter self.old.held (reply_of reply.now) self.new.held) }
+        ensures kept { OnErr result (self.new.text ≡ self.old.text) }
     {
-        join_file(&mut self.lines, &mut self.file)?;
-        let Ok(_) = set_words(alloc, reply, &mut self.line, &mut self.file) else {
-            self.file.clear();
-            return Err(AllocError);
-        };
-        let Ok(_) = self.lines.extend_from_slice(&self.line) else {
-            self.file.clear();
-            return Err(AllocError);
-        };
+        join_file(&mut self.lines, &mut self.waits, &self.file)?;
+        hold(alloc, reply, &mut self.held, &mut self.line, &mut self.file)?;
+        self.lines.extend_from_slice(&self.line)?;
+        self.waits = true;
         Ok(())
     }
 
     /// Whether so much waits that it should be written.
     pub(crate) fn are_many(&self) -> bool
-        ensures { IsTrue result ↔ (65_536 ≤ length self.now) }
+        ensures { IsTrue result ↔ (65_536 ≤ length self.now.text) }
     {
-        self.lines.len() >= MANY_BYTES || self.file.len() >= MANY_BYTES - self.lines.len()
+        let file = waiting(self.waits, &self.file);
+        self.lines.len() >= MANY_BYTES || file.len() >= MANY_BYTES - self.lines.len()
     }
 
-    /// Writes all that waits, and then nothing waits.
+    /// Writes all that waits, and then nothing waits. What is at hand stays so.
     ///
     /// An error comes of one failed call of the writer: a prefix went out that is not all of it.
     pub(crate) fn write<W: Sink>(&mut self, writer: &mut W) -> Result<(), Failed>
-        ensures written { OnOk result (Appends (W.contents writer.old) (W.contents writer.new) self.old) }
-        ensures none_wait { OnOk result (self.new ≡ []) }
-        ensures prefix { OnErr result (AppendsPrefix (W.contents writer.old) (W.contents writer.new) self.old) }
+        ensures written { OnOk result (Appends (W.contents writer.old) (W.contents writer.new) self.old.text) }
+        ensures none_wait { OnOk result (self.new.text ≡ []) }
+        ensures held { self.new.held ≡ self.old.held }
+        ensures prefix { OnErr result (AppendsPrefix (W.contents writer.old) (W.contents writer.new) self.old.text) }
         ensures fault { OnErr result (Rises (W.failed_calls writer.old) (W.failed_calls writer.new)) }
         ensures count { W.failed_calls writer.new ≡ count_after (is_err result) (W.failed_calls writer.old) }
     {
         write_all(writer, &self.lines)?;
-        write_all(writer, &self.file)?;
+        write_all(writer, waiting(self.waits, &self.file))?;
         self.lines.clear();
-        self.file.clear();
+        self.waits = false;
         Ok(())
     }
 }

@@ -8,6 +8,7 @@ ghost use Rattle.metering_model.specs.Schedule.{event_of};
 ghost use Rattle.metering_model.specs.Step.{step};
 ghost use Rattle.metering_model.specs.Transcript.{reply_text};
 ghost use Rattle.schedule_reader.specs.Events.{HasWholeLines, planned_of};
+ghost use Rattle.schedule_player.specs.Inner.Held.{IsHeldOf};
 ghost use Rattle.schedule_player.specs.Inner.Playing.{IsTold, IsWorldAfter, events_of, text_of};
 
 use crate::events::event_of;
@@ -24,23 +25,27 @@ fn play_event(
     planned: &Planned<'_>,
     lines: &mut ReplyLines,
 ) -> Result<(), AllocError>
-    requires { HasWholeLines planned.now }
-    ensures text { OnOk result (lines.new ≡ lines.old ++ reply_text (step world.old (event_of (planned_of planned.now))).0) }
+    requires whole { HasWholeLines planned.now }
+    requires held { IsHeldOf world.old lines.old.held }
+    ensures text { OnOk result (lines.new.text ≡ lines.old.text ++ reply_text (step world.old (event_of (planned_of planned.now))).0) }
     ensures world { OnOk result (world.new ≡ (step world.old (event_of (planned_of planned.now))).1) }
-    ensures kept { OnErr result (lines.new ≡ lines.old) }
+    ensures kept { OnErr result (lines.new.text ≡ lines.old.text) }
+    ensures held { OnOk result (IsHeldOf world.new lines.new.held) }
 
     // The event is done or not.
     ensures left { OnErr result ((world.new ≡ world.old) ⊎ (world.new ≡ (step world.old (event_of (planned_of planned.now))).1)) }
 {
     let event = event_of(alloc, planned)?;
     let reply = world.step(alloc, &event)?;
-    lines.add(alloc, &reply)
+    lines.add(alloc, &reply)?;
+    Ok(())
 }
 
 /// Writes what waits, if it is much.
 fn write_many<W: Sink>(lines: &mut ReplyLines, writer: &mut W) -> Result<(), Failed>
-    ensures written { OnOk result ((written : List ℕ) × (written ++ lines.new ≡ lines.old) × Appends (W.contents writer.old) (W.contents writer.new) written) }
-    ensures prefix { OnErr result (AppendsPrefix (W.contents writer.old) (W.contents writer.new) lines.old) }
+    ensures written { OnOk result ((written : List ℕ) × (written ++ lines.new.text ≡ lines.old.text) × Appends (W.contents writer.old) (W.contents writer.new) written) }
+    ensures prefix { OnErr result (AppendsPrefix (W.contents writer.old) (W.contents writer.new) lines.old.text) }
+    ensures held { lines.new.held ≡ lines.old.held }
     ensures fault { OnErr result (Rises (W.failed_calls writer.old) (W.failed_calls writer.new)) }
     ensures count { W.failed_calls writer.new ≡ count_after (is_err result) (W.failed_calls writer.old) }
 {
@@ -61,10 +66,11 @@ fn play_on<W: Sink>(
     writer: &mut W,
 ) -> Result<usize, Failed>
     requires whole { All HasWholeLines events.now }
-    requires none_wait { lines.old ≡ [] }
+    requires none_wait { lines.old.text ≡ [] }
+    requires held { IsHeldOf world.old lines.old.held }
     ensures within { IfOk result (λ done. done ≤ length events.now) }
     ensures world { IfOk result (λ done. IsWorldAfter world.old events.now done world.new) }
-    ensures told { IfOk result (λ done. IsTold (W.contents writer.old) (W.contents writer.new) lines.new world.old events.now done) }
+    ensures told { IfOk result (λ done. IsTold (W.contents writer.old) (W.contents writer.new) lines.new.text world.old events.now done) }
     ensures prefix { OnErr result (AppendsPrefix (W.contents writer.old) (W.contents writer.new) (text_of world.old (events_of events.now))) }
     ensures fault { OnErr result (Rises (W.failed_calls writer.old) (W.failed_calls writer.new)) }
     ensures count { W.failed_calls writer.new ≡ count_after (is_err result) (W.failed_calls writer.old) }

@@ -1,5 +1,15 @@
 use Rattle.std.proofs.Common.{rules}
+use Rattle.group_core.specs.Words.{reply_of}
+use Rattle.schedule_player.proofs.Held.{fits, held_after}
 use Rattle.schedule_player.proofs.playing.play_event.Goals as goal
+
+pub add-requires : goal.add-requires
+add-requires c =
+    record { fits = fits c.args.world.now c.step.new.self (reply_of c.in_ok-reply.reply) c.step.ensures.stay c.in_ok-reply.ensures.exports c.args.lines.now.held c.requires.held }
 
 pub returns-clause-text : goal.returns-clause-text
 returns-clause-text c = search rules
+
+pub returns-clause-held : goal.returns-clause-held
+returns-clause-held c =
+    held_after c.args.world.now c.step.new.self (reply_of c.in_ok-reply.reply) c.step.ensures.stay c.in_ok-reply.ensures.exports c.args.lines.now.held c.add.new.self.held c.requires.held c.in_ok-add.ensures.held

@@ -3,9 +3,9 @@ use Rattle.schedule_player.proofs.Texts.{told_prefix, told_whole}
 use Rattle.schedule_player.proofs.playing.play_events.Goals as goal
 
 pub returns-clause-played : goal.returns-clause-played
-returns-clause-played g c = told_whole _ _ _ c.args.world c.args.events.now c.in_ok-done.done c.play_on.new.lines c.in_ok-done.ensures.told c.in_ok-write.ensures.written
+returns-clause-played g c = told_whole _ _ _ c.args.world c.args.events.now c.in_ok-done.done c.play_on.new.lines.text c.in_ok-done.ensures.told c.in_ok-write.ensures.written
 
 pub returns-in_err-write-clause-prefix : goal.returns-in_err-write-clause-prefix
 returns-in_err-write-clause-prefix g c =
     on_err c.from_residual-in_err-write.result
-    (told_prefix _ _ _ c.args.world c.args.events.now c.in_ok-done.done c.play_on.new.lines c.in_ok-done.ensures.told c.in_err-write.ensures.prefix)
+    (told_prefix _ _ _ c.args.world c.args.events.now c.in_ok-done.done c.play_on.new.lines.text c.in_ok-done.ensures.told c.in_err-write.ensures.prefix)

@@ -1,5 +1,6 @@
-use Rattle.std.proofs.Common.{◌+◌, ◌<◌, ◌++◌, length, ap, ◌∙◌, rules, arith}
+use Rattle.std.proofs.Common.{◌+◌, ◌<◌, ◌++◌, length, sym, subst, ap, ◌∙◌, rules, arith}
 use Rattle.std.proofs.KnownBytes.{Appends-trans}
+use Rattle.schedule_player.specs.Inner.Held.{IsHeldOf}
 use Rattle.schedule_player.specs.Inner.Playing.{IsTold}
 use Rattle.schedule_player.proofs.Results.{on_err}
 use Rattle.schedule_player.proofs.Texts.{still_all, text_more, told_prefix, world_left, world_more}
@@ -16,10 +17,11 @@ loop-done-preserved g c =
         so.0.0 ++ part.0,
         Appends-trans _ _ _ so.0.0 part.0 so.0.1 part.2,
         still_all so.0.0 part.0 _ _ _ part.1
-            (text_more c.args.world.now c.loop-done.world c.play_event.new.world events i _ within so.0.0 c.loop-done.lines c.play_event.new.lines so.1 so.0.2 c.in-Ok.ensures.text),
+            (text_more c.args.world.now c.loop-done.world c.play_event.new.world events i _ within so.0.0 c.loop-done.lines.text c.play_event.new.lines.text so.1 so.0.2 c.in-Ok.ensures.text),
       ),
       world_more c.args.world.now c.loop-done.world c.play_event.new.world events i _ within so.1 c.in-Ok.ensures.world,
       c.in_ok-write_many.ensures.count ∙ so.2,
+      subst (IsHeldOf c.play_event.new.world) (sym c.write_many.ensures.held) c.in-Ok.ensures.held,
     )
 
 pub returns-in_default-clause-world : goal.returns-in_default-clause-world
@@ -40,10 +42,10 @@ returns-in_err-write_many-clause-prefix g c =
     let events = c.args.events.now in
     let i = c.loop-done.done in
     let within : i < length events = search (rules, arith) in
-    let told : IsTold (g.W.Sink.contents c.args.writer.now) (g.W.Sink.contents c.loop-done.writer) c.play_event.new.lines c.args.world.now events (i + 1) = (
+    let told : IsTold (g.W.Sink.contents c.args.writer.now) (g.W.Sink.contents c.loop-done.writer) c.play_event.new.lines.text c.args.world.now events (i + 1) = (
       so.0.0,
       so.0.1,
-      text_more c.args.world.now c.loop-done.world c.play_event.new.world events i _ within so.0.0 c.loop-done.lines c.play_event.new.lines so.1 so.0.2 c.in-Ok.ensures.text,
+      text_more c.args.world.now c.loop-done.world c.play_event.new.world events i _ within so.0.0 c.loop-done.lines.text c.play_event.new.lines.text so.1 so.0.2 c.in-Ok.ensures.text,
     ) in
     on_err c.from_residual.result
-    (told_prefix (g.W.Sink.contents c.args.writer.now) (g.W.Sink.contents c.loop-done.writer) _ c.args.world.now events (i + 1) c.play_event.new.lines told c.in_err-write_many.ensures.prefix)
+    (told_prefix (g.W.Sink.contents c.args.writer.now) (g.W.Sink.contents c.loop-done.writer) _ c.args.world.now events (i + 1) c.play_event.new.lines.text told c.in_err-write_many.ensures.prefix)

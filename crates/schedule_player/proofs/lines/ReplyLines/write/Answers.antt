@@ -6,7 +6,7 @@ use Rattle.schedule_player.proofs.lines.ReplyLines.write.Goals as goal
 
 pub returns-in_err-write_all-2-clause-prefix : goal.returns-in_err-write_all-2-clause-prefix
 returns-in_err-write_all-2-clause-prefix g c =
-    let whole : c.deref.result.now ++ c.deref-2.result.now ≡ c.args.self.now = search rules in
+    let whole : c.deref.result.now ++ c.waiting.result.now ≡ c.args.self.now.text = search rules in
     on_err c.from_residual-in_err-write_all-2.result
     (subst (AppendsPrefix (g.W.Sink.contents c.args.writer.now) (g.W.Sink.contents c.write_all-2.new.sink)) whole
     (prefix_behind _ _ _ _ _ c.in_ok-write_all.ensures.written c.in_err-write_all-2.ensures.prefix))
