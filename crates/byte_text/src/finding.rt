@@ -1,11 +1,11 @@
 //! Bytes and lines found and counted, and texts compared.
 
-ghost use Rattle.std.specs.Prelude.{◌≡◌, ◌==◌, ◌<◌, [], ◌∷◌, length, position, MatchOption};
+ghost use Rattle.std.specs.Prelude.{◌≡◌, ◌+◌, ◌==◌, ◌<◌, [], ◌∷◌, length, position, MatchOption};
 ghost use Rattle.metering_model.specs.BatchReading.{fields_in, is_same, lines_in, with_line};
 ghost use Rattle.metering_model.specs.Transcript.{line_count};
 ghost use Rattle.byte_text.specs.Lines.{IsPast};
 
-use memchr::{memchr, memchr_iter};
+use memchr::memchr;
 
 /// Where the first such byte stands. This is quick where it stands far from the front.
 pub fn find_byte(text: &[u8], byte: u8) -> Option<usize>
@@ -14,11 +14,27 @@ pub fn find_byte(text: &[u8], byte: u8) -> Option<usize>
     memchr(byte, text)
 }
 
+/// What stands behind the first line feed, if the text has one.
+fn behind_feed(text: &[u8]) -> Option<&[u8]>
+    ensures { MatchOption result (line_count text.now ≡ 0) (λ behind. line_count text.now ≡ 1 + line_count behind.now) }
+{
+    let feed = find_byte(text, b'\n')?;
+    Some(&text[feed + 1..])
+}
+
 /// How many lines a text has, each with its line feed: what stands behind the last line feed counts for none.
 pub fn line_count(text: &[u8]) -> usize
     ensures { result ≡ line_count text.now }
 {
-    memchr_iter(b'\n', text).count()
+    // Each line feed is looked for behind the one before it, many bytes at once. A line has a byte at least.
+    let mut rest = text;
+    for count in 0..text.len() {
+        let Some(behind) = behind_feed(rest) else {
+            return count;
+        };
+        rest = behind;
+    }
+    text.len()
 }
 
 /// Whether two texts are the same bytes.

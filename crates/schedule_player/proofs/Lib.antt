@@ -1,4 +1,3 @@
-pub mod LineCounts
 pub mod Offered
 pub mod PlayedLaws
 pub mod Results

@@ -4,25 +4,10 @@ ghost use Rattle.std.specs.Prelude.{◌≡◌, ◌++◌, ◌∷◌, [], codes, O
 ghost use Rattle.metering_model.specs.Transcript.{file_of, if_any, line_count, refusal_text, reply_text, with_number};
 ghost use Rattle.group_core.specs.Words.{reply_of};
 
-use byte_text::{first_line, put_if_any, put_numbered, refusal_line};
+use byte_text::{line_count, put_if_any, put_numbered, refusal_line};
 use group_core::{Ballot, ExportFile, Period, Reply, Snapshot};
 use metering_model::Refusal;
 use std::alloc::{AllocError, Global};
-
-/// How many lines a text has, each with its line feed. Each line feed is looked for behind the one before it, many bytes at once.
-fn line_count(text: &[u8]) -> usize
-    ensures { result ≡ line_count text.now }
-{
-    let mut rest = text;
-    // A line has a byte at least.
-    for count in 0..text.len() {
-        let Some((_, behind)) = first_line(rest) else {
-            return count;
-        };
-        rest = behind;
-    }
-    text.len()
-}
 
 /// Appends which period a node learned, where it learned one.
 fn put_learned(line: &mut Vec<u8>, learned: Option<Period>) -> Result<(), AllocError>

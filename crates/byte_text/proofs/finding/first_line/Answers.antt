@@ -1,4 +1,4 @@
-use Rattle.std.proofs.Common.{ℕ, ◌+◌, ◌==◌, take, ap, sym, ◌∙◌}
+use Rattle.std.proofs.Common.{◌+◌, take, ap, sym, ◌∙◌}
 use Rattle.std.proofs.lemmas.List.{take_rest}
 use Rattle.metering_model.specs.BatchReading.{lines_in, with_line}
 use Rattle.byte_text.proofs.LineLemmas.{lines_at_feed, lines_without_feed}
