@@ -1,4 +1,5 @@
 pub mod FirstPlace
+pub mod LaneLaws
 pub mod LineFeeds
 pub mod LineLemmas
 pub mod PastLines

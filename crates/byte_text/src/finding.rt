@@ -4,6 +4,7 @@ ghost use Rattle.std.specs.Prelude.{◌≡◌, ◌+◌, ◌==◌, ◌<◌, [], �
 ghost use Rattle.metering_model.specs.BatchReading.{fields_in, is_same, lines_in, with_line};
 ghost use Rattle.metering_model.specs.Transcript.{line_count};
 ghost use Rattle.byte_text.specs.Lines.{IsPast};
+ghost use Rattle.byte_text.specs.Runs.{lowest_set};
 
 use memchr::memchr;
 
@@ -12,6 +13,18 @@ pub fn find_byte(text: &[u8], byte: u8) -> Option<usize>
     ensures { result ≡ position (λ c. c == byte) text.now }
 {
     memchr(byte, text)
+}
+
+/// The place of the lowest bit that is set in a mask of bytes that were tested at once, or how many these are where none is.
+#[inline(always)]
+pub fn lowest_set(mask: u64, many: usize) -> usize
+    ensures { result ≡ lowest_set mask many }
+{
+    if mask == 0 {
+        many
+    } else {
+        mask.trailing_zeros() as usize
+    }
 }
 
 /// What stands behind the first line feed, if the text has one.

@@ -7,7 +7,9 @@ mod numbers;
 mod refusals;
 mod wholes;
 
-pub use finding::{find_byte, first_line, is_same, line_count, lines_length, split_at_bar};
+pub use finding::{
+    find_byte, first_line, is_same, line_count, lines_length, lowest_set, split_at_bar,
+};
 pub use lines::Line;
 pub use numbers::{put_if_any, put_number, put_numbered, put_two_digits};
 pub use refusals::{code_word, kept_code_word, refusal_line};

@@ -9,6 +9,5 @@ pub mod SpanLaws
 pub mod LastPart
 pub mod RegionLines
 pub mod PlainLaws
-pub mod LaneLaws
 pub mod ValueLaws
 pub mod KeptLaws

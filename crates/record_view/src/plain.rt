@@ -5,9 +5,11 @@ ghost use Rattle.std.specs.List.{list_any};
 ghost use Rattle.metering_model.specs.Dates.{stamp_in};
 ghost use Rattle.record_view.specs.Parts.{lent, parts_at};
 ghost use Rattle.record_view.specs.Inner.Placed.{IsPlaced};
-ghost use Rattle.record_view.specs.Inner.Plain.{is_plain, stops_at, lowest_set, IsRun};
+ghost use Rattle.byte_text.specs.Runs.{IsRun};
+ghost use Rattle.record_view.specs.Inner.Plain.{is_plain, stops_at};
 
 use crate::fields::{Field, cut};
+use byte_text::lowest_set;
 use std::simd::prelude::*;
 
 /// So many bytes of a field are looked at in one step.
@@ -15,18 +17,6 @@ const LANES: usize = 16;
 
 /// So many bytes of tags are.
 const FEW_LANES: usize = 8;
-
-/// The place of the lowest bit that is set, or how many bytes were looked at where none is.
-#[inline(always)]
-fn lowest_set(mask: u64, lanes: usize) -> usize
-    ensures { result ≡ lowest_set mask lanes }
-{
-    if mask == 0 {
-        lanes
-    } else {
-        mask.trailing_zeros() as usize
-    }
-}
 
 /// How many of the first bytes are plain before one is not: all of them tested at once.
 #[inline(always)]
@@ -47,6 +37,31 @@ fn first_special_by_bytes(text: &[u8]) -> Option<usize>
     text.iter().position(|c| *c < 0x20 || *c >= 0x7C)
 }
 
+/// Where the first byte stands that is not plain, in a text of which the first sixteen were passed: sixteen more in each step,
+/// and at last the last sixteen.
+#[inline(never)]
+fn later_special(text: &[u8]) -> Option<usize>
+    requires from { 16 ≤ length text.now }
+    requires passed { (k : ℕ) → k < 16 → stops_at 124 (slice_index text.now k) ≡ false }
+    ensures { result ≡ position (stops_at 124) text.now }
+{
+    let mut at = LANES;
+    while text.len() - at >= LANES {
+        let run = plain_run(&text[at..]);
+        if run < LANES {
+            return Some(at + run);
+        }
+        at += LANES;
+    }
+    let behind = text.len() - LANES;
+    let run = plain_run(&text[behind..]);
+    if run < LANES {
+        Some(behind + run)
+    } else {
+        None
+    }
+}
+
 /// Where the first byte stands that is not plain. Where it is near, it is found in one step.
 #[inline(always)]
 fn first_special(text: &[u8]) -> Option<usize>
@@ -57,6 +72,7 @@ fn first_special(text: &[u8]) -> Option<usize>
         if run < LANES {
             return Some(run);
         }
+        return later_special(text);
     }
     first_special_by_bytes(text)
 }
@@ -71,6 +87,18 @@ fn part_run(text: &[u8]) -> usize
     let special = lanes.simd_lt(u8x8::splat(0x20)) | lanes.simd_ge(u8x8::splat(0x7C));
     let stops = special | lanes.simd_eq(u8x8::splat(b';'));
     lowest_set(stops.to_bitmask(), FEW_LANES)
+}
+
+/// The same of twice as many.
+#[inline(always)]
+fn long_part_run(text: &[u8]) -> usize
+    requires { 16 ≤ length text.now }
+    ensures { IsRun (stops_at 59) text.now 16 result }
+{
+    let lanes = u8x16::from_slice(text);
+    let special = lanes.simd_lt(u8x16::splat(0x20)) | lanes.simd_ge(u8x16::splat(0x7C));
+    let stops = special | lanes.simd_eq(u8x16::splat(b';'));
+    lowest_set(stops.to_bitmask(), LANES)
 }
 
 /// Where the first byte stands that is `;` or is not plain, byte by byte.
@@ -99,19 +127,43 @@ fn part_end_in_last(text: &[u8]) -> Option<usize>
     }
 }
 
-/// Where the first byte stands that is `;` or is not plain. Where it is near, it is found in one step or two.
+/// Where it stands in a text of sixteen bytes or more: sixteen in each step, and at last the last sixteen.
+#[inline(always)]
+fn long_part_end(text: &[u8]) -> Option<usize>
+    requires { 16 ≤ length text.now }
+    ensures { result ≡ position (stops_at 59) text.now }
+{
+    let mut at = 0;
+    while text.len() - at >= LANES {
+        let run = long_part_run(&text[at..]);
+        if run < LANES {
+            return Some(at + run);
+        }
+        at += LANES;
+    }
+    let behind = text.len() - LANES;
+    let run = long_part_run(&text[behind..]);
+    if run < LANES {
+        Some(behind + run)
+    } else {
+        None
+    }
+}
+
+/// Where the first byte stands that is `;` or is not plain, found in steps of many bytes where there are as many.
 #[inline(always)]
 fn part_end(text: &[u8]) -> Option<usize>
     ensures { result ≡ position (stops_at 59) text.now }
 {
+    if text.len() >= LANES {
+        return long_part_end(text);
+    }
     if text.len() >= FEW_LANES {
         let run = part_run(text);
         if run < FEW_LANES {
             return Some(run);
         }
-        if text.len() <= 2 * FEW_LANES {
-            return part_end_in_last(text);
-        }
+        return part_end_in_last(text);
     }
     part_end_by_bytes(text)
 }

@@ -3,7 +3,7 @@ use Rattle.std.proofs.Common.{◌+◌, ◌≤◌, leb, ltb, eqb, cond, refl, len
 use Rattle.std.specs.Int.Bits.{bit_or}
 use Rattle.std.proofs.lemmas.Simd.{length-chunk, splat_is_map, zip2_of_maps}
 use Rattle.record_view.specs.Inner.Plain.{stops_at}
-use Rattle.record_view.proofs.LaneLaws.{itself, run_is}
+use Rattle.byte_text.proofs.LaneLaws.{itself, run_is}
 use lib.Lanes.{chunk}
 use Rattle.record_view.proofs.plain.part_run.Goals as goal
 
