@@ -1,8 +1,10 @@
 -- The decimals of a number, read from their end.
-use Rattle.std.proofs.Common.{◌≡◌, ℕ, zero, suc, ◌+◌, ◌-◌, ◌*◌, ◌^◌, ◌/◌, ◌%◌, ◌<◌, ◌≤◌, cond, List, [], ◌∷◌, ◌++◌, length, refl, sym, ap, ◌∙◌, arith, append_assoc, subst, inl, inr}
+use Rattle.std.proofs.Common.{◌≡◌, ℕ, zero, suc, ◌+◌, ◌-◌, ◌*◌, ◌^◌, ◌/◌, ◌%◌, ◌<◌, ◌≤◌, cond, List, [], ◌∷◌, ◌++◌, length, refl, sym, ap, ap₂, ◌∙◌, arith, length-append, decimal, subst, inl, inr}
 use Rattle.std.proofs.lemmas.Bool.{ne_eqb, cases_lt}
-use Rattle.std.proofs.Math.Nat.{pow-suc, div-div-eq-div-mul, div-add-mod}
+use Rattle.std.proofs.Math.Nat.{pow-suc, pow-le-pow_right, div-div-eq-div-mul, div-add-mod}
+use Rattle.std.proofs.lemmas.Fmt.{decimal_step, decimal_digit}
 use Rattle.metering_model.specs.NumberText.{decimals_of, point_text}
+use Rattle.fx_money.specs.Inner.Cuts.{IsCutTo}
 
 -- ---- the quotient and the remainder by the next power of ten
 
@@ -68,13 +70,6 @@ decimals_shorter (suc p) n below last = elim (cases_lt 0 n) [
       ap (decimals_of (suc (suc p))) is ∙ decimals_none (suc (suc p)) ∙ sym (ap (decimals_of (suc p)) tenth ∙ decimals_none (suc p))
 ]
 
--- a number's decimals are those of a smaller number in fewer places
-pub record IsCutTo (places number kept left : ℕ) : Type 0 where
-  pub positive : 0 < left
-  pub below : left < 10 ^ kept
-  pub fewer : kept ≤ places
-  pub same : decimals_of kept left ≡ decimals_of places number
-
 pub cut_step : (places number kept left : ℕ) → left % 10 ≡ 0 → IsCutTo places number kept left → IsCutTo places number (kept - 1) (left / 10)
 cut_step places number zero left last s = absurd (omega (arith, s.positive, s.below))
 cut_step places number (suc p) left last s =
@@ -114,28 +109,6 @@ decimals_all (suc (suc p)) n below last =
     ∙ ap (λ ds. (48 + n / 10 ^ suc p) ∷ ds) (decimals_all (suc p) (n % 10 ^ suc p) (omega arith) (omega arith))
     ∙ sym (places_first (suc p) n below)
 
--- so many places are written in front of the old text, and those of the rest are to come
-pub record IsWrittenTo (places number : ℕ) (old : List ℕ) (i left : ℕ) (text : List ℕ) : Type 0 where
-  pub written : length text ≡ length old + i
-  pub whole : places_of (places - i) left ++ text ≡ places_of places number ++ old
-
-pub places_step : (places number : ℕ) (old : List ℕ) (i left : ℕ) (text : List ℕ) → i < places → IsWrittenTo places number old i left text →
-    IsWrittenTo places number old (i + 1) (left / 10) ((48 + left % 10) ∷ text)
-places_step places number old i left text more s =
-    let now : places - i ≡ suc (places - (i + 1)) = omega arith in
-    record {
-      written = omega (arith, s.written);
-      whole =
-          sym (append_assoc (places_of (places - (i + 1)) (left / 10)) ((48 + left % 10) ∷ []) text)
-          ∙ ap (λ p. places_of p left ++ text) (sym now)
-          ∙ s.whole;
-    }
-
-pub places_end : (places number : ℕ) (old : List ℕ) (i left : ℕ) (text : List ℕ) → places ≤ i → IsWrittenTo places number old i left text → text ≡ places_of places number ++ old
-places_end places number old i left text past s =
-    let none : places - i ≡ 0 = omega arith in
-    ap (λ p. places_of p left ++ text) (sym none) ∙ s.whole
-
 -- ---- the point before them
 
 pub point_before : (p n : ℕ) → 0 < n → n < 10 ^ p → point_text (decimals_of p n) ≡ 46 ∷ decimals_of p n
@@ -151,3 +124,44 @@ length-fraction_le p n = by_cases (decimals_of p n) (length-decimals_le p n)
     by_cases : (ds : List ℕ) → length ds ≤ p → length (point_text ds) ≤ p + 1
     by_cases [] h = omega arith
     by_cases (c ∷ cs) h = omega (arith, h)
+
+-- ---- six places at once
+
+pub cut_none : (places number : ℕ) → 0 < number → number < 10 ^ places → IsCutTo places number places number
+cut_none places number positive below = record { positive = positive; below = below; fewer = omega arith; same = refl }
+
+-- a cut and another behind it
+cut_further : (places number kept left : ℕ) (a b : ℕ) → kept - 1 ≡ a → left / 10 ≡ b → left % 10 ≡ 0 → IsCutTo places number kept left → IsCutTo places number a b
+cut_further places number kept left a b fewer tenth last s =
+    subst (λ k. IsCutTo places number k b) fewer (subst (λ n. IsCutTo places number (kept - 1) n) tenth (cut_step places number kept left last s))
+
+pub cut_six : (places number : ℕ) → 0 < number → number < 10 ^ places → number % 1_000_000 ≡ 0 → IsCutTo places number (places - 6) (number / 1_000_000)
+cut_six places number positive below zeros =
+    let one = cut_step places number places number (omega arith) (cut_none places number positive below) in
+    let two = cut_further places number (places - 1) (number / 10) (places - 2) (number / 100) (omega arith) (omega arith) (omega arith) one in
+    let three = cut_further places number (places - 2) (number / 100) (places - 3) (number / 1000) (omega arith) (omega arith) (omega arith) two in
+    let four = cut_further places number (places - 3) (number / 1000) (places - 4) (number / 10_000) (omega arith) (omega arith) (omega arith) three in
+    let five = cut_further places number (places - 4) (number / 10_000) (places - 5) (number / 100_000) (omega arith) (omega arith) (omega arith) four in
+    cut_further places number (places - 5) (number / 100_000) (places - 6) (number / 1_000_000) (omega arith) (omega arith) (omega arith) five
+
+-- ---- the digits of a number with a 1 in front
+
+pub decimal_behind_one : (p n : ℕ) → n < 10 ^ p → 10 ^ p + n < 2 ^ 64 → decimal (10 ^ p + n) ≡ 49 ∷ places_of p n
+decimal_behind_one zero n below fits = ap decimal (omega arith) ∙ decimal_digit 1 (omega arith)
+decimal_behind_one (suc p) n below fits =
+    let more : 10 ^ suc p ≡ 10 * 10 ^ p = power_more p in
+    let some : 0 < 10 ^ p = power_positive p in
+    let front : (10 ^ suc p + n) / 10 ≡ 10 ^ p + n / 10 = omega arith in
+    let last : (10 ^ suc p + n) % 10 ≡ n % 10 = omega arith in
+    decimal_step (10 ^ suc p + n) (omega arith) fits
+    ∙ ap₂ (λ f l. decimal f ++ (48 + l) ∷ []) front last
+    ∙ ap (λ ds. ds ++ (48 + n % 10) ∷ []) (decimal_behind_one p (n / 10) (omega arith) (omega arith))
+
+pub below_most : (places number : ℕ) → places ≤ 12 → number < 10 ^ places → 10 ^ places + number < 2 ^ 64
+below_most places number few below =
+    let most : 10 ^ places ≤ 10 ^ 12 = pow-le-pow_right (omega arith) few in
+    omega (arith, most)
+
+pub length-places : (p n : ℕ) → length (places_of p n) ≡ p
+length-places zero n = refl
+length-places (suc p) n = omega (arith, length-append (places_of p (n / 10)) ((48 + n % 10) ∷ []), length-places p (n / 10))

@@ -1,4 +1,5 @@
 pub mod Ascii
+pub mod Buffers
 pub mod Decimals
 pub mod Digits
 pub mod Points

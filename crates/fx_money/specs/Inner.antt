@@ -1,3 +1,4 @@
 -- What only the readers and writers inside the crate cite: its public clauses take their words from the model.
+pub mod Cuts
 pub mod Limits
 pub mod Parts

@@ -3,8 +3,10 @@
 ghost use Rattle.std.specs.Prelude.{◌≡◌, ◌+◌, ◌/◌, ◌%◌, ◌^◌, ◌<◌, ◌≤◌, [], ◌∷◌, ◌++◌, length, decimal, string_bytes, string_len, string_capacity, OnOk, OnErr};
 ghost use Rattle.metering_model.specs.NumberText.{point_text, decimals_of};
 ghost use Rattle.fx_money.specs.Inner.Parts.{text_of_parts};
+ghost use Rattle.fx_money.specs.Inner.Cuts.{IsCutTo};
 
 use crate::{MILLION, PLACES};
+use itoa::write_digits;
 use std::alloc::AllocError;
 use std::marker::Model;
 
@@ -42,10 +44,8 @@ impl Text {
     fn as_str(&self) -> &str
         ensures { result.now ≡ self.now }
     {
-        match std::str::from_utf8(&self.bytes[self.start..]) {
-            Ok(text) => text,
-            Err(_) => unreachable!(),
-        }
+        // That the bytes are ASCII is proved, so they are not looked through again.
+        unsafe { std::str::from_utf8_unchecked(&self.bytes[self.start..]) }
     }
 
     fn prepend(&mut self, byte: u8)
@@ -57,42 +57,29 @@ impl Text {
         self.bytes[self.start] = byte;
     }
 
-    fn prepend_digit(&mut self, digit: u64)
-        requires digit { digit < 10 }
-        requires room { length self.old < LONGEST }
-        ensures { self.new ≡ (48 + digit) ∷ self.old }
-    {
-        self.prepend(b'0' + digit as u8);
-    }
-
     fn prepend_whole(&mut self, number: u64)
         requires { length self.old + 20 ≤ LONGEST }
         ensures { self.new ≡ decimal number ++ self.old }
     {
-        let mut left = number;
-        while left >= 10 {
-            self.prepend_digit(left % 10);
-            left /= 10;
-        }
-        self.prepend_digit(left);
+        self.start = write_digits(number, &mut self.bytes, self.start);
     }
 
-    /// Writes all the places of decimals, the last of which is not 0.
+    /// Writes all the places of decimals, the last of which is not 0: they are the digits of the number with a 1 in front,
+    /// which is left out.
     fn prepend_decimals(&mut self, number: u64, places: usize)
+        requires few { places ≤ 12 }
         requires below { number < 10 ^ places }
         requires last { 0 < number % 10 }
-        requires room { length self.old + places ≤ LONGEST }
+        requires room { length self.old + places < LONGEST }
         ensures { self.new ≡ decimals_of places number ++ self.old }
     {
-        let mut left = number;
-        for _ in 0..places {
-            self.prepend_digit(left % 10);
-            left /= 10;
-        }
+        let behind_one = power(places) + number;
+        self.start = write_digits(behind_one, &mut self.bytes, self.start) + 1;
     }
 
     /// Writes a point and decimals, where there are any.
     fn prepend_fraction(&mut self, number: u64, places: usize)
+        requires few { places ≤ 12 }
         requires below { number < 10 ^ places }
         requires room { length self.old + places < LONGEST }
         ensures { self.new ≡ point_text (decimals_of places number) ++ self.old }
@@ -106,6 +93,44 @@ impl Text {
     }
 }
 
+/// The powers of ten, up to that of as many places as a cost has.
+const POWERS: [u64; 13] = [
+    1,
+    10,
+    100,
+    1_000,
+    10_000,
+    100_000,
+    1_000_000,
+    10_000_000,
+    100_000_000,
+    1_000_000_000,
+    10_000_000_000,
+    100_000_000_000,
+    1_000_000_000_000,
+];
+
+/// Ten to the power of so many places.
+fn power(places: usize) -> u64
+    requires { places ≤ 12 }
+    ensures { result ≡ 10 ^ places }
+{
+    POWERS[places]
+}
+
+/// The same decimals without six zeros at their end, where there are as many.
+fn without_six_zeros(number: u64, places: usize) -> (u64, usize)
+    requires positive { 0 < number }
+    requires below { number < 10 ^ places }
+    ensures { IsCutTo places number result.1 result.0 }
+{
+    if number % 1_000_000 == 0 {
+        (number / 1_000_000, places - 6)
+    } else {
+        (number, places)
+    }
+}
+
 /// The same decimals without the zeros at their end: a smaller number and fewer places.
 fn without_zeros(number: u64, places: usize) -> (u64, usize)
     requires positive { 0 < number }
@@ -115,8 +140,7 @@ fn without_zeros(number: u64, places: usize) -> (u64, usize)
     ensures below { result.0 < 10 ^ result.1 }
     ensures fewer { result.1 ≤ places }
 {
-    let mut left = number;
-    let mut kept = places;
+    let (mut left, mut kept) = without_six_zeros(number, places);
     while left % 10 == 0 {
         left /= 10;
         kept -= 1;

@@ -1,4 +1,4 @@
-use Rattle.fx_money.proofs.Decimals.{IsCutTo}
+use Rattle.fx_money.specs.Inner.Cuts.{IsCutTo}
 use Rattle.fx_money.proofs.writing.without_zeros.Given as goal
 
 abbrev pub invariant-loop-left : goal.invariant-loop-left

@@ -1,9 +1,9 @@
+-- All bytes are ASCII, so those from a place on are.
 use Rattle.std.proofs.Common.{drop}
 use Rattle.std.proofs.lemmas.Str.{IsUtf8-from_ascii, IsAscii-take, IsAscii-drop}
 use Rattle.fx_money.proofs.writing.Text.as_str.Goals as goal
 
-pub unreachable-requires : goal.unreachable-requires
-unreachable-requires c =
+pub from_utf8_unchecked-requires : goal.from_utf8_unchecked-requires
+from_utf8_unchecked-requires c =
     let fields = c.self.inside in
-    c.in-Err.ensures.cases.0
-    (IsUtf8-from_ascii _ (IsAscii-take (drop fields.start fields.bytes) _ (IsAscii-drop _ _ c.self.invariant.1)))
+    IsUtf8-from_ascii _ (IsAscii-take (drop fields.start fields.bytes) _ (IsAscii-drop fields.bytes fields.start c.self.invariant.1))

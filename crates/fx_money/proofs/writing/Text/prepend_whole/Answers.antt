@@ -1,18 +1,20 @@
-use Rattle.std.proofs.Common.{◌∙◌, arith}
-use Rattle.fx_money.specs.declared.writing.TheConstants.{LONGEST}
-use Rattle.fx_money.proofs.Whole.{whole_step, whole_end, room_for_digit}
+use Rattle.std.proofs.Common.{length, arith, ap, length-drop}
+use Rattle.std.proofs.lemmas.Fmt.{IsAscii-decimal}
+use Rattle.fx_money.proofs.Buffers.{ascii_after}
+use Rattle.fx_money.proofs.Whole.{length-whole_le}
 use Rattle.fx_money.proofs.writing.Text.prepend_whole.Goals as goal
 
-pub prepend_digit-requires-clause-room : goal.prepend_digit-requires-clause-room
-prepend_digit-requires-clause-room c =
-    room_for_digit LONGEST c.loop-left.left c.args.number _ _ (omega arith) (omega arith) c.requires c.loop-left.invariant
+pub write_digits-self-inside-requires : goal.write_digits-self-inside-requires
+write_digits-self-inside-requires c =
+    let fields = c.self.inside in
+    let short = length-whole_le c.args.number (omega arith) in
+    (omega (arith, short, ap length c.self.view_is, length-drop fields.start fields.bytes, c.self.told), omega (arith, c.self.told, c.self.invariant.0))
 
-pub loop-left-preserved : goal.loop-left-preserved
-loop-left-preserved c = rw c.prepend_digit.ensures (whole_step c.loop-left.left _ _ c.loop-left-test.true (omega arith) c.loop-left.invariant)
-
-pub prepend_digit-requires-2-clause-room : goal.prepend_digit-requires-2-clause-room
-prepend_digit-requires-2-clause-room c =
-    room_for_digit LONGEST c.loop-left.left c.args.number _ _ (omega arith) (omega arith) c.requires c.loop-left.invariant
-
-pub returns : goal.returns
-returns c = c.prepend_digit-2.ensures ∙ whole_end _ _ _ c.loop-left-test.false c.loop-left.invariant
+pub invariant_of-self : goal.invariant_of-self
+invariant_of-self c =
+    let fields = c.self.inside in
+    let written = c.write_digits-self-inside in (
+      omega (arith, written.ensures.start, c.self.invariant.0),
+      ascii_after written.new.buf fields.bytes _ written.result fields.start written.ensures.written written.ensures.before
+          (IsAscii-decimal c.args.number (omega arith)) c.self.invariant.1,
+    )
