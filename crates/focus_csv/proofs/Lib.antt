@@ -3,6 +3,7 @@ mod CsvText
 mod FileParts
 mod JsonText
 mod LineLaws
+mod Looks
 mod OneMore
 mod PlainTags
 mod ReadBack

@@ -1,29 +1,14 @@
 //! Fields of a line, as a reader of CSV takes them back.
 
-ghost use Rattle.std.specs.Prelude.{◌≡◌, ◌||◌, ◌==◌, ◌∷◌, ◌++◌, map, OnOk, OnErr};
-ghost use Rattle.std.specs.List.{flat_map, list_any};
+ghost use Rattle.std.specs.Prelude.{◌≡◌, ◌∷◌, ◌++◌, map, OnOk, OnErr};
+ghost use Rattle.std.specs.List.{flat_map};
 ghost use Rattle.metering_model.specs.File.{quoted};
 ghost use Rattle.focus_csv.specs.Inner.Beginnings.{BeginsWith};
 ghost use Rattle.focus_csv.specs.Inner.Runs.{behind};
 
 use crate::odd::OddFields;
+use crate::quoting::is_cut;
 use std::alloc::AllocError;
-
-/// Whether a reader of CSV would cut a field at that byte. Letters and digits are above all such bytes: most are passed by one
-/// comparison.
-#[inline(always)]
-fn cuts(byte: u8) -> bool
-    ensures { result ≡ ((byte == 44) || (byte == 34) || (byte == 13) || (byte == 10)) }
-{
-    byte <= b',' && (byte == b',' || byte == b'"' || byte == b'\r' || byte == b'\n')
-}
-
-/// Whether a reader of CSV would cut a field.
-fn is_cut(field: &[u8]) -> bool
-    ensures { result ≡ list_any (λ c. (c == 44) || (c == 34) || (c == 13) || (c == 10)) field.now }
-{
-    field.iter().any(|c| cuts(*c))
-}
 
 /// Appends a comma and a field. It is copied, unless it is odd.
 fn put_next(odd: &mut OddFields, text: &mut Vec<u8>, field: &[u8]) -> Result<(), AllocError>

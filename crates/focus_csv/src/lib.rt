@@ -27,6 +27,7 @@ mod lines;
 mod numbers;
 mod odd;
 mod pieces;
+mod quoting;
 mod tags;
 mod texts;
 mod writing;

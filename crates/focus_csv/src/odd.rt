@@ -123,7 +123,8 @@ impl OddFields {
         }
     }
 
-    /// Appends a comma and a field.
+    /// Appends a comma and a field. Out of line, as the next is, so that who copies plain fields has a small frame.
+    #[inline(never)]
     pub(crate) fn put_next(&mut self, text: &mut Vec<u8>, field: &[u8]) -> Result<(), AllocError>
         ensures { OnOk result (text.new.items ≡ text.old.items ++ 44 ∷ quoted field.now) }
     {
@@ -134,6 +135,7 @@ impl OddFields {
     }
 
     /// Appends what stands between the quotation marks of a field that has to be quoted.
+    #[inline(never)]
     pub(crate) fn put_within(&mut self, text: &mut Vec<u8>, field: &[u8]) -> Result<(), AllocError>
         requires { quoted field.now ≡ 34 ∷ doubled field.now ++ 34 ∷ [] }
         ensures { OnOk result (text.new.items ≡ text.old.items ++ doubled field.now) }
