@@ -2,17 +2,17 @@
 use Rattle.std.proofs.Common.{◌≡◌, ℕ, zero, suc, ◌+◌, ◌<◌, ◌≤◌, Bool, true, false, List, [], ◌∷◌, map, refl, sym, ap, subst, ◌∙◌, arith, Option, Some, None, ℤ, pos, unwrap_or, is_some}
 use Rattle.std.specs.Prelude.{nat_lt, slice_get, ◌↔◌, IsSome, IfSome}
 use Rattle.std.specs.List.{enumerate_from, filter_map, cons_option, last_or}
-use Rattle.std.specs.Option.{option_or, option_and_then}
+use Rattle.std.specs.Option.{option_or, option_and_then, option_map}
 use Rattle.std.proofs.lemmas.Bool.{cond-true, cond-false, lt-ltb, le-ltb}
-use Rattle.metering_model.specs.Batch.{Batch, Record, Reads, Amends}
+use Rattle.metering_model.specs.Batch.{Batch, Record, Reading, Reads, Amends}
 use Rattle.metering_model.specs.Holding.{Holding, IsHolding, Position, Placed, held, is_same_place, reading_of, reading_at}
 use Rattle.metering_model.specs.ValueAtSequence.{value_given_by, value_at}
 use Rattle.metering_model.proofs.HoldingLaws.{held_place}
 use Rattle.metering_model.proofs.PartLaws.{held_well}
 use Rattle.metering_model.proofs.RecordPlaces.{same_position}
 use Rattle.metering_model.proofs.ValueBounds.{same_place_itself}
-use Rattle.batch_view.specs.Kept.{value_given_in}
-use Rattle.batch_store.specs.Inner.Values.{has_reading_at, last_given}
+use Rattle.batch_view.specs.Kept.{kind_in, value_given_in}
+use Rattle.batch_store.specs.Inner.Values.{last_given}
 use Rattle.batch_store.proofs.LastGiven.{is_some-last_or, found_at}
 
 abbrev place_in : Batch → ℕ × Record → Placed
@@ -36,19 +36,28 @@ given_by_reading p b n (suc k) (x ∷ rs) o agent seq index there = by_first (va
     by_first None rest = rest o
     by_first (Some v) rest = rest (Some v)
 
+-- a reading has a kind, and nothing else has one
+kind_is : (b : Batch) (index : ℕ) → is_some (kind_in b index) ≡ is_some (option_and_then reading_of (slice_get b.records index))
+kind_is b index = of_reading (option_and_then reading_of (slice_get b.records index))
+  where
+    of_reading : (o : Option Reading) → is_some (option_map (λ r. r.kind) o) ≡ is_some o
+    of_reading None = refl
+    of_reading (Some r) = refl
+
 -- what a reading's own batch gives it
-pub own_gives : (h : Holding) (p : Position) (b : Batch) → Some b ≡ held h p.agent p.seq → has_reading_at b p.index ≡ true → is_some (value_given_in b p.seq p.index) ≡ true
+pub own_gives : (h : Holding) (p : Position) (b : Batch) → Some b ≡ held h p.agent p.seq → is_some (kind_in b p.index) ≡ true → is_some (value_given_in b p.seq p.index) ≡ true
 own_gives h p b at there =
     let place = held_place h p.agent p.seq b (sym at) in
-    given_by_reading (record { agent = b.agent; seq = p.seq; index = p.index }) b 0 p.index b.records None refl (sym place.1) (omega arith) there
+    given_by_reading (record { agent = b.agent; seq = p.seq; index = p.index }) b 0 p.index b.records None refl (sym place.1) (omega arith) (sym (kind_is b p.index) ∙ there)
 
 -- ---- whether there is a reading
 
 pub reading-absent : (h : Holding) (p : Position) → None ≡ held h p.agent p.seq → is_some (reading_at h p) ≡ false
 reading-absent h p at = ap (λ o. is_some (option_and_then (λ b. option_and_then reading_of (slice_get b.records p.index)) o)) (sym at)
 
-pub reading-held : (h : Holding) (p : Position) (b : Batch) → Some b ≡ held h p.agent p.seq → is_some (reading_at h p) ≡ has_reading_at b p.index
-reading-held h p b at = ap (λ o. is_some (option_and_then (λ b. option_and_then reading_of (slice_get b.records p.index)) o)) (sym at)
+pub reading-held : (h : Holding) (p : Position) (b : Batch) → Some b ≡ held h p.agent p.seq → is_some (reading_at h p) ≡ is_some (kind_in b p.index)
+reading-held h p b at =
+    ap (λ o. is_some (option_and_then (λ b. option_and_then reading_of (slice_get b.records p.index)) o)) (sym at) ∙ sym (kind_is b p.index)
 
 -- ---- its value
 
@@ -79,7 +88,7 @@ pub zero-where : (h : Holding) (p : Position) (upto : ℕ) (v : Option ℤ) → 
 zero-where h p upto v less is = subst (λ o. IfSome o (λ value. value ≡ value_at h p upto)) (sym is) (value-before h p upto less)
 
 -- which the reading's own batch gives where none behind it does.
-pub own-last : (h : Holding) (p : Position) (upto : ℕ) (b : Batch) (later v q : Option ℤ) → IsHolding h → Some b ≡ held h p.agent p.seq → has_reading_at b p.index ≡ true → last_given h p upto ≡ option_or later (last_given h p p.seq) → is_some later ≡ false → v ≡ value_given_in b p.seq p.index
+pub own-last : (h : Holding) (p : Position) (upto : ℕ) (b : Batch) (later v q : Option ℤ) → IsHolding h → Some b ≡ held h p.agent p.seq → is_some (kind_in b p.index) ≡ true → last_given h p upto ≡ option_or later (last_given h p p.seq) → is_some later ≡ false → v ≡ value_given_in b p.seq p.index
     → last_given h p upto ≡ option_or v q
 own-last h p upto b later v q is at there so_far none value =
     so_far ∙ (not_later later none ∙ found_at h p p.seq p.seq b v q is (seq-within h p b is at).0 refl at value (ap is_some value ∙ own_gives h p b at there))

@@ -5,20 +5,18 @@ ghost use Rattle.std.specs.Option.{is_some, option_or};
 ghost use Rattle.metering_model.specs.Holding.{reading_at};
 ghost use Rattle.metering_model.specs.ValueAtSequence.{value_at};
 ghost use Rattle.batch_view.specs.Batches.{batch_of};
+ghost use Rattle.batch_view.specs.Kept.{kind_in};
 ghost use Rattle.batch_store.specs.Stores.{IsStored, position_of};
-ghost use Rattle.batch_store.specs.Inner.Values.{has_reading_at, last_given};
+ghost use Rattle.batch_store.specs.Inner.Values.{last_given};
 
 use crate::{RecordPlace, Store};
-use batch_view::{OwnedBatch, Record, Value};
+use batch_view::{OwnedBatch, Value};
 
 /// Whether the record at that index of the batch is a reading.
 fn is_reading(batch: &OwnedBatch, index: u16) -> bool
-    ensures { result ≡ has_reading_at (batch_of batch.now) index }
+    ensures { result ≡ is_some (kind_in (batch_of batch.now) index) }
 {
-    match batch.view().record_at(index) {
-        Some(Record::Reading(_)) => true,
-        Some(Record::Amend { .. }) | None => false,
-    }
+    batch.view().kind_at(index).is_some()
 }
 
 impl Store {

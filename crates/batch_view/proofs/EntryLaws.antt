@@ -1,9 +1,11 @@
 -- What the entries say of the records of a batch.
-use Rattle.std.proofs.Common.{◌≡◌, ℕ, suc, ◌+◌, ◌≤◌, ◌==◌, ◌&&◌, ◌||◌, nat_lt, Bool, true, false, List, [], ◌∷◌, length, take, Option, Some, ℤ, int_lt, All, get_or, refl, sym, ap, ap₂, subst, ◌∙◌, arith, Ok, slice_range}
+use Rattle.std.proofs.Common.{◌≡◌, ℕ, suc, ◌+◌, ◌≤◌, ◌==◌, ◌&&◌, ◌||◌, nat_lt, Bool, true, false, List, [], ◌∷◌, length, take, Option, Some, None, ℤ, int_lt, All, get_or, refl, sym, ap, ap₂, subst, ◌∙◌, arith, Ok, slice_range}
 use Rattle.std.specs.List.{slice_get, list_all, filter_map, enumerate_from, cons_option}
 use Rattle.std.specs.List.Sorted.{IsPermutation, IsSortedBy, IsNonDecreasingBy}
 use Rattle.std.proofs.lemmas.Bool.{le-ltb, eqb-true}
-use Rattle.std.proofs.lemmas.Option.{slice_get_within}
+use Rattle.std.proofs.lemmas.Option.{slice_get_past, slice_get_within}
+use Rattle.std.specs.Option.{option_and_then, option_map}
+use Rattle.metering_model.specs.Holding.{reading_of as model_reading}
 use Rattle.metering_model.specs.Batch.{Record, Reads, Amends}
 use Rattle.metering_model.specs.declared.Kind.{Kind}
 use Rattle.metering_model.specs.declared.Version.{Version}
@@ -17,10 +19,10 @@ use Rattle.record_view.specs.Spans.{IsReadingAt, IsReadingOn, IsRecordAt}
 use Rattle.record_view.proofs.SpanLaws.{four_fields_of}
 use Rattle.metering_model.specs.Front.{starts_before}
 use Rattle.batch_view.specs.Batches.{batch_of, IsLentAt}
-use Rattle.batch_view.specs.Kept.{AreFieldSpans, amendment_of, amendments_in, comes_before}
+use Rattle.batch_view.specs.Kept.{AreFieldSpans, amendment_of, amendments_in, comes_before, kind_in}
 use Rattle.batch_view.specs.Inner.Entries.{field_total, FitsRecord, IsEntryAt, IsEntry}
 use Rattle.batch_view.specs.Inner.Kept.{is_before, KeepsBatch, KeepsParts}
-use Rattle.batch_view.specs.Inner.Given.{HasReading, LacksReading}
+use Rattle.batch_view.specs.Inner.Given.{HasReading, LacksReading, kind_found}
 use Rattle.batch_view.specs.Inner.Amended.{amendment_found, amendments_kept, found_before, entry_before, rank, IsSmall}
 use Rattle.batch_view.specs.declared.entries.Found.{Found}
 use Rattle.batch_view.specs.declared.entries.Found.TheVariants.{Reading, Amend}
@@ -225,3 +227,21 @@ kept_record_is bytes h es index e r kept is made =
     let at = made entry.line entry.at in
     let same : entry.at.what ≡ record_of r = let one = entry.at.read in let two = at.read in cc in
     record { got = of.got ∙ ap Some same; lent = record { span = entry.line; is_line = entry.is_line; lent = at.lent } }
+
+-- ---- the kind of the reading at an index
+
+kind_alike : (f : Found) (v : ℤ) (r : Record) → FitsRecord f v r → kind_found f ≡ option_map (λ g. g.kind) (model_reading r)
+kind_alike (Reading kind start end) v (Reads r) fits = ap Some fits.0
+kind_alike (Reading kind start end) v (Amends seq index value) fits = absurd fits
+kind_alike (Amend seq index) v (Reads r) fits = absurd fits
+kind_alike (Amend seq index) v (Amends s i value) fits = refl
+
+pub kind_there : (bytes : List ℕ) (h : Head) (es : List Entry) (index : ℕ) (e : Entry) → KeepsBatch bytes h es → slice_get es index ≡ Some e
+    → kind_found e.found ≡ kind_in (batch_of bytes) index
+kind_there bytes h es index e kept is =
+    let of = entry_of bytes h es index e kept is in
+    kind_alike e.found e.value of.entry.at.what of.entry.at.fits ∙ ap (λ r. option_map (λ g. g.kind) (option_and_then model_reading r)) (sym of.got)
+
+pub no_kind_there : (bytes : List ℕ) (h : Head) (es : List Entry) (index : ℕ) → KeepsBatch bytes h es → length es ≤ index → None ≡ kind_in (batch_of bytes) index
+no_kind_there bytes h es index kept past =
+    ap (λ r. option_map (λ g. g.kind) (option_and_then model_reading r)) (sym (slice_get_past (batch_of bytes).records index (omega (arith, kept.entries.many))))

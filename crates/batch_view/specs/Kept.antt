@@ -1,10 +1,12 @@
 -- What a batch keeps beside its bytes, so that whoever has it need not read it again.
 use Rattle.std.specs.Prelude.{◌≡◌, ℕ, ◌+◌, ◌&&◌, ◌||◌, ◌==◌, Bool, nat_lt, List, Option, Some, None, ℤ}
 use Rattle.std.specs.List.{slice_get, filter_map, enumerate_from, last_or}
+use Rattle.std.specs.Option.{option_and_then, option_map}
 use Rattle.std.specs.List.Sorted.{IsPermutation, IsSortedBy}
 use Rattle.metering_model.specs.Batch.{Batch, Record, Reads, Amends}
 use Rattle.metering_model.specs.BatchReading.{lines_in}
-use Rattle.metering_model.specs.Holding.{placed}
+use Rattle.metering_model.specs.declared.Kind.{Kind}
+use Rattle.metering_model.specs.Holding.{placed, reading_of}
 use Rattle.metering_model.specs.ValueAtSequence.{value_given_by}
 use Rattle.record_view.specs.declared.fields.Span.{Span}
 use Rattle.batch_view.specs.declared.owned.Amendment.{Amendment}
@@ -41,3 +43,7 @@ pub record AreAmendmentsOf (b : Batch) (sorted : List Amendment) : Type 0 where
 abbrev pub value_given_in : Batch → ℕ → ℕ → Option ℤ
 value_given_in b seq index =
     last_or None (filter_map (value_given_by (record { agent = b.agent; seq = seq; index = index })) (placed b))
+
+-- the kind of the reading at that index, if the record there is one
+abbrev pub kind_in : Batch → ℕ → Option Kind
+kind_in b index = option_map (λ r. r.kind) (option_and_then reading_of (slice_get b.records index))

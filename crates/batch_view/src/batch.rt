@@ -5,13 +5,15 @@ ghost use Rattle.std.specs.List.{slice_get};
 ghost use Rattle.metering_model.specs.BatchReading.{batch_in, lines_in, records_in};
 ghost use Rattle.record_view.specs.Lent.{record_of};
 ghost use Rattle.batch_view.specs.Batches.{batch_of, IsLentAt, RecordsLeft};
+ghost use Rattle.batch_view.specs.Kept.{kind_in};
+ghost use Rattle.batch_view.specs.Inner.Given.{kind_found};
 ghost use Rattle.batch_view.specs.Inner.Kept.{KeepsBatch};
 ghost use Rattle.batch_view.specs.Inner.Lines.{lines_from, first_record, IsBehindLines, LendsRecord, IsHeadOf};
 
-use crate::entries::{Entry, entry_at, record_of_entry};
+use crate::entries::{Entry, Found, entry_at, record_of_entry};
 use crate::head::{Head, read_head};
 use crate::lines::next_line;
-use metering_model::{BatchCode, BatchFault, Version};
+use metering_model::{BatchCode, BatchFault, Kind, Version};
 use record_view::{Record, read_record};
 use std::marker::Model;
 
@@ -93,6 +95,27 @@ fn kept_record<'a>(bytes: &'a [u8], head: Head, entries: &[Entry], index: u16) -
 {
     match entry_at(entries, index) {
         Some(entry) => Some(record_of_entry(head.version, bytes, entry)),
+        None => None,
+    }
+}
+
+/// What was found of a reading: its kind.
+fn kind_found(found: Found) -> Option<Kind>
+    ensures { result ≡ kind_found found }
+{
+    match found {
+        Found::Reading { kind, .. } => Some(kind),
+        Found::Amend { .. } => None,
+    }
+}
+
+/// The kind of the reading at that index of bytes with this head, from its entry. (Bytes and head are for the proof alone.)
+fn kept_kind(_bytes: &[u8], _head: Head, entries: &[Entry], index: u16) -> Option<Kind>
+    requires { KeepsBatch _bytes.now _head entries.now }
+    ensures { result ≡ kind_in (batch_of _bytes.now) index }
+{
+    match entry_at(entries, index) {
+        Some(entry) => kind_found(entry.found),
         None => None,
     }
 }
@@ -198,6 +221,28 @@ impl<'a> BatchView<'a> {
         match self.kept {
             Some(entries) => kept_record(self.bytes, self.head, entries, index),
             None => self.look_for(index),
+        }
+    }
+
+    /// The kind of the reading at that index; None where an amendment stands there, and from the count on. Over what an
+    /// `OwnedBatch` keeps no text is looked up; over bytes alone the record is looked for from the front.
+    pub fn kind_at(&self, index: u16) -> Option<Kind>
+        ensures { result ≡ kind_in (batch_of self.now) index }
+    {
+        match self.kept {
+            Some(entries) => kept_kind(self.bytes, self.head, entries, index),
+            None => self.kind_looked_for(index),
+        }
+    }
+
+    /// The kind of the reading at that index, looked for from the front.
+    fn kind_looked_for(&self, index: u16) -> Option<Kind>
+        ensures { result ≡ kind_in (batch_of self.now) index }
+    {
+        match self.look_for(index) {
+            Some(Record::Reading(reading)) => Some(reading.kind),
+            Some(Record::Amend { .. }) => None,
+            None => None,
         }
     }
 

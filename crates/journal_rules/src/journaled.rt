@@ -41,22 +41,12 @@ fn is_fit_reading(sheet: &Sheet, reading: &Reading<'_>) -> bool
             && is_fit_commitment(reading, commitment_of(sheet, reading)))
 }
 
-/// Whether the record takes the value as an amendment: it is a reading, and no priced one has a negative value.
-fn takes_value(what: &Record<'_>, value: Value) -> bool
-    ensures { result ≡ is_fit_target value (reading_of (record_of what.now)) }
-{
-    match what {
-        Record::Reading(reading) => !is_priced(reading.kind) || value.millionths() >= 0,
-        Record::Amend { .. } => false,
-    }
-}
-
-/// Whether the batch has a reading at the index that takes the value.
+/// Whether the batch has a reading at the index that takes the value: no priced one has a negative value.
 fn has_fit_target(batch: &BatchView<'_>, index: u16, value: Value) -> bool
     ensures { result ≡ is_fit_target value (option_and_then reading_of (slice_get (batch_of batch.now).records index)) }
 {
-    match batch.record_at(index) {
-        Some(record) => takes_value(&record, value),
+    match batch.kind_at(index) {
+        Some(kind) => !is_priced(kind) || value.millionths() >= 0,
         None => false,
     }
 }
