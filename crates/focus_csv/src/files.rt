@@ -16,25 +16,27 @@ use crate::lines::{header_text, put_lines};
 use crate::pieces::LinePieces;
 use crate::writing::write_text;
 use counted_io::Sink;
-use focus_row::RowsBetween;
+use focus_row::{FocusRow, RowsBetween};
 use std::alloc::{AllocError, Global};
 
-/// Appends the lines of the batch of that number. At want of memory the text is as before, or has some of the lines behind it.
-fn put_batch(
-    alloc: Global,
-    batches: &RowsBetween<'_>,
+/// Appends the lines of the batch of that number, some rows at a time, which are put where some may stand. At want of memory the
+/// text is as before, or has some of the lines behind it.
+fn put_batch<'a>(
+    batches: &RowsBetween<'a>,
     k: usize,
     pieces: &mut LinePieces,
+    rows: &mut Vec<FocusRow<'a>>,
     text: &mut Vec<u8>,
 ) -> Result<(), AllocError>
     requires { k < length batches.now }
     ensures put { OnOk result (text.new.items ≡ text.old.items ++ flat_map row_text (slice_index_or batches.now k [])) }
     ensures begins { OnErr result (BeginsWith text.new.items text.old.items) }
 {
-    let Ok(rows) = batches.rows_of_batch(alloc, k) else {
-        return Err(AllocError);
-    };
-    put_lines(pieces, &rows, text)?;
+    let mut walk = batches.walk(k);
+    while !walk.is_done() {
+        walk.next_rows(rows)?;
+        put_lines(pieces, rows, text)?;
+    }
     Ok(())
 }
 
@@ -53,14 +55,15 @@ fn put_each(
     ensures begins { OnErr result (BeginsWith text.new.items text.old.items) }
 {
     let mut pieces = LinePieces::new(alloc);
+    let mut rows = Vec::new(alloc);
     for k in from..to {
-        put_batch(alloc, batches, k, &mut pieces, text)?;
+        put_batch(batches, k, &mut pieces, &mut rows, text)?;
     }
     Ok(())
 }
 
 /// Appends the lines of the batches from one number to before another, in order, to a text that its caller may use again. Of
-/// the rows, one batch's are in memory at a time.
+/// the rows, few are in memory at a time.
 ///
 /// At want of memory the text is as before.
 pub fn put_batches(
@@ -86,7 +89,7 @@ pub fn put_batches(
 }
 
 /// Appends the file of rows to a text that its caller may use again: the header line, and a line for each row in order. Of
-/// the rows, one batch's are in memory at a time.
+/// the rows, few are in memory at a time.
 ///
 /// At want of memory the text is as before.
 pub fn put_file(
@@ -108,8 +111,8 @@ pub fn put_file(
     }
 }
 
-/// Writes the file of rows: the header line, and a line for each row in order, batch by batch. Of the rows, one batch's are in
-/// memory at a time, and their text.
+/// Writes the file of rows: the header line, and a line for each row in order, batch by batch. Of the rows, few are in
+/// memory at a time, and of their text one batch's.
 ///
 /// `Write` comes only from a failed call of the sink, and that is the only one: a prefix of the file that is not all of it
 /// went out. At want of memory no call failed, and a prefix of the file went out.
@@ -129,6 +132,7 @@ pub fn write_rows<W: Sink>(
         ≡ count_after (is_sink_fault result) (W.failed_calls sink.old) }
 {
     let mut pieces = LinePieces::new(alloc);
+    let mut rows = Vec::new(alloc);
     let mut text = Vec::new(alloc);
     if text.extend_from_slice(header_text()).is_err() {
         return Err(CsvFault::OutOfMemory);
@@ -138,7 +142,7 @@ pub fn write_rows<W: Sink>(
             return Err(fault);
         }
         text.clear();
-        let Ok(()) = put_batch(alloc, batches, k, &mut pieces, &mut text) else {
+        let Ok(()) = put_batch(batches, k, &mut pieces, &mut rows, &mut text) else {
             return Err(CsvFault::OutOfMemory);
         };
     }

@@ -224,11 +224,13 @@ module _ (s : Between) (may : MayBeCharged s) (ps : List Position) (am : AreAmen
 
 -- ---- a walk over the records of a batch
 
-pub first_left : {A : Type 0} (xs rest : List A) (i : ℕ) (x : A) → drop i xs ≡ x ∷ rest → (slice_get xs i ≡ Some x) × (i < length xs)
-first_left [] rest zero x e = absurd (cc)
-first_left [] rest (suc i) x e = absurd (cc)
-first_left (y ∷ xs) rest zero x e = let same : y ≡ x = cc in (ap Some same, omega arith)
-first_left (y ∷ xs) rest (suc i) x e = let later = first_left xs rest i x e in (later.0, omega (arith, later.1))
+-- the record at an index is the first of those from there on
+pub left_at : {A : Type 0} (xs : List A) (i : ℕ) (x : A) → slice_get xs i ≡ Some x → drop i xs ≡ x ∷ drop (i + 1) xs
+left_at [] i x e = absurd (cc)
+left_at (y ∷ xs) zero x e = let same : y ≡ x = cc in ap (λ z. z ∷ xs) same
+left_at (y ∷ xs) (suc i) x e =
+    let next : suc i + 1 ≡ suc (i + 1) = omega arith in
+    left_at xs i x e ∙ ap (λ n. x ∷ drop n (y ∷ xs)) (sym next)
 
 -- what holds where a call has an answer, holds behind one that has
 pub when_done : {A E : Type 0} (r : Result A E) (P : Type 0) → OnOk r P → is_ok r ≡ true → P

@@ -5,7 +5,7 @@ ghost use Rattle.std.specs.List.{cons_option, flat_map};
 ghost use Rattle.std.specs.Option.{is_some, option_copied};
 ghost use Rattle.metering_model.specs.Batch.{Reading as ModelReading, is_priced};
 ghost use Rattle.metering_model.specs.Cut.{IsAtLeast, last_of};
-ghost use Rattle.metering_model.specs.Holding.{reading_at, up_to};
+ghost use Rattle.metering_model.specs.Holding.{held, reading_at, up_to};
 ghost use Rattle.metering_model.specs.ValueAtSequence.{value_at};
 ghost use Rattle.metering_model.specs.declared.ChargeClass.TheVariants.{New, Correction};
 ghost use Rattle.metering_model.specs.Row.{row};
@@ -13,17 +13,19 @@ ghost use Rattle.metering_model.specs.Sheet.{Sheet as ModelSheet};
 ghost use Rattle.metering_model.specs.Rows.{row_of, row_of_reading, rows};
 ghost use Rattle.metering_model.specs.Step.{first_missing};
 ghost use Rattle.metering_model.specs.JournalRules.{MeetsJournalRules};
+ghost use Rattle.batch_view.specs.Batches.{batch_of};
 ghost use Rattle.batch_view.specs.Lent.{model_reading, record_of};
 ghost use Rattle.batch_store.specs.Stores.{position_of};
 ghost use Rattle.charge_row.specs.FocusRows.{model_row};
 ghost use Rattle.charge_row.specs.Regions.{IsNamed};
 ghost use Rattle.focus_row.specs.Rows.{joined};
-ghost use Rattle.focus_row.specs.Inner.Left.{IsWithin, MayBeCharged, record_at, rows_left, rows_of_batch, rows_of_place};
+ghost use Rattle.focus_row.specs.Inner.Left.{IsWithin, MayBeCharged, record_at, rows_behind, rows_left, rows_of_batch, rows_of_place};
 ghost use Rattle.focus_row.specs.Inner.Near.{AreNamed};
 
 use crate::places::{is_named, next_named};
+use crate::walk::BatchRows;
 use batch_store::{Cut, Period, RecordPlace, Store};
-use batch_view::{Reading, Record, Value};
+use batch_view::{BatchView, Reading, Record, Value};
 use charge_row::{Billing, FocusRow, Issuer, RegionColumns, Sheet, row};
 use metering_model::ChargeClass;
 use std::alloc::{AllocError, Global};
@@ -38,8 +40,8 @@ struct BatchPlace {
 
 /// What is charged between two cuts, and by what.
 #[derive(Drop)]
-struct BetweenCuts<'a> {
-    store: &'a Store,
+pub(crate) struct BetweenCuts<'a> {
+    pub(crate) store: &'a Store,
     sheet: &'a Sheet,
     billing: Billing<'a>,
     period: Period,
@@ -232,6 +234,36 @@ impl<'a> BetweenCuts<'a> {
         Ok(())
     }
 
+    /// Puts the rows of a batch's records from one index to before another behind the other rows.
+    pub(crate) fn put_rows(
+        &self,
+        rows: &mut Vec<FocusRow<'a>>,
+        batch: &BatchView<'a>,
+        agent: u8,
+        seq: u32,
+        from: u16,
+        to: u16,
+    ) -> Result<(), AllocError>
+        requires near { AreNamed self.now.sheet rows.old.items }
+        requires agent_from { 1 ≤ agent }
+        requires agent_to { agent ≤ self.now.agents }
+        requires within { seq ≤ last_of self.now.to agent }
+        requires held { held self.now.batches agent seq ≡ Some (batch_of batch.now) }
+        requires order { from ≤ to }
+        requires records { to ≤ length (batch_of batch.now).records }
+        ensures { OnOk result (map model_row rows.new.items ++ rows_behind self.now agent seq to (batch_of batch.now)
+            ≡ map model_row rows.old.items ++ rows_behind self.now agent seq from (batch_of batch.now)) }
+    {
+        for index in from..to {
+            let Some(record) = batch.record_at(index) else {
+                unreachable!()
+            };
+            let place = RecordPlace { agent, seq, index };
+            self.put_row(rows, place, &record)?;
+        }
+        Ok(())
+    }
+
     /// For how many rows of a batch with so many records room is made at once: above `from` each reading has one, up to it
     /// few have.
     fn room_for(&self, agent: u8, seq: u32, count: u16) -> usize
@@ -277,13 +309,11 @@ impl<'a> BetweenCuts<'a> {
         let Ok(mut rows) = Vec::with_capacity(alloc, self.room_for(agent, seq, count)) else {
             return Err(AllocError);
         };
-        let mut index = 0;
-        for record in batch.records() {
-            let place = RecordPlace { agent, seq, index };
-            index += 1;
-            if self.put_row(&mut rows, place, &record).is_err() {
-                return Err(AllocError);
-            }
+        if self
+            .put_rows(&mut rows, &batch, agent, seq, 0, count)
+            .is_err()
+        {
+            return Err(AllocError);
         }
         Ok(rows)
     }
@@ -402,6 +432,15 @@ impl<'a> RowsBetween<'a> {
     {
         let place = self.places[k];
         self.cuts.rows_of_batch(alloc, place.agent, place.seq)
+    }
+
+    /// The walk over the rows of the batch of that number, a part of them at a time. No memory is taken.
+    pub fn walk(&self, k: usize) -> BatchRows<'_, 'a>
+        requires { k < length self.now }
+        ensures { result.rows ≡ slice_index_or self.now k [] }
+    {
+        let place = self.places[k];
+        BatchRows::of(&self.cuts, place.agent, place.seq)
     }
 
     /// All rows, in order.

@@ -1,5 +1,5 @@
 -- The rows of the batches up to a cut from an agent's sequence on.
-use Rattle.std.specs.Prelude.{◌≡◌, ◌≤◌, ℕ, List, [], map, length, Option, Some, None, slice_get}
+use Rattle.std.specs.Prelude.{◌≡◌, ◌≤◌, ℕ, List, [], map, length, drop, Option, Some, None, slice_get}
 use Rattle.std.specs.List.{filter_map}
 use Rattle.std.specs.Option.{option_and_then}
 use Rattle.metering_model.specs.Batch.{Batch, Record}
@@ -61,3 +61,15 @@ pub record IsWithin (b : Between) (p : BatchPlace) : Type 0 where
   pub to : p.agent ≤ b.agents
   pub first : 1 ≤ p.seq
   pub last : p.seq ≤ last_of b.to p.agent
+
+-- the rows of the batch's records from that index on
+abbrev pub rows_behind : Between → ℕ → ℕ → ℕ → Batch → List Row
+rows_behind b agent seq index x = rows_in b (placed_from agent seq index (drop index x.records))
+
+-- A walk over the rows of that batch, which is held there, stands before the record at that index.
+pub record IsWalk (b : Between) (agent seq index : ℕ) (x : Batch) : Type 0 where
+  pub from : 1 ≤ agent
+  pub to : agent ≤ b.agents
+  pub last : seq ≤ last_of b.to agent
+  pub held : held b.batches agent seq ≡ Some x
+  pub within : index ≤ length x.records

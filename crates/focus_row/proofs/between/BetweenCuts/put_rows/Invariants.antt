@@ -1,0 +1,13 @@
+use Rattle.std.proofs.Common.{◌≡◌, ◌++◌, map}
+use Rattle.batch_view.specs.Batches.{batch_of}
+use Rattle.charge_row.specs.FocusRows.{model_row}
+use Rattle.focus_row.specs.Inner.Left.{rows_behind}
+use Rattle.focus_row.specs.Inner.Near.{AreNamed}
+use Rattle.focus_row.proofs.between.BetweenCuts.put_rows.Given as goal
+
+-- Each row so far has its region's name, and those so far with those of the records that are left are all of them.
+abbrev pub invariant-loop-index : goal.invariant-loop-index
+invariant-loop-index l =
+    AreNamed l.self.sheet l.rows.items
+    × (map model_row l.rows.items ++ rows_behind l.self l.agent l.seq l.index (batch_of l.batch)
+    ≡ map model_row l.initial.rows.items ++ rows_behind l.self l.agent l.seq l.from (batch_of l.batch))

@@ -1,0 +1,82 @@
+//! The rows of one batch, some at a time.
+
+ghost use Rattle.std.specs.Prelude.{◌≡◌, ◌<◌, ◌≤◌, [], ◌++◌, false, map, OnOk, IsTrue};
+ghost use Rattle.metering_model.specs.Cut.{last_of};
+ghost use Rattle.charge_row.specs.FocusRows.{model_row};
+ghost use Rattle.focus_row.specs.Inner.Left.{rows_of_batch};
+
+use crate::between::BetweenCuts;
+use batch_view::BatchView;
+use charge_row::FocusRow;
+use std::alloc::AllocError;
+use std::marker::Model;
+
+/// The rows of so many records are made at a time.
+const MOST: u16 = 64;
+
+/// The rows of a batch that are still to come. It holds where they are, and makes some of them each time that it is asked.
+#[derive(Drop)]
+pub struct BatchRows<'b, 'a> {
+    cuts: &'b BetweenCuts<'a>,
+    batch: BatchView<'a>,
+    agent: u8,
+    seq: u32,
+    /// The first record whose row was not made.
+    index: u16,
+}
+
+impl<'b, 'a> Model for BatchRows<'b, 'a> {
+    ghost use Rattle.std.specs.Prelude.{◌-◌, length};
+    ghost use Rattle.batch_view.specs.Batches.{batch_of};
+    ghost use Rattle.focus_row.specs.Rows.{RowsLeft};
+    ghost use Rattle.focus_row.specs.Inner.Left.{IsWalk, rows_behind};
+
+    ghost Value = { RowsLeft };
+
+    ghost view = { λ w. record {
+      rows = rows_behind w.cuts.now w.agent w.seq w.index (batch_of w.batch);
+      records = length (batch_of w.batch).records - w.index;
+    } };
+
+    ghost invariant = { λ w. IsWalk w.cuts.now w.agent w.seq w.index (batch_of w.batch) };
+}
+
+impl<'b, 'a> BatchRows<'b, 'a> {
+    /// The walk over the rows of the batch of an agent at a sequence, all of which are to come.
+    pub(crate) fn of(cuts: &'b BetweenCuts<'a>, agent: u8, seq: u32) -> BatchRows<'b, 'a>
+        requires from { 1 ≤ agent }
+        requires to { agent ≤ cuts.now.agents }
+        requires first { 1 ≤ seq }
+        requires within { seq ≤ last_of cuts.now.to agent }
+        ensures { result.rows ≡ rows_of_batch cuts.now agent seq }
+    {
+        BatchRows {
+            cuts,
+            batch: cuts.store.batch_at(agent, seq),
+            agent,
+            seq,
+            index: 0,
+        }
+    }
+
+    /// Whether no record is left.
+    pub fn is_done(&self) -> bool
+        ensures done { IsTrue result → self.now.rows ≡ [] }
+        ensures left { result ≡ false → 0 < self.now.records }
+    {
+        self.index == self.batch.count()
+    }
+
+    /// Puts the next rows in place of those that stand there: of 64 records at most, some of which may have none.
+    pub fn next_rows(&mut self, rows: &mut Vec<FocusRow<'a>>) -> Result<(), AllocError>
+        ensures rows { OnOk result (map model_row rows.new.items ++ self.new.rows ≡ self.old.rows) }
+        ensures fewer { OnOk result (0 < self.old.records → self.new.records < self.old.records) }
+    {
+        rows.clear();
+        let to = self.batch.count().min(self.index + MOST);
+        self.cuts
+            .put_rows(rows, &self.batch, self.agent, self.seq, self.index, to)?;
+        self.index = to;
+        Ok(())
+    }
+}
