@@ -1,54 +1,37 @@
 -- Batches that are shared once more.
-use Rattle.std.proofs.Common.{◌≡◌, ◌⊎◌, inl, inr, ℕ, zero, suc, ◌+◌, ◌≤◌, List, [], ◌∷◌, ◌++◌, length, take, refl, sym, ap, subst, ◌∙◌, arith, Result, Ok, Err, OnErr}
-use Rattle.std.specs.Prelude.{Vec, Some, slice_get}
-use Rattle.std.specs.Vec.{vec_len}
-use Rattle.std.specs.declared.alloc.Global.{Global}
+use Rattle.std.proofs.Common.{◌≡◌, ℕ, zero, suc, ◌+◌, ◌*◌, ◌<◌, ◌≤◌, List, [], ◌∷◌, ◌++◌, length, take, get_or, refl, sym, ap, subst, ◌∙◌, arith, append_assoc, length-append}
+use Rattle.std.specs.Prelude.{Some, slice_get}
+use Rattle.std.specs.List.{flat_map, AllZip}
 use Rattle.std.specs.Arc.{arc_value}
 use Rattle.std.proofs.lemmas.Option.{same_Some}
+use Rattle.std.proofs.lemmas.List.{append-nil}
 use Rattle.batch_store.specs.Inner.Shelves.{Shared, Filed, IsShelf, AreCounted, AreFiled, batches_filed, on_shelf}
-use Rattle.batch_store.specs.Inner.Rows.{AreClones}
+use Rattle.batch_store.specs.Inner.Rows.{AreClones, AreFull, IsRow, Part, batches_in, in_parts, part_at}
 use Rattle.batch_store.proofs.ShareLemmas.{clones_same}
 use Rattle.batch_store.proofs.ShelfLemmas.{moved_first}
-
-pub on_err : {T E A : Type 0} (r : Result T E) → A → OnErr r A
-on_err (Ok x) a = tt
-on_err (Err e) a = a
-
-pub in_err : {T E A : Type 0} (r : Result T E) (e : E) → r ≡ Err e → OnErr r A → A
-in_err {A = A} r e is h = subst (λ x. OnErr x A) is h
 
 pub same_clones : (xs : List Shared) → AreClones xs xs
 same_clones [] = tt
 same_clones (x ∷ xs) = (refl, same_clones xs)
 
+pub clones_joined : (xs ys xs' ys' : List Shared) → AreClones xs ys → AreClones xs' ys' → AreClones (xs ++ xs') (ys ++ ys')
+clones_joined [] [] xs' ys' z z' = z'
+clones_joined [] (y ∷ ys) xs' ys' z z' = absurd z
+clones_joined (x ∷ xs) [] xs' ys' z z' = absurd z
+clones_joined (x ∷ xs) (y ∷ ys) xs' ys' z z' = (z.0, clones_joined xs ys xs' ys' z.1 z')
+
 pub clones_length : (xs ys : List Shared) → AreClones xs ys → length ys ≡ length xs
-clones_length [] [] z = refl
-clones_length [] (y ∷ ys) z = absurd z
-clones_length (x ∷ xs) [] z = absurd z
-clones_length (x ∷ xs) (y ∷ ys) z = let rest = clones_length xs ys z.1 in omega (arith, rest)
+clones_length xs ys z = (clones_same xs ys z).1
 
-pub clones_taken : (n : ℕ) (xs ys : List Shared) → AreClones xs ys → AreClones (take n xs) (take n ys)
-clones_taken zero xs ys z = tt
-clones_taken (suc n) [] [] z = tt
-clones_taken (suc n) [] (y ∷ ys) z = absurd z
-clones_taken (suc n) (x ∷ xs) [] z = absurd z
-clones_taken (suc n) (x ∷ xs) (y ∷ ys) z = (z.0, clones_taken n xs ys z.1)
+-- ---- parts of 64
 
-pub clones_more : (xs ys : List Shared) (b : Shared) → AreClones xs ys → AreClones (xs ++ b ∷ []) (ys ++ b ∷ [])
-clones_more [] [] b z = (refl, tt)
-clones_more [] (y ∷ ys) b z = absurd z
-clones_more (x ∷ xs) [] b z = absurd z
-clones_more (x ∷ xs) (y ∷ ys) b z = (z.0, clones_more xs ys b z.1)
-
-pub take_twice : (n : ℕ) (xs : List Shared) → take n (take n xs) ≡ take n xs
-take_twice zero xs = refl
-take_twice (suc n) [] = refl
-take_twice (suc n) (x ∷ xs) = ap (λ t. x ∷ t) (take_twice n xs)
-
--- a list that is itself, or a clone
-pub either_clones : (n : ℕ) (v w : Vec Shared Global) → (w ≡ v) ⊎ (AreClones v.items w.items × (vec_len w ≡ vec_len v)) → AreClones (take n v.items) (take n w.items)
-either_clones n v w (inl e) = subst (λ (x : Vec Shared Global). AreClones (take n v.items) (take n x.items)) (sym e) (same_clones (take n v.items))
-either_clones n v w (inr z) = clones_taken n v.items w.items z.0
+pub parts_length : (parts : List Part) (last : List Shared) → AreFull parts → length (in_parts parts last) ≡ 64 * length parts + length last
+parts_length [] last full = omega arith
+parts_length (p ∷ parts) last full =
+    let whole = ap length (append_assoc (batches_in p) (flat_map batches_in parts) last) in
+    let first = length-append (batches_in p) (in_parts parts last) in
+    let rest = parts_length parts last full.1 in
+    omega (arith, full.0, whole, first, rest)
 
 -- ---- shelves whose first parts are clones
 
@@ -86,3 +69,10 @@ moved_clone whole ahead e es k a b now is seen next taken same added =
     let own : arc_value b ≡ arc_value e.1 = same ∙ sym (ap (λ (x : Filed). arc_value x.1) (same_Some e (k, a) first)) in
     let clones = clones_after (whole ++ e.1 ∷ []) (whole ++ b ∷ []) now (clones_last whole e.1 b own) added in
     (same_shelf (whole ++ e.1 ∷ []) now es clones moved.is, on_same_shelf (whole ++ e.1 ∷ []) now es clones ∙ moved.same)
+
+-- the first of the second part stands at no sequence above the greatest
+pub first_low : (whole : List Shared) (ahead : List Filed) (k : ℕ) (a : Shared) → IsShelf whole ahead → slice_get ahead 0 ≡ Some (k, a) → k ≤ 1_000_000
+first_low whole [] k a is seen = absurd (cc)
+first_low whole (e ∷ es) k a is seen =
+    let same : e.0 ≡ k = ap (λ (x : Filed). x.0) (same_Some e (k, a) seen) in
+    omega (arith, same, is.filed.1)

@@ -14,3 +14,4 @@ pub mod AmenderLemmas
 pub mod Spared
 mod SameBatches
 pub mod Clones
+pub mod RowLaws

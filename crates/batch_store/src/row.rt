@@ -1,52 +1,68 @@
-//! A row of batches that is shared whole.
+//! A row of batches, most of which others may share.
 
 ghost use Rattle.std.specs.Prelude.{◌≡◌, ◌<◌, ◌≤◌, ◌∷◌, ◌++◌, [], length, take, slice_index_or, IfOk, OnOk, OnErr};
-ghost use Rattle.std.specs.Arc.{arc_value};
-ghost use Rattle.batch_store.specs.Inner.Rows.{AreClones};
+ghost use Rattle.batch_store.specs.Inner.Rows.{AreClones, part_at};
 
 use batch_view::OwnedBatch;
 use std::alloc::{AllocError, Global};
 use std::marker::Model;
 use std::sync::Arc;
 
-/// The first batches of a list that others may share. So to share some costs the same however many there are; who adds one while
-/// others share the list does so on a copy.
+/// So many batches are shared as one part.
+const MANY: usize = 64;
+
+/// Batches in order. Each part of 64 of them is a list that others may share and that stays as it is. So to share many takes a
+/// sixty-fourth of the steps, what is shared is just what was asked for, and a batch is added in place.
 #[derive(Drop)]
 pub(crate) struct Row {
-    /// There is none before the first batch.
-    shared: Option<Arc<Vec<Arc<OwnedBatch>>>>,
-    /// How many of them are of this row.
+    parts: Vec<Arc<Vec<Arc<OwnedBatch>>>>,
+    /// Those behind the parts, fewer than 64.
+    last: Vec<Arc<OwnedBatch>>,
+    /// How many there are in all.
     count: usize,
     alloc: Global,
 }
 
 impl Model for Row {
-    ghost use Rattle.std.specs.Prelude.{◌≤◌, List, length, take};
     ghost use Rattle.batch_store.specs.Inner.Shelves.{Shared};
-    ghost use Rattle.batch_store.specs.Inner.Rows.{all_shared};
+    ghost use Rattle.batch_store.specs.Inner.Rows.{in_parts, IsRow};
+    ghost use Rattle.std.specs.Prelude.{List};
 
     ghost Value = { List Shared };
 
-    ghost view = { λ r. take r.count (all_shared r.shared) };
+    ghost view = { λ r. in_parts r.parts.items r.last.items };
 
-    ghost invariant = { λ r. r.count ≤ length (all_shared r.shared) };
+    ghost invariant = { λ r. IsRow r.parts.items r.last.items r.count };
 }
 
-/// Makes a list its first batches and one more. Where others share it, this is done on a copy.
-fn add_behind(
-    shared: &mut Arc<Vec<Arc<OwnedBatch>>>,
-    count: usize,
-    batch: Arc<OwnedBatch>,
-) -> Result<(), AllocError>
-    requires { count ≤ length (arc_value shared.old).items }
-    ensures added { OnOk result (AreClones (take count (arc_value shared.old).items ++ batch ∷ []) (arc_value shared.new).items) }
-    ensures kept { OnErr result (AreClones (take count (arc_value shared.old).items) (take count (arc_value shared.new).items)) }
-    ensures enough { OnErr result (count ≤ length (arc_value shared.new).items) }
+/// The batches of a part, or those behind the parts.
+fn part_at<'a>(
+    parts: &'a [Arc<Vec<Arc<OwnedBatch>>>],
+    last: &'a [Arc<OwnedBatch>],
+    part: usize,
+) -> &'a [Arc<OwnedBatch>]
+    requires { part ≤ length parts.now }
+    ensures { result.now ≡ part_at parts.now last.now part }
 {
-    let own = Arc::make_mut(shared)?;
-    own.truncate(count);
-    own.push(batch)?;
-    Ok(())
+    if part < parts.len() {
+        &parts[part]
+    } else {
+        last
+    }
+}
+
+/// A part of batches and one behind them.
+fn part_of(
+    alloc: Global,
+    batches: &[Arc<OwnedBatch>],
+    batch: Arc<OwnedBatch>,
+) -> Result<Vec<Arc<OwnedBatch>>, AllocError>
+    ensures { IfOk result (λ part. AreClones (batches.now ++ batch ∷ []) part.items) }
+{
+    let mut part: Vec<Arc<OwnedBatch>> = Vec::with_capacity(alloc, MANY)?;
+    part.extend_from_slice(batches)?;
+    part.push(batch)?;
+    Ok(part)
 }
 
 impl Row {
@@ -55,7 +71,8 @@ impl Row {
         ensures { result ≡ [] }
     {
         Row {
-            shared: None,
+            parts: Vec::new(alloc),
+            last: Vec::new(alloc),
             count: 0,
             alloc,
         }
@@ -73,25 +90,23 @@ impl Row {
         requires { place < length self.now }
         ensures { result.now ≡ slice_index_or self.now place result.now }
     {
-        match &self.shared {
-            Some(shared) => &shared[place],
-            None => unreachable!(),
-        }
+        &part_at(&self.parts, &self.last, place / MANY)[place % MANY]
     }
 
-    /// Adds a batch behind the others. What others share stays as it is.
+    /// Adds a batch behind the others. At an error all is as it was.
     pub(crate) fn push(&mut self, batch: Arc<OwnedBatch>) -> Result<(), AllocError>
+        requires { length self.old < 1_000_000 }
         ensures added { OnOk result (AreClones (self.old ++ batch ∷ []) self.new) }
-        ensures kept { OnErr result (AreClones self.old self.new) }
+        ensures kept { OnErr result (self.new ≡ self.old) }
     {
-        let Some(shared) = &mut self.shared else {
-            let mut own = Vec::new(self.alloc);
-            own.push(batch)?;
-            self.shared = Some(Arc::new(self.alloc, own)?);
-            self.count = 1;
+        if self.last.len() + 1 < MANY {
+            self.last.push(batch)?;
+            self.count += 1;
             return Ok(());
-        };
-        add_behind(shared, self.count, batch)?;
+        }
+        let part = part_of(self.alloc, &self.last, batch)?;
+        self.parts.push(Arc::new(self.alloc, part)?)?;
+        self.last.clear();
         self.count += 1;
         Ok(())
     }
@@ -99,14 +114,17 @@ impl Row {
     /// The first batches, shared.
     pub(crate) fn share(&self, count: usize) -> Result<Row, AllocError>
         requires { count ≤ length self.now }
-        ensures { IfOk result (λ row. row ≡ take count self.now) }
+        ensures { IfOk result (λ row. AreClones (take count self.now) row) }
     {
-        let shared = match &self.shared {
-            Some(shared) => Some(Arc::try_clone(shared)?),
-            None => None,
-        };
+        let whole = count / MANY;
+        let rest = count % MANY;
+        let mut parts: Vec<Arc<Vec<Arc<OwnedBatch>>>> = Vec::with_capacity(self.alloc, whole)?;
+        parts.extend_from_slice(&self.parts[..whole])?;
+        let mut last: Vec<Arc<OwnedBatch>> = Vec::with_capacity(self.alloc, rest)?;
+        last.extend_from_slice(&part_at(&self.parts, &self.last, whole)[..rest])?;
         Ok(Row {
-            shared,
+            parts,
+            last,
             count,
             alloc: self.alloc,
         })

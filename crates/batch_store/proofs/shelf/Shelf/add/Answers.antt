@@ -1,6 +1,6 @@
 -- Behind those without a gap stands one more, or in the map.
 use Rattle.std.proofs.Common.{◌∷◌, ◌++◌, [], refl, ◌∙◌, arith}
-use Rattle.batch_store.proofs.Clones.{on_err, on_same_shelf, same_shelf}
+use Rattle.batch_store.proofs.Clones.{on_same_shelf, same_shelf}
 use Rattle.batch_store.proofs.ShelfLemmas.{add_next, add_later}
 use Rattle.batch_store.proofs.shelf.Shelf.add.Goals as goal
 
@@ -21,10 +21,3 @@ invariant_of-self-2 c = (add_later c.self.inside.whole c.self.inside.ahead.entri
 
 pub returns-clause-ok : goal.returns-clause-ok
 returns-clause-ok c = (add_later c.self.inside.whole c.self.inside.ahead.entries c.args.self.now c.args.batch c.args.seq c.self.view_is c.self.invariant c.requires.seq c.requires.range c.requires.of_agent c.requires.absent c.insert.new.self.entries c.in_ok-insert.ensures.entries).1
-
-pub invariant_of-self : goal.invariant_of-self
-invariant_of-self c = same_shelf c.self.inside.whole c.push.new.self c.self.inside.ahead.entries c.in_err-push.ensures.kept c.self.invariant
-
-pub returns-in_err-push-clause-err : goal.returns-in_err-push-clause-err
-returns-in_err-push-clause-err c =
-    on_err c.from_residual.result (on_same_shelf c.self.inside.whole c.push.new.self c.self.inside.ahead.entries c.in_err-push.ensures.kept ∙ c.self.view_is)

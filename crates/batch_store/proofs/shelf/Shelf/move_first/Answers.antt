@@ -1,13 +1,10 @@
 -- The first of the map stands behind those without a gap, by another hand.
 use Rattle.std.proofs.Common.{◌∙◌, arith}
-use Rattle.batch_store.proofs.Clones.{moved_clone, on_same_shelf, same_shelf}
+use Rattle.batch_store.proofs.Clones.{first_low, moved_clone}
 use Rattle.batch_store.proofs.shelf.Shelf.move_first.Goals as goal
 
-pub invariant_of-self : goal.invariant_of-self
-invariant_of-self c = same_shelf c.self.inside.whole c.push.new.self c.self.inside.ahead.entries c.in_default-push.ensures.kept c.self.invariant
-
-pub returns-in_default-push : goal.returns-in_default-push
-returns-in_default-push c = on_same_shelf c.self.inside.whole c.push.new.self c.self.inside.ahead.entries c.in_default-push.ensures.kept ∙ c.self.view_is
+pub push-requires : goal.push-requires
+push-requires c = let low = first_low c.self.inside.whole c.self.inside.ahead.entries c.in-Some.seq.now c.in-Some.batch.now c.self.invariant c.in-Some.ensures.first in omega arith
 
 pub invariant_of-self-2 : goal.invariant_of-self-2
 invariant_of-self-2 c =
