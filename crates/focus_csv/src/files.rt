@@ -63,7 +63,7 @@ fn put_each(
 }
 
 /// Appends the lines of the batches from one number to before another, in order, to a text that its caller may use again. Of
-/// the rows, few are in memory at a time.
+/// the rows, 64 are in memory at a time.
 ///
 /// At want of memory the text is as before.
 pub fn put_batches(
@@ -89,7 +89,7 @@ pub fn put_batches(
 }
 
 /// Appends the file of rows to a text that its caller may use again: the header line, and a line for each row in order. Of
-/// the rows, few are in memory at a time.
+/// the rows, 64 are in memory at a time.
 ///
 /// At want of memory the text is as before.
 pub fn put_file(
@@ -111,7 +111,7 @@ pub fn put_file(
     }
 }
 
-/// Writes the file of rows: the header line, and a line for each row in order, batch by batch. Of the rows, few are in
+/// Writes the file of rows: the header line, and a line for each row in order, batch by batch. Of the rows, 64 are in
 /// memory at a time, and of their text one batch's.
 ///
 /// `Write` comes only from a failed call of the sink, and that is the only one: a prefix of the file that is not all of it

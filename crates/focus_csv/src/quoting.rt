@@ -1,6 +1,6 @@
 //! Whether a field has to be quoted.
 
-ghost use Rattle.std.specs.Prelude.{◌≡◌, ◌≤◌, ◌<◌, ◌||◌, ◌==◌, ℕ, false, length, position, slice_index};
+ghost use Rattle.std.specs.Prelude.{◌≡◌, ◌≤◌, length};
 ghost use Rattle.std.specs.List.{list_any};
 ghost use Rattle.byte_text.specs.Runs.{IsRun};
 ghost use Rattle.focus_csv.specs.Inner.Quoting.{is_special};

@@ -1,6 +1,6 @@
 //! The rows between two cuts, batch by batch.
 
-ghost use Rattle.std.specs.Prelude.{◌≡◌, ◌≤◌, ◌≤ℤ◌, ◌+◌, ◌-◌, ◌*◌, ◌<◌, ◌++◌, [], true, pos, length, map, option_map, slice_index_or, All, Some, None, IfOk, IfSome, IfNone, OnOk};
+ghost use Rattle.std.specs.Prelude.{◌≡◌, ◌≤◌, ◌≤ℤ◌, ◌+◌, ◌-◌, ◌*◌, ◌<◌, ◌++◌, ◌⊎◌, [], true, pos, length, map, option_map, slice_index_or, All, Some, None, IfOk, IfSome, IfNone, OnOk};
 ghost use Rattle.std.specs.List.{cons_option, flat_map};
 ghost use Rattle.std.specs.Option.{is_some, option_copied};
 ghost use Rattle.metering_model.specs.Batch.{Reading as ModelReading, is_priced};
@@ -234,7 +234,8 @@ impl<'a> BetweenCuts<'a> {
         Ok(())
     }
 
-    /// Puts the rows of a batch's records from one index to before another behind the other rows.
+    /// Puts the rows of a batch's records from an index on behind the other rows, until there are as many as the limit, and answers
+    /// the index of the first record whose row was not asked for.
     pub(crate) fn put_rows(
         &self,
         rows: &mut Vec<FocusRow<'a>>,
@@ -242,31 +243,37 @@ impl<'a> BetweenCuts<'a> {
         agent: u8,
         seq: u32,
         from: u16,
-        to: u16,
-    ) -> Result<(), AllocError>
+        limit: usize,
+    ) -> Result<u16, AllocError>
         requires near { AreNamed self.now.sheet rows.old.items }
         requires agent_from { 1 ≤ agent }
         requires agent_to { agent ≤ self.now.agents }
         requires within { seq ≤ last_of self.now.to agent }
         requires held { held self.now.batches agent seq ≡ Some (batch_of batch.now) }
-        requires order { from ≤ to }
-        requires records { to ≤ length (batch_of batch.now).records }
-        ensures { OnOk result (map model_row rows.new.items ++ rows_behind self.now agent seq to (batch_of batch.now)
+        requires records { from ≤ length (batch_of batch.now).records }
+        ensures rows { IfOk result (λ to. map model_row rows.new.items ++ rows_behind self.now agent seq to (batch_of batch.now)
             ≡ map model_row rows.old.items ++ rows_behind self.now agent seq from (batch_of batch.now)) }
+        ensures within { IfOk result (λ to. to ≤ length (batch_of batch.now).records) }
+        ensures ends { IfOk result (λ to. (to ≡ length (batch_of batch.now).records) ⊎ (limit ≤ length rows.new.items)) }
+        ensures further { IfOk result (λ to. from < length (batch_of batch.now).records → length rows.old.items < limit → from < to) }
     {
-        for index in from..to {
+        let count = batch.count();
+        for index in from..count {
+            if rows.len() >= limit {
+                return Ok(index);
+            }
             let Some(record) = batch.record_at(index) else {
                 unreachable!()
             };
             let place = RecordPlace { agent, seq, index };
             self.put_row(rows, place, &record)?;
         }
-        Ok(())
+        Ok(count)
     }
 
     /// For how many rows of a batch with so many records room is made at once: above `from` each reading has one, up to it
     /// few have.
-    fn room_for(&self, agent: u8, seq: u32, count: u16) -> usize
+    pub(crate) fn room_for(&self, agent: u8, seq: u32, count: u16) -> usize
         requires from { 1 ≤ agent }
         requires to { agent ≤ self.now.agents }
         ensures { result ≤ count }
@@ -304,17 +311,11 @@ impl<'a> BetweenCuts<'a> {
         ensures { IfOk result (λ rows. map model_row rows.items ≡ rows_of_batch self.now agent seq) }
     {
         let batch = self.store.batch_at(agent, seq);
-        // Its clause also says, for the proof, that a batch has at most 1,000 records.
-        let count = batch.count();
-        let Ok(mut rows) = Vec::with_capacity(alloc, self.room_for(agent, seq, count)) else {
+        let Ok(mut rows) = Vec::with_capacity(alloc, self.room_for(agent, seq, batch.count()))
+        else {
             return Err(AllocError);
         };
-        if self
-            .put_rows(&mut rows, &batch, agent, seq, 0, count)
-            .is_err()
-        {
-            return Err(AllocError);
-        }
+        self.put_rows(&mut rows, &batch, agent, seq, 0, usize::MAX)?;
         Ok(rows)
     }
 

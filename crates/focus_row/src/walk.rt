@@ -1,6 +1,6 @@
 //! The rows of one batch, some at a time.
 
-ghost use Rattle.std.specs.Prelude.{◌≡◌, ◌<◌, ◌≤◌, [], ◌++◌, false, map, OnOk, IsTrue};
+ghost use Rattle.std.specs.Prelude.{◌≡◌, ◌==◌, ◌<◌, ◌≤◌, ◌⊎◌, [], ◌++◌, length, map, OnErr, OnOk, IsTrue};
 ghost use Rattle.metering_model.specs.Cut.{last_of};
 ghost use Rattle.charge_row.specs.FocusRows.{model_row};
 ghost use Rattle.focus_row.specs.Inner.Left.{rows_of_batch};
@@ -11,8 +11,8 @@ use charge_row::FocusRow;
 use std::alloc::AllocError;
 use std::marker::Model;
 
-/// The rows of so many records are made at a time.
-const MOST: u16 = 64;
+/// So many rows are made at a time.
+const MOST: usize = 64;
 
 /// The rows of a batch that are still to come. It holds where they are, and makes some of them each time that it is asked.
 #[derive(Drop)]
@@ -61,21 +61,27 @@ impl<'b, 'a> BatchRows<'b, 'a> {
 
     /// Whether no record is left.
     pub fn is_done(&self) -> bool
-        ensures done { IsTrue result → self.now.rows ≡ [] }
-        ensures left { result ≡ false → 0 < self.now.records }
+        ensures records { result ≡ (self.now.records == 0) }
+        ensures rows { IsTrue result → self.now.rows ≡ [] }
     {
         self.index == self.batch.count()
     }
 
-    /// Puts the next rows in place of those that stand there: of 64 records at most, some of which may have none.
+    /// Puts the next rows in place of those that stand there: 64 at most, and fewer only where no record is left. At want of memory
+    /// the walk stands where it stood.
     pub fn next_rows(&mut self, rows: &mut Vec<FocusRow<'a>>) -> Result<(), AllocError>
         ensures rows { OnOk result (map model_row rows.new.items ++ self.new.rows ≡ self.old.rows) }
+        ensures many { OnOk result ((self.new.records ≡ 0) ⊎ (64 ≤ length rows.new.items)) }
         ensures fewer { OnOk result (0 < self.old.records → self.new.records < self.old.records) }
+        ensures kept { OnErr result (self.new ≡ self.old) }
     {
         rows.clear();
-        let to = self.batch.count().min(self.index + MOST);
-        self.cuts
-            .put_rows(rows, &self.batch, self.agent, self.seq, self.index, to)?;
+        let left = self.batch.count() - self.index;
+        let room = self.cuts.room_for(self.agent, self.seq, left).min(MOST);
+        rows.reserve(room)?;
+        let to = self
+            .cuts
+            .put_rows(rows, &self.batch, self.agent, self.seq, self.index, MOST)?;
         self.index = to;
         Ok(())
     }

@@ -1,10 +1,14 @@
-use Rattle.std.proofs.Common.{[], ◌++◌, map, refl, sym, ap, ◌∙◌, append_assoc, append-nil}
+use Rattle.std.proofs.Common.{◌≡◌, ◌==◌, ◌<◌, ℕ, zero, suc, false, [], ◌++◌, map, refl, sym, ap, ◌∙◌, arith, append_assoc, append-nil}
 use Rattle.std.specs.List.{flat_map}
 use Rattle.std.proofs.lemmas.Grind.{flat_map-append}
 use Rattle.metering_model.specs.File.{row_text}
 use Rattle.focus_row.specs.Rows.{model_row}
 use Rattle.focus_csv.proofs.BeginningLaws.{on_err, longer_begins}
 use Rattle.focus_csv.proofs.files.put_batch.Goals as goal
+
+positive : (n : ℕ) → false ≡ (n == 0) → 0 < n
+positive zero some = absurd (cc)
+positive (suc n) some = omega arith
 
 pub loop-walk-init : goal.loop-walk-init
 loop-walk-init c = ([], c.walk-walk.ensures, sym (append-nil c.args.text.now.items))
@@ -15,7 +19,7 @@ returns-in_err-next_rows-clause-begins c =
     on_err c.from_residual.result (flat_map row_text so.0, so.2)
 
 pub loop-walk-smaller : goal.loop-walk-smaller
-loop-walk-smaller c = c.in_ok-next_rows.ensures.fewer (c.loop-walk-test.ensures.left refl)
+loop-walk-smaller c = c.in_ok-next_rows.ensures.fewer (positive _ c.loop-walk-test.ensures.records)
 
 pub returns-in_err-put_lines-clause-begins : goal.returns-in_err-put_lines-clause-begins
 returns-in_err-put_lines-clause-begins c =
@@ -36,5 +40,5 @@ loop-walk-preserved c =
 pub returns-clause-put : goal.returns-clause-put
 returns-clause-put c =
     let so = c.loop-walk.invariant in
-    let all = sym (append-nil so.0) ∙ ap (λ rs. so.0 ++ rs) (sym (c.loop-walk-test.ensures.done refl)) ∙ so.1 in
+    let all = sym (append-nil so.0) ∙ ap (λ rs. so.0 ++ rs) (sym (c.loop-walk-test.ensures.rows refl)) ∙ so.1 in
     so.2 ∙ ap (λ rs. c.args.text.now.items ++ flat_map row_text rs) all

@@ -1,13 +1,11 @@
-use Rattle.std.proofs.Common.{◌≡◌, ◌+◌, ◌++◌, drop, map, refl, ap, ◌∙◌, arith}
+use Rattle.std.proofs.Common.{◌+◌, drop, refl, arith}
 use Rattle.batch_view.specs.Batches.{batch_of}
 use Rattle.batch_view.specs.Lent.{record_of}
-use Rattle.charge_row.specs.FocusRows.{model_row}
-use Rattle.focus_row.specs.Inner.Left.{rows_behind}
 use Rattle.focus_row.proofs.StopLaws.{left_at, next_record}
 use Rattle.focus_row.proofs.between.BetweenCuts.put_rows.Goals as goal
 
 pub loop-index-init : goal.loop-index-init
-loop-index-init c = (c.requires.near, refl)
+loop-index-init c = (c.requires.near, refl, λ same. refl)
 
 pub put_row-requires-clause-near : goal.put_row-requires-clause-near
 put_row-requires-clause-near c = c.loop-index.invariant.0
@@ -19,11 +17,5 @@ loop-index-preserved c =
       c.in_ok-put_row.ensures.named,
       next_record c.args.self.now c.args.agent c.args.seq i (record_of c.in-Some.record) (drop i records) (drop (i + 1) records)
           (left_at records i (record_of c.in-Some.record) c.in-Some.ensures.record) _ c.loop-index.rows.items c.put_row.new.rows.items c.in_ok-put_row.ensures.row c.loop-index.invariant.1,
+      λ same. absurd (omega arith),
     )
-
-pub returns : goal.returns
-returns c =
-    let s = c.args.self.now in
-    let batch = batch_of c.args.batch.now in
-    let end : c.args.to ≡ c.loop-index.index = omega (arith, c.loop-index.auto.index-end c.requires.order) in
-    ap (λ n. map model_row c.loop-index.rows.items ++ rows_behind s c.args.agent c.args.seq n batch) end ∙ c.loop-index.invariant.1
