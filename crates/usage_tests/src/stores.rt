@@ -141,17 +141,18 @@ fn cuts_again(alloc: Global) -> Option<Cuts> {
     })
 }
 
-/// Whether a part is shared up to the batch behind the gap, asked for again where the first call finds no memory.
-fn shares_again(store: &Store, alloc: Global, five: &Cut) -> bool {
-    if store.agents() != 1 || five.agents() != 1 {
+/// Whether a part is shared up to a cut that has the batch of one sequence and lacks that of another first, asked for again where
+/// the first call finds no memory.
+fn shares_again(store: &Store, alloc: Global, cut: &Cut, there: u32, absent: u32) -> bool {
+    if store.agents() != 1 || cut.agents() != 1 {
         return false;
     }
-    let part = match store.share(alloc, five) {
+    let part = match store.share(alloc, cut) {
         Ok(part) => Ok(part),
-        Err(_) => store.share(alloc, five),
+        Err(_) => store.share(alloc, cut),
     };
     match part {
-        Ok(part) => first_absent(&part) == 4 && has(&part, 5),
+        Ok(part) => first_absent(&part) == absent && has(&part, there),
         Err(_) => false,
     }
 }
@@ -209,7 +210,7 @@ fn fills_again(store: &mut Store, alloc: Global) -> Result<bool, Fail> {
 fn answers_again(store: &Store, alloc: Global) -> bool {
     match cuts_again(alloc) {
         Some(cuts) => {
-            shares_again(store, alloc, &cuts.five)
+            shares_again(store, alloc, &cuts.five, 5, 4)
                 && closes_again(store, alloc, &cuts.zero, &cuts.three)
                 && names_again(store, alloc, &cuts.one, &cuts.five)
                 && first_absent(store) == 4
@@ -230,5 +231,48 @@ fn a_refused_growth_of_a_store_changes_nothing(rt: HostRuntime) -> Result<(), Fa
     let is_filled = fills_again(&mut store, alloc)?;
     let is_answered = answers_again(&store, alloc);
     assert!(rt; is_filled && is_answered);
+    Ok(())
+}
+
+/// Whether so many batches without records are put, each again where the first call finds no memory.
+fn fills_many_again(store: &mut Store, alloc: Global, count: u32) -> Result<bool, Fail> {
+    let mut all = true;
+    for before in 0..count {
+        let seq = before + 1;
+        let text = match format!(in alloc; "B1|1|{seq}|0\n") {
+            Ok(text) => text,
+            Err(_) => format!(in alloc; "B1|1|{seq}|0\n")?,
+        };
+        let batch = batch_again(alloc, text.as_bytes())?;
+        all = is_put_again(store, batch)? && all;
+    }
+    Ok(all)
+}
+
+/// Whether just the batches up to a sequence are shared, where they have no gap.
+fn shares_up_to_again(store: &Store, alloc: Global, last: u32) -> bool {
+    match cut_again(alloc, last) {
+        Ok(cut) => shares_again(store, alloc, &cut, last, last.saturating_add(1)),
+        Err(_) => false,
+    }
+}
+
+/// Batches are held in parts of 64, so that the last of a part asks for more memory than the others, and a share may end
+/// before, at and behind the end of one.
+#[test]
+fn a_refused_growth_of_a_long_store_changes_nothing(rt: HostRuntime) -> Result<(), Fail> {
+    let alloc = rt.alloc();
+    let mut store = match Store::new(alloc, 1) {
+        Ok(store) => store,
+        Err(_) => Store::new(alloc, 1)?,
+    };
+    let is_filled = fills_many_again(&mut store, alloc, 130)?;
+    let are_shared = shares_up_to_again(&store, alloc, 1)
+        && shares_up_to_again(&store, alloc, 63)
+        && shares_up_to_again(&store, alloc, 64)
+        && shares_up_to_again(&store, alloc, 65)
+        && shares_up_to_again(&store, alloc, 128)
+        && shares_up_to_again(&store, alloc, 130);
+    assert!(rt; is_filled && are_shared);
     Ok(())
 }
