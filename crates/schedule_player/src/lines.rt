@@ -1,13 +1,12 @@
 //! The lines of replies that wait to be written.
 
-ghost use Rattle.std.specs.Prelude.{◌≡◌, ◌↔◌, ◌≤◌, ◌++◌, [], true, false, length, None, Some, IfSome, IsTrue, OnOk, OnErr, is_err};
+ghost use Rattle.std.specs.Prelude.{◌≡◌, ◌↔◌, ◌≤◌, ◌++◌, [], false, length, None, IsTrue, OnOk, OnErr, is_err};
 ghost use Rattle.std.specs.Io.KnownBytes.{Appends};
 ghost use Rattle.counted_io.specs.Counts.{Rises, count_after};
 ghost use Rattle.counted_io.specs.Writing.{AppendsPrefix};
-ghost use Rattle.metering_model.specs.World.{Snapshot, Exported};
 ghost use Rattle.metering_model.specs.Transcript.{reply_text};
 ghost use Rattle.group_core.specs.Words.{reply_of};
-ghost use Rattle.schedule_player.specs.Inner.Held.{FitsReply, IsHeldAfter, told, waiting};
+ghost use Rattle.schedule_player.specs.Inner.Held.{FitsReply, exported_period, is_same_period, told, told_of, waiting};
 
 use crate::words::set_words;
 use counted_io::{Failed, Sink, write_all};
@@ -65,7 +64,7 @@ fn join_file(lines: &mut Vec<u8>, waits: &mut bool, file: &[u8]) -> Result<(), A
 
 /// The period of an export, if a reply is one.
 fn exported(reply: &Reply) -> Option<Period>
-    ensures { IfSome result (λ period. (s : Snapshot) × (reply_of reply.now ≡ Exported s) × (period ≡ s.period)) }
+    ensures { result ≡ exported_period (reply_of reply.now) }
 {
     match reply {
         Reply::Exported(snapshot) => Some(snapshot.period()),
@@ -75,7 +74,7 @@ fn exported(reply: &Reply) -> Option<Period>
 
 /// Whether a reply is an export of the period.
 fn is_export_of(period: Option<Period>, reply: &Reply) -> bool
-    ensures { IsTrue result → (s : Snapshot) × (reply_of reply.now ≡ Exported s) × (period ≡ Some s.period) }
+    ensures { result ≡ is_same_period period (exported_period (reply_of reply.now)) }
 {
     match (period, exported(reply)) {
         (Some(held), Some(period)) => held.number() == period.number(),
@@ -93,7 +92,7 @@ fn hold(
 ) -> Result<(), AllocError>
     requires { FitsReply (told held.old line.old.items file.old.items) (reply_of reply.now) }
     ensures text { OnOk result (line.new.items ++ file.new.items ≡ reply_text (reply_of reply.now)) }
-    ensures held { OnOk result (IsHeldAfter (told held.old line.old.items file.old.items) (reply_of reply.now) (told held.new line.new.items file.new.items)) }
+    ensures held { OnOk result (told held.new line.new.items file.new.items ≡ told_of (reply_of reply.now)) }
 {
     if is_export_of(*held, reply) {
         return Ok(());
@@ -123,7 +122,7 @@ impl ReplyLines {
     pub(crate) fn add(&mut self, alloc: Global, reply: &Reply) -> Result<(), AllocError>
         requires fits { FitsReply self.old.held (reply_of reply.now) }
         ensures added { OnOk result (self.new.text ≡ self.old.text ++ reply_text (reply_of reply.now)) }
-        ensures held { OnOk result (IsHeldAfter self.old.held (reply_of reply.now) self.new.held) }
+        ensures held { OnOk result (self.new.held ≡ told_of (reply_of reply.now)) }
         ensures kept { OnErr result (self.new.text ≡ self.old.text) }
     {
         join_file(&mut self.lines, &mut self.waits, &self.file)?;

@@ -37,8 +37,7 @@ fn play_event(
 {
     let event = event_of(alloc, planned)?;
     let reply = world.step(alloc, &event)?;
-    lines.add(alloc, &reply)?;
-    Ok(())
+    lines.add(alloc, &reply)
 }
 
 /// Writes what waits, if it is much.

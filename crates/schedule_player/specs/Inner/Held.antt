@@ -1,7 +1,7 @@
 -- What waits to be written, and the reply whose text is at hand.
-use Rattle.std.specs.Prelude.{◌≡◌, ◌⊎◌, ℕ, if◌then◌else◌, Bool, List, [], ◌++◌, Option, Some, None, IfSome}
+use Rattle.std.specs.Prelude.{◌≡◌, ◌==◌, ℕ, if◌then◌else◌, Bool, false, List, [], ◌++◌, Option, Some, None, IfSome}
 use Rattle.std.specs.Option.{option_map}
-use Rattle.metering_model.specs.World.{World, Snapshot, Reply, Exported}
+use Rattle.metering_model.specs.World.{World, Snapshot, Reply, Journaled, Delivered, Started, Restarted, Exported, KeptText, Refused}
 use Rattle.metering_model.specs.Transcript.{reply_text}
 use Rattle.group_core.specs.Headline.{IsExportOf}
 
@@ -31,6 +31,22 @@ IsHeldOf w held = IfSome held (λ h. (s : Snapshot) × IsExportOf w s × (s.peri
 abbrev pub FitsReply : Option ToldExport → Reply → Type 0
 FitsReply held reply = (s : Snapshot) → reply ≡ Exported s → IfSome held (λ h. h.period ≡ s.period → h.text ≡ reply_text reply)
 
--- At hand is what was, or nothing, or what was told of the reply.
-abbrev pub IsHeldAfter : Option ToldExport → Reply → Option ToldExport → Type 0
-IsHeldAfter old reply new = (new ≡ None) ⊎ (new ≡ old) ⊎ ((s : Snapshot) × (reply ≡ Exported s) × (new ≡ Some (record { period = s.period; text = reply_text reply })))
+-- the period of an export, if a reply is one
+abbrev pub exported_period : Reply → Option ℕ
+exported_period (Journaled packet) = None
+exported_period (Delivered sent learned) = None
+exported_period (Started ballot packet) = None
+exported_period Restarted = None
+exported_period (Exported s) = Some s.period
+exported_period (KeptText text) = None
+exported_period (Refused why) = None
+
+-- whether both are the same period
+abbrev pub is_same_period : Option ℕ → Option ℕ → Bool
+is_same_period None q = false
+is_same_period (Some p) None = false
+is_same_period (Some p) (Some q) = p == q
+
+-- what is told of a reply, if it is an export
+abbrev pub told_of : Reply → Option ToldExport
+told_of reply = option_map (λ p. record { period = p; text = reply_text reply }) (exported_period reply)

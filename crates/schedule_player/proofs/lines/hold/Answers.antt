@@ -1,7 +1,15 @@
-use Rattle.std.proofs.Common.{refl}
 use Rattle.group_core.specs.Words.{reply_of}
-use Rattle.schedule_player.proofs.Held.{is_told}
+use Rattle.std.proofs.Common.{sym, ◌∙◌}
+use Rattle.schedule_player.proofs.Held.{held_is, is_told, is_told_of}
 use Rattle.schedule_player.proofs.lines.hold.Goals as goal
 
 pub returns-then-is_export_of-clause-text : goal.returns-then-is_export_of-clause-text
-returns-then-is_export_of-clause-text c = is_told c.args.held.now c.args.line.now.items c.args.file.now.items (reply_of c.args.reply.now) c.requires (c.if-is_export_of.ensures refl)
+returns-then-is_export_of-clause-text c =
+    is_told c.args.held.now c.args.line.now.items c.args.file.now.items (reply_of c.args.reply.now) c.requires (sym c.is_export_of.ensures ∙ c.if-is_export_of.true)
+
+pub returns-then-is_export_of-clause-held : goal.returns-then-is_export_of-clause-held
+returns-then-is_export_of-clause-held c =
+    let same = sym c.is_export_of.ensures ∙ c.if-is_export_of.true in
+    let reply = reply_of c.args.reply.now in
+    is_told_of c.args.held.now c.args.line.now.items c.args.file.now.items reply (held_is c.args.held.now reply same)
+    (is_told c.args.held.now c.args.line.now.items c.args.file.now.items reply c.requires same)

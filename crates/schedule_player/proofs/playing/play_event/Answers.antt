@@ -1,6 +1,6 @@
 use Rattle.std.proofs.Common.{rules}
 use Rattle.group_core.specs.Words.{reply_of}
-use Rattle.schedule_player.proofs.Held.{fits, held_after}
+use Rattle.schedule_player.proofs.Held.{fits, held_after, on_ok_then}
 use Rattle.schedule_player.proofs.playing.play_event.Goals as goal
 
 pub add-requires : goal.add-requires
@@ -12,4 +12,4 @@ returns-clause-text c = search rules
 
 pub returns-clause-held : goal.returns-clause-held
 returns-clause-held c =
-    held_after c.args.world.now c.step.new.self (reply_of c.in_ok-reply.reply) c.step.ensures.stay c.in_ok-reply.ensures.exports c.args.lines.now.held c.add.new.self.held c.requires.held c.in_ok-add.ensures.held
+    on_ok_then c.add.result (held_after c.args.world.now c.step.new.self (reply_of c.in_ok-reply.reply) c.step.ensures.stay c.in_ok-reply.ensures.exports c.add.new.self.held) c.add.ensures.held
