@@ -1,6 +1,6 @@
 //! What is kept of each record, made when a batch is read.
 
-ghost use Rattle.std.specs.Prelude.{◌≡◌, ◌≤◌, ◌+◌, length, take, drop, slice_range, Ok, Err, IsOk, IfOk, IfErr, MatchResult, MatchOption};
+ghost use Rattle.std.specs.Prelude.{◌≡◌, ◌≤◌, ◌+◌, length, take, drop, slice_range, Ok, Err, IsOk, IfOk, IfErr, MatchResult, MatchOption, IfSome};
 ghost use Rattle.std.specs.List.{slice_get};
 ghost use Rattle.metering_model.specs.BatchReading.{batch_in, lines_in, records_in, record_in, fields_in};
 ghost use Rattle.record_view.specs.Lent.{record_of, IsLentRecord};
@@ -8,9 +8,12 @@ ghost use Rattle.record_view.specs.Spans.{spans_at, IsRecordAt};
 ghost use Rattle.batch_view.specs.Inner.Lines.{lines_from, first_record, IsBehindLines, IsHeadOf};
 ghost use Rattle.batch_view.specs.Inner.Entries.{field_total, FitsRecord, IsEntryAt, KeepsRecord, AreEntries};
 
-use crate::batch::record_from;
+use crate::lines::next_line;
 use metering_model::{BatchCode, BatchFault, Kind, Version};
-use record_view::{Numbers, Record, Span, Stamp, Value, field_spans, kept_reading};
+use record_view::{
+    Numbers, Record, Span, Stamp, StampReader, Value, field_spans, kept_reading, read_exact,
+    read_plain,
+};
 use std::alloc::Global;
 
 /// What a record is, without its texts.
@@ -64,6 +67,7 @@ pub(crate) fn entry_at(entries: &[Entry], index: u16) -> Option<&Entry>
 }
 
 /// What is kept of a record that was read from that line.
+#[inline(always)]
 fn entry_of(version: Version, source: &[u8], line: Span, what: &Record<'_>) -> Entry
     requires ordered { line.from ≤ line.to }
     requires within { line.to ≤ length source.now }
@@ -95,11 +99,49 @@ fn entry_of(version: Version, source: &[u8], line: Span, what: &Record<'_>) -> E
     }
 }
 
-/// What is kept of the record whose line begins at `from`, and where the next line begins.
-pub(crate) fn entry_from(
+/// What is kept of the reading of plain bytes that a line is. None says nothing of the line.
+#[inline(always)]
+fn plain_entry<'a>(
     version: Version,
-    text: &[u8],
+    source: &'a [u8],
+    line: Span,
+    stamps: &mut StampReader<'a>,
+) -> Option<Entry>
+    requires ordered { line.from ≤ line.to }
+    requires within { line.to ≤ length source.now }
+    requires short { length source.now ≤ 65536 }
+    ensures { IfSome result (IsEntryAt version source.now line) }
+{
+    match read_plain(version, source, line, stamps) {
+        Some(record) => Some(entry_of(version, source, line, &record)),
+        None => None,
+    }
+}
+
+/// What is kept of the record that a line is, or the rule that its first bad field breaks. Apart, so that the path of a plain
+/// reading stays short.
+#[inline(never)]
+fn exact_entry(version: Version, source: &[u8], line: Span) -> Result<Entry, BatchCode>
+    requires ordered { line.from ≤ line.to }
+    requires within { line.to ≤ length source.now }
+    requires short { length source.now ≤ 65536 }
+    ensures { MatchResult result
+        (IsEntryAt version source.now line)
+        (λ code. record_in version (fields_in (slice_range source.now line.from line.to)) ≡ Err code) }
+{
+    match read_exact(version, source, line) {
+        Ok(record) => Ok(entry_of(version, source, line, &record)),
+        Err(code) => Err(code),
+    }
+}
+
+/// What is kept of the record whose line begins at `from`, and where the next line begins.
+#[inline(always)]
+pub(crate) fn entry_from<'a>(
+    version: Version,
+    text: &'a [u8],
     from: u32,
+    stamps: &mut StampReader<'a>,
 ) -> Result<(Entry, u32), BatchCode>
     requires within { from ≤ length text.now }
     requires short { length text.now ≤ 65536 }
@@ -107,11 +149,15 @@ pub(crate) fn entry_from(
         (λ kept. KeepsRecord version text.now from kept.0 kept.1)
         (λ code. first_record version (lines_from text.now from).lines ≡ Err code) }
 {
-    match record_from(version, text, from) {
-        Ok((record, next)) => {
-            let line = Span { from, to: next - 1 };
-            Ok((entry_of(version, text, line, &record), next))
-        }
+    let Some(line) = next_line(text, from) else {
+        return Err(BatchCode::Count);
+    };
+    let next = line.to + 1;
+    if let Some(entry) = plain_entry(version, text, line, stamps) {
+        return Ok((entry, next));
+    }
+    match exact_entry(version, text, line) {
+        Ok(entry) => Ok((entry, next)),
         Err(code) => Err(code),
     }
 }

@@ -8,6 +8,7 @@ ghost use Rattle.batch_view.specs.Inner.Kept.{IfFault, KeepsEntries, KeepsBatch}
 use crate::entries::{Entry, entry_from};
 use crate::head::{Head, read_head};
 use metering_model::{BatchCode, BatchFault, Version};
+use record_view::StampReader;
 use std::alloc::Global;
 
 /// A batch has no more bytes than this.
@@ -40,8 +41,9 @@ fn keep_entries(
         return Err(Unkept::NoMemory);
     };
     let mut at = from;
+    let mut stamps = StampReader::new();
     for index in 0..count {
-        match entry_from(version, text, at) {
+        match entry_from(version, text, at, &mut stamps) {
             Ok((entry, next)) => {
                 if entries.push(entry).is_err() {
                     return Err(Unkept::NoMemory);

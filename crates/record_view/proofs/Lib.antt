@@ -11,3 +11,5 @@ pub mod RegionLines
 pub mod PlainLaws
 pub mod ValueLaws
 pub mod KeptLaws
+pub mod PlainLines
+pub mod StampLaws

@@ -5,8 +5,9 @@ pub use fields::{Field, Span};
 pub use fx_money::Value;
 pub use kept::{Numbers, kept_reading};
 pub use metering_model::{BatchCode, Kind, Version};
-pub use records::{Reading, Record, read_record};
+pub use records::{Reading, Record, read_exact, read_plain, read_record};
 pub use spans::field_spans;
+pub use stamps::StampReader;
 pub use tags::Tags;
 pub use utc_calendar::{Day, Stamp, calendar, dates};
 
@@ -17,4 +18,5 @@ mod numbers;
 mod plain;
 mod records;
 mod spans;
+mod stamps;
 mod tags;

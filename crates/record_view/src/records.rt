@@ -11,11 +11,12 @@ ghost use Rattle.record_view.specs.TagTexts.{tag_of, tags_at};
 ghost use Rattle.record_view.specs.Inner.TagParts.{are_tags};
 ghost use Rattle.record_view.specs.Inner.RecordSteps.{kind_step, stamp_step, order_step, text_step, key_step, value_step, sign_step, commitment_step, tags_step, whole_step};
 ghost use Rattle.record_view.specs.Lent.{lent_tags, reading_tags, reading_region, record_of, record_texts, lent_fields, IsLentRecord};
-ghost use Rattle.record_view.specs.Inner.LineFields.{reading_parts, amendment_parts, field_texts, record_of_reading, record_of_amendment, in_region, HaveStamps, ArePlainFields};
+ghost use Rattle.record_view.specs.Inner.LineFields.{reading_parts, amendment_parts, field_texts, record_of_reading, record_of_amendment, in_region, IsBeforeRegion, HaveStamps, ArePlainFields};
 
 use crate::fields::{Field, Span, field_at, is_text, split_at_byte, split_at_last};
 use crate::numbers::read_value;
 use crate::plain::{split_plain, split_stamp};
+use crate::stamps::StampReader;
 use crate::tags::{Tags, are_plain_tags};
 use byte_text::read_whole;
 use fx_money::Value;
@@ -110,10 +111,14 @@ fn read_stamp(text: &[u8]) -> Result<Stamp, BatchCode>
 
 /// Both stamps of a reading. At an error nothing is said of them.
 #[inline(always)]
-fn read_stamps(start: &[u8], end: &[u8]) -> Result<(Stamp, Stamp), BatchCode>
+fn read_stamps<'a>(
+    start: &'a [u8],
+    end: &'a [u8],
+    stamps: &mut StampReader<'a>,
+) -> Result<(Stamp, Stamp), BatchCode>
     ensures { IfOk result (λ stamps. (stamp_step start.now ≡ Ok stamps.0) × (stamp_step end.now ≡ Ok stamps.1)) }
 {
-    match Stamp::read_both(start, end) {
+    match stamps.read_both(start, end) {
         Some(stamps) => Ok(stamps),
         None => Err(BatchCode::Time),
     }
@@ -417,14 +422,18 @@ fn check_plain_commitment(kind: Kind, text: &[u8]) -> Result<(), BatchCode>
 
 /// The reading of plain fields. At an error nothing is said of them.
 #[inline(always)]
-fn plain_reading<'a>(letter: &[u8], plain: &ReadingFields<'a>) -> Result<Record<'a>, BatchCode>
+fn plain_reading<'a>(
+    letter: &[u8],
+    plain: &ReadingFields<'a>,
+    stamps: &mut StampReader<'a>,
+) -> Result<Record<'a>, BatchCode>
     requires { ArePlainFields plain.now }
     ensures stamps { OnOk result (HaveStamps plain.now) }
     ensures ok { IfOk result (λ r. record_of_reading letter.now plain.now ≡ Ok (record_of r)) }
     ensures lent { IfOk result (λ r. record_texts r ≡ field_texts plain.now) }
 {
     let kind = read_kind(letter)?;
-    let (start, end) = read_stamps(plain.start.text, plain.end.text)?;
+    let (start, end) = read_stamps(plain.start.text, plain.end.text, stamps)?;
     check_order(start, end)?;
     check_plain_key(plain.key.text)?;
     let value = read_number(plain.value.text)?;
@@ -448,7 +457,12 @@ fn plain_reading<'a>(letter: &[u8], plain: &ReadingFields<'a>) -> Result<Record<
 }
 
 /// The record of a reading's line of plain bytes, from what stands behind its letter.
-fn plain_record<'a>(letter: &[u8], rest: Field<'a>) -> Option<Record<'a>>
+#[inline(always)]
+fn plain_record<'a>(
+    letter: &[u8],
+    rest: Field<'a>,
+    stamps: &mut StampReader<'a>,
+) -> Option<Record<'a>>
     requires { IsPlaced (lent rest) }
     ensures ok { IfSome result (λ r.
         record_in B1 (letter.now ∷ texts_of (parts_at 124 (lent rest.entry))) ≡ Ok (record_of r)) }
@@ -459,32 +473,9 @@ fn plain_record<'a>(letter: &[u8], rest: Field<'a>) -> Option<Record<'a>>
         → AreLentApart source from to (record_texts r)) }
 {
     let fields = plain_fields(rest)?;
-    match plain_reading(letter, &fields) {
+    match plain_reading(letter, &fields, stamps) {
         Ok(record) => Some(record),
         Err(_) => None,
-    }
-}
-
-/// The record of a reading's line, from what stands behind its letter. What is not plain is read
-/// field by field, for its first fault.
-#[inline(always)]
-fn reading_behind<'a>(letter: &[u8], rest: Field<'a>) -> Result<Record<'a>, BatchCode>
-    requires placed { IsPlaced (lent rest) }
-    requires letter { is_same letter.now (codes "X") ≡ false }
-    ensures ok { IfOk result (λ r.
-        record_in B1 (letter.now ∷ texts_of (parts_at 124 (lent rest.entry))) ≡ Ok (record_of r)) }
-    ensures err { IfErr result (λ e.
-        record_in B1 (letter.now ∷ texts_of (parts_at 124 (lent rest.entry))) ≡ Err e) }
-    ensures places { IfOk result (λ r. (letter : LentText) →
-        record_texts r ≡ lent_fields (letter ∷ parts_at 124 (lent rest.entry))) }
-    // What it lends is lent by the parts.
-    ensures lent { IfOk result (λ r. (source : List ℕ) (from to : ℕ) →
-        AreLentApart source from to (parts_at 124 (lent rest.entry))
-        → AreLentApart source from to (record_texts r)) }
-{
-    match plain_record(letter, rest) {
-        Some(record) => Ok(record),
-        None => exact_reading(letter, rest),
     }
 }
 
@@ -508,6 +499,53 @@ fn in_region<'a>(what: &Record<'a>, region: Field<'a>) -> Result<Record<'a>, Bat
     }
 }
 
+/// What a format B1 would have of a line behind its letter, and the region behind that, in format B2.
+#[inline(always)]
+fn before_region<'a>(version: Version, rest: Field<'a>) -> Option<(Field<'a>, Option<Field<'a>>)>
+    requires { IsPlaced (lent rest) }
+    ensures before { IfSome result (λ p. IsBeforeRegion version (lent rest.entry) (lent p.0) p.1) }
+    ensures placed { IfSome result (λ p. IsPlaced (lent p.0)) }
+{
+    match version {
+        Version::B1 => Some((rest, None)),
+        Version::B2 => {
+            let (front, region) = split_at_last(rest, b'|')?;
+            Some((front, Some(region)))
+        }
+    }
+}
+
+/// The record of a reading's line of plain bytes in either format, from what stands behind its letter.
+#[inline(always)]
+fn plain_behind<'a>(
+    version: Version,
+    letter: &[u8],
+    rest: Field<'a>,
+    stamps: &mut StampReader<'a>,
+) -> Option<Record<'a>>
+    requires placed { IsPlaced (lent rest) }
+    requires letter { is_same letter.now (codes "X") ≡ false }
+    ensures ok { IfSome result (λ r.
+        record_in version (letter.now ∷ texts_of (parts_at 124 (lent rest.entry))) ≡ Ok (record_of r)) }
+    ensures places { IfSome result (λ r. (letter : LentText) →
+        record_texts r ≡ lent_fields (letter ∷ parts_at 124 (lent rest.entry))) }
+    ensures lent { IfSome result (λ r. (source : List ℕ) (from to : ℕ) →
+        AreLentApart source from to (parts_at 124 (lent rest.entry))
+        → AreLentApart source from to (record_texts r)) }
+{
+    let (front, region) = before_region(version, rest)?;
+    match plain_record(letter, front, stamps) {
+        Some(record) => match region {
+            None => Some(record),
+            Some(region) => match in_region(&record, region) {
+                Ok(record) => Some(record),
+                Err(_) => None,
+            },
+        },
+        None => None,
+    }
+}
+
 /// The record of a reading's line in format B2, from what stands behind its letter: what stands before the last bar is
 /// read as in format B1, and behind it stands the region. Apart, so that the path of format B1 stays short.
 #[inline(never)]
@@ -528,15 +566,38 @@ fn reading_in_region<'a>(letter: &[u8], rest: Field<'a>) -> Result<Record<'a>, B
     let Some((front, region)) = split_at_last(rest, b'|') else {
         return Err(BatchCode::Fields);
     };
-    match reading_behind(letter, front) {
+    match exact_reading(letter, front) {
         Ok(record) => in_region(&record, region),
         Err(code) => Err(code),
     }
 }
 
-/// The record that the line at this span is in a batch of that format, or the rule that its first bad field breaks.
+/// The record that the line at this span is in a batch of that format, where it is a reading of plain bytes: read in one pass,
+/// and handed on without standing in memory. None says nothing of the line.
 #[inline(always)]
-pub fn read_record<'a>(
+pub fn read_plain<'a>(
+    version: Version,
+    source: &'a [u8],
+    span: Span,
+    stamps: &mut StampReader<'a>,
+) -> Option<Record<'a>>
+    requires ordered { span.from ≤ span.to }
+    requires within { span.to ≤ length source.now }
+    ensures ok { IfSome result (λ r.
+        record_in version (fields_in (slice_range source.now span.from span.to)) ≡ Ok (record_of r)) }
+    ensures lent { IfSome result (IsLentRecord source.now span) }
+{
+    let (letter, rest) = split_at_byte(field_at(source, span), b'|')?;
+    if is_amendment(letter.text) {
+        return None;
+    }
+    plain_behind(version, letter.text, rest, stamps)
+}
+
+/// The record that the line at this span is in a batch of that format, or the rule that its first bad field breaks.
+/// Each field is looked at by itself.
+#[inline(never)]
+pub fn read_exact<'a>(
     version: Version,
     source: &'a [u8],
     span: Span,
@@ -556,11 +617,34 @@ pub fn read_record<'a>(
                 amendment_behind(letter.text, rest)
             } else {
                 match version {
-                    Version::B1 => reading_behind(letter.text, rest),
+                    Version::B1 => exact_reading(letter.text, rest),
                     Version::B2 => reading_in_region(letter.text, rest),
                 }
             }
         }
         None => Err(BatchCode::Fields),
+    }
+}
+
+/// The record that the line at this span is in a batch of that format, or the rule that its first bad field breaks. What is not
+/// plain is read field by field, for its first fault.
+#[inline(never)]
+pub fn read_record<'a>(
+    version: Version,
+    source: &'a [u8],
+    span: Span,
+) -> Result<Record<'a>, BatchCode>
+    requires ordered { span.from ≤ span.to }
+    requires within { span.to ≤ length source.now }
+    requires short { length source.now ≤ 65536 }
+    ensures ok { IfOk result (λ r.
+        record_in version (fields_in (slice_range source.now span.from span.to)) ≡ Ok (record_of r)) }
+    ensures err { IfErr result (λ e.
+        record_in version (fields_in (slice_range source.now span.from span.to)) ≡ Err e) }
+    ensures lent { IfOk result (IsLentRecord source.now span) }
+{
+    match read_plain(version, source, span, &mut StampReader::new()) {
+        Some(record) => Ok(record),
+        None => read_exact(version, source, span),
     }
 }

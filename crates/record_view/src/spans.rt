@@ -43,6 +43,7 @@ fn amendment_spans(source: &[u8], line: Span) -> Option<[Span; 10]>
 }
 
 /// Where the tags of a line end, and where its region stands: before the line's end, or else nowhere.
+#[inline(always)]
 fn last_spans(line: Span, region: Option<Field<'_>>) -> (u32, Span)
     requires { IfSome region (λ f. 0 < f.span.from) }
     ensures { MatchOption region.entry
@@ -58,6 +59,7 @@ fn last_spans(line: Span, region: Option<Field<'_>>) -> (u32, Span)
 /// The spans of the fields of a record that was read from that line in a batch of that format, from left to right: nine of a
 /// reading, or ten with its region, and four of an amendment, with nothing meant by those behind them. A reading isn't
 /// looked through again.
+#[inline(always)]
 pub fn field_spans(version: Version, source: &[u8], line: Span, what: &Record<'_>) -> [Span; 10]
     requires ordered { line.from ≤ line.to }
     requires within { line.to ≤ length source.now }

@@ -1,6 +1,8 @@
 -- The fields of a line behind its letter.
-use Rattle.std.specs.Prelude.{ℕ, List, [], ◌∷◌, Some, None, is_some, IsTrue, Result}
+use Rattle.std.specs.Prelude.{◌≡◌, ℕ, ◌+◌, List, [], ◌∷◌, ◌++◌, Option, Some, None, is_some, IsTrue, Result, MatchOption}
 use Rattle.metering_model.specs.declared.BatchCode.{BatchCode}
+use Rattle.metering_model.specs.declared.Version.{Version}
+use Rattle.metering_model.specs.declared.Version.TheVariants.{B1, B2}
 use Rattle.metering_model.specs.Batch as model
 use Rattle.metering_model.specs.Batch.{is_text}
 use Rattle.metering_model.specs.Dates.{stamp_in}
@@ -8,7 +10,7 @@ use Rattle.record_view.specs.declared.fields.Field.{Field}
 use Rattle.record_view.specs.declared.records.Record as lent_record
 use Rattle.record_view.specs.declared.records.ReadingFields.{ReadingFields}
 use Rattle.record_view.specs.declared.records.AmendmentFields.{AmendmentFields}
-use Rattle.record_view.specs.Parts.{LentText, lent}
+use Rattle.record_view.specs.Parts.{LentText, lent, parts_at}
 use Rattle.record_view.specs.Inner.Placed.{IsPlaced}
 use Rattle.record_view.specs.TagTexts.{tags_at}
 use Rattle.record_view.specs.Lent.{lent_texts}
@@ -40,6 +42,15 @@ record_of_amendment f = amendment_in f.seq.text.now f.index.text.now f.value.tex
 abbrev pub in_region : Field → lent_record.Record → lent_record.Record
 in_region f (lent_record.TheVariants.Reading r) = lent_record.TheVariants.Reading (record r { region = Some f })
 in_region f (lent_record.TheVariants.Amend seq index value) = lent_record.TheVariants.Amend seq index value
+
+-- What stands before the region of a line, and the region: of format B1 all, and none.
+pub record IsBehind (rest front : LentText) (region : Field) : Type 0 where
+  pub parts : parts_at 124 rest ≡ parts_at 124 front ++ lent region ∷ []
+  pub adjoin : region.span.from ≡ front.to + 1
+
+abbrev pub IsBeforeRegion : Version → LentText → LentText → Option Field → Type 0
+IsBeforeRegion B1 rest front region = (front ≡ rest) × (region ≡ None)
+IsBeforeRegion B2 rest front region = MatchOption region ⊥ (IsBehind rest front)
 
 -- both stamps are stamps
 abbrev pub HaveStamps : ReadingFields → Type 0

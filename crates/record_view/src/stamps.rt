@@ -1,0 +1,74 @@
+//! The stamps of readings that follow one another.
+
+ghost use Rattle.std.specs.Prelude.{◌≡◌, Some, IfSome};
+ghost use Rattle.std.specs.Option.{option_zip};
+ghost use Rattle.metering_model.specs.Dates.{stamp_in};
+
+use utc_calendar::Stamp;
+
+/// Two stamps, and the texts that they were read in.
+#[derive(Clone, Copy)]
+struct KnownStamps<'a> {
+    first: &'a [u8],
+    second: &'a [u8],
+    start: Stamp,
+    end: Stamp,
+    ghost start_is: { stamp_in first.now ≡ Some start },
+    ghost end_is: { stamp_in second.now ≡ Some end },
+}
+
+impl<'a> KnownStamps<'a> {
+    /// The stamps, where these texts are the ones that they were read in.
+    #[inline(always)]
+    fn of(&self, first: &[u8], second: &[u8]) -> Option<(Stamp, Stamp)>
+        ensures { IfSome result (λ stamps. Some stamps ≡ option_zip (stamp_in first.now) (stamp_in second.now)) }
+    {
+        if first == self.first && second == self.second {
+            Some((self.start, self.end))
+        } else {
+            None
+        }
+    }
+}
+
+/// Reads the stamps of readings by twos. Those that stand as the two before them did are not read anew: in a batch many readings
+/// of one hour follow one another.
+#[derive(Clone, Copy)]
+pub struct StampReader<'a> {
+    last: Option<KnownStamps<'a>>,
+}
+
+impl<'a> StampReader<'a> {
+    /// One that has read none.
+    pub fn new() -> StampReader<'a> {
+        StampReader { last: None }
+    }
+
+    /// Both stamps, each as `Stamp::read` does; None where either is none.
+    #[inline(always)]
+    pub fn read_both(&mut self, first: &'a [u8], second: &'a [u8]) -> Option<(Stamp, Stamp)>
+        ensures { result ≡ option_zip (stamp_in first.now) (stamp_in second.now) }
+    {
+        if let Some(known) = &self.last
+            && let Some(stamps) = known.of(first, second)
+        {
+            return Some(stamps);
+        }
+        self.read_anew(first, second)
+    }
+
+    /// Both stamps, which are kept for the next two. Apart, so that the path of stamps that were read stays short.
+    #[inline(never)]
+    fn read_anew(&mut self, first: &'a [u8], second: &'a [u8]) -> Option<(Stamp, Stamp)>
+        ensures { result ≡ option_zip (stamp_in first.now) (stamp_in second.now) }
+    {
+        let (start, end) = Stamp::read_both(first, second)?;
+        self.last = Some(KnownStamps {
+            first,
+            second,
+            start,
+            end,
+        });
+        Some((start, end))
+    }
+}
