@@ -11,7 +11,7 @@ use Rattle.fx_money.specs.Inner.Cuts.{IsCutTo}
 power_more : (p : ℕ) → 10 ^ suc p ≡ 10 * 10 ^ p
 power_more p = omega (arith, pow-suc 10 p)
 
-power_positive : (p : ℕ) → 0 < 10 ^ p
+pub power_positive : (p : ℕ) → 0 < 10 ^ p
 power_positive zero = omega arith
 power_positive (suc p) = omega (arith, power_more p, power_positive p)
 

@@ -14,7 +14,7 @@ pub record IsDigit (c : ℕ) : Type 0 where
   pub low : 48 ≤ c
   pub high : c ≤ 57
 
-IsDigit-from_test : (c : ℕ) → is_digit c ≡ true → IsDigit c
+pub IsDigit-from_test : (c : ℕ) → is_digit c ≡ true → IsDigit c
 IsDigit-from_test c h = record { low = grind (arith, nat_tests); high = grind (arith, nat_tests) }
 
 -- what stands from a place on is the byte there and what stands behind it
@@ -30,7 +30,7 @@ digits_behind ds i lt all = (and_parts _ _ (digits_from ds i lt all)).1
 -- ---- the number that digits write
 
 -- what n becomes by further digits
-abbrev number_after : ℕ → List ℕ → ℕ
+abbrev pub number_after : ℕ → List ℕ → ℕ
 number_after n ds = fold (λ n c. 10 * n + (c - 48)) n ds
 
 number_after_grows : (n : ℕ) (ds : List ℕ) → n ≤ number_after n ds
@@ -57,12 +57,12 @@ read_so_far ds i n r = omega (arith, number_after_grows n (drop i ds), r.whole)
 power_step : (p : ℕ) → 10 ^ (p + 1) ≡ 10 * 10 ^ p
 power_step p = rw add-one (omega (arith, pow-suc 10 p))
 
-worth_none : (p : ℕ) → worth_of p [] ≡ 0
+pub worth_none : (p : ℕ) → worth_of p [] ≡ 0
 unfolding worth_of
 worth_none zero = refl
 worth_none (suc p) = refl
 
-worth_cons : (p c : ℕ) (cs : List ℕ) → worth_of (p + 1) (c ∷ cs) ≡ (c - 48) * 10 ^ p + worth_of p cs
+pub worth_cons : (p c : ℕ) (cs : List ℕ) → worth_of (p + 1) (c ∷ cs) ≡ (c - 48) * 10 ^ p + worth_of p cs
 unfolding worth_of
 worth_cons p c cs = rw add-one refl
 

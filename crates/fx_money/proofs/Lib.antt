@@ -4,4 +4,5 @@ pub mod Decimals
 pub mod Digits
 pub mod Points
 pub mod Signs
+pub mod Usual
 pub mod Whole

@@ -1,6 +1,6 @@
 //! Decimals of six places, read without taking memory: each text is looked at where it stands.
 
-ghost use Rattle.std.specs.Prelude.{◌≡◌, ◌<◌, ◌≤◌, ◌^◌, IsTrue, IfOk, Some, MatchOption, position};
+ghost use Rattle.std.specs.Prelude.{◌≡◌, ◌-◌, ◌<◌, ◌≤◌, ◌^◌, IsTrue, IfOk, IfSome, Some, MatchOption, position, length, take};
 ghost use Rattle.std.specs.List.{list_all, before_first, after_first};
 ghost use Rattle.metering_model.specs.NumberText.{is_digit, is_point, is_whole_part, is_decimal_part, ends_in, number_of, worth_of, units_of, magnitude_in, negated, not_negated, value_limit, value_within, value_in};
 ghost use Rattle.fx_money.specs.Inner.Limits.{below_limit};
@@ -112,8 +112,9 @@ fn units(whole: &[u8], decimals: &[u8], limit: u64) -> Result<u64, NumberFault>
     }
 }
 
-/// The millionths of a decimal without sign, where they are below the limit.
-pub(crate) fn magnitude(body: &[u8], limit: u64) -> Result<u64, NumberFault>
+/// The same as `magnitude`, part for part, and so of a text of any form.
+#[inline(never)]
+fn exact_magnitude(body: &[u8], limit: u64) -> Result<u64, NumberFault>
     requires { limit ≤ value_limit }
     ensures { result ≡ below_limit limit (magnitude_in 6 body.now) }
 {
@@ -122,6 +123,88 @@ pub(crate) fn magnitude(body: &[u8], limit: u64) -> Result<u64, NumberFault>
         units(whole, decimals, limit)
     } else {
         Err(NumberFault::Shape)
+    }
+}
+
+/// How many of the first bytes are digits, of which at most so many are read, and the number that they write.
+#[inline(always)]
+fn leading(text: &[u8], most: usize) -> (u64, usize)
+    requires { most ≤ 12 }
+    ensures within { result.1 ≤ length text.now }
+    ensures few { result.1 ≤ most }
+    ensures digits { IsTrue (list_all is_digit (take result.1 text.now)) }
+    ensures number { result.0 ≡ number_of (take result.1 text.now) }
+    ensures small { result.0 < 10 ^ result.1 }
+{
+    let mut number = 0;
+    let mut count = 0;
+    while count < most && count < text.len() && is_digit(text[count]) {
+        number = 10 * number + u64::from(text[count] - b'0');
+        count += 1;
+    }
+    (number, count)
+}
+
+/// The millionths that the last of so many decimals counts.
+#[inline(always)]
+fn last_unit(few: usize) -> u64
+    requires { few ≤ 6 }
+    ensures { result ≡ 10 ^ (6 - few) }
+{
+    match few {
+        0 => 1_000_000,
+        1 => 100_000,
+        2 => 10_000,
+        3 => 1000,
+        4 => 100,
+        5 => 10,
+        _ => 1,
+    }
+}
+
+/// The millionths of decimals in the usual form. None says nothing.
+#[inline(always)]
+fn usual_decimals(decimals: &[u8]) -> Option<u64>
+    ensures form { IfSome result (λ n. IsTrue (is_decimal_part 6 decimals.now)) }
+    ensures some { IfSome result (λ n. 0 < length decimals.now) }
+    ensures value { IfSome result (λ n. n ≡ worth_of 6 decimals.now) }
+    ensures small { IfSome result (λ n. n < 10 ^ 6) }
+{
+    let (part, few) = leading(decimals, PLACES);
+    if few == 0 || few < decimals.len() || decimals[few - 1] == b'0' {
+        return None;
+    }
+    Some(part * last_unit(few))
+}
+
+/// The millionths of a number in the usual form. None says nothing.
+#[inline(always)]
+fn usual_magnitude(body: &[u8]) -> Option<u64>
+    ensures { IfSome result (λ n. magnitude_in 6 body.now ≡ Some n) }
+{
+    let (whole, many) = leading(body, 12);
+    if many == 0 || (many > 1 && body[0] == b'0') {
+        return None;
+    }
+    if many == body.len() {
+        return Some(whole * MILLION);
+    }
+    if body[many] != b'.' {
+        return None;
+    }
+    let part = usual_decimals(&body[many + 1..])?;
+    Some(whole * MILLION + part)
+}
+
+/// The millionths of a decimal without sign, where they are below the limit.
+pub(crate) fn magnitude(body: &[u8], limit: u64) -> Result<u64, NumberFault>
+    requires { limit ≤ value_limit }
+    ensures { result ≡ below_limit limit (magnitude_in 6 body.now) }
+{
+    match usual_magnitude(body) {
+        Some(millionths) if millionths < limit => Ok(millionths),
+        Some(_) => Err(NumberFault::Range),
+        None => exact_magnitude(body, limit),
     }
 }
 
