@@ -9,7 +9,7 @@ pub mod SpanLaws
 pub mod LastPart
 pub mod RegionLines
 pub mod PlainLaws
-pub mod ValueLaws
+pub mod PlainTags
 pub mod KeptLaws
 pub mod PlainLines
 pub mod StampLaws

@@ -17,7 +17,7 @@ use Rattle.byte_text.proofs.FirstPlace.{position_is}
 
 -- ---- one byte
 
-goes_on : (byte c : ℕ) → stops_at byte c ≡ false → is_plain_byte c ≡ true
+pub goes_on : (byte c : ℕ) → stops_at byte c ≡ false → is_plain_byte c ≡ true
 goes_on byte c h = grind (arith, nat_tests)
 
 is_other : (byte c : ℕ) → stops_at byte c ≡ false → (c == byte) ≡ false

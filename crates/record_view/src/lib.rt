@@ -14,7 +14,6 @@ pub use utc_calendar::{Day, Stamp, calendar, dates};
 mod fields;
 mod kept;
 pub mod laws;
-mod numbers;
 mod plain;
 mod records;
 mod spans;

@@ -1,6 +1,6 @@
 //! Fields of plain text. A byte that is not plain is left to the exact reader.
 
-ghost use Rattle.std.specs.Prelude.{◌≡◌, ◌<◌, ◌≤◌, ◌+◌, ◌==◌, ◌∷◌, ℕ, slice_index, false, length, position, IfSome, IfNone, IsTrue, is_some};
+ghost use Rattle.std.specs.Prelude.{◌≡◌, ◌<◌, ◌≤◌, ◌+◌, ◌==◌, ◌∷◌, ℕ, slice_index, false, length, position, Some, IfSome, IfNone, IsTrue, is_some};
 ghost use Rattle.std.specs.List.{list_any};
 ghost use Rattle.metering_model.specs.Dates.{stamp_in};
 ghost use Rattle.record_view.specs.Parts.{lent, parts_at};
@@ -152,7 +152,7 @@ fn long_part_end(text: &[u8]) -> Option<usize>
 
 /// Where the first byte stands that is `;` or is not plain, found in steps of many bytes where there are as many.
 #[inline(always)]
-fn part_end(text: &[u8]) -> Option<usize>
+pub(crate) fn part_end(text: &[u8]) -> Option<usize>
     ensures { result ≡ position (stops_at 59) text.now }
 {
     if text.len() >= LANES {
@@ -168,6 +168,63 @@ fn part_end(text: &[u8]) -> Option<usize>
     part_end_by_bytes(text)
 }
 
+/// How many of the first bytes are no `=` before one is: all of them tested at once.
+#[inline(always)]
+fn key_run(text: &[u8]) -> usize
+    requires { 8 ≤ length text.now }
+    ensures { IsRun (λ c. c == 61) text.now 8 result }
+{
+    let equals = u8x8::from_slice(text).simd_eq(u8x8::splat(b'='));
+    lowest_set(equals.to_bitmask(), FEW_LANES)
+}
+
+/// The same of twice as many.
+#[inline(always)]
+fn long_key_run(text: &[u8]) -> usize
+    requires { 16 ≤ length text.now }
+    ensures { IsRun (λ c. c == 61) text.now 16 result }
+{
+    let equals = u8x16::from_slice(text).simd_eq(u8x16::splat(b'='));
+    lowest_set(equals.to_bitmask(), LANES)
+}
+
+/// Where the first `=` stands, byte by byte.
+fn first_equals(text: &[u8]) -> Option<usize>
+    ensures { result ≡ position (λ c. c == 61) text.now }
+{
+    text.iter().position(|c| *c == b'=')
+}
+
+/// The same, or where the text ends.
+#[inline(never)]
+fn key_end_by_bytes(text: &[u8]) -> usize
+    ensures { result < length text.now → position (λ c. c == 61) text.now ≡ Some result }
+{
+    match first_equals(text) {
+        Some(at) => at,
+        None => text.len(),
+    }
+}
+
+/// The same. Where it is near, it is found in one step.
+#[inline(always)]
+pub(crate) fn key_end(text: &[u8]) -> usize
+    ensures { result < length text.now → position (λ c. c == 61) text.now ≡ Some result }
+{
+    if text.len() >= LANES {
+        let run = long_key_run(text);
+        if run < LANES {
+            return run;
+        }
+    } else if text.len() >= FEW_LANES {
+        let run = key_run(text);
+        if run < FEW_LANES {
+            return run;
+        }
+    }
+    key_end_by_bytes(text)
+}
+
 /// Where the first byte stands that is this one, or is not plain.
 #[inline(always)]
 fn first_stop(text: &[u8], byte: u8) -> Option<usize>
@@ -175,18 +232,10 @@ fn first_stop(text: &[u8], byte: u8) -> Option<usize>
 {
     match byte {
         b'|' => first_special(text),
-        b';' => part_end(text),
         _ => text
             .iter()
             .position(|c| *c < 0x20 || *c >= 0x7C || *c == byte),
     }
-}
-
-/// Whether each byte is plain.
-pub(crate) fn is_plain(text: &[u8]) -> bool
-    ensures { result ≡ is_plain text.now }
-{
-    text.iter().all(|c| *c >= 0x20 && *c < 0x7C)
 }
 
 /// What stands before and behind the first such byte of a text, where all that stands before it is

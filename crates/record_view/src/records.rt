@@ -14,7 +14,6 @@ ghost use Rattle.record_view.specs.Lent.{lent_tags, reading_tags, reading_region
 ghost use Rattle.record_view.specs.Inner.LineFields.{reading_parts, amendment_parts, field_texts, record_of_reading, record_of_amendment, in_region, IsBeforeRegion, HaveStamps, ArePlainFields};
 
 use crate::fields::{Field, Span, field_at, is_text, split_at_byte, split_at_last};
-use crate::numbers::read_value;
 use crate::plain::{split_plain, split_stamp};
 use crate::stamps::StampReader;
 use crate::tags::{Tags, are_plain_tags};
@@ -149,7 +148,7 @@ fn check_key(text: &[u8]) -> Result<(), BatchCode>
 fn read_number(text: &[u8]) -> Result<Value, BatchCode>
     ensures { result ≡ value_step text.now }
 {
-    read_value(text).ok_or(BatchCode::Number)
+    Value::read(text).ok().ok_or(BatchCode::Number)
 }
 
 #[tactic(auto, unfolding(crate::specs::Inner::RecordSteps::sign_step))]

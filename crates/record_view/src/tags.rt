@@ -1,6 +1,6 @@
 //! The tags of a reading.
 
-ghost use Rattle.std.specs.Prelude.{◌≡◌, ◌==◌, ◌∷◌, [], false, map, IsTrue, OnSome, IfSome, MatchOption, Some, length, ◌<◌};
+ghost use Rattle.std.specs.Prelude.{◌≡◌, ◌==◌, ◌∷◌, [], false, map, IsTrue, OnSome, IfSome, MatchOption, Some, length, take, ◌<◌, ◌≤◌};
 ghost use Rattle.std.specs.Option.{option_copied, option_map};
 ghost use Rattle.std.specs.List.{list_any};
 ghost use Rattle.metering_model.specs.Batch.{is_below, is_text};
@@ -11,8 +11,8 @@ ghost use Rattle.record_view.specs.Inner.Plain.{is_plain};
 ghost use Rattle.record_view.specs.TagTexts.{tag_of, tags_at};
 ghost use Rattle.record_view.specs.Inner.TagParts.{are_tags, key_in, if_above, rise_from, IsFirstPart};
 
-use crate::fields::{Field, Span, is_text, split_at_byte};
-use crate::plain::{is_plain, split_plain};
+use crate::fields::{Field, Span, cut, is_text, split_at_byte};
+use crate::plain::{key_end, part_end};
 
 /// The tags of a reading, by rising keys: pairs of key and value.
 #[derive(Clone, Copy)]
@@ -89,15 +89,47 @@ fn are_tags(text: Field<'_>) -> bool
     text.text.is_empty() || keys_rise(text)
 }
 
-/// The key of a tag of plain bytes, if it is above the last one.
-#[tactic(auto, using(crate::proofs::PlainLaws::plain_text))]
-fn plain_key_above<'a>(last: &[u8], part: Field<'a>) -> Option<&'a [u8]>
-    requires placed { IsPlaced (lent part) }
-    requires plain { IsTrue (is_plain part.text.now) }
-    ensures { option_copied result ≡ if_above last.now (key_in part.entry.text.now) }
+/// Whether the first text is below the second. Most texts differ in their first bytes.
+#[inline(always)]
+fn is_soon_below(first: &[u8], second: &[u8]) -> bool
+    ensures { IsTrue result → IsTrue (is_below first.now second.now) }
 {
-    let key = text_key(part)?;
-    if is_below(last, key) { Some(key) } else { None }
+    if second.is_empty() {
+        return false;
+    }
+    if first.is_empty() || first[0] < second[0] {
+        return true;
+    }
+    first[0] == second[0] && is_below(first, second)
+}
+
+/// The key of the tag that the bytes before a place are, if they are one. They are plain.
+#[inline(always)]
+fn plain_key(text: &[u8], end: usize) -> Option<&[u8]>
+    requires within { end ≤ length text.now }
+    requires plain { IsTrue (is_plain (take end text.now)) }
+    ensures { IfSome result (λ key. key_in (take end text.now) ≡ Some key.now) }
+{
+    let at = key_end(text);
+    if at == 0 || at >= end {
+        return None;
+    }
+    Some(&text[..at])
+}
+
+/// The same, if it is above the last one.
+#[inline(always)]
+fn plain_key_above<'a>(last: &[u8], text: &'a [u8], end: usize) -> Option<&'a [u8]>
+    requires within { end ≤ length text.now }
+    requires plain { IsTrue (is_plain (take end text.now)) }
+    ensures { IfSome result (λ key. if_above last.now (key_in (take end text.now)) ≡ Some key.now) }
+{
+    let key = plain_key(text, end)?;
+    if is_soon_below(last, key) {
+        Some(key)
+    } else {
+        None
+    }
 }
 
 /// Whether all bytes are plain, and the parts between `;` are tags whose keys rise.
@@ -108,14 +140,17 @@ fn plain_keys_rise(text: Field<'_>) -> bool
 {
     let mut last: &[u8] = &[];
     let mut rest = text;
-    while let Some((part, after)) = split_plain(rest, b';') {
-        match plain_key_above(last, part) {
+    while let Some(end) = part_end(rest.text) {
+        if rest.text[end] != b';' {
+            return false;
+        }
+        match plain_key_above(last, rest.text, end) {
             Some(key) => last = key,
             None => return false,
         }
-        rest = after;
+        rest = cut(rest, end).1;
     }
-    is_plain(rest.text) && plain_key_above(last, rest).is_some()
+    plain_key_above(last, rest.text, rest.text.len()).is_some()
 }
 
 /// Whether all bytes are plain, and the text is empty or tags.

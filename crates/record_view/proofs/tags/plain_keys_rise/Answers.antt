@@ -1,28 +1,64 @@
--- The last part is plain and has no `;`, so it is the only one that is left.
-use Rattle.std.proofs.Common.{◌≡◌, Option, Some, None, is_some, Bor, refl, ◌∙◌, sym, ap}
-use Rattle.std.specs.Option.{option_copied}
-use Rattle.record_view.specs.Parts.{lent}
-use Rattle.record_view.proofs.PlainLaws.{plain_no_bar}
+-- What is passed of the parts is plain, and the last one, in which the scan finds no end, is the only one that is left.
+use Rattle.std.proofs.Common.{◌≡◌, ◌==◌, true, Option, Some, None, is_some, List, ℕ, Bor, length, take, ◌∙◌, sym, ap, arith}
+use Rattle.std.specs.Prelude.{IfSome}
+use Rattle.std.specs.List.{list_any}
+use Rattle.std.proofs.lemmas.Bool.{false≢true}
+use Rattle.std.proofs.lemmas.List.{take_all}
+use Rattle.record_view.specs.Parts.{lent, parts_at}
+use Rattle.record_view.specs.Inner.Plain.{is_plain, stops_at}
+use Rattle.record_view.specs.Inner.TagParts.{key_in, if_above, rise_from}
+use Rattle.record_view.proofs.PartLaws.{found_at, parts_cut, placed_cut}
+use Rattle.record_view.proofs.PlainLaws.{plain_no_bar, first_is, front_plain, bars_behind, none_found}
+use Rattle.record_view.proofs.PlainTags.{all_plain}
 use Rattle.record_view.proofs.TagLaws.{last_rises}
 use Rattle.record_view.proofs.tags.plain_keys_rise.Goals as goal
 
-copied_some : {A : Type 0} (o : Option (Bor A)) (k : Option A) → option_copied o ≡ k → is_some k ≡ is_some o
-copied_some {A = A} o k e = sym (ap is_some e) ∙ both o
-  where
-    both : (o : Option (Bor A)) → is_some (option_copied o) ≡ is_some o
-    both None = refl
-    both (Some x) = refl
+some_when : (o : Option (Bor (List ℕ))) (k : Option (List ℕ)) → IfSome o (λ x. k ≡ Some x.now) → is_some o ≡ true → is_some k ≡ true
+some_when None k h some = absurd (false≢true some)
+some_when (Some x) k h some = ap is_some h
 
-pub returns-then-is_plain-clause-rise : goal.returns-then-is_plain-clause-rise
-returns-then-is_plain-clause-rise c = λ yes.
-    let plain = sym c.is_plain.ensures ∙ c.if-is_plain.true in
-    let rest = lent c.loop-part.rest in
-    sym c.loop-part.invariant.rises
-    ∙ last_rises c.loop-part.last.now rest c.loop-part.invariant.placed (c.in_default.ensures.none plain)
-    ∙ copied_some c.plain_key_above-then-is_plain.result _ c.plain_key_above-then-is_plain.ensures
-    ∙ sym c.is_some.ensures
-    ∙ yes
+take_whole : (t : List ℕ) → take (length t) t ≡ t
+take_whole t = take_all (length t) t (omega arith)
 
-pub returns-then-is_plain-clause-bars : goal.returns-then-is_plain-clause-bars
-returns-then-is_plain-clause-bars c = λ yes.
-    c.loop-part.invariant.bars ∙ plain_no_bar c.loop-part.rest.text.now (sym c.is_plain.ensures ∙ c.if-is_plain.true)
+pub plain_key_above-requires-clause-plain : goal.plain_key_above-requires-clause-plain
+plain_key_above-requires-clause-plain c = front_plain 59 c.loop-end.rest.text.now c.in-Some.end (sym c.in-Some.ensures)
+
+pub loop-end-preserved : goal.loop-end-preserved
+loop-end-preserved c =
+    let rest = lent c.loop-end.rest in
+    let end = c.in-Some.end in
+    let behind = lent c.cut.result.1 in
+    let at = sym c.in-Some.ensures in
+    let within = (found_at (stops_at 59) rest.text end at).1 in
+    let cut = parts_cut 59 end rest _ _ c.cut.ensures.before c.cut.ensures.after (first_is 59 rest.text end at c.if-rest-end-ne59.false) in
+    let key = ap (λ t. if_above c.loop-end.last.now (key_in t.text)) c.cut.ensures.before ∙ c.in-Some-plain_key_above.ensures in
+    record {
+      placed = (placed_cut end rest _ _ c.cut.ensures.before c.cut.ensures.after c.loop-end.invariant.placed within).1;
+      rises =
+          sym (ap (λ o. rise_from o (parts_at 59 behind)) key)
+          ∙ sym (ap (rise_from (Some c.loop-end.last.now)) cut)
+          ∙ c.loop-end.invariant.rises;
+      bars =
+          c.loop-end.invariant.bars
+          ∙ bars_behind rest.text end within (front_plain 59 rest.text end at) (ap (λ x. x == 124) c.if-rest-end-ne59.false)
+          ∙ ap (λ t. list_any (λ x. x == 124) t.text) (sym c.cut.ensures.after);
+    }
+
+pub plain_key_above-requires-2-clause-plain : goal.plain_key_above-requires-2-clause-plain
+plain_key_above-requires-2-clause-plain c =
+    let rest = c.loop-end.rest.text.now in
+    ap is_plain (take_whole rest) ∙ all_plain 59 rest (sym c.in_default.ensures)
+
+pub returns-clause-rise : goal.returns-clause-rise
+returns-clause-rise c = λ yes.
+    let rest = lent c.loop-end.rest in
+    let last = c.loop-end.last.now in
+    sym c.loop-end.invariant.rises
+    ∙ last_rises last rest c.loop-end.invariant.placed (none_found 59 rest.text (sym c.in_default.ensures))
+    ∙ ap (λ t. is_some (if_above last (key_in t))) (sym (take_whole rest.text))
+    ∙ some_when c.plain_key_above-2.result _ c.plain_key_above-2.ensures (sym c.is_some.ensures ∙ yes)
+
+pub returns-clause-bars : goal.returns-clause-bars
+returns-clause-bars c = λ yes.
+    let rest = c.loop-end.rest.text.now in
+    c.loop-end.invariant.bars ∙ plain_no_bar rest (all_plain 59 rest (sym c.in_default.ensures))

@@ -6,12 +6,12 @@ use Rattle.record_view.specs.Inner.Placed.{IsPlaced}
 use Rattle.record_view.specs.Inner.TagParts.{rise_from}
 use Rattle.record_view.proofs.tags.plain_keys_rise.Given as goal
 
-abbrev pub invariant-loop-part : goal.invariant-loop-part
-invariant-loop-part l = record {
+abbrev pub invariant-loop-end : goal.invariant-loop-end
+invariant-loop-end l = record {
   placed : IsPlaced (lent l.rest);
   rises : rise_from (Some l.last) (parts_at 59 (lent l.rest)) ≡ rise_from (Some []) (parts_at 59 (lent l.text));
   bars : list_any (λ c. c == 124) l.text.text.now ≡ list_any (λ c. c == 124) l.rest.text.now;
 }
 
-abbrev pub decreases-loop-part : goal.decreases-loop-part
-decreases-loop-part l = length l.rest.text.now
+abbrev pub decreases-loop-end : goal.decreases-loop-end
+decreases-loop-end l = length l.rest.text.now
