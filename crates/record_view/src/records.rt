@@ -595,7 +595,7 @@ pub fn read_plain<'a>(
 
 /// The record that the line at this span is in a batch of that format, or the rule that its first bad field breaks.
 /// Each field is looked at by itself.
-#[inline(never)]
+#[inline(always)]
 pub fn read_exact<'a>(
     version: Version,
     source: &'a [u8],
