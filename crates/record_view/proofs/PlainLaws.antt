@@ -1,11 +1,11 @@
 -- What a scan of plain text has passed.
 use Rattle.std.proofs.Common.{◌≡◌, ℕ, zero, suc, ◌+◌, ◌<◌, ◌≤◌, ◌==◌, ◌||◌, Bool, true, false, List, [], ◌∷◌, ◌++◌, Option, Some, None, is_some, length, take, drop, get_or, refl, sym, ap, ◌∙◌, arith, drop-cons, ℤ}
-use Rattle.std.specs.List.{list_any, list_all, position, position_or_len}
+use Rattle.std.specs.List.{list_any, list_all, position}
 use Rattle.std.proofs.lemmas.Bool.{or_parts, and_parts, and_from, false≢true, false_from_ne_true, eqb-true, eq-eqb}
 use Rattle.std.proofs.lemmas.Bool.Decides.{nat_tests}
 use Rattle.std.proofs.lemmas.List.{take-append-drop, get_or-take, length-take-le}
 use Rattle.std.proofs.lemmas.List.Folds.{list_all_more, list_all_at, list_any-append}
-use Rattle.std.proofs.lemmas.List.Sums.{fails_before_first, passes_at_first}
+use Rattle.std.proofs.lemmas.List.Sums.{fails_before_first}
 use Rattle.metering_model.specs.Batch.{is_text, is_text_byte}
 use Rattle.metering_model.specs.Dates.{stamp_in}
 use Rattle.metering_model.proofs.Splitting.{list_all_weaker}
@@ -22,9 +22,6 @@ goes_on byte c h = grind (arith, nat_tests)
 
 is_other : (byte c : ℕ) → stops_at byte c ≡ false → (c == byte) ≡ false
 is_other byte c h = grind (arith, nat_tests)
-
-stops_there : (byte c : ℕ) → stops_at byte c ≡ true → (c == byte) ≡ false → is_plain_byte c ≡ false
-stops_there byte c h k = grind (arith, nat_tests)
 
 no_bar : (c : ℕ) → is_plain_byte c ≡ true → (c == 124) ≡ false
 no_bar c h = grind (arith, nat_tests)
@@ -88,15 +85,6 @@ none_weaker p q f (x ∷ xs) h =
 
 pub none_found : (byte : ℕ) (ts : List ℕ) → position (stops_at byte) ts ≡ None → list_any (λ c. c == byte) ts ≡ false
 none_found byte ts h = none_weaker (stops_at byte) (λ c. c == byte) (is_other byte) ts (sym (found_any (stops_at byte) ts) ∙ ap is_some h)
-
--- a scan of a plain text stops at the byte alone
-pub stops_in_plain : (byte : ℕ) (ts : List ℕ) (i : ℕ) → position (stops_at byte) ts ≡ Some i → (get_or ts i 0 ≡ byte → ⊥) → is_plain ts ≡ false
-stops_in_plain byte ts i h other =
-    let found = found_at (stops_at byte) ts i h in
-    let within : position_or_len (stops_at byte) ts < length ts = omega arith in
-    let here = ap (λ k. stops_at byte (get_or ts k 0)) (sym found.0) ∙ passes_at_first (stops_at byte) ts 0 within in
-    let differs = false_from_ne_true _ (λ e. other (eqb-true _ _ e)) in
-    list_all_at is_plain_byte ts i 0 found.1 (stops_there byte _ here differs)
 
 -- ---- a stamp before a bar
 

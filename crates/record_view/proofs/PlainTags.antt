@@ -1,52 +1,98 @@
 -- The key of a tag of plain bytes, found in a text that goes on behind it.
 use Rattle.std.proofs.Common.{◌≡◌, ℕ, zero, suc, ◌<◌, ◌≤◌, ◌==◌, ◌&&◌, Bool, true, false, not, Some, None, is_some, List, [], ◌∷◌, length, take, get_or, refl, sym, ap, ◌∙◌, arith}
+use Rattle.std.specs.Prelude.{if◌then◌else◌}
 use Rattle.std.specs.List.{list_any, position, position_or_len, before_first, after_first}
 use Rattle.std.specs.Option.{option_map}
-use Rattle.std.proofs.lemmas.Bool.{and_from, or_parts, cond-true}
-use Rattle.std.proofs.lemmas.List.{get_or-take, length-take-le}
-use Rattle.std.proofs.lemmas.List.Sums.{fails_before_first, passes_at_first}
-use Rattle.metering_model.specs.Batch.{is_text, is_empty}
+use Rattle.std.proofs.lemmas.Bool.{and_from, or_parts, cond-true, true≢false, le-ltb, lt-ltb, ltb-false, ne_eqb, eq-eqb, eqb-true}
+use Rattle.std.proofs.lemmas.List.{get_or-take, length-take-le, take-take}
+use Rattle.std.proofs.lemmas.List.Sums.{fails_before_first, passes_at_first, position_or_len_is, prefix_len-le-length}
+use Rattle.metering_model.specs.Batch.{Tag, is_text, is_empty, is_below}
 use Rattle.metering_model.specs.BatchReading.{is_equals_sign}
+use Rattle.byte_text.proofs.FirstPlace.{position_is}
 use Rattle.record_view.specs.Inner.Plain.{is_plain, stops_at}
 use Rattle.record_view.specs.Inner.TagParts.{key_in}
-use Rattle.record_view.proofs.PartLaws.{found_any, found_at}
+use Rattle.record_view.proofs.PartLaws.{found_any, within_any}
 use Rattle.record_view.proofs.PlainLaws.{goes_on, plain_text}
-use Rattle.byte_text.proofs.FirstPlace.{position_is}
-
-take_less : (i e : ℕ) (t : List ℕ) → i ≤ e → take i (take e t) ≡ take i t
-take_less zero e t h = refl
-take_less (suc i) zero t h = absurd (omega arith)
-take_less (suc i) (suc e) [] h = refl
-take_less (suc i) (suc e) (c ∷ cs) h = ap (λ r. c ∷ r) (take_less i e cs (omega arith))
 
 -- the first that passes is the first also of a front that holds it
-first_in_front : (test : ℕ → Bool) (t : List ℕ) (i e : ℕ) → position test t ≡ Some i → i < e → e ≤ length t → position test (take e t) ≡ Some i
-first_in_front test t i e h within room =
-    let found = found_at test t i h in
-    let some : position_or_len test t < length t = omega arith in
-    position_is test (take e t) i (omega (arith, length-take-le e t room))
-    (λ k below. ap test (get_or-take e t k 0 (omega arith)) ∙ fails_before_first test t k 0 (omega arith))
-    (ap test (get_or-take e t i 0 within) ∙ ap (λ k. test (get_or t k 0)) (sym found.0) ∙ passes_at_first test t 0 some)
+first_in_front : (test : ℕ → Bool) (t : List ℕ) (e : ℕ) → e ≤ length t → position_or_len test t < e → position_or_len test (take e t) ≡ position_or_len test t
+first_in_front test t e room within =
+    position_or_len_is test (take e t) (position_or_len test t) 0 (omega (arith, length-take-le e t room))
+    (λ k below. ap test (get_or-take e t k 0 (omega arith)) ∙ fails_before_first test t k 0 below)
+    (λ _. ap test (get_or-take e t (position_or_len test t) 0 within) ∙ passes_at_first test t 0 (omega arith))
+
+-- a front that ends before it has none
+none_in_front : (test : ℕ → Bool) (t : List ℕ) (e : ℕ) → e ≤ length t → e ≤ position_or_len test t → list_any test (take e t) ≡ false
+none_in_front test t e room past =
+    let long = length-take-le e t room in
+    let all : position_or_len test (take e t) ≡ e = position_or_len_is test (take e t) e 0 (omega (arith, long))
+    (λ k below. ap test (get_or-take e t k 0 below) ∙ fails_before_first test t k 0 (omega arith))
+    (λ within. absurd (omega (arith, long, within))) in
+    sym (within_any test (take e t)) ∙ le-ltb (position_or_len test (take e t)) (length (take e t)) (omega (arith, long, all))
+
+-- where none was found, the place of the first is the end
+pub past_all : (test : ℕ → Bool) (t : List ℕ) → position test t ≡ None → position_or_len test t ≡ length t
+past_all test t h =
+    let none = ltb-false (position_or_len test t) (length t) (within_any test t ∙ sym (found_any test t) ∙ ap is_some h) in
+    omega (arith, none, prefix_len-le-length (λ x. not (test x)) t)
+
+-- a byte behind another one is the first of its kind
+pub second_is : (byte : ℕ) (t : List ℕ) → 1 < length t → (get_or t 0 0 ≡ byte → ⊥) → get_or t 1 0 ≡ byte → position (λ c. c == byte) t ≡ Some 1
+second_is byte t long other here =
+    position_is (λ c. c == byte) t 1 long (λ i below. ap (λ k. get_or t k 0 == byte) (omega arith) ∙ ne_eqb _ _ other) (eq-eqb _ _ here)
+
+-- no text is below the empty one
+pub none_below : (a b : List ℕ) → (length b == 0) ≡ true → is_below a b ≡ false
+none_below [] [] h = refl
+none_below (c ∷ cs) [] h = refl
+none_below a (c ∷ cs) h = absurd (omega (arith, eqb-true (length (c ∷ cs)) 0 h))
 
 some_text : (t : List ℕ) → 0 < length t → not (is_empty t) ≡ true
 some_text [] h = absurd (omega arith)
 some_text (c ∷ cs) h = refl
 
 -- what stands before the first `=` of plain bytes, if it is not empty, is their key
-key_of : (t : List ℕ) (i : ℕ) → position is_equals_sign t ≡ Some i → 0 < i → is_plain t ≡ true → key_in t ≡ Some (take i t)
-key_of t i h some plain =
-    let found = found_at is_equals_sign t i h in
+key_of : (t : List ℕ) → 0 < position_or_len is_equals_sign t → position_or_len is_equals_sign t < length t → is_plain t ≡ true → key_in t ≡ Some (before_first is_equals_sign t)
+key_of t some within plain =
     let key = before_first is_equals_sign t in
-    let is : key ≡ take i t = ap (λ n. take n t) found.0 in
-    let long : 0 < length key = omega (arith, ap length is, length-take-le i t (omega arith)) in
-    let tests = and_from _ _ (and_from _ _ (plain_text t plain) (sym (found_any is_equals_sign t) ∙ ap is_some h)) (some_text key long) in
+    let long : 0 < length key = omega (arith, length-take-le (position_or_len is_equals_sign t) t (omega arith)) in
+    let any = sym (within_any is_equals_sign t) ∙ lt-ltb (position_or_len is_equals_sign t) (length t) within in
+    let tests = and_from _ _ (and_from _ _ (plain_text t plain) any) (some_text key long) in
     ap (option_map (λ g. g.key)) (cond-true (is_text t && list_any is_equals_sign t && not (is_empty key)) (Some (record { key = key; value = after_first is_equals_sign t })) None tests)
-    ∙ ap Some is
 
-pub key_before : (t : List ℕ) (i e : ℕ) → position (λ c. c == 61) t ≡ Some i → 0 < i → i < e → e ≤ length t → is_plain (take e t) ≡ true
-    → key_in (take e t) ≡ Some (take i t)
-key_before t i e h some within room plain =
-    key_of (take e t) i (first_in_front is_equals_sign t i e h within room) some plain ∙ ap Some (take_less i e t (omega arith))
+key_if : (text any some : Bool) (tag : Tag) → (any && some) ≡ false → option_map (λ g. g.key) (if text && any && some then Some tag else None) ≡ None
+key_if false any some tag h = refl
+key_if true false some tag h = refl
+key_if true true false tag h = refl
+key_if true true true tag h = absurd (true≢false h)
+
+and_no : (b : Bool) → (b && false) ≡ false
+and_no true = refl
+and_no false = refl
+
+module _ (t : List ℕ) (e : ℕ) (room : e ≤ length t) where
+  pub key_before : 0 < position_or_len is_equals_sign t → position_or_len is_equals_sign t < e → is_plain (take e t) ≡ true
+      → key_in (take e t) ≡ Some (take (position_or_len is_equals_sign t) t)
+  key_before some within plain =
+      let same = first_in_front is_equals_sign t e room within in
+      let long = length-take-le e t room in
+      key_of (take e t) (omega (arith, same)) (omega (arith, same, long)) plain
+      ∙ ap (λ n. Some (take n (take e t))) same
+      ∙ ap Some (take-take (position_or_len is_equals_sign t) e t (omega arith))
+
+  -- there is none where no `=` stands among the bytes
+  pub no_key_before : e ≤ position_or_len is_equals_sign t → key_in (take e t) ≡ None
+  no_key_before past =
+      key_if (is_text (take e t)) (list_any is_equals_sign (take e t)) (not (is_empty (before_first is_equals_sign (take e t)))) _
+      (ap (λ b. b && not (is_empty (before_first is_equals_sign (take e t)))) (none_in_front is_equals_sign t e room past))
+
+-- or where it stands first
+pub no_key_at_front : (t : List ℕ) (e : ℕ) → e ≤ length t → position_or_len is_equals_sign t ≡ 0 → key_in (take e t) ≡ None
+no_key_at_front t zero room first = no_key_before t 0 room (omega arith)
+no_key_at_front t (suc e) room first =
+    let same = first_in_front is_equals_sign t (suc e) room (omega (arith, first)) in
+    key_if (is_text (take (suc e) t)) (list_any is_equals_sign (take (suc e) t)) (not (is_empty (before_first is_equals_sign (take (suc e) t)))) _
+    (ap (λ n. list_any is_equals_sign (take (suc e) t) && not (is_empty (take n (take (suc e) t)))) (same ∙ first) ∙ and_no (list_any is_equals_sign (take (suc e) t)))
 
 -- a text in which a scan stops nowhere is plain
 none_stops : (byte : ℕ) (ts : List ℕ) → list_any (stops_at byte) ts ≡ false → is_plain ts ≡ true

@@ -1,7 +1,7 @@
 //! Fields of plain text. A byte that is not plain is left to the exact reader.
 
-ghost use Rattle.std.specs.Prelude.{◌≡◌, ◌<◌, ◌≤◌, ◌+◌, ◌==◌, ◌∷◌, ℕ, slice_index, false, length, position, Some, IfSome, IfNone, IsTrue, is_some};
-ghost use Rattle.std.specs.List.{list_any};
+ghost use Rattle.std.specs.Prelude.{◌≡◌, ◌<◌, ◌≤◌, ◌==◌, ◌∷◌, ℕ, slice_index, false, length, position, IfSome, IsTrue, is_some};
+ghost use Rattle.std.specs.List.{position_or_len};
 ghost use Rattle.metering_model.specs.Dates.{stamp_in};
 ghost use Rattle.record_view.specs.Parts.{lent, parts_at};
 ghost use Rattle.record_view.specs.Inner.Placed.{IsPlaced};
@@ -198,7 +198,7 @@ fn first_equals(text: &[u8]) -> Option<usize>
 /// The same, or where the text ends.
 #[inline(never)]
 fn key_end_by_bytes(text: &[u8]) -> usize
-    ensures { result < length text.now → position (λ c. c == 61) text.now ≡ Some result }
+    ensures { result ≡ position_or_len (λ c. c == 61) text.now }
 {
     match first_equals(text) {
         Some(at) => at,
@@ -209,7 +209,7 @@ fn key_end_by_bytes(text: &[u8]) -> usize
 /// The same. Where it is near, it is found in one step.
 #[inline(always)]
 pub(crate) fn key_end(text: &[u8]) -> usize
-    ensures { result < length text.now → position (λ c. c == 61) text.now ≡ Some result }
+    ensures { result ≡ position_or_len (λ c. c == 61) text.now }
 {
     if text.len() >= LANES {
         let run = long_key_run(text);
@@ -225,39 +225,32 @@ pub(crate) fn key_end(text: &[u8]) -> usize
     key_end_by_bytes(text)
 }
 
-/// Where the first byte stands that is this one, or is not plain.
+/// What stands before and behind the first bar of a text, where all that stands before it is plain.
 #[inline(always)]
-fn first_stop(text: &[u8], byte: u8) -> Option<usize>
-    ensures { result ≡ position (stops_at byte) text.now }
-{
-    match byte {
-        b'|' => first_special(text),
-        _ => text
-            .iter()
-            .position(|c| *c < 0x20 || *c >= 0x7C || *c == byte),
-    }
-}
-
-/// What stands before and behind the first such byte of a text, where all that stands before it is
-/// plain.
-#[inline(always)]
-pub(crate) fn split_plain<'a>(whole: Field<'a>, byte: u8) -> Option<(Field<'a>, Field<'a>)>
+pub(crate) fn split_plain<'a>(whole: Field<'a>) -> Option<(Field<'a>, Field<'a>)>
     requires { IsPlaced (lent whole) }
-    ensures parts { IfSome result (λ p. parts_at byte (lent whole.entry) ≡ lent p.0 ∷ parts_at byte (lent p.1)) }
+    ensures parts { IfSome result (λ p. parts_at 124 (lent whole.entry) ≡ lent p.0 ∷ parts_at 124 (lent p.1)) }
     ensures plain { IfSome result (λ p. IsTrue (is_plain p.0.text.now)) }
-    ensures bars { IfSome result (λ p. (byte == 124) ≡ false
-        → list_any (λ c. c == 124) whole.entry.text.now ≡ list_any (λ c. c == 124) p.1.text.now) }
-    ensures shorter { IfSome result (λ p.
-        length p.0.text.now + length p.1.text.now + 1 ≡ length whole.entry.text.now) }
     ensures placed { IfSome result (λ p. IsPlaced (lent p.0) × IsPlaced (lent p.1)) }
-    ensures none { IfNone result (IsTrue (is_plain whole.entry.text.now)
-        → list_any (λ c. c == byte) whole.entry.text.now ≡ false) }
 {
-    let at = first_stop(whole.text, byte)?;
-    if whole.text[at] != byte {
+    let at = first_special(whole.text)?;
+    if whole.text[at] != b'|' {
         return None;
     }
     Some(cut(whole, at))
+}
+
+/// The one byte before the first bar, which is the letter of a record, and what stands behind it.
+#[inline(always)]
+pub(crate) fn split_letter<'a>(whole: Field<'a>) -> Option<(Field<'a>, Field<'a>)>
+    requires { IsPlaced (lent whole) }
+    ensures parts { IfSome result (λ p. parts_at 124 (lent whole.entry) ≡ lent p.0 ∷ parts_at 124 (lent p.1)) }
+    ensures placed { IfSome result (λ p. IsPlaced (lent p.1)) }
+{
+    if whole.text.len() < 2 || whole.text[0] == b'|' || whole.text[1] != b'|' {
+        return None;
+    }
+    Some(cut(whole, 1))
 }
 
 /// The 20 bytes before a bar, and what stands behind it. If they are a stamp, the bar is the first.

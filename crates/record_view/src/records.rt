@@ -14,7 +14,7 @@ ghost use Rattle.record_view.specs.Lent.{lent_tags, reading_tags, reading_region
 ghost use Rattle.record_view.specs.Inner.LineFields.{reading_parts, amendment_parts, field_texts, record_of_reading, record_of_amendment, in_region, IsBeforeRegion, HaveStamps, ArePlainFields};
 
 use crate::fields::{Field, Span, field_at, is_text, split_at_byte, split_at_last};
-use crate::plain::{split_plain, split_stamp};
+use crate::plain::{split_letter, split_plain, split_stamp};
 use crate::stamps::StampReader;
 use crate::tags::{Tags, are_plain_tags};
 use byte_text::read_whole;
@@ -382,11 +382,11 @@ fn plain_fields<'a>(rest: Field<'a>) -> Option<ReadingFields<'a>>
 {
     let (start, rest) = split_stamp(rest)?;
     let (end, rest) = split_stamp(rest)?;
-    let (account, rest) = split_plain(rest, b'|')?;
-    let (resource, rest) = split_plain(rest, b'|')?;
-    let (key, rest) = split_plain(rest, b'|')?;
-    let (value, rest) = split_plain(rest, b'|')?;
-    let (commitment, tags) = split_plain(rest, b'|')?;
+    let (account, rest) = split_plain(rest)?;
+    let (resource, rest) = split_plain(rest)?;
+    let (key, rest) = split_plain(rest)?;
+    let (value, rest) = split_plain(rest)?;
+    let (commitment, tags) = split_plain(rest)?;
     if are_plain_tags(tags) {
         Some(ReadingFields {
             start,
@@ -498,7 +498,7 @@ fn in_region<'a>(what: &Record<'a>, region: Field<'a>) -> Result<Record<'a>, Bat
     }
 }
 
-/// What a format B1 would have of a line behind its letter, and the region behind that, in format B2.
+/// What stands of a line behind its letter and before its region, which is all of it in format B1, and the region of format B2.
 #[inline(always)]
 fn before_region<'a>(version: Version, rest: Field<'a>) -> Option<(Field<'a>, Option<Field<'a>>)>
     requires { IsPlaced (lent rest) }
@@ -514,7 +514,7 @@ fn before_region<'a>(version: Version, rest: Field<'a>) -> Option<(Field<'a>, Op
     }
 }
 
-/// The record of a reading's line of plain bytes in either format, from what stands behind its letter.
+/// The record of a reading's line in either format, plain but for its region, from what stands behind its letter.
 #[inline(always)]
 fn plain_behind<'a>(
     version: Version,
@@ -546,7 +546,7 @@ fn plain_behind<'a>(
 }
 
 /// The record of a reading's line in format B2, from what stands behind its letter: what stands before the last bar is
-/// read as in format B1, and behind it stands the region. Apart, so that the path of format B1 stays short.
+/// read as in format B1, and behind it stands the region.
 #[inline(never)]
 fn reading_in_region<'a>(letter: &[u8], rest: Field<'a>) -> Result<Record<'a>, BatchCode>
     requires placed { IsPlaced (lent rest) }
@@ -571,8 +571,9 @@ fn reading_in_region<'a>(letter: &[u8], rest: Field<'a>) -> Result<Record<'a>, B
     }
 }
 
-/// The record that the line at this span is in a batch of that format, where it is a reading of plain bytes: read in one pass,
-/// and handed on without standing in memory. None says nothing of the line.
+/// The record that the line at this span is in a batch of that format, where it is a reading, plain but for its region: read in
+/// one pass. It is inlined, so that a caller who takes only parts of the record has no whole one in memory. None says nothing of
+/// the line.
 #[inline(always)]
 pub fn read_plain<'a>(
     version: Version,
@@ -586,7 +587,7 @@ pub fn read_plain<'a>(
         record_in version (fields_in (slice_range source.now span.from span.to)) ≡ Ok (record_of r)) }
     ensures lent { IfSome result (IsLentRecord source.now span) }
 {
-    let (letter, rest) = split_at_byte(field_at(source, span), b'|')?;
+    let (letter, rest) = split_letter(field_at(source, span))?;
     if is_amendment(letter.text) {
         return None;
     }
@@ -625,8 +626,8 @@ pub fn read_exact<'a>(
     }
 }
 
-/// The record that the line at this span is in a batch of that format, or the rule that its first bad field breaks. What is not
-/// plain is read field by field, for its first fault.
+/// The record that the line at this span is in a batch of that format, or the rule that its first bad field breaks. A plain
+/// reading is read in one pass, and only what is none is read field by field.
 #[inline(never)]
 pub fn read_record<'a>(
     version: Version,

@@ -31,9 +31,9 @@ impl<'a> KnownStamps<'a> {
     }
 }
 
-/// Reads the stamps of readings by twos. Those that stand as the two before them did are not read anew: in a batch many readings
-/// of one hour follow one another.
-#[derive(Clone, Copy)]
+/// Reads the stamps of readings by twos. Texts that are those of the last two stamps are not read anew: in a batch many readings of
+/// one hour follow one another.
+#[derive(Drop)]
 pub struct StampReader<'a> {
     last: Option<KnownStamps<'a>>,
 }
@@ -57,7 +57,7 @@ impl<'a> StampReader<'a> {
         self.read_anew(first, second)
     }
 
-    /// Both stamps, which are kept for the next two. Apart, so that the path of stamps that were read stays short.
+    /// Both stamps, which are known from then on, where both are stamps. Apart, so that the path of known ones stays short.
     #[inline(never)]
     fn read_anew(&mut self, first: &'a [u8], second: &'a [u8]) -> Option<(Stamp, Stamp)>
         ensures { result ≡ option_zip (stamp_in first.now) (stamp_in second.now) }

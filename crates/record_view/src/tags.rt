@@ -92,7 +92,7 @@ fn are_tags(text: Field<'_>) -> bool
 /// Whether the first text is below the second. Most texts differ in their first bytes.
 #[inline(always)]
 fn is_soon_below(first: &[u8], second: &[u8]) -> bool
-    ensures { IsTrue result → IsTrue (is_below first.now second.now) }
+    ensures { result ≡ is_below first.now second.now }
 {
     if second.is_empty() {
         return false;
@@ -108,7 +108,7 @@ fn is_soon_below(first: &[u8], second: &[u8]) -> bool
 fn plain_key(text: &[u8], end: usize) -> Option<&[u8]>
     requires within { end ≤ length text.now }
     requires plain { IsTrue (is_plain (take end text.now)) }
-    ensures { IfSome result (λ key. key_in (take end text.now) ≡ Some key.now) }
+    ensures { option_copied result ≡ key_in (take end text.now) }
 {
     let at = key_end(text);
     if at == 0 || at >= end {
@@ -122,7 +122,7 @@ fn plain_key(text: &[u8], end: usize) -> Option<&[u8]>
 fn plain_key_above<'a>(last: &[u8], text: &'a [u8], end: usize) -> Option<&'a [u8]>
     requires within { end ≤ length text.now }
     requires plain { IsTrue (is_plain (take end text.now)) }
-    ensures { IfSome result (λ key. if_above last.now (key_in (take end text.now)) ≡ Some key.now) }
+    ensures { option_copied result ≡ if_above last.now (key_in (take end text.now)) }
 {
     let key = plain_key(text, end)?;
     if is_soon_below(last, key) {

@@ -43,11 +43,12 @@ abbrev pub in_region : Field → lent_record.Record → lent_record.Record
 in_region f (lent_record.TheVariants.Reading r) = lent_record.TheVariants.Reading (record r { region = Some f })
 in_region f (lent_record.TheVariants.Amend seq index value) = lent_record.TheVariants.Amend seq index value
 
--- What stands before the region of a line, and the region: of format B1 all, and none.
+-- The region stands behind a bar at the end, and `front` is what stands before that bar.
 pub record IsBehind (rest front : LentText) (region : Field) : Type 0 where
   pub parts : parts_at 124 rest ≡ parts_at 124 front ++ lent region ∷ []
   pub adjoin : region.span.from ≡ front.to + 1
 
+-- what stands before the region: in format B1, which has none, all of it
 abbrev pub IsBeforeRegion : Version → LentText → LentText → Option Field → Type 0
 IsBeforeRegion B1 rest front region = (front ≡ rest) × (region ≡ None)
 IsBeforeRegion B2 rest front region = MatchOption region ⊥ (IsBehind rest front)

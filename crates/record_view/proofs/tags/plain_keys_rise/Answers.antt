@@ -1,8 +1,7 @@
 -- What is passed of the parts is plain, and the last one, in which the scan finds no end, is the only one that is left.
-use Rattle.std.proofs.Common.{◌≡◌, ◌==◌, true, Option, Some, None, is_some, List, ℕ, Bor, length, take, ◌∙◌, sym, ap, arith}
-use Rattle.std.specs.Prelude.{IfSome}
+use Rattle.std.proofs.Common.{◌≡◌, ◌==◌, Option, Some, None, is_some, List, ℕ, Bor, length, take, refl, ◌∙◌, sym, ap, arith}
 use Rattle.std.specs.List.{list_any}
-use Rattle.std.proofs.lemmas.Bool.{false≢true}
+use Rattle.std.specs.Option.{option_copied}
 use Rattle.std.proofs.lemmas.List.{take_all}
 use Rattle.record_view.specs.Parts.{lent, parts_at}
 use Rattle.record_view.specs.Inner.Plain.{is_plain, stops_at}
@@ -13,9 +12,9 @@ use Rattle.record_view.proofs.PlainTags.{all_plain}
 use Rattle.record_view.proofs.TagLaws.{last_rises}
 use Rattle.record_view.proofs.tags.plain_keys_rise.Goals as goal
 
-some_when : (o : Option (Bor (List ℕ))) (k : Option (List ℕ)) → IfSome o (λ x. k ≡ Some x.now) → is_some o ≡ true → is_some k ≡ true
-some_when None k h some = absurd (false≢true some)
-some_when (Some x) k h some = ap is_some h
+some_copied : (o : Option (Bor (List ℕ))) → is_some (option_copied o) ≡ is_some o
+some_copied None = refl
+some_copied (Some x) = refl
 
 take_whole : (t : List ℕ) → take (length t) t ≡ t
 take_whole t = take_all (length t) t (omega arith)
@@ -31,7 +30,7 @@ loop-end-preserved c =
     let at = sym c.in-Some.ensures in
     let within = (found_at (stops_at 59) rest.text end at).1 in
     let cut = parts_cut 59 end rest _ _ c.cut.ensures.before c.cut.ensures.after (first_is 59 rest.text end at c.if-rest-end-ne59.false) in
-    let key = ap (λ t. if_above c.loop-end.last.now (key_in t.text)) c.cut.ensures.before ∙ c.in-Some-plain_key_above.ensures in
+    let key = ap (λ t. if_above c.loop-end.last.now (key_in t.text)) c.cut.ensures.before ∙ sym c.in-Some-plain_key_above.ensures in
     record {
       placed = (placed_cut end rest _ _ c.cut.ensures.before c.cut.ensures.after c.loop-end.invariant.placed within).1;
       rises =
@@ -56,7 +55,10 @@ returns-clause-rise c = λ yes.
     sym c.loop-end.invariant.rises
     ∙ last_rises last rest c.loop-end.invariant.placed (none_found 59 rest.text (sym c.in_default.ensures))
     ∙ ap (λ t. is_some (if_above last (key_in t))) (sym (take_whole rest.text))
-    ∙ some_when c.plain_key_above-2.result _ c.plain_key_above-2.ensures (sym c.is_some.ensures ∙ yes)
+    ∙ ap is_some (sym c.plain_key_above-2.ensures)
+    ∙ some_copied c.plain_key_above-2.result
+    ∙ sym c.is_some.ensures
+    ∙ yes
 
 pub returns-clause-bars : goal.returns-clause-bars
 returns-clause-bars c = λ yes.
