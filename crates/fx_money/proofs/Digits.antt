@@ -62,7 +62,7 @@ unfolding worth_of
 worth_none zero = refl
 worth_none (suc p) = refl
 
-pub worth_cons : (p c : ℕ) (cs : List ℕ) → worth_of (p + 1) (c ∷ cs) ≡ (c - 48) * 10 ^ p + worth_of p cs
+worth_cons : (p c : ℕ) (cs : List ℕ) → worth_of (p + 1) (c ∷ cs) ≡ (c - 48) * 10 ^ p + worth_of p cs
 unfolding worth_of
 worth_cons p c cs = rw add-one refl
 
