@@ -3,6 +3,7 @@ pub mod LineLemmas
 pub mod ExtentLemmas
 pub mod FirstLemmas
 pub mod RecordLemmas
+pub mod StepLemmas
 pub mod WalkLemmas
 pub mod TagsHold
 pub mod EntryLemmas

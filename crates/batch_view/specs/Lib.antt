@@ -2,6 +2,7 @@ pub mod Parts
 pub mod TagTexts
 pub mod Lent
 pub mod Batches
+pub mod Asked
 pub mod Extents
 pub mod Kept
 pub mod Offers

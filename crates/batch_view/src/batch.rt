@@ -87,7 +87,13 @@ pub(crate) fn check_batch(bytes: &[u8]) -> Result<Head, BatchFault>
 }
 
 /// The record at that index, from its entry.
-fn kept_record<'a>(bytes: &'a [u8], head: Head, entries: &[Entry], index: u16) -> Option<Record<'a>>
+#[inline(always)]
+pub(crate) fn kept_record<'a>(
+    bytes: &'a [u8],
+    head: Head,
+    entries: &[Entry],
+    index: u16,
+) -> Option<Record<'a>>
     requires { KeepsBatch bytes.now head entries.now }
     ensures there { IsSome result ↔ (index < length (batch_of bytes.now).records) }
     ensures record { IfSome result (λ r. slice_get (batch_of bytes.now).records index ≡ Some (record_of r)) }
@@ -123,9 +129,9 @@ fn kept_kind(_bytes: &[u8], _head: Head, entries: &[Entry], index: u16) -> Optio
 /// Bytes that are a batch, read in place, or looked up where an `OwnedBatch` keeps what was found in them.
 #[derive(Drop)]
 pub struct BatchView<'a> {
-    bytes: &'a [u8],
-    head: Head,
-    kept: Option<&'a [Entry]>,
+    pub(crate) bytes: &'a [u8],
+    pub(crate) head: Head,
+    pub(crate) kept: Option<&'a [Entry]>,
 }
 
 impl<'a> Model for BatchView<'a> {

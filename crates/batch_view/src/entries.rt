@@ -163,6 +163,7 @@ pub(crate) fn entry_from<'a>(
 }
 
 /// The record of an entry: its texts are lent from the entry's spans, and nothing is looked through.
+#[inline(always)]
 pub(crate) fn record_of_entry<'a>(version: Version, bytes: &'a [u8], entry: &Entry) -> Record<'a>
     requires { (line : Span) × IsEntryAt version bytes.now line entry.now }
     ensures { (line : Span) → IsEntryAt version bytes.now line entry.now → IsRecordAt version bytes.now line result }

@@ -1,6 +1,7 @@
 //! Batches of usage records, read in place: no text is copied, and reading takes no memory.
 #![tactic(auto)]
 
+pub use asked::{Asked, AskedReading, AskedRecords};
 pub use batch::{BatchView, Records};
 pub use metering_model::{BatchCode, BatchFault, Kind};
 pub use owned::{Amendment, Offer, OwnedBatch};
@@ -9,6 +10,7 @@ pub use record_view::{
 };
 
 mod amendments;
+mod asked;
 mod batch;
 mod entries;
 mod extents;

@@ -1,35 +1,9 @@
-use Rattle.std.proofs.Common.{◌≡◌, ℕ, ◌+◌, ◌<◌, List, Option, None, length, refl, sym, subst, arith}
-use Rattle.std.specs.Option.{MatchOption}
+use Rattle.std.proofs.Common.{◌<◌, length, refl, arith}
 use Rattle.std.proofs.lemmas.List.{drop_all}
 use Rattle.batch_view.specs.Batches.{batch_of}
-use Rattle.batch_view.specs.Inner.Lines.{IsBehindLines, LendsRecord}
-use Rattle.batch_view.specs.Inner.Entries.{IsWalk}
-use Rattle.batch_view.specs.declared.entries.Entry.{Entry}
-use Rattle.batch_view.specs.declared.head.Head.{Head}
-use Rattle.record_view.specs.declared.records.Record.{Record as LentRecord}
-use Rattle.batch_view.proofs.BatchLemmas.{IsRecordOf, never_fails, record_read, gives_there}
+use Rattle.batch_view.proofs.BatchLemmas.{never_fails, gives_there}
+use Rattle.batch_view.proofs.StepLemmas.{behind, read, walks_on}
 use Rattle.batch_view.proofs.batch.RecordsIterator.next.Goals as goal
-use denote.Ref.{Bor}
-
--- a walk that is not at its end, where no entries are kept
-module _ (bytes : List ℕ) (h : Head) (kept : Option (Bor (List Entry))) (index at : ℕ) (walk : IsWalk bytes h kept index at) (more : index ≡ h.count → ⊥) (none : kept ≡ None) where
-  within : index < length (batch_of bytes).records
-  within = omega (arith, walk.view.head.count, walk.within, more)
-
-  behind : IsBehindLines bytes (index + 1) at
-  behind = subst (λ k. MatchOption k (IsBehindLines bytes (index + 1) at) (λ es. Unit {0})) none walk.behind
-
-  read : (r : LentRecord) (next : ℕ) → LendsRecord h.version bytes at r next → IsRecordOf bytes index r next
-  read r next lends = record_read h.version bytes index at r next walk.view.head.version walk.view.head.short walk.view.head.batch within behind lends
-
-  walks_on : (r : LentRecord) (next : ℕ) → LendsRecord h.version bytes at r next → IsWalk bytes h kept (index + 1) next
-  walks_on r next lends =
-      let two : index + 2 ≡ index + 1 + 1 = omega arith in
-      record {
-        view = walk.view;
-        within = omega (arith, walk.within, more);
-        behind = subst (λ k. MatchOption k (IsBehindLines bytes (index + 1 + 1) next) (λ es. Unit {0})) (sym none) (subst (λ n. IsBehindLines bytes n next) two (read r next lends).behind);
-      }
 
 pub returns-then-self-end-clause-steps : goal.returns-then-self-end-clause-steps
 returns-then-self-end-clause-steps c =
