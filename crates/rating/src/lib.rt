@@ -10,5 +10,5 @@ mod rated;
 pub use charges::rate;
 pub use metering_model::PricedKind;
 pub use price_sheet::{Commitment, Issuer, IssuerFault, Key, PriceRow, Sheet};
-pub use prices::{commitment_of, is_priced, price_of, priced_kind};
+pub use prices::{commitment_for, commitment_of, is_priced, price_for, price_of, priced_kind};
 pub use rated::{Rated, rate_flat};

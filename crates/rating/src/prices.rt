@@ -1,12 +1,14 @@
 //! What a reading is priced by: its price in force, and the commitment that it names.
 
-ghost use Rattle.std.specs.Prelude.{◌≡◌};
-ghost use Rattle.std.specs.Option.{option_copied};
+ghost use Rattle.std.specs.Prelude.{◌≡◌, if◌then◌else◌, None};
+ghost use Rattle.std.specs.Option.{option_and_then, option_copied};
 ghost use Rattle.metering_model.specs.Batch.{is_priced};
-ghost use Rattle.metering_model.specs.Row.{commitment_of, price_of, priced_kind};
+ghost use Rattle.metering_model.specs.Dates.{day_of};
+ghost use Rattle.metering_model.specs.PriceInForce.{commitment_with, price_in_force};
+ghost use Rattle.metering_model.specs.Row.{commitment_of, or_null, price_of, priced_kind};
 ghost use Rattle.batch_view.specs.Lent.{model_reading};
 
-use batch_view::{Kind, Reading};
+use batch_view::{Kind, Reading, Stamp};
 use metering_model::PricedKind;
 use price_sheet::{Commitment, PriceRow, Sheet};
 
@@ -28,22 +30,38 @@ pub fn is_priced(kind: Kind) -> bool
     priced_kind(kind).is_some()
 }
 
+/// The price of that key in force on the day of that moment, where the kind is charged by one. No memory is taken.
+#[inline(always)]
+pub fn price_for<'a>(sheet: &'a Sheet, kind: Kind, key: &[u8], start: Stamp) -> Option<&'a PriceRow>
+    ensures { option_copied result ≡ (if is_priced kind then price_in_force sheet.now key.now (day_of start) else None) }
+{
+    if !is_priced(kind) {
+        return None;
+    }
+    sheet.price(key, start.day())
+}
+
 /// The price in force on the day that the reading starts, where its kind is charged by one. No memory is taken.
 pub fn price_of<'a>(sheet: &'a Sheet, reading: &Reading<'_>) -> Option<&'a PriceRow>
     ensures { option_copied result ≡ price_of sheet.now (model_reading reading.now) }
 {
-    if !is_priced(reading.kind) {
+    price_for(sheet, reading.kind, reading.key.text, reading.start)
+}
+
+/// The commitment of that name, where there is a name and the kind is charged by a price. No memory is taken.
+#[inline(always)]
+pub fn commitment_for<'a>(sheet: &'a Sheet, kind: Kind, commitment: &[u8]) -> Option<&'a Commitment>
+    ensures { option_copied result ≡ (if is_priced kind then option_and_then (commitment_with sheet.now) (or_null commitment.now) else None) }
+{
+    if !is_priced(kind) || commitment.is_empty() {
         return None;
     }
-    sheet.price(reading.key.text, reading.start.day())
+    sheet.commitment(commitment)
 }
 
 /// The commitment that the reading names, where its kind is charged by a price. No memory is taken.
 pub fn commitment_of<'a>(sheet: &'a Sheet, reading: &Reading<'_>) -> Option<&'a Commitment>
     ensures { option_copied result ≡ commitment_of sheet.now (model_reading reading.now) }
 {
-    if !is_priced(reading.kind) || reading.commitment.text.is_empty() {
-        return None;
-    }
-    sheet.commitment(reading.commitment.text)
+    commitment_for(sheet, reading.kind, reading.commitment.text)
 }
