@@ -2,3 +2,4 @@ pub mod OneMore
 pub mod LeftLaws
 pub mod BrokenLaws
 pub mod RuleLaws
+pub mod AskedLaws

@@ -6,39 +6,42 @@ ghost use Rattle.std.specs.Option.{option_and_then, option_copied, option_map};
 ghost use Rattle.metering_model.specs.Holding.{held, is_batch_at, placed, reading_at, reading_of};
 ghost use Rattle.metering_model.specs.JournalRules.{is_fit_commitment, is_fit_reading, is_fit_target, comes_earlier, broken_by, first_broken};
 ghost use Rattle.batch_view.specs.Batches.{batch_of};
-ghost use Rattle.batch_view.specs.Lent.{model_reading, record_of};
+ghost use Rattle.batch_view.specs.Asked.{reading_asked, record_asked};
 ghost use Rattle.batch_store.specs.Stores.{position_of};
 ghost use Rattle.journal_rules.specs.FirstBad.{first_bad};
 ghost use Rattle.journal_rules.specs.Inner.Journaled.{stored_in};
 
 use batch_store::{RecordPlace, Store};
-use batch_view::{BatchView, Kind, OwnedBatch, Reading, Record, Value};
+use batch_view::{Asked, AskedReading, BatchView, Kind, OwnedBatch, Value};
 use byte_text::is_same;
 use metering_model::BrokenRule;
-use rating::{Commitment, Sheet, commitment_of, is_priced, price_of};
+use rating::{Commitment, Sheet, commitment_for, is_priced, price_for};
 use std::marker::Model;
 
 /// Whether the reading names no commitment, or one that fits it: usage its SKU, a purchase the SKU that buys it.
-fn is_fit_commitment(reading: &Reading<'_>, commitment: Option<&Commitment>) -> bool
-    ensures { result ≡ is_fit_commitment (model_reading reading.now) (option_copied commitment.entry) }
+fn is_fit_commitment(reading: &AskedReading<'_>, commitment: Option<&Commitment>) -> bool
+    ensures { result ≡ is_fit_commitment (reading_asked reading.now) (option_copied commitment.entry) }
 {
     let Some(commitment) = commitment else {
-        return reading.commitment.text.is_empty();
+        return reading.commitment.is_empty();
     };
     match reading.kind {
-        Kind::Usage => is_same(reading.key.text, commitment.sku().as_bytes()),
-        Kind::Purchase => is_same(reading.key.text, commitment.buy().as_bytes()),
-        Kind::Credit | Kind::Tax | Kind::Adjustment => is_same(reading.key.text, b""),
+        Kind::Usage => is_same(reading.key, commitment.sku().as_bytes()),
+        Kind::Purchase => is_same(reading.key, commitment.buy().as_bytes()),
+        Kind::Credit | Kind::Tax | Kind::Adjustment => is_same(reading.key, b""),
     }
 }
 
 /// Whether a reading of a priced kind has a price in force, and a fit commitment.
-fn is_fit_reading(sheet: &Sheet, reading: &Reading<'_>) -> bool
-    ensures { result ≡ is_fit_reading sheet.now (model_reading reading.now) }
+fn is_fit_reading(sheet: &Sheet, reading: &AskedReading<'_>) -> bool
+    ensures { result ≡ is_fit_reading sheet.now (reading_asked reading.now) }
 {
     !is_priced(reading.kind)
-        || (price_of(sheet, reading).is_some()
-            && is_fit_commitment(reading, commitment_of(sheet, reading)))
+        || (price_for(sheet, reading.kind, reading.key, reading.start).is_some()
+            && is_fit_commitment(
+                reading,
+                commitment_for(sheet, reading.kind, reading.commitment),
+            ))
 }
 
 /// Whether the batch has a reading at the index that takes the value: no priced one has a negative value.
@@ -140,21 +143,21 @@ impl<'a> Journaled<'a> {
         }
     }
 
-    /// The rule that a record at a place breaks.
-    fn broken_by(&self, sheet: &Sheet, place: RecordPlace, what: &Record<'_>) -> Option<BrokenRule>
+    /// The rule that a record at a place breaks, by what is asked of it.
+    fn broken_by(&self, sheet: &Sheet, place: RecordPlace, what: &Asked<'_>) -> Option<BrokenRule>
         requires from { 1 ≤ place.agent }
         requires to { place.agent ≤ self.now.agents }
-        ensures { result ≡ broken_by sheet.now self.now.batches (position_of place) (record_of what.now) }
+        ensures { result ≡ broken_by sheet.now self.now.batches (position_of place) (record_asked what.now) }
     {
         match what {
-            Record::Reading(reading) => {
+            Asked::Reading(reading) => {
                 if is_fit_reading(sheet, reading) {
                     None
                 } else {
                     Some(BrokenRule::Unpriced)
                 }
             }
-            Record::Amend { seq, index, value } => {
+            Asked::Amend { seq, index, value } => {
                 let target = RecordPlace {
                     agent: place.agent,
                     seq: *seq,
@@ -179,9 +182,9 @@ impl<'a> Journaled<'a> {
         // For the proof alone: its clause says that a batch has at most 1,000 records.
         let _count = self.batch.count();
         let mut index = 0;
-        for record in self.batch.records() {
+        for asked in self.batch.asked() {
             let place = RecordPlace { agent, seq, index };
-            if let Some(rule) = self.broken_by(sheet, place, &record) {
+            if let Some(rule) = self.broken_by(sheet, place, &asked) {
                 return Some((index, rule));
             }
             index += 1;
