@@ -24,6 +24,7 @@ pub struct Numbers {
 }
 
 /// The field at one of the first nine spans.
+#[inline(always)]
 fn kept_field<'a>(source: &'a [u8], spans: &[Span; 10], index: usize) -> Field<'a>
     requires within { All (LiesWithin source.now) (take 9 spans.now) }
     requires nine { index < 9 }
@@ -34,6 +35,7 @@ fn kept_field<'a>(source: &'a [u8], spans: &[Span; 10], index: usize) -> Field<'
 }
 
 /// The region that stands at the tenth span, in format B2.
+#[inline(always)]
 fn kept_region<'a>(version: Version, source: &'a [u8], spans: &[Span; 10]) -> Option<Field<'a>>
     requires { MayHaveRegion version source.now spans.now }
     ensures { HasRegion version source.now spans.now result }
@@ -45,6 +47,7 @@ fn kept_region<'a>(version: Version, source: &'a [u8], spans: &[Span; 10]) -> Op
 }
 
 /// The reading whose fields stand at the spans.
+#[inline(always)]
 fn lend_fields<'a>(
     version: Version,
     source: &'a [u8],
@@ -74,6 +77,7 @@ fn lend_fields<'a>(
 
 /// The reading of a line of a batch of that format, which was read before: its texts are lent from the spans, and nothing is
 /// looked through.
+#[inline(always)]
 pub fn kept_reading<'a>(
     version: Version,
     source: &'a [u8],
