@@ -7,7 +7,7 @@ use Rattle.std.specs.Result.{OnOk, is_ok}
 use Rattle.std.proofs.lemmas.Bool.{cond-true, cond-false, cases_lt, cases_eq, and_parts, leb-true, le-ltb}
 use Rattle.std.proofs.lemmas.Bool.Decides.{nat_tests}
 use Rattle.std.proofs.lemmas.Int.{ints}
-use Rattle.std.proofs.lemmas.List.{map-append}
+use Rattle.std.proofs.lemmas.List.{map-append, length-map, length-append}
 use Rattle.std.proofs.lemmas.List.Elements.{All-head, All-tail, All-weaker, All-contains, filter_map-append}
 use Rattle.metering_model.specs.Batch.{Batch, Record, Reading, Reads, Amends, is_priced}
 use Rattle.metering_model.specs.Cut.{Cut, last_of}
@@ -27,17 +27,7 @@ use Rattle.charge_row.specs.FocusRows.{model_row}
 use Rattle.journal_rules.proofs.LeftLaws.{IsInCut, in_cut, left_all, left_first, left_next, left_none}
 use Rattle.focus_row.proofs.BetweenLaws.{same_at_both}
 
--- ---- a reading, and its record
-
-pub reading_from_record : (h : Holding) (p : Position) (r : Reading) → record_at h p ≡ Some (Reads r) → reading_at h p ≡ Some r
-reading_from_record h p r e = by_batch (held h p.agent p.seq) e
-  where
-    by_record : (o : Option Record) → o ≡ Some (Reads r) → option_and_then reading_of o ≡ Some r
-    by_record o f = ap (option_and_then reading_of) f
-
-    by_batch : (o : Option Batch) → option_and_then (λ b. slice_get b.records p.index) o ≡ Some (Reads r) → option_and_then (λ b. option_and_then reading_of (slice_get b.records p.index)) o ≡ Some r
-    by_batch None f = absurd (cc)
-    by_batch (Some b) f = by_record (slice_get b.records p.index) f
+-- ---- a reading up to the earlier cut
 
 same_itself : (a : ℤ) → differ a a ≡ false
 same_itself a = grind (arith, ints)
@@ -232,11 +222,6 @@ left_at (y ∷ xs) (suc i) x e =
     let next : suc i + 1 ≡ suc (i + 1) = omega arith in
     left_at xs i x e ∙ ap (λ n. x ∷ drop n (y ∷ xs)) (sym next)
 
--- what holds where a call has an answer, holds behind one that has
-pub when_done : {A E : Type 0} (r : Result A E) (P : Type 0) → OnOk r P → is_ok r ≡ true → P
-when_done (Ok x) P holds e = holds
-when_done (Err x) P holds e = absurd (cc)
-
 -- the row of a record stands before the others, if there is one
 with_option : (xs : List Row) (o : Option Row) (ys : List Row) → (xs ++ cons_option o []) ++ ys ≡ xs ++ cons_option o ys
 with_option xs None ys = ap (λ zs. zs ++ ys) (append-nil xs)
@@ -252,3 +237,16 @@ next_record s a q i r before after first all xs ys added so_far =
     ap (λ zs. zs ++ left) added
     ∙ (with_option (map model_row xs) o left
     ∙ (ap (λ zs. map model_row xs ++ zs) (sym (one_more_record s a q i r before after o first refl)) ∙ so_far))
+
+-- one more record: it gives one row more at most
+pub one_row_more : (o : Option Row) (xs ys : List FocusRow) → map model_row ys ≡ map model_row xs ++ cons_option o [] → length ys ≤ length xs + 1
+one_row_more o xs ys added =
+    let both : length ys ≡ length xs + length (cons_option o []) =
+    sym (length-map ys model_row) ∙ (ap length added
+    ∙ (length-append (map model_row xs) (cons_option o []) ∙ ap (λ n. n + length (cons_option o [])) (length-map xs model_row))) in
+    let few = one_at_most o in
+    omega arith
+  where
+    one_at_most : (p : Option Row) → length (cons_option p []) ≤ 1
+    one_at_most None = omega arith
+    one_at_most (Some x) = omega arith

@@ -256,6 +256,7 @@ impl<'a> BetweenCuts<'a> {
         ensures within { IfOk result (λ to. to ≤ length (batch_of batch.now).records) }
         ensures ends { IfOk result (λ to. (to ≡ length (batch_of batch.now).records) ⊎ (limit ≤ length rows.new.items)) }
         ensures further { IfOk result (λ to. from < length (batch_of batch.now).records → length rows.old.items < limit → from < to) }
+        ensures most { IfOk result (λ _. length rows.old.items ≤ limit → length rows.new.items ≤ limit) }
     {
         let count = batch.count();
         for index in from..count {

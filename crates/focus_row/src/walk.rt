@@ -72,6 +72,7 @@ impl<'b, 'a> BatchRows<'b, 'a> {
     pub fn next_rows(&mut self, rows: &mut Vec<FocusRow<'a>>) -> Result<(), AllocError>
         ensures rows { OnOk result (map model_row rows.new.items ++ self.new.rows ≡ self.old.rows) }
         ensures many { OnOk result ((self.new.records ≡ 0) ⊎ (64 ≤ length rows.new.items)) }
+        ensures most { OnOk result (length rows.new.items ≤ 64) }
         ensures fewer { OnOk result (0 < self.old.records → self.new.records < self.old.records) }
         ensures kept { OnErr result (self.new ≡ self.old) }
     {
