@@ -1,9 +1,8 @@
 -- The rows that are left from a place on: what may be passed over, and what a batch gives.
-use Rattle.std.proofs.Common.{◌≡◌, ℕ, zero, suc, ◌+◌, ◌<◌, ◌≤◌, ◌⊎◌, Bool, true, false, ◌&&◌, List, [], ◌∷◌, ◌++◌, length, map, filter, refl, sym, ap, subst, ◌∙◌, arith, append-nil, append_assoc, Option, Some, None, inl, inr, cond, nat_lt, nat_le, pos, option_map, ℤ, get_or, drop, Result, Ok, Err}
+use Rattle.std.proofs.Common.{◌≡◌, ℕ, zero, suc, ◌+◌, ◌<◌, ◌≤◌, ◌⊎◌, Bool, true, false, ◌&&◌, List, [], ◌∷◌, ◌++◌, length, map, filter, refl, sym, ap, subst, ◌∙◌, arith, append-nil, append_assoc, Option, Some, None, inl, inr, cond, nat_lt, nat_le, pos, option_map, ℤ, get_or, drop}
 use Rattle.std.specs.Prelude.{All, if◌then◌else◌, slice_get, ◌≤ℤ◌}
 use Rattle.std.specs.List.{filter_map, cons_option, Contains}
 use Rattle.std.specs.Option.{option_and_then}
-use Rattle.std.specs.Result.{OnOk, is_ok}
 use Rattle.std.proofs.lemmas.Bool.{cond-true, cond-false, cases_lt, cases_eq, and_parts, leb-true, le-ltb}
 use Rattle.std.proofs.lemmas.Bool.Decides.{nat_tests}
 use Rattle.std.proofs.lemmas.Int.{ints}
@@ -20,7 +19,7 @@ use Rattle.metering_model.proofs.AgreementLaws.{last_of_grows, value_at-up_to}
 use Rattle.metering_model.proofs.HoldingLaws.{IsHolding-up_to, held-up_to}
 use Rattle.metering_model.proofs.ValueBounds.{all_filter_map, value_not_negative}
 use Rattle.batch_store.specs.Stores.{named_by, named_between, AreAmended}
-use Rattle.focus_row.specs.Inner.Left.{is_from, left, placed_from, record_at, Between, MayBeCharged, rows_in, rows_left}
+use Rattle.focus_row.specs.Inner.Left.{is_from, left, placed_from, Between, MayBeCharged, rows_in, rows_left}
 use Rattle.focus_row.specs.Inner.Places.{IsNextNamed, NoneNamed}
 use Rattle.charge_row.specs.declared.columns.FocusRow.{FocusRow}
 use Rattle.charge_row.specs.FocusRows.{model_row}
