@@ -1,0 +1,8 @@
+use Rattle.std.proofs.Common.{length, ap, ◌∙◌, arith}
+use Rattle.focus_row.proofs.walk.BatchRows.next_rows.Goals as goal
+
+-- the rows are none before the first of them is put
+pub returns-clause-most : goal.returns-clause-most
+returns-clause-most c =
+    let none = ap length (c.in_ok-reserve.ensures.items ∙ c.clear.ensures.items) in
+    c.in_ok-to.ensures.most (omega arith)
