@@ -1,5 +1,4 @@
-//! What the rules of the journals ask of a batch's records. The other texts of a record are not handed out, so they are not
-//! looked up.
+//! What the rules of the journals ask of a batch's records, without their other fields.
 
 ghost use Rattle.std.specs.Prelude.{◌≡◌};
 ghost use Rattle.std.specs.List.{slice_get};
