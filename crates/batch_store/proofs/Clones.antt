@@ -1,12 +1,11 @@
 -- Batches that are shared once more.
-use Rattle.std.proofs.Common.{◌≡◌, ℕ, zero, suc, ◌+◌, ◌*◌, ◌<◌, ◌≤◌, List, [], ◌∷◌, ◌++◌, length, take, get_or, refl, sym, ap, subst, ◌∙◌, arith, append_assoc, length-append}
+use Rattle.std.proofs.Common.{◌≡◌, ℕ, ◌+◌, ◌*◌, ◌≤◌, List, [], ◌∷◌, ◌++◌, length, refl, sym, ap, subst, ◌∙◌, arith, append_assoc, length-append}
 use Rattle.std.specs.Prelude.{Some, slice_get}
-use Rattle.std.specs.List.{flat_map, AllZip}
+use Rattle.std.specs.List.{flat_map}
 use Rattle.std.specs.Arc.{arc_value}
 use Rattle.std.proofs.lemmas.Option.{same_Some}
-use Rattle.std.proofs.lemmas.List.{append-nil}
 use Rattle.batch_store.specs.Inner.Shelves.{Shared, Filed, IsShelf, AreCounted, AreFiled, batches_filed, on_shelf}
-use Rattle.batch_store.specs.Inner.Rows.{AreClones, AreFull, IsRow, Part, batches_in, in_parts, part_at}
+use Rattle.batch_store.specs.Inner.Rows.{AreClones, AreFull, Part, batches_in, in_parts}
 use Rattle.batch_store.proofs.ShareLemmas.{clones_same}
 use Rattle.batch_store.proofs.ShelfLemmas.{moved_first}
 

@@ -1,4 +1,4 @@
-use Rattle.std.proofs.Common.{◌≡◌, ◌∷◌, [], ◌++◌, sym, subst, ap, ◌∙◌}
+use Rattle.std.proofs.Common.{◌≡◌, ◌∷◌, [], ◌++◌, sym, subst}
 use Rattle.std.specs.Arc.{arc_value}
 use Rattle.batch_store.specs.Inner.Rows.{AreClones}
 use Rattle.batch_store.proofs.Clones.{clones_joined, same_clones}

@@ -1,5 +1,5 @@
 -- A place is looked up in its part.
-use Rattle.std.proofs.Common.{◌≡◌, ◌<◌, ◌≤◌, ◌/◌, ◌%◌, length, sym, ap, ap₂, subst, ◌∙◌, arith, get_or}
+use Rattle.std.proofs.Common.{◌<◌, ◌≤◌, ◌/◌, ◌%◌, length, sym, ap, ap₂, subst, ◌∙◌, arith, get_or}
 use Rattle.batch_store.specs.Inner.Rows.{part_at}
 use Rattle.batch_store.proofs.RowLaws.{at_part, part_longer, part_within, rest_small, split}
 use Rattle.batch_store.proofs.row.Row.at.Goals as goal

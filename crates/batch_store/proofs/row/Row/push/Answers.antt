@@ -1,6 +1,5 @@
 -- Behind the others stands one more, or a part with it.
-use Rattle.std.proofs.Common.{◌≡◌, ◌∷◌, ◌++◌, [], length, sym, ap, subst, ◌∙◌, arith}
-use Rattle.std.specs.Arc.{arc_value}
+use Rattle.std.proofs.Common.{◌∷◌, ◌++◌, [], length, sym, ap, subst, arith}
 use Rattle.batch_store.specs.Inner.Rows.{AreClones, batches_in, in_parts}
 use Rattle.batch_store.proofs.RowLaws.{one_behind, one_part_more}
 use Rattle.batch_store.proofs.row.Row.push.Goals as goal

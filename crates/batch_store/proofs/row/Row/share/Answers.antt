@@ -1,5 +1,5 @@
 -- What is shared is whole parts, and the first of the part behind them.
-use Rattle.std.proofs.Common.{◌≡◌, ◌<◌, ◌≤◌, ◌/◌, ◌%◌, length, take, sym, ap, ap₂, subst, ◌∙◌, arith}
+use Rattle.std.proofs.Common.{◌≡◌, ◌≤◌, ◌/◌, ◌%◌, length, take, sym, ap, ap₂, subst, ◌∙◌, arith}
 use Rattle.std.specs.Arc.{arc_value}
 use Rattle.batch_store.specs.Inner.Rows.{AreClones, in_parts, part_at}
 use Rattle.batch_store.proofs.RowLaws.{copied, length_taken, part_length, part_within, rest_small, shared_row, split, ArePartClones}

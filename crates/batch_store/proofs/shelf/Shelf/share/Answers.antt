@@ -1,5 +1,5 @@
 -- The first batches are those of the whole row, by other hands.
-use Rattle.std.proofs.Common.{◌≡◌, length, take, min, subst, sym, ap, ◌∙◌, arith}
+use Rattle.std.proofs.Common.{◌≡◌, length, min, ap, ◌∙◌, arith}
 use Rattle.batch_store.specs.Inner.Shelves.{up_to_seq}
 use Rattle.batch_store.proofs.ShareLemmas.{filed_low, shared_shelf}
 use Rattle.batch_store.proofs.shelf.Shelf.share.Goals as goal
