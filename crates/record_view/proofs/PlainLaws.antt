@@ -11,7 +11,8 @@ use Rattle.metering_model.specs.Dates.{stamp_in}
 use Rattle.metering_model.proofs.Splitting.{list_all_weaker}
 use Rattle.metering_model.proofs.DateLaws.{stamp_read}
 use Rattle.metering_model.proofs.FieldBytes.{is_inner, stamp_is_inner}
-use Rattle.record_view.specs.Inner.Plain.{is_plain, is_plain_byte, stops_at}
+use Rattle.record_view.specs.Inner.Plain.{stops_at}
+use Rattle.record_view.specs.Plain.{is_plain, is_plain_byte}
 use Rattle.record_view.proofs.PartLaws.{found_any, found_at}
 use Rattle.byte_text.proofs.FirstPlace.{position_is}
 

@@ -9,7 +9,8 @@ use Rattle.std.proofs.lemmas.List.Sums.{fails_before_first, passes_at_first, pos
 use Rattle.metering_model.specs.Batch.{Tag, is_text, is_empty, is_below}
 use Rattle.metering_model.specs.BatchReading.{is_equals_sign}
 use Rattle.byte_text.proofs.FirstPlace.{position_is}
-use Rattle.record_view.specs.Inner.Plain.{is_plain, stops_at}
+use Rattle.record_view.specs.Inner.Plain.{stops_at}
+use Rattle.record_view.specs.Plain.{is_plain}
 use Rattle.record_view.specs.Inner.TagParts.{key_in}
 use Rattle.record_view.proofs.PartLaws.{found_any, within_any}
 use Rattle.record_view.proofs.PlainLaws.{goes_on, plain_text}

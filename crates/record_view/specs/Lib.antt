@@ -1,4 +1,5 @@
 pub mod Parts
+pub mod Plain
 pub mod TagTexts
 pub mod Lent
 pub mod Spans

@@ -6,7 +6,8 @@ ghost use Rattle.metering_model.specs.Dates.{stamp_in};
 ghost use Rattle.record_view.specs.Parts.{lent, parts_at};
 ghost use Rattle.record_view.specs.Inner.Placed.{IsPlaced};
 ghost use Rattle.byte_text.specs.Runs.{IsRun};
-ghost use Rattle.record_view.specs.Inner.Plain.{is_plain, stops_at};
+ghost use Rattle.record_view.specs.Inner.Plain.{stops_at};
+ghost use Rattle.record_view.specs.Plain.{is_plain};
 
 use crate::fields::{Field, cut};
 use byte_text::lowest_set;

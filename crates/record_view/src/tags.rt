@@ -7,7 +7,7 @@ ghost use Rattle.metering_model.specs.Batch.{is_below, is_text};
 ghost use Rattle.metering_model.specs.BatchReading.{tags_in};
 ghost use Rattle.record_view.specs.Parts.{lent, parts_at};
 ghost use Rattle.record_view.specs.Inner.Placed.{IsPlaced};
-ghost use Rattle.record_view.specs.Inner.Plain.{is_plain};
+ghost use Rattle.record_view.specs.Plain.{is_plain};
 ghost use Rattle.record_view.specs.TagTexts.{tag_of, tags_at};
 ghost use Rattle.record_view.specs.Inner.TagParts.{are_tags, key_in, if_above, rise_from, IsFirstPart};
 

@@ -1,7 +1,7 @@
 -- The scan has passed plain bytes alone, and stopped at the bar.
 use Rattle.std.proofs.Common.{sym, ap, ◌∙◌}
 use Rattle.record_view.specs.Parts.{lent}
-use Rattle.record_view.specs.Inner.Plain.{is_plain}
+use Rattle.record_view.specs.Plain.{is_plain}
 use Rattle.record_view.proofs.PartLaws.{found_at, parts_cut, placed_cut}
 use Rattle.record_view.proofs.PlainLaws.{first_is, front_plain}
 use Rattle.record_view.proofs.plain.split_plain.Goals as goal

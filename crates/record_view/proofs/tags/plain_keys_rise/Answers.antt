@@ -4,7 +4,8 @@ use Rattle.std.specs.List.{list_any}
 use Rattle.std.specs.Option.{option_copied}
 use Rattle.std.proofs.lemmas.List.{take_all}
 use Rattle.record_view.specs.Parts.{lent, parts_at}
-use Rattle.record_view.specs.Inner.Plain.{is_plain, stops_at}
+use Rattle.record_view.specs.Inner.Plain.{stops_at}
+use Rattle.record_view.specs.Plain.{is_plain}
 use Rattle.record_view.specs.Inner.TagParts.{key_in, if_above, rise_from}
 use Rattle.record_view.proofs.PartLaws.{found_at, parts_cut, placed_cut}
 use Rattle.record_view.proofs.PlainLaws.{plain_no_bar, first_is, front_plain, bars_behind, none_found}
