@@ -25,8 +25,8 @@ pub struct Inputs {
 }
 
 /// The seed of what stands at a place, counted from 0.
-fn seed_at(seed: u32, place: u32) -> u32 {
-    seed.wrapping_mul(1_000).wrapping_add(place)
+fn seed_at(seed: u32, place: u32) -> u64 {
+    u64::from(seed) * 1_000 + u64::from(place)
 }
 
 fn has_regions(group: u32) -> bool {
@@ -110,7 +110,7 @@ impl Inputs {
     }
 
     /// The sections of a sheet and of an issuer, and a batch of that group behind them.
-    fn batch(&mut self, seed: u32, group: u32) -> Result<Vec<u8>, AllocError> {
+    fn batch(&mut self, seed: u64, group: u32) -> Result<Vec<u8>, AllocError> {
         if group != self.group {
             self.resources = resources_of(self.alloc, self.seed, group)?;
             self.group = group;

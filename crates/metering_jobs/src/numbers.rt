@@ -8,9 +8,9 @@ pub struct Numbers {
 }
 
 impl Numbers {
-    pub fn new(seed: u32) -> Numbers {
+    pub fn new(seed: u64) -> Numbers {
         Numbers {
-            state: u64::from(seed).wrapping_mul(0xD1B5_4A32_D192_ED03),
+            state: seed.wrapping_mul(0xD1B5_4A32_D192_ED03),
         }
     }
 

@@ -200,7 +200,7 @@ fn head_of(alloc: Global, plan: &Plan) -> Result<String, AllocError> {
 }
 
 /// The text of a schedule.
-pub fn schedule(alloc: Global, seed: u32, plan: &Plan) -> Result<Vec<u8>, AllocError> {
+pub fn schedule(alloc: Global, seed: u64, plan: &Plan) -> Result<Vec<u8>, AllocError> {
     let nodes = plan.voters.saturating_add(plan.observers);
     let head = head_of(alloc, plan)?;
     let mut draft = Draft {
