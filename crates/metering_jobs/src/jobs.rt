@@ -15,7 +15,7 @@ use std::io;
 pub enum Job {
     /// The files of single batches of some 560 records.
     Rate,
-    /// Transcripts of five nodes with great batches, a third of whose readings are amended later.
+    /// Transcripts of five nodes with great batches, half of whose readings are amended.
     Play,
     /// Transcripts of three nodes that close many periods of few readings.
     Close,
