@@ -12,7 +12,7 @@ use std::sync::Arc;
 const MANY: usize = 64;
 
 /// Batches in order. Each part of 64 of them is a list that others may share and that stays as it is. So to share many takes a
-/// sixty-fourth of the steps, what is shared is just what was asked for, and a batch is added in place.
+/// sixty-fourth of the steps, what is shared is just what was asked for, and of 64 batches 63 are added in place.
 #[derive(Drop)]
 pub(crate) struct Row {
     parts: Vec<Arc<Vec<Arc<OwnedBatch>>>>,
