@@ -1,12 +1,13 @@
 //! Bytes and lines found and counted, and texts compared.
 
-ghost use Rattle.std.specs.Prelude.{◌≡◌, ◌+◌, ◌==◌, ◌<◌, [], ◌∷◌, length, position, MatchOption};
+ghost use Rattle.std.specs.Prelude.{◌≡◌, ◌+◌, ◌==◌, ◌<◌, ◌≤◌, [], ◌∷◌, length, take, position, MatchOption};
 ghost use Rattle.metering_model.specs.BatchReading.{fields_in, is_same, lines_in, with_line};
 ghost use Rattle.metering_model.specs.Transcript.{line_count};
 ghost use Rattle.byte_text.specs.Lines.{IsPast};
 ghost use Rattle.byte_text.specs.Runs.{lowest_set};
 
 use memchr::memchr;
+use std::simd::prelude::*;
 
 /// Where the first such byte stands. This is quick where it stands far from the front.
 pub fn find_byte(text: &[u8], byte: u8) -> Option<usize>
@@ -27,27 +28,61 @@ pub fn lowest_set(mask: u64, many: usize) -> usize
     }
 }
 
-/// What stands behind the first line feed, if the text has one.
-fn behind_feed(text: &[u8]) -> Option<&[u8]>
-    ensures { MatchOption result (line_count text.now ≡ 0) (λ behind. line_count text.now ≡ 1 + line_count behind.now) }
+/// How many line feeds the first bytes of a text have, so many as are tested at once: the bits of the mask are counted.
+#[inline(always)]
+fn feeds_in_step<const LANES: usize>(text: &[u8]) -> usize
+    requires lanes { LANES ≤ 64 }
+    requires from { LANES ≤ length text.now }
+    ensures { result ≡ line_count (take LANES text.now) }
 {
-    let feed = find_byte(text, b'\n')?;
-    Some(&text[feed + 1..])
+    let feeds = Simd::<u8, LANES>::from_slice(text).simd_eq(Simd::splat(b'\n'));
+    feeds.to_bitmask().count_ones() as usize
+}
+
+/// How many line feeds were counted in steps of so many bytes, and what is left behind the last step.
+#[inline(always)]
+fn feeds_in_steps<const LANES: usize>(text: &[u8]) -> (usize, &[u8])
+    requires { (0 < LANES) × (LANES ≤ 64) }
+    ensures counted { line_count text.now ≡ result.0 + line_count result.1.now }
+    ensures most { result.0 + length result.1.now ≤ length text.now }
+{
+    let mut count = 0;
+    let mut rest = text;
+    while rest.len() >= LANES {
+        count += feeds_in_step::<LANES>(rest);
+        rest = &rest[LANES..];
+    }
+    (count, rest)
+}
+
+/// How many line feeds a text has, byte by byte.
+#[inline(always)]
+fn feeds_by_bytes(text: &[u8]) -> usize
+    ensures counted { result ≡ line_count text.now }
+    ensures most { result ≤ length text.now }
+{
+    let mut count = 0;
+    for byte in text {
+        if *byte == b'\n' {
+            count += 1;
+        }
+    }
+    count
 }
 
 /// How many lines a text has, each with its line feed: what stands behind the last line feed counts for none.
 pub fn line_count(text: &[u8]) -> usize
     ensures { result ≡ line_count text.now }
 {
-    // Each line feed is looked for behind the one before it, many bytes at once. A line has a byte at least.
-    let mut rest = text;
-    for count in 0..text.len() {
-        let Some(behind) = behind_feed(rest) else {
-            return count;
-        };
-        rest = behind;
+    // So short a text has no step.
+    if text.len() < 4 {
+        return feeds_by_bytes(text);
     }
-    text.len()
+    // Many bytes are tested at once, then fewer, and the last ones each alone.
+    let (many, behind) = feeds_in_steps::<64>(text);
+    let (some, behind) = feeds_in_steps::<16>(behind);
+    let (few, last) = feeds_in_steps::<4>(behind);
+    many + some + few + feeds_by_bytes(last)
 }
 
 /// Whether two texts are the same bytes.
