@@ -8,6 +8,6 @@ pub record IsRun (test : ℕ → Bool) (t : List ℕ) (many run : ℕ) : Type 0 
   pub before : (k : ℕ) → k < run → test (slice_index t k) ≡ false
   pub here : run < many → test (slice_index t run) ≡ true
 
--- the place of the lowest bit that is set, or that number
+-- the place of the lowest bit that is set, or how many were tested, where none is
 abbrev pub lowest_set : ℕ → ℕ → ℕ
 lowest_set mask many = if mask == 0 then many else trailing_zeros w64 mask
