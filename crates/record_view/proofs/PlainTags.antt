@@ -1,13 +1,14 @@
 -- The key of a tag of plain bytes, found in a text that goes on behind it.
-use Rattle.std.proofs.Common.{◌≡◌, ℕ, zero, suc, ◌<◌, ◌≤◌, ◌==◌, ◌&&◌, Bool, true, false, not, Some, None, is_some, List, [], ◌∷◌, length, take, get_or, refl, sym, ap, ◌∙◌, arith}
+use Rattle.std.proofs.Common.{◌≡◌, ℕ, ◌<◌, ◌≤◌, ◌==◌, ◌&&◌, Bool, true, false, not, Some, None, is_some, List, [], ◌∷◌, length, take, get_or, min, refl, sym, ap, ◌∙◌, arith}
 use Rattle.std.specs.Prelude.{if◌then◌else◌}
 use Rattle.std.specs.List.{list_any, position, position_or_len, before_first, after_first}
 use Rattle.std.specs.Option.{option_map}
 use Rattle.std.proofs.lemmas.Bool.{and_from, or_parts, cond-true, true≢false, le-ltb, lt-ltb, ltb-false, ne_eqb, eq-eqb, eqb-true}
 use Rattle.std.proofs.lemmas.List.{get_or-take, length-take-le, take-take}
-use Rattle.std.proofs.lemmas.List.Sums.{fails_before_first, passes_at_first, position_or_len_is, prefix_len-le-length}
+use Rattle.std.proofs.lemmas.List.Sums.{position_or_len_is, prefix_len-le-length}
 use Rattle.metering_model.specs.Batch.{Tag, is_text, is_empty, is_below}
 use Rattle.metering_model.specs.BatchReading.{is_equals_sign}
+use Rattle.byte_text.specs.Runs.{IsRun}
 use Rattle.byte_text.proofs.FirstPlace.{position_is}
 use Rattle.record_view.specs.Inner.Plain.{stops_at}
 use Rattle.record_view.specs.Plain.{is_plain}
@@ -15,21 +16,19 @@ use Rattle.record_view.specs.Inner.TagParts.{key_in}
 use Rattle.record_view.proofs.PartLaws.{found_any, within_any}
 use Rattle.record_view.proofs.PlainLaws.{goes_on, plain_text}
 
--- the first that passes is the first also of a front that holds it
-first_in_front : (test : ℕ → Bool) (t : List ℕ) (e : ℕ) → e ≤ length t → position_or_len test t < e → position_or_len test (take e t) ≡ position_or_len test t
-first_in_front test t e room within =
-    position_or_len_is test (take e t) (position_or_len test t) 0 (omega (arith, length-take-le e t room))
-    (λ k below. ap test (get_or-take e t k 0 (omega arith)) ∙ fails_before_first test t k 0 below)
-    (λ _. ap test (get_or-take e t (position_or_len test t) 0 within) ∙ passes_at_first test t 0 (omega arith))
-
--- a front that ends before it has none
-none_in_front : (test : ℕ → Bool) (t : List ℕ) (e : ℕ) → e ≤ length t → e ≤ position_or_len test t → list_any test (take e t) ≡ false
-none_in_front test t e room past =
+-- the first that passes among the bytes before a place, where a look at so many from the front found one
+pub first_before : (test : ℕ → Bool) (t : List ℕ) (many run e : ℕ) → IsRun test t many run → run < many → many ≤ length t → e ≤ length t
+    → min run e ≡ position_or_len test (take e t)
+first_before test t many run e is found few room =
     let long = length-take-le e t room in
-    let all : position_or_len test (take e t) ≡ e = position_or_len_is test (take e t) e 0 (omega (arith, long))
-    (λ k below. ap test (get_or-take e t k 0 below) ∙ fails_before_first test t k 0 (omega arith))
-    (λ within. absurd (omega (arith, long, within))) in
-    sym (within_any test (take e t)) ∙ le-ltb (position_or_len test (take e t)) (length (take e t)) (omega (arith, long, all))
+    sym (position_or_len_is test (take e t) (min run e) 0 (omega (arith, long))
+    (λ k below. ap test (get_or-take e t k 0 (omega arith)) ∙ is.before k (omega arith))
+    (λ within. ap test (get_or-take e t (min run e) 0 (omega (arith, long, within)))
+    ∙ ap (λ n. test (get_or t n 0)) (omega (arith, long, within)) ∙ is.here found))
+
+-- a look to the end of these bytes finds a place among them, or that end
+pub first_is_before : (test : ℕ → Bool) (t : List ℕ) (e place : ℕ) → e ≤ length t → place ≡ position_or_len test (take e t) → min place e ≡ place
+first_is_before test t e place room is = omega (arith, is, length-take-le e t room, prefix_len-le-length (λ x. not (test x)) (take e t))
 
 -- where none was found, the place of the first is the end
 pub past_all : (test : ℕ → Bool) (t : List ℕ) → position test t ≡ None → position_or_len test t ≡ length t
@@ -71,29 +70,26 @@ and_no : (b : Bool) → (b && false) ≡ false
 and_no true = refl
 and_no false = refl
 
-module _ (t : List ℕ) (e : ℕ) (room : e ≤ length t) where
-  pub key_before : 0 < position_or_len is_equals_sign t → position_or_len is_equals_sign t < e → is_plain (take e t) ≡ true
-      → key_in (take e t) ≡ Some (take (position_or_len is_equals_sign t) t)
-  key_before some within plain =
-      let same = first_in_front is_equals_sign t e room within in
-      let long = length-take-le e t room in
-      key_of (take e t) (omega (arith, same)) (omega (arith, same, long)) plain
-      ∙ ap (λ n. Some (take n (take e t))) same
-      ∙ ap Some (take-take (position_or_len is_equals_sign t) e t (omega arith))
+-- the key of the bytes before a place
+pub key_before : (t : List ℕ) (e n : ℕ) → e ≤ length t → 0 < n → n < e → n ≡ position_or_len is_equals_sign (take e t) → is_plain (take e t) ≡ true
+    → key_in (take e t) ≡ Some (take n t)
+key_before t e n room some within is plain =
+    key_of (take e t) (omega (arith, is)) (omega (arith, is, length-take-le e t room)) plain
+    ∙ ap (λ k. Some (take k (take e t))) (sym is)
+    ∙ ap Some (take-take n e t (omega arith))
 
-  -- there is none where no `=` stands among the bytes
-  pub no_key_before : e ≤ position_or_len is_equals_sign t → key_in (take e t) ≡ None
-  no_key_before past =
-      key_if (is_text (take e t)) (list_any is_equals_sign (take e t)) (not (is_empty (before_first is_equals_sign (take e t)))) _
-      (ap (λ b. b && not (is_empty (before_first is_equals_sign (take e t)))) (none_in_front is_equals_sign t e room past))
+-- there is none where no `=` stands
+pub no_key : (t : List ℕ) → length t ≤ position_or_len is_equals_sign t → key_in t ≡ None
+no_key t past =
+    let none = sym (within_any is_equals_sign t) ∙ le-ltb (position_or_len is_equals_sign t) (length t) past in
+    key_if (is_text t) (list_any is_equals_sign t) (not (is_empty (before_first is_equals_sign t))) _
+    (ap (λ b. b && not (is_empty (before_first is_equals_sign t))) none)
 
 -- or where it stands first
-pub no_key_at_front : (t : List ℕ) (e : ℕ) → e ≤ length t → position_or_len is_equals_sign t ≡ 0 → key_in (take e t) ≡ None
-no_key_at_front t zero room first = no_key_before t 0 room (omega arith)
-no_key_at_front t (suc e) room first =
-    let same = first_in_front is_equals_sign t (suc e) room (omega (arith, first)) in
-    key_if (is_text (take (suc e) t)) (list_any is_equals_sign (take (suc e) t)) (not (is_empty (before_first is_equals_sign (take (suc e) t)))) _
-    (ap (λ n. list_any is_equals_sign (take (suc e) t) && not (is_empty (take n (take (suc e) t)))) (same ∙ first) ∙ and_no (list_any is_equals_sign (take (suc e) t)))
+pub no_key_at_front : (t : List ℕ) → position_or_len is_equals_sign t ≡ 0 → key_in t ≡ None
+no_key_at_front t first =
+    key_if (is_text t) (list_any is_equals_sign t) (not (is_empty (before_first is_equals_sign t))) _
+    (ap (λ n. list_any is_equals_sign t && not (is_empty (take n t))) first ∙ and_no (list_any is_equals_sign t))
 
 -- a text in which a scan stops nowhere is plain
 none_stops : (byte : ℕ) (ts : List ℕ) → list_any (stops_at byte) ts ≡ false → is_plain ts ≡ true

@@ -1,6 +1,6 @@
 //! Fields of plain text. A byte that is not plain is left to the exact reader.
 
-ghost use Rattle.std.specs.Prelude.{◌≡◌, ◌<◌, ◌≤◌, ◌==◌, ◌∷◌, ℕ, slice_index, false, length, position, IfSome, IsTrue, is_some};
+ghost use Rattle.std.specs.Prelude.{◌≡◌, ◌<◌, ◌≤◌, ◌==◌, ◌∷◌, ℕ, slice_index, false, length, min, take, position, IfSome, IsTrue, is_some};
 ghost use Rattle.std.specs.List.{position_or_len};
 ghost use Rattle.metering_model.specs.Dates.{stamp_in};
 ghost use Rattle.record_view.specs.Parts.{lent, parts_at};
@@ -207,10 +207,12 @@ fn key_end_by_bytes(text: &[u8]) -> usize
     }
 }
 
-/// The same. Where it is near, it is found in one step.
+/// Where the first `=` stands among the bytes before a place; that place or a later one, if none stands there. One that is near is
+/// found in one step, whatever follows. A later one is looked for among these bytes alone: much more may stand behind them.
 #[inline(always)]
-pub(crate) fn key_end(text: &[u8]) -> usize
-    ensures { result ≡ position_or_len (λ c. c == 61) text.now }
+pub(crate) fn key_end(text: &[u8], end: usize) -> usize
+    requires { end ≤ length text.now }
+    ensures { min result end ≡ position_or_len (λ c. c == 61) (take end text.now) }
 {
     if text.len() >= LANES {
         let run = long_key_run(text);
@@ -223,7 +225,7 @@ pub(crate) fn key_end(text: &[u8]) -> usize
             return run;
         }
     }
-    key_end_by_bytes(text)
+    key_end_by_bytes(&text[..end])
 }
 
 /// What stands before and behind the first bar of a text, where all that stands before it is plain.

@@ -110,7 +110,7 @@ fn plain_key(text: &[u8], end: usize) -> Option<&[u8]>
     requires plain { IsTrue (is_plain (take end text.now)) }
     ensures { option_copied result ≡ key_in (take end text.now) }
 {
-    let at = key_end(text);
+    let at = key_end(text, end);
     if at == 0 || at >= end {
         return None;
     }
