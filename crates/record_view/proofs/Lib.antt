@@ -10,6 +10,7 @@ pub mod LastPart
 pub mod RegionLines
 pub mod PlainLaws
 pub mod PlainTags
+pub mod NoneFound
 pub mod KeptLaws
 pub mod PlainLines
 pub mod StampLaws

@@ -1,19 +1,21 @@
 -- The key of a tag of plain bytes, found in a text that goes on behind it.
-use Rattle.std.proofs.Common.{◌≡◌, ℕ, ◌<◌, ◌≤◌, ◌==◌, ◌&&◌, Bool, true, false, not, Some, None, is_some, List, [], ◌∷◌, length, take, get_or, min, refl, sym, ap, ◌∙◌, arith}
+use Rattle.std.proofs.Common.{◌≡◌, ℕ, zero, suc, ◌<◌, ◌≤◌, ◌==◌, ◌&&◌, Bool, true, false, not, Some, None, is_some, List, [], ◌∷◌, length, take, drop, get_or, min, refl, sym, ap, ◌∙◌, arith}
 use Rattle.std.specs.Prelude.{if◌then◌else◌}
 use Rattle.std.specs.List.{list_any, position, position_or_len, before_first, after_first}
 use Rattle.std.specs.Option.{option_map}
-use Rattle.std.proofs.lemmas.Bool.{and_from, or_parts, cond-true, true≢false, le-ltb, lt-ltb, ltb-false, ne_eqb, eq-eqb, eqb-true}
+use Rattle.std.proofs.lemmas.Bool.{and_from, and_parts, or_parts, cond-true, true≢false, le-ltb, lt-ltb, ltb-false, ne_eqb, eq-eqb, eqb-true}
 use Rattle.std.proofs.lemmas.List.{get_or-take, length-take-le, take-take}
-use Rattle.std.proofs.lemmas.List.Sums.{position_or_len_is, prefix_len-le-length}
+use Rattle.std.proofs.lemmas.Bool.Decides.{nat_tests}
+use Rattle.std.proofs.lemmas.List.Folds.{list_all_at}
+use Rattle.std.proofs.lemmas.List.Sums.{passes_at_first, position_or_len_is, prefix_len-le-length}
 use Rattle.metering_model.specs.Batch.{Tag, is_text, is_empty, is_below}
 use Rattle.metering_model.specs.BatchReading.{is_equals_sign}
 use Rattle.byte_text.specs.Runs.{IsRun}
 use Rattle.byte_text.proofs.FirstPlace.{position_is}
 use Rattle.record_view.specs.Inner.Plain.{stops_at}
-use Rattle.record_view.specs.Plain.{is_plain}
+use Rattle.record_view.specs.Plain.{is_plain, is_plain_byte}
 use Rattle.record_view.specs.Inner.TagParts.{key_in}
-use Rattle.record_view.proofs.PartLaws.{found_any, within_any}
+use Rattle.record_view.proofs.PartLaws.{found_any, found_at, within_any}
 use Rattle.record_view.proofs.PlainLaws.{goes_on, plain_text}
 
 -- the first that passes among the bytes before a place, where a look at so many from the front found one
@@ -100,3 +102,19 @@ none_stops byte (c ∷ cs) h =
 
 pub all_plain : (byte : ℕ) (ts : List ℕ) → position (stops_at byte) ts ≡ None → is_plain ts ≡ true
 all_plain byte ts h = none_stops byte ts (sym (found_any (stops_at byte) ts) ∙ ap is_some h)
+
+no_plain_byte : (byte c : ℕ) → stops_at byte c ≡ true → (c ≡ byte → ⊥) → is_plain_byte c ≡ false
+no_plain_byte byte c h other = grind (arith, nat_tests)
+
+-- what is behind a byte of plain bytes is plain
+pub plain_behind : (t : List ℕ) (n : ℕ) → is_plain t ≡ true → is_plain (drop n t) ≡ true
+plain_behind t zero plain = plain
+plain_behind [] (suc n) plain = refl
+plain_behind (c ∷ cs) (suc n) plain = plain_behind cs n (and_parts _ _ plain).1
+
+-- where a scan of plain bytes stops, it stops at its byte
+pub stops_at_byte : (byte : ℕ) (ts : List ℕ) (i : ℕ) → position (stops_at byte) ts ≡ Some i → (get_or ts i 0 ≡ byte → ⊥) → is_plain ts ≡ false
+stops_at_byte byte ts i h other =
+    let found = found_at (stops_at byte) ts i h in
+    let stops = ap (λ n. stops_at byte (get_or ts n 0)) (sym found.0) ∙ passes_at_first (stops_at byte) ts 0 (omega arith) in
+    list_all_at is_plain_byte ts i 0 found.1 (no_plain_byte byte (get_or ts i 0) stops other)

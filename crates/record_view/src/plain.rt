@@ -1,13 +1,13 @@
 //! Fields of plain text. A byte that is not plain is left to the exact reader.
 
-ghost use Rattle.std.specs.Prelude.{◌≡◌, ◌<◌, ◌≤◌, ◌==◌, ◌∷◌, ℕ, slice_index, false, length, min, take, position, IfSome, IsTrue, is_some};
-ghost use Rattle.std.specs.List.{position_or_len};
+ghost use Rattle.std.specs.Prelude.{◌≡◌, ◌≢◌, ◌<◌, ◌≤◌, ◌==◌, ◌∷◌, ℕ, List, slice_index, false, length, min, take, position, IfNone, IfSome, IsTrue, is_some};
+ghost use Rattle.std.specs.List.{list_any, position_or_len};
 ghost use Rattle.metering_model.specs.Dates.{stamp_in};
-ghost use Rattle.record_view.specs.Parts.{lent, parts_at};
+ghost use Rattle.record_view.specs.Parts.{LentText, lent, parts_at};
 ghost use Rattle.record_view.specs.Inner.Placed.{IsPlaced};
 ghost use Rattle.byte_text.specs.Runs.{IsRun};
 ghost use Rattle.record_view.specs.Inner.Plain.{stops_at};
-ghost use Rattle.record_view.specs.Plain.{is_plain};
+ghost use Rattle.record_view.specs.Plain.{is_plain, is_plain_line};
 
 use crate::fields::{Field, cut};
 use byte_text::lowest_set;
@@ -235,6 +235,8 @@ pub(crate) fn split_plain<'a>(whole: Field<'a>) -> Option<(Field<'a>, Field<'a>)
     ensures parts { IfSome result (λ p. parts_at 124 (lent whole.entry) ≡ lent p.0 ∷ parts_at 124 (lent p.1)) }
     ensures plain { IfSome result (λ p. IsTrue (is_plain p.0.text.now)) }
     ensures placed { IfSome result (λ p. IsPlaced (lent p.0) × IsPlaced (lent p.1)) }
+    ensures none { IfNone result (IsTrue (is_plain_line whole.entry.text.now)
+        → list_any (λ c. c == 124) whole.entry.text.now ≡ false) }
 {
     let at = first_special(whole.text)?;
     if whole.text[at] != b'|' {
@@ -249,6 +251,8 @@ pub(crate) fn split_letter<'a>(whole: Field<'a>) -> Option<(Field<'a>, Field<'a>
     requires { IsPlaced (lent whole) }
     ensures parts { IfSome result (λ p. parts_at 124 (lent whole.entry) ≡ lent p.0 ∷ parts_at 124 (lent p.1)) }
     ensures placed { IfSome result (λ p. IsPlaced (lent p.1)) }
+    ensures none { IfNone result ((first second : LentText) (others : List LentText) →
+        parts_at 124 (lent whole.entry) ≡ first ∷ second ∷ others → length first.text ≢ 1) }
 {
     if whole.text.len() < 2 || whole.text[0] == b'|' || whole.text[1] != b'|' {
         return None;
@@ -262,6 +266,8 @@ pub(crate) fn split_stamp<'a>(whole: Field<'a>) -> Option<(Field<'a>, Field<'a>)
     ensures parts { IfSome result (λ p. IsTrue (is_some (stamp_in p.0.text.now))
         → parts_at 124 (lent whole.entry) ≡ lent p.0 ∷ parts_at 124 (lent p.1)) }
     ensures placed { IfSome result (λ p. IsPlaced (lent p.1)) }
+    ensures none { IfNone result ((first second : LentText) (others : List LentText) →
+        parts_at 124 (lent whole.entry) ≡ first ∷ second ∷ others → IsTrue (is_some (stamp_in first.text)) → ⊥) }
 {
     if whole.text.len() <= 20 || whole.text[20] != b'|' {
         return None;

@@ -137,6 +137,8 @@ fn plain_keys_rise(text: Field<'_>) -> bool
     requires { IsPlaced (lent text) }
     ensures rise { IsTrue result → IsTrue (rise_from (Some []) (parts_at 59 (lent text.entry))) }
     ensures bars { IsTrue result → list_any (λ c. c == 124) text.entry.text.now ≡ false }
+    ensures all { IsTrue (is_plain text.entry.text.now)
+        → IsTrue (rise_from (Some []) (parts_at 59 (lent text.entry))) → IsTrue result }
 {
     let mut last: &[u8] = &[];
     let mut rest = text;
@@ -158,6 +160,7 @@ pub(crate) fn are_plain_tags(text: Field<'_>) -> bool
     requires { IsPlaced (lent text) }
     ensures tags { IsTrue result → IsTrue (are_tags text.entry.text.now) }
     ensures bars { IsTrue result → list_any (λ c. c == 124) text.entry.text.now ≡ false }
+    ensures all { IsTrue (is_plain text.entry.text.now) → IsTrue (are_tags text.entry.text.now) → IsTrue result }
 {
     if text.text.is_empty() {
         true

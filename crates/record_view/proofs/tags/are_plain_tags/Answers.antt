@@ -1,5 +1,5 @@
 -- The empty text is tags without bars, and another one is if its parts rise.
-use Rattle.std.proofs.Common.{◌<◌, ◌==◌, length, ◌∙◌, sym, ap, arith}
+use Rattle.std.proofs.Common.{◌<◌, ◌==◌, length, refl, ◌∙◌, sym, ap, arith}
 use Rattle.std.specs.List.{list_any}
 use Rattle.std.proofs.lemmas.Bool.{eqb-true, eqb-false}
 use Rattle.std.proofs.lemmas.List.{nil_from_length}
@@ -23,3 +23,13 @@ returns-else-is_empty-clause-tags c = λ yes.
     let ne = eqb-false (length text) 0 (sym c.is_empty.ensures ∙ c.if-is_empty.false) in
     let some : 0 < length text = omega arith in
     tags_rise (lent c.args.text) some ∙ c.plain_keys_rise.ensures.rise yes
+
+pub returns-then-is_empty-clause-all : goal.returns-then-is_empty-clause-all
+returns-then-is_empty-clause-all c = λ plain tags. refl
+
+pub returns-else-is_empty-clause-all : goal.returns-else-is_empty-clause-all
+returns-else-is_empty-clause-all c = λ plain tags.
+    let text = c.args.text.text.now in
+    let ne = eqb-false (length text) 0 (sym c.is_empty.ensures ∙ c.if-is_empty.false) in
+    let some : 0 < length text = omega arith in
+    c.plain_keys_rise.ensures.all plain (sym (tags_rise (lent c.args.text) some) ∙ tags)
