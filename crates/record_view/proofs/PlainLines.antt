@@ -1,5 +1,5 @@
 -- What a line gives, from what its plain fields give.
-use Rattle.std.proofs.Common.{◌≡◌, Option, Some, None, Result, Ok, Err, IfOk, IfSome, refl, sym, subst, ◌∙◌}
+use Rattle.std.proofs.Common.{◌≡◌, true, Option, Some, None, Result, Ok, Err, IfOk, IfSome, refl, sym, subst, ◌∙◌}
 use Rattle.std.proofs.lemmas.Option.{none-some, same_Some}
 use Rattle.metering_model.specs.declared.BatchCode.{BatchCode}
 use Rattle.metering_model.specs.declared.BatchCode.TheVariants.{Fields}
@@ -7,8 +7,11 @@ use Rattle.metering_model.specs.declared.Version.{Version}
 use Rattle.metering_model.specs.declared.Version.TheVariants.{B1, B2}
 use Rattle.record_view.specs.declared.fields.Field.{Field}
 use Rattle.record_view.specs.declared.records.Record.{Record}
+use Rattle.metering_model.specs.Batch.{is_text}
 use Rattle.record_view.specs.Parts.{LentText}
+use Rattle.record_view.specs.Inner.RecordSteps.{text_step}
 use Rattle.record_view.specs.Inner.LineFields.{IsBehind, IsBeforeRegion}
+use Rattle.record_view.proofs.RecordLaws.{text_met}
 
 -- a record that may be there, as the answer of a reader that always tells a fault
 abbrev pub answered : Option Record → Result Record BatchCode
@@ -35,3 +38,8 @@ pub with_region : (version : Version) (rest front : LentText) (region : Option F
 with_region B1 rest front region f h some = absurd (none-some f (sym h.1 ∙ some))
 with_region B2 rest front None f h some = absurd h
 with_region B2 rest front (Some g) f h some = (refl, subst (IsBehind rest front) (same_Some g f some) h)
+
+-- the region that was taken off is a text
+pub some_text : (region : Option Field) (f : Field) → IfSome region (λ g. is_text g.text.now ≡ true) → region ≡ Some f → text_step f.text.now ≡ Ok tt
+some_text None f h some = absurd (none-some f some)
+some_text (Some g) f h some = subst (λ x. text_step x.text.now ≡ Ok tt) (same_Some g f some) (text_met g.text.now h)

@@ -1,5 +1,5 @@
 -- A line of format B2 gives what stands before its last bar gives, with the region behind it.
-use Rattle.std.proofs.Common.{◌≡◌, ℕ, ◌+◌, false, List, [], ◌∷◌, ◌++◌, length, Option, Some, None, Result, Ok, Err, IfOk, IfErr, MatchResult, refl, sym, ap, subst, ◌∙◌, codes, arith}
+use Rattle.std.proofs.Common.{◌≡◌, ℕ, ◌+◌, false, List, [], ◌∷◌, ◌++◌, length, Option, Some, None, Result, Ok, Err, IfOk, MatchResult, refl, sym, ap, subst, ◌∙◌, codes, arith}
 use Rattle.std.specs.Option.{option_map}
 use Rattle.std.specs.List.{flat_map}
 use Rattle.std.proofs.lemmas.List.{append-nil, map-append}
@@ -18,7 +18,7 @@ use Rattle.record_view.specs.Parts.{LentText, lent, AreLentApart, parts_at}
 use Rattle.record_view.specs.TagTexts.{LentTag, tags_at}
 use Rattle.record_view.specs.Inner.Placed.{texts_of}
 use Rattle.record_view.specs.Inner.RecordSteps.{text_step}
-use Rattle.record_view.specs.Inner.LineFields.{in_region}
+use Rattle.record_view.specs.Inner.LineFields.{in_region, first_fault}
 use Rattle.record_view.specs.Lent.{record_of, record_texts, reading_region, lent_fields, lent_texts, tag_texts}
 use Rattle.record_view.proofs.RecordLaws.{four_others}
 use Rattle.record_view.proofs.LentLaws.{with_last, without_last}
@@ -49,10 +49,6 @@ behind_ok region what x met is =
     ap (λ s. s >>= (λ _. Ok (region_laws.in_region region.text.now (record_of what)))) met
     ∙ ap Ok (same_record region what ∙ ap record_of (sym is))
 
-behind_err : (region : Field) (what : Record) (e : BatchCode) → text_step region.text.now ≡ Err e → region_laws.region_behind region.text.now (record_of what) ≡ Err e
-unfolding text_step
-behind_err region what e broken = ap (λ s. s >>= (λ _. Ok (region_laws.in_region region.text.now (record_of what)))) broken
-
 pub region_ok : (letter : List ℕ) (front rest : LentText) (region : Field) (what : Record) (r : Result Record BatchCode) → is_same letter (codes "X") ≡ false
     → parts_at 124 rest ≡ parts_at 124 front ++ lent region ∷ [] → record_in B1 (letter ∷ texts_of (parts_at 124 front)) ≡ Ok (record_of what) → InRegion region what r
     → IfOk r (λ x. record_in B2 (letter ∷ texts_of (parts_at 124 rest)) ≡ Ok (record_of x))
@@ -61,20 +57,24 @@ region_ok letter front rest region what (Ok x) other parts read put =
     ∙ (ap (λ m. m >>= region_laws.region_behind region.text.now) read ∙ behind_ok region what x put.0 put.1)
 region_ok letter front rest region what (Err e) other parts read put = tt
 
-pub region_err : (letter : List ℕ) (front rest : LentText) (region : Field) (what : Record) (r : Result Record BatchCode) → is_same letter (codes "X") ≡ false
-    → parts_at 124 rest ≡ parts_at 124 front ++ lent region ∷ [] → record_in B1 (letter ∷ texts_of (parts_at 124 front)) ≡ Ok (record_of what) → InRegion region what r
-    → IfErr r (λ e. record_in B2 (letter ∷ texts_of (parts_at 124 rest)) ≡ Err e)
-region_err letter front rest region what (Ok x) other parts read put = tt
-region_err letter front rest region what (Err e) other parts read put =
-    region_line letter front rest region other parts
-    ∙ (ap (λ m. m >>= region_laws.region_behind region.text.now) read ∙ behind_err region what e put)
-
 -- a fault before the region
 pub front_err : (letter : List ℕ) (front rest : LentText) (region : Field) (e : BatchCode) → is_same letter (codes "X") ≡ false
     → parts_at 124 rest ≡ parts_at 124 front ++ lent region ∷ [] → record_in B1 (letter ∷ texts_of (parts_at 124 front)) ≡ Err e
     → record_in B2 (letter ∷ texts_of (parts_at 124 rest)) ≡ Err e
 front_err letter front rest region e other parts broken =
     region_line letter front rest region other parts ∙ ap (λ m. m >>= region_laws.region_behind region.text.now) broken
+
+-- a region that breaks its rule
+pub broken_region : (letter : List ℕ) (front rest : LentText) (region : Field) (e : BatchCode) → is_same letter (codes "X") ≡ false
+    → parts_at 124 rest ≡ parts_at 124 front ++ lent region ∷ [] → text_step region.text.now ≡ Err e
+    → record_in B2 (letter ∷ texts_of (parts_at 124 rest)) ≡ Err (first_fault (record_in B1 (letter ∷ texts_of (parts_at 124 front))) e)
+unfolding text_step
+broken_region letter front rest region e other parts broken =
+    region_line letter front rest region other parts ∙ whichever (record_in B1 (letter ∷ texts_of (parts_at 124 front)))
+  where
+    whichever : (m : Result model.Record BatchCode) → (m >>= region_laws.region_behind region.text.now) ≡ Err (first_fault m e)
+    whichever (Ok x) = ap (λ s. s >>= (λ _. Ok (region_laws.in_region region.text.now x))) broken
+    whichever (Err c) = refl
 
 -- no bar behind the letter's
 pub no_region : (letter : List ℕ) (rest : LentText) → parts_at 124 rest ≡ rest ∷ [] → record_in B2 (letter ∷ texts_of (parts_at 124 rest)) ≡ Err Fields

@@ -11,7 +11,7 @@ ghost use Rattle.record_view.specs.TagTexts.{tag_of, tags_at};
 ghost use Rattle.record_view.specs.Inner.TagParts.{are_tags};
 ghost use Rattle.record_view.specs.Inner.RecordSteps.{kind_step, stamp_step, order_step, text_step, key_step, value_step, sign_step, commitment_step, tags_step, whole_step};
 ghost use Rattle.record_view.specs.Lent.{lent_tags, reading_tags, reading_region, record_of, record_texts, lent_fields, IsLentRecord};
-ghost use Rattle.record_view.specs.Inner.LineFields.{reading_parts, amendment_parts, field_texts, record_of_reading, record_of_amendment, in_region, IsBeforeRegion, HaveStamps, ArePlainFields};
+ghost use Rattle.record_view.specs.Inner.LineFields.{reading_parts, amendment_parts, field_texts, record_of_reading, record_of_amendment, first_fault, in_region, IsBeforeRegion, HaveStamps, ArePlainFields};
 
 use crate::fields::{Field, Span, field_at, is_text, split_at_byte, split_at_last};
 use crate::plain::{split_letter, split_plain, split_stamp};
@@ -478,38 +478,42 @@ fn plain_record<'a>(
     }
 }
 
-/// The record with that region, where it is a reading, or the rule that the region breaks.
-fn in_region<'a>(what: &Record<'a>, region: Field<'a>) -> Result<Record<'a>, BatchCode>
-    ensures { MatchResult result
-        (λ r. (text_step region.entry.text.now ≡ Ok tt) × (r ≡ in_region region.entry what.now))
-        (λ e. text_step region.entry.text.now ≡ Err e) }
+/// The record with that region, where it is a reading.
+#[inline(always)]
+fn in_region<'a>(what: &Record<'a>, region: Field<'a>) -> Record<'a>
+    ensures { result ≡ in_region region.entry what.now }
 {
-    check_text(region.text)?;
     match what {
-        Record::Reading(reading) => Ok(Record::Reading(Reading {
+        Record::Reading(reading) => Record::Reading(Reading {
             region: Some(region),
             ..*reading
-        })),
-        Record::Amend { seq, index, value } => Ok(Record::Amend {
+        }),
+        Record::Amend { seq, index, value } => Record::Amend {
             seq: *seq,
             index: *index,
             value: *value,
-        }),
+        },
     }
 }
 
 /// What stands of a line behind its letter and before its region, which is all of it in format B1, and the region of format B2.
+/// A region that is no text is told before anything in front of it is looked at.
 #[inline(always)]
 fn before_region<'a>(version: Version, rest: Field<'a>) -> Option<(Field<'a>, Option<Field<'a>>)>
     requires { IsPlaced (lent rest) }
     ensures before { IfSome result (λ p. IsBeforeRegion version (lent rest.entry) (lent p.0) p.1) }
     ensures placed { IfSome result (λ p. IsPlaced (lent p.0)) }
+    ensures text { IfSome result (λ p. IfSome p.1 (λ region. IsTrue (is_text region.text.now))) }
 {
     match version {
         Version::B1 => Some((rest, None)),
         Version::B2 => {
             let (front, region) = split_at_last(rest, b'|')?;
-            Some((front, Some(region)))
+            if is_text(region.text) {
+                Some((front, Some(region)))
+            } else {
+                None
+            }
         }
     }
 }
@@ -536,12 +540,26 @@ fn plain_behind<'a>(
     match plain_record(letter, front, stamps) {
         Some(record) => match region {
             None => Some(record),
-            Some(region) => match in_region(&record, region) {
-                Ok(record) => Some(record),
-                Err(_) => None,
-            },
+            Some(region) => Some(in_region(&record, region)),
         },
         None => None,
+    }
+}
+
+/// The rule that a reading's line breaks whose region breaks this one, from what stands before the region. A plain reading is
+/// known for one in one pass: then the region's fault is the first.
+#[inline(never)]
+fn fault_before<'a>(letter: &[u8], front: Field<'a>, region: BatchCode) -> BatchCode
+    requires placed { IsPlaced (lent front) }
+    requires letter { is_same letter.now (codes "X") ≡ false }
+    ensures { result ≡ first_fault (record_in B1 (letter.now ∷ texts_of (parts_at 124 (lent front.entry)))) region }
+{
+    match plain_record(letter, front, &mut StampReader::new()) {
+        Some(_) => region,
+        None => match exact_reading(letter, front) {
+            Ok(_) => region,
+            Err(code) => code,
+        },
     }
 }
 
@@ -565,8 +583,11 @@ fn reading_in_region<'a>(letter: &[u8], rest: Field<'a>) -> Result<Record<'a>, B
     let Some((front, region)) = split_at_last(rest, b'|') else {
         return Err(BatchCode::Fields);
     };
+    if let Err(code) = check_text(region.text) {
+        return Err(fault_before(letter, front, code));
+    }
     match exact_reading(letter, front) {
-        Ok(record) => in_region(&record, region),
+        Ok(record) => Ok(in_region(&record, region)),
         Err(code) => Err(code),
     }
 }

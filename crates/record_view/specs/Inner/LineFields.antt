@@ -1,5 +1,5 @@
 -- The fields of a line behind its letter.
-use Rattle.std.specs.Prelude.{◌≡◌, ℕ, ◌+◌, List, [], ◌∷◌, ◌++◌, Option, Some, None, is_some, IsTrue, Result, MatchOption}
+use Rattle.std.specs.Prelude.{◌≡◌, ℕ, ◌+◌, List, [], ◌∷◌, ◌++◌, Option, Some, None, is_some, IsTrue, Result, Ok, Err, MatchOption}
 use Rattle.metering_model.specs.declared.BatchCode.{BatchCode}
 use Rattle.metering_model.specs.declared.Version.{Version}
 use Rattle.metering_model.specs.declared.Version.TheVariants.{B1, B2}
@@ -37,6 +37,11 @@ record_of_reading letter f =
 
 abbrev pub record_of_amendment : AmendmentFields → Result model.Record BatchCode
 record_of_amendment f = amendment_in f.seq.text.now f.index.text.now f.value.text.now
+
+-- the first fault of a line: that of what is read first, or else the one behind it
+abbrev pub first_fault : Result model.Record BatchCode → BatchCode → BatchCode
+first_fault (Ok r) behind = behind
+first_fault (Err e) behind = e
 
 -- the record with that region, where it is a reading
 abbrev pub in_region : Field → lent_record.Record → lent_record.Record

@@ -5,7 +5,7 @@ use Rattle.record_view.specs.Parts.{lent, parts_at}
 use Rattle.record_view.specs.Inner.Placed.{texts_of}
 use Rattle.record_view.specs.Lent.{lent_fields}
 use Rattle.record_view.proofs.RegionLines.{region_ok, region_places, region_lends}
-use Rattle.record_view.proofs.PlainLines.{without_region, with_region}
+use Rattle.record_view.proofs.PlainLines.{without_region, with_region, some_text}
 use Rattle.record_view.proofs.records.plain_behind.Goals as goal
 
 pub returns-in-None-region-clause-places : goal.returns-in-None-region-clause-places
@@ -13,18 +13,24 @@ returns-in-None-region-clause-places c = λ first.
     let whole = without_region c.args.version (lent c.args.rest) (lent c.in_ok-front.front) c.in_ok-front.region c.in_ok-front.ensures.before c.in-None-region.is in
     c.in-Some.ensures.places first ∙ ap (λ t. lent_fields (first ∷ parts_at 124 t)) whole.1
 
-pub returns-in-Ok-clause-ok : goal.returns-in-Ok-clause-ok
-returns-in-Ok-clause-ok c =
-    let split = with_region c.args.version (lent c.args.rest) (lent c.in_ok-front.front) c.in_ok-front.region c.in-Some-region.region c.in_ok-front.ensures.before c.in-Some-region.is in
+pub returns-in-Some-region-clause-ok : goal.returns-in-Some-region-clause-ok
+returns-in-Some-region-clause-ok c =
+    let region = c.in-Some-region.region in
+    let split = with_region c.args.version (lent c.args.rest) (lent c.in_ok-front.front) c.in_ok-front.region region c.in_ok-front.ensures.before c.in-Some-region.is in
+    let is_text = some_text c.in_ok-front.region region c.in_ok-front.ensures.text c.in-Some-region.is in
     ap (λ version. record_in version (c.args.letter.now ∷ texts_of (parts_at 124 (lent c.args.rest)))) split.0
-    ∙ region_ok c.args.letter.now (lent c.in_ok-front.front) (lent c.args.rest) c.in-Some-region.region c.in-Some.record (Ok c.in-Ok.record) c.requires.letter split.1.parts c.in-Some.ensures.ok c.in-Ok.ensures
+    ∙ region_ok c.args.letter.now (lent c.in_ok-front.front) (lent c.args.rest) region c.in-Some.record (Ok c.in_region.result) c.requires.letter split.1.parts c.in-Some.ensures.ok (is_text, c.in_region.ensures)
 
-pub returns-in-Ok-clause-places : goal.returns-in-Ok-clause-places
-returns-in-Ok-clause-places c =
-    let split = with_region c.args.version (lent c.args.rest) (lent c.in_ok-front.front) c.in_ok-front.region c.in-Some-region.region c.in_ok-front.ensures.before c.in-Some-region.is in
-    region_places c.args.letter.now (lent c.in_ok-front.front) (lent c.args.rest) c.in-Some-region.region c.in-Some.record (Ok c.in-Ok.record) c.requires.letter split.1.parts c.in-Some.ensures.ok c.in-Some.ensures.places c.in-Ok.ensures
+pub returns-in-Some-region-clause-places : goal.returns-in-Some-region-clause-places
+returns-in-Some-region-clause-places c =
+    let region = c.in-Some-region.region in
+    let split = with_region c.args.version (lent c.args.rest) (lent c.in_ok-front.front) c.in_ok-front.region region c.in_ok-front.ensures.before c.in-Some-region.is in
+    let is_text = some_text c.in_ok-front.region region c.in_ok-front.ensures.text c.in-Some-region.is in
+    region_places c.args.letter.now (lent c.in_ok-front.front) (lent c.args.rest) region c.in-Some.record (Ok c.in_region.result) c.requires.letter split.1.parts c.in-Some.ensures.ok c.in-Some.ensures.places (is_text, c.in_region.ensures)
 
-pub returns-in-Ok-clause-lent : goal.returns-in-Ok-clause-lent
-returns-in-Ok-clause-lent c =
-    let split = with_region c.args.version (lent c.args.rest) (lent c.in_ok-front.front) c.in_ok-front.region c.in-Some-region.region c.in_ok-front.ensures.before c.in-Some-region.is in
-    region_lends c.args.letter.now (lent c.in_ok-front.front) (lent c.args.rest) c.in-Some-region.region c.in-Some.record (Ok c.in-Ok.record) c.requires.letter split.1.parts split.1.adjoin c.in-Some.ensures.ok c.in-Some.ensures.lent c.in-Ok.ensures
+pub returns-in-Some-region-clause-lent : goal.returns-in-Some-region-clause-lent
+returns-in-Some-region-clause-lent c =
+    let region = c.in-Some-region.region in
+    let split = with_region c.args.version (lent c.args.rest) (lent c.in_ok-front.front) c.in_ok-front.region region c.in_ok-front.ensures.before c.in-Some-region.is in
+    let is_text = some_text c.in_ok-front.region region c.in_ok-front.ensures.text c.in-Some-region.is in
+    region_lends c.args.letter.now (lent c.in_ok-front.front) (lent c.args.rest) region c.in-Some.record (Ok c.in_region.result) c.requires.letter split.1.parts split.1.adjoin c.in-Some.ensures.ok c.in-Some.ensures.lent (is_text, c.in_region.ensures)

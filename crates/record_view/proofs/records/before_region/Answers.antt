@@ -1,0 +1,14 @@
+-- What was cut off at the last bar is the region, and it was asked whether it is a text.
+use Rattle.std.proofs.Common.{Some, sym, subst, ◌∙◌}
+use Rattle.record_view.specs.Parts.{lent}
+use Rattle.record_view.specs.Inner.LineFields.{IsBeforeRegion}
+use Rattle.record_view.proofs.records.before_region.Goals as goal
+
+pub returns-then-is_text-clause-before : goal.returns-then-is_text-clause-before
+returns-then-is_text-clause-before c =
+    let cut = c.in_ok-front-in-B2 in
+    subst (λ v. IsBeforeRegion v (lent c.args.rest) (lent cut.front) (Some cut.region)) (sym c.in-B2.is)
+    (record { parts = cut.ensures.parts; adjoin = cut.ensures.adjoin })
+
+pub returns-then-is_text-clause-text : goal.returns-then-is_text-clause-text
+returns-then-is_text-clause-text c = sym c.is_text.ensures ∙ c.if-is_text.true
