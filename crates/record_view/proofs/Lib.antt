@@ -14,3 +14,6 @@ pub mod NoneFound
 pub mod KeptLaws
 pub mod PlainLines
 pub mod StampLaws
+pub mod PlainParts
+pub mod ReadingSteps
+pub mod PlainReadings

@@ -268,6 +268,9 @@ pub(crate) fn split_stamp<'a>(whole: Field<'a>) -> Option<(Field<'a>, Field<'a>)
     ensures placed { IfSome result (λ p. IsPlaced (lent p.1)) }
     ensures none { IfNone result ((first second : LentText) (others : List LentText) →
         parts_at 124 (lent whole.entry) ≡ first ∷ second ∷ others → IsTrue (is_some (stamp_in first.text)) → ⊥) }
+    ensures first { IfSome result (λ p. (first second : LentText) (others : List LentText) →
+        parts_at 124 (lent whole.entry) ≡ first ∷ second ∷ others → IsTrue (is_some (stamp_in first.text))
+        → first.text ≡ p.0.text.now) }
 {
     if whole.text.len() <= 20 || whole.text[20] != b'|' {
         return None;

@@ -1,17 +1,19 @@
 //! The records of a batch.
 
-ghost use Rattle.std.specs.Prelude.{◌≡◌, ◌≢◌, ◌<◌, ◌≤◌, ◌∷◌, [], length, map, slice_range, IsTrue, OnOk, IfOk, IfErr, IfSome, IfNone, MatchResult, Ok, Err, true, false, ℕ, List, codes};
+ghost use Rattle.std.specs.Prelude.{◌≡◌, ◌≢◌, ◌<◌, ◌≤◌, ◌∷◌, [], length, map, slice_range, IsTrue, OnOk, IfOk, IfErr, IfSome, IfNone, MatchResult, Ok, Err, true, false, ℕ, ℤ, List, codes};
 ghost use Rattle.metering_model.specs.FirstFailure.{holds_or};
+ghost use Rattle.metering_model.specs.Batch as model;
 ghost use Rattle.metering_model.specs.Batch.{is_priced, is_text};
 ghost use Rattle.metering_model.specs.declared.Version.TheVariants.{B1, B2};
 ghost use Rattle.metering_model.specs.BatchReading.{is_same, kind_in, record_in, fields_in};
 ghost use Rattle.record_view.specs.Parts.{LentText, AreLentApart, lent, parts_at};
 ghost use Rattle.record_view.specs.Inner.Placed.{IsPlaced, texts_of};
+ghost use Rattle.record_view.specs.Plain.{is_plain_line, IsPlainReading};
 ghost use Rattle.record_view.specs.TagTexts.{tag_of, tags_at};
 ghost use Rattle.record_view.specs.Inner.TagParts.{are_tags};
 ghost use Rattle.record_view.specs.Inner.RecordSteps.{kind_step, stamp_step, order_step, text_step, key_step, value_step, sign_step, commitment_step, tags_step, whole_step};
 ghost use Rattle.record_view.specs.Lent.{lent_tags, reading_tags, reading_region, record_of, record_texts, lent_fields, IsLentRecord};
-ghost use Rattle.record_view.specs.Inner.LineFields.{reading_parts, amendment_parts, field_texts, record_of_reading, record_of_amendment, first_fault, in_region, IsBeforeRegion, HaveStamps, ArePlainFields};
+ghost use Rattle.record_view.specs.Inner.LineFields.{reading_parts, amendment_parts, field_texts, record_of_reading, record_of_amendment, first_fault, in_region, IsBeforeRegion, HaveStamps, ArePlainFields, IsPlainRest, IsPlainBehind};
 
 use crate::fields::{Field, Span, field_at, is_text, split_at_byte, split_at_last};
 use crate::plain::{split_letter, split_plain, split_stamp};
@@ -115,7 +117,8 @@ fn read_stamps<'a>(
     end: &'a [u8],
     stamps: &mut StampReader<'a>,
 ) -> Result<(Stamp, Stamp), BatchCode>
-    ensures { IfOk result (λ stamps. (stamp_step start.now ≡ Ok stamps.0) × (stamp_step end.now ≡ Ok stamps.1)) }
+    ensures ok { IfOk result (λ stamps. (stamp_step start.now ≡ Ok stamps.0) × (stamp_step end.now ≡ Ok stamps.1)) }
+    ensures err { IfErr result (λ e. (s t : ℤ) → stamp_step start.now ≡ Ok s → stamp_step end.now ≡ Ok t → ⊥) }
 {
     match stamps.read_both(start, end) {
         Some(stamps) => Ok(stamps),
@@ -379,6 +382,8 @@ fn plain_fields<'a>(rest: Field<'a>) -> Option<ReadingFields<'a>>
     requires { IsPlaced (lent rest) }
     ensures parts { IfSome result (λ f. HaveStamps f → parts_at 124 (lent rest.entry) ≡ reading_parts f) }
     ensures plain { IfSome result ArePlainFields }
+    ensures none { IfNone result (IsPlainRest rest.entry.text.now → ⊥) }
+    ensures stamps { IfSome result (λ f. IsPlainRest rest.entry.text.now → HaveStamps f) }
 {
     let (start, rest) = split_stamp(rest)?;
     let (end, rest) = split_stamp(rest)?;
@@ -429,6 +434,7 @@ fn plain_reading<'a>(
     requires { ArePlainFields plain.now }
     ensures stamps { OnOk result (HaveStamps plain.now) }
     ensures ok { IfOk result (λ r. record_of_reading letter.now plain.now ≡ Ok (record_of r)) }
+    ensures err { IfErr result (λ e. (r : model.Record) → record_of_reading letter.now plain.now ≢ Ok r) }
     ensures lent { IfOk result (λ r. record_texts r ≡ field_texts plain.now) }
 {
     let kind = read_kind(letter)?;
@@ -470,6 +476,7 @@ fn plain_record<'a>(
     ensures lent { IfSome result (λ r. (source : List ℕ) (from to : ℕ) →
         AreLentApart source from to (parts_at 124 (lent rest.entry))
         → AreLentApart source from to (record_texts r)) }
+    ensures none { IfNone result (IsPlainBehind B1 letter.now rest.entry.text.now → ⊥) }
 {
     let fields = plain_fields(rest)?;
     match plain_reading(letter, &fields, stamps) {
@@ -504,6 +511,9 @@ fn before_region<'a>(version: Version, rest: Field<'a>) -> Option<(Field<'a>, Op
     ensures before { IfSome result (λ p. IsBeforeRegion version (lent rest.entry) (lent p.0) p.1) }
     ensures placed { IfSome result (λ p. IsPlaced (lent p.0)) }
     ensures text { IfSome result (λ p. IfSome p.1 (λ region. IsTrue (is_text region.text.now))) }
+    ensures none { IfNone result (IsTrue (is_plain_line rest.entry.text.now)
+        → (version ≡ B2) × (parts_at 124 (lent rest.entry) ≡ lent rest.entry ∷ [])) }
+    ensures plain { IfSome result (λ p. IsTrue (is_plain_line rest.entry.text.now) → IsTrue (is_plain_line p.0.text.now)) }
 {
     match version {
         Version::B1 => Some((rest, None)),
@@ -535,6 +545,7 @@ fn plain_behind<'a>(
     ensures lent { IfSome result (λ r. (source : List ℕ) (from to : ℕ) →
         AreLentApart source from to (parts_at 124 (lent rest.entry))
         → AreLentApart source from to (record_texts r)) }
+    ensures none { IfNone result (IsPlainBehind version letter.now rest.entry.text.now → ⊥) }
 {
     let (front, region) = before_region(version, rest)?;
     match plain_record(letter, front, stamps) {
@@ -549,7 +560,7 @@ fn plain_behind<'a>(
 /// The rule that a reading's line breaks whose region breaks this one, from what stands before the region. A plain reading is
 /// known for one in one pass: then the region's fault is the first.
 #[inline(never)]
-fn fault_before<'a>(letter: &[u8], front: Field<'a>, region: BatchCode) -> BatchCode
+fn fault_before(letter: &[u8], front: Field<'_>, region: BatchCode) -> BatchCode
     requires placed { IsPlaced (lent front) }
     requires letter { is_same letter.now (codes "X") ≡ false }
     ensures { result ≡ first_fault (record_in B1 (letter.now ∷ texts_of (parts_at 124 (lent front.entry)))) region }
@@ -593,8 +604,8 @@ fn reading_in_region<'a>(letter: &[u8], rest: Field<'a>) -> Result<Record<'a>, B
 }
 
 /// The record that the line at this span is in a batch of that format, where it is a reading, plain but for its region: read in
-/// one pass. It is inlined, so that a caller who takes only parts of the record has no whole one in memory. None says nothing of
-/// the line.
+/// one pass. So each reading is given whose line has only plain bytes (0x20 to 0x7B) and bars; of other lines None says nothing.
+/// The stamps may be any reader's. It is inlined, so that a caller who takes only parts of the record has no whole one in memory.
 #[inline(always)]
 pub fn read_plain<'a>(
     version: Version,
@@ -607,6 +618,7 @@ pub fn read_plain<'a>(
     ensures ok { IfSome result (λ r.
         record_in version (fields_in (slice_range source.now span.from span.to)) ≡ Ok (record_of r)) }
     ensures lent { IfSome result (IsLentRecord source.now span) }
+    ensures all { IfNone result (IsPlainReading version (slice_range source.now span.from span.to) → ⊥) }
 {
     let (letter, rest) = split_letter(field_at(source, span))?;
     if is_amendment(letter.text) {

@@ -5,6 +5,7 @@ use Rattle.metering_model.specs.declared.Version.{Version}
 use Rattle.metering_model.specs.declared.Version.TheVariants.{B1, B2}
 use Rattle.metering_model.specs.Batch as model
 use Rattle.metering_model.specs.Batch.{is_text}
+use Rattle.metering_model.specs.BatchReading.{fields_in, record_in}
 use Rattle.metering_model.specs.Dates.{stamp_in}
 use Rattle.record_view.specs.declared.fields.Field.{Field}
 use Rattle.record_view.specs.declared.records.Record as lent_record
@@ -14,6 +15,7 @@ use Rattle.record_view.specs.Parts.{LentText, lent, parts_at}
 use Rattle.record_view.specs.Inner.Placed.{IsPlaced}
 use Rattle.record_view.specs.TagTexts.{tags_at}
 use Rattle.record_view.specs.Lent.{lent_texts}
+use Rattle.record_view.specs.Plain.{is_plain_line}
 use Rattle.record_view.specs.Inner.TagParts.{are_tags}
 use Rattle.record_view.specs.Inner.RecordSteps.{reading_in, amendment_in}
 
@@ -70,3 +72,26 @@ pub record ArePlainFields (f : ReadingFields) : Type 0 where
   pub commitment : IsTrue (is_text f.commitment.text.now)
   pub tags : IsTrue (are_tags f.tags.text.now)
   pub placed : IsPlaced (lent f.tags)
+
+-- The line behind a letter, each byte of it plain or a bar, has the fields of a reading: eight, of which the first two are stamps
+-- and the last are tags.
+pub record IsPlainRest (line : List ℕ) : Type 0 where
+  pub plain : IsTrue (is_plain_line line)
+  pub start : List ℕ
+  pub end : List ℕ
+  pub account : List ℕ
+  pub resource : List ℕ
+  pub key : List ℕ
+  pub value : List ℕ
+  pub commitment : List ℕ
+  pub tags : List ℕ
+  pub fields : fields_in line ≡ start ∷ end ∷ account ∷ resource ∷ key ∷ value ∷ commitment ∷ tags ∷ []
+  pub is_start : IsTrue (is_some (stamp_in start))
+  pub is_end : IsTrue (is_some (stamp_in end))
+  pub has_tags : IsTrue (are_tags tags)
+
+-- The line behind that letter is a reading's, each byte of it plain or a bar.
+pub record IsPlainBehind (version : Version) (letter line : List ℕ) : Type 0 where
+  pub plain : IsTrue (is_plain_line line)
+  pub reading : model.Reading
+  pub read : record_in version (letter ∷ fields_in line) ≡ Ok (model.Reads reading)

@@ -5,6 +5,7 @@ use Rattle.record_view.specs.Parts.{lent}
 use Rattle.record_view.proofs.PartLaws.{parts_cut, placed_cut}
 use Rattle.record_view.proofs.PlainLaws.{stamp_bar}
 use Rattle.record_view.proofs.NoneFound.{stamp_of_two}
+use Rattle.record_view.proofs.PlainParts.{stamp_taken}
 use Rattle.record_view.proofs.plain.split_stamp.Goals as goal
 use Rattle.record_view.proofs.plain.split_stamp.Goals.{then-whole-le20-via-then-whole-le20, then-whole-le20-via-else-whole-le20+then-whole-ne124}
 
@@ -28,3 +29,6 @@ returns-then-whole-le20-clause-none c = λ first second others parts stamp.
       | then-whole-le20-via-then-whole-le20 w ↦ omega (arith, at.within, w.if-whole-le20)
       | then-whole-le20-via-else-whole-le20+then-whole-ne124 w ↦ w.if-whole-ne124.true at.here
     ]
+
+pub returns-clause-first : goal.returns-clause-first
+returns-clause-first c = stamp_taken (lent c.args.whole) _ _ c.cut.ensures.before c.cut.ensures.after c.requires

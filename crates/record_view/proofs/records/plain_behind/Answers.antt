@@ -6,6 +6,8 @@ use Rattle.record_view.specs.Inner.Placed.{texts_of}
 use Rattle.record_view.specs.Lent.{lent_fields}
 use Rattle.record_view.proofs.RegionLines.{region_ok, region_places, region_lends}
 use Rattle.record_view.proofs.PlainLines.{without_region, with_region, some_text}
+use Rattle.record_view.proofs.PlainParts.{not_there}
+use Rattle.record_view.proofs.PlainReadings.{no_bar_behind, plain_front}
 use Rattle.record_view.proofs.records.plain_behind.Goals as goal
 
 pub returns-in-None-region-clause-places : goal.returns-in-None-region-clause-places
@@ -34,3 +36,12 @@ returns-in-Some-region-clause-lent c =
     let split = with_region c.args.version (lent c.args.rest) (lent c.in_ok-front.front) c.in_ok-front.region region c.in_ok-front.ensures.before c.in-Some-region.is in
     let is_text = some_text c.in_ok-front.region region c.in_ok-front.ensures.text c.in-Some-region.is in
     region_lends c.args.letter.now (lent c.in_ok-front.front) (lent c.args.rest) region c.in-Some.record (Ok c.in_region.result) c.requires.letter split.1.parts split.1.adjoin c.in-Some.ensures.ok c.in-Some.ensures.lent (is_text, c.in_region.ensures)
+
+pub returns-in_err-front-clause-none : goal.returns-in_err-front-clause-none
+returns-in_err-front-clause-none c = not_there _ (λ h.
+    no_bar_behind c.args.version c.args.letter.now (lent c.args.rest) (c.in_err-front.ensures.none h.plain) h)
+
+pub returns-in-None-clause-none : goal.returns-in-None-clause-none
+returns-in-None-clause-none c = λ h.
+    c.in-None.ensures.none (plain_front c.args.version c.args.letter.now (lent c.args.rest) (lent c.in_ok-front.front) c.in_ok-front.region c.requires.letter
+    c.in_ok-front.ensures.before c.in_ok-front.ensures.plain h)
