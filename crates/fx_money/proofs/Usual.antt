@@ -1,11 +1,11 @@
 -- Numbers of the usual form: a few digits, and perhaps a point and a few digits more.
 use Rattle.std.proofs.Common.{◌≡◌, ℕ, zero, suc, ◌+◌, ◌-◌, ◌*◌, ◌^◌, ◌<◌, ◌≤◌, true, false, List, [], ◌∷◌, length, get_or, take, drop, refl, sym, ap, ◌∙◌, arith, Some, None, inl, inr, cond, not, ◌&&◌, ap₂, length-drop, subst}
-use Rattle.std.specs.Prelude.{nat_le}
+use Rattle.std.specs.Prelude.{nat_le, ◌==◌}
 use Rattle.std.specs.List.{list_all, position_or_len, before_first, after_first}
 use Rattle.std.proofs.lemmas.List.{get_or-take, get_or-drop, length-take-le, take_all, drop_all}
-use Rattle.std.proofs.lemmas.List.Sums.{position_or_len_is}
+use Rattle.std.proofs.lemmas.List.Sums.{position_or_len_is, passes_at_first, prefix_len-le-length}
 use Rattle.std.proofs.lemmas.List.Folds.{list_all_at}
-use Rattle.std.proofs.lemmas.Bool.{and_parts, and_from, ne_eqb, eq-eqb, false≢true, cases_Bool}
+use Rattle.std.proofs.lemmas.Bool.{and_parts, and_from, ne_eqb, eq-eqb, eqb-true, false≢true, cases_Bool, cases_lt, cond-false}
 use Rattle.std.proofs.lemmas.Nat.{pow-add}
 use Rattle.std.proofs.Math.Nat.{mul-lt-mul_of_pos_right, pow-suc, pow-le-pow_right}
 use Rattle.metering_model.specs.NumberText.{is_digit, is_point, is_whole_part, is_decimal_part, ends_in, number_of, worth_of, units_of, is_unsigned, magnitude_in}
@@ -129,3 +129,101 @@ magnitude_parts t ds many point e some decimals h =
     magnitude_is t many (point_is t many h.within h.digits (λ more. point)) (whole_in_front t many h)
     (ap (is_decimal_part 6) (sym e) ∙ decimals) (ends_in_digit t (ap is_digit last ∙ last_digit ds some all))
     ∙ ap (λ d. Some (number_of (take many t) * 1_000_000 + worth_of 6 d)) (sym e)
+
+-- ---- what reading in the usual form does not give is no number, where so few digits are in front
+
+-- a text of which that can't be is no number
+pub no_magnitude : (t : List ℕ) → (is_unsigned 6 t ≡ true → ⊥) → magnitude_in 6 t ≡ None
+no_magnitude t never = elim (cases_Bool (is_unsigned 6 t)) [
+  | inl fits ↦ absurd (never fits)
+  | inr other ↦ cond-false (is_unsigned 6 t) (Some (units_of 6 (before_first is_point t) (after_first is_point t))) None other
+]
+
+whole_digits : (w : List ℕ) → is_whole_part w ≡ true → list_all is_digit w ≡ true
+whole_digits [] h = refl
+whole_digits (c ∷ []) h = and_from (is_digit c) true h refl
+whole_digits (c ∷ d ∷ cs) h =
+    let parts = and_parts (is_digit c && not (c == 48)) (list_all is_digit (d ∷ cs)) h in
+    and_from (is_digit c) (list_all is_digit (d ∷ cs)) (and_parts (is_digit c) (not (c == 48)) parts.0).0 parts.1
+
+whole_some : (w : List ℕ) → is_whole_part w ≡ true → 0 < length w
+whole_some [] h = absurd (cc)
+whole_some (c ∷ cs) h = omega arith
+
+whole_first : (w : List ℕ) → is_whole_part w ≡ true → 1 < length w → get_or w 0 0 ≡ 48 → ⊥
+whole_first [] h more none = omega arith
+whole_first (c ∷ []) h more none = omega arith
+whole_first (c ∷ d ∷ cs) h more none =
+    let parts = and_parts (is_digit c && not (c == 48)) (list_all is_digit (d ∷ cs)) h in
+    let other = (and_parts (is_digit c) (not (c == 48)) parts.0).1 in
+    false≢true (ap not (sym (eq-eqb c 48 none)) ∙ other)
+
+-- what is in front of the point, and behind it, of a number with so many digits in front
+pub record HasUsual (t : List ℕ) (many : ℕ) : Type 0 where
+  pub some : 0 < many
+  pub first : 1 < many → get_or t 0 0 ≡ 48 → ⊥
+  pub point : many < length t → get_or t many 0 ≡ 46
+  pub behind : many < length t → many + 1 < length t
+  pub decimals : is_decimal_part 6 (drop (many + 1) t) ≡ true
+
+-- so many of the first bytes are digits, and no more, up to twelve
+pub record AreLeading (t : List ℕ) (many : ℕ) : Type 0 where
+  pub within : many ≤ length t
+  pub digits : list_all is_digit (take many t) ≡ true
+  pub stops : many < 12 → many < length t → is_digit (get_or t many 0) ≡ false
+
+module _ (t : List ℕ) (many : ℕ) (leads : AreLeading t many) (short : length (before_first is_point t) ≤ 12) (number : is_unsigned 6 t ≡ true) where
+  abbrev place : ℕ
+  place = position_or_len is_point t
+
+  inside : place ≤ length t
+  inside = prefix_len-le-length (λ c. not (is_point c)) t
+
+  long : length (take place t) ≡ place
+  long = length-take-le place t inside
+
+  parts : (is_whole_part (take place t) ≡ true) × (is_decimal_part 6 (drop (place + 1) t) ≡ true) × (not (ends_in 46 t) ≡ true)
+  parts =
+      let outer = and_parts (is_whole_part (take place t) && is_decimal_part 6 (drop (place + 1) t)) (not (ends_in 46 t)) number in
+      let inner = and_parts (is_whole_part (take place t)) (is_decimal_part 6 (drop (place + 1) t)) outer.0 in
+      (inner.0, inner.1, outer.1)
+
+  all : list_all is_digit (take place t) ≡ true
+  all = whole_digits (take place t) parts.0
+
+  not_before : place < many → ⊥
+  not_before less =
+      let digit = digit_in_front t many place less leads.within leads.digits in
+      let within : place < length t = omega (arith, leads.within) in
+      false≢true (sym (no_point_in_digit (get_or t place 0) digit) ∙ passes_at_first is_point t 0 within)
+
+  not_behind : many < place → ⊥
+  not_behind less =
+      let digit = digit_in_front t place many less inside all in
+      false≢true (sym (leads.stops (omega (arith, long)) (omega (arith, inside))) ∙ digit)
+
+  same : place ≡ many
+  same = elim (cases_lt place many) [
+    | inl less ↦ absurd (not_before less)
+    | inr up ↦ elim (cases_lt many place) [
+      | inl less ↦ absurd (not_behind less)
+      | inr down ↦ omega arith
+    ]
+  ]
+
+  pub has_usual : HasUsual t many
+  has_usual =
+      let some = whole_some (take place t) parts.0 in
+      let point : many < length t → get_or t many 0 ≡ 46 = λ more. ap (λ k. get_or t k 0) (sym same) ∙ eqb-true _ 46 (passes_at_first is_point t 0 (omega (arith, same))) in
+      record {
+        some = omega (arith, long, same);
+        first = λ more none. whole_first (take place t) parts.0 (omega (arith, long, same)) (get_or-take place t 0 0 (omega (arith, long)) ∙ none);
+        point = point;
+        behind = λ more. elim (cases_lt (many + 1) (length t)) [
+          | inl further ↦ further
+          | inr end ↦
+              let last : get_or t (length t - 1) 0 ≡ 46 = ap (λ k. get_or t k 0) (omega arith) ∙ point more in
+              absurd (false≢true (ap not (sym (eq-eqb _ 46 last)) ∙ parts.2))
+        ];
+        decimals = ap (λ k. is_decimal_part 6 (drop (k + 1) t)) (sym same) ∙ parts.1;
+      }

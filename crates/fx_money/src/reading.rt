@@ -1,6 +1,6 @@
 //! Decimals of six places, read without taking memory: each text is looked at where it stands.
 
-ghost use Rattle.std.specs.Prelude.{◌≡◌, ◌-◌, ◌<◌, ◌≤◌, ◌^◌, IsTrue, IfOk, IfSome, Some, MatchOption, position, length, take};
+ghost use Rattle.std.specs.Prelude.{◌≡◌, ◌-◌, ◌<◌, ◌≤◌, ◌^◌, IsTrue, IfOk, IfSome, IsSome, Some, MatchOption, false, position, length, take, slice_index};
 ghost use Rattle.std.specs.List.{list_all, before_first, after_first};
 ghost use Rattle.metering_model.specs.NumberText.{is_digit, is_point, is_whole_part, is_decimal_part, ends_in, number_of, worth_of, units_of, magnitude_in, negated, not_negated, value_limit, value_within, value_in};
 ghost use Rattle.fx_money.specs.Inner.Limits.{below_limit};
@@ -132,6 +132,7 @@ fn leading(text: &[u8], most: usize) -> (u64, usize)
     requires { most ≤ 12 }
     ensures within { result.1 ≤ length text.now }
     ensures few { result.1 ≤ most }
+    ensures stops { result.1 < most → result.1 < length text.now → is_digit (slice_index text.now result.1) ≡ false }
     ensures digits { IsTrue (list_all is_digit (take result.1 text.now)) }
     ensures number { result.0 ≡ number_of (take result.1 text.now) }
     ensures small { result.0 < 10 ^ result.1 }
@@ -169,6 +170,7 @@ fn usual_decimals(decimals: &[u8]) -> Option<u64>
     ensures some { IfSome result (λ n. 0 < length decimals.now) }
     ensures value { IfSome result (λ n. n ≡ worth_of 6 decimals.now) }
     ensures small { IfSome result (λ n. n < 10 ^ 6) }
+    ensures given { IsTrue (is_decimal_part 6 decimals.now) → 0 < length decimals.now → IsSome result }
 {
     let (part, few) = leading(decimals, PLACES);
     if few == 0 || few < decimals.len() || decimals[few - 1] == b'0' {
@@ -180,7 +182,8 @@ fn usual_decimals(decimals: &[u8]) -> Option<u64>
 /// The millionths of a number in the usual form. None says nothing.
 #[inline(always)]
 fn usual_magnitude(body: &[u8]) -> Option<u64>
-    ensures { IfSome result (λ n. magnitude_in 6 body.now ≡ Some n) }
+    ensures value { IfSome result (λ n. magnitude_in 6 body.now ≡ Some n) }
+    ensures given { length (before_first is_point body.now) ≤ 12 → result ≡ magnitude_in 6 body.now }
 {
     let (whole, many) = leading(body, 12);
     if many == 0 || (many > 1 && body[0] == b'0') {

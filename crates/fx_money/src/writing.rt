@@ -122,7 +122,8 @@ fn power(places: usize) -> u64
 fn without_six_zeros(number: u64, places: usize) -> (u64, usize)
     requires positive { 0 < number }
     requires below { number < 10 ^ places }
-    ensures { IsCutTo places number result.1 result.0 }
+    ensures cut { IsCutTo places number result.1 result.0 }
+    ensures six { number % 1_000_000 ≡ 0 → result.1 + 6 ≡ places }
 {
     if number % 1_000_000 == 0 {
         (number / 1_000_000, places - 6)
