@@ -113,7 +113,8 @@ impl<'a> Iterator for AskedRecords<'a> {
 
     #[inline(always)]
     fn next(&mut self) -> Option<Asked<'a>> {
-        if self.index == self.head.count {
+        let end = self.head.count;
+        if self.index == end {
             return None;
         }
         if let Some(entries) = self.kept {
