@@ -10,6 +10,8 @@ mod files;
 #[cfg(test)]
 mod numbers;
 #[cfg(test)]
+mod records;
+#[cfg(test)]
 mod regions;
 #[cfg(test)]
 mod sheets;

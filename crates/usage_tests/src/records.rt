@@ -1,0 +1,129 @@
+//! A batch's records, as each call that hands them out tells them.
+
+use crate::stores::offered;
+use batch_view::{Asked, BatchView, Kind, Offer, Record, Stamp};
+use std::alloc::Global;
+
+/// A reading of each kind, and an amendment.
+const FIRST_FORMAT: &[u8] = b"B1|1|2|6\n\
+U|2025-01-01T00:00:00Z|2025-01-01T02:00:00Z|acc-7|vm-1|cpu|5400|plan-1|env=prod\n\
+P|2025-01-02T00:00:00Z|2025-02-01T00:00:00Z|acc-7||disk|1|plan-2|\n\
+C|2025-01-03T00:00:00Z|2025-01-04T00:00:00Z|||Gift|-1||\n\
+X|1|5|7200\n\
+T|2025-01-04T00:00:01Z|2025-01-05T00:00:00Z|||Tax on all|0.5||\n\
+A|2025-01-05T00:00:00Z|2025-01-06T00:00:00Z|||Rest|0.01||\n";
+
+/// The same in regions.
+const SECOND_FORMAT: &[u8] = b"B2|1|2|6\n\
+U|2025-01-01T00:00:00Z|2025-01-01T02:00:00Z|acc-7|vm-1|cpu|5400|plan-1|env=prod|eu-1\n\
+P|2025-01-02T00:00:00Z|2025-02-01T00:00:00Z|acc-7||disk|1|plan-2||eu-1\n\
+C|2025-01-03T00:00:00Z|2025-01-04T00:00:00Z|||Gift|-1|||\n\
+X|1|5|7200\n\
+T|2025-01-04T00:00:01Z|2025-01-05T00:00:00Z|||Tax on all|0.5|||us-9\n\
+A|2025-01-05T00:00:00Z|2025-01-06T00:00:00Z|||Rest|0.01|||\n";
+
+/// What the text says of a record: a reading's kind, start in seconds since 1970-01-01, key and commitment, or an
+/// amendment's sequence, index and value in millionths.
+#[derive(Clone, Copy)]
+enum Said<'a> {
+    Reading(Kind, i64, &'a [u8], &'a [u8]),
+    Amend(u32, u16, i64),
+}
+
+/// The same of both texts.
+const SAID: [Said<'static>; 6] = [
+    Said::Reading(Kind::Usage, 1_735_689_600, b"cpu", b"plan-1"),
+    Said::Reading(Kind::Purchase, 1_735_776_000, b"disk", b"plan-2"),
+    Said::Reading(Kind::Credit, 1_735_862_400, b"Gift", b""),
+    Said::Amend(1, 5, 7_200_000_000),
+    Said::Reading(Kind::Tax, 1_735_948_801, b"Tax on all", b""),
+    Said::Reading(Kind::Adjustment, 1_736_035_200, b"Rest", b""),
+];
+
+/// Whether that is said of a reading.
+fn is_said(said: &Said<'_>, of: Kind, since: Stamp, with: &[u8], by: &[u8]) -> bool {
+    match said {
+        Said::Reading(kind, start, key, commitment) => {
+            of == *kind && since.seconds() == *start && with == *key && by == *commitment
+        }
+        Said::Amend(..) => false,
+    }
+}
+
+/// Whether that is said of an amendment.
+fn is_amended(said: &Said<'_>, by: (u32, u16, i64)) -> bool {
+    match said {
+        Said::Reading(..) => false,
+        Said::Amend(seq, index, value) => by == (*seq, *index, *value),
+    }
+}
+
+/// Whether the record is there, and that is said of it.
+fn is_record(record: &Option<Record<'_>>, said: &Said<'_>) -> bool {
+    match record {
+        Some(Record::Reading(it)) => {
+            is_said(said, it.kind, it.start, it.key.text, it.commitment.text)
+        }
+        Some(Record::Amend { seq, index, value }) => {
+            is_amended(said, (*seq, *index, value.millionths()))
+        }
+        None => false,
+    }
+}
+
+/// Whether it is asked, and that is said of it.
+fn is_asked(asked: &Option<Asked<'_>>, said: &Said<'_>) -> bool {
+    match asked {
+        Some(Asked::Reading(it)) => is_said(said, it.kind, it.start, it.key, it.commitment),
+        Some(Asked::Amend { seq, index, value }) => {
+            is_amended(said, (*seq, *index, value.millionths()))
+        }
+        None => false,
+    }
+}
+
+/// Whether that is said of the kind of what stands there.
+fn is_kind(found: Option<Kind>, said: &Said<'_>) -> bool {
+    match said {
+        Said::Reading(kind, ..) => found == Some(*kind),
+        Said::Amend(..) => found.is_none(),
+    }
+}
+
+/// Whether each call tells just what is said of the records.
+fn tells(view: &BatchView<'_>) -> bool {
+    let mut records = view.records();
+    let mut asked = view.asked();
+    let mut all = true;
+    for index in 0..6 {
+        let said = &SAID[usize::from(index)];
+        all = is_record(&records.next(), said)
+            && is_asked(&asked.next(), said)
+            && is_record(&view.record_at(index), said)
+            && is_kind(view.kind_at(index), said)
+            && all;
+    }
+    all && records.next().is_none()
+        && asked.next().is_none()
+        && view.record_at(6).is_none()
+        && view.kind_at(6).is_none()
+        && view.count() == 6
+}
+
+/// Whether the batch tells the same, read in place and kept.
+fn is_read(alloc: Global, bytes: &[u8]) -> bool {
+    let in_place = match BatchView::parse(bytes) {
+        Ok(view) => tells(&view),
+        Err(_) => false,
+    };
+    match offered(alloc, bytes) {
+        Ok(Offer::Good(kept)) => in_place && tells(&kept.view()),
+        _ => false,
+    }
+}
+
+#[test]
+fn records_are_told_alike_by_each_call(rt: HostRuntime) {
+    assert!(rt; is_read(rt.alloc(), FIRST_FORMAT));
+    assert!(rt; is_read(rt.alloc(), SECOND_FORMAT));
+}
