@@ -163,7 +163,7 @@ fn last_unit(few: usize) -> u64
     }
 }
 
-/// The millionths of decimals in the usual form. None says nothing.
+/// The millionths of decimals of the form. None where there are none, and where they have not the form.
 #[inline(always)]
 fn usual_decimals(decimals: &[u8]) -> Option<u64>
     ensures form { IfSome result (λ n. IsTrue (is_decimal_part 6 decimals.now)) }
@@ -179,7 +179,8 @@ fn usual_decimals(decimals: &[u8]) -> Option<u64>
     Some(part * last_unit(few))
 }
 
-/// The millionths of a number in the usual form. None says nothing.
+/// The millionths of a number in the usual form: of each that has at most twelve bytes before its first point. None says nothing
+/// of a text that has more.
 #[inline(always)]
 fn usual_magnitude(body: &[u8]) -> Option<u64>
     ensures value { IfSome result (λ n. magnitude_in 6 body.now ≡ Some n) }

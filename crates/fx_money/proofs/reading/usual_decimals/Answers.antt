@@ -1,6 +1,7 @@
 -- All of the bytes are digits, and their number is counted in the unit of the last.
 use Rattle.std.proofs.Common.{◌≡◌, ◌*◌, ◌-◌, ◌^◌, length, take, sym, ap, ap₂, ◌∙◌, arith, subst, ◌<◌}
 use Rattle.std.proofs.lemmas.List.{take_all}
+use Rattle.std.proofs.lemmas.Grind.{common_steps}
 use Rattle.metering_model.specs.NumberText.{number_of}
 use Rattle.fx_money.proofs.Usual.{worth_is, worth_small}
 use Rattle.fx_money.proofs.reading.usual_decimals.Goals as goal
@@ -18,3 +19,6 @@ pub returns-clause-small : goal.returns-clause-small
 returns-clause-small c =
     subst (λ u. c.leading-part.result.0 * u < 1_000_000) (sym c.last_unit.ensures)
     (worth_small c.leading-part.result.0 c.leading-part.result.1 6 (omega arith) c.leading-part.ensures.small)
+
+pub returns-clause-form : goal.returns-clause-form
+returns-clause-form c = grind (arith, common_steps)
