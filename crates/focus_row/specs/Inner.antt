@@ -1,3 +1,4 @@
+pub mod Beginnings
 pub mod Left
 pub mod Near
 pub mod Places

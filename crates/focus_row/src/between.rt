@@ -1,6 +1,6 @@
 //! The rows between two cuts, batch by batch.
 
-ghost use Rattle.std.specs.Prelude.{◌≡◌, ◌≤◌, ◌≤ℤ◌, ◌+◌, ◌-◌, ◌*◌, ◌<◌, ◌++◌, ◌⊎◌, [], true, pos, length, map, option_map, slice_index_or, All, Some, None, IfOk, IfSome, IfNone, OnOk};
+ghost use Rattle.std.specs.Prelude.{◌≡◌, ◌≤◌, ◌≤ℤ◌, ◌+◌, ◌-◌, ◌*◌, ◌<◌, ◌++◌, ◌⊎◌, [], true, pos, length, map, option_map, slice_index_or, All, Some, None, IfOk, IfSome, IfNone, OnOk, OnErr};
 ghost use Rattle.std.specs.List.{cons_option, flat_map};
 ghost use Rattle.std.specs.Option.{is_some, option_copied};
 ghost use Rattle.metering_model.specs.Batch.{Reading as ModelReading, is_priced};
@@ -20,6 +20,7 @@ ghost use Rattle.charge_row.specs.FocusRows.{model_row};
 ghost use Rattle.charge_row.specs.Regions.{IsNamed};
 ghost use Rattle.focus_row.specs.Rows.{joined};
 ghost use Rattle.focus_row.specs.Inner.Left.{IsWithin, MayBeCharged, record_at, rows_behind, rows_left, rows_of_batch, rows_of_place};
+ghost use Rattle.focus_row.specs.Inner.Beginnings.{BeginsWith};
 ghost use Rattle.focus_row.specs.Inner.Near.{AreNamed};
 
 use crate::places::{is_named, next_named};
@@ -177,7 +178,7 @@ impl<'a> BetweenCuts<'a> {
     }
 
     /// Puts the correction of a reading up to `from` behind the other rows, where it has one. It stands apart, so that the way of
-    /// readings above `from` clears no room for it.
+    /// readings above `from` clears no room for it. At want of memory the rows are as before.
     #[inline(never)]
     fn put_correction(
         &self,
@@ -195,6 +196,8 @@ impl<'a> BetweenCuts<'a> {
         ensures row { OnOk result (map model_row rows.new.items ≡ map model_row rows.old.items ++ cons_option (row_of_reading self.now.sheet
             self.now.issuer self.now.batches self.now.period self.now.from self.now.to (position_of place) (model_reading reading.now)) []) }
         ensures named { OnOk result (AreNamed self.now.sheet rows.new.items) }
+        ensures begins { BeginsWith rows.new.items rows.old.items }
+        ensures kept { OnErr result (rows.new.items ≡ rows.old.items) }
     {
         let Some(row) = self.correction(near, place, reading) else {
             return Ok(());
@@ -205,7 +208,8 @@ impl<'a> BetweenCuts<'a> {
         Ok(())
     }
 
-    /// Puts the row of a record behind the others, where it has one. The region of the row before is near.
+    /// Puts the row of a record behind the others, where it has one. The region of the row before is near. At want of memory the
+    /// rows are as before.
     fn put_row(
         &self,
         rows: &mut Vec<FocusRow<'a>>,
@@ -220,6 +224,8 @@ impl<'a> BetweenCuts<'a> {
         ensures row { OnOk result (map model_row rows.new.items ≡ map model_row rows.old.items ++ cons_option (row_of self.now.sheet
             self.now.issuer self.now.batches self.now.period self.now.from self.now.to (position_of place) (record_of what.now)) []) }
         ensures named { OnOk result (AreNamed self.now.sheet rows.new.items) }
+        ensures begins { BeginsWith rows.new.items rows.old.items }
+        ensures kept { OnErr result (rows.new.items ≡ rows.old.items) }
     {
         let Record::Reading(reading) = what else {
             return Ok(());
@@ -235,7 +241,7 @@ impl<'a> BetweenCuts<'a> {
     }
 
     /// Puts the rows of a batch's records from an index on behind the other rows, until there are as many as the limit, and answers
-    /// the index of the first record whose row was not asked for.
+    /// the index of the first record whose row was not asked for. At want of memory some of them may stand there.
     pub(crate) fn put_rows(
         &self,
         rows: &mut Vec<FocusRow<'a>>,
@@ -257,6 +263,7 @@ impl<'a> BetweenCuts<'a> {
         ensures ends { IfOk result (λ to. (to ≡ length (batch_of batch.now).records) ⊎ (limit ≤ length rows.new.items)) }
         ensures further { IfOk result (λ to. from < length (batch_of batch.now).records → length rows.old.items < limit → from < to) }
         ensures most { IfOk result (λ _. length rows.old.items ≤ limit → length rows.new.items ≤ limit) }
+        ensures begins { BeginsWith rows.new.items rows.old.items }
     {
         let count = batch.count();
         for index in from..count {
