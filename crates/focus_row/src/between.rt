@@ -281,7 +281,7 @@ impl<'a> BetweenCuts<'a> {
 
     /// For how many rows of a batch with so many records room is made at once: above `from` each reading has one, up to it
     /// few have.
-    pub(crate) fn room_for(&self, agent: u8, seq: u32, count: u16) -> usize
+    fn room_for(&self, agent: u8, seq: u32, count: u16) -> usize
         requires from { 1 ≤ agent }
         requires to { agent ≤ self.now.agents }
         ensures { result ≤ count }

@@ -68,21 +68,27 @@ impl<'b, 'a> BatchRows<'b, 'a> {
     }
 
     /// Puts the next rows in place of those that stand there: 64 at most, and fewer only where no record is left. At want of memory
-    /// the walk stands where it stood.
+    /// the walk stands where it stood, and the list is empty.
+    ///
+    /// Room is made for all of them before the first is put, so a list that is used for walks alone has room for 64 at most.
     pub fn next_rows(&mut self, rows: &mut Vec<FocusRow<'a>>) -> Result<(), AllocError>
         ensures rows { OnOk result (map model_row rows.new.items ++ self.new.rows ≡ self.old.rows) }
         ensures many { OnOk result ((self.new.records ≡ 0) ⊎ (64 ≤ length rows.new.items)) }
         ensures most { OnOk result (length rows.new.items ≤ 64) }
         ensures fewer { OnOk result (0 < self.old.records → self.new.records < self.old.records) }
         ensures kept { OnErr result (self.new ≡ self.old) }
+        ensures empty { OnErr result (rows.new.items ≡ []) }
     {
         rows.clear();
-        let left = self.batch.count() - self.index;
-        let room = self.cuts.room_for(self.agent, self.seq, left).min(MOST);
-        rows.reserve(room)?;
-        let to = self
+        let left = usize::from(self.batch.count() - self.index);
+        rows.reserve_exact(left.min(MOST))?;
+        let Ok(to) = self
             .cuts
-            .put_rows(rows, &self.batch, self.agent, self.seq, self.index, MOST)?;
+            .put_rows(rows, &self.batch, self.agent, self.seq, self.index, MOST)
+        else {
+            rows.clear();
+            return Err(AllocError);
+        };
         self.index = to;
         Ok(())
     }
