@@ -16,11 +16,45 @@ use crate::lines::{header_text, put_lines};
 use crate::pieces::LinePieces;
 use crate::writing::write_text;
 use counted_io::Sink;
-use focus_row::{FocusRow, RowsBetween};
+use focus_row::{BatchRows, FocusRow, RowsBetween};
 use std::alloc::{AllocError, Global};
 
-/// Appends the lines of the batch of that number, some rows at a time, which are put where some may stand. At want of memory the
-/// text is as before, or has some of the lines behind it.
+/// Appends the lines of the walk's next rows, which are put where some may stand. At want of memory the text is as before, or has
+/// some of the lines behind it.
+fn put_part<'a>(
+    walk: &mut BatchRows<'_, 'a>,
+    pieces: &mut LinePieces,
+    rows: &mut Vec<FocusRow<'a>>,
+    text: &mut Vec<u8>,
+) -> Result<(), AllocError>
+    ensures put { OnOk result (text.new.items ++ flat_map row_text walk.new.rows ≡ text.old.items ++ flat_map row_text walk.old.rows) }
+    ensures fewer { OnOk result (0 < walk.old.records → walk.new.records < walk.old.records) }
+    ensures begins { BeginsWith text.new.items text.old.items }
+{
+    walk.next_rows(rows)?;
+    put_lines(pieces, rows, text)?;
+    Ok(())
+}
+
+/// Appends the lines of all rows that the walk has left, a part of them at a time. At want of memory the text is as before, or has
+/// some of the lines behind it.
+fn put_walk<'a>(
+    walk: &mut BatchRows<'_, 'a>,
+    pieces: &mut LinePieces,
+    rows: &mut Vec<FocusRow<'a>>,
+    text: &mut Vec<u8>,
+) -> Result<(), AllocError>
+    ensures put { OnOk result (text.new.items ≡ text.old.items ++ flat_map row_text walk.old.rows) }
+    ensures begins { OnErr result (BeginsWith text.new.items text.old.items) }
+{
+    while !walk.is_done() {
+        put_part(walk, pieces, rows, text)?;
+    }
+    Ok(())
+}
+
+/// Appends the lines of the batch of that number, whose rows are put where some may stand. At want of memory the text is as before,
+/// or has some of the lines behind it.
 fn put_batch<'a>(
     batches: &RowsBetween<'a>,
     k: usize,
@@ -33,10 +67,7 @@ fn put_batch<'a>(
     ensures begins { OnErr result (BeginsWith text.new.items text.old.items) }
 {
     let mut walk = batches.walk(k);
-    while !walk.is_done() {
-        walk.next_rows(rows)?;
-        put_lines(pieces, rows, text)?;
-    }
+    put_walk(&mut walk, pieces, rows, text)?;
     Ok(())
 }
 
@@ -63,7 +94,7 @@ fn put_each(
 }
 
 /// Appends the lines of the batches from one number to before another, in order, to a text that its caller may use again. Of
-/// the rows, 64 are in memory at a time.
+/// the rows, 64 at most are in memory, in a list that is held until the call returns.
 ///
 /// At want of memory the text is as before.
 pub fn put_batches(
@@ -89,7 +120,7 @@ pub fn put_batches(
 }
 
 /// Appends the file of rows to a text that its caller may use again: the header line, and a line for each row in order. Of
-/// the rows, 64 are in memory at a time.
+/// the rows, 64 at most are in memory, in a list that is held until the call returns.
 ///
 /// At want of memory the text is as before.
 pub fn put_file(
@@ -111,8 +142,8 @@ pub fn put_file(
     }
 }
 
-/// Writes the file of rows: the header line, and a line for each row in order, batch by batch. Of the rows, 64 are in
-/// memory at a time, and of their text one batch's.
+/// Writes the file of rows: the header line, and a line for each row in order, batch by batch. Of the rows, 64 at most
+/// are in memory, in a list that is held until the call returns, also while the sink is waited for, and of their text one batch's.
 ///
 /// `Write` comes only from a failed call of the sink, and that is the only one: a prefix of the file that is not all of it
 /// went out. At want of memory no call failed, and a prefix of the file went out.
