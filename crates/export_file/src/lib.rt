@@ -32,8 +32,8 @@ pub trait ExportFile {
             ≡ rows (taken self.now).sheet (taken self.now).issuer (taken self.now).batches (taken self.now).period
             (taken self.now).from (taken self.now).to) };
 
-    /// Writes the file: the header line, and a line for each row, batch by batch. 64 rows are in memory at a time, and the
-    /// text of one batch.
+    /// Writes the file: the header line, and a line for each row, batch by batch. 64 rows at most are in memory, also
+    /// while the sink is waited for, and the text of one batch.
     ///
     /// `Write` comes only from a failed call of the sink, and that is the only one: a prefix of the file that is not all
     /// of it went out. At want of memory no call failed, and a prefix of the file went out.
@@ -49,7 +49,7 @@ pub trait ExportFile {
             ≡ count_after (is_sink_fault result) (W.failed_calls sink.old) };
 
     /// Writes the same bytes. All lines are made before the first byte goes out, and those of many rows in several threads at
-    /// once; of the rows, 64 for each thread are in memory.
+    /// once; of the rows, 64 at most for each thread are in memory.
     ///
     /// `Write` comes only from a failed call of the sink, and that is the only one: a prefix of the file that is not all
     /// of it went out. At want of memory the sink is as it was.
