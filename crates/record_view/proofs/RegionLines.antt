@@ -7,7 +7,6 @@ use Rattle.metering_model.specs.FirstFailure.{◌>>=◌}
 use Rattle.metering_model.specs.Batch as model
 use Rattle.metering_model.specs.declared.Version.TheVariants.{B1, B2}
 use Rattle.metering_model.specs.declared.BatchCode.{BatchCode}
-use Rattle.metering_model.specs.declared.BatchCode.TheVariants.{Fields}
 use Rattle.metering_model.specs.BatchReading.{is_same, record_in}
 use Rattle.metering_model.proofs.ReadingLaws.{taken_apart}
 use Rattle.metering_model.proofs.RegionLaws as region_laws
@@ -75,10 +74,6 @@ broken_region letter front rest region e other parts broken =
     whichever : (m : Result model.Record BatchCode) → (m >>= region_laws.region_behind region.text.now) ≡ Err (first_fault m e)
     whichever (Ok x) = ap (λ s. s >>= (λ _. Ok (region_laws.in_region region.text.now x))) broken
     whichever (Err c) = refl
-
--- no bar behind the letter's
-pub no_region : (letter : List ℕ) (rest : LentText) → parts_at 124 rest ≡ rest ∷ [] → record_in B2 (letter ∷ texts_of (parts_at 124 rest)) ≡ Err Fields
-no_region letter rest one = ap (λ ps. record_in B2 (letter ∷ texts_of ps)) one
 
 -- ---- what it lends
 

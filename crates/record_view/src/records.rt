@@ -110,7 +110,7 @@ fn read_stamp(text: &[u8]) -> Result<Stamp, BatchCode>
     Stamp::read(text).ok_or(BatchCode::Time)
 }
 
-/// Both stamps of a reading. At an error nothing is said of them.
+/// Both stamps of a reading. At an error one of the texts is no stamp.
 #[inline(always)]
 fn read_stamps<'a>(
     start: &'a [u8],
@@ -424,7 +424,7 @@ fn check_plain_commitment(kind: Kind, text: &[u8]) -> Result<(), BatchCode>
     holds_or(is_priced(kind) || text.is_empty(), BatchCode::Text)
 }
 
-/// The reading of plain fields. At an error nothing is said of them.
+/// The reading of plain fields. An error says that they are no reading's, and not which rule is the first that they break.
 #[inline(always)]
 fn plain_reading<'a>(
     letter: &[u8],
@@ -504,7 +504,7 @@ fn in_region<'a>(what: &Record<'a>, region: Field<'a>) -> Record<'a>
 }
 
 /// What stands of a line behind its letter and before its region, which is all of it in format B1, and the region of format B2.
-/// A region that is no text is told before anything in front of it is looked at.
+/// Nothing where a line of format B2 has no bar, or its region is no text: that is asked before anything in front of it.
 #[inline(always)]
 fn before_region<'a>(version: Version, rest: Field<'a>) -> Option<(Field<'a>, Option<Field<'a>>)>
     requires { IsPlaced (lent rest) }
