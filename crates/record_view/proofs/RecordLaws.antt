@@ -79,6 +79,10 @@ pub text_met : (t : List ℕ) → is_text t ≡ true → text_step t ≡ Ok tt
 unfolding text_step
 text_met t h = ap (λ b. holds_or b Text) h
 
+pub text_broken : (t : List ℕ) → is_text t ≡ false → text_step t ≡ Err Text
+unfolding text_step
+text_broken t h = ap (λ b. holds_or b Text) h
+
 pub tags_met : (t : List ℕ) (ts : List Tag) → tags_in t ≡ Some ts → tags_step t ≡ Ok ts
 unfolding tags_step
 tags_met t ts h = ap (λ o. ok_or o Tags) h
