@@ -1,7 +1,7 @@
 //! A batch's records, as each call that hands them out tells them.
 
 use crate::stores::offered;
-use batch_view::{Asked, BatchView, Kind, Offer, Record, Stamp};
+use batch_view::{Asked, BatchView, Kind, Offer, Reading, Record, Stamp};
 use std::alloc::Global;
 
 /// A reading of each kind, and an amendment.
@@ -71,6 +71,41 @@ fn is_record(record: &Option<Record<'_>>, said: &Said<'_>) -> bool {
     }
 }
 
+/// The text of a region, and of none one that no region has.
+fn region_text<'a>(reading: &Reading<'a>) -> &'a [u8] {
+    match reading.region() {
+        Some(region) => region.text,
+        None => b"|",
+    }
+}
+
+/// Whether two readings have the same texts.
+fn have_same_texts(one: &Reading<'_>, other: &Reading<'_>) -> bool {
+    let account = one.account.text == other.account.text;
+    let resource = one.resource.text == other.resource.text;
+    let tags = one.tags().text() == other.tags().text();
+    let region = region_text(one) == region_text(other);
+    account && resource && tags && region
+}
+
+/// Whether the record is the reading there but for what is said of it, or there is none there.
+fn is_like(record: &Option<Record<'_>>, found: &Reading<'_>) -> bool {
+    match record {
+        Some(Record::Reading(it)) => {
+            it.end == found.end && it.value == found.value && have_same_texts(it, found)
+        }
+        _ => false,
+    }
+}
+
+/// Whether two records are the same but for what is said of them.
+fn is_same(record: &Option<Record<'_>>, found: &Option<Record<'_>>) -> bool {
+    match found {
+        Some(Record::Reading(it)) => is_like(record, it),
+        _ => true,
+    }
+}
+
 /// Whether it is asked, and that is said of it.
 fn is_asked(asked: &Option<Asked<'_>>, said: &Said<'_>) -> bool {
     match asked {
@@ -97,9 +132,12 @@ fn tells(view: &BatchView<'_>) -> bool {
     let mut all = true;
     for index in 0..6 {
         let said = &SAID[usize::from(index)];
-        all = is_record(&records.next(), said)
+        let record = records.next();
+        let found = view.record_at(index);
+        all = is_record(&record, said)
             && is_asked(&asked.next(), said)
-            && is_record(&view.record_at(index), said)
+            && is_record(&found, said)
+            && is_same(&record, &found)
             && is_kind(view.kind_at(index), said)
             && all;
     }
