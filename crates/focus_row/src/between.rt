@@ -279,8 +279,8 @@ impl<'a> BetweenCuts<'a> {
         Ok(count)
     }
 
-    /// For how many rows of a batch with so many records room is made at once: above `from` each reading has one, up to it
-    /// few have.
+    /// For how many rows of a batch with so many records room is made where all of them are made: above `from` each reading has
+    /// one, up to it few have.
     fn room_for(&self, agent: u8, seq: u32, count: u16) -> usize
         requires from { 1 ≤ agent }
         requires to { agent ≤ self.now.agents }
@@ -293,7 +293,7 @@ impl<'a> BetweenCuts<'a> {
         }
     }
 
-    /// As many rows as room is made for, of the batch of an agent at a sequence.
+    /// As many rows as room is made for, where all of the batch of an agent at a sequence are made.
     fn estimated_rows(&self, agent: u8, seq: u32) -> usize
         requires from { 1 ≤ agent }
         requires to { agent ≤ self.now.agents }
