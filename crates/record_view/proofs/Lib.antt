@@ -5,6 +5,7 @@ pub mod LentLaws
 pub mod RecordLaws
 pub mod LineLaws
 pub mod TagsHold
+mod TextLanes
 pub mod SpanLaws
 pub mod LastPart
 pub mod RegionLines

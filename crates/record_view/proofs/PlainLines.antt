@@ -1,6 +1,5 @@
 -- What a line gives, from what its plain fields give.
-use Rattle.std.proofs.Common.{◌≡◌, ℕ, ◌≤◌, ◌||◌, nat_lt, Bool, true, false, List, length, Option, Some, None, Result, Ok, Err, IfOk, IfSome, refl, sym, ap, subst, ◌∙◌}
-use Rattle.std.proofs.lemmas.Bool.{le-ltb, false≢true}
+use Rattle.std.proofs.Common.{◌≡◌, true, Option, Some, None, Result, Ok, Err, IfOk, IfSome, refl, sym, subst, ◌∙◌}
 use Rattle.std.proofs.lemmas.Option.{none-some, same_Some}
 use Rattle.metering_model.specs.declared.BatchCode.{BatchCode}
 use Rattle.metering_model.specs.declared.BatchCode.TheVariants.{Fields}
@@ -38,19 +37,7 @@ with_region B1 rest front region f h some = absurd (none-some f (sym h.1 ∙ som
 with_region B2 rest front None f h some = absurd h
 with_region B2 rest front (Some g) f h some = (refl, subst (IsBehind rest front) (same_Some g f some) h)
 
--- a region that may be a text is one, where it is short
-pub short_text : (t : List ℕ) → (nat_lt 64 (length t) || is_text t) ≡ true → length t ≤ 64 → is_text t ≡ true
-short_text t may short = sym (ap (λ long. long || is_text t) (le-ltb 64 (length t) short)) ∙ may
-
-pub no_text : (t : List ℕ) → (nat_lt 64 (length t) || is_text t) ≡ false → is_text t ≡ false
-no_text t none = second (nat_lt 64 (length t)) (is_text t) none
-  where
-    second : (a b : Bool) → (a || b) ≡ false → b ≡ false
-    second false b h = h
-    second true b h = absurd (false≢true (sym h))
-
--- what is said of a short region that was taken off is said of that region
-pub some_short : (region : Option Field) (f : Field) → IfSome region (λ g. length g.text.now ≤ 64 → is_text g.text.now ≡ true) → region ≡ Some f
-    → length f.text.now ≤ 64 → is_text f.text.now ≡ true
-some_short None f h some = absurd (none-some f some)
-some_short (Some g) f h some = subst (λ x. length x.text.now ≤ 64 → is_text x.text.now ≡ true) (same_Some g f some) h
+-- what is said of a region that was taken off is said of that region
+pub some_text : (region : Option Field) (f : Field) → IfSome region (λ g. is_text g.text.now ≡ true) → region ≡ Some f → is_text f.text.now ≡ true
+some_text None f h some = absurd (none-some f some)
+some_text (Some g) f h some = subst (λ x. is_text x.text.now ≡ true) (same_Some g f some) h

@@ -2,7 +2,6 @@
 
 ghost use Rattle.std.specs.Prelude.{◌≡◌, ◌+◌, ◌<◌, ◌≤◌, ◌==◌, ◌∷◌, ◌++◌, [], length, slice_range, position, is_some, MatchOption, IfSome};
 ghost use Rattle.std.specs.List.{list_any};
-ghost use Rattle.metering_model.specs.Batch.{is_text};
 ghost use Rattle.record_view.specs.Parts.{lent, part_before, part_after, parts_at};
 ghost use Rattle.record_view.specs.Inner.Placed.{IsPlaced, front_of, back_of};
 
@@ -95,11 +94,4 @@ pub(crate) fn split_at_last<'a>(whole: Field<'a>, byte: u8) -> Option<(Field<'a>
 {
     let position = memrchr(byte, whole.text)?;
     Some(cut(whole, position))
-}
-
-/// Whether each byte is printable ASCII.
-pub(crate) fn is_text(text: &[u8]) -> bool
-    ensures { result ≡ is_text text.now }
-{
-    text.iter().all(|c| *c >= 0x20 && *c <= 0x7E)
 }

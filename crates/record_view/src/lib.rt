@@ -19,3 +19,4 @@ mod records;
 mod spans;
 mod stamps;
 mod tags;
+mod texts;

@@ -1,6 +1,6 @@
 //! The records of a batch.
 
-ghost use Rattle.std.specs.Prelude.{◌≡◌, ◌≢◌, ◌<◌, ◌≤◌, ◌||◌, nat_lt, ◌∷◌, [], length, map, slice_range, IsTrue, OnOk, IfOk, IfErr, IfSome, IfNone, MatchResult, Ok, Err, true, false, ℕ, ℤ, List, codes};
+ghost use Rattle.std.specs.Prelude.{◌≡◌, ◌≢◌, ◌<◌, ◌≤◌, ◌∷◌, [], length, map, slice_range, IsTrue, OnOk, IfOk, IfErr, IfSome, IfNone, MatchResult, Ok, Err, true, false, ℕ, ℤ, List, codes};
 ghost use Rattle.metering_model.specs.FirstFailure.{holds_or};
 ghost use Rattle.metering_model.specs.Batch as model;
 ghost use Rattle.metering_model.specs.Batch.{is_priced, is_text};
@@ -15,10 +15,11 @@ ghost use Rattle.record_view.specs.Inner.RecordSteps.{kind_step, stamp_step, ord
 ghost use Rattle.record_view.specs.Lent.{lent_tags, reading_tags, reading_region, record_of, record_texts, lent_fields, IsLentRecord};
 ghost use Rattle.record_view.specs.Inner.LineFields.{reading_parts, amendment_parts, field_texts, record_of_reading, record_of_amendment, first_fault, in_region, IsBeforeRegion, HaveStamps, ArePlainFields, IsPlainRest, IsPlainBehind};
 
-use crate::fields::{Field, Span, field_at, is_text, split_at_byte, split_at_last};
+use crate::fields::{Field, Span, field_at, split_at_byte, split_at_last};
 use crate::plain::{split_letter, split_plain, split_stamp};
 use crate::stamps::StampReader;
 use crate::tags::{Tags, are_plain_tags};
+use crate::texts::is_text;
 use byte_text::read_whole;
 use fx_money::Value;
 use metering_model::{BatchCode, Kind, Version};
@@ -503,35 +504,14 @@ fn in_region<'a>(what: &Record<'a>, region: Field<'a>) -> Record<'a>
     }
 }
 
-/// So many bytes of a region are looked at before anything in front of it: so what a short one breaks is told without a second
-/// look at what stands in front, and a long one is not looked at where that is refused.
-const SHORT: usize = 64;
-
-/// Whether a region is a text, or too long to be looked at first.
-#[inline(always)]
-fn may_be_text(region: &[u8]) -> bool
-    ensures { result ≡ (nat_lt 64 (length region.now) || is_text region.now) }
-{
-    region.len() > SHORT || is_text(region)
-}
-
-/// Whether a region is a text, where a short one was looked at first.
-#[inline(always)]
-fn is_still_text(region: &[u8]) -> bool
-    requires { length region.now ≤ 64 → IsTrue (is_text region.now) }
-    ensures { result ≡ is_text region.now }
-{
-    region.len() <= SHORT || is_text(region)
-}
-
 /// What stands of a line behind its letter and before its region, which is all of it in format B1, and the region of format B2.
-/// Nothing where a line of format B2 has no bar, or a short region is no text: that is asked before anything in front of it.
+/// Nothing where a line of format B2 has no bar, or a region that is no text: that is asked before anything in front of it.
 #[inline(always)]
 fn before_region<'a>(version: Version, rest: Field<'a>) -> Option<(Field<'a>, Option<Field<'a>>)>
     requires { IsPlaced (lent rest) }
     ensures before { IfSome result (λ p. IsBeforeRegion version (lent rest.entry) (lent p.0) p.1) }
     ensures placed { IfSome result (λ p. IsPlaced (lent p.0)) }
-    ensures short { IfSome result (λ p. IfSome p.1 (λ region. length region.text.now ≤ 64 → IsTrue (is_text region.text.now))) }
+    ensures text { IfSome result (λ p. IfSome p.1 (λ region. IsTrue (is_text region.text.now))) }
     ensures none { IfNone result (IsTrue (is_plain_line rest.entry.text.now)
         → (version ≡ B2) × (parts_at 124 (lent rest.entry) ≡ lent rest.entry ∷ [])) }
     ensures plain { IfSome result (λ p. IsTrue (is_plain_line rest.entry.text.now) → IsTrue (is_plain_line p.0.text.now)) }
@@ -540,7 +520,7 @@ fn before_region<'a>(version: Version, rest: Field<'a>) -> Option<(Field<'a>, Op
         Version::B1 => Some((rest, None)),
         Version::B2 => {
             let (front, region) = split_at_last(rest, b'|')?;
-            if may_be_text(region.text) {
+            if is_text(region.text) {
                 Some((front, Some(region)))
             } else {
                 None
@@ -572,13 +552,7 @@ fn plain_behind<'a>(
     match plain_record(letter, front, stamps) {
         Some(record) => match region {
             None => Some(record),
-            Some(region) => {
-                if is_still_text(region.text) {
-                    Some(in_region(&record, region))
-                } else {
-                    None
-                }
-            }
+            Some(region) => Some(in_region(&record, region)),
         },
         None => None,
     }
@@ -621,17 +595,11 @@ fn reading_in_region<'a>(letter: &[u8], rest: Field<'a>) -> Result<Record<'a>, B
     let Some((front, region)) = split_at_last(rest, b'|') else {
         return Err(BatchCode::Fields);
     };
-    if !may_be_text(region.text) {
+    if !is_text(region.text) {
         return Err(fault_before(letter, front, BatchCode::Text));
     }
     match exact_reading(letter, front) {
-        Ok(record) => {
-            if is_still_text(region.text) {
-                Ok(in_region(&record, region))
-            } else {
-                Err(BatchCode::Text)
-            }
-        }
+        Ok(record) => Ok(in_region(&record, region)),
         Err(code) => Err(code),
     }
 }
@@ -661,7 +629,7 @@ pub fn read_plain<'a>(
 }
 
 /// The record that the line at this span is in a batch of that format, or the rule that its first bad field breaks.
-/// Each field is looked at by itself, but for what stands before a short region that is no text.
+/// Each field is looked at by itself, but for what stands before a region that is no text.
 #[inline(always)]
 pub fn read_exact<'a>(
     version: Version,

@@ -11,8 +11,9 @@ ghost use Rattle.record_view.specs.Plain.{is_plain};
 ghost use Rattle.record_view.specs.TagTexts.{tag_of, tags_at};
 ghost use Rattle.record_view.specs.Inner.TagParts.{are_tags, key_in, if_above, rise_from, IsFirstPart};
 
-use crate::fields::{Field, Span, cut, is_text, split_at_byte};
+use crate::fields::{Field, Span, cut, split_at_byte};
 use crate::plain::{key_end, part_end};
+use crate::texts::is_text;
 
 /// The tags of a reading, by rising keys: pairs of key and value.
 #[derive(Clone, Copy)]
