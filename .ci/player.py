@@ -1,6 +1,7 @@
 """A player of schedules: what is told of a text of `focusd play`, made without the program.
 
-Texts, refusals, rows and files are by docs/formats.md; what nodes do with packets is by the model (Ballot, Deliveries). A sheet and an issuer are read by tomllib, and are right.
+Texts, refusals, rows and files are by docs/formats.md; what nodes do with packets is by the model (Ballot, Deliveries). A sheet and
+an issuer are read by tomllib, and are right.
 """
 import copy
 import datetime
