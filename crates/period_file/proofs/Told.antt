@@ -9,8 +9,8 @@ use Rattle.transcript_laws.specs.FirstFiles.{TornFile, first_file, part_of}
 use Rattle.period_file.specs.Files.{AppendsFront, AppendsPart, IsFileOf, IsRefusal, answer_of, file_in}
 use Rattle.period_file.specs.declared.faults.FileFault.{FileFault}
 use Rattle.period_file.specs.declared.faults.FileFault.TheVariants as fault
-use Rattle.period_file.specs.Inner.Reading.{Takes, Passes, Finds, Copies, Stops, IsEnded, IsOfReading, IsOfCopying, IsBeyond}
-use Rattle.period_file.proofs.Seen.{input_of, all_of, if_known, short_answer, long_answer, none_seen, part_seen, whole_seen, torn_seen, seen, size, some_of_all}
+use Rattle.period_file.specs.Inner.Reading.{EndsUntold, Takes, Finds, Copies, Stops, IsEnded, IsOfReading, IsOfCopying, IsBeyond}
+use Rattle.period_file.proofs.Seen.{input_of, all_of, if_known, short_answer, long_answer, part_seen, whole_seen, torn_seen, seen, size, some_of_all}
 
 -- too much was read
 too_long : (period : ℕ) (known left : Option (List ℕ)) (came : List ℕ) → Consumes known left came → 4_294_967_296 < length came → IfSome known (λ input. file_in period input ≡ Err fault.TooLong)
@@ -38,17 +38,15 @@ refused_at_copying period fault.Write known left came read of_copying beyond con
 refused_at_copying period fault.OutOfMemory known left came read of_copying beyond consumed size refusal = absurd refusal
 
 -- all was read, and no line stands above a file
-pub none_answer : (period : ℕ) (known left : Option (List ℕ)) (rest : List ℕ) (read : ℕ) → Passes period [] rest 0 read known left → IsEnded rest left → read ≤ 4_294_967_296
-    → IfSome known (λ input. file_in period input ≡ Err fault.NoFile)
-none_answer period known left rest read passes ended short =
-    let came = passes.takes.came in
-    let it = input_of known left came passes.takes.consumed in
-    let whole : it.input ≡ came = all_of known left came it ended.1 in
-    let counted = passes.takes.counted in
+pub none_answer : (period : ℕ) (known left : Option (List ℕ)) (read : ℕ) → EndsUntold period [] 0 read known left → read ≤ 4_294_967_296 → IfSome known (λ input. file_in period input ≡ Err fault.NoFile)
+none_answer period known left read ends short =
+    let came = ends.came in
+    let it = input_of known left came ends.consumed in
+    let whole : it.input ≡ came = all_of known left came it ends.end in
+    let counted = ends.counted in
     let few : length it.input ≤ 4_294_967_296 = let size = ap length whole in omega (arith, size, counted, short) in
     if_known known left came it (λ input. file_in period input ≡ Err fault.NoFile)
-    (short_answer period it.input few
-    ∙ ap answer_of (ap (first_file period) (whole ∙ passes.takes.joined) ∙ none_seen period passes.lines rest passes.whole passes.none ended.0))
+    (short_answer period it.input few ∙ ap answer_of (ap (first_file period) whole ∙ ends.none))
 
 module _ (period count : ℕ) (known mid : Option (List ℕ)) (ahead : List ℕ) (read : ℕ) (found : Finds period count [] ahead 0 read known mid) where
   -- bytes that came behind

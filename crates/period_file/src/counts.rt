@@ -1,10 +1,16 @@
 //! The line above a file, and the number of lines that it tells.
 
-ghost use Rattle.std.specs.Prelude.{◌≡◌};
+ghost use Rattle.std.specs.Prelude.{◌≡◌, ◌≤◌, ℕ, List, Option, Some, None, Ok, IfOk, IfErr};
+ghost use Rattle.counted_io.specs.Counts.{count_after};
 ghost use Rattle.transcript_laws.specs.FirstFiles.{told_behind, words_above};
-ghost use Rattle.period_file.specs.Inner.Reading.{IsTold};
+ghost use Rattle.period_file.specs.Faults.{tells_of_reader};
+ghost use Rattle.period_file.specs.Inner.Reading.{EndsUntold, IsBeyond, IsOfReading, IsTold, Takes, TakesTold};
 
+use crate::faults::FileFault;
+use crate::lines::{line_end, pass_line, read_ahead};
+use crate::unread::Unread;
 use byte_text::{Line, is_same, is_whole_part, whole_up_to};
+use counted_io::Source;
 use period_cut::Period;
 
 /// More lines than any input has: a greater number is told as this one.
@@ -33,5 +39,70 @@ pub(crate) fn told_behind(words: &[u8], line: &[u8]) -> Option<u64>
         Some(whole_up_to(number, TOO_MANY).unwrap_or(TOO_MANY))
     } else {
         None
+    }
+}
+
+/// Takes the next line, for which all of it is read first, and answers what it tells behind these words: None where no line is
+/// left.
+fn take_told<S: Source>(
+    words: &[u8],
+    unread: &mut Unread,
+    source: &mut S,
+) -> Result<Option<Option<u64>>, FileFault>
+    requires { unread.old.read ≤ 4_294_967_296 }
+    ensures takes { (taken : List ℕ) × Takes unread.old.bytes unread.new.bytes unread.old.read unread.new.read
+        (S.remaining source.old) (S.remaining source.new) taken }
+    ensures told { (told : Option ℕ) → result ≡ Ok (Some told) → TakesTold words.now told
+        unread.old.bytes unread.new.bytes unread.old.read unread.new.read
+        (S.remaining source.old) (S.remaining source.new) }
+    ensures none { (period : ℕ) → result ≡ Ok None
+        → EndsUntold period unread.old.bytes unread.old.read unread.new.read
+        (S.remaining source.old) (S.remaining source.new) }
+    ensures within { IfOk result (λ told. unread.new.read ≤ 4_294_967_296) }
+    ensures most { unread.new.read ≤ 4_294_967_297 }
+    ensures reading { IfErr result (λ fault. IsOfReading fault × IsBeyond fault unread.new.read) }
+    ensures count { S.failed_calls source.new
+        ≡ count_after (tells_of_reader result) (S.failed_calls source.old) }
+{
+    let Some(end) = line_end(unread, source)? else {
+        return Ok(None);
+    };
+    let told = told_behind(words, &unread.ahead()[..end]);
+    unread.take(end + 1);
+    Ok(Some(told))
+}
+
+/// Takes the next line, and answers what it tells behind these words: None where no line is left that could tell something. Only
+/// a line that begins with them is kept until it ends.
+pub(crate) fn next_told<S: Source>(
+    words: &[u8],
+    unread: &mut Unread,
+    source: &mut S,
+) -> Result<Option<Option<u64>>, FileFault>
+    requires { unread.old.read ≤ 4_294_967_296 }
+    ensures takes { (taken : List ℕ) × Takes unread.old.bytes unread.new.bytes unread.old.read unread.new.read
+        (S.remaining source.old) (S.remaining source.new) taken }
+    ensures told { (told : Option ℕ) → result ≡ Ok (Some told) → TakesTold words.now told
+        unread.old.bytes unread.new.bytes unread.old.read unread.new.read
+        (S.remaining source.old) (S.remaining source.new) }
+    ensures none { (period : ℕ) → words.now ≡ words_above period → result ≡ Ok None
+        → EndsUntold period unread.old.bytes unread.old.read unread.new.read
+        (S.remaining source.old) (S.remaining source.new) }
+    ensures within { IfOk result (λ told. unread.new.read ≤ 4_294_967_296) }
+    ensures most { unread.new.read ≤ 4_294_967_297 }
+    ensures reading { IfErr result (λ fault. IsOfReading fault × IsBeyond fault unread.new.read) }
+    ensures count { S.failed_calls source.new
+        ≡ count_after (tells_of_reader result) (S.failed_calls source.old) }
+{
+    if !read_ahead(words.len(), unread, source)? {
+        return Ok(None);
+    }
+    if is_same(&unread.ahead()[..words.len()], words) {
+        return take_told(words, unread, source);
+    }
+    if pass_line(unread, source)? {
+        Ok(Some(None))
+    } else {
+        Ok(None)
     }
 }

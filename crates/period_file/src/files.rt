@@ -6,9 +6,9 @@ ghost use Rattle.counted_io.specs.Counts.{Rises, count_after};
 ghost use Rattle.counted_io.specs.Reading.{ConsumesAtMost};
 ghost use Rattle.period_file.specs.Faults.{tells_of_reader, tells_of_writer};
 ghost use Rattle.period_file.specs.Files.{AppendsFront, AppendsPart, IsFileOf, IsRefusal, file_in};
-ghost use Rattle.period_file.specs.Inner.Reading.{Copies, CopiesAhead, Finds, IsBeyond, IsEnded, IsLineAt, IsOfCopying, IsOfReading, Passes, Stops, StopsAhead, Takes};
+ghost use Rattle.period_file.specs.Inner.Reading.{Copies, CopiesAhead, EndsUntold, Finds, IsBeyond, IsEnded, IsLineAt, IsOfCopying, IsOfReading, Stops, StopsAhead, Takes};
 
-use crate::counts::{told_behind, words_above};
+use crate::counts::{next_told, words_above};
 use crate::faults::FileFault;
 use crate::lines::{line_end, lines_in_front};
 use crate::unread::Unread;
@@ -28,9 +28,8 @@ fn find_line_above<S: Source>(
         → Finds period count unread.old.bytes unread.new.bytes unread.old.read unread.new.read
         (S.remaining source.old) (S.remaining source.new) }
     ensures none { result ≡ Ok None
-        → Passes period unread.old.bytes unread.new.bytes unread.old.read unread.new.read
-        (S.remaining source.old) (S.remaining source.new)
-        × IsEnded unread.new.bytes (S.remaining source.new) }
+        → EndsUntold period unread.old.bytes unread.old.read unread.new.read
+        (S.remaining source.old) (S.remaining source.new) }
     ensures takes { (taken : List ℕ) × Takes unread.old.bytes unread.new.bytes unread.old.read unread.new.read
         (S.remaining source.old) (S.remaining source.new) taken }
     ensures within { IfOk result (λ found. unread.new.read ≤ 4_294_967_296) }
@@ -41,11 +40,9 @@ fn find_line_above<S: Source>(
 {
     let words = words_above(period);
     loop {
-        let Some(end) = line_end(unread, source)? else {
+        let Some(told) = next_told(words.as_slice(), unread, source)? else {
             return Ok(None);
         };
-        let told = told_behind(words.as_slice(), &unread.ahead()[..end]);
-        unread.take(end + 1);
         if told.is_some() {
             return Ok(told);
         }

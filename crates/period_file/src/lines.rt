@@ -1,10 +1,11 @@
 //! Lines of what a source gives.
 
-ghost use Rattle.std.specs.Prelude.{◌≡◌, ◌<◌, ◌≤◌, ℕ, [], true, IfOk, IfErr, MatchOption};
+ghost use Rattle.std.specs.Prelude.{◌≡◌, ◌+◌, ◌<◌, ◌≤◌, ℕ, List, [], length, drop, true, false, Ok, IfOk, IfErr, MatchOption};
+ghost use Rattle.std.specs.Io.KnownBytes.{IsAtEnd};
 ghost use Rattle.counted_io.specs.Counts.{count_after};
 ghost use Rattle.metering_model.specs.Batch.{lacks};
 ghost use Rattle.period_file.specs.Faults.{tells_of_reader};
-ghost use Rattle.period_file.specs.Inner.Reading.{AreInFront, IsBeyond, IsEnded, IsLineAt, IsOfReading, Takes};
+ghost use Rattle.period_file.specs.Inner.Reading.{AreInFront, IsBeyond, IsEnded, IsLineAt, IsOfReading, Takes, TakesLine, TakesPart};
 
 use crate::faults::FileFault;
 use crate::unread::Unread;
@@ -44,6 +45,79 @@ pub(crate) fn line_end<S: Source>(
         let is_more = unread.fill(source)?;
         if !is_more {
             return Ok(None);
+        }
+    }
+}
+
+/// Reads until so many bytes are ahead, and answers whether they are: where not, no more come.
+pub(crate) fn read_ahead<S: Source>(
+    wanted: usize,
+    unread: &mut Unread,
+    source: &mut S,
+) -> Result<bool, FileFault>
+    requires { unread.old.read ≤ 4_294_967_296 }
+    ensures takes { Takes unread.old.bytes unread.new.bytes unread.old.read unread.new.read
+        (S.remaining source.old) (S.remaining source.new) [] }
+    ensures enough { result ≡ Ok true → wanted ≤ length unread.new.bytes }
+    ensures ended { result ≡ Ok false → (length unread.new.bytes < wanted) × IsAtEnd (S.remaining source.new) }
+    ensures within { IfOk result (λ enough. unread.new.read ≤ 4_294_967_296) }
+    ensures most { unread.new.read ≤ 4_294_967_297 }
+    ensures reading { IfErr result (λ fault. IsOfReading fault × IsBeyond fault unread.new.read) }
+    ensures count { S.failed_calls source.new
+        ≡ count_after (tells_of_reader result) (S.failed_calls source.old) }
+{
+    while unread.ahead().len() < wanted {
+        let is_more = unread.fill(source)?;
+        if !is_more {
+            return Ok(false);
+        }
+    }
+    Ok(true)
+}
+
+/// Takes the line that is ahead, or all that is where no line ends there. It answers whether one does.
+fn take_part(unread: &mut Unread) -> bool
+    ensures line { result ≡ true → (end : ℕ) × IsLineAt unread.old.bytes end
+        × (unread.new.bytes ≡ drop (end + 1) unread.old.bytes) }
+    ensures part { result ≡ false → (lacks 10 unread.old.bytes ≡ true) × (unread.new.bytes ≡ []) }
+    ensures read { unread.new.read ≡ unread.old.read }
+{
+    let length = unread.ahead().len();
+    match first_feed(unread.ahead()) {
+        Some(end) => {
+            unread.take(end + 1);
+            true
+        }
+        None => {
+            unread.take(length);
+            false
+        }
+    }
+}
+
+/// Takes a line and its line feed, block by block, so that a long line takes no more room than a short one. It answers whether
+/// the line ended.
+pub(crate) fn pass_line<S: Source>(unread: &mut Unread, source: &mut S) -> Result<bool, FileFault>
+    requires { unread.old.read ≤ 4_294_967_296 }
+    ensures takes { (taken : List ℕ) × Takes unread.old.bytes unread.new.bytes unread.old.read unread.new.read
+        (S.remaining source.old) (S.remaining source.new) taken }
+    ensures line { result ≡ Ok true → TakesLine unread.old.bytes unread.new.bytes unread.old.read unread.new.read
+        (S.remaining source.old) (S.remaining source.new) }
+    ensures ended { result ≡ Ok false → TakesPart unread.old.bytes [] unread.old.read unread.new.read
+        (S.remaining source.old) (S.remaining source.new) × IsAtEnd (S.remaining source.new) }
+    ensures within { IfOk result (λ passed. unread.new.read ≤ 4_294_967_296) }
+    ensures most { unread.new.read ≤ 4_294_967_297 }
+    ensures reading { IfErr result (λ fault. IsOfReading fault × IsBeyond fault unread.new.read) }
+    ensures count { S.failed_calls source.new
+        ≡ count_after (tells_of_reader result) (S.failed_calls source.old) }
+{
+    loop {
+        if take_part(unread) {
+            return Ok(true);
+        }
+        let is_more = unread.fill(source)?;
+        if !is_more {
+            return Ok(false);
         }
     }
 }

@@ -42,11 +42,15 @@ impl Model for Unread {
     ghost invariant = { λ u. u.from ≤ vec_len u.bytes };
 }
 
-/// Moves the bytes behind the first ones to the front, and drops those.
+/// Moves the bytes behind the first ones to the front, and drops those. Where there is nothing to drop, nothing moves: a long
+/// line would else be moved onto itself at each block that is read of it.
 fn drop_front(bytes: &mut Vec<u8>, count: usize)
     requires { count ≤ length bytes.old.items }
     ensures { bytes.new.items ≡ drop count bytes.old.items }
 {
+    if count == 0 {
+        return;
+    }
     let length = bytes.len() - count;
     bytes.as_mut_slice().copy_within(count.., 0);
     bytes.truncate(length);

@@ -6,7 +6,7 @@ use Rattle.counted_io.specs.Writing.{AppendsSome}
 use Rattle.metering_model.specs.Batch.{lacks}
 use Rattle.metering_model.specs.Transcript.{line}
 use Rattle.metering_model.specs.Schedule.{TextLines, lines_text}
-use Rattle.transcript_laws.specs.FirstFiles.{NoFile, first_of_lines, lines_told}
+use Rattle.transcript_laws.specs.FirstFiles.{NoFile, first_file, first_of_lines, lines_told, told_behind}
 use Rattle.period_file.specs.declared.faults.FileFault.{FileFault}
 use Rattle.period_file.specs.declared.faults.FileFault.TheVariants as fault
 
@@ -21,6 +21,18 @@ pub record Takes (ahead rest : List ℕ) (read read' : ℕ) (left left' : Option
   pub consumed : Consumes left left' came
   pub joined : ahead ++ came ≡ taken ++ rest
   pub counted : read' ≡ read + length came
+
+-- A part of a line was taken, and no line feed.
+pub record TakesPart (ahead rest : List ℕ) (read read' : ℕ) (left left' : Option (List ℕ)) : Type 0 where
+  pub part : List ℕ
+  pub lacks_feed : lacks 10 part ≡ true
+  pub takes : Takes ahead rest read read' left left' part
+
+-- A line was taken, and its line feed.
+pub record TakesLine (ahead rest : List ℕ) (read read' : ℕ) (left left' : Option (List ℕ)) : Type 0 where
+  pub text : List ℕ
+  pub lacks_feed : lacks 10 text ≡ true
+  pub takes : Takes ahead rest read read' left left' (line text)
 
 -- no byte is left that ends a line, neither ahead nor to be read
 abbrev pub IsEnded : List ℕ → Option (List ℕ) → Type 0
@@ -69,6 +81,21 @@ pub record AreInFront (text : List ℕ) (count at : ℕ) : Type 0 where
 abbrev pub IsTold : Option ℕ → Option ℕ → Type 0
 IsTold (Some count) told = (number : ℕ) × (told ≡ Some number) × (count ≡ min 4_294_967_297 number)
 IsTold None told = told ≡ None
+
+-- A line was taken, and its line feed, and that is told of it behind these words.
+pub record TakesTold (words : List ℕ) (told : Option ℕ) (ahead rest : List ℕ) (read read' : ℕ) (left left' : Option (List ℕ)) : Type 0 where
+  pub text : List ℕ
+  pub lacks_feed : lacks 10 text ≡ true
+  pub is_told : IsTold told (told_behind words text)
+  pub takes : Takes ahead rest read read' left left' (line text)
+
+-- All was read, and no line from the bytes ahead on stands above a file of the period.
+pub record EndsUntold (period : ℕ) (ahead : List ℕ) (read read' : ℕ) (left left' : Option (List ℕ)) : Type 0 where
+  pub came : List ℕ
+  pub consumed : Consumes left left' came
+  pub counted : read' ≡ read + length came
+  pub end : IsAtEnd left'
+  pub none : first_file period (ahead ++ came) ≡ NoFile
 
 -- Lines were taken, and none of them stands above a file of the period.
 pub record Passes (period : ℕ) (ahead rest : List ℕ) (read read' : ℕ) (left left' : Option (List ℕ)) : Type 0 where

@@ -20,7 +20,7 @@ returns-in_err-count-clause-front g c = on_err c.from_residual.result (any_front
 pub returns-in_default-clause-refused : goal.returns-in_default-clause-refused
 returns-in_default-clause-refused g c = λ refusal.
     let none = rw (c.new-unread.ensures.bytes, c.new-unread.ensures.read) at (c.in_ok-count.ensures.none (ap Ok c.in_default.is)) in
-    none_answer c.args.period (g.R.Source.remaining c.args.reader.now) (g.R.Source.remaining c.find_line_above.new.source) c.find_line_above.new.unread.bytes c.find_line_above.new.unread.read none.0 none.1 c.in_ok-count.ensures.within
+    none_answer c.args.period (g.R.Source.remaining c.args.reader.now) (g.R.Source.remaining c.find_line_above.new.source) c.find_line_above.new.unread.read none c.in_ok-count.ensures.within
 
 pub returns-in_err-lacking-clause-refused : goal.returns-in_err-lacking-clause-refused
 returns-in_err-lacking-clause-refused g c =
