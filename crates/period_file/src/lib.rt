@@ -1,4 +1,5 @@
-//! The file of one period, cut out of a transcript: from a source to a sink, with one line in memory.
+//! The file of one period, cut out of a transcript: from a source to a sink, with one line in memory, and of a line that does not
+//! begin like the one above a file no more than a block.
 #![tactic(auto)]
 
 mod counts;
