@@ -16,7 +16,7 @@ fn journal<R: Wait>(
     let offer = Offer::read(alloc, text.to_vec(alloc)?)?;
     let receipt = desk.act(rt, alloc, Worker::Agent(agent), Event::Journal(offer))?;
     if let Reply::Journaled { packet } = &receipt.reply {
-        desk.send(rt, *packet)?;
+        desk.board.send(rt, *packet);
     }
     Done::in_one_thread(alloc, receipt)
 }

@@ -38,15 +38,16 @@ pub fn run_group<R: Threads + Wait + Sync, G: Gate + Sync>(
     ensures headline { IfOk result (λ run. HoldsAfter run.book.voters run.book.observers run.book.agents run.book.sheet run.book.issuer
         (map (λ e. e.event) run.book.history) (map (λ e. e.reply) run.book.history) run.book.world) }
 {
-    let Ok((desk, inboxes)) = open(alloc, &plan) else {
+    let Ok((desk, reports)) = open(alloc, &plan) else {
         return Err(RunFault::OutOfMemory);
     };
     let work = Work {
+        nodes: plan.voters + plan.observers,
         journals: &plan.journals,
         periods: plan.periods,
         turns: plan.turns,
     };
-    let Ok(logs) = run_threads(rt, alloc, work, gate, &desk, &inboxes) else {
+    let Ok(logs) = run_threads(rt, alloc, work, gate, &desk, &reports) else {
         return Err(RunFault::OutOfMemory);
     };
     let book = desk.into_book();

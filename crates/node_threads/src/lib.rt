@@ -2,6 +2,7 @@
 #![tactic(auto)]
 
 mod agents;
+mod boards;
 mod desks;
 mod gates;
 mod groups;

@@ -1,8 +1,8 @@
 //! What a node's thread does.
 
 use crate::Gate;
-use crate::desks::{Desk, Note, Report};
-use crossbeam_channel::Receiver;
+use crate::boards::{Note, Taken};
+use crate::desks::{Desk, Report};
 use node_book::{Done, Event, Log, Receipt, Reply, Worker};
 use std::alloc::{AllocError, Global};
 use std::sync::Wait;
@@ -141,7 +141,10 @@ impl Progress {
         let next = next_of(&receipt.reply);
         self.keep(rt, alloc, seat, receipt)?;
         match next {
-            Next::Sent(packet) => desk.send(rt, packet),
+            Next::Sent(packet) => {
+                desk.board.send(rt, packet);
+                Ok(())
+            }
             Next::Learned => {
                 self.learned = self.learned.saturating_add(1);
                 desk.report(rt, Report::Learned);
@@ -167,9 +170,9 @@ fn work<R: Threads + Wait + Sync, G: Gate>(
     desk: &Desk,
     gate: &G,
     seat: Seat,
-    notes: &Receiver<Note>,
 ) -> Result<Log, AllocError> {
     let node = seat.node;
+    let mut taken = Taken::new();
     let mut progress = Progress {
         done: Vec::new(alloc),
         learned: 0,
@@ -177,10 +180,11 @@ fn work<R: Threads + Wait + Sync, G: Gate>(
         is_stuck: false,
     };
     for _ in rt.forever() {
-        let event = match notes.recv(rt) {
-            Ok(Note::Packet(packet)) => Event::Deliver { packet, node },
-            Ok(Note::Start) => Event::Start { node },
-            _ => break,
+        let event = match desk.board.next(rt, &mut taken) {
+            Note::Packet(packet) => Event::Deliver { packet, node },
+            Note::Period(period) if desk.begins(node, period) => Event::Start { node },
+            Note::Period(_) => continue,
+            Note::Stop => break,
         };
         progress.take(rt, alloc, desk, gate, seat, event)?;
     }
@@ -190,16 +194,6 @@ fn work<R: Threads + Wait + Sync, G: Gate>(
     })
 }
 
-/// Takes notes, and does nothing about them, until it is told to stop: so there is room for that note.
-fn wait_for_stop<R: Wait>(rt: &R, notes: &Receiver<Note>) {
-    for _ in rt.forever() {
-        match notes.recv(rt) {
-            Ok(Note::Packet(_) | Note::Start) => {}
-            _ => break,
-        }
-    }
-}
-
 /// The thread of a node. Want of memory is told to the main thread at once.
 pub(crate) fn run_node<R: Threads + Wait + Sync, G: Gate>(
     rt: &R,
@@ -207,12 +201,10 @@ pub(crate) fn run_node<R: Threads + Wait + Sync, G: Gate>(
     desk: &Desk,
     gate: &G,
     seat: Seat,
-    notes: &Receiver<Note>,
 ) -> Result<Log, AllocError> {
-    let log = work(rt, alloc, desk, gate, seat, notes);
+    let log = work(rt, alloc, desk, gate, seat);
     if log.is_err() {
         desk.report(rt, Report::NoMemory);
-        wait_for_stop(rt, notes);
     }
     log
 }

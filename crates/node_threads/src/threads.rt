@@ -2,7 +2,7 @@
 
 use crate::Gate;
 use crate::agents::run_agent;
-use crate::desks::{Desk, Inboxes, Report};
+use crate::desks::{Desk, Report};
 use crate::nodes::{Seat, run_node};
 use crossbeam_channel::Receiver;
 use node_book::Log;
@@ -12,10 +12,11 @@ use std::sync::Wait;
 use std::thread;
 use std::thread::{JoinHandle, Threads};
 
-/// What the threads of a run are to do: the texts of each agent, how many periods the nodes are to export, and how often each
-/// asks its gate.
+/// What the threads of a run are to do: how many nodes there are, the texts of each agent, how many periods the nodes are to
+/// export, and how often each asks its gate.
 #[derive(Clone, Copy, Drop)]
 pub(crate) struct Work<'a> {
+    pub nodes: u8,
     pub journals: &'a [Vec<Vec<u8>>],
     pub periods: u16,
     pub turns: u32,
@@ -32,7 +33,7 @@ fn lead_period<R: Wait>(
     nodes: usize,
     period: u16,
 ) -> Result<bool, AllocError> {
-    desk.start(rt, period)?;
+    desk.board.begin(rt, period);
     for _ in 0..nodes {
         match reports.recv(rt) {
             Ok(Report::Learned) => {}
@@ -111,14 +112,14 @@ fn lead_and_join<R: Threads + Wait>(
     }
     let goes_on = matches!(led, Ok(true));
     if !goes_on {
-        desk.stop(rt, count);
+        desk.board.stop(rt);
     }
     let journaled = join_all(rt, agents, logs);
     if goes_on {
         if journaled.is_ok() {
             led = lead(rt, desk, reports, count, last..periods);
         }
-        desk.stop(rt, count);
+        desk.board.stop(rt);
     }
     let exported = join_all(rt, nodes, logs);
     led?;
@@ -143,18 +144,17 @@ pub(crate) fn run_threads<R: Threads + Wait + Sync, G: Gate + Sync>(
     work: Work<'_>,
     gate: &G,
     desk: &Desk,
-    inboxes: &Inboxes,
+    reports: &Receiver<Report>,
 ) -> Result<Vec<Log>, AllocError> {
     thread::scope(thread::scope_env(), rt, |scope| {
-        let mut nodes = Vec::with_capacity(alloc, inboxes.nodes.len())?;
+        let count = usize::from(work.nodes);
+        let mut nodes = Vec::with_capacity(alloc, count)?;
         let mut agents = Vec::with_capacity(alloc, work.journals.len())?;
-        let workers = inboxes.nodes.len().saturating_add(work.journals.len());
-        let mut logs = Vec::with_capacity(alloc, workers)?;
+        let mut logs = Vec::with_capacity(alloc, count.saturating_add(work.journals.len()))?;
         let mut are_all = true;
-        let mut node = 0u8;
         let turns = work.turns;
-        let is_split = is_split(rt, inboxes.nodes.len());
-        for notes in &inboxes.nodes {
+        let is_split = is_split(rt, count);
+        for node in 0..work.nodes {
             if !are_all {
                 break;
             }
@@ -163,11 +163,10 @@ pub(crate) fn run_threads<R: Threads + Wait + Sync, G: Gate + Sync>(
                 turns,
                 is_split,
             };
-            match scope.spawn(move || run_node(rt, alloc, desk, gate, seat, notes)) {
+            match scope.spawn(move || run_node(rt, alloc, desk, gate, seat)) {
                 Ok(handle) => are_all = nodes.push(handle).is_ok(),
                 Err(_) => are_all = false,
             }
-            node = node.saturating_add(1);
         }
         let mut agent = 0u8;
         for texts in work.journals {
@@ -186,7 +185,7 @@ pub(crate) fn run_threads<R: Threads + Wait + Sync, G: Gate + Sync>(
             agents,
             are_all,
         };
-        lead_and_join(rt, desk, &inboxes.main, work.periods, started, &mut logs)?;
+        lead_and_join(rt, desk, reports, work.periods, started, &mut logs)?;
         Ok(logs)
     })
 }
