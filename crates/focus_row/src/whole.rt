@@ -23,7 +23,7 @@ pub enum RowFault {
     /// Q1: the store lacks this batch, and perhaps later ones up to the cut.
     #[error("missing agent {agent} seq {seq}")]
     Missing { agent: u8, seq: u32 },
-    /// Q2, Q3: the rule that the first bad record up to the cut breaks.
+    /// Q2, Q3: the first bad record up to the cut breaks the rule on targets (G3) or the one on prices (G4).
     #[error("{0}")]
     Broken(BrokenRule),
     /// Q4: no room could be made for the rows.

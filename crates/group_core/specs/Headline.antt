@@ -21,7 +21,7 @@ pub record HasOneList (w : World) : Type 0 where
 pub record LearnsWhatIsChosen (w : World) : Type 0 where
   pub chosen : (n : Node) (period : ℕ) (cut : Cut) → Contains w.nodes n → slice_get n.kept.learned period ≡ Some cut → IsChosen w period cut
 
--- No batch lies between the cuts of two periods, and each reading is new in at most one file.
+-- No batch is charged in two periods, and each reading is new in at most one file.
 pub record ChargesOnce (w : World) : Type 0 where
   pub cuts : List Cut
   pub are_the_cuts : AreTheCuts w cuts

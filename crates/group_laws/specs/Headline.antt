@@ -60,8 +60,8 @@ pub record IsNewIn (w : World) (cuts : List Cut) (period index : ℕ) (x : Place
   pub row : slice_get (placed_rows w.sheet w.issuer w.journals period (cut_before w.agents cuts period) to) index ≡ Some x
   pub new : x.row.charge_class ≡ None
 
--- No batch lies between the cuts of two periods. No reading is new in two rows, be they of one period or of two, and each
--- reading up to a cut is new in one.
+-- No batch is charged in two periods: it lies between the two cuts of at most one. No reading is new in two rows, be they of
+-- one period or of two, and each reading up to a cut is new in one.
 pub record AreChargedOnce (w : World) (cuts : List Cut) : Type 0 where
   pub apart : (p q : ℕ) (c d : Cut) (agent seq : ℕ) → slice_get cuts p ≡ Some c → slice_get cuts q ≡ Some d →
       last_of (cut_before w.agents cuts p) agent < seq → seq ≤ last_of c agent →

@@ -41,7 +41,7 @@ pub fn observers_change_nothing()
         IsFollowed voters (play (opening voters observers agents sheet issuer) events).1 (play (opening voters 0 agents sheet issuer) others).1 }
 {}
 
-/// A node is revived from the text of what it keeps now, and from no other: to be revived is to restart. Its text is read
+/// A node that is revived from a text restarts, and its text is that of what it keeps now. That text is read
 /// back as what it keeps, where the group is no larger than a text can say.
 pub fn a_revival_is_a_restart()
     ensures restarts { (voters observers agents : ℕ) (sheet : Sheet) (issuer : Issuer) (events : List Event) (node : ℕ) (offer : KeptOffer) →

@@ -39,8 +39,8 @@ pub record Rated : Type 0 where
 abbrev pub cost_at : ℕ → ℤ → ℤ
 cost_at price quantity = pos price *ℤ quantity
 
--- Usage under a commitment is billed when the commitment is bought: its effective cost is at the commitment's rate.
--- So the purchase that buys a commitment has no effective cost of its own.
+-- Usage that names a commitment bills nothing, whether it was bought or not: its effective cost is at the commitment's rate.
+-- A purchase that buys a commitment is billed, and has no effective cost of its own.
 abbrev pub costs : PriceRow → Option Commitment → PricedKind → ℤ → ℤ → Rated
 costs row None Usage consumed quantity =
     let list = cost_at row.list quantity in

@@ -155,10 +155,10 @@ pub enum Refusal {
     /// G2: the agent has to journal sequence `wanted` next.
     #[error("G2 wanted {wanted}")]
     WrongSeq { wanted: u32 },
-    /// G3: a record breaks the rule on targets.
+    /// G3: an amendment names no reading that stands before it, or gives usage or a purchase a negative value.
     #[error("G3")]
     BadTarget,
-    /// G4: a record breaks the rule on prices.
+    /// G4: usage or a purchase has no price on the day that it starts, or a commitment that is none of its SKU's.
     #[error("G4")]
     Unpriced,
     /// G5: the packet was never sent.
