@@ -8,8 +8,9 @@ ghost use Rattle.batch_view.specs.Asked.{asked_in, record_asked};
 ghost use Rattle.batch_view.specs.Batches.{batch_of, RecordsLeft};
 ghost use Rattle.batch_view.specs.Inner.Kept.{KeepsBatch};
 
-use crate::batch::{BatchView, kept_record, record_from};
+use crate::batch::{BatchView, kept_record};
 use crate::entries::Entry;
+use crate::first_fault::record_from;
 use crate::head::Head;
 use metering_model::Kind;
 use record_view::{Record, Stamp, Value};

@@ -5,7 +5,8 @@ ghost use Rattle.metering_model.specs.BatchReading.{lines_in};
 ghost use Rattle.batch_view.specs.Extents.{counted, extent_in};
 ghost use Rattle.batch_view.specs.Inner.First.{IsFirstBatch, IsHeadFirst};
 
-use crate::batch::{BatchView, MOST_BYTES};
+use crate::batch::BatchView;
+use crate::first_fault::MOST_BYTES;
 use crate::head::{Head, head_of_line};
 use byte_text::{find_byte, lines_length};
 use record_view::Span;

@@ -14,11 +14,12 @@ ghost use Rattle.batch_view.specs.Inner.Kept.{IfFault, KeepsBatch};
 ghost use Rattle.batch_view.specs.Inner.Given.{HasReading, LacksReading};
 
 use crate::amendments::{is_before, last_amendment, latest_start, sorted_amendments};
-use crate::batch::{BatchView, check_batch};
+use crate::batch::BatchView;
 use crate::entries::{Entry, Found, entry_at, field_total};
 use crate::extents::first_batch;
+use crate::first_fault::check_batch;
 use crate::head::Head;
-use crate::reading::{Unkept, keep_batch, keep_below};
+use crate::keeping::{Unkept, keep_batch, keep_below};
 use metering_model::BatchFault;
 use record_view::{Span, Stamp, Value};
 use std::alloc::{AllocError, AllocFailed, Global};

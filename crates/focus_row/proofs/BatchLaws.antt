@@ -8,7 +8,7 @@ use Rattle.metering_model.specs.Cut.{last_of}
 use Rattle.metering_model.specs.Holding.{held}
 use Rattle.metering_model.specs.Row.{Row}
 use Rattle.metering_model.proofs.MissingLaws.{held-up_to_where}
-use Rattle.focus_row.specs.declared.between.BatchPlace.{BatchPlace}
+use Rattle.focus_row.specs.declared.due_batches.BatchPlace.{BatchPlace}
 use Rattle.focus_row.specs.Inner.Left.{Between, MayBeCharged, rows_left, rows_of_held, rows_of_batch, rows_of_place}
 use Rattle.focus_row.proofs.StopLaws.{rows_first}
 

@@ -2,6 +2,8 @@
 #![tactic(auto)]
 
 mod between;
+mod corrections;
+mod due_batches;
 pub mod laws;
 mod places;
 mod walk;

@@ -1,5 +1,6 @@
 //! Which packets a node answers.
-ghost use Rattle.std.specs.Prelude.{◌≡◌, ◌<◌, nat_lt};
+
+ghost use Rattle.std.specs.Prelude.{◌≡◌, ◌<◌};
 ghost use Rattle.metering_model.specs.Ballot.{is_above, is_not_below};
 ghost use Rattle.group_node.specs.Nodes.{IsNodeAmong};
 ghost use Rattle.group_node.specs.Inner.Answering.{has_learned, promises, accepts, proposes_at};
@@ -27,13 +28,6 @@ fn is_not_below(ballot: Ballot, promised: Option<Ballot>) -> bool
 }
 
 impl Node {
-    /// Whether node i of its group is a voter: the first of them are.
-    pub(crate) fn votes(&self, i: u8) -> bool
-        ensures { result ≡ nat_lt i self.now.voters }
-    {
-        i < self.voters
-    }
-
     /// Whether the node has learned that period.
     pub(crate) fn has_learned(&self, period: Period) -> bool
         ensures { result ≡ has_learned period self.now.node }

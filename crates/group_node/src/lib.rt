@@ -5,6 +5,7 @@ mod answering;
 mod handling;
 mod learning;
 mod nodes;
+mod observers;
 mod packets;
 mod proposing;
 mod voting;

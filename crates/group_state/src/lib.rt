@@ -4,8 +4,9 @@
 
 mod deliveries;
 mod exports;
+mod full_world;
 mod journaling;
-mod keeps;
+mod revivals;
 mod starts;
 mod state;
 mod steps;

@@ -11,7 +11,6 @@ ghost use Rattle.group_state.specs.Inner.Allowed.{MayBegin};
 ghost use Rattle.group_state.specs.Inner.Members.{Begins};
 
 use crate::GroupState;
-use crate::state::MOST_PACKETS;
 use group_events::{Period, Reply};
 use group_node::{Node, Packet};
 use metering_model::Refusal;
@@ -59,7 +58,7 @@ impl GroupState {
         if starter.round() >= MOST_ROUNDS {
             return Err(Refusal::NoBallot);
         }
-        if self.packets.len() >= MOST_PACKETS {
+        if !self.has_room() {
             return Err(Refusal::WorldFull);
         }
         Ok(period)

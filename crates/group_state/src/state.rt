@@ -1,6 +1,6 @@
 //! The world as it stands.
 
-ghost use Rattle.std.specs.Prelude.{◌≡◌, ◌+◌, ◌≤◌, IfOk, IfSome, length, nat_lt, replicate, slice_get};
+ghost use Rattle.std.specs.Prelude.{◌≡◌, ◌+◌, ◌≤◌, IfOk, IfSome, replicate, slice_get};
 ghost use Rattle.std.specs.Option.{option_copied, option_map};
 ghost use Rattle.std.specs.Arc.{arc_value};
 ghost use Rattle.metering_model.specs.World.{new_kept, opening, voter_count, wake};
@@ -13,9 +13,6 @@ use group_node::{Node, Packet};
 use std::alloc::{AllocError, Global};
 use std::marker::Model;
 use std::sync::Arc;
-
-/// No packet is sent once there are so many.
-pub(crate) const MOST_PACKETS: usize = 1_000_000;
 
 /// What a group is at one moment: the sheet and the issuer, the batches that were journaled, the packets that were ever
 /// sent, by number, and the nodes, of which the first vote. Packets, journals and nodes share batches and cuts, and never
@@ -107,13 +104,6 @@ impl GroupState {
         ensures member { IfSome result (λ n. IsMember (voter_count self.now) self.now.agents n.now) }
     {
         self.nodes.get(usize::from(node))
-    }
-
-    /// Whether one packet more may be sent.
-    pub(crate) fn has_room(&self) -> bool
-        ensures { result ≡ nat_lt (length self.now.packets) 1_000_000 }
-    {
-        self.packets.len() < MOST_PACKETS
     }
 
     /// The number of agents.

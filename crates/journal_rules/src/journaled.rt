@@ -1,65 +1,22 @@
 //! The rules of the journals, over what a store has with one batch more, or over one batch alone.
 
 ghost use Rattle.std.specs.Prelude.{◌≡◌, ◌≤◌, true, false};
-ghost use Rattle.std.specs.List.{slice_get};
-ghost use Rattle.std.specs.Option.{option_and_then, option_copied, option_map};
-ghost use Rattle.metering_model.specs.Holding.{held, is_batch_at, placed, reading_at, reading_of};
-ghost use Rattle.metering_model.specs.JournalRules.{is_fit_commitment, is_fit_reading, is_fit_target, comes_earlier, broken_by, first_broken};
+ghost use Rattle.std.specs.Option.{option_copied, option_map};
+ghost use Rattle.metering_model.specs.Holding.{held, is_batch_at, placed, reading_at};
+ghost use Rattle.metering_model.specs.JournalRules.{is_fit_reading, is_fit_target, comes_earlier, broken_by, first_broken};
 ghost use Rattle.batch_view.specs.Batches.{batch_of};
-ghost use Rattle.batch_view.specs.Asked.{reading_asked, record_asked};
+ghost use Rattle.batch_view.specs.Asked.{record_asked};
 ghost use Rattle.batch_store.specs.Stores.{position_of};
 ghost use Rattle.journal_rules.specs.FirstBad.{first_bad};
 ghost use Rattle.journal_rules.specs.Inner.Journaled.{stored_in};
 
+use crate::prices::is_fit_reading;
+use crate::targets::{comes_earlier, has_fit_target};
 use batch_store::{RecordPlace, Store};
-use batch_view::{Asked, AskedReading, BatchView, Kind, OwnedBatch, Value};
-use byte_text::is_same;
+use batch_view::{Asked, BatchView, OwnedBatch, Value};
 use metering_model::BrokenRule;
-use rating::{Commitment, Sheet, commitment_for, is_priced, price_for};
+use rating::Sheet;
 use std::marker::Model;
-
-/// Whether the reading names no commitment, or one that fits it: usage its SKU, a purchase the SKU that buys it.
-fn is_fit_commitment(reading: &AskedReading<'_>, commitment: Option<&Commitment>) -> bool
-    ensures { result ≡ is_fit_commitment (reading_asked reading.now) (option_copied commitment.entry) }
-{
-    let Some(commitment) = commitment else {
-        return reading.commitment.is_empty();
-    };
-    match reading.kind {
-        Kind::Usage => is_same(reading.key, commitment.sku().as_bytes()),
-        Kind::Purchase => is_same(reading.key, commitment.buy().as_bytes()),
-        Kind::Credit | Kind::Tax | Kind::Adjustment => is_same(reading.key, b""),
-    }
-}
-
-/// Whether a reading of a priced kind has a price in force, and a fit commitment.
-fn is_fit_reading(sheet: &Sheet, reading: &AskedReading<'_>) -> bool
-    ensures { result ≡ is_fit_reading sheet.now (reading_asked reading.now) }
-{
-    !is_priced(reading.kind)
-        || (price_for(sheet, reading.kind, reading.key, reading.start).is_some()
-            && is_fit_commitment(
-                reading,
-                commitment_for(sheet, reading.kind, reading.commitment),
-            ))
-}
-
-/// Whether the batch has a reading at the index that takes the value: no priced one has a negative value.
-fn has_fit_target(batch: &BatchView<'_>, index: u16, value: Value) -> bool
-    ensures { result ≡ is_fit_target value (option_and_then reading_of (slice_get (batch_of batch.now).records index)) }
-{
-    match batch.kind_at(index) {
-        Some(kind) => !is_priced(kind) || value.millionths() >= 0,
-        None => false,
-    }
-}
-
-/// Whether a sequence and an index come before the place.
-fn comes_earlier(place: RecordPlace, seq: u32, index: u16) -> bool
-    ensures { result ≡ comes_earlier (position_of place) seq index }
-{
-    seq < place.seq || (seq == place.seq && index < place.index)
-}
 
 /// The batch of an agent at a sequence, where there is a store and it has one.
 fn kept_at(store: Option<&Store>, agent: u8, seq: u32) -> Option<&OwnedBatch>

@@ -2,6 +2,8 @@
 #![tactic(auto)]
 
 mod journaled;
+mod prices;
 mod rules;
+mod targets;
 
 pub use rules::{first_bad_alone, first_broken, first_broken_alone, first_broken_up_to};

@@ -8,9 +8,9 @@ mod attempt;
 mod ballots;
 pub mod laws;
 mod node_set;
-mod tally;
+mod votes;
 
 pub use acceptor::{Acceptor, PrepareStep};
 pub use attempt::{Attempt, PromiseStep};
 pub use ballots::{Ballot, Vote, majority};
-pub use tally::Tally;
+pub use votes::Tally;

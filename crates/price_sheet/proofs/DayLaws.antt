@@ -6,7 +6,7 @@ use Rattle.std.specs.Ordering.{int_cmp, is_lt}
 use Rattle.std.specs.BTreeMap.{is_at, insert_entry}
 use Rattle.std.proofs.lemmas.Bool.{and_parts}
 use Rattle.std.proofs.lemmas.Int.{ints}
-use Rattle.price_sheet.specs.declared.starts.Start.{Start}
+use Rattle.price_sheet.specs.declared.price_in_force.Start.{Start}
 use Rattle.price_sheet.specs.Inner.Days.{starts_in, rise, begun, with_start}
 
 -- ---- where starts rise

@@ -2,7 +2,7 @@
 use Rattle.std.proofs.Common.{◌≡◌, ℕ, Bool, true, false, List, [], ◌∷◌, ◌++◌, length, Some, Vec, if◌then◌else◌, refl, sym, subst}
 use Rattle.metering_model.specs.BatchReading.{is_same}
 use Rattle.metering_model.specs.Sheet.{PriceRow}
-use Rattle.price_sheet.specs.declared.starts.Start.{Start}
+use Rattle.price_sheet.specs.declared.price_in_force.Start.{Start}
 use Rattle.price_sheet.specs.Inner.Days.{with_start}
 use Rattle.price_sheet.specs.Inner.Places.{found_at, starts_of, Puts, AreStarts, IndexesPrices}
 use Rattle.price_sheet.proofs.PlaceLaws.{same_texts}

@@ -9,7 +9,7 @@ use Rattle.metering_model.specs.SheetRules.{has_same_key}
 use Rattle.metering_model.specs.PriceInForce.{latest}
 use Rattle.metering_model.proofs.StepLaws.{ok_step_from}
 use Rattle.price_sheet.specs.SheetReading.{next_price, prices_in}
-use Rattle.price_sheet.specs.declared.starts.Start.{Start}
+use Rattle.price_sheet.specs.declared.price_in_force.Start.{Start}
 use Rattle.price_sheet.specs.Inner.Places.{Shows}
 use Rattle.price_sheet.proofs.SheetLaws.{same_comm}
 

@@ -7,7 +7,7 @@ use Rattle.metering_model.specs.BatchReading.{is_same}
 use Rattle.metering_model.specs.Sheet.{PriceRow}
 use Rattle.metering_model.specs.PriceInForce.{later_of, latest}
 use Rattle.price_sheet.specs.SheetReading.{prices_sku}
-use Rattle.price_sheet.specs.declared.starts.Start.{Start}
+use Rattle.price_sheet.specs.declared.price_in_force.Start.{Start}
 use Rattle.price_sheet.specs.Inner.Days.{with_start}
 use Rattle.price_sheet.specs.Inner.Places.{Shows, AreStarts, starts_of}
 use Rattle.price_sheet.proofs.DayLaws.{later_start, begun_with, still_rise}

@@ -3,11 +3,11 @@
 
 mod commitment_table;
 mod places;
+mod price_in_force;
 mod price_index;
 mod price_table;
 mod region_table;
 mod sheets;
-mod starts;
 
 pub use sheet_text::{
     Commitment, CommitmentCategory, Issuer, IssuerFault, Key, Place, PriceRow, Region,

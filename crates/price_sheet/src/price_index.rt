@@ -4,7 +4,7 @@ ghost use Rattle.std.specs.Prelude.{◌≡◌, ◌<◌, [], ◌∷◌, ◌++◌,
 ghost use Rattle.price_sheet.specs.Inner.Days.{begun, with_start};
 ghost use Rattle.price_sheet.specs.Inner.Places.{found_at, starts_of, Puts, IndexesPrices};
 
-use crate::starts::{Start, Starts};
+use crate::price_in_force::{Start, Starts};
 use indexmap::IndexMap;
 use sheet_text::{Day, PriceRow};
 use std::alloc::{AllocError, Global};

@@ -4,8 +4,8 @@ ghost use Rattle.std.specs.Prelude.{◌≡◌, ◌≤ℤ◌, pos};
 ghost use Rattle.std.specs.Option.{option_copied};
 ghost use Rattle.metering_model.specs.Rating as model;
 
-use crate::quantities::{difference, pricing_quantity};
 use crate::rated::{Rated, cost_at, no_cost};
+use crate::rounding::{difference, pricing_quantity};
 use fx_money::Value;
 use metering_model::PricedKind;
 use price_sheet::{Commitment, PriceRow};

@@ -4,8 +4,8 @@
 
 mod charges;
 mod prices;
-mod quantities;
 mod rated;
+mod rounding;
 
 pub use charges::rate;
 pub use metering_model::PricedKind;

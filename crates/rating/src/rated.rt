@@ -4,7 +4,7 @@ ghost use Rattle.std.specs.Prelude.{◌≡◌, ◌<◌, ◌≤◌, ◌≤ℤ◌,
 ghost use Rattle.metering_model.specs.NumberText.{delta_limit, value_limit};
 ghost use Rattle.metering_model.specs.Rating as model;
 
-use crate::quantities::difference;
+use crate::rounding::difference;
 use fx_money::{Cost, Delta, Price, Value};
 use std::marker::Model;
 

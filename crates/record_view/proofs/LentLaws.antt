@@ -8,7 +8,7 @@ use Rattle.record_view.specs.Parts.{LentText, lent, IsLent, AreLentApart, part_b
 use Rattle.record_view.specs.Inner.Placed.{IsPlaced}
 use Rattle.record_view.specs.TagTexts.{lent_tag, tags_at}
 use Rattle.record_view.specs.Inner.TagParts.{are_tags}
-use Rattle.record_view.specs.declared.records.ReadingFields.{ReadingFields}
+use Rattle.record_view.specs.declared.exact.ReadingFields.{ReadingFields}
 use Rattle.record_view.specs.Lent.{tag_texts}
 use Rattle.record_view.specs.Inner.LineFields.{reading_parts, field_texts}
 use Rattle.record_view.proofs.PartLaws.{within_any, parts_whole, parts_split}

@@ -7,8 +7,8 @@ use Rattle.metering_model.specs.declared.Version.TheVariants.{B1, B2}
 use Rattle.metering_model.specs.declared.BatchCode.{BatchCode}
 use Rattle.metering_model.specs.declared.BatchCode.TheVariants.{Fields}
 use Rattle.metering_model.specs.BatchReading.{is_same, record_in, fields_in}
-use Rattle.record_view.specs.declared.records.ReadingFields.{ReadingFields}
-use Rattle.record_view.specs.declared.records.AmendmentFields.{AmendmentFields}
+use Rattle.record_view.specs.declared.exact.ReadingFields.{ReadingFields}
+use Rattle.record_view.specs.declared.exact.AmendmentFields.{AmendmentFields}
 use Rattle.record_view.specs.declared.records.Record.{Record}
 use Rattle.record_view.specs.declared.fields.Field.{Field}
 use Rattle.record_view.specs.declared.fields.Span.{Span}

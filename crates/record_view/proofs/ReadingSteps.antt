@@ -8,7 +8,7 @@ use Rattle.metering_model.specs.Batch.{Record, Tag}
 use Rattle.metering_model.specs.Dates.{stamp_in}
 use Rattle.metering_model.specs.BatchReading.{tags_in}
 use Rattle.metering_model.proofs.StepLaws.{step_ok}
-use Rattle.record_view.specs.declared.records.ReadingFields.{ReadingFields}
+use Rattle.record_view.specs.declared.exact.ReadingFields.{ReadingFields}
 use Rattle.record_view.specs.Inner.TagParts.{are_tags}
 use Rattle.record_view.specs.Inner.LineFields.{record_of_reading}
 use Rattle.record_view.specs.Inner.RecordSteps.{kind_step, stamp_step, order_step, text_step, key_step, value_step, sign_step, commitment_step, tags_step, reading_in}

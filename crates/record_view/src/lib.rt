@@ -11,11 +11,15 @@ pub use stamps::StampReader;
 pub use tags::Tags;
 pub use utc_calendar::{Day, Stamp, calendar, dates};
 
+mod exact;
+mod field_rules;
 mod fields;
 mod kept;
 pub mod laws;
 mod plain;
+mod plain_records;
 mod records;
+mod regions;
 mod spans;
 mod stamps;
 mod tags;

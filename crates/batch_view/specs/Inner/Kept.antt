@@ -14,8 +14,8 @@ use Rattle.batch_view.specs.Inner.Entries.{AreEntries, AreAllEntries}
 use Rattle.batch_view.specs.declared.entries.Entry.{Entry}
 use Rattle.batch_view.specs.declared.head.Head.{Head}
 use Rattle.batch_view.specs.declared.owned.Amendment.{Amendment}
-use Rattle.batch_view.specs.declared.reading.Unkept.{Unkept}
-use Rattle.batch_view.specs.declared.reading.Unkept.TheVariants.{Fault, NoMemory}
+use Rattle.batch_view.specs.declared.keeping.Unkept.{Unkept}
+use Rattle.batch_view.specs.declared.keeping.Unkept.TheVariants.{Fault, NoMemory}
 
 -- what holds of the fault, where there is one
 abbrev pub IfFault : Unkept → (BatchFault → Type 0) → Type 0

@@ -11,7 +11,7 @@ use Rattle.metering_model.specs.JournalRules.{MeetsJournalRules}
 use Rattle.metering_model.specs.Row.{Row}
 use Rattle.metering_model.specs.Rows.{placed_row}
 use Rattle.batch_store.specs.Stores.{IsStored}
-use Rattle.focus_row.specs.declared.between.BatchPlace.{BatchPlace}
+use Rattle.focus_row.specs.declared.due_batches.BatchPlace.{BatchPlace}
 pub use Rattle.journal_rules.specs.Inner.Left.{is_from, left, placed_from}
 
 abbrev pub record_at : Holding → Position → Option Record

@@ -1,7 +1,7 @@
 -- The starts of one SKU's prices, by day.
 use Rattle.std.specs.Prelude.{ℕ, Bool, true, ◌&&◌, if◌then◌else◌, List, [], ◌∷◌, map, Option, Some, None, unwrap_or, ℤ, int_le, int_lt}
 use Rattle.std.specs.List.{list_all}
-use Rattle.price_sheet.specs.declared.starts.Start.{Start}
+use Rattle.price_sheet.specs.declared.price_in_force.Start.{Start}
 
 -- the starts that days and their places are
 abbrev pub starts_in : List (ℤ × ℕ) → List Start

@@ -6,7 +6,7 @@ use Rattle.metering_model.specs.BatchReading.{is_same}
 use Rattle.metering_model.specs.Sheet.{PriceRow, Commitment, Region}
 use Rattle.metering_model.specs.PriceInForce.{latest}
 use Rattle.price_sheet.specs.SheetReading.{prices_sku}
-use Rattle.price_sheet.specs.declared.starts.Start.{Start}
+use Rattle.price_sheet.specs.declared.price_in_force.Start.{Start}
 use Rattle.price_sheet.specs.Inner.Days.{rise, begun}
 
 -- what a map from texts has under the text

@@ -9,8 +9,8 @@ use Rattle.metering_model.specs.BatchReading.{fields_in, record_in}
 use Rattle.metering_model.specs.Dates.{stamp_in}
 use Rattle.record_view.specs.declared.fields.Field.{Field}
 use Rattle.record_view.specs.declared.records.Record as lent_record
-use Rattle.record_view.specs.declared.records.ReadingFields.{ReadingFields}
-use Rattle.record_view.specs.declared.records.AmendmentFields.{AmendmentFields}
+use Rattle.record_view.specs.declared.exact.ReadingFields.{ReadingFields}
+use Rattle.record_view.specs.declared.exact.AmendmentFields.{AmendmentFields}
 use Rattle.record_view.specs.Parts.{LentText, lent, parts_at}
 use Rattle.record_view.specs.Inner.Placed.{IsPlaced}
 use Rattle.record_view.specs.TagTexts.{tags_at}

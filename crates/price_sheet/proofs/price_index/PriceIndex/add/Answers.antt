@@ -1,6 +1,6 @@
 -- One row more.
 use Rattle.std.proofs.Common.{length, rules}
-use Rattle.price_sheet.specs.declared.starts.Start.{Start}
+use Rattle.price_sheet.specs.declared.price_in_force.Start.{Start}
 use Rattle.price_sheet.specs.Inner.Days.{with_start}
 use Rattle.price_sheet.specs.Inner.Places.{found_at, starts_of, Puts}
 use Rattle.price_sheet.proofs.IndexLaws.{one_more_row}

@@ -1,0 +1,23 @@
+use Rattle.std.proofs.Common.{◌≡◌, ◌++◌, ◌∷◌, [], arith}
+use Rattle.std.proofs.lemmas.List.Elements.{All-push, All-same}
+use Rattle.focus_row.specs.declared.due_batches.BatchPlace.{BatchPlace}
+use Rattle.focus_row.specs.Inner.Left.{IsWithin}
+use Rattle.focus_row.proofs.BatchLaws.{one_more_batch}
+use Rattle.focus_row.proofs.due_batches.BetweenCuts.places.Goals as goal
+
+pub loop-next_agent-preserved : goal.loop-next_agent-preserved
+loop-next_agent-preserved c =
+    let s = c.args.self.now in
+    let so = c.loop-next_agent.invariant in
+    let of = c.in-Some.ensures in
+    let place : BatchPlace = record { agent = c.in-Some.next_agent; seq = c.in-Some.next_seq } in
+    let pushed : c.push.new.self.items ≡ c.loop-next_agent.places.items ++ place ∷ [] = c.in_ok-push.ensures.items in
+    record {
+      agent_from = omega (arith, so.agent_from, of.agent.0);
+      agent_to = of.agent.2;
+      seq_from = omega arith;
+      seq_to = omega (arith, of.seq.1);
+      within = All-same (IsWithin s) _ _ pushed (All-push (IsWithin s) c.loop-next_agent.places.items place so.within
+          (record { from = omega (arith, so.agent_from, of.agent.0); to = of.agent.1; first = of.seq.0; last = of.seq.2 }));
+      all = one_more_batch s c.loop-next_agent.places.items _ place _ _ pushed of.some so.all;
+    }

@@ -1,0 +1,225 @@
+//! The rows of one reading: a new one, or a Correction of what an earlier period charged.
+
+ghost use Rattle.std.specs.Prelude.{◌≡◌, ◌≤◌, ◌≤ℤ◌, ◌+◌, ◌-◌, ◌<◌, ◌++◌, ◌⊎◌, [], true, pos, length, map, option_map, Some, None, IfOk, IfSome, OnOk, OnErr};
+ghost use Rattle.std.specs.List.{cons_option};
+ghost use Rattle.std.specs.Option.{is_some, option_copied};
+ghost use Rattle.metering_model.specs.Batch.{Reading as ModelReading, is_priced};
+ghost use Rattle.metering_model.specs.Cut.{last_of};
+ghost use Rattle.metering_model.specs.Holding.{held, reading_at};
+ghost use Rattle.metering_model.specs.ValueAtSequence.{value_at};
+ghost use Rattle.metering_model.specs.declared.ChargeClass.TheVariants.{New, Correction};
+ghost use Rattle.metering_model.specs.Row.{row};
+ghost use Rattle.metering_model.specs.Sheet.{Sheet as ModelSheet};
+ghost use Rattle.metering_model.specs.Rows.{row_of, row_of_reading, rows};
+ghost use Rattle.batch_view.specs.Batches.{batch_of};
+ghost use Rattle.batch_view.specs.Lent.{model_reading, record_of};
+ghost use Rattle.batch_store.specs.Stores.{position_of};
+ghost use Rattle.charge_row.specs.FocusRows.{model_row};
+ghost use Rattle.charge_row.specs.Regions.{IsNamed};
+ghost use Rattle.focus_row.specs.Inner.Left.{record_at, rows_behind};
+ghost use Rattle.focus_row.specs.Inner.Beginnings.{BeginsWith};
+ghost use Rattle.focus_row.specs.Inner.Near.{AreNamed};
+
+use crate::between::BetweenCuts;
+use crate::places::is_named;
+use batch_store::RecordPlace;
+use batch_view::{BatchView, Reading, Record, Value};
+use charge_row::{FocusRow, RegionColumns, row};
+use metering_model::ChargeClass;
+use std::alloc::AllocError;
+
+/// The region of the last row, which is near the next one.
+fn last_region<'a>(rows: &[FocusRow<'a>]) -> RegionColumns<'a>
+    ensures named { (sheet : ModelSheet) → AreNamed sheet rows.now → IsNamed sheet (option_copied result.id) (option_copied result.name) }
+{
+    match rows.last() {
+        Some(row) => RegionColumns {
+            id: row.region_id,
+            name: row.region_name,
+        },
+        None => RegionColumns::none(),
+    }
+}
+
+impl<'a> BetweenCuts<'a> {
+    /// The value of a reading as of a sequence of its agent.
+    fn value(&self, place: RecordPlace, upto: u32) -> Value
+        requires from { 1 ≤ place.agent }
+        requires to { place.agent ≤ self.now.agents }
+        requires there { is_some (reading_at self.now.batches (position_of place)) ≡ true }
+        requires upto { upto ≤ last_of self.now.to place.agent }
+        requires within { place.seq ≤ last_of self.now.to place.agent }
+        ensures value { result ≡ value_at self.now.batches (position_of place) upto }
+        ensures not_negative { (r : ModelReading) → reading_at self.now.batches (position_of place) ≡ Some r
+            → is_priced r.kind ≡ true → pos 0 ≤ℤ result }
+    {
+        self.store.value_at(place, upto).unwrap()
+    }
+
+    /// The row of a reading above `from`: it is charged whole.
+    #[inline(always)]
+    fn new_row(
+        &self,
+        near: RegionColumns<'a>,
+        place: RecordPlace,
+        reading: &Reading<'a>,
+    ) -> FocusRow<'a>
+        requires near { IsNamed self.now.sheet (option_copied near.id) (option_copied near.name) }
+        requires from { 1 ≤ place.agent }
+        requires to { place.agent ≤ self.now.agents }
+        requires there { reading_at self.now.batches (position_of place) ≡ Some (model_reading reading.now) }
+        requires within { place.seq ≤ last_of self.now.to place.agent }
+        ensures row { model_row result ≡ row self.now.sheet self.now.issuer (model_reading reading.now) self.now.period New (pos 0)
+            (value_at self.now.batches (position_of place) (last_of self.now.to place.agent)) }
+        ensures named { IsNamed self.now.sheet (option_copied result.region_id) (option_copied result.region_name) }
+    {
+        let nothing = Value::new(0).unwrap();
+        let now = self.value(place, self.to.get(place.agent));
+        row(
+            &self.billing,
+            self.sheet,
+            near,
+            reading,
+            ChargeClass::New,
+            nothing,
+            now,
+        )
+    }
+
+    /// The row of a reading up to `from` from its value there to the one at `to`, where these differ.
+    fn correction(
+        &self,
+        near: RegionColumns<'a>,
+        place: RecordPlace,
+        reading: &Reading<'a>,
+    ) -> Option<FocusRow<'a>>
+        requires near { IsNamed self.now.sheet (option_copied near.id) (option_copied near.name) }
+        requires from { 1 ≤ place.agent }
+        requires to { place.agent ≤ self.now.agents }
+        requires there { reading_at self.now.batches (position_of place) ≡ Some (model_reading reading.now) }
+        requires within { place.seq ≤ last_of self.now.from place.agent }
+        ensures row { option_map model_row result ≡ row_of_reading self.now.sheet self.now.issuer self.now.batches self.now.period
+            self.now.from self.now.to (position_of place) (model_reading reading.now) }
+        ensures named { IfSome result (λ row. IsNamed self.now.sheet (option_copied row.region_id) (option_copied row.region_name)) }
+    {
+        if !is_named(&self.amended, place) {
+            return None;
+        }
+        let was = self.value(place, self.from.get(place.agent));
+        let now = self.value(place, self.to.get(place.agent));
+        if was == now {
+            return None;
+        }
+        Some(row(
+            &self.billing,
+            self.sheet,
+            near,
+            reading,
+            ChargeClass::Correction,
+            was,
+            now,
+        ))
+    }
+
+    /// Puts the correction of a reading up to `from` behind the other rows, where it has one. It stands apart, so that the way of
+    /// readings above `from` clears no room for it. At want of memory the rows are as before.
+    #[inline(never)]
+    fn put_correction(
+        &self,
+        rows: &mut Vec<FocusRow<'a>>,
+        near: RegionColumns<'a>,
+        place: RecordPlace,
+        reading: &Reading<'a>,
+    ) -> Result<(), AllocError>
+        requires named { AreNamed self.now.sheet rows.old.items }
+        requires near { IsNamed self.now.sheet (option_copied near.id) (option_copied near.name) }
+        requires from { 1 ≤ place.agent }
+        requires to { place.agent ≤ self.now.agents }
+        requires there { reading_at self.now.batches (position_of place) ≡ Some (model_reading reading.now) }
+        requires within { place.seq ≤ last_of self.now.from place.agent }
+        ensures row { OnOk result (map model_row rows.new.items ≡ map model_row rows.old.items ++ cons_option (row_of_reading self.now.sheet
+            self.now.issuer self.now.batches self.now.period self.now.from self.now.to (position_of place) (model_reading reading.now)) []) }
+        ensures named { OnOk result (AreNamed self.now.sheet rows.new.items) }
+        ensures begins { BeginsWith rows.new.items rows.old.items }
+        ensures kept { OnErr result (rows.new.items ≡ rows.old.items) }
+    {
+        let Some(row) = self.correction(near, place, reading) else {
+            return Ok(());
+        };
+        if rows.push(row).is_err() {
+            return Err(AllocError);
+        }
+        Ok(())
+    }
+
+    /// Puts the row of a record behind the others, where it has one. The region of the row before is near. At want of memory the
+    /// rows are as before.
+    fn put_row(
+        &self,
+        rows: &mut Vec<FocusRow<'a>>,
+        place: RecordPlace,
+        what: &Record<'a>,
+    ) -> Result<(), AllocError>
+        requires near { AreNamed self.now.sheet rows.old.items }
+        requires from { 1 ≤ place.agent }
+        requires to { place.agent ≤ self.now.agents }
+        requires there { record_at self.now.batches (position_of place) ≡ Some (record_of what.now) }
+        requires within { place.seq ≤ last_of self.now.to place.agent }
+        ensures row { OnOk result (map model_row rows.new.items ≡ map model_row rows.old.items ++ cons_option (row_of self.now.sheet
+            self.now.issuer self.now.batches self.now.period self.now.from self.now.to (position_of place) (record_of what.now)) []) }
+        ensures named { OnOk result (AreNamed self.now.sheet rows.new.items) }
+        ensures begins { BeginsWith rows.new.items rows.old.items }
+        ensures kept { OnErr result (rows.new.items ≡ rows.old.items) }
+    {
+        let Record::Reading(reading) = what else {
+            return Ok(());
+        };
+        let near = last_region(rows);
+        if place.seq <= self.from.get(place.agent) {
+            return self.put_correction(rows, near, place, reading);
+        }
+        if rows.push(self.new_row(near, place, reading)).is_err() {
+            return Err(AllocError);
+        }
+        Ok(())
+    }
+
+    /// Puts the rows of a batch's records from an index on behind the other rows, until there are as many as the limit, and answers
+    /// the index of the first record whose row was not asked for. At want of memory some of them may stand there.
+    pub(crate) fn put_rows(
+        &self,
+        rows: &mut Vec<FocusRow<'a>>,
+        batch: &BatchView<'a>,
+        agent: u8,
+        seq: u32,
+        from: u16,
+        limit: usize,
+    ) -> Result<u16, AllocError>
+        requires near { AreNamed self.now.sheet rows.old.items }
+        requires agent_from { 1 ≤ agent }
+        requires agent_to { agent ≤ self.now.agents }
+        requires within { seq ≤ last_of self.now.to agent }
+        requires held { held self.now.batches agent seq ≡ Some (batch_of batch.now) }
+        requires records { from ≤ length (batch_of batch.now).records }
+        ensures rows { IfOk result (λ to. map model_row rows.new.items ++ rows_behind self.now agent seq to (batch_of batch.now)
+            ≡ map model_row rows.old.items ++ rows_behind self.now agent seq from (batch_of batch.now)) }
+        ensures within { IfOk result (λ to. to ≤ length (batch_of batch.now).records) }
+        ensures ends { IfOk result (λ to. (to ≡ length (batch_of batch.now).records) ⊎ (limit ≤ length rows.new.items)) }
+        ensures further { IfOk result (λ to. from < length (batch_of batch.now).records → length rows.old.items < limit → from < to) }
+        ensures most { IfOk result (λ _. length rows.old.items ≤ limit → length rows.new.items ≤ limit) }
+        ensures begins { BeginsWith rows.new.items rows.old.items }
+    {
+        let count = batch.count();
+        for index in from..count {
+            if rows.len() >= limit {
+                return Ok(index);
+            }
+            let Some(record) = batch.record_at(index) else {
+                unreachable!()
+            };
+            let place = RecordPlace { agent, seq, index };
+            self.put_row(rows, place, &record)?;
+        }
+        Ok(count)
+    }
+}
