@@ -11,6 +11,8 @@ pub mod FieldFeeds
 pub mod FileLaws
 mod WorkedJournals
 mod WorkedTotals
+mod WorkedPriced
 mod FalseWorlds
 pub mod EachFile
 pub mod DueEach
+pub mod PricedRows

@@ -94,7 +94,7 @@ february_is_read = refl
 pub january_is_well_formed : IsWellFormed january
 january_is_well_formed = IsWellFormed-read (lines_text january_lines) january january_is_read
 
-february_is_well_formed : IsWellFormed february
+pub february_is_well_formed : IsWellFormed february
 february_is_well_formed = IsWellFormed-read (lines_text february_lines) february february_is_read
 
 pub january_alone_is_a_holding : IsHolding (january ∷ [])

@@ -1,3 +1,4 @@
 pub mod Charged
 pub mod Columns
 pub mod Due
+pub mod Priced

@@ -1,14 +1,16 @@
-//! What the files of all periods say together. Each law is a function with an empty body.
+//! What the files of all periods say together, and the columns of a row of each other. Each law is a function with an empty body.
 
-ghost use Rattle.std.specs.Prelude.{◌≡◌, ℕ, ◌≤◌, ◌&&◌, nat_le, nat_lt, if◌then◌else◌, List, [], ◌∷◌, length, map, filter, All, Some, None, slice_get};
-ghost use Rattle.std.specs.Option.{option_to_list};
+ghost use Rattle.std.specs.Prelude.{◌≡◌, ℕ, ◌≤◌, ◌&&◌, ◌||◌, true, nat_le, nat_lt, if◌then◌else◌, List, [], ◌∷◌, length, map, filter, All, Some, None, ℤ, pos, ◌*ℤ◌, option_map, slice_get};
+ghost use Rattle.std.specs.Option.{is_some, option_to_list};
 ghost use Rattle.metering_model.specs.Dates.{IsBaseMonth, IsPeriod};
 ghost use Rattle.metering_model.specs.Batch.{Reading};
 ghost use Rattle.metering_model.specs.BatchReading.{lines_in};
 ghost use Rattle.metering_model.specs.Cut.{Cut, IsAtLeast, IsGrowing, last_of};
 ghost use Rattle.metering_model.specs.Sheet.{Sheet, Issuer};
+ghost use Rattle.metering_model.specs.PriceInForce.{commitment_with};
 ghost use Rattle.metering_model.specs.SheetRules.{IsSheet, IsIssuer};
 ghost use Rattle.metering_model.specs.Holding.{Holding, IsHolding, IsPartOf, LacksNothingUpTo, Position, reading_at};
+ghost use Rattle.metering_model.specs.JournalRules.{MeetsJournalRules};
 ghost use Rattle.metering_model.specs.ValueAtSequence.{value_at};
 ghost use Rattle.metering_model.specs.Front.{AreDueBetween};
 ghost use Rattle.metering_model.specs.Rows.{placed_rows, row_of_reading, rows};
@@ -20,6 +22,7 @@ ghost use Rattle.metering_model.specs.World.{last_cut};
 ghost use Rattle.row_laws.specs.Charged.{files, all_rows, is_new, charged_at_once, charges_up_to};
 ghost use Rattle.row_laws.specs.Columns.{line_of_row, sum_of_first_column};
 ghost use Rattle.row_laws.specs.Due.{WereDueBefore, AreDueOver, StartsBeforeItsPeriodEnds};
+ghost use Rattle.row_laws.specs.Priced.{IsPriceTimesQuantity, is_usage, is_purchase, PriceColumnsAre, CommitmentColumnsAre};
 
 /// Over growing cuts, the rows of a reading add up to what it would be charged once, at its value as of the last cut:
 /// in both quantities and all four costs.
@@ -115,4 +118,60 @@ pub fn what_is_due_in_each_period_is_due_over_all()
         ((period : ℕ) (to : Cut) → slice_get cuts period ≡ Some to →
         AreDueBetween base period h (cut_before agents cuts period) to) →
         AreDueOver base h agents cuts }
+{}
+
+/// In each row, of a Correction too, a unit price times the PricingQuantity is the cost, to the last unit of 10^-12, where
+/// the two are there.
+pub fn unit_prices_times_quantities_are_costs()
+    ensures list { (sheet : Sheet) (issuer : Issuer) (h : Holding) (period : ℕ) (from to : Cut) →
+        All (λ x. IsPriceTimesQuantity x.list_unit_price x.pricing_quantity x.list_cost) (rows sheet issuer h period from to) }
+    ensures contracted { (sheet : Sheet) (issuer : Issuer) (h : Holding) (period : ℕ) (from to : Cut) →
+        All (λ x. IsPriceTimesQuantity x.contracted_unit_price x.pricing_quantity x.contracted_cost)
+        (rows sheet issuer h period from to) }
+{}
+
+/// In each row the columns that a price gives are there together or null together; so are the two of what was metered, those
+/// of a commitment and those of a region. A commitment has its status on usage, and PricingCategory is there just on usage
+/// and purchases.
+pub fn columns_are_null_together()
+    ensures price { (sheet : Sheet) (issuer : Issuer) (h : Holding) (period : ℕ) (from to : Cut) →
+        All (λ x. PriceColumnsAre (is_some x.pricing_quantity) x) (rows sheet issuer h period from to) }
+    ensures consumed { (sheet : Sheet) (issuer : Issuer) (h : Holding) (period : ℕ) (from to : Cut) →
+        All (λ x. is_some x.consumed_quantity ≡ is_some x.consumed_unit) (rows sheet issuer h period from to) }
+    ensures commitment { (sheet : Sheet) (issuer : Issuer) (h : Holding) (period : ℕ) (from to : Cut) →
+        All (λ x. CommitmentColumnsAre (is_some x.commitment_discount_id) x) (rows sheet issuer h period from to) }
+    ensures status { (sheet : Sheet) (issuer : Issuer) (h : Holding) (period : ℕ) (from to : Cut) →
+        All (λ x. is_some x.commitment_discount_status ≡ (is_usage x && is_some x.commitment_discount_id))
+        (rows sheet issuer h period from to) }
+    ensures category { (sheet : Sheet) (issuer : Issuer) (h : Holding) (period : ℕ) (from to : Cut) →
+        All (λ x. is_some x.pricing_category ≡ (is_usage x || is_purchase x)) (rows sheet issuer h period from to) }
+    ensures region { (sheet : Sheet) (issuer : Issuer) (h : Holding) (period : ℕ) (from to : Cut) →
+        All (λ x. is_some x.region_id ≡ is_some x.region_name) (rows sheet issuer h period from to) }
+{}
+
+/// Where the journals meet their rules, just usage and purchases have the columns that a price gives, and just usage those of
+/// what was metered.
+pub fn usage_and_purchases_have_their_price()
+    ensures price { (sheet : Sheet) (issuer : Issuer) (h : Holding) (period : ℕ) (from to : Cut) → MeetsJournalRules sheet h →
+        All (λ x. PriceColumnsAre (is_usage x || is_purchase x) x) (rows sheet issuer h period from to) }
+    ensures consumed { (sheet : Sheet) (issuer : Issuer) (h : Holding) (period : ℕ) (from to : Cut) →
+        MeetsJournalRules sheet h → All (λ x. is_some x.consumed_quantity ≡ is_usage x) (rows sheet issuer h period from to) }
+{}
+
+/// Where the journals meet their rules, a commitment is billed as it is bought, and costs as it is used: usage under it bills
+/// nothing and costs its rate, and its purchase bills the contracted cost and costs nothing. All else bills and costs that.
+pub fn commitments_are_billed_where_they_are_bought()
+    ensures billed { (sheet : Sheet) (issuer : Issuer) (h : Holding) (period : ℕ) (from to : Cut) → MeetsJournalRules sheet h →
+        All (λ x. x.billed_cost ≡ (if is_usage x && is_some x.commitment_discount_id then pos 0 else x.contracted_cost))
+        (rows sheet issuer h period from to) }
+    ensures bought { (sheet : Sheet) (issuer : Issuer) (h : Holding) (period : ℕ) (from to : Cut) → MeetsJournalRules sheet h →
+        All (λ x. is_purchase x ≡ true → is_some x.commitment_discount_id ≡ true → x.effective_cost ≡ pos 0)
+        (rows sheet issuer h period from to) }
+    ensures used { (sheet : Sheet) (issuer : Issuer) (h : Holding) (period : ℕ) (from to : Cut) →
+        All (λ x. (id : List ℕ) (q : ℤ) →
+        is_usage x ≡ true → x.commitment_discount_id ≡ Some id → x.pricing_quantity ≡ Some q →
+        option_map (λ c. pos c.rate *ℤ q) (commitment_with sheet id) ≡ Some x.effective_cost)
+        (rows sheet issuer h period from to) }
+    ensures others { (sheet : Sheet) (issuer : Issuer) (h : Holding) (period : ℕ) (from to : Cut) →
+        All (λ x. x.commitment_discount_id ≡ None → x.effective_cost ≡ x.contracted_cost) (rows sheet issuer h period from to) }
 {}
