@@ -1,4 +1,5 @@
 -- What an event stands for.
+use Rattle.std.specs.Prelude.{Bool, true, false}
 use Rattle.std.specs.Arc.{arc_value}
 use Rattle.batch_view.specs.declared.owned.Offer.{Offer}
 use Rattle.batch_view.specs.declared.owned.Offer.TheVariants.{Good, Bad}
@@ -20,3 +21,14 @@ event_of (Restart node) = model.Restart node
 event_of (Export node period) = model.Export node period
 event_of (Keep node) = model.Keep node
 event_of (Revive node offer) = model.Revive node (kept.offer_of offer)
+
+-- whether the offer is of a batch, which a copy shares
+abbrev pub is_batch : model.Offer → Bool
+is_batch (model.Good text) = true
+is_batch (model.Bad fault) = false
+
+-- whether a copy of the event shares what was read, a batch or the text of what a node keeps
+abbrev pub shares : model.Event → Bool
+shares (model.Journal offer) = is_batch offer
+shares (model.Revive node offer) = kept.is_read offer
+shares _ = false

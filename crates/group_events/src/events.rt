@@ -1,7 +1,7 @@
 //! Events: what may happen to a group.
 
-ghost use Rattle.std.specs.Prelude.{◌≡◌, ◌↔◌, IfOk, IsTrue};
-ghost use Rattle.group_events.specs.Events.{event_of, offer_of};
+ghost use Rattle.std.specs.Prelude.{◌≡◌, ◌↔◌, true, IfErr, IfOk, IsTrue};
+ghost use Rattle.group_events.specs.Events.{event_of, is_batch, offer_of, shares};
 
 use batch_view::Offer;
 use node_kept::KeptOffer;
@@ -29,7 +29,8 @@ pub enum Event {
 
 /// What is offered once more: the same batch, shared, or the same fault.
 fn copy_of_offer(offer: &Offer) -> Result<Offer, AllocError>
-    ensures { IfOk result (λ copy. offer_of copy ≡ offer_of offer.now) }
+    ensures copy { IfOk result (λ copy. offer_of copy ≡ offer_of offer.now) }
+    ensures want { IfErr result (λ _. is_batch (offer_of offer.now) ≡ true) }
 {
     match offer {
         Offer::Good(batch) => match Arc::try_clone(batch) {
@@ -55,7 +56,8 @@ impl Event {
     /// An equal event, which shares the batch, or what was read of a text. An error comes only where these cannot be shared once
     /// more.
     pub fn copy(&self) -> Result<Event, AllocError>
-        ensures { IfOk result (λ copy. event_of copy ≡ event_of self.now) }
+        ensures copy { IfOk result (λ copy. event_of copy ≡ event_of self.now) }
+        ensures want { IfErr result (λ _. shares (event_of self.now) ≡ true) }
     {
         match self {
             Event::Journal(offer) => match copy_of_offer(offer) {

@@ -43,7 +43,7 @@ module _ (text : List ℕ) (batches : Holding) where
   book = record { voters = 1; observers = 0; agents = 1; sheet = sheet_0; issuer = issuer_1; history = history; world = opening 1 0 1 sheet_0 issuer_1 }
 
   abbrev plan : Plan
-  plan = record { voters = 1; observers = 0; sheet = sheet_0; issuer = issuer_1; journals = (text ∷ []) ∷ []; periods = 1 }
+  plan = record { voters = 1; observers = 0; sheet = sheet_0; issuer = issuer_1; journals = (text ∷ []) ∷ []; periods = 1; turns = 2 }
 
   abbrev told : ℕ → Reply → Told
   told index reply = record { index = index; reply = reply }

@@ -26,7 +26,8 @@ pub record Log : Type 0 where
   pub who : Worker
   pub told : List Told
 
--- how many voters and observers, the sheet and the issuer, the texts of each agent, and how many periods are to be exported
+-- How many voters and observers, the sheet and the issuer, the texts of each agent, how many periods are to be exported, and how
+-- often a gate is asked before a node goes on.
 pub record Plan : Type 0 where
   pub voters : ℕ
   pub observers : ℕ
@@ -34,6 +35,7 @@ pub record Plan : Type 0 where
   pub issuer : Issuer
   pub journals : List (List (List ℕ))
   pub periods : ℕ
+  pub turns : ℕ
 
 -- the nodes of a plan: first come the voters, and then the observers
 abbrev pub node_total : Plan → ℕ

@@ -16,4 +16,5 @@ plan_of p = record {
   issuer = arc_value p.issuer;
   journals = map (λ texts. map (λ text. text.items) texts.items) p.journals.items;
   periods = p.periods;
+  turns = p.turns;
 }

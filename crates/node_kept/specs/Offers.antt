@@ -1,5 +1,5 @@
 -- What a text that was handed in stands for, and the faults that are told of one.
-use Rattle.std.specs.Prelude.{◌≡◌, ℕ, List, [], ◌∷◌, Result, Ok, Err}
+use Rattle.std.specs.Prelude.{◌≡◌, ℕ, Bool, true, false, List, [], ◌∷◌, Result, Ok, Err}
 use Rattle.std.specs.Arc.{arc_value}
 use Rattle.metering_model.specs.BatchReading.{fields_in, lines_in}
 use Rattle.metering_model.specs.KeptText.{KeptHead, kept_head_in, kept_text, kept_in}
@@ -15,6 +15,11 @@ use Rattle.node_kept.specs.declared.offers.KeptOffer.TheVariants.{Good, Bad}
 abbrev pub offer_of : KeptOffer → model.KeptOffer
 offer_of (Good kept) = model.KeptGood (kept_text (arc_value kept))
 offer_of (Bad code line) = model.KeptBad (record { code = code; line = line })
+
+-- whether the offer is of what was read, which a copy shares
+abbrev pub is_read : model.KeptOffer → Bool
+is_read (model.KeptGood text) = true
+is_read (model.KeptBad fault) = false
 
 -- The fault is the first that the text has. Want of memory says nothing of it.
 abbrev pub IsFaultOf : List ℕ → KeptFault → Type 0

@@ -1,8 +1,8 @@
 //! What is handed in for a node to be revived from.
 
-ghost use Rattle.std.specs.Prelude.{◌≡◌, ◌↔◌, IfErr, IfOk, IsTrue};
+ghost use Rattle.std.specs.Prelude.{◌≡◌, ◌↔◌, true, IfErr, IfOk, IsTrue};
 ghost use Rattle.metering_model.specs.KeptText.{kept_offer_of};
-ghost use Rattle.node_kept.specs.Offers.{BeginsWithHead, offer_of};
+ghost use Rattle.node_kept.specs.Offers.{BeginsWithHead, is_read, offer_of};
 
 use crate::faults::KeptFault;
 use crate::kept::Kept;
@@ -36,9 +36,11 @@ impl KeptOffer {
         }
     }
 
-    /// The same offer once more: what was read is shared, and a fault is copied.
+    /// The same offer once more: what was read is shared, and a fault is copied. An error says that what was read cannot be shared
+    /// once more.
     pub fn copy(&self) -> Result<KeptOffer, AllocError>
-        ensures { IfOk result (λ copy. offer_of copy ≡ offer_of self.now) }
+        ensures copy { IfOk result (λ copy. offer_of copy ≡ offer_of self.now) }
+        ensures want { IfErr result (λ _. is_read (offer_of self.now) ≡ true) }
     {
         match self {
             KeptOffer::Good(kept) => match Arc::try_clone(kept) {

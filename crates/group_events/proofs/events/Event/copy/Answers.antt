@@ -1,5 +1,5 @@
 use Rattle.std.proofs.Common.{refl}
 use Rattle.group_events.proofs.events.Event.copy.Goals as goal
 
-pub returns-in-Restart : goal.returns-in-Restart
-returns-in-Restart c = rw c.in-Restart.is refl
+pub returns-in-Restart-clause-copy : goal.returns-in-Restart-clause-copy
+returns-in-Restart-clause-copy c = rw c.in-Restart.is refl
