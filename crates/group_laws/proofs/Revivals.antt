@@ -6,14 +6,16 @@ use Rattle.metering_model.specs.FirstFailure.{◌>>=◌, holds_or}
 use Rattle.metering_model.specs.BatchReading.{is_same}
 use Rattle.metering_model.specs.Ballot.{Vote}
 use Rattle.metering_model.specs.Sheet.{Sheet, Issuer}
+use Rattle.metering_model.specs.declared.KeptTextFault.{KeptTextFault}
 use Rattle.metering_model.specs.declared.Refusal.{Refusal}
-use Rattle.metering_model.specs.declared.Refusal.TheVariants.{NoNode, NotKept}
-use Rattle.metering_model.specs.World.{World, Node, Event, Restart, Revive, KeptOffer, KeptGood, Restarted, voter_count, wake, with_node_at, opening}
-use Rattle.metering_model.specs.KeptText.{KeptAmong, HasText, IsBallotNumber, kept_text}
+use Rattle.metering_model.specs.declared.Refusal.TheVariants.{NoNode, BadKept, NotKept}
+use Rattle.metering_model.specs.World.{World, Node, Event, Restart, Revive, KeptOffer, KeptGood, KeptBad, Restarted, Refused, voter_count, wake, with_node_at, opening}
+use Rattle.metering_model.specs.KeptText.{KeptAmong, HasText, IsBallotNumber, kept_text, kept_in}
 use Rattle.metering_model.specs.Step.{Outcome, or_refused, or_bad_kept, kept_of, kept_now, step, play}
 use Rattle.metering_model.proofs.FieldLaws.{same_read}
-use Rattle.metering_model.proofs.KeptLaws.{IsWritable, kept_written}
+use Rattle.metering_model.proofs.KeptLaws.{IsWritable, kept_read, kept_written}
 use Rattle.group_laws.specs.EveryRun.{IsBallot, MayBeVote, IsNode, KeepsLimits}
+use Rattle.group_laws.specs.Revivals.{refusal_of_other}
 use Rattle.group_laws.proofs.StepCases.{taken_has_text}
 use Rattle.group_laws.proofs.Told.{same_itself}
 use Rattle.group_laws.proofs.Forms.{HasForms, writable, readable}
@@ -61,6 +63,33 @@ module _ (w : World) (h : HasForms w) (i : ℕ) where
   -- and the text of what the node keeps is taken
   pub own_text_is_taken : (n : Node) → slice_get w.nodes i ≡ Some n → HasText (kept_now w n) → step w (Revive i (KeptGood (kept_text (kept_now w n)))) ≡ step w (Restart i)
   own_text_is_taken n found has = own_by_node n (slice_get w.nodes i) found has
+
+-- ---- any world, any other text
+
+module _ (w : World) (i : ℕ) (n : Node) where
+  -- what the node that was found does with what was taken from an offer
+  abbrev by_taken : Result KeptAmong Refusal → Outcome
+  by_taken r = or_refused w (r >>= λ k. holds_or (is_same (kept_text k) (kept_text (kept_now w n))) NotKept >>= λ u. Ok (Restarted, with_node_at i (wake k.kept) w))
+
+  -- what was read of a text has that text, so another one does not pass
+  by_text : (text : List ℕ) (r : Result KeptAmong KeptTextFault) → kept_in text ≡ r → (text ≡ kept_text (kept_now w n) → ⊥)
+      → by_taken (or_bad_kept r) ≡ (Refused (elim r [ Ok k ↦ NotKept | Err fault ↦ BadKept fault ]), w)
+  by_text text (Err fault) e other = refl
+  by_text text (Ok k) e other = by_test (is_same (kept_text k) (kept_text (kept_now w n))) refl
+    where
+      by_test : (b : Bool) → is_same (kept_text k) (kept_text (kept_now w n)) ≡ b → or_refused w (holds_or b NotKept >>= λ u. Ok (Restarted, with_node_at i (wake k.kept) w)) ≡ (Refused NotKept, w)
+      by_test false t = refl
+      by_test true t = absurd (other ((kept_read text k e).joined ∙ same_read _ _ t))
+
+  by_offer : (offer : KeptOffer) → (offer ≡ KeptGood (kept_text (kept_now w n)) → ⊥) → by_taken (kept_of offer) ≡ (Refused (refusal_of_other offer), w)
+  by_offer (KeptGood text) other = by_text text (kept_in text) refl (λ same. other (ap (λ t. KeptGood t) same))
+  by_offer (KeptBad fault) other = refl
+
+pub other_is_refused : (w : World) (i : ℕ) (offer : KeptOffer) (n : Node) → slice_get w.nodes i ≡ Some n → (offer ≡ KeptGood (kept_text (kept_now w n)) → ⊥)
+    → step w (Revive i offer) ≡ (Refused (refusal_of_other offer), w)
+other_is_refused w i offer n found other =
+    ap (λ (o : Option Node). or_refused w (ok_or o NoNode >>= λ m. kept_of offer >>= λ k. holds_or (is_same (kept_text k) (kept_text (kept_now w m))) NotKept >>= λ u. Ok (Restarted, with_node_at i (wake k.kept) w))) found
+    ∙ by_offer w i n offer other
 
 -- ---- after a run
 

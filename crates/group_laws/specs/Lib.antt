@@ -1,3 +1,4 @@
 pub mod Headline
 pub mod EveryRun
 pub mod Observers
+pub mod Revivals

@@ -11,6 +11,7 @@ ghost use Rattle.metering_model.specs.History.{Entry, IsLegal};
 ghost use Rattle.group_laws.specs.Headline.{IsPrefixOf, AreTheCuts, HoldsAfter};
 ghost use Rattle.group_laws.specs.EveryRun.{KeepsLimits};
 ghost use Rattle.group_laws.specs.Observers.{without, IsFollowed};
+ghost use Rattle.group_laws.specs.Revivals.{refusal_of_other};
 
 /// Whatever happens to a group, its chosen cuts are one growing list, and each export is of two neighbouring ones. It
 /// holds of every list of events, and of every history that one thread could have made; more events only lengthen the list.
@@ -41,8 +42,8 @@ pub fn observers_change_nothing()
         IsFollowed voters (play (opening voters observers agents sheet issuer) events).1 (play (opening voters 0 agents sheet issuer) others).1 }
 {}
 
-/// A node that is revived from a text restarts, and its text is that of what it keeps now. That text is read
-/// back as what it keeps, where the group is no larger than a text can say.
+/// A node that is revived from a text restarts, and its text is that of what it keeps now: any other text is refused. That text
+/// is read back as what it keeps, where the group is no larger than a text can say.
 pub fn a_revival_is_a_restart()
     ensures restarts { (voters observers agents : ℕ) (sheet : Sheet) (issuer : Issuer) (events : List Event) (node : ℕ) (offer : KeptOffer) →
         (step (play (opening voters observers agents sheet issuer) events).1 (Revive node offer)).0 ≡ Restarted →
@@ -55,4 +56,7 @@ pub fn a_revival_is_a_restart()
         (node : ℕ) (n : Node) → slice_get (play (opening voters observers agents sheet issuer) events).1.nodes node ≡ Some n →
         step (play (opening voters observers agents sheet issuer) events).1 (Revive node (KeptGood (kept_text (kept_now (play (opening voters observers agents sheet issuer) events).1 n))))
         ≡ step (play (opening voters observers agents sheet issuer) events).1 (Restart node) }
+    ensures others { (w : World) (node : ℕ) (n : Node) (offer : KeptOffer) → slice_get w.nodes node ≡ Some n →
+        offer ≢ KeptGood (kept_text (kept_now w n)) →
+        step w (Revive node offer) ≡ (Refused (refusal_of_other offer), w) }
 {}

@@ -1,5 +1,5 @@
 use Rattle.group_laws.proofs.EveryRun.{forms}
-use Rattle.group_laws.proofs.Revivals.{revival_is_restart, own_text_is_taken, each_has_text}
+use Rattle.group_laws.proofs.Revivals.{revival_is_restart, own_text_is_taken, other_is_refused, each_has_text}
 use Rattle.metering_model.specs.World.{opening}
 use Rattle.metering_model.specs.Step.{play}
 use Rattle.group_laws.proofs.laws.a_revival_is_a_restart.Goals as goal
@@ -15,3 +15,6 @@ pub returns-clause-taken : goal.returns-clause-taken
 returns-clause-taken c = λ voters observers agents sheet issuer events few some most node n found.
     own_text_is_taken (play (opening voters observers agents sheet issuer) events).1 (forms voters observers agents sheet issuer events) node n found
     (each_has_text voters observers agents sheet issuer events few some most node n found)
+
+pub returns-clause-others : goal.returns-clause-others
+returns-clause-others c = λ w node n offer found other. other_is_refused w node offer n found other
