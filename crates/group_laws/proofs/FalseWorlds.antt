@@ -1,5 +1,5 @@
 -- Worlds that a faulty node would leave: of each the headline is false.
-use Rattle.std.proofs.Common.{◌≡◌, ℕ, ◌≤◌, Bool, true, cond, List, [], ◌∷◌, ◌++◌, length, refl, sym, ap, subst, ◌∙◌, arith, Some, None, Result, Ok, Err}
+use Rattle.std.proofs.Common.{◌≡◌, ℕ, ◌≤◌, Bool, true, cond, List, [], ◌∷◌, ◌++◌, length, replicate, refl, sym, ap, subst, ◌∙◌, arith, Some, None, Result, Ok, Err}
 use Rattle.std.specs.Prelude.{slice_get, pos, false, codes}
 use Rattle.std.specs.List.{count_by, list_any}
 use Rattle.std.proofs.lemmas.Bool.{leb-true, both_ways}
@@ -19,6 +19,7 @@ use Rattle.metering_model.specs.Step.{step, play}
 use Rattle.metering_model.specs.Transcript.{line}
 use Rattle.std.specs.Fmt.{digits}
 use Rattle.metering_model.specs.World.{Good, Journal, Deliver, Start, Keep, Revive, KeptGood, KeptText, Refused, with_node_at, World, Node, Event, Reply, Snapshot, Exported, Prepare, Promise, Accept, Accepted, Decided, wake, new_kept, opening}
+use Rattle.metering_model.specs.Ballot.{Acceptor}
 use Rattle.metering_model.specs.Chosen.{IsChosen, accepts}
 use Rattle.metering_model.proofs.Samples.{sheet_0, issuer_1}
 use Rattle.group_laws.specs.Headline.{IsNewIn, AreChargedOnce, HoldsAfter}
@@ -338,3 +339,12 @@ after_a_short_cut = record (opening 3 0 1 sheet_0 issuer_1) { packets = Decided 
 
 cuts_have_an_entry_for_each_agent : IsBeyondLimits after_a_short_cut
 cuts_have_an_entry_for_each_agent h = let size = (h.each_packet 0 (Decided 0 []) (omega arith)).1.size in absurd (omega (arith, size))
+
+-- an observer that keeps a promise
+abbrev after_an_observer_promises : World
+after_an_observer_promises = record (opening 2 1 1 sheet_0 issuer_1) { nodes = replicate 3 (wake (record new_kept { acceptor = record { promised = Some 2; vote = None } })) }
+
+observers_promise_nothing : KeepsLimits 2 1 1 after_an_observer_promises → ⊥
+observers_promise_nothing h =
+    let none : Some 2 ≡ None = ap (λ (a : Acceptor). a.promised) (h.each_observer 2 (wake (record new_kept { acceptor = record { promised = Some 2; vote = None } })) (omega arith) refl).acceptor in
+    none-some 2 (sym none)

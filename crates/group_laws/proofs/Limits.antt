@@ -33,6 +33,7 @@ use Rattle.group_laws.proofs.Forms.{HasForms-opening, play_kept}
 use Rattle.group_laws.proofs.Told.{accepting_counted}
 use Rattle.group_laws.proofs.Fits.{IsOf, IsFitting, IsFitting-steps, IsFitting-opening}
 use Rattle.group_laws.proofs.Agreed.{last_of-zero}
+use Rattle.group_laws.proofs.Observing.{HasObservers, HasObservers-steps, HasObservers-opening}
 use Rattle.group_laws.proofs.EveryRun.{holds_after, prefix_of_cuts}
 
 pub at_entry : {A : Type 0} (P : A → Type 0) (xs : List A) (k : ℕ) (x : A) → All P xs → slice_get xs k ≡ Some x → P x
@@ -447,7 +448,11 @@ module _ (voters observers agents : ℕ) (sheet : Sheet) (issuer : Issuer) (even
     each_packet = subst (λ N. All (IsPacket N w.agents w.journals) w.packets) (sym headline.voters_kept) bounds.packets;
     each_node = subst (λ N. All (IsNode N w.agents w.journals) w.nodes) (sym headline.voters_kept)
         (subst (λ a. All (IsNode voters a w.journals) w.nodes) (sym headline.agents_kept) (all_entries (IsNode voters agents w.journals) w.nodes is_node));
+    each_observer = λ i n beyond found. observing.each i n (subst (λ N. N ≤ i) observing.count beyond) found;
   }
     where
       w : World
       w = (play (opening voters observers agents sheet issuer) events).1
+
+      observing : HasObservers voters w
+      observing = play_kept (HasObservers voters) (HasObservers-steps voters) events (opening voters observers agents sheet issuer) (HasForms-opening voters observers agents sheet issuer) (HasObservers-opening voters observers agents sheet issuer)

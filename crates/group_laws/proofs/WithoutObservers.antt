@@ -20,6 +20,7 @@ use Rattle.metering_model.specs.KeptText.{kept_text}
 use Rattle.metering_model.specs.Step.{Outcome, batch_of, on_batch, on_delivery, on_start, on_export, on_revival, kept_of, kept_now, after_delivery, outcome_of, or_refused, unless_broken, snapshot, step, play}
 use Rattle.group_laws.specs.Observers.{is_beyond, Numbers, numbers_after, next_after, renumbered, without, Follows, IsFollowed}
 use Rattle.group_laws.proofs.Told.{get-push}
+use Rattle.group_laws.proofs.Observing.{TellsCut, observer_tells}
 
 -- ---- lists
 
@@ -79,6 +80,15 @@ module _ (N : ℕ) (numbers : Numbers) (next : ℕ) (w u : World) (h : Follows N
       let here = some_at w.packets k (omega (arith, low, h.each_packet)) in
       (here.0, here.1, h.packets k j e ∙ here.1)
 
+  -- what stands before the end, or before another one, was there
+  before_end : (k : ℕ) (o p : Option ℕ) → k < length numbers → slice_get (numbers ++ p ∷ []) k ≡ Some o → slice_get numbers k ≡ Some o
+  before_end k o p low e =
+      let here = some_at numbers k low in
+      here.1 ∙ sym (get_before numbers p here.0 k here.1) ∙ e
+
+  earlier : (k l : ℕ) (m : Option ℕ) → k < l → (o p : Option ℕ) → slice_get numbers l ≡ Some m → slice_get (numbers ++ p ∷ []) k ≡ Some o → slice_get numbers k ≡ Some o
+  earlier k l m less o p at e = let within = slice_get_within numbers l m at in before_end k o p (omega (arith, less, within)) e
+
   -- a voter, in both
   setting : (i : ℕ) (m : Node) → Follows N numbers next (with_node_at i m w) (with_node_at i m u)
   setting i m = record {
@@ -91,6 +101,8 @@ module _ (N : ℕ) (numbers : Numbers) (next : ℕ) (w u : World) (h : Follows N
     nodes = λ j low. set_alike w.nodes u.nodes i j m (h.nodes j low);
     each_packet = h.each_packet;
     packets = h.packets;
+    rising = h.rising;
+    left_out = h.left_out;
     no_other = h.no_other;
     sent = h.sent;
     fewer = h.fewer;
@@ -108,6 +120,8 @@ module _ (N : ℕ) (numbers : Numbers) (next : ℕ) (w u : World) (h : Follows N
     nodes = λ j low. h.nodes j low ∙ sym (set_other w.nodes i j m (λ same. omega (arith, same, low, beyond)));
     each_packet = h.each_packet;
     packets = h.packets;
+    rising = h.rising;
+    left_out = h.left_out;
     no_other = h.no_other;
     sent = h.sent;
     fewer = h.fewer;
@@ -133,6 +147,20 @@ module _ (N : ℕ) (numbers : Numbers) (next : ℕ) (w u : World) (h : Follows N
           let of : k ≡ length w.packets = new.0 ∙ h.each_packet in
           ap (slice_get (u.packets ++ q ∷ [])) at ∙ get_last u.packets q ∙ sym (ap (slice_get (w.packets ++ q ∷ [])) of ∙ get_last w.packets q)
     ];
+    rising = λ k l j m less e f. elim (get-push numbers (Some next) (Some m) l f) [
+      | inl old ↦ h.rising k l j m less (earlier k l (Some m) less (Some j) (Some next) old e) old
+      | inr new ↦
+          let was : slice_get numbers k ≡ Some (Some j) = before_end k (Some j) (Some next) (omega (arith, less, new.0)) e in
+          let both = both_have k j was in
+          let within = slice_get_within u.packets j both.0 both.2 in
+          let last : next ≡ m = same_Some _ _ new.1 in
+          let count = h.sent in
+          omega (arith, within, last, count)
+    ];
+    left_out = λ k e. elim (get-push numbers (Some next) None k e) [
+      | inl old ↦ let was = h.left_out k old in (was.0, was.1, get_before w.packets q (Decided was.0 was.1) k was.2)
+      | inr new ↦ absurd (none-some next (sym new.1))
+    ];
     no_other = λ j low. by_place j low (nat_lt j (length u.packets)) refl;
     sent = let was = h.sent in omega (arith, was, length-append u.packets (q ∷ []));
     fewer = let was = h.fewer in omega (arith, was, length-append u.packets (q ∷ []), length-append w.packets (q ∷ []));
@@ -147,8 +175,8 @@ module _ (N : ℕ) (numbers : Numbers) (next : ℕ) (w u : World) (h : Follows N
           (length numbers, get_last numbers (Some next) ∙ ap (λ n. Some (Some n)) last)
 
   -- a packet of an observer
-  unheard : (q : Packet) → Follows N (numbers ++ None ∷ []) next (with_packet q w) u
-  unheard q = record {
+  unheard : (q : Packet) → TellsCut q → Follows N (numbers ++ None ∷ []) next (with_packet q w) u
+  unheard q tells = record {
     sheet = h.sheet;
     issuer = h.issuer;
     agents = h.agents;
@@ -162,6 +190,16 @@ module _ (N : ℕ) (numbers : Numbers) (next : ℕ) (w u : World) (h : Follows N
           let both = both_have k j old in
           both.2 ∙ sym (get_before w.packets q both.0 k both.1)
       | inr new ↦ absurd (none-some _ new.1)
+    ];
+    rising = λ k l j m less e f. elim (get-push numbers None (Some m) l f) [
+      | inl old ↦ h.rising k l j m less (earlier k l (Some m) less (Some j) None old e) old
+      | inr new ↦ absurd (none-some _ new.1)
+    ];
+    left_out = λ k e. elim (get-push numbers None None k e) [
+      | inl old ↦ let was = h.left_out k old in (was.0, was.1, get_before w.packets q (Decided was.0 was.1) k was.2)
+      | inr new ↦
+          let of : k ≡ length w.packets = new.0 ∙ h.each_packet in
+          (tells.0, tells.1, ap (slice_get (w.packets ++ q ∷ [])) of ∙ get_last w.packets q ∙ ap Some tells.2)
     ];
     no_other = λ j low. let old = h.no_other j low in (old.0, get_before numbers None (Some j) old.0 old.1);
     sent = h.sent;
@@ -180,6 +218,8 @@ module _ (N : ℕ) (numbers : Numbers) (next : ℕ) (w u : World) (h : Follows N
     nodes = h.nodes;
     each_packet = h.each_packet;
     packets = h.packets;
+    rising = h.rising;
+    left_out = h.left_out;
     no_other = h.no_other;
     sent = h.sent;
     fewer = h.fewer;
@@ -195,12 +235,12 @@ module _ (N : ℕ) (numbers : Numbers) (next : ℕ) (w u : World) (h : Follows N
   pass_bind (Ok x) f passes = passes x refl
   pass_bind (Err e) f passes = h
 
-  handled_passes : (i : ℕ) (x : Handled) → N ≤ i → Passes (after_delivery w i x)
-  handled_passes i x beyond = by_sends x.sends
+  handled_passes : (i : ℕ) (x : Handled) → N ≤ i → ((r : Packet) → x.sends ≡ Some r → TellsCut r) → Passes (after_delivery w i x)
+  handled_passes i x beyond tells = by_sends x.sends tells
     where
-      by_sends : (o : Option Packet) → Passes (elim o [ None ↦ Ok (Delivered None x.learns, with_node_at i x.node w) | Some p ↦ next_packet w >>= λ k. Ok (Delivered (Some k) x.learns, with_packet p (with_node_at i x.node w)) ])
-      by_sends None = observing N numbers next w u h i x.node beyond
-      by_sends (Some q) = pass_bind (next_packet w) _ (λ k room. unheard N numbers next (with_node_at i x.node w) u (observing N numbers next w u h i x.node beyond) q)
+      by_sends : (o : Option Packet) → ((r : Packet) → o ≡ Some r → TellsCut r) → Passes (elim o [ None ↦ Ok (Delivered None x.learns, with_node_at i x.node w) | Some p ↦ next_packet w >>= λ k. Ok (Delivered (Some k) x.learns, with_packet p (with_node_at i x.node w)) ])
+      by_sends None tells = observing N numbers next w u h i x.node beyond
+      by_sends (Some q) tells = pass_bind (next_packet w) _ (λ k room. unheard N numbers next (with_node_at i x.node w) u (observing N numbers next w u h i x.node beyond) q (tells q refl))
 
   no_vote : (i : ℕ) → N ≤ i → votes w i ≡ true → ⊥
   no_vote i beyond e = let low = ltb-true _ _ e in let same = h.votes in omega (arith, low, same, beyond)
@@ -224,7 +264,8 @@ module _ (N : ℕ) (numbers : Numbers) (next : ℕ) (w u : World) (h : Follows N
   beyond_passes (Journal offer) e = absurd (cc)
   beyond_passes (Deliver k i) e =
       pass_bind (ok_or (slice_get w.packets k) NoPacket) _ (λ q is.
-      pass_bind (ok_or (slice_get w.nodes i) NoNode) _ (λ n at. handled_passes i (handled w i n q) (leb-true _ _ e)))
+      pass_bind (ok_or (slice_get w.nodes i) NoNode) _ (λ n at.
+      handled_passes i (handled w i n q) (leb-true _ _ e) (observer_tells w i n (subst (λ k. k ≤ i) (sym h.votes) (leb-true _ _ e)) q)))
   beyond_passes (Start i) e = start_passes i (leb-true _ _ e)
   beyond_passes (Restart i) e = pass_bind (ok_or (slice_get w.nodes i) NoNode) _ (λ n at. observing N numbers next w u h i (wake n.kept) (leb-true _ _ e))
   beyond_passes (Export i p) e = pass_bind (snapshot w i p) _ (λ s is. h)
@@ -421,6 +462,8 @@ opening_follows voters observers agents sheet issuer = record {
   nodes = λ i low. get_copy (voters + 0) (wake new_kept) i (omega (arith, low)) ∙ sym (get_copy (voters + observers) (wake new_kept) i (omega (arith, low)));
   each_packet = refl;
   packets = λ k j e. absurd (none-some _ e);
+  rising = λ k l j m less e f. absurd (none-some _ e);
+  left_out = λ k e. absurd (none-some _ e);
   no_other = λ j low. absurd (omega (arith, low));
   sent = refl;
   fewer = omega arith;

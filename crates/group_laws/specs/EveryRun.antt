@@ -5,7 +5,7 @@ use Rattle.metering_model.specs.Batch.{Batch, IsWellFormed}
 use Rattle.metering_model.specs.Cut.{Cut, IsGrowing, last_of}
 use Rattle.metering_model.specs.Holding.{Holding, IsHolding, IsPartOf, AgreeUpTo, held}
 use Rattle.metering_model.specs.JournalRules.{MeetsJournalRules}
-use Rattle.metering_model.specs.Ballot.{Vote, Attempt, Nodes, ballot_of}
+use Rattle.metering_model.specs.Ballot.{Vote, Attempt, Nodes, ballot_of, new_acceptor}
 use Rattle.metering_model.specs.World.{World, Node, Packet, CarriesBatch, Prepare, Promise, Accept, Accepted, Decided, node_count, voter_count}
 use Rattle.metering_model.specs.Step.{first_missing}
 
@@ -71,6 +71,12 @@ pub record IsNode (voters agents : ℕ) (journals : Holding) (n : Node) : Type 0
   pub tally : All (IsEntry voters) n.tally
   pub whole : (period : ℕ) (cut : Cut) → slice_get n.kept.learned period ≡ Some cut → first_missing n.kept.holding cut ≡ None → AgreeUpTo cut n.kept.holding journals
 
+-- a node that neither proposes nor votes
+pub record IsObserver (n : Node) : Type 0 where
+  pub round : n.kept.round ≡ 0
+  pub acceptor : n.kept.acceptor ≡ new_acceptor
+  pub attempt : n.attempt ≡ None
+
 -- What holds of the world after every run.
 pub record KeepsLimits (voters observers agents : ℕ) (w : World) : Type 0 where
   pub nodes_kept : node_count w ≡ voters + observers
@@ -81,3 +87,4 @@ pub record KeepsLimits (voters observers agents : ℕ) (w : World) : Type 0 wher
   pub room : length w.packets ≤ 1_000_000
   pub each_packet : All (IsPacket (voter_count w) w.agents w.journals) w.packets
   pub each_node : All (IsNode (voter_count w) w.agents w.journals) w.nodes
+  pub each_observer : (node : ℕ) (n : Node) → voter_count w ≤ node → slice_get w.nodes node ≡ Some n → IsObserver n

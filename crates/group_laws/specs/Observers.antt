@@ -2,7 +2,8 @@
 use Rattle.std.specs.Prelude.{◌≡◌, ℕ, ◌+◌, ◌<◌, ◌≤◌, Bool, true, false, nat_le, if◌then◌else◌, List, [], ◌∷◌, ◌++◌, length, Option, Some, None, unwrap_or, slice_get}
 use Rattle.std.specs.Option.{option_map}
 use Rattle.metering_model.specs.BatchReading.{with_first}
-use Rattle.metering_model.specs.World.{World, Event, Journal, Deliver, Start, Restart, Export, Keep, Revive, Reply, Journaled, Delivered, Started, Restarted, Exported, KeptText, Refused, voter_count}
+use Rattle.metering_model.specs.Cut.{Cut}
+use Rattle.metering_model.specs.World.{World, Decided, Event, Journal, Deliver, Start, Restart, Export, Keep, Revive, Reply, Journaled, Delivered, Started, Restarted, Exported, KeptText, Refused, voter_count}
 
 -- an event at a node that does not vote, be it an observer or none at all
 abbrev pub is_beyond : ℕ → Event → Bool
@@ -50,7 +51,7 @@ without voters numbers next (e ∷ es) (r ∷ rs) =
     else with_first (renumbered numbers next e) (without voters (numbers_after (Some next) r numbers) (next_after r next) es rs)
 
 -- The other world has the same journals, the same voters with all that they keep, try and count, and just the packets that have
--- a number; the next one that is sent gets the next number.
+-- a number, in the same order; the next one that is sent gets the next number. A packet without one tells a cut.
 pub record Follows (voters : ℕ) (numbers : Numbers) (next : ℕ) (whole other : World) : Type 0 where
   pub sheet : other.sheet ≡ whole.sheet
   pub issuer : other.issuer ≡ whole.issuer
@@ -61,6 +62,8 @@ pub record Follows (voters : ℕ) (numbers : Numbers) (next : ℕ) (whole other 
   pub nodes : (i : ℕ) → i < voters → slice_get other.nodes i ≡ slice_get whole.nodes i
   pub each_packet : length numbers ≡ length whole.packets
   pub packets : (packet number : ℕ) → slice_get numbers packet ≡ Some (Some number) → slice_get other.packets number ≡ slice_get whole.packets packet
+  pub rising : (packet later number after : ℕ) → packet < later → slice_get numbers packet ≡ Some (Some number) → slice_get numbers later ≡ Some (Some after) → number < after
+  pub left_out : (packet : ℕ) → slice_get numbers packet ≡ Some None → (period : ℕ) × (cut : Cut) × (slice_get whole.packets packet ≡ Some (Decided period cut))
   pub no_other : (number : ℕ) → number < length other.packets → (packet : ℕ) × (slice_get numbers packet ≡ Some (Some number))
   pub sent : length other.packets ≡ next
   pub fewer : length other.packets ≤ length whole.packets
