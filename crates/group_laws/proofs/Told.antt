@@ -56,11 +56,11 @@ pub same_itself : (c : Cut) → is_same c c ≡ true
 same_itself [] = refl
 same_itself (x ∷ c) = and_from (x == x) (is_same c c) (eq-eqb x x refl) (same_itself c)
 
-accepts_itself : (i p b : ℕ) (c : Cut) → accepts i p b c (Accepted i p b c) ≡ true
+pub accepts_itself : (i p b : ℕ) (c : Cut) → accepts i p b c (Accepted i p b c) ≡ true
 accepts_itself i p b c =
     and_from ((i == i) && (p == p) && (b == b)) (is_same c c) (and_from ((i == i) && (p == p)) (b == b) (and_from (i == i) (p == p) (eq-eqb i i refl) (eq-eqb p p refl)) (eq-eqb b b refl)) (same_itself c)
 
-any_sent : (test : Packet → Bool) (P : List Packet) (x : Packet) (k : ℕ) → slice_get P k ≡ Some x → test x ≡ true → list_any test P ≡ true
+pub any_sent : (test : Packet → Bool) (P : List Packet) (x : Packet) (k : ℕ) → slice_get P k ≡ Some x → test x ≡ true → list_any test P ≡ true
 any_sent test [] x k e h = absurd (none-some x e)
 any_sent test (y ∷ P) x zero e h = by_test (test y) (ap test (same_Some y x e) ∙ h)
   where

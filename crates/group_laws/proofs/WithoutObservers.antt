@@ -18,13 +18,14 @@ use Rattle.metering_model.specs.World.{World, Node, Packet, CarriesBatch, Prepar
 use Rattle.metering_model.specs.Deliveries.{Handled, handled}
 use Rattle.metering_model.specs.KeptText.{kept_text}
 use Rattle.metering_model.specs.Step.{Outcome, batch_of, on_batch, on_delivery, on_start, on_export, on_revival, kept_of, kept_now, after_delivery, outcome_of, or_refused, unless_broken, snapshot, step, play}
+use Rattle.group_laws.specs.Alone.{unnumbered}
 use Rattle.group_laws.specs.Observers.{is_beyond, Numbers, numbers_after, next_after, renumbered, without, Follows, IsFollowed}
 use Rattle.group_laws.proofs.Told.{get-push}
 use Rattle.group_laws.proofs.Observing.{TellsCut, observer_tells}
 
 -- ---- lists
 
-set_same : {A : Type 0} (xs : List A) (i : ℕ) (x : A) → slice_get (slice_set xs i x) i ≡ option_map (λ _. x) (slice_get xs i)
+pub set_same : {A : Type 0} (xs : List A) (i : ℕ) (x : A) → slice_get (slice_set xs i x) i ≡ option_map (λ _. x) (slice_get xs i)
 set_same [] i x = refl
 set_same (y ∷ xs) zero x = refl
 set_same (y ∷ xs) (suc i) x = set_same xs i x
@@ -51,7 +52,7 @@ set_alike xs ys i j x alike = by_test (j == i) refl
         let differs : j ≡ i → ⊥ = λ same. let t = eq-eqb j i same in absurd (cc (t, e)) in
         set_other ys i j x differs ∙ alike ∙ sym (set_other xs i j x differs)
 
-some_at : {A : Type 0} (xs : List A) (k : ℕ) → k < length xs → (x : A) × (slice_get xs k ≡ Some x)
+pub some_at : {A : Type 0} (xs : List A) (k : ℕ) → k < length xs → (x : A) × (slice_get xs k ≡ Some x)
 some_at [] k low = absurd (omega (arith, low))
 some_at (x ∷ xs) zero low = (x, refl)
 some_at (x ∷ xs) (suc k) low = some_at xs k (omega (arith, low))
@@ -65,7 +66,7 @@ get_last : {A : Type 0} (xs : List A) (y : A) → slice_get (xs ++ y ∷ []) (le
 get_last [] y = refl
 get_last (z ∷ xs) y = get_last xs y
 
-get_copy : {A : Type 0} (n : ℕ) (x : A) (k : ℕ) → k < n → slice_get (replicate n x) k ≡ Some x
+pub get_copy : {A : Type 0} (n : ℕ) (x : A) (k : ℕ) → k < n → slice_get (replicate n x) k ≡ Some x
 get_copy zero x k low = absurd (omega (arith, low))
 get_copy (suc n) x zero low = refl
 get_copy (suc n) x (suc k) low = get_copy n x k (omega (arith, low))
@@ -90,7 +91,7 @@ module _ (N : ℕ) (numbers : Numbers) (next : ℕ) (w u : World) (h : Follows N
   earlier k l m less o p at e = let within = slice_get_within numbers l m at in before_end k o p (omega (arith, less, within)) e
 
   -- a voter, in both
-  setting : (i : ℕ) (m : Node) → Follows N numbers next (with_node_at i m w) (with_node_at i m u)
+  pub setting : (i : ℕ) (m : Node) → Follows N numbers next (with_node_at i m w) (with_node_at i m u)
   setting i m = record {
     sheet = h.sheet;
     issuer = h.issuer;
@@ -260,7 +261,7 @@ module _ (N : ℕ) (numbers : Numbers) (next : ℕ) (w u : World) (h : Follows N
       pass_bind (kept_of offer) _ (λ k taken.
       pass_bind (holds_or (is_same (kept_text k) (kept_text (kept_now w n))) NotKept) _ (λ t same. observing N numbers next w u h i (wake k.kept) beyond)))
 
-  beyond_passes : (e : Event) → is_beyond N e ≡ true → Passes (outcome_of w e)
+  pub beyond_passes : (e : Event) → is_beyond N e ≡ true → Passes (outcome_of w e)
   beyond_passes (Journal offer) e = absurd (cc)
   beyond_passes (Deliver k i) e =
       pass_bind (ok_or (slice_get w.packets k) NoPacket) _ (λ q is.
@@ -298,14 +299,16 @@ module _ (N : ℕ) (numbers : Numbers) (next : ℕ) (w : World) (P : List Packet
   abbrev u : World
   u = beside w P V
 
-  -- both do the same, where the first is not refused for a full world
+  -- Both do the same and are answered alike, where the first is not refused for a full world. One that is changes nothing.
   record Pairs (r s : Result Outcome Refusal) : Type 0 where
+    pub full : (or_refused w r).0 ≡ Refused WorldFull → (or_refused w r).1 ≡ w
+    pub alike : ((or_refused w r).0 ≡ Refused WorldFull → ⊥) → unnumbered (or_refused w r).0 ≡ unnumbered (or_refused u s).0
     pub told : ((or_refused w r).0 ≡ Refused WorldFull → ⊥)
         → Follows N (numbers_after (Some next) (or_refused w r).0 numbers) (next_after (or_refused w r).0 next) (or_refused w r).1 (or_refused u s).1
 
   pair_bind : {A : Type 0} (r : Result A Refusal) (f g : A → Result Outcome Refusal) → ((x : A) → Pairs (f x) (g x)) → Pairs (r >>= f) (r >>= g)
   pair_bind (Ok x) f g pairs = pairs x
-  pair_bind (Err e) f g pairs = record { told = λ fits. h }
+  pair_bind (Err e) f g pairs = record { full = λ is. refl; alike = λ fits. refl; told = λ fits. h }
 
   -- what is found is the same
   pair_found : {A : Type 0} (o p : Option A) (e : Refusal) (f g : A → Result Outcome Refusal) → p ≡ o → ((x : A) → Pairs (f x) (g x)) → Pairs (ok_or o e >>= f) (ok_or p e >>= g)
@@ -319,14 +322,14 @@ module _ (N : ℕ) (numbers : Numbers) (next : ℕ) (w : World) (P : List Packet
           → Pairs ((if b then Ok (length w.packets) else Err WorldFull) >>= f) ((if c then Ok (length P) else Err WorldFull) >>= g)
       by_tests true true follows = pairs
       by_tests true false follows = absurd (let e = follows refl in cc)
-      by_tests false c follows = record { told = λ fits. absurd (fits refl) }
+      by_tests false c follows = record { full = λ is. refl; alike = λ fits. absurd (fits refl); told = λ fits. absurd (fits refl) }
 
   batch_pairs : (b : Batch) → Pairs (on_batch w b) (on_batch u b)
   batch_pairs b =
       pair_bind (holds_or (nat_le b.agent w.agents) NoAgent) _ _ (λ one.
       pair_bind (holds_or (b.seq == next_seq w.journals b.agent) (WrongSeq (next_seq w.journals b.agent))) _ _ (λ two.
       pair_bind (unless_broken (first_broken w.sheet (put w.journals b) (placed b))) _ _ (λ three.
-      pair_room _ _ (record { told = λ fits. sending N numbers next (record w { journals = put w.journals b }) (record u { journals = put u.journals b }) (journaled N numbers next w u h b) (CarriesBatch b) }))))
+      pair_room _ _ (record { full = λ is. absurd (cc); alike = λ fits. refl; told = λ fits. sending N numbers next (record w { journals = put w.journals b }) (record u { journals = put u.journals b }) (journaled N numbers next w u h b) (CarriesBatch b) }))))
 
   handled_pairs : (i : ℕ) (x : Handled) → Pairs (after_delivery w i x) (after_delivery u i x)
   handled_pairs i x = by_sends x.sends
@@ -334,8 +337,8 @@ module _ (N : ℕ) (numbers : Numbers) (next : ℕ) (w : World) (P : List Packet
       by_sends : (o : Option Packet) → Pairs
           (elim o [ None ↦ Ok (Delivered None x.learns, with_node_at i x.node w) | Some p ↦ next_packet w >>= λ k. Ok (Delivered (Some k) x.learns, with_packet p (with_node_at i x.node w)) ])
           (elim o [ None ↦ Ok (Delivered None x.learns, with_node_at i x.node u) | Some p ↦ next_packet u >>= λ k. Ok (Delivered (Some k) x.learns, with_packet p (with_node_at i x.node u)) ])
-      by_sends None = record { told = λ fits. setting N numbers next w u h i x.node }
-      by_sends (Some q) = pair_room _ _ (record { told = λ fits. sending N numbers next (with_node_at i x.node w) (with_node_at i x.node u) (setting N numbers next w u h i x.node) q })
+      by_sends None = record { full = λ is. absurd (cc); alike = λ fits. refl; told = λ fits. setting N numbers next w u h i x.node }
+      by_sends (Some q) = pair_room _ _ (record { full = λ is. absurd (cc); alike = λ fits. refl; told = λ fits. sending N numbers next (with_node_at i x.node w) (with_node_at i x.node u) (setting N numbers next w u h i x.node) q })
 
   -- a packet without a place among the numbers was not sent
   not_sent : (k : ℕ) → slice_get numbers k ≡ None → length w.packets ≤ k
@@ -371,7 +374,7 @@ module _ (N : ℕ) (numbers : Numbers) (next : ℕ) (w : World) (P : List Packet
       pair_bind (holds_or (votes w i) Observer) _ _ (λ one.
       pair_bind (holds_or (nat_lt (current_period n) 1_200) AllClosed) _ _ (λ two.
       pair_bind (holds_or (nat_lt n.kept.round 10_000) NoBallot) _ _ (λ three.
-      pair_room _ _ (record { told = λ fits. sending N numbers next _ _ (setting N numbers next w u h i _) _ })))))
+      pair_room _ _ (record { full = λ is. absurd (cc); alike = λ fits. refl; told = λ fits. sending N numbers next _ _ (setting N numbers next w u h i _) _ })))))
 
   same_snapshot : (i p : ℕ) → i < N → snapshot u i p ≡ snapshot w i p
   same_snapshot i p low = rw (h.nodes i low) refl
@@ -379,17 +382,17 @@ module _ (N : ℕ) (numbers : Numbers) (next : ℕ) (w : World) (P : List Packet
   export_pairs : (i p : ℕ) → i < N → Pairs (on_export w i p) (on_export u i p)
   export_pairs i p low =
       subst (λ (x : Result Snapshot Refusal). Pairs (on_export w i p) (x >>= λ s. Ok (Exported s, u))) (sym (same_snapshot i p low))
-      (pair_bind (snapshot w i p) _ _ (λ s. record { told = λ fits. h }))
+      (pair_bind (snapshot w i p) _ _ (λ s. record { full = λ is. refl; alike = λ fits. refl; told = λ fits. h }))
 
   keep_pairs : (i : ℕ) → i < N → Pairs (outcome_of w (Keep i)) (outcome_of u (Keep i))
-  keep_pairs i low = pair_found (slice_get w.nodes i) (slice_get V i) NoNode _ _ (h.nodes i low) (λ n. record { told = λ fits. h })
+  keep_pairs i low = pair_found (slice_get w.nodes i) (slice_get V i) NoNode _ _ (h.nodes i low) (λ n. record { full = λ is. refl; alike = λ fits. refl; told = λ fits. h })
 
   revival_pairs : (i : ℕ) (offer : KeptOffer) → i < N → Pairs (on_revival w i offer) (on_revival u i offer)
   revival_pairs i offer low =
       pair_found (slice_get w.nodes i) (slice_get V i) NoNode _ _ (h.nodes i low) (λ n.
       pair_bind (kept_of offer) _ _ (λ k.
       pair_bind (holds_or (is_same (kept_text k) (kept_text (kept_now w n))) NotKept) _ _ (λ same.
-      record { told = λ fits. setting N numbers next w u h i (wake k.kept) })))
+      record { full = λ is. absurd (cc); alike = λ fits. refl; told = λ fits. setting N numbers next w u h i (wake k.kept) })))
 
   below : (i : ℕ) → nat_le N i ≡ false → i < N
   below i e = let less = leb-false _ _ e in omega (arith, less)
@@ -404,7 +407,7 @@ module _ (N : ℕ) (numbers : Numbers) (next : ℕ) (w : World) (P : List Packet
   event_pairs (Start i) f low is = subst (λ (x : Event). Pairs (outcome_of w (Start i)) (outcome_of u x)) (same_Some _ _ is) (start_pairs i (below i low))
   event_pairs (Restart i) f low is =
       subst (λ (x : Event). Pairs (outcome_of w (Restart i)) (outcome_of u x)) (same_Some _ _ is)
-      (pair_found (slice_get w.nodes i) (slice_get V i) NoNode _ _ (h.nodes i (below i low)) (λ n. record { told = λ fits. setting N numbers next w u h i (wake n.kept) }))
+      (pair_found (slice_get w.nodes i) (slice_get V i) NoNode _ _ (h.nodes i (below i low)) (λ n. record { full = λ is. absurd (cc); alike = λ fits. refl; told = λ fits. setting N numbers next w u h i (wake n.kept) }))
   event_pairs (Export i p) f low is = subst (λ (x : Event). Pairs (outcome_of w (Export i p)) (outcome_of u x)) (same_Some _ _ is) (export_pairs i p (below i low))
   event_pairs (Keep i) f low is = subst (λ (x : Event). Pairs (outcome_of w (Keep i)) (outcome_of u x)) (same_Some _ _ is) (keep_pairs i (below i low))
   event_pairs (Revive i offer) f low is = subst (λ (x : Event). Pairs (outcome_of w (Revive i offer)) (outcome_of u x)) (same_Some _ _ is) (revival_pairs i offer (below i low))
@@ -412,13 +415,28 @@ module _ (N : ℕ) (numbers : Numbers) (next : ℕ) (w : World) (P : List Packet
 -- ---- one event
 
 -- an event at a voter leads to worlds that follow one another
-step_follows : (N : ℕ) (numbers : Numbers) (next : ℕ) (w u : World) (e f : Event) → Follows N numbers next w u → is_beyond N e ≡ false → renumbered numbers next e ≡ Some f
+pub step_follows : (N : ℕ) (numbers : Numbers) (next : ℕ) (w u : World) (e f : Event) → Follows N numbers next w u → is_beyond N e ≡ false → renumbered numbers next e ≡ Some f
     → ((step w e).0 ≡ Refused WorldFull → ⊥) → Follows N (numbers_after (Some next) (step w e).0 numbers) (next_after (step w e).0 next) (step w e).1 (step u f).1
 step_follows N numbers next w u e f h low is fits =
     let same = is_beside N numbers next w u h in
     let here : Follows N numbers next w (beside w u.packets u.nodes) = subst (Follows N numbers next w) same h in
     subst (λ (x : World). Follows N (numbers_after (Some next) (step w e).0 numbers) (next_after (step w e).0 next) (step w e).1 (step x f).1) (sym same)
     ((event_pairs N numbers next w u.packets u.nodes here e f low is).told fits)
+
+-- such an event is answered alike
+pub step_alike : (N : ℕ) (numbers : Numbers) (next : ℕ) (w u : World) (e f : Event) → Follows N numbers next w u → is_beyond N e ≡ false → renumbered numbers next e ≡ Some f
+    → ((step w e).0 ≡ Refused WorldFull → ⊥) → unnumbered (step w e).0 ≡ unnumbered (step u f).0
+step_alike N numbers next w u e f h low is fits =
+    let same = is_beside N numbers next w u h in
+    let here : Follows N numbers next w (beside w u.packets u.nodes) = subst (Follows N numbers next w) same h in
+    subst (λ (x : World). unnumbered (step w e).0 ≡ unnumbered (step x f).0) (sym same) ((event_pairs N numbers next w u.packets u.nodes here e f low is).alike fits)
+
+-- one that is refused for a full world changes nothing
+pub step_full : (N : ℕ) (numbers : Numbers) (next : ℕ) (w u : World) (e f : Event) → Follows N numbers next w u → is_beyond N e ≡ false → renumbered numbers next e ≡ Some f
+    → (step w e).0 ≡ Refused WorldFull → (step w e).1 ≡ w
+step_full N numbers next w u e f h low is full =
+    let here : Follows N numbers next w (beside w u.packets u.nodes) = subst (Follows N numbers next w) (is_beside N numbers next w u h) h in
+    (event_pairs N numbers next w u.packets u.nodes here e f low is).full full
 
 -- ---- a run
 
@@ -451,7 +469,7 @@ run_follows N (e ∷ es) numbers next w u others h is fits =
     event_follows N e es numbers next w u others h (is_beyond N e) refl is (All-head IsNotFull (step w e).0 (play (step w e).1 es).0 fits)
     (λ m n x os k left. run_follows N es m n (step w e).1 x os k left (All-tail IsNotFull (step w e).0 (play (step w e).1 es).0 fits))
 
-opening_follows : (voters observers agents : ℕ) (sheet : Sheet) (issuer : Issuer) → Follows voters [] 0 (opening voters observers agents sheet issuer) (opening voters 0 agents sheet issuer)
+pub opening_follows : (voters observers agents : ℕ) (sheet : Sheet) (issuer : Issuer) → Follows voters [] 0 (opening voters observers agents sheet issuer) (opening voters 0 agents sheet issuer)
 opening_follows voters observers agents sheet issuer = record {
   sheet = refl;
   issuer = refl;

@@ -1,4 +1,5 @@
 pub mod Headline
 pub mod EveryRun
 pub mod Observers
+pub mod Alone
 pub mod Revivals

@@ -11,6 +11,7 @@ ghost use Rattle.metering_model.specs.History.{Entry, IsLegal};
 ghost use Rattle.group_laws.specs.Headline.{IsPrefixOf, AreTheCuts, HoldsAfter};
 ghost use Rattle.group_laws.specs.EveryRun.{KeepsLimits};
 ghost use Rattle.group_laws.specs.Observers.{without, IsFollowed};
+ghost use Rattle.group_laws.specs.Alone.{CanBeDoneAlone};
 ghost use Rattle.group_laws.specs.Revivals.{refusal_of_other};
 
 /// Whatever happens to a group, its chosen cuts are one growing list, and each export is of two neighbouring ones. It
@@ -33,13 +34,17 @@ pub fn every_run_keeps_its_limits()
         KeepsLimits voters observers agents (play (opening voters observers agents sheet issuer) events).1 }
 {}
 
-/// Without what happens at its observers a group has the same journals, and its voters keep, try and count the same. Nothing is
-/// said where a packet of an observer was delivered to a voter, nor where something was refused for a full world.
+/// Without what happens at its observers a group has the same journals, and its voters keep, try and count the same: after the
+/// very events that are left, unless a packet of an observer was delivered to a voter, or something refused for a full world;
+/// and after all events by some that happen at voters alone. These have the answers that the voters and the agents had, but for
+/// what a full world refused.
 pub fn observers_change_nothing()
     ensures follows { (voters observers agents : ℕ) (sheet : Sheet) (issuer : Issuer) (events others : List Event) →
         without voters [] 0 events (play (opening voters observers agents sheet issuer) events).0 ≡ Some others →
         All (λ r. r ≢ Refused WorldFull) (play (opening voters observers agents sheet issuer) events).0 →
         IsFollowed voters (play (opening voters observers agents sheet issuer) events).1 (play (opening voters 0 agents sheet issuer) others).1 }
+    ensures all { (voters observers agents : ℕ) (sheet : Sheet) (issuer : Issuer) (events : List Event) →
+        CanBeDoneAlone voters events (opening voters observers agents sheet issuer) (opening voters 0 agents sheet issuer) }
 {}
 
 /// A node that is revived from a text restarts, and its text is that of what it keeps now: any other text is refused. That text
