@@ -2,6 +2,7 @@
 use Rattle.std.proofs.Common.{◌≡◌, ℕ, true, List, ◌∷◌, ◌++◌, length, sym, ap, subst, ◌∙◌, append_assoc}
 use Rattle.std.proofs.lemmas.Bool.{and_from}
 use Rattle.std.proofs.lemmas.List.Concat.{flat_map-append}
+use Rattle.metering_model.specs.BatchReading.{lines_in}
 use Rattle.metering_model.specs.Sheet.{Sheet, Issuer}
 use Rattle.metering_model.specs.SheetRules.{IsSheet, IsIssuer}
 use Rattle.metering_model.specs.World.{Event, Reply, opening}
@@ -9,6 +10,7 @@ use Rattle.metering_model.specs.Step.{play}
 use Rattle.metering_model.specs.Transcript.{reply_text, transcript}
 use Rattle.metering_model.specs.Schedule.{TextLines, lines_text}
 use Rattle.metering_model.proofs.PlayLaws.{replies-append}
+use Rattle.metering_model.proofs.Splitting.{lines_give_back}
 use Rattle.transcript_laws.specs.Shown.{line_above, Shows}
 use Rattle.transcript_laws.proofs.TextLaws.{are_whole, front_of_lines, whole_both, whole_parts}
 use Rattle.transcript_laws.proofs.ReplyLines.{transcript_lines, above_lacks_feed, lines_are_whole, transcript_is}
@@ -42,6 +44,16 @@ shown_when_torn voters observers agents sheet issuer events limits names front r
     let now = replies voters observers agents sheet issuer events limits names in
     let is = transcript_is now (all_are_shown voters observers agents sheet issuer events limits names) in
     subst (λ t. Shows t period shown) (sym is) (shown_in_front (transcript_lines now) front rest (lines_are_whole now) (sym is ∙ e) period shown it)
+
+-- The whole lines of a front are a front themselves.
+pub shown_by_whole_lines : (voters observers agents : ℕ) (sheet : Sheet) (issuer : Issuer) (events : List Event) → IsSheet sheet → IsIssuer issuer →
+    (front rest : List ℕ) → transcript (play (opening voters observers agents sheet issuer) events).0 ≡ front ++ rest →
+    (period : ℕ) (shown : List ℕ) → Shows (lines_text (lines_in front).lines) period shown →
+    Shows (transcript (play (opening voters observers agents sheet issuer) events).0) period shown
+shown_by_whole_lines voters observers agents sheet issuer events limits names front rest e =
+    let ls = lines_text (lines_in front).lines in
+    shown_when_torn voters observers agents sheet issuer events limits names ls ((lines_in front).rest ++ rest)
+    (e ∙ ap (λ t. t ++ rest) (sym (lines_give_back front)) ∙ append_assoc ls (lines_in front).rest rest)
 
 pub text_goes_on : (voters observers agents : ℕ) (sheet : Sheet) (issuer : Issuer) (events more : List Event) → (rest : List ℕ) ×
     (transcript (play (opening voters observers agents sheet issuer) (events ++ more)).0 ≡ transcript (play (opening voters observers agents sheet issuer) events).0 ++ rest)

@@ -10,7 +10,7 @@ ghost use Rattle.metering_model.specs.World.{Event, opening};
 ghost use Rattle.metering_model.specs.Step.{play};
 ghost use Rattle.metering_model.specs.Transcript.{transcript};
 ghost use Rattle.metering_model.specs.BatchReading.{lines_in};
-ghost use Rattle.metering_model.specs.Schedule.{TextLines};
+ghost use Rattle.metering_model.specs.Schedule.{TextLines, lines_text};
 ghost use Rattle.row_laws.specs.Columns.{line_of_row};
 ghost use Rattle.transcript_laws.specs.Csv.{csv_fields};
 ghost use Rattle.transcript_laws.specs.Shown.{line_above, Shows, HoldsOfBytes};
@@ -23,8 +23,9 @@ pub fn a_transcript_shows_one_file_a_period()
         HoldsOfBytes voters observers agents sheet issuer events (transcript (play (opening voters observers agents sheet issuer) events).0) }
 {}
 
-/// More events only add to a transcript: the text goes on from what it was, and shows each file that it showed. Of a transcript
-/// that was torn off at whichever byte, the whole lines show no file that the transcript does not show.
+/// More events only add to a transcript: the text goes on from what it was, and shows each file that it showed. What is left of
+/// one that was torn off behind a line shows no file that the transcript does not show. Torn off within a line it is no text of
+/// whole lines, and then the whole lines that it has show none.
 pub fn a_longer_transcript_shows_the_same_files()
     ensures goes_on { (voters observers agents : ℕ) (sheet : Sheet) (issuer : Issuer) (events more : List Event) → (rest : List ℕ) ×
         (transcript (play (opening voters observers agents sheet issuer) (events ++ more)).0
@@ -35,6 +36,10 @@ pub fn a_longer_transcript_shows_the_same_files()
     ensures torn { (voters observers agents : ℕ) (sheet : Sheet) (issuer : Issuer) (events : List Event) → IsSheet sheet → IsIssuer issuer →
         (front rest : List ℕ) → transcript (play (opening voters observers agents sheet issuer) events).0 ≡ front ++ rest →
         (period : ℕ) (shown : List ℕ) → Shows front period shown →
+        Shows (transcript (play (opening voters observers agents sheet issuer) events).0) period shown }
+    ensures whole_lines { (voters observers agents : ℕ) (sheet : Sheet) (issuer : Issuer) (events : List Event) → IsSheet sheet → IsIssuer issuer →
+        (front rest : List ℕ) → transcript (play (opening voters observers agents sheet issuer) events).0 ≡ front ++ rest →
+        (period : ℕ) (shown : List ℕ) → Shows (lines_text (lines_in front).lines) period shown →
         Shows (transcript (play (opening voters observers agents sheet issuer) events).0) period shown }
 {}
 
