@@ -37,7 +37,7 @@ pub record IsTranscriptOfSome (input text : List ℕ) : Type 0 where
   pub done : ℕ
   pub is_first : IsTranscriptOfFirst schedule done text
 
--- It is that, or nothing.
+-- It is that, or nothing: the text of no event, or memory was wanted before the first.
 pub record IsPrefixOfTranscript (known : Option (List ℕ)) (input text : List ℕ) : Type 0 where
   pub is_input : IfSome known (λ bytes. input ≡ bytes)
   pub is_prefix : (text ≡ []) ⊎ IsTranscriptOfSome input text

@@ -119,8 +119,10 @@ fn play_input<W: Sink>(alloc: Global, input: &[u8], writer: &mut W) -> Result<()
 /// an export its file.
 ///
 /// At most 16,777,217 bytes are read, and all of them before the first event. Where memory is refused, the transcript of some
-/// first events was written, or nothing; after `Write` a prefix of the transcript, and after any other fault nothing. `Refused`
-/// is never answered.
+/// first events was written. As far as the clause goes these may be none at all: the error tells no number of them, and memory
+/// may be wanted before the first. That they are those whose replies were had is said where their number is known, of the loop
+/// (`play_on`: `world`, `told`). After `Write` a prefix of the transcript was written, and after any other fault nothing.
+/// `Refused` is never answered.
 pub fn play_text<R: Source, W: Sink>(
     alloc: Global,
     reader: &mut R,

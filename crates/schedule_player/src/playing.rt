@@ -1,6 +1,6 @@
 //! The events of a schedule, one after the other, and the lines of their replies.
 
-ghost use Rattle.std.specs.Prelude.{◌≡◌, ◌≤◌, ◌⊎◌, ◌++◌, [], ℕ, List, All, length, take, is_err, IfOk, OnOk, OnErr};
+ghost use Rattle.std.specs.Prelude.{◌≡◌, ◌<◌, ◌≤◌, ◌⊎◌, ◌++◌, [], ℕ, List, All, length, take, is_err, IfOk, OnOk, OnErr};
 ghost use Rattle.std.specs.Io.KnownBytes.{Appends};
 ghost use Rattle.counted_io.specs.Counts.{Rises, count_after};
 ghost use Rattle.counted_io.specs.Writing.{AppendsPrefix};
@@ -40,11 +40,15 @@ fn play_event(
     lines.add(alloc, &reply)
 }
 
-/// Writes what waits, if it is much.
+/// Writes what waits, if it is much. So memory for it has a bound, however long a transcript is: what waits before an event is
+/// little, and behind it one reply's text more.
 fn write_many<W: Sink>(lines: &mut ReplyLines, writer: &mut W) -> Result<(), Failed>
     ensures written { OnOk result ((written : List ℕ) × (written ++ lines.new.text ≡ lines.old.text) × Appends (W.contents writer.old) (W.contents writer.new) written) }
     ensures prefix { OnErr result (AppendsPrefix (W.contents writer.old) (W.contents writer.new) lines.old.text) }
     ensures held { lines.new.held ≡ lines.old.held }
+
+    // Fewer bytes wait than are many.
+    ensures few { OnOk result (length lines.new.text < 65_536) }
     ensures fault { OnErr result (Rises (W.failed_calls writer.old) (W.failed_calls writer.new)) }
     ensures count { W.failed_calls writer.new ≡ count_after (is_err result) (W.failed_calls writer.old) }
 {
@@ -56,7 +60,7 @@ fn write_many<W: Sink>(lines: &mut ReplyLines, writer: &mut W) -> Result<(), Fai
 }
 
 /// Does the events in turn, as long as memory is found, and answers how many were done. What a transcript says of their replies
-/// was written, or waits.
+/// was written, or waits, and little of it waits.
 fn play_on<W: Sink>(
     alloc: Global,
     world: &mut World,
@@ -70,6 +74,7 @@ fn play_on<W: Sink>(
     ensures within { IfOk result (λ done. done ≤ length events.now) }
     ensures world { IfOk result (λ done. IsWorldAfter world.old events.now done world.new) }
     ensures told { IfOk result (λ done. IsTold (W.contents writer.old) (W.contents writer.new) lines.new.text world.old events.now done) }
+    ensures few { OnOk result (length lines.new.text < 65_536) }
     ensures prefix { OnErr result (AppendsPrefix (W.contents writer.old) (W.contents writer.new) (text_of world.old (events_of events.now))) }
     ensures fault { OnErr result (Rises (W.failed_calls writer.old) (W.failed_calls writer.new)) }
     ensures count { W.failed_calls writer.new ≡ count_after (is_err result) (W.failed_calls writer.old) }

@@ -22,6 +22,7 @@ loop-done-preserved g c =
       world_more c.args.world.now c.loop-done.world c.play_event.new.world events i _ within so.1 c.in-Ok.ensures.world,
       c.in_ok-write_many.ensures.count ∙ so.2,
       subst (IsHeldOf c.play_event.new.world) (sym c.write_many.ensures.held) c.in-Ok.ensures.held,
+      c.in_ok-write_many.ensures.few,
     )
 
 pub returns-in_default-clause-world : goal.returns-in_default-clause-world
