@@ -1,3 +1,4 @@
+pub mod CountedLines
 pub mod LineLaws
 pub mod ReadLaws
 pub mod SectionLaws

@@ -1,10 +1,11 @@
 -- Reading a text line by line, and the sections in it: what stands there, or the first fault.
-use Rattle.std.specs.Prelude.{ℕ, ◌+◌, Bool, nat_le, if◌then◌else◌, List, [], ◌∷◌, length, take, drop, Option, None, Result, Ok, Err, ok_or, codes}
+use Rattle.std.specs.Prelude.{◌≡◌, ℕ, ◌+◌, Bool, nat_le, if◌then◌else◌, List, [], ◌∷◌, length, take, drop, Option, None, Result, Ok, Err, ok_or, codes}
 use Rattle.std.specs.Str.{is_utf8}
 use Rattle.metering_model.specs.FirstFailure.{◌>>=◌, holds_or}
 use Rattle.metering_model.specs.BatchReading.{is_same, lines_in, whole_in}
 use Rattle.metering_model.specs.Schedule.{lines_text}
 use Rattle.metering_model.specs.Sheet as model
+use Rattle.metering_model.specs.Transcript.{line_count}
 use Rattle.price_sheet.specs.SheetReading.{sheet_of_text}
 use Rattle.sheet_text.specs.IssuerReading.{issuer_of_text}
 use Rattle.input_sections.specs.declared.faults.ScheduleCode.{ScheduleCode}
@@ -20,6 +21,10 @@ pub record Unread : Type 0 where
 
 abbrev pub left : Unread → List ℕ
 left u = drop u.from u.text
+
+-- The line is counted in the text: one more than the line feeds that stand before what is left.
+abbrev pub IsCounted : Unread → Type 0
+IsCounted u = u.line ≡ 1 + line_count (take u.from u.text)
 
 -- the lines that are left, without their line feeds
 abbrev pub lines_left : Unread → List (List ℕ)

@@ -1,7 +1,7 @@
 //! What is left of a text.
 
 ghost use Rattle.std.specs.Prelude.{◌≡◌, ◌≢◌, ◌+◌, ◌<◌, ◌≤◌, length, drop, true, false, IfOk, IfErr, MatchOption, MatchResult};
-ghost use Rattle.input_sections.specs.Sections.{begins_with, code_of_end, first_line, left, lines_left, section_of, whole_of};
+ghost use Rattle.input_sections.specs.Sections.{IsCounted, begins_with, code_of_end, first_line, left, lines_left, section_of, whole_of};
 
 use crate::faults::{ScheduleCode, ScheduleFault};
 use byte_text::{find_byte, is_same, lines_length};
@@ -21,7 +21,8 @@ pub struct Unread<'a> {
 }
 
 impl<'a> Model for Unread<'a> {
-    ghost use Rattle.std.specs.Prelude.{◌+◌, ◌≤◌, length};
+    ghost use Rattle.std.specs.Prelude.{◌≡◌, ◌+◌, ◌≤◌, length, take};
+    ghost use Rattle.metering_model.specs.Transcript.{line_count};
     ghost use Rattle.input_sections.specs.Sections as model;
 
     ghost Value = { model.Unread };
@@ -32,7 +33,8 @@ impl<'a> Model for Unread<'a> {
       line = u.line;
     } };
 
-    ghost invariant = { λ u. (length u.text.now ≤ 16_777_216) × (u.from ≤ length u.text.now) × (u.line ≤ u.from + 1) };
+    ghost invariant = { λ u. (length u.text.now ≤ 16_777_216) × (u.from ≤ length u.text.now) × (u.line ≤ u.from + 1)
+        × (u.line ≡ 1 + line_count (take u.from u.text.now)) };
 }
 
 impl<'a> Unread<'a> {
@@ -69,9 +71,10 @@ impl<'a> Unread<'a> {
         self.from
     }
 
-    /// The line that comes next.
+    /// The line that comes next: one more than the line feeds that stand before what is left.
     pub fn line(&self) -> u32
-        ensures { result ≡ self.now.line }
+        ensures value { result ≡ self.now.line }
+        ensures counted { IsCounted self.now }
     {
         self.line
     }
