@@ -9,3 +9,4 @@ pub mod NodeLines
 pub mod WrittenSchedules
 pub mod WorkedFaults
 pub mod PreambleLaws
+pub mod CountedEvents
