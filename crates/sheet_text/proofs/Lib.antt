@@ -3,3 +3,7 @@ pub mod Texts
 pub mod KeyLaws
 pub mod RowLaws
 pub mod Chains
+pub mod WorkedSteps
+mod WorkedRows
+mod WorkedRowFaults
+mod WorkedIssuers
