@@ -7,3 +7,5 @@ pub mod IndexLaws
 pub mod LookLaws
 pub mod IdLaws
 pub mod BlankLaws
+pub mod WorkedSheets
+mod WorkedSheetFaults
