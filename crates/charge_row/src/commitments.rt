@@ -11,10 +11,10 @@ use rating::Commitment;
 
 /// The columns that the commitment gives.
 #[derive(Clone, Copy)]
-struct CommitmentColumns<'a> {
-    category: Option<&'a [u8]>,
-    id: Option<&'a [u8]>,
-    kind: Option<&'a [u8]>,
+pub(crate) struct CommitmentColumns<'a> {
+    pub(crate) category: Option<&'a [u8]>,
+    pub(crate) id: Option<&'a [u8]>,
+    pub(crate) kind: Option<&'a [u8]>,
 }
 
 pub(crate) fn commitment_columns<'a>(commitment: Option<&'a Commitment>) -> CommitmentColumns<'a>

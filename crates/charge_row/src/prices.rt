@@ -12,15 +12,15 @@ use rating::{Issuer, PriceRow};
 
 /// The columns that the price in force gives.
 #[derive(Clone, Copy)]
-struct PriceColumns<'a> {
-    description: &'a [u8],
-    service: &'a [u8],
-    service_category: &'a [u8],
-    sku: Option<&'a [u8]>,
-    price_id: Option<&'a [u8]>,
-    pricing_unit: Option<&'a [u8]>,
-    list: Option<Price>,
-    contracted: Option<Price>,
+pub(crate) struct PriceColumns<'a> {
+    pub(crate) description: &'a [u8],
+    pub(crate) service: &'a [u8],
+    pub(crate) service_category: &'a [u8],
+    pub(crate) sku: Option<&'a [u8]>,
+    pub(crate) price_id: Option<&'a [u8]>,
+    pub(crate) pricing_unit: Option<&'a [u8]>,
+    pub(crate) list: Option<Price>,
+    pub(crate) contracted: Option<Price>,
 }
 
 pub(crate) fn price_columns<'a>(
