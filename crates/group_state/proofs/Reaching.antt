@@ -62,4 +62,5 @@ limits_here w h =
       room = limits.room;
       each_packet = limits.each_packet;
       each_node = limits.each_node;
+      each_observer = limits.each_observer;
     }
