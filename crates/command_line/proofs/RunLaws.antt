@@ -34,7 +34,7 @@ use Rattle.command_line.specs.declared.commands.Command.TheVariants.{Rate, Play 
 use Rattle.command_line.specs.declared.endings.Fault.{Fault}
 use Rattle.command_line.specs.declared.endings.Fault.TheVariants.{Line, Play, Faults, File, Threads}
 use Rattle.command_line.specs.Endings.{Tells, ending_line, status_of}
-use Rattle.command_line.specs.Runs.{AsksFor, Ends, IsDone, IsLeftBy, IsPlayedInPart, IsUnwritten, Refuses, SaysOf, words_behind_name}
+use Rattle.command_line.specs.Runs.{AsksFor, Ends, IsDone, IsDoneInPart, IsLeftBy, IsPlayedInPart, IsUnwritten, Refuses, SaysOf, words_behind_name}
 use Rattle.command_line.specs.Inner.Outcomes.{ComesTo, IsEnding, IsKept, Leaves}
 use Rattle.command_line.proofs.WordLaws.{asks_for_threads}
 
@@ -48,23 +48,23 @@ abbrev pub not_run : ThreadsFault → Result (Unit {0}) ThreadsFault
 not_run fault = Err fault
 
 -- one call failed, of the reader or of the writer, and the line tells of which
-abbrev IsDevice : Type 0 → (line : List ℕ) → (reads reads' writes writes' : ℕ) → Type 0
-IsDevice Same line reads reads' writes writes' =
-    ((line ≡ ending_line (Play play.Read)) × (reads' ≡ next_count reads) × Same)
-    ⊎ ((line ≡ ending_line (Play play.Write)) × (writes' ≡ next_count writes) × (reads' ≡ reads))
+abbrev IsDevice : (Same Part : Type 0) → (line : List ℕ) → (reads reads' writes writes' : ℕ) → Type 0
+IsDevice Same Part line reads reads' writes writes' =
+    ((line ≡ ending_line (Play play.Read)) × (reads' ≡ next_count reads) × (writes' ≡ writes) × Same)
+    ⊎ ((line ≡ ending_line (Play play.Write)) × (writes' ≡ next_count writes) × (reads' ≡ reads) × Part)
 
 -- ---- `rate` and `play`
 
-is_device : (Same : Type 0) (fault : PlayFault) (reads reads' writes writes' : ℕ)
+is_device : (Same Part : Type 0) (fault : PlayFault) (reads reads' writes writes' : ℕ)
     → reads' ≡ count_after (tells_of_reader (failed fault)) reads → writes' ≡ count_after (tells_of_writer (failed fault)) writes
-    → (fault ≢ play.Write → fault ≢ play.OutOfMemory → Same) → status_of (Play fault) ≡ 3
-    → IsDevice Same (ending_line (Play fault)) reads reads' writes writes'
-is_device Same play.Read reads reads' writes writes' read wrote same three = inl (refl, read, same (λ is. absurd (cc)) (λ is. absurd (cc)))
-is_device Same play.Write reads reads' writes writes' read wrote same three = inr (refl, wrote, read)
-is_device Same play.OutOfMemory reads reads' writes writes' read wrote same three = absurd (cc)
-is_device Same (play.Refused refusal) reads reads' writes writes' read wrote same three = absurd (cc)
-is_device Same (play.Schedule (section.Refused code line)) reads reads' writes writes' read wrote same three = absurd (cc)
-is_device Same (play.Schedule section.OutOfMemory) reads reads' writes writes' read wrote same three = absurd (cc)
+    → (fault ≢ play.Write → fault ≢ play.OutOfMemory → Same) → (fault ≡ play.Write → Part) → status_of (Play fault) ≡ 3
+    → IsDevice Same Part (ending_line (Play fault)) reads reads' writes writes'
+is_device Same Part play.Read reads reads' writes writes' read wrote same part three = inl (refl, read, wrote, same (λ is. absurd (cc)) (λ is. absurd (cc)))
+is_device Same Part play.Write reads reads' writes writes' read wrote same part three = inr (refl, wrote, read, part refl)
+is_device Same Part play.OutOfMemory reads reads' writes writes' read wrote same part three = absurd (cc)
+is_device Same Part (play.Refused refusal) reads reads' writes writes' read wrote same part three = absurd (cc)
+is_device Same Part (play.Schedule (section.Refused code line)) reads reads' writes writes' read wrote same part three = absurd (cc)
+is_device Same Part (play.Schedule section.OutOfMemory) reads reads' writes writes' read wrote same part three = absurd (cc)
 
 is_calm : (fault : PlayFault) (reads reads' writes writes' : ℕ)
     → reads' ≡ count_after (tells_of_reader (failed fault)) reads → writes' ≡ count_after (tells_of_writer (failed fault)) writes
@@ -116,13 +116,14 @@ pub comes_to : {W : Type 0} (sink : SinkOf W) (command : Command) (fault : PlayF
     → (status_of (Play fault) ≡ 1 → writer' ≡ writer → IsLeftBy sink command (Play fault) known writer writer')
     → fault ≢ play.Schedule section.OutOfMemory
     → (fault ≡ play.OutOfMemory → (writer' ≡ writer) ⊎ ((command ≡ PlaySchedule) × IsPlayedInPart known (sink.contents writer) (sink.contents writer')))
+    → (fault ≡ play.Write → IsDoneInPart command known (sink.contents writer) (sink.contents writer'))
     → ComesTo sink command (Play fault) known reads reads' writer writer'
-comes_to sink command fault known reads reads' writer writer' read wrote same refused left plain part =
+comes_to sink command fault known reads reads' writer writer' read wrote same refused left plain part cut =
     let kept : fault ≢ play.Write → fault ≢ play.OutOfMemory → IsKept sink command known writer writer' = λ no_write no_memory. inl (same no_write no_memory) in
     record {
       understood = is_no_line fault;
       refused = λ one. (refused one, left one (at_1 (writer' ≡ writer) fault same one));
-      device = is_device (IsKept sink command known writer writer') fault _ _ _ _ read wrote kept;
+      device = is_device (IsKept sink command known writer writer') (IsDoneInPart command known (sink.contents writer) (sink.contents writer')) fault _ _ _ _ read wrote kept cut;
       calm = is_calm fault _ _ _ _ read wrote;
       unwritten = λ not_3 not_4. inl (but_at_3_and_4 (IsKept sink command known writer writer') fault kept not_3 not_4);
       part = λ four. part_kept (part (only_memory fault plain four));
@@ -167,15 +168,15 @@ file_no_line file.Read two = absurd (cc)
 file_no_line file.Write two = absurd (cc)
 file_no_line file.OutOfMemory two = absurd (cc)
 
-file_device : (Same : Type 0) (fault : FileFault) (reads reads' writes writes' : ℕ)
+file_device : (Same Part : Type 0) (fault : FileFault) (reads reads' writes writes' : ℕ)
     → reads' ≡ count_after (file_read (not_cut fault)) reads → writes' ≡ count_after (file_wrote (not_cut fault)) writes
-    → Same → status_of (File fault) ≡ 3 → IsDevice Same (ending_line (File fault)) reads reads' writes writes'
-file_device Same file.NoFile reads reads' writes writes' read wrote same three = absurd (cc)
-file_device Same file.Torn reads reads' writes writes' read wrote same three = absurd (cc)
-file_device Same file.TooLong reads reads' writes writes' read wrote same three = absurd (cc)
-file_device Same file.Read reads reads' writes writes' read wrote same three = inl (refl, read, same)
-file_device Same file.Write reads reads' writes writes' read wrote same three = inr (refl, wrote, read)
-file_device Same file.OutOfMemory reads reads' writes writes' read wrote same three = absurd (cc)
+    → Same → Part → status_of (File fault) ≡ 3 → IsDevice Same Part (ending_line (File fault)) reads reads' writes writes'
+file_device Same Part file.NoFile reads reads' writes writes' read wrote same part three = absurd (cc)
+file_device Same Part file.Torn reads reads' writes writes' read wrote same part three = absurd (cc)
+file_device Same Part file.TooLong reads reads' writes writes' read wrote same part three = absurd (cc)
+file_device Same Part file.Read reads reads' writes writes' read wrote same part three = inl (refl, read, wrote, same)
+file_device Same Part file.Write reads reads' writes writes' read wrote same part three = inr (refl, wrote, read, part)
+file_device Same Part file.OutOfMemory reads reads' writes writes' read wrote same part three = absurd (cc)
 
 file_calm : (fault : FileFault) (reads reads' writes writes' : ℕ)
     → reads' ≡ count_after (file_read (not_cut fault)) reads → writes' ≡ count_after (file_wrote (not_cut fault)) writes
@@ -211,7 +212,7 @@ file_comes_to sink period fault known reads reads' writer writer' read wrote non
     record {
       understood = file_no_line fault;
       refused = λ one. (refused one, file_left sink period fault known writer writer' none torn front one);
-      device = file_device (IsKept sink (CutFile period) known writer writer') fault _ _ _ _ read wrote kept;
+      device = file_device (IsKept sink (CutFile period) known writer writer') (AppendsFront known period (sink.contents writer) (sink.contents writer')) fault _ _ _ _ read wrote kept front;
       calm = file_calm fault _ _ _ _ read wrote;
       unwritten = λ not_3 not_4. inl kept;
       part = λ four. inl kept;
@@ -225,13 +226,13 @@ threads_no_line threads.Refused two = absurd (cc)
 threads_no_line (threads.Run of_run.OutOfMemory) two = absurd (cc)
 threads_no_line (threads.Run of_run.Mismatch) two = absurd (cc)
 
-threads_device : (Same : Type 0) (fault : ThreadsFault) (reads writes writes' : ℕ)
-    → writes' ≡ count_after (threads_wrote (not_run fault)) writes → status_of (Threads fault) ≡ 3
-    → IsDevice Same (ending_line (Threads fault)) reads reads writes writes'
-threads_device Same threads.Write reads writes writes' wrote three = inr (refl, wrote, refl)
-threads_device Same threads.Refused reads writes writes' wrote three = absurd (cc)
-threads_device Same (threads.Run of_run.OutOfMemory) reads writes writes' wrote three = absurd (cc)
-threads_device Same (threads.Run of_run.Mismatch) reads writes writes' wrote three = absurd (cc)
+threads_device : (Same Part : Type 0) (fault : ThreadsFault) (reads writes writes' : ℕ)
+    → writes' ≡ count_after (threads_wrote (not_run fault)) writes → (fault ≡ threads.Write → Part) → status_of (Threads fault) ≡ 3
+    → IsDevice Same Part (ending_line (Threads fault)) reads reads writes writes'
+threads_device Same Part threads.Write reads writes writes' wrote part three = inr (refl, wrote, refl, part refl)
+threads_device Same Part threads.Refused reads writes writes' wrote part three = absurd (cc)
+threads_device Same Part (threads.Run of_run.OutOfMemory) reads writes writes' wrote part three = absurd (cc)
+threads_device Same Part (threads.Run of_run.Mismatch) reads writes writes' wrote part three = absurd (cc)
 
 threads_calm : (fault : ThreadsFault) (writes writes' : ℕ) → writes' ≡ count_after (threads_wrote (not_run fault)) writes
     → status_of (Threads fault) ≢ 3 → writes' ≡ writes
@@ -258,11 +259,12 @@ threads_refused Sheet (threads.Run of_run.Mismatch) sheet one = inl refl
 pub threads_come_to : {W : Type 0} (sink : SinkOf W) (size : Size) (fault : ThreadsFault) (known : Option (List ℕ)) (reads : ℕ) (writer writer' : W)
     → sink.failed_calls writer' ≡ count_after (threads_wrote (not_run fault)) (sink.failed_calls writer)
     → (fault ≢ threads.Write → writer' ≡ writer) → (fault ≡ threads.Refused → IsSheetRefused)
+    → (fault ≡ threads.Write → IsDoneInPart (RunThreads size) known (sink.contents writer) (sink.contents writer'))
     → ComesTo sink (RunThreads size) (Threads fault) known reads reads writer writer'
-threads_come_to sink size fault known reads writer writer' wrote same sheet = record {
+threads_come_to sink size fault known reads writer writer' wrote same sheet cut = record {
   understood = threads_no_line fault;
   refused = λ one. (threads_refused IsSheetRefused fault sheet one, same (not_write fault (not_3_at (status_of (Threads fault)) 1 one (λ is. omega (arith, is)))));
-  device = threads_device (IsKept sink (RunThreads size) known writer writer') fault _ _ _ wrote;
+  device = threads_device (IsKept sink (RunThreads size) known writer writer') (IsDoneInPart (RunThreads size) known (sink.contents writer) (sink.contents writer')) fault _ _ _ wrote cut;
   calm = λ other. (refl, threads_calm fault _ _ wrote other);
   unwritten = λ not_3 not_4. inl (inl (same (not_write fault not_3)));
   part = λ four. inl (inl (same (not_write fault (not_3_at (status_of (Threads fault)) 4 four (λ is. omega (arith, is))))));
@@ -293,11 +295,12 @@ tells_memory Told (Threads (threads.Run of_run.OutOfMemory)) four told = told
 tells_memory Told (Threads (threads.Run of_run.Mismatch)) four told = absurd (cc)
 
 -- which of the two failed is told
-tells_device : (Told : List ℕ → Type 0) (Same : Type 0) (line : List ℕ) (reads reads' writes writes' : ℕ)
-    → IsDevice Same line reads reads' writes writes' → Told line
-    → ((reads' ≡ next_count reads) × Same × Told (ending_line (Play play.Read))) ⊎ (((writes' ≡ next_count writes) × (reads' ≡ reads)) × Told (ending_line (Play play.Write)))
-tells_device Told Same line reads reads' writes writes' (inl is) told = inl (is.1, is.2, subst Told is.0 told)
-tells_device Told Same line reads reads' writes writes' (inr is) told = inr ((is.1, is.2), subst Told is.0 told)
+tells_device : (Told : List ℕ → Type 0) (Same Part : Type 0) (line : List ℕ) (reads reads' writes writes' : ℕ)
+    → IsDevice Same Part line reads reads' writes writes' → Told line
+    → (((reads' ≡ next_count reads) × (writes' ≡ writes)) × Same × Told (ending_line (Play play.Read)))
+    ⊎ (((writes' ≡ next_count writes) × (reads' ≡ reads)) × Part × Told (ending_line (Play play.Write)))
+tells_device Told Same Part line reads reads' writes writes' (inl is) told = inl ((is.1, is.2), is.3, subst Told is.0 told)
+tells_device Told Same Part line reads reads' writes writes' (inr is) told = inr ((is.1, is.2), is.3, subst Told is.0 told)
 
 -- what is written of a file was asked for
 kept_of : (Same : Type 0) (Front : ℕ → Type 0) (Asked : Command → Type 0) (command : Command) → Asked command → Same ⊎ ((period : ℕ) × (command ≡ CutFile period) × Front period)
@@ -310,9 +313,10 @@ part_of : (Kept Unwritten Part : Type 0) (Asked : Command → Type 0) (one comma
 part_of Kept Unwritten Part Asked one command asked kept (inl same) = inl (kept same)
 part_of Kept Unwritten Part Asked one command asked kept (inr both) = inr (subst Asked both.0 asked, both.1)
 
-device_of : (Kept Unwritten : Type 0) (line : List ℕ) (reads reads' writes writes' : ℕ) → (Kept → Unwritten) → IsDevice Kept line reads reads' writes writes' → IsDevice Unwritten line reads reads' writes writes'
-device_of Kept Unwritten line reads reads' writes writes' kept (inl is) = inl (is.0, is.1, kept is.2)
-device_of Kept Unwritten line reads reads' writes writes' kept (inr is) = inr is
+device_of : (Kept Unwritten Part : Type 0) (line : List ℕ) (reads reads' writes writes' : ℕ) → (Kept → Unwritten)
+    → IsDevice Kept Part line reads reads' writes writes' → IsDevice Unwritten Part line reads reads' writes writes'
+device_of Kept Unwritten Part line reads reads' writes writes' kept (inl is) = inl (is.0, is.1, is.2, kept is.3)
+device_of Kept Unwritten Part line reads reads' writes writes' kept (inr is) = inr is
 
 -- what is done reads all, but where a group was asked for
 at_end_of : (Asked : Command → Type 0) (command : Command) (known left old new : Option (List ℕ)) → Asked command → IsDone command known left old new
@@ -409,6 +413,7 @@ ends source sink telling args command (Err fault) status reader reader' writer w
     let kept : IsKept sink command known writer writer' → IsUnwritten sink args known writer writer' =
     λ it. kept_of (writer' ≡ writer) (λ period. AppendsFront known period (sink.contents writer) (sink.contents writer')) (AsksFor args) command asked it in
     let told : List ℕ → Type 0 = λ line. (Appends (telling.contents errors) (telling.contents errors') line × (telling.failed_calls errors' ≡ telling.failed_calls errors)) ⊎ (AppendsPrefix (telling.contents errors) (telling.contents errors') line × (telling.failed_calls errors' ≡ next_count (telling.failed_calls errors))) in
+    let part : Type 0 = IsDoneInPart command known (sink.contents writer) (sink.contents writer') in
     record {
       range = let to = (in_range fault).1 in omega (arith, same, to);
       done = λ is. absurd (never_zero fault status same is);
@@ -420,8 +425,8 @@ ends source sink telling args command (Err fault) status reader reader' writer w
       device = λ is. (
         command,
         asked,
-        tells_device told (IsUnwritten sink args known writer writer') (ending_line fault) (source.failed_calls reader) (source.failed_calls reader') (sink.failed_calls writer) (sink.failed_calls writer')
-            (device_of (IsKept sink command known writer writer') (IsUnwritten sink args known writer writer') (ending_line fault) (source.failed_calls reader) (source.failed_calls reader') (sink.failed_calls writer) (sink.failed_calls writer') kept (leaves.device (sym same ∙ is))) ending.1,
+        tells_device told (IsUnwritten sink args known writer writer') part (ending_line fault) (source.failed_calls reader) (source.failed_calls reader') (sink.failed_calls writer) (sink.failed_calls writer')
+            (device_of (IsKept sink command known writer writer') (IsUnwritten sink args known writer writer') part (ending_line fault) (source.failed_calls reader) (source.failed_calls reader') (sink.failed_calls writer) (sink.failed_calls writer') kept (leaves.device (sym same ∙ is))) ending.1,
       );
       calm = λ other. leaves.calm (λ is. other (same ∙ is));
       memory = λ is. tells_memory told fault (sym same ∙ is) ending.1;

@@ -10,6 +10,7 @@ use Rattle.metering_model.specs.Transcript.{line_count}
 use Rattle.clap.specs.Words.{Text}
 use Rattle.counted_io.specs.Counts.{next_count}
 use Rattle.counted_io.specs.Reading.{ConsumesAtMost}
+use Rattle.counted_io.specs.Writing.{AppendsPrefix}
 use Rattle.counted_io.specs.declared.reading.Source.{Ghosts as SourceOf}
 use Rattle.counted_io.specs.declared.writing.Sink.{Ghosts as SinkOf}
 use Rattle.input_sections.specs.declared.faults.ScheduleFault.{ScheduleFault}
@@ -87,9 +88,18 @@ abbrev pub IsUnwritten : {W A B : Type 0} → SinkOf W → Result (IntoIter (Str
 IsUnwritten sink args known writer writer' =
     (writer' ≡ writer) ⊎ ((period : ℕ) × AsksFor args (File period) × AppendsFront known period (sink.contents writer) (sink.contents writer'))
 
--- One call of the reader failed.
-abbrev pub ReaderFailed : {R : Type 0} → SourceOf R → (reader reader' : R) → Type 0
-ReaderFailed source reader reader' = source.failed_calls reader' ≡ next_count (source.failed_calls reader)
+-- Of what is asked for a prefix was written that is not all of it, and nothing else; of a period's file a front, as far as the
+-- input has it.
+abbrev pub IsDoneInPart : Command → (known old new : Option (List ℕ)) → Type 0
+IsDoneInPart (Rate period) known old new = (input text : List ℕ) × IsFileOf known period input text × AppendsPrefix old new text
+IsDoneInPart Play known old new = (input text : List ℕ) × IsTranscriptOf known input text × AppendsPrefix old new text
+IsDoneInPart Check known old new = (input text : List ℕ) × IsSaidOf known input text × AppendsPrefix old new text
+IsDoneInPart (File period) known old new = AppendsFront known period old new
+IsDoneInPart (Threads size) known old new = (run : Run) × IsRunOf size run × AppendsPrefix old new (report_text run)
+
+-- One call of the reader failed, and none of the writer.
+abbrev pub ReaderFailed : {R W : Type 0} → SourceOf R → SinkOf W → (reader reader' : R) (writer writer' : W) → Type 0
+ReaderFailed source sink reader reader' writer writer' = (source.failed_calls reader' ≡ next_count (source.failed_calls reader)) × (sink.failed_calls writer' ≡ sink.failed_calls writer)
 
 -- One call of the writer failed, and none of the reader.
 abbrev pub WriterFailed : {R W : Type 0} → SourceOf R → SinkOf W → (reader reader' : R) (writer writer' : W) → Type 0
@@ -108,10 +118,11 @@ pub record Ends {R W E A B : Type 0} (source : SourceOf R) (sink : SinkOf W) (te
   -- 2: nothing was asked for.
   pub not_asked : status ≡ 2 → ((command : Command) → ¬ AsksFor args command) × Tells telling (of_fault.Line on_line.Line) errors errors'
   pub untouched : status ≡ 2 → reader' ≡ reader
-  -- 3: one call failed, and no other.
+  -- 3: one call failed, and no other; where it was the writer's, just a prefix of what is asked for was written.
   pub device : status ≡ 3 → (command : Command) × AsksFor args command
-      × ((ReaderFailed source reader reader' × IsUnwritten sink args (source.remaining reader) writer writer' × Tells telling (of_fault.Play play.Read) errors errors')
-      ⊎ (WriterFailed source sink reader reader' writer writer' × Tells telling (of_fault.Play play.Write) errors errors'))
+      × ((ReaderFailed source sink reader reader' writer writer' × IsUnwritten sink args (source.remaining reader) writer writer' × Tells telling (of_fault.Play play.Read) errors errors')
+      ⊎ (WriterFailed source sink reader reader' writer writer' × IsDoneInPart command (source.remaining reader) (sink.contents writer) (sink.contents writer')
+      × Tells telling (of_fault.Play play.Write) errors errors'))
   pub calm : status ≢ 3 → (source.failed_calls reader' ≡ source.failed_calls reader) × (sink.failed_calls writer' ≡ sink.failed_calls writer)
   -- 4: memory was wanting; a schedule may have been played up to some event, or a file written up to some byte.
   pub memory : status ≡ 4 → Tells telling (of_fault.Play play.OutOfMemory) errors errors'

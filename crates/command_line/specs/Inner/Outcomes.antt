@@ -5,7 +5,7 @@ use Rattle.counted_io.specs.declared.writing.Sink.{Ghosts as SinkOf}
 use Rattle.schedule_player.specs.declared.PlayFault.TheVariants as play
 use Rattle.period_file.specs.Files.{AppendsFront}
 use Rattle.command_line.specs.Endings.{Tells, ending_line, status_of}
-use Rattle.command_line.specs.Runs.{IsDone, IsLeftBy, IsPlayedInPart, Refuses, SaysOf}
+use Rattle.command_line.specs.Runs.{IsDone, IsDoneInPart, IsLeftBy, IsPlayedInPart, Refuses, SaysOf}
 use Rattle.command_line.specs.declared.commands.Command.{Command}
 use Rattle.command_line.specs.declared.commands.Command.TheVariants.{Play, Check, File}
 use Rattle.command_line.specs.declared.endings.Fault.{Fault}
@@ -26,8 +26,9 @@ pub record ComesTo {W : Type 0} (sink : SinkOf W) (command : Command) (fault : F
   pub understood : status_of fault ≢ 2
   pub refused : status_of fault ≡ 1 → Refuses command known fault × IsLeftBy sink command fault known writer writer'
   pub device : status_of fault ≡ 3
-      → ((ending_line fault ≡ ending_line (of_fault.Play play.Read)) × (reads' ≡ next_count reads) × IsKept sink command known writer writer')
-      ⊎ ((ending_line fault ≡ ending_line (of_fault.Play play.Write)) × (sink.failed_calls writer' ≡ next_count (sink.failed_calls writer)) × (reads' ≡ reads))
+      → ((ending_line fault ≡ ending_line (of_fault.Play play.Read)) × (reads' ≡ next_count reads) × (sink.failed_calls writer' ≡ sink.failed_calls writer) × IsKept sink command known writer writer')
+      ⊎ ((ending_line fault ≡ ending_line (of_fault.Play play.Write)) × (sink.failed_calls writer' ≡ next_count (sink.failed_calls writer)) × (reads' ≡ reads)
+      × IsDoneInPart command known (sink.contents writer) (sink.contents writer'))
   pub calm : status_of fault ≢ 3 → (reads' ≡ reads) × (sink.failed_calls writer' ≡ sink.failed_calls writer)
   pub unwritten : status_of fault ≢ 3 → status_of fault ≢ 4
       → IsKept sink command known writer writer' ⊎ ((command ≡ Check) × SaysOf known (sink.contents writer) (sink.contents writer'))

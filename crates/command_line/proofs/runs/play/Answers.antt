@@ -31,3 +31,4 @@ returns-in-Err-clause-outcome g c =
     (λ one same. same)
     (λ is. told.plain_memory (ap Err is))
     (λ is. inr (refl, told.memory (ap Err is)))
+    (λ is. told.prefix (ap Err is))

@@ -35,3 +35,4 @@ returns-in-Err-clause-outcome g c =
     (λ one same. same)
     (λ is. told.plain_memory (ap Err is))
     (λ is. inl (told.untouched (λ write. absurd (cc))))
+    (λ is. told.prefix (ap Err is))
