@@ -3,3 +3,4 @@ pub mod LineLaws
 pub mod ReadLaws
 pub mod SectionLaws
 pub mod ToldLaws
+mod WorkedInputs
