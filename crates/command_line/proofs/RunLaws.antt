@@ -31,8 +31,8 @@ use Rattle.command_line.specs.declared.words.LineFault.{LineFault}
 use Rattle.command_line.specs.declared.words.LineFault.TheVariants as on_line
 use Rattle.command_line.specs.declared.commands.Command.{Command}
 use Rattle.command_line.specs.declared.commands.Command.TheVariants.{Rate, Play as PlaySchedule, Check, File as CutFile, Threads as RunThreads}
-use Rattle.command_line.specs.declared.endings.Fault.{Fault}
-use Rattle.command_line.specs.declared.endings.Fault.TheVariants.{Line, Play, Faults, File, Threads}
+use Rattle.command_line.specs.declared.statuses.Fault.{Fault}
+use Rattle.command_line.specs.declared.statuses.Fault.TheVariants.{Line, Play, Faults, File, Threads}
 use Rattle.command_line.specs.Endings.{Tells, ending_line, status_of}
 use Rattle.command_line.specs.Runs.{AsksFor, Ends, IsDone, IsDoneInPart, IsLeftBy, IsPlayedInPart, IsUnwritten, Refuses, SaysOf, words_behind_name}
 use Rattle.command_line.specs.Inner.Outcomes.{ComesTo, IsEnding, IsKept, Leaves}

@@ -13,8 +13,8 @@ use Rattle.period_file.specs.declared.faults.FileFault.TheVariants as file
 use Rattle.threads_player.specs.declared.RunFault.TheVariants as of_run
 use Rattle.threads_player.specs.declared.faults.ThreadsFault.TheVariants as threads
 use Rattle.input_check.specs.Words.{section_text}
-use Rattle.command_line.specs.declared.endings.Fault.{Fault}
-use Rattle.command_line.specs.declared.endings.Fault.TheVariants.{Line, Play, Faults, File, Threads}
+use Rattle.command_line.specs.declared.statuses.Fault.{Fault}
+use Rattle.command_line.specs.declared.statuses.Fault.TheVariants.{Line, Play, Faults, File, Threads}
 
 -- 1 refused input, no whole file or a mismatch, 2 the command line, 3 a failed read or write, 4 want of memory
 abbrev pub status_of : Fault → ℕ

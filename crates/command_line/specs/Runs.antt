@@ -33,8 +33,8 @@ use Rattle.threads_player.specs.Runs.{IsRunOf, IsSheetRefused}
 use Rattle.command_line.specs.CommandLine.{Asks}
 use Rattle.command_line.specs.Endings.{Tells, status_of}
 use Rattle.command_line.specs.declared.words.LineFault.TheVariants as on_line
-use Rattle.command_line.specs.declared.endings.Fault.{Fault}
-use Rattle.command_line.specs.declared.endings.Fault.TheVariants as of_fault
+use Rattle.command_line.specs.declared.statuses.Fault.{Fault}
+use Rattle.command_line.specs.declared.statuses.Fault.TheVariants as of_fault
 use Rattle.command_line.specs.declared.commands.Command.{Command}
 use Rattle.command_line.specs.declared.commands.Command.TheVariants.{Rate, Play, Check, File, Threads}
 

@@ -3,14 +3,14 @@
 #![tactic(auto)]
 
 mod commands;
-mod endings;
 mod runs;
+mod statuses;
 mod words;
 
 pub use commands::Command;
-pub use endings::{Fault, ending};
 pub use period_file::{FileFault, file_text};
 pub use runs::{run, run_alone};
 pub use schedule_player::{PlayFault, ScheduleCode, ScheduleFault, play_text, rate_text};
+pub use statuses::{Fault, ending};
 pub use threads_player::{RunFault, Size, ThreadsFault};
 pub use words::{LineFault, command};

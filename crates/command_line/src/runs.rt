@@ -11,7 +11,7 @@ ghost use Rattle.command_line.specs.Runs.{AsksFor, Ends, words_behind_name};
 ghost use Rattle.command_line.specs.Inner.Outcomes.{IsEnding, Leaves};
 
 use crate::commands::Command;
-use crate::endings::{Fault, ending};
+use crate::statuses::{Fault, ending};
 use crate::words::{LineFault, command};
 use counted_io::{Sink, Source};
 use input_check::check_text;

@@ -2,9 +2,9 @@
 #![tactic(auto)]
 
 mod events;
-mod lines;
 mod play;
 mod playing;
+mod reply_lines;
 mod words;
 
 pub use batch_player::{PlayFault, file_between, rate_batch, rate_text};

@@ -12,7 +12,7 @@ ghost use Rattle.schedule_player.specs.Inner.Held.{IsHeldOf};
 ghost use Rattle.schedule_player.specs.Inner.Playing.{IsTold, IsWorldAfter, events_of, text_of};
 
 use crate::events::event_of;
-use crate::lines::ReplyLines;
+use crate::reply_lines::ReplyLines;
 use counted_io::{Failed, Sink};
 use group_core::World;
 use schedule_reader::Planned;

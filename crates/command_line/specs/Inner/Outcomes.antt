@@ -8,8 +8,8 @@ use Rattle.command_line.specs.Endings.{Tells, ending_line, status_of}
 use Rattle.command_line.specs.Runs.{IsDone, IsDoneInPart, IsLeftBy, IsPlayedInPart, Refuses, SaysOf}
 use Rattle.command_line.specs.declared.commands.Command.{Command}
 use Rattle.command_line.specs.declared.commands.Command.TheVariants.{Play, Check, File}
-use Rattle.command_line.specs.declared.endings.Fault.{Fault}
-use Rattle.command_line.specs.declared.endings.Fault.TheVariants as of_fault
+use Rattle.command_line.specs.declared.statuses.Fault.{Fault}
+use Rattle.command_line.specs.declared.statuses.Fault.TheVariants as of_fault
 
 -- The command was done: of the reader are what was known and left, and how many calls failed, of the writer all.
 pub record Does {W : Type 0} (sink : SinkOf W) (command : Command) (known left : Option (List ℕ)) (reads reads' : ℕ) (writer writer' : W) : Type 0 where

@@ -3,7 +3,7 @@ use Rattle.period_file.specs.declared.faults.FileFault.{FileFault}
 use Rattle.period_file.specs.declared.faults.FileFault.TheVariants as file
 use Rattle.period_file.specs.Files.{IsRefusal, file_in}
 use Rattle.command_line.specs.declared.commands.Command.TheVariants.{File as CutFile}
-use Rattle.command_line.specs.declared.endings.Fault.TheVariants.{File}
+use Rattle.command_line.specs.declared.statuses.Fault.TheVariants.{File}
 use Rattle.command_line.specs.Endings.{status_of}
 use Rattle.command_line.specs.Runs.{Refuses}
 use Rattle.command_line.proofs.RunLaws.{file_comes_to}

@@ -5,7 +5,7 @@ use Rattle.schedule_player.specs.Schedules.{schedule_in}
 use Rattle.schedule_player.specs.declared.PlayFault.{PlayFault}
 use Rattle.schedule_player.specs.declared.PlayFault.TheVariants as play
 use Rattle.command_line.specs.declared.commands.Command.TheVariants.{Play as PlaySchedule}
-use Rattle.command_line.specs.declared.endings.Fault.TheVariants.{Play}
+use Rattle.command_line.specs.declared.statuses.Fault.TheVariants.{Play}
 use Rattle.command_line.specs.Endings.{status_of}
 use Rattle.command_line.specs.Runs.{Refuses}
 use Rattle.command_line.proofs.RunLaws.{comes_to}

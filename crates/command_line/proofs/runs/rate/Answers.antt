@@ -5,7 +5,7 @@ use Rattle.schedule_player.specs.declared.PlayFault.{PlayFault}
 use Rattle.schedule_player.specs.declared.PlayFault.TheVariants as play
 use Rattle.schedule_player.specs.RateInput.{rated_file}
 use Rattle.command_line.specs.declared.commands.Command.TheVariants.{Rate}
-use Rattle.command_line.specs.declared.endings.Fault.TheVariants.{Play}
+use Rattle.command_line.specs.declared.statuses.Fault.TheVariants.{Play}
 use Rattle.command_line.specs.Endings.{status_of}
 use Rattle.command_line.proofs.RunLaws.{comes_to}
 use Rattle.command_line.proofs.runs.rate.Goals as goal

@@ -2,7 +2,7 @@ use Rattle.std.proofs.Common.{◌≡◌, ◌++◌, rules, subst}
 use Rattle.counted_io.specs.Writing.{AppendsPrefix}
 use Rattle.counted_io.proofs.Prefixes.{prefix_behind}
 use Rattle.schedule_player.proofs.Results.{on_err}
-use Rattle.schedule_player.proofs.lines.ReplyLines.write.Goals as goal
+use Rattle.schedule_player.proofs.reply_lines.ReplyLines.write.Goals as goal
 
 pub returns-in_err-write_all-2-clause-prefix : goal.returns-in_err-write_all-2-clause-prefix
 returns-in_err-write_all-2-clause-prefix g c =

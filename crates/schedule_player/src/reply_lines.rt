@@ -1,4 +1,4 @@
-//! The lines of replies that wait to be written.
+//! The lines of replies that wait to be written. An export that comes next after one of the same period is not rendered again.
 
 ghost use Rattle.std.specs.Prelude.{◌≡◌, ◌↔◌, ◌≤◌, ◌++◌, [], false, length, None, IsTrue, OnOk, OnErr, is_err};
 ghost use Rattle.std.specs.Io.KnownBytes.{Appends};

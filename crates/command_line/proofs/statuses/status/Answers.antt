@@ -1,5 +1,5 @@
 use Rattle.std.proofs.Common.{rules}
-use Rattle.command_line.proofs.endings.status.Goals as goal
+use Rattle.command_line.proofs.statuses.status.Goals as goal
 
 pub returns-in-Play-Read : goal.returns-in-Play-Read
 returns-in-Play-Read c = search rules

@@ -1,4 +1,4 @@
-//! How the program ends at a fault: its line on standard error, and its status.
+//! How the program ends at a fault: its exit status, and its line on standard error.
 
 ghost use Rattle.std.specs.Prelude.{◌≡◌, ◌+◌, ◌≤◌, ◌++◌, length};
 ghost use Rattle.command_line.specs.Endings.{Tells, ending_line, message_of, status_of};
