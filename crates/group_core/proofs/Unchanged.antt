@@ -1,5 +1,6 @@
--- What a refused event, an answered export and a kept text leave: the world as it was.
-use Rattle.std.proofs.Common.{◌≡◌, ℕ, true, false, Option, Some, None, Result, Ok, Err, IfOk, refl, sym, subst, nat_lt, nat_le, ok_or}
+-- What a refused event, an answered export and a kept text leave: the world as it was. And what a revival from another text is
+-- answered.
+use Rattle.std.proofs.Common.{◌≡◌, ℕ, true, false, Option, Some, None, Result, Ok, Err, IfOk, refl, sym, ap, ◌∙◌, subst, nat_lt, nat_le, ok_or}
 use Rattle.std.specs.Prelude.{◌==◌, slice_get}
 use Rattle.metering_model.specs.FirstFailure.{◌>>=◌, holds_or}
 use Rattle.metering_model.specs.declared.Refusal.{Refusal}
@@ -9,9 +10,11 @@ use Rattle.metering_model.specs.BatchReading.{batch_in, is_same}
 use Rattle.metering_model.specs.Holding.{placed, put}
 use Rattle.metering_model.specs.JournalRules.{next_seq, first_broken}
 use Rattle.metering_model.specs.KeptText.{kept_text}
-use Rattle.metering_model.specs.World.{World, Packet, Offer, Good, Bad, Event, Journal, Deliver, Start, Restart, Export, Keep, Revive, KeptOffer, Reply, Delivered, votes, current_period, next_packet, with_node_at, with_packet}
+use Rattle.metering_model.specs.World.{World, Node, Packet, Offer, Good, Bad, Event, Journal, Deliver, Start, Restart, Export, Keep, Revive, KeptOffer, KeptGood, Reply, Delivered, Refused, votes, current_period, next_packet, with_node_at, with_packet}
 use Rattle.metering_model.specs.Deliveries.{Handled, handled}
 use Rattle.metering_model.specs.Step.{Outcome, on_batch, on_journal, on_delivery, on_start, on_restart, on_export, on_keep, on_revival, after_delivery, or_refused, or_bad_batch, unless_broken, snapshot, kept_now, kept_of, outcome_of, step}
+use Rattle.group_laws.specs.Revivals.{refusal_of_other}
+use Rattle.group_laws.proofs.Revivals.{other_is_refused}
 use Rattle.group_state.specs.Words.{is_exported, is_kept_text, is_refused}
 
 record LeavesAsItWas (w : World) (r : Result Outcome Refusal) : Type 0 where
@@ -103,3 +106,11 @@ module _ {R E : Type 0} (meaning : R → Reply) (w u : World) (e : Event) where
   pub if_kept : (result : Result R E) → IfOk result (λ r. (meaning r, u) ≡ step w e) → IfOk result (λ r. is_kept_text (meaning r) ≡ true → u ≡ w)
   if_kept (Ok r) done = subst (λ (o : Outcome). is_kept_text o.0 ≡ true → o.1 ≡ w) (sym done) (outcome_leaves w e).kept
   if_kept (Err why) done = tt
+
+  -- an offer that is not the text of what the node keeps is refused
+  pub if_other : (node : ℕ) (n : Node) (offer : KeptOffer) → e ≡ Revive node offer → slice_get w.nodes node ≡ Some n → (offer ≡ KeptGood (kept_text (kept_now w n)) → ⊥)
+      → (result : Result R E) → IfOk result (λ r. (meaning r, u) ≡ step w e) → IfOk result (λ r. (meaning r ≡ Refused (refusal_of_other offer)) × (u ≡ w))
+  if_other node n offer is found other (Ok r) done =
+      let same = done ∙ ap (step w) is ∙ other_is_refused w node offer n found other in
+      (ap (λ (o : Outcome). o.0) same, ap (λ (o : Outcome). o.1) same)
+  if_other node n offer is found other (Err why) done = tt

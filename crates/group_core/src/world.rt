@@ -1,11 +1,13 @@
 //! A group, whose type keeps that some run leads to it.
 
-ghost use Rattle.std.specs.Prelude.{◌≡◌, ℕ, ◌+◌, ◌≤◌, true, IfOk, OnErr, [], ◌∷◌};
+ghost use Rattle.std.specs.Prelude.{◌≡◌, ◌≢◌, ℕ, ◌+◌, ◌≤◌, true, Some, slice_get, IfOk, OnErr, [], ◌∷◌};
 ghost use Rattle.std.specs.Arc.{arc_value};
-ghost use Rattle.metering_model.specs.World.{opening, voter_count};
-ghost use Rattle.metering_model.specs.Step.{snapshot, step};
+ghost use Rattle.metering_model.specs.World.{Node, KeptOffer, KeptGood, Refused, Revive, opening, voter_count};
+ghost use Rattle.metering_model.specs.KeptText.{kept_text};
+ghost use Rattle.metering_model.specs.Step.{kept_now, snapshot, step};
 ghost use Rattle.group_laws.specs.Headline.{AtMostOneIsChosen};
 ghost use Rattle.group_laws.specs.EveryRun.{KeepsLimits};
+ghost use Rattle.group_laws.specs.Revivals.{refusal_of_other};
 ghost use Rattle.group_state.specs.Words.{event_of, is_exported, is_kept_text, is_refused, reply_of};
 ghost use Rattle.group_state.specs.Reached.{IsReached};
 ghost use Rattle.group_core.specs.Headline.{AreExportsOf, ChargesOnce, ExportsStay, HasOneList, IsExportOf, IsSameGroup, LearnsWhatIsChosen, ListGrows};
@@ -84,13 +86,17 @@ impl World {
     }
 
     /// Does one event, and answers it. A refused event, an export that is answered, a kept text, and an error, which says that
-    /// there was no memory, leave the world as it was. An export that is answered is of two neighbouring chosen cuts.
+    /// there was no memory, leave the world as it was. An export that is answered is of two neighbouring chosen cuts. A node is
+    /// revived from no text but that of what it keeps now.
     pub fn step(&mut self, alloc: Global, event: &Event) -> Result<Reply, AllocError>
         ensures ok { IfOk result (λ reply. (reply_of reply, self.new) ≡ step self.old (event_of event.now)) }
         ensures err { OnErr result (self.new ≡ self.old) }
         ensures refused { IfOk result (λ reply. is_refused (reply_of reply) ≡ true → self.new ≡ self.old) }
         ensures exported { IfOk result (λ reply. is_exported (reply_of reply) ≡ true → self.new ≡ self.old) }
         ensures kept { IfOk result (λ reply. is_kept_text (reply_of reply) ≡ true → self.new ≡ self.old) }
+        ensures others { (node : ℕ) (n : Node) (offer : KeptOffer) → event_of event.now ≡ Revive node offer → slice_get self.old.nodes node ≡ Some n →
+            offer ≢ KeptGood (kept_text (kept_now self.old n)) →
+            IfOk result (λ reply. (reply_of reply ≡ Refused (refusal_of_other offer)) × (self.new ≡ self.old)) }
         ensures exports { IfOk result (λ reply. AreExportsOf self.new (reply_of reply ∷ [])) }
         ensures group { IsSameGroup self.old self.new }
         ensures grows { ListGrows self.old self.new }
