@@ -1,7 +1,7 @@
 -- Worlds that a faulty node would leave: of each the headline is false.
-use Rattle.std.proofs.Common.{◌≡◌, ℕ, ◌≤◌, Bool, true, cond, List, [], ◌∷◌, ◌++◌, length, replicate, refl, sym, ap, subst, ◌∙◌, arith, Some, None, Result, Ok, Err}
+use Rattle.std.proofs.Common.{◌≡◌, ℕ, zero, suc, ◌≤◌, Bool, true, cond, List, [], ◌∷◌, ◌++◌, length, replicate, slice_index, refl, sym, ap, subst, ◌∙◌, arith, Option, Some, None, Result, Ok, Err, unwrap_or}
 use Rattle.std.specs.Prelude.{slice_get, pos, false, codes}
-use Rattle.std.specs.List.{count_by, list_any}
+use Rattle.std.specs.List.{Contains, count_by, list_any}
 use Rattle.std.proofs.lemmas.Bool.{leb-true, both_ways}
 use Rattle.std.proofs.lemmas.Option.{same_Some, none-some}
 use Rattle.jiff_core.specs.Calendar.{days_from_civil, day_count, days_of_years, days_of_months}
@@ -9,19 +9,23 @@ use Rattle.metering_model.specs.declared.Version.TheVariants.{B1}
 use Rattle.metering_model.specs.Batch.{Batch, Reading, Reads}
 use Rattle.metering_model.specs.declared.Kind.TheVariants.{Credit}
 use Rattle.metering_model.specs.declared.ChargeClass.TheVariants.{New}
+use Rattle.metering_model.specs.Sheet.{Sheet, Issuer}
+use Rattle.metering_model.specs.Holding.{held}
 use Rattle.metering_model.specs.Row.{row}
 use Rattle.metering_model.specs.Rows.{PlacedRow}
 use Rattle.metering_model.specs.Cut.{Cut, IsAtLeast, IsGrowing}
-use Rattle.metering_model.specs.declared.Refusal.TheVariants.{NotKept}
+use Rattle.metering_model.specs.declared.Refusal.{Refusal}
+use Rattle.metering_model.specs.declared.Refusal.TheVariants.{BadBatch, NotKept}
+use Rattle.metering_model.specs.declared.BatchFault.{BatchFault}
 use Rattle.metering_model.specs.declared.KeptTextFault.{KeptTextFault}
 use Rattle.metering_model.specs.KeptText.{KeptAmong, kept_in}
 use Rattle.metering_model.specs.Step.{step, play}
 use Rattle.metering_model.specs.Transcript.{line}
 use Rattle.std.specs.Fmt.{digits}
-use Rattle.metering_model.specs.World.{Good, Journal, Deliver, Start, Keep, Revive, KeptGood, KeptText, Refused, with_node_at, World, Node, Event, Reply, Snapshot, Exported, Prepare, Promise, Accept, Accepted, Decided, wake, new_kept, opening}
+use Rattle.metering_model.specs.World.{Good, Bad, Journal, Deliver, Start, Restart, Export, Keep, Revive, KeptGood, KeptText, Refused, with_node_at, World, Node, Event, Reply, Snapshot, Journaled, Restarted, Exported, Prepare, Promise, Accept, Accepted, Decided, wake, new_kept, opening}
 use Rattle.metering_model.specs.Ballot.{Acceptor}
 use Rattle.metering_model.specs.Chosen.{IsChosen, accepts}
-use Rattle.metering_model.proofs.Samples.{sheet_0, issuer_1}
+use Rattle.metering_model.proofs.Samples.{sheet_0, sheet_1, issuer_1}
 use Rattle.group_laws.specs.Headline.{IsNewIn, AreChargedOnce, HoldsAfter}
 use Rattle.group_laws.specs.EveryRun.{KeepsLimits}
 use Rattle.group_laws.proofs.Quorum.{count_by-cons}
@@ -313,6 +317,162 @@ exports_of_a_period_are_equal : IsFalseOf 1 (Exported too_much ∷ Exported too_
 exports_of_a_period_are_equal events h =
     let sizes : 2 ≡ 0 = ap (λ (s : Snapshot). length s.batches) (h.one_export too_much too_little (0, omega arith, refl) (1, omega arith, refl) refl) in
     omega (arith, sizes)
+
+-- ---- an export of another cut, sheet or issuer
+
+-- One node learns the cut of the first batch for period 0, and that of both for period 1. All is as it should be, but for the
+-- answer behind these.
+abbrev two_periods : List Event
+two_periods =
+    Journal (Good (line (codes "B1|1|1|0"))) ∷ Deliver 0 0 ∷ Start 0 ∷ Deliver 1 0 ∷ Deliver 2 0 ∷ Deliver 3 0 ∷ Deliver 4 0 ∷
+    Journal (Good (line (codes "B1|1|2|0"))) ∷ Deliver 5 0 ∷ Start 0 ∷ Deliver 6 0 ∷ Deliver 7 0 ∷ Deliver 8 0 ∷ Deliver 9 0 ∷ []
+
+abbrev two_answered : List Reply × World
+two_answered = play (opening 1 0 1 sheet_0 issuer_1) two_periods
+
+abbrev after_two_periods : World
+after_two_periods = two_answered.1
+
+abbrev then_answered : Reply → List Reply
+then_answered reply = two_answered.0 ++ reply ∷ []
+
+low_is_chosen : IsChosen after_two_periods 0 low
+unfolding digits
+low_is_chosen = record { ballot = 1; by_majority = leb-true _ _ refl }
+
+-- what is answered of period 1
+abbrev second_export : Snapshot
+second_export = record { period = 1; from = low; to = high; batches = whole_holding; sheet = sheet_0; issuer = issuer_1 }
+
+it_is_the_second_export : (step after_two_periods (Export 0 1)).0 ≡ Exported second_export
+unfolding digits
+it_is_the_second_export = refl
+
+the_wrong_one : (s : Snapshot) → Contains (then_answered (Exported s)) (Exported s)
+unfolding digits
+the_wrong_one s = (14, omega arith, refl)
+
+-- one from the zero cut, which charges period 0 again
+abbrev from_the_start : Snapshot
+from_the_start = record second_export { from = 0 ∷ [] }
+
+an_export_begins_at_the_cut_before : IsFalseOf 1 (then_answered (Exported from_the_start)) after_two_periods
+unfolding digits
+an_export_begins_at_the_cut_before events h = differ ((h.exports from_the_start (the_wrong_one from_the_start)).from ∙ before)
+  where
+    before : unwrap_or (slice_get h.cuts 0) (0 ∷ []) ≡ low
+    before = ap (λ (cut : Option Cut). unwrap_or cut (0 ∷ [])) ((h.are_the_cuts.chosen 0 low).1 low_is_chosen)
+
+    differ : 0 ∷ [] ≡ low → ⊥
+    differ e = cc
+
+-- one of period 0 to the cut of period 1
+abbrev to_the_next : Snapshot
+to_the_next = record second_export { period = 0; from = 0 ∷ [] }
+
+an_export_is_to_the_chosen_cut : IsFalseOf 1 (then_answered (Exported to_the_next)) after_two_periods
+unfolding digits
+an_export_is_to_the_chosen_cut events h =
+    differ (sym (h.exports to_the_next (the_wrong_one to_the_next)).to ∙ (h.are_the_cuts.chosen 0 low).1 low_is_chosen)
+  where
+    differ : Some high ≡ Some low → ⊥
+    differ e = cc
+
+-- one at another sheet, with more prices
+abbrev at_other_prices : Snapshot
+at_other_prices = record second_export { sheet = sheet_1 }
+
+an_export_is_at_the_groups_sheet : IsFalseOf 1 (then_answered (Exported at_other_prices)) after_two_periods
+unfolding digits
+an_export_is_at_the_groups_sheet events h =
+    let prices : 3 ≡ 1 = ap (λ (s : Sheet). length s.prices) (h.exports at_other_prices (the_wrong_one at_other_prices)).sheet in
+    omega (arith, prices)
+
+-- one of another issuer, which bills in euros
+abbrev in_euros : Snapshot
+in_euros = record second_export { issuer = record issuer_1 { currency = codes "EUR" } }
+
+an_export_is_of_the_groups_issuer : IsFalseOf 1 (then_answered (Exported in_euros)) after_two_periods
+unfolding digits
+an_export_is_of_the_groups_issuer events h =
+    let letters : 69 ≡ 85 = ap (λ (i : Issuer). slice_index i.currency 0) (h.exports in_euros (the_wrong_one in_euros)).issuer in
+    omega (arith, letters)
+
+-- ---- events without their answers
+
+-- of one node, which votes: these events do not have these answers
+abbrev IsFalseAnswer : List Event → List Reply → World → Type 0
+IsFalseAnswer events replies w = HoldsAfter 1 0 1 sheet_0 issuer_1 events replies w → ⊥
+
+-- a group with no batch, and with the first one in its journals
+abbrev without_batches : World
+without_batches = opening 1 0 1 sheet_0 issuer_1
+
+abbrev with_first : World
+with_first = record without_batches { journals = batch_of 1 ∷ [] }
+
+abbrev hands_first_in : Event
+hands_first_in = Journal (Good (line (codes "B1|1|1|0")))
+
+no_event_goes_unanswered : IsFalseAnswer (Restart 0 ∷ []) [] without_batches
+no_event_goes_unanswered h = let sizes : 0 ≡ 1 = h.answers.one_each in omega (arith, sizes)
+
+no_answer_is_without_an_event : IsFalseAnswer (Restart 0 ∷ []) (Restarted ∷ Restarted ∷ []) without_batches
+no_answer_is_without_an_event h = let sizes : 2 ≡ 1 = h.answers.one_each in omega (arith, sizes)
+
+-- the journals have the batch, and it was answered as a restart is
+a_batch_that_is_kept_is_answered_so : IsFalseAnswer (hands_first_in ∷ []) (Restarted ∷ []) with_first
+a_batch_that_is_kept_is_answered_so h = let told = h.answers.only 1 1 (batch_of 1) refl in never told.0 told.1 told.4
+  where
+    never : (k packet : ℕ) → slice_get (Restarted ∷ []) k ≡ Some (Journaled packet) → ⊥
+    never zero packet e = cc
+    never (suc k) packet e = none-some (Journaled packet) e
+
+-- the journals have a batch that nobody handed in
+a_batch_that_is_kept_was_handed_in : IsFalseAnswer [] [] with_first
+a_batch_that_is_kept_was_handed_in h = let told = h.answers.only 1 1 (batch_of 1) refl in none-some (Journaled told.1) told.4
+
+-- the batch was answered `Journaled`, and the journals lack it
+a_batch_that_is_journaled_is_kept : IsFalseAnswer (hands_first_in ∷ []) (Journaled 0 ∷ []) without_batches
+a_batch_that_is_journaled_is_kept h = let kept = h.answers.kept 0 0 (Good (line (codes "B1|1|1|0"))) refl refl in none-some kept.0 kept.2
+
+-- the journals have another batch in its place: a credit, where it has no record
+a_batch_is_kept_as_it_was_handed_in : IsFalseAnswer (hands_first_in ∷ []) (Journaled 0 ∷ []) credited
+unfolding digits
+a_batch_is_kept_as_it_was_handed_in h =
+    let kept = h.answers.kept 0 0 (Good (line (codes "B1|1|1|0"))) refl refl in differ kept.0 (ap or_first kept.1) kept.2
+  where
+    or_first : Result Batch Refusal → Batch
+    or_first (Ok b) = b
+    or_first (Err refusal) = batch_of 2
+
+    differ : (b : Batch) → batch_of 1 ≡ b → held credited.journals b.agent b.seq ≡ Some b → ⊥
+    differ b read there =
+        let other = subst (λ (c : Batch). held credited.journals c.agent c.seq ≡ Some c) (sym read) there in
+        let sizes : 1 ≡ 0 = ap (λ (c : Batch). length c.records) (same_Some _ (batch_of 1) other) in
+        omega (arith, sizes)
+
+bytes_that_are_no_batch_are_not_journaled : (fault : BatchFault) → IsFalseAnswer (Journal (Bad fault) ∷ []) (Journaled 0 ∷ []) with_first
+bytes_that_are_no_batch_are_not_journaled fault h = let kept = h.answers.kept 0 0 (Bad fault) refl refl in differ kept.0 kept.1
+  where
+    differ : (b : Batch) → Err (BadBatch fault) ≡ Ok b → ⊥
+    differ b e = cc
+
+-- period 0 was asked for, and period 1 is exported, rightly
+an_export_is_of_the_period_asked_for : IsFalseAnswer (two_periods ++ Export 0 0 ∷ []) (then_answered (Exported second_export)) after_two_periods
+unfolding digits
+an_export_is_of_the_period_asked_for h = let asked = h.answers.asked 14 second_export refl in differ asked.0 asked.1
+  where
+    differ : (node : ℕ) → Some (Export 0 0) ≡ Some (Export node 1) → ⊥
+    differ node e = cc
+
+-- none was asked for
+an_export_is_asked_for : IsFalseAnswer (two_periods ++ Restart 0 ∷ []) (then_answered (Exported second_export)) after_two_periods
+unfolding digits
+an_export_is_asked_for h = let asked = h.answers.asked 14 second_export refl in differ asked.0 asked.1
+  where
+    differ : (node : ℕ) → Some (Restart 0) ≡ Some (Export node 1) → ⊥
+    differ node e = cc
 
 -- ---- beyond the limits
 
