@@ -53,6 +53,10 @@ IsFalseWith voters observers replies w = (events : List Event) → HoldsAfter vo
 abbrev IsFalseOf : ℕ → List Reply → World → Type 0
 IsFalseOf nodes replies w = IsFalseWith nodes 0 replies w
 
+-- whatever was answered: so it is the world that is wrong
+abbrev IsNeverTrueOf : ℕ → World → Type 0
+IsNeverTrueOf nodes w = (replies : List Reply) → IsFalseOf nodes replies w
+
 -- ---- two cuts that are chosen for one period
 
 two_chosen : (nodes : ℕ) (replies : List Reply) (w : World) → IsChosen w 0 low → IsChosen w 0 high → IsFalseOf nodes replies w
@@ -69,8 +73,8 @@ after_a_forgotten_vote = record (opened 3) {
       Prepare 0 5 ∷ Promise 1 0 5 None ∷ Promise 2 0 5 None ∷ Accept 0 5 high ∷ Accepted 1 0 5 high ∷ Accepted 2 0 5 high ∷ [];
 }
 
-a_vote_is_not_forgotten : IsFalseOf 3 [] after_a_forgotten_vote
-a_vote_is_not_forgotten = two_chosen 3 [] after_a_forgotten_vote (record { ballot = 3; by_majority = leb-true _ _ refl }) (record { ballot = 5; by_majority = leb-true _ _ refl })
+a_vote_is_not_forgotten : IsNeverTrueOf 3 after_a_forgotten_vote
+a_vote_is_not_forgotten replies = two_chosen 3 replies after_a_forgotten_vote (record { ballot = 3; by_majority = leb-true _ _ refl }) (record { ballot = 5; by_majority = leb-true _ _ refl })
 
 -- Node 1 has promised ballot 5, and then promises ballot 3, and accepts at both.
 abbrev after_two_promises : World
@@ -80,8 +84,8 @@ after_two_promises = record (opened 3) {
       Accept 0 3 low ∷ Accepted 0 0 3 low ∷ Accepted 1 0 3 low ∷ Accept 0 5 high ∷ Accepted 1 0 5 high ∷ Accepted 2 0 5 high ∷ [];
 }
 
-an_older_ballot_is_not_promised : IsFalseOf 3 [] after_two_promises
-an_older_ballot_is_not_promised = two_chosen 3 [] after_two_promises (record { ballot = 3; by_majority = leb-true _ _ refl }) (record { ballot = 5; by_majority = leb-true _ _ refl })
+an_older_ballot_is_not_promised : IsNeverTrueOf 3 after_two_promises
+an_older_ballot_is_not_promised replies = two_chosen 3 replies after_two_promises (record { ballot = 3; by_majority = leb-true _ _ refl }) (record { ballot = 5; by_majority = leb-true _ _ refl })
 
 -- Node 1 accepts ballot 5 without having seen its Prepare. It takes that for no promise, and accepts ballot 3 afterwards: so
 -- to ballot 6 it tells the vote of 3, and not that of 5, which is chosen. Nodes 0 and 2 do as they should.
@@ -94,8 +98,8 @@ after_a_vote_that_promised_nothing = record (opened 3) {
       Accepted 0 0 6 low ∷ Accepted 1 0 6 low ∷ [];
 }
 
-a_vote_is_a_promise : IsFalseOf 3 [] after_a_vote_that_promised_nothing
-a_vote_is_a_promise = two_chosen 3 [] after_a_vote_that_promised_nothing (record { ballot = 6; by_majority = leb-true _ _ refl }) (record { ballot = 5; by_majority = leb-true _ _ refl })
+a_vote_is_a_promise : IsNeverTrueOf 3 after_a_vote_that_promised_nothing
+a_vote_is_a_promise replies = two_chosen 3 replies after_a_vote_that_promised_nothing (record { ballot = 6; by_majority = leb-true _ _ refl }) (record { ballot = 5; by_majority = leb-true _ _ refl })
 
 -- Two cuts go out at one ballot: it is of two nodes, or its proposer took one more promise after it had sent.
 abbrev after_a_shared_ballot : World
@@ -105,8 +109,8 @@ after_a_shared_ballot = record (opened 3) {
       Accepted 0 0 3 low ∷ Accepted 1 0 3 low ∷ Accepted 1 0 3 high ∷ Accepted 2 0 3 high ∷ [];
 }
 
-a_ballot_has_one_cut : IsFalseOf 3 [] after_a_shared_ballot
-a_ballot_has_one_cut = two_chosen 3 [] after_a_shared_ballot (record { ballot = 3; by_majority = leb-true _ _ refl }) (record { ballot = 3; by_majority = leb-true _ _ refl })
+a_ballot_has_one_cut : IsNeverTrueOf 3 after_a_shared_ballot
+a_ballot_has_one_cut replies = two_chosen 3 replies after_a_shared_ballot (record { ballot = 3; by_majority = leb-true _ _ refl }) (record { ballot = 3; by_majority = leb-true _ _ refl })
 
 -- ---- half of the nodes taken for a majority
 
@@ -120,8 +124,8 @@ after_half = record (opened 2) {
   nodes = has_learned low ∷ has_learned high ∷ [];
 }
 
-half_is_no_majority : IsFalseOf 2 [] after_half
-half_is_no_majority events h = differ (first.1 ∙ sym second.1)
+half_is_no_majority : IsNeverTrueOf 2 after_half
+half_is_no_majority replies events h = differ (first.1 ∙ sym second.1)
   where
     first : (rest : List Cut) × (low ∷ rest ≡ h.cuts)
     first = h.are_the_cuts.learned (has_learned low) (0, omega arith, refl)
@@ -136,8 +140,8 @@ half_is_no_majority events h = differ (first.1 ∙ sym second.1)
 abbrev after_a_guess : World
 after_a_guess = record (opened 1) { nodes = has_learned low ∷ [] }
 
-a_cut_is_not_guessed : IsFalseOf 1 [] after_a_guess
-a_cut_is_not_guessed events h = never ((h.are_the_cuts.chosen 0 low).0 first)
+a_cut_is_not_guessed : IsNeverTrueOf 1 after_a_guess
+a_cut_is_not_guessed replies events h = never ((h.are_the_cuts.chosen 0 low).0 first)
   where
     prefix : (rest : List Cut) × (low ∷ rest ≡ h.cuts)
     prefix = h.are_the_cuts.learned (has_learned low) (0, omega arith, refl)
@@ -159,8 +163,8 @@ after_an_observers_vote = record (opening 2 1 1 sheet_0 issuer_1) {
   nodes = has_learned low ∷ wake new_kept ∷ wake new_kept ∷ [];
 }
 
-an_observer_has_no_vote : IsFalseWith 2 1 [] after_an_observers_vote
-an_observer_has_no_vote events h = never ((h.are_the_cuts.chosen 0 low).0 first)
+an_observer_has_no_vote : (replies : List Reply) → IsFalseWith 2 1 replies after_an_observers_vote
+an_observer_has_no_vote replies events h = never ((h.are_the_cuts.chosen 0 low).0 first)
   where
     prefix : (rest : List Cut) × (low ∷ rest ≡ h.cuts)
     prefix = h.are_the_cuts.learned (has_learned low) (0, omega arith, refl)
@@ -215,9 +219,9 @@ abbrev after_an_old_text : World
 after_an_old_text =
     (play (of_the_old_text (kept_in old_text) with_a_vote) (Deliver 5 0 ∷ Start 0 ∷ Deliver 6 0 ∷ Deliver 7 0 ∷ Deliver 8 0 ∷ [])).1
 
-an_old_text_loses_a_vote : IsFalseOf 1 [] after_an_old_text
+an_old_text_loses_a_vote : IsNeverTrueOf 1 after_an_old_text
 unfolding digits
-an_old_text_loses_a_vote = two_chosen 1 [] after_an_old_text (record { ballot = 1; by_majority = leb-true _ _ refl }) (record { ballot = 1; by_majority = leb-true _ _ refl })
+an_old_text_loses_a_vote replies = two_chosen 1 replies after_an_old_text (record { ballot = 1; by_majority = leb-true _ _ refl }) (record { ballot = 1; by_majority = leb-true _ _ refl })
 
 -- ---- cuts that go back, or beyond the journals
 
@@ -228,8 +232,8 @@ after_a_step_back = record (opening 1 0 1 sheet_0 issuer_1) {
   packets = Accepted 0 0 1 high ∷ Accepted 0 1 2 low ∷ [];
 }
 
-cuts_do_not_go_back : IsFalseOf 1 [] after_a_step_back
-cuts_do_not_go_back events h = back h.cuts
+cuts_do_not_go_back : IsNeverTrueOf 1 after_a_step_back
+cuts_do_not_go_back replies events h = back h.cuts
     ((h.are_the_cuts.chosen 0 high).1 (record { ballot = 1; by_majority = leb-true _ _ refl }))
     ((h.are_the_cuts.chosen 1 low).1 (record { ballot = 2; by_majority = leb-true _ _ refl })) h.are_the_cuts.growing
   where
@@ -244,8 +248,8 @@ cuts_do_not_go_back events h = back h.cuts
 abbrev after_a_promise_of_more : World
 after_a_promise_of_more = record (opening 1 0 1 sheet_0 issuer_1) { packets = Accepted 0 0 1 low ∷ [] }
 
-a_cut_stays_within_the_journals : IsFalseOf 1 [] after_a_promise_of_more
-a_cut_stays_within_the_journals events h = let less = h.are_the_cuts.journaled 0 low first 1 in omega (arith, less)
+a_cut_stays_within_the_journals : IsNeverTrueOf 1 after_a_promise_of_more
+a_cut_stays_within_the_journals replies events h = let less = h.are_the_cuts.journaled 0 low first 1 in omega (arith, less)
   where
     first : slice_get h.cuts 0 ≡ Some low
     first = (h.are_the_cuts.chosen 0 low).1 (record { ballot = 1; by_majority = leb-true _ _ refl })
@@ -274,9 +278,9 @@ credited = record (opening 1 0 1 sheet_0 issuer_1) { journals = record { version
 abbrev after_an_early_cut : World
 after_an_early_cut = record credited { packets = Accepted 0 0 1 low ∷ [] }
 
-a_cut_adds_what_is_due : IsFalseOf 1 [] after_an_early_cut
+a_cut_adds_what_is_due : IsNeverTrueOf 1 after_an_early_cut
 unfolding days_from_civil day_count days_of_years days_of_months
-a_cut_adds_what_is_due events h = both_ways false refl (h.are_the_cuts.due 0 low first 1 1 (omega arith) (omega arith))
+a_cut_adds_what_is_due replies events h = both_ways false refl (h.are_the_cuts.due 0 low first 1 1 (omega arith) (omega arith))
   where
     first : slice_get h.cuts 0 ≡ Some low
     first = (h.are_the_cuts.chosen 0 low).1 (record { ballot = 1; by_majority = leb-true _ _ refl })
@@ -306,16 +310,17 @@ after_an_export_of_all = record (opening 1 0 1 sheet_0 issuer_1) {
   packets = Accepted 0 0 1 low ∷ [];
 }
 
-an_export_ends_at_its_cut : IsFalseOf 1 (Exported too_much ∷ []) after_an_export_of_all
-an_export_ends_at_its_cut events h = let sizes : 2 ≡ 1 = ap (λ (b : List Batch). length b) (h.exports too_much (0, omega arith, refl)).batches in omega (arith, sizes)
+an_export_ends_at_its_cut : (replies : List Reply) → Contains replies (Exported too_much) → IsFalseOf 1 replies after_an_export_of_all
+an_export_ends_at_its_cut replies there events h = let sizes : 2 ≡ 1 = ap (λ (b : List Batch). length b) (h.exports too_much there).batches in omega (arith, sizes)
 
 -- two exports of one period that differ
 abbrev too_little : Snapshot
 too_little = record too_much { batches = [] }
 
-exports_of_a_period_are_equal : IsFalseOf 1 (Exported too_much ∷ Exported too_little ∷ []) after_an_export_of_all
-exports_of_a_period_are_equal events h =
-    let sizes : 2 ≡ 0 = ap (λ (s : Snapshot). length s.batches) (h.one_export too_much too_little (0, omega arith, refl) (1, omega arith, refl) refl) in
+exports_of_a_period_are_equal : (replies : List Reply) → Contains replies (Exported too_much) → Contains replies (Exported too_little) →
+    IsFalseOf 1 replies after_an_export_of_all
+exports_of_a_period_are_equal replies there too events h =
+    let sizes : 2 ≡ 0 = ap (λ (s : Snapshot). length s.batches) (h.one_export too_much too_little there too refl) in
     omega (arith, sizes)
 
 -- ---- an export of another cut, sheet or issuer
