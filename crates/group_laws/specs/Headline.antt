@@ -19,8 +19,8 @@ use Rattle.metering_model.specs.Transcript.{file_of}
 abbrev pub IsPrefixOf : {A : Type 0} → List A → List A → Type 0
 IsPrefixOf {A} xs ys = (rest : List A) × (xs ++ rest ≡ ys)
 
--- Each event has its own answer. An export is of the period that was asked for, and the journals have just the batches that
--- were answered `Journaled`.
+-- There are as many answers as events. An export is of the period that was asked for, and the journals have just the batches
+-- that were answered `Journaled`. What else an event is answered, `step` alone says.
 pub record AreAnswers (events : List Event) (replies : List Reply) (w : World) : Type 0 where
   pub one_each : length replies ≡ length events
   pub asked : (k : ℕ) (s : Snapshot) → slice_get replies k ≡ Some (Exported s) → (node : ℕ) × (slice_get events k ≡ Some (Export node s.period))
