@@ -1,12 +1,14 @@
 -- What is said of an input: a line for each thing that is wrong with it, which names the line of the input; nothing where nothing is.
-use Rattle.std.specs.Prelude.{ℕ, zero, suc, ◌+◌, ◌-◌, nat_le, if◌then◌else◌, List, [], ◌∷◌, ◌++◌, length, take, Option, Some, None, Result, Ok, Err, IfSome, codes, ◌≡◌}
+use Rattle.std.specs.Prelude.{ℕ, zero, suc, ◌+◌, ◌-◌, ◌<◌, nat_le, if◌then◌else◌, List, [], ◌∷◌, ◌++◌, length, take, Option, Some, None, Result, Ok, Err, IfSome, codes, ◌≡◌, slice_get}
 use Rattle.std.specs.Str.{is_utf8}
 use Rattle.metering_model.specs.FirstFailure.{◌>>=◌, holds_or}
-use Rattle.metering_model.specs.Batch.{is_empty}
+use Rattle.metering_model.specs.Batch.{Batch, batch_text, is_empty}
+use Rattle.metering_model.specs.declared.BrokenRule.{BrokenRule}
+use Rattle.metering_model.specs.declared.BrokenRule.TheVariants as rule
 use Rattle.metering_model.specs.declared.Refusal.{Refusal}
 use Rattle.metering_model.specs.declared.Refusal.TheVariants as refusal
 use Rattle.metering_model.specs.Holding.{Position, placed, put}
-use Rattle.metering_model.specs.Schedule.{Planned, event_of}
+use Rattle.metering_model.specs.Schedule.{Planned, Schedule, event_of, schedule_text}
 use Rattle.metering_model.specs.Sheet as model
 use Rattle.metering_model.specs.Step.{step}
 use Rattle.metering_model.specs.Transcript.{line, line_count, refusal_text, reply_text, with_number}
@@ -113,6 +115,24 @@ line_within sheet text refusal.BadTarget = line_of (first_bad sheet (put [] (bat
 line_within sheet text refusal.Unpriced = line_of (first_bad sheet (put [] (batch_of text)) (placed (batch_of text)))
 line_within sheet text other = 1
 
+-- what a batch that breaks a rule of the journals is refused for
+abbrev pub refused_by : BrokenRule → Refusal
+refused_by rule.BadTarget = refusal.BadTarget
+refused_by rule.Unpriced = refusal.Unpriced
+
+-- the batch with so many of its records, the others behind them being none of it
+abbrev pub first_records : ℕ → Batch → Batch
+first_records n b = record b { records = take n b.records }
+
+-- The batch is refused for the record on that line, counted in its text: of the records above it alone it is taken, and with
+-- that one below them refused so.
+pub record IsFirstRefused (sheet : model.Sheet) (issuer : model.Issuer) (b : Batch) (why : Refusal) (line : ℕ) : Type 0 where
+  pub index : ℕ
+  pub within : index < length b.records
+  pub counted : line ≡ 1 + line_count (batch_text (first_records index b))
+  pub taken : journaled_in sheet issuer (batch_text (first_records index b)) ≡ Ok (first_records index b)
+  pub refused : journaled_in sheet issuer (batch_text (first_records (index + 1) b)) ≡ Err why
+
 -- that an input is refused at a line of it
 abbrev pub said_at : ℕ → Refusal → List ℕ
 said_at n why = line (with_number (codes "line ") n ++ codes ": " ++ refusal_text why)
@@ -157,6 +177,11 @@ lines_of_events (suc most) u =
 
 unfoldable pub event_lines : List ℕ → List ℕ
 event_lines text = elim (preamble_in text) [ Ok p ↦ lines_of_events (length text) p.rest | Err fault ↦ [] ]
+
+-- Each event of the schedule begins on its line: one more than the line feeds of what stands above it, which is the text of the
+-- schedule with the events before it alone.
+abbrev pub BeginsWhereCounted : Schedule → List ℕ → Type 0
+BeginsWhereCounted s lines = (k : ℕ) → k < length s.events → slice_get lines k ≡ Some (1 + line_count (schedule_text (record s { events = take k s.events })))
 
 -- Where `rate` gives a file nothing is said, else just why it refuses, with its line of the input.
 abbrev pub SaysWhatIsRated : List ℕ → Result (List ℕ) PlayFault → List ℕ → Type 0

@@ -1,4 +1,4 @@
-use Rattle.std.proofs.Common.{◌≡◌, ◌+◌, ◌-◌, ◌<◌, ◌≤◌, suc, length, sym, ap, ◌∙◌, arith}
+use Rattle.std.proofs.Common.{◌≡◌, ◌+◌, ◌-◌, ◌<◌, ◌≤◌, suc, length, ap, arith}
 use Rattle.std.proofs.lemmas.Bool.Decides.{nat_tests}
 use Rattle.input_sections.specs.Sections.{left}
 use Rattle.input_check.proofs.FaultLoop.{found_at_end, found_here, found_next, found_none}
@@ -43,7 +43,7 @@ loop-preserved c =
     let more : c.args.most - c.loop.counter ≡ suc k = omega (arith, c.loop-test.true) in
     let same = ap length c.left.ensures in
     let some : 0 < length (left c.loop.here) = grind (arith, nat_tests, same, c.is_empty.ensures, c.if-is_empty.false) in
-    let said = rw c.line.ensures at c.in_ok-check_event.ensures.said in (
+    let said = rw c.line.ensures.value at c.in_ok-check_event.ensures.said in (
       said_more c.loop.told.items k c.loop.world c.loop.here _ _ _ _ _ _ more some c.in-Ok.ensures.event said c.in_ok-check_event.ensures.world c.loop.invariant.0,
       found_next _ _ k c.loop.here _ _ _ more some c.in-Ok.ensures.event c.loop.invariant.1,
     )

@@ -1,3 +1,5 @@
+use Rattle.input_check.proofs.EventLines.{begins_where_counted}
+use Rattle.input_check.proofs.FirstBadLines.{refused_for_first}
 use Rattle.input_check.proofs.RefusedLaws.{says_what_is_played, says_what_is_rated}
 use Rattle.input_check.proofs.laws.what_is_said_is_what_is_refused.Goals as goal
 
@@ -6,3 +8,9 @@ returns-clause-rated c = says_what_is_rated
 
 pub returns-clause-played : goal.returns-clause-played
 returns-clause-played c = says_what_is_played
+
+pub returns-clause-lines : goal.returns-clause-lines
+returns-clause-lines c = begins_where_counted
+
+pub returns-clause-journaled : goal.returns-clause-journaled
+returns-clause-journaled c = refused_for_first
