@@ -2,7 +2,7 @@ use Rattle.std.proofs.Common.{◌≡◌, true, is_some, subst, sym, arith}
 use Rattle.metering_model.specs.Holding.{held}
 use Rattle.metering_model.proofs.MissingLaws.{held-up_to_where}
 use Rattle.focus_row.specs.Inner.Left.{Between, MayBeCharged}
-use Rattle.focus_row.proofs.due_batches.BetweenCuts.rows_of_batch.Goals as goal
+use Rattle.focus_row.proofs.between.BetweenCuts.rows_of_batch.Goals as goal
 
 pub batch_at-batch-requires-clause-there : goal.batch_at-batch-requires-clause-there
 batch_at-batch-requires-clause-there c =

@@ -4,8 +4,8 @@ use Rattle.batch_store.specs.Stores.{AreAmended, position_of}
 use Rattle.focus_row.specs.Inner.Left.{Between, MayBeCharged}
 use Rattle.focus_row.specs.Inner.Places.{IsNextNamed, NoneNamed}
 use Rattle.focus_row.proofs.StopLaws.{grows_at, skip_to_named, skip_unnamed, skip_agent}
-use Rattle.focus_row.proofs.due_batches.BetweenCuts.next_of_agent.Goals as goal
-use Rattle.focus_row.proofs.due_batches.BetweenCuts.next_of_agent.Goals.{then-seq-from, else-seq-from}
+use Rattle.focus_row.proofs.between.BetweenCuts.next_of_agent.Goals as goal
+use Rattle.focus_row.proofs.between.BetweenCuts.next_of_agent.Goals.{then-seq-from, else-seq-from}
 
 pub returns-in-Some-clause-within : goal.returns-in-Some-clause-within
 returns-in-Some-clause-within c =

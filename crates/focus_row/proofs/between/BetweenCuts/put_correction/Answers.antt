@@ -2,7 +2,7 @@ use Rattle.std.proofs.Common.{◌≡◌, ◌++◌, ◌∷◌, [], rules}
 use Rattle.std.proofs.lemmas.List.Elements.{All-push, All-same}
 use Rattle.focus_row.specs.Inner.Near.{HasItsName}
 use Rattle.focus_row.proofs.RowBeginnings.{same_begins}
-use Rattle.focus_row.proofs.corrections.BetweenCuts.put_correction.Goals as goal
+use Rattle.focus_row.proofs.between.BetweenCuts.put_correction.Goals as goal
 
 pub returns-then-is_err-clause-begins : goal.returns-then-is_err-clause-begins
 returns-then-is_err-clause-begins c =

@@ -3,7 +3,7 @@ use Rattle.std.proofs.lemmas.List.Elements.{All-push, All-same}
 use Rattle.focus_row.specs.declared.due_batches.BatchPlace.{BatchPlace}
 use Rattle.focus_row.specs.Inner.Left.{IsWithin}
 use Rattle.focus_row.proofs.BatchLaws.{one_more_batch}
-use Rattle.focus_row.proofs.due_batches.BetweenCuts.places.Goals as goal
+use Rattle.focus_row.proofs.between.BetweenCuts.places.Goals as goal
 
 pub loop-next_agent-preserved : goal.loop-next_agent-preserved
 loop-next_agent-preserved c =

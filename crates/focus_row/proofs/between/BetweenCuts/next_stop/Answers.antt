@@ -2,7 +2,7 @@ use Rattle.std.proofs.Common.{◌≡◌, ◌≤◌, length, sym, ap, subst, ◌�
 use Rattle.focus_row.specs.Inner.Left.{Between, MayBeCharged}
 use Rattle.focus_row.proofs.BatchLaws.{batch_first}
 use Rattle.focus_row.proofs.StopLaws.{rows_end}
-use Rattle.focus_row.proofs.due_batches.BetweenCuts.next_stop.Goals as goal
+use Rattle.focus_row.proofs.between.BetweenCuts.next_stop.Goals as goal
 
 pub returns-in-Some-clause-some : goal.returns-in-Some-clause-some
 returns-in-Some-clause-some c =

@@ -4,7 +4,7 @@ use Rattle.charge_row.specs.FocusRows.{model_row}
 use Rattle.focus_row.specs.Inner.Beginnings.{BeginsWith}
 use Rattle.focus_row.specs.Inner.Left.{rows_behind}
 use Rattle.focus_row.specs.Inner.Near.{AreNamed}
-use Rattle.focus_row.proofs.corrections.BetweenCuts.put_rows.Given as goal
+use Rattle.focus_row.proofs.between.BetweenCuts.put_rows.Given as goal
 
 -- Each row so far has its region's name, those so far with those of the records that are left are all of them, and before the
 -- first record there is none more. There are no more than the limit, if there were no more at the start, and they begin with

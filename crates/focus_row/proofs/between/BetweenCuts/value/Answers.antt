@@ -4,7 +4,7 @@ use Rattle.metering_model.specs.ValueAtSequence.{value_at}
 use Rattle.batch_store.specs.Stores.{position_of}
 use Rattle.focus_row.specs.Inner.Left.{MayBeCharged}
 use Rattle.focus_row.proofs.StopLaws.{not_negative_at}
-use Rattle.focus_row.proofs.corrections.BetweenCuts.value.Goals as goal
+use Rattle.focus_row.proofs.between.BetweenCuts.value.Goals as goal
 
 pub returns-clause-value : goal.returns-clause-value
 returns-clause-value c = search rules

@@ -1,6 +1,6 @@
 use Rattle.std.proofs.Common.{◌≡◌, ◌≤◌}
 use Rattle.focus_row.specs.Inner.Left.{rows_left}
-use Rattle.focus_row.proofs.due_batches.BetweenCuts.next_stop.Given as goal
+use Rattle.focus_row.proofs.between.BetweenCuts.next_stop.Given as goal
 
 -- The agents so far have no row from the sequence on.
 abbrev pub invariant-loop-own : goal.invariant-loop-own

@@ -1,6 +1,6 @@
 use Rattle.std.proofs.Common.{◌≡◌, ◌≤◌, ◌+◌, ◌-◌, ◌*◌, ◌++◌, flat_map, All}
 use Rattle.focus_row.specs.Inner.Left.{IsWithin, rows_left, rows_of_place}
-use Rattle.focus_row.proofs.due_batches.BetweenCuts.places.Given as goal
+use Rattle.focus_row.proofs.between.BetweenCuts.places.Given as goal
 
 -- The rows of the batches so far and those that are left are all.
 abbrev pub invariant-loop-next_agent : goal.invariant-loop-next_agent

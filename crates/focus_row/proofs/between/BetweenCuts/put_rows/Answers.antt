@@ -3,7 +3,7 @@ use Rattle.batch_view.specs.Batches.{batch_of}
 use Rattle.batch_view.specs.Lent.{record_of}
 use Rattle.focus_row.proofs.RowBeginnings.{begins_itself, begins_longer}
 use Rattle.focus_row.proofs.StopLaws.{left_at, next_record, one_row_more}
-use Rattle.focus_row.proofs.corrections.BetweenCuts.put_rows.Goals as goal
+use Rattle.focus_row.proofs.between.BetweenCuts.put_rows.Goals as goal
 
 pub loop-index-init : goal.loop-index-init
 loop-index-init c = (c.requires.near, refl, λ same. refl, λ few. few, begins_itself _)

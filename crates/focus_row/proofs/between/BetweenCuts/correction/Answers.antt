@@ -12,7 +12,7 @@ use Rattle.charge_row.specs.FocusRows.{model_row}
 use Rattle.charge_row.specs.Regions.{IsNamed}
 use Rattle.focus_row.specs.Inner.Left.{Between, MayBeCharged}
 use Rattle.focus_row.proofs.StopLaws.{no_row_unnamed, row_corrected}
-use Rattle.focus_row.proofs.corrections.BetweenCuts.correction.Goals as goal
+use Rattle.focus_row.proofs.between.BetweenCuts.correction.Goals as goal
 
 pub returns-then-not-is_named-clause-row : goal.returns-then-not-is_named-clause-row
 returns-then-not-is_named-clause-row c =

@@ -2,7 +2,7 @@ use Rattle.std.proofs.Common.{option_copied, sym, subst, rules}
 use Rattle.batch_view.specs.Lent.{model_reading}
 use Rattle.charge_row.specs.Regions.{IsNamed}
 use Rattle.focus_row.specs.Inner.Left.{Between}
-use Rattle.focus_row.proofs.corrections.BetweenCuts.new_row.Goals as goal
+use Rattle.focus_row.proofs.between.BetweenCuts.new_row.Goals as goal
 
 pub row-requires-clause-value : goal.row-requires-clause-value
 row-requires-clause-value c priced = c.value-now.ensures.not_negative (model_reading c.args.reading.now) c.requires.there priced
