@@ -37,7 +37,7 @@ pub fn every_run_keeps_its_limits()
 /// Without what happens at its observers a group has the same journals, and its voters keep, try and count the same: after the
 /// very events that are left, unless a packet of an observer was delivered to a voter, or something refused for a full world;
 /// and after all events by some that happen at voters alone. These have the answers that the voters and the agents had, but for
-/// what a full world refused.
+/// the numbers of packets, in events too, and for what a full world refused.
 pub fn observers_change_nothing()
     ensures follows { (voters observers agents : ℕ) (sheet : Sheet) (issuer : Issuer) (events others : List Event) →
         without voters [] 0 events (play (opening voters observers agents sheet issuer) events).0 ≡ Some others →

@@ -1,4 +1,4 @@
-//! Which nodes vote. An observer answers no packet of a ballot.
+//! Which nodes vote. An observer promises, accepts and proposes nothing; of a period that it has learned it tells the cut.
 
 ghost use Rattle.std.specs.Prelude.{◌≡◌, ◌<◌, nat_lt};
 

@@ -26,8 +26,8 @@ pub record Log : Type 0 where
   pub who : Worker
   pub told : List Told
 
--- How many voters and observers, the sheet and the issuer, the texts of each agent, how many periods are to be exported, and how
--- often a gate is asked before a node goes on.
+-- How many voters and observers, the sheet and the issuer, the texts of each agent, how many periods are to be exported, and at
+-- most how often a gate is asked before a node goes on.
 pub record Plan : Type 0 where
   pub voters : ℕ
   pub observers : ℕ

@@ -308,6 +308,14 @@ priced_credit = record (row sheet_in_europe issuer_1 credit 1 New (pos 0) credit
 a_credit_is_not_priced : is_some priced_credit.pricing_category ≡ (is_usage priced_credit || is_purchase priced_credit) → ⊥
 a_credit_is_not_priced e = both_ways true e refl
 
+-- a credit that stands under a commitment
+abbrev committed_credit : Row
+committed_credit = record priced_credit { commitment_discount_id = Some (codes "cm-1") }
+
+a_credit_is_under_no_commitment :
+    (is_some committed_credit.commitment_discount_id ≡ true → (is_usage committed_credit || is_purchase committed_credit) ≡ true) → ⊥
+a_credit_is_under_no_commitment law = both_ways false refl (law refl)
+
 -- a region that the sheet has no name of is left without one
 abbrev nameless : Row
 nameless = record (row sheet_1 issuer_1 bought 2 New (pos 0) bought.value) { region_name = None }
@@ -359,15 +367,3 @@ a_row_stays_on_its_sub_account e = both_ways false refl (ap (λ xs. list_all (λ
 a_row_stays_with_its_payer : at_place (place 1 0) (record { place = place 1 0; row = record billed_row { billing_account_id = codes "A-101" } } ∷ [])
     ≡ (if nat_le 1 (last_of (1 ∷ []) 1) then option_to_list (row_of_reading sheet_in_europe issuer_1 (january ∷ []) 0 (0 ∷ []) (1 ∷ []) (place 1 0) corrected) else []) → ⊥
 a_row_stays_with_its_payer e = both_ways false refl (ap (λ xs. list_all (λ x. is_same x.billing_account_id (codes "A-100")) xs) e)
-
--- a node that bills another payer has other rows than one that has more batches
-rows_of_another_payer : rows sheet_1 (record issuer_1 { account_id = codes "A-101" }) (january ∷ []) 0 (0 ∷ []) (1 ∷ []) ≡ rows sheet_1 issuer_1 journals 0 (0 ∷ []) (1 ∷ []) → ⊥
-rows_of_another_payer e = both_ways false refl (ap (λ xs. list_all (λ x. is_same x.billing_account_id (codes "A-100")) xs) e)
-
--- and its line is not the line of the reading's row
-abbrev moved_row : Row
-moved_row = record billed_row { sub_account_id = Some (codes "acc-8") }
-
-a_moved_row_has_another_line : lines_in (file (moved_row ∷ [])) ≡ record { lines = header_line ∷ line_of_row billed_row ∷ []; rest = [] } → ⊥
-unfolding days_from_civil day_count days_of_years days_of_months worth_of decimals_of digits
-a_moved_row_has_another_line e = both_ways false refl (ap (λ (ls : Lines). list_all (λ line. is_same line header_line || is_same line (line_of_row billed_row)) ls.lines) e)

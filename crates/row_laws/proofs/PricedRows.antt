@@ -131,6 +131,14 @@ status_there Credit c = refl
 status_there Tax c = refl
 status_there Adjustment c = refl
 
+named_on : (k : Kind) (o : Option Commitment) → is_some (option_map (λ c. c.id) (if is_priced k then o else None)) ≡ true
+    → (is_same (category_text k) (codes "Usage") || is_same (category_text k) (codes "Purchase")) ≡ true
+named_on Usage o there = refl
+named_on Purchase o there = refl
+named_on Credit o there = there
+named_on Tax o there = there
+named_on Adjustment o there = there
+
 category_there : (k : Kind) (c : Option Commitment)
     → is_some (by_kind k (if is_some c then Some (codes "Committed") else Some (codes "Standard")) (Some (codes "Standard")) None)
     ≡ (is_same (category_text k) (codes "Usage") || is_same (category_text k) (codes "Purchase"))
@@ -176,6 +184,11 @@ module _ (sheet : Sheet) (issuer : Issuer) (h : Holding) (period : ℕ) (from to
   status_column =
       any_row sheet issuer h period from to (λ x. is_some x.commitment_discount_status ≡ (is_usage x && is_some x.commitment_discount_id))
       (λ r class was now. status_there r.kind (commitment_of sheet r))
+
+  pub named_column : All (λ x. is_some x.commitment_discount_id ≡ true → (is_usage x || is_purchase x) ≡ true) (rows sheet issuer h period from to)
+  named_column =
+      any_row sheet issuer h period from to (λ x. is_some x.commitment_discount_id ≡ true → (is_usage x || is_purchase x) ≡ true)
+      (λ r class was now. named_on r.kind (option_and_then (commitment_with sheet) (or_null r.commitment)))
 
   pub category_column : All (λ x. is_some x.pricing_category ≡ (is_usage x || is_purchase x)) (rows sheet issuer h period from to)
   category_column =

@@ -131,8 +131,8 @@ pub fn unit_prices_times_quantities_are_costs()
 {}
 
 /// In each row the columns that a price gives are there together or null together; so are the two of what was metered, those
-/// of a commitment and those of a region. A commitment has its status on usage, and PricingCategory is there just on usage
-/// and purchases.
+/// of a commitment and those of a region. A commitment stands on usage and purchases alone, with its status on usage, and
+/// PricingCategory is there just on usage and purchases.
 pub fn columns_are_null_together()
     ensures price { (sheet : Sheet) (issuer : Issuer) (h : Holding) (period : ℕ) (from to : Cut) →
         All (λ x. PriceColumnsAre (is_some x.pricing_quantity) x) (rows sheet issuer h period from to) }
@@ -140,6 +140,9 @@ pub fn columns_are_null_together()
         All (λ x. is_some x.consumed_quantity ≡ is_some x.consumed_unit) (rows sheet issuer h period from to) }
     ensures commitment { (sheet : Sheet) (issuer : Issuer) (h : Holding) (period : ℕ) (from to : Cut) →
         All (λ x. CommitmentColumnsAre (is_some x.commitment_discount_id) x) (rows sheet issuer h period from to) }
+    ensures named { (sheet : Sheet) (issuer : Issuer) (h : Holding) (period : ℕ) (from to : Cut) →
+        All (λ x. is_some x.commitment_discount_id ≡ true → (is_usage x || is_purchase x) ≡ true)
+        (rows sheet issuer h period from to) }
     ensures status { (sheet : Sheet) (issuer : Issuer) (h : Holding) (period : ℕ) (from to : Cut) →
         All (λ x. is_some x.commitment_discount_status ≡ (is_usage x && is_some x.commitment_discount_id))
         (rows sheet issuer h period from to) }

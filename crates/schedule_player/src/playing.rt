@@ -40,8 +40,8 @@ fn play_event(
     lines.add(alloc, &reply)
 }
 
-/// Writes what waits, if it is much. So memory for it has a bound, however long a transcript is: what waits before an event is
-/// little, and behind it one reply's text more.
+/// Writes what waits, if it is much. So what waits has a bound, however long a transcript is: before an event it is little, and
+/// behind it one reply's text more. (Of memory no clause speaks, and the file of the last export stays at hand.)
 fn write_many<W: Sink>(lines: &mut ReplyLines, writer: &mut W) -> Result<(), Failed>
     ensures written { OnOk result ((written : List ℕ) × (written ++ lines.new.text ≡ lines.old.text) × Appends (W.contents writer.old) (W.contents writer.new) written) }
     ensures prefix { OnErr result (AppendsPrefix (W.contents writer.old) (W.contents writer.new) lines.old.text) }

@@ -25,7 +25,7 @@ pub fn a_transcript_shows_one_file_a_period()
 
 /// More events only add to a transcript: the text goes on from what it was, and shows each file that it showed. What is left of
 /// one that was torn off behind a line shows no file that the transcript does not show. Torn off within a line it is no text of
-/// whole lines, and then the whole lines that it has show none.
+/// whole lines, and then its whole lines show no file that the transcript does not show either.
 pub fn a_longer_transcript_shows_the_same_files()
     ensures goes_on { (voters observers agents : ℕ) (sheet : Sheet) (issuer : Issuer) (events more : List Event) → (rest : List ℕ) ×
         (transcript (play (opening voters observers agents sheet issuer) (events ++ more)).0
