@@ -7,3 +7,5 @@ pub mod EventLines
 pub mod FirstBadRecords
 pub mod FirstBadLines
 pub mod RatingForms
+mod WorkedChecks
+mod WorkedCredits

@@ -1,2 +1,3 @@
 mod JournalTexts
 mod Ranges
+mod WorkedReports

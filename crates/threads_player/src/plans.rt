@@ -29,6 +29,7 @@ fn plan_with(alloc: Global, size: Size, sheet: Sheet) -> Result<Plan, AllocError
       issuer = sample_issuer;
       journals = journals_of size;
       periods = size.periods;
+      turns = 1_000_000;
     }) }
 {
     Ok(Plan {
