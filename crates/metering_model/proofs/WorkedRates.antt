@@ -46,3 +46,19 @@ last_second_of_the_first = refl
 
 first_day_of_the_second : price_on (pos 20_103) ≡ Some (codes "cpu-later")
 first_day_of_the_second = refl
+
+-- which row stands first decides nothing: the same two, the earlier one first
+abbrev earlier_first : Sheet
+earlier_first = record two_prices { prices = cpu ∷ later_cpu ∷ ops ∷ [] }
+
+abbrev price_on_earlier_first : ℤ → Option (List ℕ)
+price_on_earlier_first day = option_map (λ r. r.price_id) (price_in_force earlier_first (codes "cpu") day)
+
+day_before_earlier_first : price_on_earlier_first (pos 20_088) ≡ None
+day_before_earlier_first = refl
+
+last_day_of_the_first_earlier_first : price_on_earlier_first (pos 20_102) ≡ Some (codes "cpu-od")
+last_day_of_the_first_earlier_first = refl
+
+first_day_of_the_second_earlier_first : price_on_earlier_first (pos 20_103) ≡ Some (codes "cpu-later")
+first_day_of_the_second_earlier_first = refl

@@ -71,3 +71,16 @@ the_last_day_of_the_first = refl
 
 the_first_day_of_the_second : list_price_on (pos 20_103) (Ok two_prices) ≡ Some 200_000
 the_first_day_of_the_second = refl
+
+-- which stands first decides nothing
+abbrev earlier_first : Sheet
+earlier_first = record sheet_0 { prices = cpu ∷ later_cpu ∷ [] }
+
+the_day_before_both_earlier_first : list_price_on (pos 20_088) (Ok earlier_first) ≡ None
+the_day_before_both_earlier_first = refl
+
+the_last_day_of_the_first_earlier_first : list_price_on (pos 20_102) (Ok earlier_first) ≡ Some 100_000
+the_last_day_of_the_first_earlier_first = refl
+
+the_first_day_of_the_second_earlier_first : list_price_on (pos 20_103) (Ok earlier_first) ≡ Some 200_000
+the_first_day_of_the_second_earlier_first = refl

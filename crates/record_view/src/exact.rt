@@ -172,7 +172,7 @@ pub(crate) fn amendment_behind<'a>(letter: &[u8], rest: Field<'_>) -> Result<Rec
     }
 }
 
-/// The record of any reading's line, from what stands behind its letter.
+/// The record of any reading's line in format B1, from what stands behind its letter.
 pub(crate) fn exact_reading<'a>(letter: &[u8], rest: Field<'a>) -> Result<Record<'a>, BatchCode>
     requires placed { IsPlaced (lent rest) }
     requires letter { is_same letter.now (codes "X") ≡ false }

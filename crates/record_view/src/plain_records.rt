@@ -92,7 +92,7 @@ fn plain_reading<'a>(
     }))
 }
 
-/// The record of a reading's line of plain bytes, from what stands behind its letter.
+/// The record of a reading's line of plain bytes in format B1, from what stands behind its letter.
 #[inline(always)]
 pub(crate) fn plain_record<'a>(
     letter: &[u8],
