@@ -6,7 +6,6 @@ ghost use Rattle.std.specs.Ordering.{nat_cmp};
 ghost use Rattle.metering_model.specs.Cut.{Cut as ModelCut, IsAtLeast};
 ghost use Rattle.metering_model.specs.Dates.{month_start, period_start, period_end, period_start_text, period_end_text, stamp_in, IsBaseMonth, IsPeriod};
 
-use crate::months::Month;
 use crate::periods::Period;
 
 /// Periods follow one another without a gap: each has its moments to itself.
@@ -30,12 +29,6 @@ pub fn period_texts_are_of_the_bounds()
         stamp_in (period_start_text base p) ≡ Some (period_start base p) }
     ensures end { (base p : ℕ) → IsBaseMonth base → IsPeriod p →
         stamp_in (period_end_text base p) ≡ Some (period_end base p) }
-{}
-
-/// Months are equal where they are the same month, and ordered as they come.
-pub fn months_are_compared_by_number(a: Month, b: Month)
-    ensures equality { IsTrue (⟦<Month as PartialEq>⟧.eq a b) ↔ (a ≡ b) }
-    ensures order { ⟦<Month as PartialOrd>⟧.partial_cmp a b ≡ Some (nat_cmp a b) }
 {}
 
 /// Periods are equal where their numbers are, and ordered as they come.

@@ -2,9 +2,8 @@
 ghost use Rattle.std.specs.Prelude.{◌≡◌, ◌↔◌, IsSome, IfSome};
 ghost use Rattle.metering_model.specs.Dates.{period_start, period_end, period_start_text, period_end_text, IsBaseMonth, IsPeriod};
 
-use crate::months::Month;
 use std::marker::Model;
-use utc_calendar::dates::Stamp;
+use utc_calendar::{Month, Stamp};
 
 const PERIODS: u16 = 1_200;
 

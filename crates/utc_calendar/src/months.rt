@@ -3,8 +3,8 @@ ghost use Rattle.std.specs.Prelude.{◌≡◌, ℕ, ◌+◌, ◌-◌, ◌*◌, �
 ghost use Rattle.metering_model.specs.Dates.{month_in, month_start, month_start_text, two_digits, IsBaseMonth};
 ghost use Rattle.utc_calendar.specs.Years.{IsMonthNumber};
 
+use crate::dates::{Day, Stamp, month_number};
 use std::marker::Model;
-use utc_calendar::dates::{Day, Stamp, month_number};
 
 const MONTHS_PER_YEAR: u32 = 12;
 
@@ -66,8 +66,8 @@ impl Month {
         self.number
     }
 
-    /// The month so many months later.
-    pub(crate) fn after(self, months: u16) -> Month
+    /// The month so many months later, at most the last of the year 9999.
+    pub fn after(self, months: u16) -> Month
         requires { self + months < 120_000 }
         ensures { result ≡ self + months }
     {
@@ -77,7 +77,7 @@ impl Month {
     }
 
     /// The month's first moment.
-    pub(crate) fn start(self) -> Stamp
+    pub fn start(self) -> Stamp
         ensures { result ≡ month_start self }
     {
         let year = (self.number / MONTHS_PER_YEAR) as u16;
@@ -86,7 +86,7 @@ impl Month {
     }
 
     /// The text of the month's first moment, `YYYY-MM-01T00:00:00Z`.
-    pub(crate) fn start_text(self) -> [u8; 20]
+    pub fn start_text(self) -> [u8; 20]
         ensures { result ≡ month_start_text self }
     {
         let year = self.number / MONTHS_PER_YEAR;
