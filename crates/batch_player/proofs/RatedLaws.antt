@@ -1,6 +1,5 @@
 -- What an input comes to: first its sections, and then its batch.
-use Rattle.std.proofs.Common.{◌≡◌, ◌≢◌, ℕ, ◌<◌, Bool, true, false, List, length, Option, Some, None, Result, Ok, Err, OnOk, IfSome, refl, sym, ap, ◌∙◌, arith, leb-true}
-use Rattle.std.specs.Prelude.{nat_le}
+use Rattle.std.proofs.Common.{◌≡◌, ◌≢◌, ℕ, ◌<◌, List, length, Option, Some, None, Result, Ok, Err, OnOk, IfSome, refl, sym, ap, ◌∙◌}
 use Rattle.metering_model.specs.FirstFailure.{◌>>=◌, holds_or}
 use Rattle.metering_model.specs.declared.Refusal.{Refusal}
 use Rattle.metering_model.specs.SheetRules.{IsSheet, IsIssuer}
@@ -9,23 +8,13 @@ use Rattle.input_sections.specs.declared.faults.ScheduleFault.{ScheduleFault}
 use Rattle.input_sections.specs.declared.faults.ScheduleFault.TheVariants as faults
 use Rattle.input_sections.specs.Sections.{Unread, whole_of}
 use Rattle.input_sections.specs.RateInput.{RateInput, rate_input_in}
-use Rattle.batch_player.specs.declared.faults.PlayFault.{PlayFault}
-use Rattle.batch_player.specs.declared.faults.PlayFault.TheVariants.{Schedule, Refused}
+use Rattle.program_input.specs.declared.faults.PlayFault.{PlayFault}
+use Rattle.program_input.specs.declared.faults.PlayFault.TheVariants.{Schedule, Refused}
 use Rattle.batch_player.specs.RateInput.{or_schedule, or_refused, file_by, rated_file}
-use Rattle.batch_player.specs.Faults.{of_sections}
+use Rattle.program_input.specs.Faults.{of_sections}
+use Rattle.program_input.proofs.FaultLaws.{first_fails, is_longer, same_section}
 use Rattle.batch_player.specs.Charges.{IsFileOf}
 use Rattle.batch_player.proofs.ChargesLaws.{bills_batch}
-
--- a step that fails is the answer
-pub first_fails : {A B E : Type 0} (r : Result A E) (f : A → Result B E) (e : E) → r ≡ Err e → (r >>= f) ≡ Err e
-first_fails r f e is = ap (λ x. x >>= f) is
-
-pub is_longer : (n most : ℕ) → most < n → nat_le n most ≡ false
-is_longer n most longer = cases (nat_le n most) refl
-  where
-    cases : (b : Bool) → nat_le n most ≡ b → nat_le n most ≡ false
-    cases true e = absurd (omega (arith, leb-true n most e))
-    cases false e = e
 
 pub rated_badly : (period : ℕ) (input : List ℕ) (fault : ScheduleFault) → rate_input_in input ≡ Err fault → rated_file period input ≡ Err (Schedule fault)
 unfolding rated_file
@@ -45,20 +34,6 @@ too_long period input longer =
     rated_badly period input fault (first_fails (whole_of input) _ fault whole)
 
 -- ---- answers
-
-abbrev section_told : {T : Type 0} → Result T PlayFault → ScheduleFault → ScheduleFault
-section_told (Err (Schedule fault)) other = fault
-section_told r other = other
-
-pub same_section : {T : Type 0} (x y : ScheduleFault) → ◌≡◌ {A = Result T PlayFault} (Err (Schedule x)) (Err (Schedule y)) → x ≡ y
-same_section x y is = ap (λ r. section_told r x) is
-
-abbrev refusal_told : {T : Type 0} → Result T PlayFault → Refusal → Refusal
-refusal_told (Err (Refused refusal)) other = refusal
-refusal_told r other = other
-
-pub same_refusal : {T : Type 0} (x y : Refusal) → ◌≡◌ {A = Result T PlayFault} (Err (Refused x)) (Err (Refused y)) → x ≡ y
-same_refusal x y is = ap (λ r. refusal_told r x) is
 
 -- more bytes than an input may have, if they are known
 pub longer_known : (known : Option (List ℕ)) (fault : ScheduleFault) → IfSome known (λ bytes. 16_777_216 < length bytes) → faults.Refused TooLong 1 ≡ fault

@@ -1,4 +1,2 @@
 pub mod RateInput
 pub mod Charges
-pub mod Faults
-pub mod Inner

@@ -15,8 +15,8 @@ use Rattle.metering_model.specs.Step.{or_bad_batch, on_batch}
 use Rattle.metering_model.specs.File.{file}
 use Rattle.input_sections.specs.declared.faults.ScheduleFault.{ScheduleFault}
 use Rattle.input_sections.specs.RateInput.{rate_input_in}
-use Rattle.batch_player.specs.declared.faults.PlayFault.{PlayFault}
-use Rattle.batch_player.specs.declared.faults.PlayFault.TheVariants.{Schedule, Refused}
+use Rattle.program_input.specs.declared.faults.PlayFault.{PlayFault}
+use Rattle.program_input.specs.declared.faults.PlayFault.TheVariants.{Schedule, Refused}
 
 -- a world of one node and 64 agents, in which nothing has happened
 abbrev pub world_before : Sheet → Issuer → World

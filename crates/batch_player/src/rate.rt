@@ -18,17 +18,16 @@ ghost use Rattle.batch_view.specs.Batches.{batch_of};
 ghost use Rattle.input_sections.specs.declared.faults.ScheduleFault.{ScheduleFault};
 ghost use Rattle.batch_player.specs.RateInput.{file_by, journaled_in, rated_file};
 ghost use Rattle.batch_player.specs.Charges.{IsFileOf};
-ghost use Rattle.batch_player.specs.Faults.{tells_of_reader, tells_of_writer};
+ghost use Rattle.program_input.specs.Faults.{tells_of_reader, tells_of_writer};
 
-use crate::PlayFault;
 use crate::files::file_between;
-use crate::input::read_input;
 use batch_view::{BatchView, Offer, OwnedBatch};
 use counted_io::{Sink, Source, write_all};
 use focus_csv::{Cut, Issuer, Period, Sheet, Store};
 use input_sections::{ScheduleFault, rate_input};
 use journal_rules::first_broken_alone;
 use metering_model::{BrokenRule, Refusal};
+use program_input::{PlayFault, read_input};
 use std::alloc::{AllocError, Global};
 use std::sync::Arc;
 

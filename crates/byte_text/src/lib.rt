@@ -4,7 +4,6 @@
 mod finding;
 mod lines;
 mod numbers;
-mod refusals;
 mod wholes;
 
 pub use finding::{
@@ -12,5 +11,4 @@ pub use finding::{
 };
 pub use lines::Line;
 pub use numbers::{put_if_any, put_number, put_numbered, put_two_digits};
-pub use refusals::{code_word, kept_code_word, refusal_line};
 pub use wholes::{is_whole_part, read_whole, whole_up_to};

@@ -8,11 +8,11 @@ use Rattle.metering_model.specs.Transcript.{line, refusal_text, with_number}
 use Rattle.input_sections.specs.declared.faults.ScheduleCode.TheVariants as code
 use Rattle.input_sections.specs.declared.faults.ScheduleFault.TheVariants as section
 use Rattle.command_line.specs.declared.words.LineFault.TheVariants as on_line
-use Rattle.schedule_player.specs.declared.PlayFault.TheVariants as play
+use Rattle.program_input.specs.declared.faults.PlayFault.TheVariants as play
 use Rattle.period_file.specs.declared.faults.FileFault.TheVariants as file
 use Rattle.threads_player.specs.declared.RunFault.TheVariants as of_run
 use Rattle.threads_player.specs.declared.faults.ThreadsFault.TheVariants as threads
-use Rattle.input_check.specs.Words.{section_text}
+use Rattle.answer_words.specs.Words.{section_text}
 use Rattle.command_line.specs.declared.statuses.Fault.{Fault}
 use Rattle.command_line.specs.declared.statuses.Fault.TheVariants.{Line, Play, Faults, File, Threads}
 

@@ -25,10 +25,10 @@ use Rattle.input_sections.specs.Sections.{Section, Unread, begins_with, left, li
 use Rattle.input_sections.specs.RateInput.{rate_input_in}
 use Rattle.schedule_reader.specs.Schedules.{Preamble, ReadSchedule, event_in, events_in, preamble_in}
 use Rattle.schedule_player.specs.Transcripts.{replies_to}
-use Rattle.batch_player.specs.declared.faults.PlayFault.{PlayFault}
-use Rattle.batch_player.specs.declared.faults.PlayFault.TheVariants as play
+use Rattle.program_input.specs.declared.faults.PlayFault.{PlayFault}
+use Rattle.program_input.specs.declared.faults.PlayFault.TheVariants as play
 use Rattle.batch_player.specs.RateInput.{journaled_in}
-use Rattle.input_check.specs.Words.{issuer_fault_text, section_text, sheet_fault_text}
+use Rattle.answer_words.specs.Words.{issuer_fault_text, section_text, sheet_fault_text}
 
 -- ---- a section
 

@@ -10,7 +10,8 @@ ghost use Rattle.input_check.specs.Checks.{line_of, line_within, said_at, said_o
 use crate::sections::put_fault;
 use batch_player::first_refusal;
 use batch_view::BatchView;
-use byte_text::{line_count, put_numbered, refusal_line};
+use byte_text::{line_count, put_numbered};
+use answer_words::refusal_line;
 use input_sections::rate_input;
 use journal_rules::first_bad_alone;
 use metering_model::Refusal;

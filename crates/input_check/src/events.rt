@@ -11,7 +11,8 @@ ghost use Rattle.input_check.specs.Checks.{said_of_events, said_of_reply, said_o
 ghost use Rattle.input_check.specs.Inner.Faults.{fault_of};
 
 use crate::sections::put_fault;
-use byte_text::{Line, refusal_line};
+use byte_text::Line;
+use answer_words::refusal_line;
 use group_core::{Reply, World};
 use input_sections::{ScheduleFault, Unread};
 use metering_model::Refusal;

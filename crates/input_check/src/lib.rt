@@ -7,7 +7,5 @@ mod checks;
 mod events;
 pub mod laws;
 mod sections;
-mod words;
 
 pub use checks::check_text;
-pub use words::put_section;

@@ -1,19 +1,19 @@
 //! The rule on prices: usage and purchases have a price in force, and a commitment that fits.
 
 ghost use Rattle.std.specs.Prelude.{◌≡◌};
-ghost use Rattle.std.specs.Option.{option_copied};
 ghost use Rattle.metering_model.specs.JournalRules.{is_fit_commitment, is_fit_reading};
+ghost use Rattle.metering_model.specs.Row.{commitment_of};
 ghost use Rattle.batch_view.specs.Asked.{reading_asked};
 
 use batch_view::{AskedReading, Kind};
 use byte_text::is_same;
-use rating::{Commitment, Sheet, commitment_for, is_priced, price_for};
+use rating::{Sheet, commitment_for, is_priced, price_for};
 
 /// Whether the reading names no commitment, or one that fits it: usage its SKU, a purchase the SKU that buys it.
-fn is_fit_commitment(reading: &AskedReading<'_>, commitment: Option<&Commitment>) -> bool
-    ensures { result ≡ is_fit_commitment (reading_asked reading.now) (option_copied commitment.entry) }
+fn has_fit_commitment(sheet: &Sheet, reading: &AskedReading<'_>) -> bool
+    ensures { result ≡ is_fit_commitment (reading_asked reading.now) (commitment_of sheet.now (reading_asked reading.now)) }
 {
-    let Some(commitment) = commitment else {
+    let Some(commitment) = commitment_for(sheet, reading.kind, reading.commitment) else {
         return reading.commitment.is_empty();
     };
     match reading.kind {
@@ -29,8 +29,5 @@ pub(crate) fn is_fit_reading(sheet: &Sheet, reading: &AskedReading<'_>) -> bool
 {
     !is_priced(reading.kind)
         || (price_for(sheet, reading.kind, reading.key, reading.start).is_some()
-            && is_fit_commitment(
-                reading,
-                commitment_for(sheet, reading.kind, reading.commitment),
-            ))
+            && has_fit_commitment(sheet, reading))
 }

@@ -2,7 +2,8 @@
 
 use crate::digests::Digest;
 use crate::inputs::Inputs;
-use batch_player::{PlayFault, rate_text};
+use program_input::PlayFault;
+use batch_player::rate_text;
 use counted_io::{Counted, write_all};
 use input_check::check_text;
 use period_cut::Period;

@@ -10,7 +10,7 @@ use Rattle.input_sections.specs.declared.faults.ScheduleFault.TheVariants as fau
 use Rattle.input_sections.specs.Sections.{Unread, whole_of}
 use Rattle.schedule_reader.specs.Schedules.{group_in, schedule_in}
 use Rattle.schedule_player.specs.Transcripts.{IsTranscriptOf, IsPrefixOfTranscript}
-use Rattle.batch_player.proofs.RatedLaws.{first_fails, is_longer}
+use Rattle.program_input.proofs.FaultLaws.{first_fails, is_longer}
 
 too_long : (input : List ℕ) → 16_777_216 < length input → schedule_in input ≡ Err (faults.Refused TooLong 1)
 unfolding schedule_in group_in

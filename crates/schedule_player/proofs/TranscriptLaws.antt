@@ -14,8 +14,8 @@ use Rattle.schedule_reader.specs.Schedules.{ReadSchedule, group_in, schedule_in}
 use Rattle.schedule_reader.specs.Forms.{IsRead}
 use Rattle.transcript_laws.proofs.EveryTranscript.{holds_of_bytes}
 use Rattle.input_sections.specs.declared.faults.ScheduleFault.{ScheduleFault}
-use Rattle.batch_player.specs.Faults.{of_sections}
-use Rattle.batch_player.specs.declared.faults.PlayFault.{PlayFault}
+use Rattle.program_input.specs.Faults.{of_sections}
+use Rattle.program_input.specs.declared.faults.PlayFault.{PlayFault}
 use Rattle.schedule_player.specs.Transcripts.{IsTranscriptOf, IsTranscriptOfFirst, IsPrefixOfTranscript, replies_to}
 use Rattle.schedule_player.specs.Inner.Playing.{AppendsFirst, events_of, read_of, text_of}
 

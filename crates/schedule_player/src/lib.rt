@@ -5,10 +5,8 @@ mod events;
 mod play;
 mod playing;
 mod reply_lines;
-mod words;
+mod reply_texts;
 
-pub use batch_player::{PlayFault, file_between, rate_batch, rate_text};
 pub use events::event_of;
-pub use input_sections::{ScheduleCode, ScheduleFault};
 pub use play::{opening_world, play_text};
 pub use schedule_reader::{Planned, Schedule};

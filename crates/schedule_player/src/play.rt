@@ -11,12 +11,12 @@ ghost use Rattle.metering_model.specs.Transcript.{transcript};
 ghost use Rattle.input_sections.specs.declared.faults.ScheduleFault.{ScheduleFault};
 ghost use Rattle.schedule_reader.specs.Schedules.{group_in, schedule_in};
 ghost use Rattle.schedule_reader.specs.Events.{HasWholeLines};
-ghost use Rattle.batch_player.specs.Faults.{tells_of_reader, tells_of_writer};
+ghost use Rattle.program_input.specs.Faults.{tells_of_reader, tells_of_writer};
 ghost use Rattle.schedule_player.specs.Transcripts.{IsPrefixOfTranscript, IsTranscriptOf, replies_to};
 ghost use Rattle.schedule_player.specs.Inner.Playing.{AppendsFirst, read_of};
 
 use crate::playing::play_events;
-use batch_player::{PlayFault, read_input};
+use program_input::{PlayFault, read_input};
 use counted_io::{Sink, Source};
 use group_core::{Issuer, Sheet, World};
 use input_sections::ScheduleFault;

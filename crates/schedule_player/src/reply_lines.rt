@@ -8,7 +8,7 @@ ghost use Rattle.metering_model.specs.Transcript.{reply_text};
 ghost use Rattle.group_core.specs.Words.{reply_of};
 ghost use Rattle.schedule_player.specs.Inner.Held.{FitsReply, exported_period, is_same_period, told, told_of, waiting};
 
-use crate::words::set_words;
+use crate::reply_texts::set_words;
 use counted_io::{Failed, Sink, write_all};
 use group_core::{Period, Reply};
 use std::alloc::{AllocError, Global};

@@ -2,7 +2,7 @@
 use Rattle.std.specs.Prelude.{◌≡◌, ◌≢◌, ◌⊎◌, ℕ, List, Option, Result, Ok, Err}
 use Rattle.counted_io.specs.Counts.{next_count}
 use Rattle.counted_io.specs.declared.writing.Sink.{Ghosts as SinkOf}
-use Rattle.schedule_player.specs.declared.PlayFault.TheVariants as play
+use Rattle.program_input.specs.declared.faults.PlayFault.TheVariants as play
 use Rattle.period_file.specs.Files.{AppendsFront}
 use Rattle.command_line.specs.Endings.{Tells, ending_line, status_of}
 use Rattle.command_line.specs.Runs.{IsDone, IsDoneInPart, IsLeftBy, IsPlayedInPart, Refuses, SaysOf}

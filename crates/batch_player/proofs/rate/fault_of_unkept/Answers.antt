@@ -1,6 +1,6 @@
 use Rattle.std.proofs.Common.{Err, ap, ◌∙◌}
 use Rattle.batch_player.proofs.JournaledLaws.{no_batch}
-use Rattle.batch_player.proofs.RatedLaws.{same_refusal}
+use Rattle.program_input.proofs.FaultLaws.{same_refusal}
 use Rattle.batch_player.proofs.rate.fault_of_unkept.Goals as goal
 
 pub returns-in-Err-clause-refused : goal.returns-in-Err-clause-refused

@@ -1,6 +1,6 @@
 use Rattle.std.proofs.Common.{Err, ap, ◌∙◌}
 use Rattle.batch_player.proofs.JournaledLaws.{no_batch, not_filed}
-use Rattle.batch_player.proofs.RatedLaws.{same_refusal}
+use Rattle.program_input.proofs.FaultLaws.{same_refusal}
 use Rattle.batch_player.proofs.rate.rate_batch.Goals as goal
 
 pub returns-in-Ok-Bad-clause-refused : goal.returns-in-Ok-Bad-clause-refused

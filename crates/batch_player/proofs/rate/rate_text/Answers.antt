@@ -1,6 +1,6 @@
 use Rattle.std.proofs.Common.{rules, sym}
 use Rattle.input_sections.specs.declared.faults.ScheduleFault.TheVariants.{OutOfMemory}
-use Rattle.batch_player.specs.declared.faults.PlayFault.TheVariants.{Schedule}
+use Rattle.program_input.specs.declared.faults.PlayFault.TheVariants.{Schedule}
 use Rattle.batch_player.proofs.RatedLaws.{at_period, longer_known}
 use Rattle.batch_player.proofs.rate.rate_text.Goals as goal
 

@@ -2,8 +2,8 @@ use Rattle.std.proofs.Common.{◌≡◌, ◌≢◌, ℕ, List, Option, Err, IfSo
 use Rattle.metering_model.specs.declared.Refusal.{Refusal}
 use Rattle.input_sections.specs.declared.faults.ScheduleFault.{ScheduleFault}
 use Rattle.schedule_player.specs.Schedules.{schedule_in}
-use Rattle.schedule_player.specs.declared.PlayFault.{PlayFault}
-use Rattle.schedule_player.specs.declared.PlayFault.TheVariants as play
+use Rattle.program_input.specs.declared.faults.PlayFault.{PlayFault}
+use Rattle.program_input.specs.declared.faults.PlayFault.TheVariants as play
 use Rattle.command_line.specs.declared.commands.Command.TheVariants.{Play as PlaySchedule}
 use Rattle.command_line.specs.declared.statuses.Fault.TheVariants.{Play}
 use Rattle.command_line.specs.Endings.{status_of}

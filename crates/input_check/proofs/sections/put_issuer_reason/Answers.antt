@@ -1,6 +1,6 @@
 use Rattle.std.proofs.Common.{◌≡◌, ◌++◌, List, ℕ, OnOk, sym, ap, subst, ◌∙◌}
 use Rattle.sheet_text.specs.IssuerReading.{issuer_of_text}
-use Rattle.input_check.specs.Words.{issuer_fault_text}
+use Rattle.answer_words.specs.Words.{issuer_fault_text}
 use Rattle.input_check.specs.Checks.{said_by}
 use Rattle.input_check.proofs.SaidLaws.{said_of_other, said_of_utf8}
 use Rattle.input_check.proofs.sections.put_issuer_reason.Goals as goal

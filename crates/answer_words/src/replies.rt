@@ -1,0 +1,84 @@
+//! The words of a reply's line. A file or a kept text that stands behind it is put by the caller.
+//!
+//! Where memory is refused, a part of the words may stand behind what was there.
+
+ghost use Rattle.std.specs.Prelude.{◌≡◌, ◌++◌, codes, OnOk};
+ghost use Rattle.metering_model.specs.Transcript.{if_any, refusal_text, with_number};
+
+use crate::refusals::refusal_line;
+use byte_text::{put_if_any, put_numbered};
+use metering_model::Refusal;
+use paxos_ballot::Ballot;
+use period_cut::Period;
+use std::alloc::AllocError;
+
+/// Appends the packet that a batch went out in.
+pub fn put_journaled(line: &mut Vec<u8>, packet: u32) -> Result<(), AllocError>
+    ensures { OnOk result (line.new.items ≡ line.old.items ++ with_number (codes "journaled packet ") packet) }
+{
+    put_numbered(line, b"journaled packet ", u128::from(packet))
+}
+
+/// Appends which period a node learned, where it learned one.
+fn put_learned(line: &mut Vec<u8>, learned: Option<Period>) -> Result<(), AllocError>
+    ensures { OnOk result (line.new.items ≡ line.old.items ++ if_any (codes " learned ") learned) }
+{
+    match learned {
+        Some(period) => put_numbered(line, b" learned ", u128::from(period.number())),
+        None => Ok(()),
+    }
+}
+
+/// Appends what a node did with a packet.
+pub fn put_delivered(
+    line: &mut Vec<u8>,
+    sent: Option<u32>,
+    learned: Option<Period>,
+) -> Result<(), AllocError>
+    ensures { OnOk result (line.new.items
+        ≡ line.old.items ++ (codes "delivered" ++ if_any (codes " sent ") sent ++ if_any (codes " learned ") learned)) }
+{
+    line.extend_from_slice(b"delivered")?;
+    put_if_any(line, b" sent ", sent)?;
+    put_learned(line, learned)
+}
+
+/// Appends which ballot a node began, and the packet that it sent.
+pub fn put_started(line: &mut Vec<u8>, ballot: Ballot, packet: u32) -> Result<(), AllocError>
+    ensures { OnOk result (line.new.items
+        ≡ line.old.items ++ (with_number (codes "started ballot ") ballot ++ with_number (codes " packet ") packet)) }
+{
+    put_numbered(line, b"started ballot ", u128::from(ballot.number()))?;
+    put_numbered(line, b" packet ", u128::from(packet))
+}
+
+/// Appends that a node began again.
+pub fn put_restarted(line: &mut Vec<u8>) -> Result<(), AllocError>
+    ensures { OnOk result (line.new.items ≡ line.old.items ++ codes "restarted") }
+{
+    line.extend_from_slice(b"restarted")
+}
+
+/// Appends of which period an export is, and how many lines its file has.
+pub fn put_exported(line: &mut Vec<u8>, period: Period, lines: usize) -> Result<(), AllocError>
+    ensures { OnOk result (line.new.items
+        ≡ line.old.items ++ (with_number (codes "exported period ") period ++ with_number (codes " lines ") lines)) }
+{
+    put_numbered(line, b"exported period ", u128::from(period.number()))?;
+    put_numbered(line, b" lines ", lines as u128)
+}
+
+/// Appends how many lines a kept text has.
+pub fn put_kept(line: &mut Vec<u8>, lines: usize) -> Result<(), AllocError>
+    ensures { OnOk result (line.new.items ≡ line.old.items ++ with_number (codes "kept lines ") lines) }
+{
+    put_numbered(line, b"kept lines ", lines as u128)
+}
+
+/// Appends why nothing was done.
+pub fn put_refused(line: &mut Vec<u8>, refusal: Refusal) -> Result<(), AllocError>
+    ensures { OnOk result (line.new.items ≡ line.old.items ++ (codes "refused " ++ refusal_text refusal)) }
+{
+    line.extend_from_slice(b"refused ")?;
+    line.extend_from_slice(refusal_line(refusal).as_slice())
+}

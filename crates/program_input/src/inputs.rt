@@ -1,0 +1,51 @@
+//! All of an input, which a schedule and a batch have alike.
+
+ghost use Rattle.std.specs.Prelude.{◌≡◌, ◌≢◌, ◌<◌, Err, length, IfOk, IfSome, OnOk};
+ghost use Rattle.std.specs.Io.KnownBytes.{IsAtEnd};
+ghost use Rattle.counted_io.specs.Counts.{Rises, count_after};
+ghost use Rattle.counted_io.specs.Reading.{ConsumesAtMost};
+ghost use Rattle.metering_model.specs.declared.Refusal.{Refusal};
+ghost use Rattle.input_sections.specs.declared.faults.ScheduleFault.{ScheduleFault};
+ghost use Rattle.program_input.specs.Inner.Inputs.{whole_input};
+ghost use Rattle.program_input.specs.Faults.{tells_of_reader};
+
+use crate::PlayFault;
+use counted_io::{Input, ReadFault, Source, read_to_limit};
+use input_sections::{ScheduleCode, ScheduleFault};
+use std::alloc::Global;
+
+/// The most bytes that an input may have.
+const MOST_BYTES: u32 = 16_777_216;
+
+/// What comes of reading up to the limit: want of memory and a failed call are told just where they were met.
+fn answer_of(read: Result<Input, ReadFault>) -> Result<Vec<u8>, PlayFault>
+    ensures { result ≡ whole_input read }
+{
+    match read {
+        Ok(Input::Whole(bytes)) => Ok(bytes),
+        Ok(Input::TooLong) => Err(PlayFault::Schedule(ScheduleFault::Refused {
+            code: ScheduleCode::TooLong,
+            line: 1,
+        })),
+        Err(fault) => Err(PlayFault::from(fault)),
+    }
+}
+
+/// All of the input. One that is too long is refused at line 1, whatever it is for.
+pub fn read_input<R: Source>(alloc: Global, reader: &mut R) -> Result<Vec<u8>, PlayFault>
+    ensures whole { IfOk result
+        (λ bytes. IfSome (R.remaining reader.old) (λ input. bytes.items ≡ input)) }
+    ensures end { OnOk result (IsAtEnd (R.remaining reader.new)) }
+    ensures section { (fault : ScheduleFault) → result ≡ Err (PlayFault.Schedule fault)
+        → (fault ≡ ScheduleFault.Refused ScheduleCode.TooLong 1)
+        × IfSome (R.remaining reader.old) (λ input. 16_777_216 < length input) }
+    ensures fault { result ≡ Err PlayFault.Read
+        → Rises (R.failed_calls reader.old) (R.failed_calls reader.new) }
+    ensures taken { ConsumesAtMost 16_777_217 (R.remaining reader.old) (R.remaining reader.new) }
+    ensures count { R.failed_calls reader.new
+        ≡ count_after (tells_of_reader result) (R.failed_calls reader.old) }
+    ensures no_write { result ≢ Err PlayFault.Write }
+    ensures no_refusal { (refusal : Refusal) → result ≢ Err (PlayFault.Refused refusal) }
+{
+    answer_of(read_to_limit(alloc, reader, MOST_BYTES))
+}
