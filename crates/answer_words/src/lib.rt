@@ -9,3 +9,4 @@ mod sheet_faults;
 pub use refusals::{code_word, kept_code_word, refusal_line};
 pub use sections::put_section;
 pub use sheet_faults::{put_issuer_fault, put_sheet_fault};
+pub use byte_text::Line;

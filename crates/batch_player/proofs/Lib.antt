@@ -4,3 +4,4 @@ pub mod JournaledLaws
 pub mod ChargesLaws
 pub mod FrontLaws
 pub mod RatedLaws
+pub mod BatchLemmas

@@ -1,2 +1,3 @@
 pub mod RateInput
 pub mod Charges
+pub mod Batches

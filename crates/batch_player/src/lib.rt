@@ -6,3 +6,4 @@ mod rate;
 
 pub use files::file_between;
 pub use rate::{first_refusal, rate_batch, rate_text};
+pub use batch_view::BatchView;

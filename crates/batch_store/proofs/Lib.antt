@@ -15,3 +15,4 @@ pub mod Spared
 mod SameBatches
 pub mod Clones
 pub mod RowLaws
+pub mod CutTexts

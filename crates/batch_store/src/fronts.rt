@@ -7,7 +7,7 @@ ghost use Rattle.batch_store.specs.Stores.{IsStored};
 ghost use Rattle.batch_store.specs.Inner.Fronts.{is_due_by, IsLastDue};
 
 use crate::Store;
-use batch_view::Stamp;
+use period_cut::Stamp;
 use period_cut::{Cut, Month, Period};
 use std::alloc::{AllocError, Global};
 

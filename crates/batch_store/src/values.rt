@@ -10,7 +10,8 @@ ghost use Rattle.batch_store.specs.Stores.{IsStored, position_of};
 ghost use Rattle.batch_store.specs.Inner.Values.{last_given};
 
 use crate::{RecordPlace, Store};
-use batch_view::{OwnedBatch, Value};
+use batch_view::OwnedBatch;
+use fx_money::Value;
 
 /// Whether the record at that index of the batch is a reading.
 fn is_reading(batch: &OwnedBatch, index: u16) -> bool

@@ -17,7 +17,7 @@ use Rattle.batch_view.specs.Inner.Lines.{lines_from, first_record, head_line, Ha
 use Rattle.batch_view.specs.declared.head.Head.{Head}
 use Rattle.record_view.specs.declared.records.Record.{Record as LentRecord}
 use Rattle.batch_view.proofs.LineLemmas.{one_more_line}
-use Rattle.byte_text.proofs.LineLemmas.{lines_at_feed, lines_without_feed}
+use Rattle.record_view.proofs.LineLemmas.{lines_at_feed, lines_without_feed}
 use Rattle.batch_view.proofs.RecordLemmas.{bind_ok, length-records_in, enough_lines, record_at}
 
 pub batch_of_is : (bytes : List ℕ) (b : Batch) → batch_in bytes ≡ Ok b → batch_of bytes ≡ b

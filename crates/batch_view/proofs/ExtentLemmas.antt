@@ -7,8 +7,8 @@ use Rattle.std.proofs.lemmas.List.{take-append-drop}
 use Rattle.std.proofs.lemmas.Option.{same_Some, none-some}
 use Rattle.metering_model.specs.BatchReading.{HeadLine, head_in, fields_in, lines_in}
 use Rattle.metering_model.specs.Schedule.{lines_text}
-use Rattle.byte_text.specs.Lines.{IsPast}
-use Rattle.byte_text.proofs.PastLines.{front_length, longer_front, HasFront, has_front}
+use Rattle.record_view.specs.Lines.{IsPast}
+use Rattle.record_view.proofs.PastLines.{front_length, longer_front, HasFront, has_front}
 use Rattle.batch_view.specs.Extents.{counted, batch_length, extent_in}
 
 -- ---- a text and its front

@@ -10,9 +10,9 @@ use Rattle.std.proofs.lemmas.Option.{cond_some}
 use Rattle.metering_model.specs.declared.BatchCode.TheVariants.{Head as NoHead}
 use Rattle.metering_model.specs.BatchReading.{fields_in, head_in, lines_in}
 use Rattle.metering_model.specs.Schedule.{lines_text}
-use Rattle.byte_text.specs.Lines.{IsPast}
-use Rattle.byte_text.proofs.LineLemmas.{lines_at_feed, lines_without_feed}
-use Rattle.byte_text.proofs.PastLines.{past_none, past_next}
+use Rattle.record_view.specs.Lines.{IsPast}
+use Rattle.record_view.proofs.LineLemmas.{lines_at_feed, lines_without_feed}
+use Rattle.record_view.proofs.PastLines.{past_none, past_next}
 use Rattle.batch_view.specs.declared.head.Head.{Head}
 use Rattle.batch_view.specs.Extents.{counted, extent_in}
 use Rattle.batch_view.specs.Inner.Lines.{IsFirstLine, IsBehindLines, head_line, BeginsWithHead}

@@ -5,7 +5,6 @@ pub mod FirstLemmas
 pub mod RecordLemmas
 pub mod StepLemmas
 pub mod WalkLemmas
-pub mod TagsHold
 pub mod EntryLemmas
 pub mod AmendedLemmas
 pub mod NamedLemmas

@@ -7,7 +7,7 @@ use Rattle.metering_model.specs.BatchReading.{lines_in, with_line}
 use Rattle.batch_view.specs.Batches.{line_spans}
 use Rattle.batch_view.specs.Inner.Lines.{IsFirstLine, IsBehindLines, lines_from}
 use Rattle.record_view.specs.declared.fields.Span.{Span}
-use Rattle.byte_text.proofs.LineLemmas.{lines_at_feed}
+use Rattle.record_view.proofs.LineLemmas.{lines_at_feed}
 
 -- the same in the middle of a text
 pub first_line : (text : List ℕ) (from i : ℕ) → position (λ c. c == 10) (drop from text) ≡ Some i → from ≤ length text → IsFirstLine text from (record { from = from; to = from + i })

@@ -1,5 +1,3 @@
-pub mod Parts
-pub mod TagTexts
 pub mod Lent
 pub mod Batches
 pub mod Asked

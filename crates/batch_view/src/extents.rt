@@ -8,7 +8,7 @@ ghost use Rattle.batch_view.specs.Inner.First.{IsFirstBatch, IsHeadFirst};
 use crate::batch::BatchView;
 use crate::first_fault::MOST_BYTES;
 use crate::head::{Head, head_of_line};
-use byte_text::{find_byte, lines_length};
+use record_view::{find_byte, lines_length};
 use record_view::Span;
 
 /// The head line that comes first, if one does.

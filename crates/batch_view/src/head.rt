@@ -5,7 +5,7 @@ ghost use Rattle.metering_model.specs.BatchReading.{fields_in, version_in, head_
 ghost use Rattle.batch_view.specs.Inner.Lines.{head_line, BeginsWithHead};
 
 use crate::lines::next_line;
-use byte_text::{read_whole, split_at_bar};
+use record_view::{read_whole, split_at_bar};
 use metering_model::{BatchCode, BatchFault, Version};
 use record_view::Span;
 

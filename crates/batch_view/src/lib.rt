@@ -5,9 +5,7 @@ pub use asked::{Asked, AskedReading, AskedRecords};
 pub use batch::{BatchView, Records};
 pub use metering_model::{BatchCode, BatchFault, Kind};
 pub use owned::{Amendment, Offer, OwnedBatch};
-pub use record_view::{
-    Day, Field, Reading, Record, Span, Stamp, Tags, Value, calendar, dates, laws,
-};
+pub use record_view::{Reading, Record};
 
 mod amendments;
 mod asked;

@@ -3,7 +3,7 @@
 ghost use Rattle.std.specs.Prelude.{◌≡◌, ◌==◌, ◌≤◌, length, MatchOption};
 ghost use Rattle.batch_view.specs.Inner.Lines.{IsFirstLine, HasNoLine};
 
-use byte_text::find_byte;
+use record_view::find_byte;
 use record_view::Span;
 
 /// The line that begins at `from`, without its line feed, or None where none follows.

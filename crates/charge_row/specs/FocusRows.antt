@@ -2,8 +2,8 @@
 use Rattle.std.specs.Prelude.{map}
 use Rattle.std.specs.Option.{option_copied}
 use Rattle.metering_model.specs.Row.{Row}
-use Rattle.batch_view.specs.TagTexts.{tag_of}
-use Rattle.batch_view.specs.Lent.{lent_tags}
+use Rattle.rating.specs.TagTexts.{tag_of}
+use Rattle.rating.specs.Lent.{lent_tags}
 use Rattle.charge_row.specs.declared.columns.FocusRow.{FocusRow}
 
 abbrev pub model_row : FocusRow → Row

@@ -1,7 +1,7 @@
 //! A charge, column by column.
 
-use batch_view::Tags;
-use fx_money::{Cost, Delta, Price};
+use rating::Tags;
+use rating::{Cost, Delta, Price};
 
 /// A row of a FOCUS file. Its texts are lent by the batch, the sheet, the issuer and the program; null is `None`.
 ///

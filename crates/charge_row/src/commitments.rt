@@ -6,8 +6,8 @@ ghost use Rattle.metering_model.specs.Sheet.{commitment_category_text};
 ghost use Rattle.metering_model.specs.Row.{by_kind};
 
 use crate::words::commitment_category_text;
-use batch_view::Kind;
-use rating::Commitment;
+use metering_model::Kind;
+use sheet_text::Commitment;
 
 /// The columns that the commitment gives.
 #[derive(Clone, Copy)]

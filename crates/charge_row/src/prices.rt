@@ -6,9 +6,9 @@ ghost use Rattle.metering_model.specs.Sheet.{service_category_text};
 ghost use Rattle.metering_model.specs.Row.{by_kind};
 
 use crate::words::service_category_text;
-use batch_view::Kind;
-use fx_money::Price;
-use rating::{Issuer, PriceRow};
+use metering_model::Kind;
+use rating::Price;
+use sheet_text::{Issuer, PriceRow};
 
 /// The columns that the price in force gives.
 #[derive(Clone, Copy)]

@@ -3,11 +3,11 @@
 ghost use Rattle.std.specs.Prelude.{◌≡◌, None, Some};
 ghost use Rattle.std.specs.Option.{option_copied};
 ghost use Rattle.metering_model.specs.Row.{or_null, region_of, region_name_of};
-ghost use Rattle.batch_view.specs.Lent.{model_reading};
+ghost use Rattle.rating.specs.Lent.{model_reading};
 ghost use Rattle.charge_row.specs.Regions.{IsNamed};
 
 use crate::words::or_null;
-use batch_view::Reading;
+use rating::Reading;
 use rating::Sheet;
 
 /// The columns that a reading's region gives.

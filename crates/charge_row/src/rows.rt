@@ -6,7 +6,7 @@ ghost use Rattle.metering_model.specs.Sheet.{Sheet as ModelSheet};
 ghost use Rattle.metering_model.specs.Dates.{IsBaseMonth};
 ghost use Rattle.metering_model.specs.Batch.{is_priced};
 ghost use Rattle.metering_model.specs.Row.{row, or_null, category_text, class_text, priced_kind, price_of, commitment_of, region_of, charge};
-ghost use Rattle.batch_view.specs.Lent.{model_reading};
+ghost use Rattle.rating.specs.Lent.{model_reading};
 ghost use Rattle.charge_row.specs.FocusRows.{model_row};
 ghost use Rattle.charge_row.specs.PeriodTexts.{ArePeriodTexts};
 ghost use Rattle.charge_row.specs.Regions.{IsNamed};
@@ -16,14 +16,13 @@ use crate::commitments::{commitment_columns, commitment_status, pricing_category
 use crate::prices::{consumed_unit, price_columns};
 use crate::regions::{RegionColumns, region_columns, region_name};
 use crate::words::{category_text, class_text, frequency_text, or_null};
-use batch_view::{Kind, Reading};
-use fx_money::Value;
+use metering_model::Kind;
+use rating::Reading;
+use rating::Value;
 use metering_model::ChargeClass;
 use period_cut::{Month, Period};
-use rating::{
-    Commitment, Issuer, PriceRow, Rated, Sheet, commitment_of, price_of, priced_kind, rate,
-    rate_flat,
-};
+use sheet_text::{Commitment, Issuer, PriceRow};
+use rating::{Rated, Sheet, commitment_of, price_of, priced_kind, rate, rate_flat};
 
 /// What all rows of a billing period share: who bills, and the period's start and end.
 #[derive(Clone, Copy)]

@@ -12,7 +12,7 @@ use Rattle.counted_io.specs.declared.reading.Source.{Ghosts as SourceOf}
 use Rattle.counted_io.specs.declared.writing.Sink.{Ghosts as SinkOf}
 use Rattle.program_input.specs.declared.faults.PlayFault.{PlayFault}
 use Rattle.program_input.specs.declared.faults.PlayFault.TheVariants as play
-use Rattle.input_sections.specs.declared.faults.ScheduleFault.TheVariants as section
+use Rattle.program_input.specs.declared.ScheduleFault.TheVariants as section
 use Rattle.program_input.specs.Faults.{tells_of_reader, tells_of_writer}
 use Rattle.metering_model.specs.Transcript.{line_count}
 use Rattle.input_check.specs.Checks.{IsSaidOf, said_of_input}

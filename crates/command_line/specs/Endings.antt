@@ -5,8 +5,8 @@ use Rattle.counted_io.specs.Counts.{next_count}
 use Rattle.counted_io.specs.Writing.{AppendsPrefix}
 use Rattle.counted_io.specs.declared.writing.Sink.{Ghosts as SinkOf}
 use Rattle.metering_model.specs.Transcript.{line, refusal_text, with_number}
-use Rattle.input_sections.specs.declared.faults.ScheduleCode.TheVariants as code
-use Rattle.input_sections.specs.declared.faults.ScheduleFault.TheVariants as section
+use Rattle.program_input.specs.declared.ScheduleCode.TheVariants as code
+use Rattle.program_input.specs.declared.ScheduleFault.TheVariants as section
 use Rattle.command_line.specs.declared.words.LineFault.TheVariants as on_line
 use Rattle.program_input.specs.declared.faults.PlayFault.TheVariants as play
 use Rattle.period_file.specs.declared.faults.FileFault.TheVariants as file

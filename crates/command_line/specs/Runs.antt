@@ -13,13 +13,13 @@ use Rattle.counted_io.specs.Reading.{ConsumesAtMost}
 use Rattle.counted_io.specs.Writing.{AppendsPrefix}
 use Rattle.counted_io.specs.declared.reading.Source.{Ghosts as SourceOf}
 use Rattle.counted_io.specs.declared.writing.Sink.{Ghosts as SinkOf}
-use Rattle.input_sections.specs.declared.faults.ScheduleFault.{ScheduleFault}
-use Rattle.schedule_player.specs.Schedules.{schedule_in}
-use Rattle.schedule_player.specs.Transcripts.{IsTranscriptOf, IsPrefixOfTranscript}
+use Rattle.program_input.specs.declared.ScheduleFault.{ScheduleFault}
+use Rattle.input_check.specs.Schedules.{schedule_in}
+use Rattle.input_check.specs.Transcripts.{IsTranscriptOf, IsPrefixOfTranscript}
 use Rattle.program_input.specs.declared.faults.PlayFault.{PlayFault}
 use Rattle.program_input.specs.declared.faults.PlayFault.TheVariants as play
-use Rattle.batch_player.specs.RateInput.{rated_file}
-use Rattle.batch_player.specs.Charges.{IsFileOf}
+use Rattle.input_check.specs.RateInput.{rated_file}
+use Rattle.input_check.specs.Charges.{IsFileOf}
 use Rattle.input_check.specs.Checks.{IsSaidOf}
 use Rattle.period_file.specs.Files.{AppendsFront, AppendsPart, IsFileOf as IsFirstFileOf, file_in}
 use Rattle.period_file.specs.declared.faults.FileFault.{FileFault}

@@ -1,6 +1,6 @@
 //! What the program can be asked for.
 
-use period_cut::Period;
+use period_file::Period;
 use threads_player::Size;
 
 /// What the program is asked for.

@@ -11,7 +11,7 @@ use crate::commands::Command;
 use clap::builder::ValueParser;
 use clap::error::ErrorKind;
 use clap::{Arg, ArgAction, ArgMatches};
-use period_cut::Period;
+use period_file::Period;
 use std::alloc::Global;
 use thiserror::Error;
 use threads_player::Size;

@@ -9,12 +9,13 @@ ghost use Rattle.counted_io.specs.Writing.{AppendsPrefix, AppendsSome};
 ghost use Rattle.metering_model.specs.Rows.{rows};
 ghost use Rattle.metering_model.specs.Transcript.{file_of};
 ghost use Rattle.metering_model.specs.World as model;
-ghost use Rattle.focus_csv.specs.Rows.{joined, model_row};
+ghost use Rattle.focus_csv.specs.Rows.{joined};
+ghost use Rattle.charge_row.specs.FocusRows.{model_row};
 ghost use Rattle.focus_csv.specs.Faults.{is_sink_fault};
 
-pub use counted_io::Counted;
 use counted_io::Sink;
-use focus_csv::{CsvFault, FocusRow, RowsBetween, put_file, rows_between, write_rows};
+use focus_csv::{CsvFault, RowsBetween, put_file, rows_between, write_rows};
+use charge_row::FocusRow;
 use group_events::Snapshot;
 use split::write_split;
 use std::alloc::{AllocError, Global};

@@ -5,7 +5,8 @@ use Rattle.std.proofs.lemmas.Grind.{flat_map-append}
 use Rattle.std.proofs.lemmas.List.{drop_all, drop_more, get_or-drop, length-drop, take_all}
 use Rattle.metering_model.specs.Row.{Row}
 use Rattle.metering_model.specs.File.{file, header_line, row_text}
-use Rattle.focus_csv.specs.Rows.{batch_lines, joined}
+use Rattle.focus_csv.specs.Rows.{batch_lines}
+use Rattle.focus_row.specs.Rows.{joined}
 use Rattle.focus_csv.proofs.OneMore.{taken_more}
 
 pub more : (written part : List Row) → file written ++ flat_map row_text part ≡ file (written ++ part)

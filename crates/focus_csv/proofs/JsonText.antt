@@ -15,10 +15,10 @@ use Rattle.serde_json.specs.Written.{compact_text, has_float}
 use Rattle.serde_json.specs.declared.value.Value.{Value}
 use Rattle.metering_model.specs.Batch.{is_text, is_text_byte, keys_rise}
 use Rattle.metering_model.specs.File.{json_string, marked}
-use Rattle.batch_view.specs.declared.Tags.{Tags}
-use Rattle.batch_view.specs.Lent.{lent_tags}
-use Rattle.batch_view.specs.TagTexts.{LentTag, tag_of}
-use Rattle.batch_view.proofs.TagsHold.{has_texts, tags_hold}
+use Rattle.record_view.specs.declared.tags.Tags.{Tags}
+use Rattle.record_view.specs.Lent.{lent_tags}
+use Rattle.record_view.specs.TagTexts.{LentTag, tag_of}
+use Rattle.record_view.proofs.TagsHold.{has_texts, tags_hold}
 
 byte_is_small : (c : ℕ) → is_text_byte c ≡ true → c < 128
 byte_is_small c h = grind (arith, nat_tests)

@@ -18,7 +18,7 @@ use Rattle.serde_json.specs.Written.{comma_if, compact_text, members_outline, me
 use Rattle.serde_json.proofs.Texts.{print-outline}
 use Rattle.metering_model.specs.Batch.{Tag, is_below, is_text, keys_rise}
 use Rattle.metering_model.specs.File.{json_object, json_string}
-use Rattle.batch_view.proofs.TagsHold.{has_texts}
+use Rattle.record_view.proofs.TagsHold.{has_texts}
 use Rattle.focus_csv.specs.TagData.{tag_data, tag_members}
 use Rattle.focus_csv.proofs.JsonText.{string_written}
 use Rattle.focus_csv.proofs.TagTexts.{all_left, members_left}

@@ -3,7 +3,7 @@ use Rattle.std.specs.Prelude.{ℕ, List}
 use Rattle.std.specs.List.{flat_map}
 use Rattle.metering_model.specs.Row.{Row}
 use Rattle.metering_model.specs.File.{row_text}
-pub use Rattle.focus_row.specs.Rows.{model_row, joined, FocusRow}
+pub use Rattle.focus_row.specs.Rows.{joined}
 
 -- the lines of batches' rows, in order
 abbrev pub batch_lines : List (List Row) → List ℕ

@@ -3,13 +3,13 @@
 ghost use Rattle.std.specs.Prelude.{◌≡◌, ◌∷◌, [], ◌++◌, map, false, IfOk, IsTrue, List, ℕ, OnOk};
 ghost use Rattle.metering_model.specs.Batch.{is_text};
 ghost use Rattle.metering_model.specs.File.{json_member, json_object, json_string};
-ghost use Rattle.batch_view.specs.Lent.{lent_tags};
-ghost use Rattle.batch_view.specs.TagTexts.{tag_of};
+ghost use Rattle.record_view.specs.Lent.{lent_tags};
+ghost use Rattle.record_view.specs.TagTexts.{tag_of};
 ghost use Rattle.focus_csv.specs.Inner.Runs.{behind};
 ghost use Rattle.focus_csv.specs.Inner.Strings.{is_odd, doubled};
 
 use crate::odd::OddFields;
-use batch_view::Tags;
+use record_view::Tags;
 use memchr::memchr2;
 use serde_json::Value;
 use std::alloc::{AllocError, Global};

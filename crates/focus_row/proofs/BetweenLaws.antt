@@ -11,7 +11,7 @@ use Rattle.metering_model.specs.Holding.{Holding, Position, Placed, records_in_o
 use Rattle.metering_model.specs.ValueAtSequence.{value_at, value_given_by}
 use Rattle.metering_model.proofs.AgreementLaws.{last_of_grows}
 use Rattle.metering_model.proofs.ValueBounds.{same_place_is}
-use Rattle.batch_store.specs.Stores.{named_by, named_between}
+use Rattle.journal_rules.specs.Stores.{named_by, named_between}
 
 -- ---- the law over holdings
 

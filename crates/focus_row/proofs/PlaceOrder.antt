@@ -6,7 +6,7 @@ use Rattle.std.proofs.lemmas.Bool.{and_parts, and_from, both_ways, cases_lt}
 use Rattle.std.proofs.lemmas.Bool.Decides.{nat_tests}
 use Rattle.std.proofs.lemmas.Option.{same_Some, none-some, slice_get-get_or, get_or_from_slice_get, slice_get_within}
 use Rattle.metering_model.specs.Holding.{Position}
-use Rattle.batch_store.specs.Stores.{stands_before, rise}
+use Rattle.journal_rules.specs.Stores.{stands_before, rise}
 use Rattle.focus_row.specs.Inner.Places.{IsFirstFrom, IsNextNamed, NoneNamed}
 
 pub before-trans : (p q r : Position) → stands_before p q ≡ true → stands_before q r ≡ true → stands_before p r ≡ true

@@ -18,8 +18,9 @@ use Rattle.metering_model.specs.Rows.{PlacedRow, differ, row_of, row_of_reading,
 use Rattle.metering_model.proofs.AgreementLaws.{last_of_grows, value_at-up_to}
 use Rattle.metering_model.proofs.HoldingLaws.{IsHolding-up_to, held-up_to}
 use Rattle.metering_model.proofs.ValueBounds.{all_filter_map, value_not_negative}
-use Rattle.batch_store.specs.Stores.{named_by, named_between, AreAmended}
-use Rattle.focus_row.specs.Inner.Left.{is_from, left, placed_from, Between, MayBeCharged, rows_in, rows_left}
+use Rattle.journal_rules.specs.Stores.{named_by, named_between, AreAmended}
+use Rattle.journal_rules.specs.Inner.Left.{is_from, left, placed_from}
+use Rattle.focus_row.specs.Inner.Left.{Between, MayBeCharged, rows_in, rows_left}
 use Rattle.focus_row.specs.Inner.Places.{IsNextNamed, NoneNamed}
 use Rattle.charge_row.specs.declared.columns.FocusRow.{FocusRow}
 use Rattle.charge_row.specs.FocusRows.{model_row}

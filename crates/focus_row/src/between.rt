@@ -6,16 +6,18 @@ ghost use Rattle.metering_model.specs.Holding.{up_to};
 ghost use Rattle.metering_model.specs.Rows.{rows};
 ghost use Rattle.metering_model.specs.Step.{first_missing};
 ghost use Rattle.metering_model.specs.JournalRules.{MeetsJournalRules};
-ghost use Rattle.batch_store.specs.Stores.{position_of};
+ghost use Rattle.journal_rules.specs.Stores.{position_of};
 ghost use Rattle.charge_row.specs.FocusRows.{model_row};
 ghost use Rattle.focus_row.specs.Rows.{joined};
 ghost use Rattle.focus_row.specs.Inner.Left.{IsWithin, MayBeCharged, rows_of_batch, rows_of_place};
 
 use crate::due_batches::BatchPlace;
 use crate::walk::BatchRows;
-use batch_store::{Cut, Period, RecordPlace, Store};
-use batch_view::Value;
-use charge_row::{Billing, FocusRow, Issuer, Sheet};
+use charge_row::{Cut, Period};
+use journal_rules::{RecordPlace, Store};
+use fx_money::Value;
+use charge_row::{Billing, FocusRow};
+use price_sheet::{Issuer, Sheet};
 use std::alloc::{AllocError, Global};
 use std::marker::Model;
 
@@ -34,7 +36,7 @@ pub(crate) struct BetweenCuts<'a> {
 
 impl<'a> Model for BetweenCuts<'a> {
     ghost use Rattle.std.specs.Prelude.{map};
-    ghost use Rattle.batch_store.specs.Stores.{AreAmended, position_of};
+    ghost use Rattle.journal_rules.specs.Stores.{AreAmended, position_of};
     ghost use Rattle.charge_row.specs.PeriodTexts.{ArePeriodTexts};
     ghost use Rattle.focus_row.specs.Inner.Left.{Between, MayBeCharged};
 

@@ -9,9 +9,7 @@ mod places;
 mod walk;
 mod whole;
 
-pub use batch_store::{Cut, Period, Store};
-pub use batch_view::Tags;
 pub use between::{RowsBetween, rows_between};
-pub use charge_row::{FocusRow, Issuer, IssuerFault, Key, Sheet};
 pub use walk::BatchRows;
 pub use whole::{RowFault, rows_of};
+pub use charge_row::FocusRow;

@@ -2,10 +2,10 @@
 
 ghost use Rattle.std.specs.Prelude.{◌≡◌, ◌↔◌, IsTrue, IfSome, IfNone, map};
 ghost use Rattle.std.specs.List.{Contains};
-ghost use Rattle.batch_store.specs.Stores.{position_of, rise, stands_before};
+ghost use Rattle.journal_rules.specs.Stores.{position_of, rise, stands_before};
 ghost use Rattle.focus_row.specs.Inner.Places.{IsFirstFrom, IsNextNamed, NoneNamed};
 
-use batch_store::RecordPlace;
+use journal_rules::RecordPlace;
 
 /// By agent, then by sequence, then by index.
 pub(crate) fn stands_before(a: RecordPlace, b: RecordPlace) -> bool

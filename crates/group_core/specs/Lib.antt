@@ -1,3 +1,2 @@
 pub mod Headline
 pub mod Playing
-pub mod Words

@@ -4,9 +4,9 @@ ghost use Rattle.std.specs.Prelude.{◌≡◌, ◌↔◌, true, IfOk, IfErr, IsT
 ghost use Rattle.group_events.specs.Replies.{grows, reply_of};
 
 use crate::Snapshot;
-use batch_store::Period;
+use period_cut::Period;
 use metering_model::Refusal;
-use paxos_ballot::Ballot;
+use node_kept::Ballot;
 use std::alloc::{AllocError, Global};
 
 /// What a group answers to an event.

@@ -8,7 +8,7 @@ use Rattle.metering_model.specs.Batch.{Batch}
 use Rattle.metering_model.specs.Holding.{Holding, held}
 use Rattle.metering_model.specs.World.{Packet, CarriesBatch, Prepare, Promise, Accept, Accepted, Decided, World, voter_count}
 use Rattle.group_laws.specs.EveryRun.{IsBallot, IsPacket, KeepsLimits}
-use Rattle.node_kept.specs.Kept.{IsBallotNumber}
+use Rattle.metering_model.specs.KeptText.{IsBallotNumber}
 use Rattle.group_node.specs.Packets.{IsPacketAmong}
 
 pub ballot_number : (voters ballot : ℕ) → voters ≤ 99 → IsBallot voters ballot → IsBallotNumber ballot

@@ -3,8 +3,9 @@ use Rattle.std.proofs.Common.{◌≡◌, ℕ, ◌≤◌, Bool, true, false, cond
 use Rattle.std.proofs.lemmas.Option.{same_Some}
 use Rattle.metering_model.specs.Ballot.{Acceptor, after_prepare}
 use Rattle.metering_model.specs.Holding.{Holding}
-use Rattle.batch_store.specs.Stores.{Stored}
-use Rattle.node_kept.specs.Kept.{KeptAmong, IsBallotNumber, IsKept}
+use Rattle.node_kept.specs.Stores.{Stored}
+use Rattle.metering_model.specs.KeptText.{KeptAmong, IsBallotNumber}
+use Rattle.node_kept.specs.Kept.{IsKept}
 
 -- another round
 pub started_kept : (k : KeptAmong) (round : ℕ) → IsKept k → round ≤ 10_000 → IsKept (record { agents = k.agents; kept = record k.kept { round = round } })

@@ -3,7 +3,7 @@ use Rattle.std.specs.Prelude.{◌≡◌, ℕ, ◌<◌, ◌≤◌, length}
 use Rattle.std.specs.Arc.{arc_value}
 use Rattle.metering_model.specs.World.{CarriesBatch, Prepare, Promise, Accept, Accepted, Decided, Packet as ModelPacket}
 use Rattle.batch_view.specs.Batches.{batch_of}
-use Rattle.node_kept.specs.Kept.{IsBallotNumber}
+use Rattle.metering_model.specs.KeptText.{IsBallotNumber}
 use Rattle.group_node.specs.declared.packets.Packet.{Packet}
 use Rattle.group_node.specs.declared.packets.Packet.TheVariants.{Batch as BatchPacket, Prepare as PreparePacket, Promise as PromisePacket, Accept as AcceptPacket, Accepted as AcceptedPacket, Decided as DecidedPacket}
 

@@ -10,7 +10,7 @@ ghost use Rattle.group_node.specs.Handling.{Does, Answers};
 
 use crate::nodes::Node;
 use crate::packets::{Handled, Packet};
-use batch_store::{Month, Period};
+use period_cut::{Month, Period};
 use batch_view::OwnedBatch;
 use std::alloc::{AllocError, Global};
 use std::sync::Arc;

@@ -10,6 +10,5 @@ mod packets;
 mod proposing;
 mod voting;
 
-pub use node_kept::Kept;
 pub use nodes::Node;
 pub use packets::{Handled, Packet};

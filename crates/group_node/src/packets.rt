@@ -1,8 +1,8 @@
 //! Packets, and what comes of one.
 
-use batch_store::{Cut, Period};
+use period_cut::{Cut, Period};
 use batch_view::OwnedBatch;
-use paxos_ballot::{Ballot, Vote};
+use node_kept::{Ballot, Vote};
 use std::sync::Arc;
 
 /// What nodes send one another. Batches and cuts are shared, and never copied.

@@ -7,7 +7,7 @@ ghost use Rattle.metering_model.specs.Dates.{IsBaseMonth};
 ghost use Rattle.metering_model.specs.Ballot.{Attempt as ModelAttempt};
 ghost use Rattle.metering_model.specs.Front.{front};
 ghost use Rattle.metering_model.specs.World.{Promise, current_period, last_cut};
-ghost use Rattle.paxos_ballot.specs.Promises.{after_promise};
+ghost use Rattle.node_kept.specs.Promises.{after_promise};
 ghost use Rattle.group_node.specs.Packets.{packet_of};
 ghost use Rattle.group_node.specs.Nodes.{IsNodeAmong};
 ghost use Rattle.group_node.specs.Handling.{Does};
@@ -16,8 +16,9 @@ ghost use Rattle.group_node.specs.Inner.Proposing.{proposal_at, accept_at, await
 use crate::nodes::Node;
 use crate::packets::Packet;
 use crate::voting::share_vote;
-use batch_store::{Cut, Month, Period, Store};
-use paxos_ballot::{Attempt, Ballot, Vote};
+use period_cut::{Cut, Month, Period};
+use node_kept::Store;
+use node_kept::{Attempt, Ballot, Vote};
 use std::alloc::{AllocError, Global};
 use std::sync::Arc;
 

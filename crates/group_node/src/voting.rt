@@ -3,14 +3,14 @@ ghost use Rattle.std.specs.Prelude.{◌≡◌, ℕ, length, IfOk, OnErr, None, s
 ghost use Rattle.std.specs.Option.{option_copied, option_map};
 ghost use Rattle.std.specs.Arc.{arc_value};
 ghost use Rattle.metering_model.specs.World.{Prepare, Accept, Decided};
-ghost use Rattle.node_kept.specs.Kept.{IsBallotNumber};
+ghost use Rattle.metering_model.specs.KeptText.{IsBallotNumber};
 ghost use Rattle.group_node.specs.Packets.{packet_of};
 ghost use Rattle.group_node.specs.Handling.{Does};
 
 use crate::nodes::Node;
 use crate::packets::Packet;
-use batch_store::{Cut, Period};
-use paxos_ballot::{Ballot, Vote};
+use period_cut::{Cut, Period};
+use node_kept::{Ballot, Vote};
 use std::alloc::AllocError;
 use std::sync::Arc;
 

@@ -2,4 +2,3 @@
 pub use Rattle.group_events.specs.Events.{event_of, offer_of}
 pub use Rattle.group_events.specs.Replies.{reply_of, is_exported, is_kept_text, is_refused}
 pub use Rattle.group_events.specs.declared.replies.Reply.{Reply}
-pub use Rattle.node_kept.specs.Offers.{offer_of as kept_offer}

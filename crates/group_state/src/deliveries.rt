@@ -10,7 +10,8 @@ ghost use Rattle.group_state.specs.Reached.{IsReached};
 ghost use Rattle.group_state.specs.Inner.Allowed.{HandsOver, MayDeliver};
 
 use crate::GroupState;
-use group_events::{Month, Reply};
+use utc_calendar::Month;
+use group_events::Reply;
 use group_node::{Node, Packet};
 use metering_model::Refusal;
 use std::alloc::{AllocError, Global};

@@ -10,7 +10,8 @@ ghost use Rattle.group_state.specs.Reached.{IsReached};
 ghost use Rattle.group_state.specs.Inner.Allowed.{MayTake};
 
 use crate::GroupState;
-use group_events::{Cut, Issuer, Period, Reply, Sheet, Snapshot};
+use group_events::{Cut, Period, Reply, Sheet, Snapshot};
+use sheet_text::Issuer;
 use group_node::Node;
 use metering_model::Refusal;
 use std::alloc::{AllocError, Global};

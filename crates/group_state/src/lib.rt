@@ -11,7 +11,5 @@ mod starts;
 mod state;
 mod steps;
 
-pub use batch_view::Offer;
-pub use group_events::{Ballot, Event, Kept, KeptFault, KeptOffer, Period, Reply, Snapshot};
-pub use group_node::{Node, Packet};
 pub use state::GroupState;
+pub use group_events::{Event, Reply, Snapshot};

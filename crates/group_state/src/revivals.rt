@@ -5,7 +5,7 @@ ghost use Rattle.metering_model.specs.World.{Keep, Restart, Revive};
 ghost use Rattle.metering_model.specs.Step.{on_revival, step};
 ghost use Rattle.group_events.specs.Replies.{reply_of};
 ghost use Rattle.group_state.specs.Reached.{IsReached};
-ghost use Rattle.node_kept.specs.Offers.{offer_of};
+ghost use Rattle.group_events.specs.Offers.{offer_of};
 
 use crate::GroupState;
 use group_events::{KeptOffer, Reply};

@@ -7,8 +7,9 @@ ghost use Rattle.metering_model.specs.World.{new_kept, opening, voter_count, wak
 ghost use Rattle.group_node.specs.Packets.{packet_of};
 ghost use Rattle.group_state.specs.Inner.Members.{IsMember};
 
-use batch_store::Store;
-use group_events::{Issuer, Sheet};
+use journal_rules::Store;
+use sheet_text::Issuer;
+use group_events::Sheet;
 use group_node::{Node, Packet};
 use std::alloc::{AllocError, Global};
 use std::marker::Model;

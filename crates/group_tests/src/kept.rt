@@ -1,6 +1,6 @@
 //! Texts of what a node keeps: read, written as they were, and refused at their first fault.
 
-use group_core::{Kept, KeptFault, KeptOffer};
+use group_events::{Kept, KeptFault, KeptOffer};
 use metering_model::KeptCode;
 use std::alloc::{AllocError, Global};
 use std::test::Fail;

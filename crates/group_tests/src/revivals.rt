@@ -2,7 +2,8 @@
 
 use crate::kept::{LEARNED, PROMISED, VOTED};
 use crate::samples::{alone, is_put, issuer, sheet};
-use group_core::{Event, KeptOffer, Offer, Refusal, Reply, World};
+use group_events::{Event, KeptOffer, Offer, Reply};
+use group_core::{Refusal, World};
 use metering_model::{KeptCode, KeptTextFault};
 use std::alloc::{AllocError, Global};
 use std::test::Fail;

@@ -1,6 +1,9 @@
 //! What the tests have in common: sheet and issuer, the worked events with their answers, and a plan.
 
-use group_core::{Event, ExportFile, Issuer, Offer, Reply, Sheet, Snapshot, World};
+use group_events::{Event, Offer, Reply, Sheet, Snapshot};
+use export_file::ExportFile;
+use sheet_text::Issuer;
+use group_core::World;
 use node_threads::Plan;
 use std::alloc::{AllocError, Global};
 use std::sync::Arc;

@@ -2,7 +2,9 @@
 
 use crate::samples::{WHOLE_PATH_SENT, are_sent, is_file, is_put, whole_path, world};
 use counted_io::Counted;
-use group_core::{Event, ExportFile, Snapshot, World};
+use group_events::{Event, Snapshot};
+use export_file::ExportFile;
+use group_core::World;
 use std::alloc::{AllocError, Global};
 use std::test::Fail;
 

@@ -13,9 +13,9 @@ use Rattle.metering_model.specs.Sheet as model
 use Rattle.metering_model.specs.Step.{step}
 use Rattle.metering_model.specs.Transcript.{line, line_count, refusal_text, reply_text, with_number}
 use Rattle.metering_model.specs.World.{World, Reply, Refused as IsRefused, opening}
-use Rattle.batch_view.specs.Batches.{batch_of}
+use Rattle.batch_player.specs.Batches.{batch_of}
 use Rattle.journal_rules.specs.FirstBad.{first_bad}
-use Rattle.price_sheet.specs.SheetReading.{sheet_of_text}
+use Rattle.input_sections.specs.SheetReading.{sheet_of_text}
 use Rattle.sheet_text.specs.IssuerReading.{issuer_of_text}
 use Rattle.input_sections.specs.declared.faults.ScheduleCode.{ScheduleCode}
 use Rattle.input_sections.specs.declared.faults.ScheduleCode.TheVariants as code
@@ -25,8 +25,8 @@ use Rattle.input_sections.specs.Sections.{Section, Unread, begins_with, left, li
 use Rattle.input_sections.specs.RateInput.{rate_input_in}
 use Rattle.schedule_reader.specs.Schedules.{Preamble, ReadSchedule, event_in, events_in, preamble_in}
 use Rattle.schedule_player.specs.Transcripts.{replies_to}
-use Rattle.program_input.specs.declared.faults.PlayFault.{PlayFault}
-use Rattle.program_input.specs.declared.faults.PlayFault.TheVariants as play
+use Rattle.schedule_player.specs.declared.PlayFault.{PlayFault}
+use Rattle.schedule_player.specs.declared.PlayFault.TheVariants as play
 use Rattle.batch_player.specs.RateInput.{journaled_in}
 use Rattle.answer_words.specs.Words.{issuer_fault_text, section_text, sheet_fault_text}
 

@@ -8,12 +8,12 @@ ghost use Rattle.counted_io.specs.Writing.{AppendsPrefix};
 ghost use Rattle.metering_model.specs.Transcript.{line_count};
 ghost use Rattle.metering_model.specs.declared.Refusal.{Refusal};
 ghost use Rattle.input_sections.specs.declared.faults.ScheduleFault.{ScheduleFault};
-ghost use Rattle.program_input.specs.Faults.{tells_of_reader, tells_of_writer};
+ghost use Rattle.schedule_player.specs.Faults.{tells_of_reader, tells_of_writer};
 ghost use Rattle.input_check.specs.Checks.{IsSaidOf, said_of_input};
 
 use crate::batches::check_rating;
 use crate::events::check_schedule;
-use program_input::{PlayFault, read_input};
+use schedule_player::{PlayFault, read_input};
 use byte_text::line_count;
 use counted_io::{Sink, Source, write_all};
 use input_sections::behind_word;

@@ -4,7 +4,7 @@ ghost use Rattle.std.specs.Prelude.{◌≡◌, ◌≤◌, ◌+◌, ◌++◌, IfO
 ghost use Rattle.metering_model.specs.Schedule.{event_of};
 ghost use Rattle.metering_model.specs.Step.{step};
 ghost use Rattle.metering_model.specs.World as model;
-ghost use Rattle.group_core.specs.Words.{reply_of};
+ghost use Rattle.schedule_player.specs.Replies.{reply_of};
 ghost use Rattle.schedule_reader.specs.Events.{HasWholeLines, planned_of};
 ghost use Rattle.schedule_reader.specs.Schedules.{events_in};
 ghost use Rattle.input_check.specs.Checks.{said_of_events, said_of_reply, said_of_schedule};
@@ -13,7 +13,7 @@ ghost use Rattle.input_check.specs.Inner.Faults.{fault_of};
 use crate::sections::put_fault;
 use byte_text::Line;
 use answer_words::refusal_line;
-use group_core::{Reply, World};
+use schedule_player::{Reply, World};
 use input_sections::{ScheduleFault, Unread};
 use metering_model::Refusal;
 use schedule_player::{event_of, opening_world};

@@ -9,3 +9,5 @@ pub mod laws;
 mod sections;
 
 pub use checks::check_text;
+pub use batch_player::rate_text;
+pub use schedule_player::play_text;

@@ -1,3 +1,5 @@
 pub mod Sections
 pub mod RateInput
 pub mod Inner
+pub mod SheetReading
+pub mod IssuerReading

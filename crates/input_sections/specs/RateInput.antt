@@ -3,7 +3,7 @@ use Rattle.std.specs.Prelude.{ℕ, if◌then◌else◌, List, Result, Ok, codes}
 use Rattle.metering_model.specs.FirstFailure.{◌>>=◌}
 use Rattle.metering_model.specs.Sheet.{Sheet, Issuer}
 use Rattle.price_sheet.specs.SheetReading.{empty_sheet}
-use Rattle.price_sheet.specs.Samples.{sample_issuer}
+use Rattle.sheet_text.specs.Samples.{sample_issuer}
 use Rattle.input_sections.specs.declared.faults.ScheduleFault.{ScheduleFault}
 use Rattle.input_sections.specs.Sections.{Unread, left, whole_of, begins_with, sheet_section, issuer_section}
 

@@ -10,3 +10,5 @@ pub use faults::{ScheduleCode, ScheduleFault};
 pub use rates::{RateInput, rate_input};
 pub use sections::{Section, number_behind, read_issuer, read_section, read_sheet};
 pub use unread::{Unread, behind_word};
+pub use price_sheet::Sheet;
+pub use sheet_text::Issuer;

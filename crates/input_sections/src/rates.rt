@@ -4,13 +4,14 @@ ghost use Rattle.std.specs.Prelude.{◌≡◌, ◌≢◌, ◌≤◌, Ok, Err, If
 ghost use Rattle.metering_model.specs.SheetRules.{IsSheet, IsIssuer};
 ghost use Rattle.input_sections.specs.RateInput.{default_sheet, if_begun, rate_input_in};
 ghost use Rattle.input_sections.specs.Sections.{sheet_section, issuer_section, whole_of};
-ghost use Rattle.price_sheet.specs.Samples.{sample_issuer};
+ghost use Rattle.sheet_text.specs.Samples.{sample_issuer};
 
 use crate::faults::ScheduleFault;
 use crate::sections::{read_issuer, read_sheet};
 use crate::unread::Unread;
-use period_cut::Month;
-use price_sheet::{Issuer, Sheet};
+use sheet_text::Month;
+use sheet_text::Issuer;
+use price_sheet::Sheet;
 use std::alloc::Global;
 
 const BASE_YEAR: u16 = 2025;

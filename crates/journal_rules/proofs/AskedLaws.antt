@@ -4,7 +4,7 @@ use Rattle.metering_model.specs.Batch.{Record, Reads, Amends}
 use Rattle.metering_model.specs.Sheet.{Sheet}
 use Rattle.metering_model.specs.Holding.{Holding, Position}
 use Rattle.metering_model.specs.JournalRules.{broken_by, first_broken}
-use Rattle.batch_view.specs.Asked.{asked_in}
+use Rattle.batch_store.specs.Asked.{asked_in}
 use Rattle.journal_rules.specs.FirstBad.{first_bad}
 use Rattle.journal_rules.specs.Inner.Left.{placed_from}
 use Rattle.journal_rules.proofs.BrokenLaws.{or_later}

@@ -1,2 +1,3 @@
 pub mod FirstBad
 pub mod Inner
+pub mod Stores

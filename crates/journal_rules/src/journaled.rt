@@ -4,8 +4,8 @@ ghost use Rattle.std.specs.Prelude.{◌≡◌, ◌≤◌, true, false};
 ghost use Rattle.std.specs.Option.{option_copied, option_map};
 ghost use Rattle.metering_model.specs.Holding.{held, is_batch_at, placed, reading_at};
 ghost use Rattle.metering_model.specs.JournalRules.{is_fit_reading, is_fit_target, comes_earlier, broken_by, first_broken};
-ghost use Rattle.batch_view.specs.Batches.{batch_of};
-ghost use Rattle.batch_view.specs.Asked.{record_asked};
+ghost use Rattle.batch_store.specs.Batches.{batch_of};
+ghost use Rattle.batch_store.specs.Asked.{record_asked};
 ghost use Rattle.batch_store.specs.Stores.{position_of};
 ghost use Rattle.journal_rules.specs.FirstBad.{first_bad};
 ghost use Rattle.journal_rules.specs.Inner.Journaled.{stored_in};
@@ -13,7 +13,7 @@ ghost use Rattle.journal_rules.specs.Inner.Journaled.{stored_in};
 use crate::prices::is_fit_reading;
 use crate::targets::{comes_earlier, has_fit_target};
 use batch_store::{RecordPlace, Store};
-use batch_view::{Asked, BatchView, OwnedBatch, Value};
+use batch_store::{Asked, BatchView, OwnedBatch, Value};
 use metering_model::BrokenRule;
 use rating::Sheet;
 use std::marker::Model;
@@ -40,7 +40,7 @@ pub(crate) struct Journaled<'a> {
 impl<'a> Model for Journaled<'a> {
     ghost use Rattle.std.specs.Prelude.{◌≡◌, ◌≤◌, Some};
     ghost use Rattle.metering_model.specs.Holding.{held, put};
-    ghost use Rattle.batch_view.specs.Batches.{batch_of};
+    ghost use Rattle.batch_store.specs.Batches.{batch_of};
     ghost use Rattle.std.specs.Option.{option_copied};
     ghost use Rattle.journal_rules.specs.Inner.Journaled.{WithBatch, stored_in};
 

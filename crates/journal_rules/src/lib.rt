@@ -7,3 +7,4 @@ mod rules;
 mod targets;
 
 pub use rules::{first_bad_alone, first_broken, first_broken_alone, first_broken_up_to};
+pub use batch_store::{RecordPlace, Store};

@@ -3,9 +3,10 @@
 ghost use Rattle.std.specs.Prelude.{◌≡◌};
 ghost use Rattle.metering_model.specs.JournalRules.{is_fit_commitment, is_fit_reading};
 ghost use Rattle.metering_model.specs.Row.{commitment_of};
-ghost use Rattle.batch_view.specs.Asked.{reading_asked};
+ghost use Rattle.batch_store.specs.Asked.{reading_asked};
 
-use batch_view::{AskedReading, Kind};
+use batch_store::AskedReading;
+use metering_model::Kind;
 use byte_text::is_same;
 use rating::{Sheet, commitment_for, is_priced, price_for};
 

@@ -7,13 +7,13 @@ ghost use Rattle.metering_model.specs.Batch.{Batch};
 ghost use Rattle.metering_model.specs.Holding.{held, placed, put, records_in_order, up_to};
 ghost use Rattle.metering_model.specs.Step.{first_missing};
 ghost use Rattle.metering_model.specs.JournalRules.{first_broken};
-ghost use Rattle.batch_view.specs.Batches.{batch_of};
+ghost use Rattle.batch_store.specs.Batches.{batch_of};
 ghost use Rattle.journal_rules.specs.FirstBad.{first_bad};
 ghost use Rattle.journal_rules.specs.Inner.Left.{broken_left};
 
 use crate::journaled::Journaled;
 use batch_store::{Cut, Store};
-use batch_view::BatchView;
+use batch_store::BatchView;
 use metering_model::BrokenRule;
 use rating::Sheet;
 

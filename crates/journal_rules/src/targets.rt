@@ -5,11 +5,11 @@ ghost use Rattle.std.specs.List.{slice_get};
 ghost use Rattle.std.specs.Option.{option_and_then};
 ghost use Rattle.metering_model.specs.Holding.{reading_of};
 ghost use Rattle.metering_model.specs.JournalRules.{is_fit_target, comes_earlier};
-ghost use Rattle.batch_view.specs.Batches.{batch_of};
+ghost use Rattle.batch_store.specs.Batches.{batch_of};
 ghost use Rattle.batch_store.specs.Stores.{position_of};
 
 use batch_store::RecordPlace;
-use batch_view::{BatchView, Value};
+use batch_store::{BatchView, Value};
 use rating::is_priced;
 
 /// Whether the batch has a reading at the index that takes the value: no priced one has a negative value.

@@ -6,7 +6,7 @@ use Rattle.metering_model.specs.World.{World, Reply}
 use Rattle.metering_model.specs.Step.{step, play}
 use Rattle.metering_model.specs.History.{Entry, IsLegal}
 use Rattle.metering_model.proofs.PlayLaws.{play-last, replies-last}
-use Rattle.group_core.specs.Words.{is_exported, is_kept_text}
+use Rattle.group_events.specs.Replies.{is_exported, is_kept_text}
 
 pub legal_begun : (w : World) → IsLegal w [] w
 legal_begun w = record { replies = refl; world = refl }

@@ -2,7 +2,8 @@
 use Rattle.std.specs.Prelude.{ℕ, List, Option, Some, None, Vec}
 use Rattle.std.specs.declared.alloc.Global.{Global}
 use Rattle.metering_model.specs.History.{Entry}
-use Rattle.group_core.specs.Words.{event_of, reply_of}
+use Rattle.group_events.specs.Events.{event_of}
+use Rattle.group_events.specs.Replies.{reply_of}
 use Rattle.node_book.specs.declared.entries.Entry.{Entry as KeptEntry}
 use Rattle.node_book.specs.declared.entries.Receipt.{Receipt}
 use Rattle.node_book.specs.Books.{Told}

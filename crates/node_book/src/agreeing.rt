@@ -3,7 +3,8 @@
 ghost use Rattle.std.specs.Prelude.{◌≡◌, ◌↔◌, ℕ, ◌+◌, length, map, Some, slice_get, true, IsTrue};
 ghost use Rattle.metering_model.specs.World.{Journal, offer_of, opening};
 ghost use Rattle.metering_model.specs.History.{Entry as ModelEntry};
-ghost use Rattle.group_core.specs.Words.{event_of, offer_of as kept_offer_of, reply_of};
+ghost use Rattle.group_events.specs.Events.{event_of, offer_of as kept_offer_of};
+ghost use Rattle.group_events.specs.Replies.{reply_of};
 ghost use Rattle.node_book.specs.Books.{Log as ModelLog, node_total, opened};
 ghost use Rattle.node_book.specs.Kept.{entry_of};
 ghost use Rattle.node_book.specs.Logs.{log_of, plan_of};
@@ -12,7 +13,7 @@ ghost use Rattle.node_book.specs.Agreement.{Agree, ExportsEach, FilesAgree, IsLo
 use crate::logs::exports_each;
 use crate::{Book, Done, Entry, Log, Plan};
 use batch_view::{BatchView, Offer};
-use group_core::Event;
+use group_events::Event;
 use metering_model::Worker;
 
 /// Whether both are the same worker.

@@ -6,12 +6,15 @@ ghost use Rattle.metering_model.specs.World.{opening};
 ghost use Rattle.metering_model.specs.Step.{step};
 ghost use Rattle.metering_model.specs.History.{IsLegal};
 ghost use Rattle.group_laws.specs.Headline.{HoldsAfter};
-ghost use Rattle.group_core.specs.Words.{event_of, is_exported, is_kept_text, is_refused, reply_of};
+ghost use Rattle.group_events.specs.Events.{event_of};
+ghost use Rattle.group_events.specs.Replies.{is_exported, is_kept_text, is_refused, reply_of};
 ghost use Rattle.node_book.specs.Books.{opened};
 ghost use Rattle.node_book.specs.Kept.{entry_of, told_of};
 
 use crate::{Entry, Receipt};
-use group_core::{Event, Issuer, Sheet, World, laws};
+use group_events::Event;
+use sheet_text::Issuer;
+use group_core::{Sheet, World, laws};
 use metering_model::Worker;
 use std::alloc::{AllocError, Global};
 use std::marker::Model;

@@ -2,13 +2,15 @@
 
 ghost use Rattle.std.specs.Prelude.{◌≡◌, ◌↔◌, ℕ, ◌≤◌, None, Some, false, IfOk, IsTrue, MatchOption};
 ghost use Rattle.metering_model.specs.Transcript.{file_of};
-ghost use Rattle.group_core.specs.Words.{reply_of};
+ghost use Rattle.group_events.specs.Replies.{reply_of};
 ghost use Rattle.node_book.specs.Books.{file_in};
 ghost use Rattle.node_book.specs.Kept.{bytes_in, told_of};
 ghost use Rattle.node_book.specs.Agreement.{is_export_of};
 
 use crate::Receipt;
-use group_core::{Counted, ExportFile, Reply, Snapshot};
+use counted_io::Counted;
+use export_file::ExportFile;
+use group_events::{Reply, Snapshot};
 use std::alloc::{AllocError, Global};
 use std::marker::Model;
 use std::thread::Threads;
@@ -23,7 +25,7 @@ pub struct Done {
 
 impl Model for Done {
     ghost use Rattle.std.specs.Prelude.{◌≡◌};
-    ghost use Rattle.group_core.specs.Words.{reply_of};
+    ghost use Rattle.group_events.specs.Replies.{reply_of};
     ghost use Rattle.node_book.specs.Books as model;
     ghost use Rattle.node_book.specs.Books.{file_in};
     ghost use Rattle.node_book.specs.Kept.{bytes_in, told_of};

@@ -1,6 +1,6 @@
 //! What was done, by whom, and what it was answered.
 
-use group_core::{Event, Reply};
+use group_events::{Event, Reply};
 use metering_model::Worker;
 
 /// One act: who acted, the event, and what it was answered.

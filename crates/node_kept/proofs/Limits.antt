@@ -7,7 +7,7 @@ use Rattle.metering_model.specs.KeptText.{KeptAmong, IsCutAmong, HasText, kept_t
 use Rattle.metering_model.specs.World.{KeptGood, KeptBad}
 use Rattle.metering_model.specs.declared.KeptTextFault.{KeptTextFault}
 use Rattle.metering_model.proofs.KeptLaws.{kept_read, read_back, writable_of}
-use Rattle.period_cut.specs.Limits.{IsCut}
+use Rattle.batch_store.specs.Limits.{IsCut}
 use Rattle.batch_store.specs.Stores.{IsStored}
 use Rattle.node_kept.specs.Kept.{IsKept}
 

@@ -21,7 +21,7 @@ use Rattle.metering_model.proofs.Splitting.{lines_of_text}
 use Rattle.metering_model.proofs.LineLaws.{HeadLimits, head_line, head_written, head_lacks_feed, record_line, records_lack_feed}
 use Rattle.metering_model.proofs.BatchLaws.{head_of, batch_lines, lines_are_text, batch_read}
 use Rattle.byte_text.proofs.PastLines.{front_length, front_within, lines_lack, other_lines, other_rest, text_of_front}
-use Rattle.batch_view.specs.Extents.{counted, batch_length, extent_in}
+use Rattle.batch_store.specs.Extents.{counted, batch_length, extent_in}
 use Rattle.node_kept.specs.Inner.Left.{IsNextOf}
 
 -- ---- a batch has as many lines as its head line counts

@@ -8,9 +8,9 @@ use Rattle.metering_model.specs.BatchReading.{batch_in}
 use Rattle.metering_model.specs.KeptText.{KeptAmong, cut_text, kept_head_fields, kept_text, vote_cuts}
 use Rattle.metering_model.proofs.BatchLaws.{batch_read}
 use Rattle.metering_model.proofs.KeptLaws.{few_batches}
-use Rattle.period_cut.proofs.CutTexts.{join_more}
+use Rattle.batch_store.proofs.CutTexts.{join_more}
 use Rattle.batch_store.specs.Stores.{Stored, IsStored}
-use Rattle.batch_view.specs.Batches.{batch_of}
+use Rattle.batch_store.specs.Batches.{batch_of}
 
 -- ---- one element more of a list
 

@@ -2,7 +2,7 @@
 ghost use Rattle.std.specs.Prelude.{◌≡◌, ◌↔◌, ◌≤◌, map, All, IsTrue};
 ghost use Rattle.std.specs.Arc.{arc_value};
 ghost use Rattle.metering_model.specs.KeptText.{HasText};
-ghost use Rattle.period_cut.specs.Limits.{IsCut};
+ghost use Rattle.batch_store.specs.Limits.{IsCut};
 ghost use Rattle.node_kept.specs.Kept.{IsKept};
 
 use batch_store::{Cut, Store};
@@ -26,7 +26,7 @@ pub struct Parts {
 impl Model for Parts {
     ghost use Rattle.std.specs.Prelude.{map};
     ghost use Rattle.std.specs.Arc.{arc_value};
-    ghost use Rattle.node_kept.specs.Kept.{KeptAmong};
+    ghost use Rattle.metering_model.specs.KeptText.{KeptAmong};
 
     ghost Value = { KeptAmong };
 
@@ -93,7 +93,7 @@ pub struct Kept {
 
 impl Model for Kept {
     ghost use Rattle.metering_model.specs.KeptText.{HasText};
-    ghost use Rattle.node_kept.specs.Kept.{KeptAmong};
+    ghost use Rattle.metering_model.specs.KeptText.{KeptAmong};
 
     ghost Value = { KeptAmong };
 

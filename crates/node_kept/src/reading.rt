@@ -4,7 +4,7 @@ ghost use Rattle.std.specs.Prelude.{◌≡◌, ◌+◌, ◌≤◌, ◌∷◌, []
 ghost use Rattle.std.specs.Arc.{arc_value};
 ghost use Rattle.metering_model.specs.BatchReading.{lines_in};
 ghost use Rattle.metering_model.specs.KeptText.{at_kept_line, batches_in, cuts_in, cuts_of_vote, kept_below, kept_in, kept_of_parts, next_batch};
-ghost use Rattle.batch_view.specs.Batches.{batch_of};
+ghost use Rattle.batch_store.specs.Batches.{batch_of};
 ghost use Rattle.node_kept.specs.Offers.{BeginsWithHead, IsFaultOf};
 ghost use Rattle.node_kept.specs.Inner.Head.{head_of};
 ghost use Rattle.node_kept.specs.Inner.Left.{AreBatchesOf, AreCutsOf, IfTold, IsNextOf, comes_behind};
@@ -13,7 +13,7 @@ use crate::faults::KeptFault;
 use crate::head::{Head, head_of_line};
 use crate::kept::{Kept, Parts};
 use batch_store::{Cut, Store};
-use batch_view::{Offer, OwnedBatch};
+use batch_store::{Offer, OwnedBatch};
 use byte_text::first_line;
 use metering_model::KeptCode;
 use paxos_ballot::{Acceptor, Ballot, Vote};

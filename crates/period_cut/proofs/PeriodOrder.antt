@@ -3,7 +3,7 @@ use Rattle.std.proofs.Common.{◌≡◌, ℕ, ◌+◌, ◌<◌, ◌≤◌, inl, 
 use Rattle.std.proofs.lemmas.Bool.{cases_lt}
 use Rattle.std.proofs.lemmas.Int.{ints}
 use Rattle.metering_model.specs.Dates.{month_start, period_start, period_end}
-pub use Rattle.utc_calendar.proofs.MonthOrder.{month_start-lt}
+use Rattle.utc_calendar.proofs.MonthOrder.{month_start-lt}
 
 pub month_start-le : (a b : ℕ) → a ≤ b → month_start a ≤ℤ month_start b
 month_start-le a b h = elim (cases_lt a b) [

@@ -7,4 +7,4 @@ mod periods;
 
 pub use cuts::Cut;
 pub use periods::Period;
-pub use utc_calendar::Month;
+pub use utc_calendar::{Month, Stamp};

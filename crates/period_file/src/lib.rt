@@ -10,3 +10,4 @@ mod unread;
 
 pub use faults::FileFault;
 pub use files::file_text;
+pub use period_cut::Period;

@@ -9,7 +9,8 @@ use Rattle.sheet_text.specs.declared.names.Key.TheVariants as keys
 use Rattle.sheet_text.specs.Names.{key_name}
 use Rattle.sheet_text.specs.Keys.{value_under, text_under, label_under, base_under, day_under, price_under, per_under, service_category_under, commitment_category_under, rows_in, rows_under}
 use Rattle.sheet_text.specs.RowReading.{price_row_in, commitment_in, region_in}
-use Rattle.sheet_text.proofs.WorkedSteps.{parse_document, lines, line, expression, skip_bom, skip_from, skip_ws, header_key, key_equals, key_after, simple_key, val, atom, quoted, one_line, body, special, define, along_header, along_dots, at_key, unquoted, word_len, word_value, number, underscore_fits, plain_number, decimal_number, scan_numeral, days_from_civil, day_count, days_of_years, days_of_months, worth_of}
+use Rattle.sheet_text.proofs.WorkedSteps.{parse_document, lines, line, expression, skip_bom, skip_from, skip_ws, header_key, key_equals, key_after, simple_key, val, atom, quoted, one_line, body, special, define, along_header, along_dots, at_key, unquoted, word_len, word_value, number, underscore_fits, plain_number, decimal_number, scan_numeral, days_from_civil, day_count, days_of_years, days_of_months}
+use Rattle.metering_model.specs.NumberText.{worth_of}
 use Rattle.price_sheet.specs.SheetReading.{next_price, next_commitment, next_region, sheet_of_rows, sheet_in, sheet_of_text}
 use Rattle.price_sheet.proofs.WorkedSheets.{sheet_of}
 

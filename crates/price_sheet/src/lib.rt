@@ -9,8 +9,5 @@ mod price_table;
 mod region_table;
 mod sheets;
 
-pub use sheet_text::{
-    Commitment, CommitmentCategory, Issuer, IssuerFault, Key, Place, PriceRow, Region,
-    ServiceCategory, SheetFault,
-};
 pub use sheets::Sheet;
+pub use sheet_text::{Commitment, Issuer, IssuerFault, Key, Place, PriceRow, SheetFault};

@@ -6,3 +6,4 @@ mod inputs;
 
 pub use faults::PlayFault;
 pub use inputs::read_input;
+pub use input_sections::{ScheduleCode, ScheduleFault};

@@ -1,8 +1,8 @@
 //! The texts of faults.
 
-use command_line::{
-    FileFault, LineFault, PlayFault, RunFault, ScheduleCode, ScheduleFault, ThreadsFault,
-};
+use command_line::{FileFault, LineFault, ThreadsFault};
+use program_input::{PlayFault, ScheduleCode, ScheduleFault};
+use node_threads::RunFault;
 use counted_io::{Failed, ReadFault};
 use focus_csv::CsvFault;
 use focus_row::RowFault;

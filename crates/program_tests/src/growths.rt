@@ -1,8 +1,11 @@
 //! Growths that are refused, each in turn behind the gate: what is told then, and what went out.
 
-use command_line::{FileFault, PlayFault, file_text, play_text, rate_text};
+use command_line::{FileFault, file_text};
+use program_input::PlayFault;
+use schedule_player::play_text;
+use batch_player::rate_text;
 use counted_io::{Counted, FakeReader, FakeWriter};
-use focus_row::Period;
+use batch_store::Period;
 use std::alloc::{AllocError, Global};
 use std::test::Fail;
 use worked_texts::{HEADER, LINE, READ, SECTIONS};

@@ -1,7 +1,7 @@
 //! The words that the program is given.
 
 use command_line::{Command, LineFault, Size, command};
-use focus_row::Period;
+use batch_store::Period;
 use std::alloc::{AllocError, Global};
 use std::test::Fail;
 

@@ -9,6 +9,8 @@ mod rounding;
 
 pub use charges::rate;
 pub use metering_model::PricedKind;
-pub use price_sheet::{Commitment, Issuer, IssuerFault, Key, PriceRow, Sheet};
 pub use prices::{commitment_for, commitment_of, is_priced, price_for, price_of, priced_kind};
 pub use rated::{Rated, rate_flat};
+pub use fx_money::{Cost, Delta, Price, Value};
+pub use price_sheet::Sheet;
+pub use record_view::{Reading, Tags};

@@ -6,9 +6,10 @@ ghost use Rattle.metering_model.specs.Batch.{is_priced};
 ghost use Rattle.metering_model.specs.Dates.{day_of};
 ghost use Rattle.metering_model.specs.PriceInForce.{commitment_with, price_in_force};
 ghost use Rattle.metering_model.specs.Row.{commitment_of, or_null, price_of, priced_kind};
-ghost use Rattle.batch_view.specs.Lent.{model_reading};
+ghost use Rattle.record_view.specs.Lent.{model_reading};
 
-use batch_view::{Kind, Reading, Stamp};
+use metering_model::Kind;
+use record_view::{Reading, Stamp};
 use metering_model::PricedKind;
 use price_sheet::{Commitment, PriceRow, Sheet};
 

@@ -18,3 +18,5 @@ pub mod StampLaws
 pub mod PlainParts
 pub mod ReadingSteps
 pub mod PlainReadings
+pub mod LineLemmas
+pub mod PastLines

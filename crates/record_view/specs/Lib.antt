@@ -4,3 +4,4 @@ pub mod TagTexts
 pub mod Lent
 pub mod Spans
 pub mod Inner
+pub mod Lines

@@ -4,7 +4,6 @@ ghost use Rattle.std.specs.Prelude.{◌≡◌, ◌↔◌, IsTrue};
 
 use crate::fields::Span;
 use metering_model::Kind;
-pub use utc_calendar::laws::{days_are_compared_by_number, stamps_are_compared_by_second};
 
 /// Spans are equal where both ends are.
 pub fn spans_are_compared_by_their_ends(a: Span, b: Span)

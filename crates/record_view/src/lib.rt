@@ -2,14 +2,15 @@
 #![tactic(auto)]
 
 pub use fields::{Field, Span};
-pub use fx_money::Value;
 pub use kept::{Numbers, kept_reading};
 pub use metering_model::{BatchCode, Kind, Version};
 pub use records::{Reading, Record, read_exact, read_plain, read_record};
 pub use spans::field_spans;
 pub use stamps::StampReader;
 pub use tags::Tags;
-pub use utc_calendar::{Day, Stamp, calendar, dates};
+pub use byte_text::{find_byte, lines_length, read_whole, split_at_bar};
+pub use fx_money::Value;
+pub use utc_calendar::{Day, Month, Stamp};
 
 mod exact;
 mod field_rules;

@@ -1,12 +1,12 @@
 -- What is made of a journal's bytes is what they hand in.
 use Rattle.std.proofs.Common.{◌≡◌, ℕ, List, Result, Ok, Err, sym, ap, ◌∙◌}
-use Rattle.batch_view.specs.declared.owned.Offer.{Offer}
-use Rattle.batch_view.specs.declared.owned.Offer.TheVariants as read
-use Rattle.batch_view.specs.Offers.{IsOfferOf}
+use Rattle.group_events.specs.declared.Offer.{Offer}
+use Rattle.group_events.specs.declared.Offer.TheVariants as read
+use Rattle.group_events.specs.Offers.{IsOfferOf}
 use Rattle.metering_model.specs.Batch.{Batch}
 use Rattle.metering_model.specs.declared.BatchFault.{BatchFault}
 use Rattle.metering_model.specs.World as model
-use Rattle.group_core.specs.Words.{offer_of}
+use Rattle.group_events.specs.Events.{offer_of}
 
 abbrev by_answer : List ℕ → Result Batch BatchFault → model.Offer
 by_answer bytes r = elim r [ Ok b ↦ model.Good bytes | Err fault ↦ model.Bad fault ]

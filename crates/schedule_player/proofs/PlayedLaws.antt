@@ -4,10 +4,10 @@ use Rattle.std.specs.Io.KnownBytes.{Appends}
 use Rattle.std.proofs.KnownBytes.{Appends-nil}
 use Rattle.counted_io.specs.Writing.{AppendsPrefix}
 use Rattle.metering_model.specs.FirstFailure.{◌>>=◌, holds_or}
-use Rattle.input_sections.specs.declared.faults.ScheduleCode.TheVariants.{TooLong}
-use Rattle.input_sections.specs.declared.faults.ScheduleFault.{ScheduleFault}
-use Rattle.input_sections.specs.declared.faults.ScheduleFault.TheVariants as faults
-use Rattle.input_sections.specs.Sections.{Unread, whole_of}
+use Rattle.program_input.specs.declared.ScheduleCode.TheVariants.{TooLong}
+use Rattle.program_input.specs.declared.ScheduleFault.{ScheduleFault}
+use Rattle.program_input.specs.declared.ScheduleFault.TheVariants as faults
+use Rattle.program_input.specs.Sections.{Unread, whole_of}
 use Rattle.schedule_reader.specs.Schedules.{group_in, schedule_in}
 use Rattle.schedule_player.specs.Transcripts.{IsTranscriptOf, IsPrefixOfTranscript}
 use Rattle.program_input.proofs.FaultLaws.{first_fails, is_longer}

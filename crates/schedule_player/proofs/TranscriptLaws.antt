@@ -13,7 +13,7 @@ use Rattle.schedule_reader.specs.Events.{planned_of}
 use Rattle.schedule_reader.specs.Schedules.{ReadSchedule, group_in, schedule_in}
 use Rattle.schedule_reader.specs.Forms.{IsRead}
 use Rattle.transcript_laws.proofs.EveryTranscript.{holds_of_bytes}
-use Rattle.input_sections.specs.declared.faults.ScheduleFault.{ScheduleFault}
+use Rattle.program_input.specs.declared.ScheduleFault.{ScheduleFault}
 use Rattle.program_input.specs.Faults.{of_sections}
 use Rattle.program_input.specs.declared.faults.PlayFault.{PlayFault}
 use Rattle.schedule_player.specs.Transcripts.{IsTranscriptOf, IsTranscriptOfFirst, IsPrefixOfTranscript, replies_to}

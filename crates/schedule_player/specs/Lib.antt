@@ -1,3 +1,4 @@
 pub mod Transcripts
 pub mod Inner
-pub mod Schedules
+pub mod Replies
+pub mod Faults

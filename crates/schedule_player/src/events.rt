@@ -4,11 +4,12 @@ ghost use Rattle.std.specs.Prelude.{◌≡◌, IfOk};
 ghost use Rattle.metering_model.specs.Schedule as model;
 ghost use Rattle.metering_model.specs.World as world;
 ghost use Rattle.metering_model.specs.KeptText.{kept_offer_of};
-ghost use Rattle.group_core.specs.Words.{event_of, kept_offer, offer_of};
+ghost use Rattle.group_events.specs.Events.{event_of, offer_of};
+ghost use Rattle.group_events.specs.Offers.{offer_of};
 ghost use Rattle.schedule_reader.specs.Events.{HasWholeLines, planned_of};
 
-use batch_view::Offer;
-use group_core::{Event, KeptOffer};
+use group_events::Offer;
+use group_events::{Event, KeptOffer};
 use schedule_reader::Planned;
 use std::alloc::{AllocError, Global};
 

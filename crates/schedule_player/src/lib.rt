@@ -9,4 +9,6 @@ mod reply_texts;
 
 pub use events::event_of;
 pub use play::{opening_world, play_text};
-pub use schedule_reader::{Planned, Schedule};
+pub use group_core::World;
+pub use group_events::Reply;
+pub use program_input::{PlayFault, read_input};

@@ -5,12 +5,12 @@ ghost use Rattle.std.specs.Io.KnownBytes.{Appends};
 ghost use Rattle.counted_io.specs.Counts.{Rises, count_after};
 ghost use Rattle.counted_io.specs.Writing.{AppendsPrefix};
 ghost use Rattle.metering_model.specs.Transcript.{reply_text};
-ghost use Rattle.group_core.specs.Words.{reply_of};
+ghost use Rattle.group_events.specs.Replies.{reply_of};
 ghost use Rattle.schedule_player.specs.Inner.Held.{FitsReply, exported_period, is_same_period, told, told_of, waiting};
 
 use crate::reply_texts::set_words;
 use counted_io::{Failed, Sink, write_all};
-use group_core::{Period, Reply};
+use group_events::{Period, Reply};
 use std::alloc::{AllocError, Global};
 use std::marker::Model;
 

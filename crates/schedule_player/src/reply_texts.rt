@@ -2,11 +2,12 @@
 
 ghost use Rattle.std.specs.Prelude.{◌≡◌, ◌++◌, ◌∷◌, [], codes, OnOk};
 ghost use Rattle.metering_model.specs.Transcript.{file_of, line_count, reply_text, with_number};
-ghost use Rattle.group_core.specs.Words.{reply_of};
+ghost use Rattle.group_events.specs.Replies.{reply_of};
 
 use answer_words::replies;
 use byte_text::line_count;
-use group_core::{ExportFile, Reply, Snapshot};
+use export_file::ExportFile;
+use group_events::{Reply, Snapshot};
 use std::alloc::{AllocError, Global};
 
 /// Appends an export's file to one text, and to the other what stands above it: the period, and how many lines the file has.

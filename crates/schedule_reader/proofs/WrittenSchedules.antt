@@ -10,8 +10,8 @@ use Rattle.metering_model.specs.Schedule.{Schedule, TextLines, AreLines, planned
 use Rattle.metering_model.specs.Sheet as model
 use Rattle.metering_model.specs.Transcript.{line, with_number}
 use Rattle.metering_model.proofs.StepLaws.{ok_step_from, some_step_from, test_step_from}
-use Rattle.price_sheet.specs.SheetReading.{sheet_of_text}
-use Rattle.sheet_text.specs.IssuerReading.{issuer_of_text}
+use Rattle.input_sections.specs.SheetReading.{sheet_of_text}
+use Rattle.input_sections.specs.IssuerReading.{issuer_of_text}
 use Rattle.input_sections.specs.declared.faults.ScheduleCode.{ScheduleCode}
 use Rattle.input_sections.specs.declared.faults.ScheduleCode.TheVariants.{Head, Agents, Sheet, Issuer, TooLong}
 use Rattle.input_sections.specs.declared.faults.ScheduleFault.TheVariants.{Refused}

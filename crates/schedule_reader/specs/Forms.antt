@@ -2,8 +2,8 @@
 use Rattle.std.specs.Prelude.{◌≡◌, ℕ, List, Ok, IsTrue}
 use Rattle.std.specs.Str.{is_utf8}
 use Rattle.metering_model.specs.Schedule.{Schedule, HasScheduleForm, lines_text}
-use Rattle.price_sheet.specs.SheetReading.{sheet_of_text}
-use Rattle.sheet_text.specs.IssuerReading.{issuer_of_text}
+use Rattle.input_sections.specs.SheetReading.{sheet_of_text}
+use Rattle.input_sections.specs.IssuerReading.{issuer_of_text}
 use Rattle.schedule_reader.specs.Schedules.{ReadSchedule}
 
 -- The text is that of the schedule, and what is read of it are its parts.

@@ -9,7 +9,8 @@ use Rattle.sheet_text.specs.Names.{Key, key_name}
 use Rattle.sheet_text.specs.Keys.{KeyFault, value_under, text_under, label_under, day_under, price_under, per_under, service_category_under}
 use Rattle.sheet_text.specs.RowReading.{price_row_in}
 use Rattle.sheet_text.proofs.WorkedRows.{price_lines, price_of, without}
-use Rattle.sheet_text.proofs.WorkedSteps.{days_from_civil, day_count, days_of_years, days_of_months, worth_of, scan_numeral, skip_ws, skip_from, hex_escape, escape_char, escape, special, body, one_line, quoted, simple_key, key_after, underscore_fits, decimal_number, plain_number, number, word_value, word_len, unquoted, along_header, along_dots, at_key, define, key_equals, val, atom, expression, line, lines, skip_bom, parse_document}
+use Rattle.sheet_text.proofs.WorkedSteps.{days_from_civil, day_count, days_of_years, days_of_months, scan_numeral, skip_ws, skip_from, hex_escape, escape_char, escape, special, body, one_line, quoted, simple_key, key_after, underscore_fits, decimal_number, plain_number, number, word_value, word_len, unquoted, along_header, along_dots, at_key, define, key_equals, val, atom, expression, line, lines, skip_bom, parse_document}
+use Rattle.metering_model.specs.NumberText.{worth_of}
 
 -- the row of the lines in which this one stands in place of the one that so many stand before
 abbrev price_with : ℕ → List ℕ → Option (Result PriceRow KeyFault)

@@ -12,7 +12,7 @@ use crate::names::Key;
 use byte_text::is_same;
 use fx_money::Price;
 use metering_model::{CommitmentCategory, ServiceCategory};
-use period_cut::{Day, Month};
+use utc_calendar::{Day, Month};
 use std::alloc::{AllocError, Global};
 use toml::value::Array;
 use toml::{Table, Value};

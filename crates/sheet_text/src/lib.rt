@@ -15,6 +15,6 @@ pub use issuers::Issuer;
 pub use keys::{KeyFault, base_under, rows_under};
 pub use metering_model::{CommitmentCategory, ServiceCategory};
 pub use names::Key;
-pub use period_cut::{Day, Month};
 pub use prices::PriceRow;
 pub use regions::Region;
+pub use utc_calendar::{Day, Month};

@@ -12,7 +12,7 @@ use crate::keys::{
 use crate::names::Key;
 use fx_money::Price;
 use metering_model::ServiceCategory;
-use period_cut::Day;
+use utc_calendar::Day;
 use std::alloc::Global;
 use std::marker::Model;
 use toml::Table;

@@ -1,7 +1,7 @@
 -- Which runs are reported.
 use Rattle.std.specs.Prelude.{◌≡◌, map, Ok, Err}
 use Rattle.metering_model.specs.History.{IsLegal}
-use Rattle.group_laws.specs.Headline.{HoldsAfter}
+use Rattle.node_threads.specs.Headline.{HoldsAfter}
 use Rattle.price_sheet.specs.Samples.{sample_issuer}
 use Rattle.price_sheet.specs.SheetReading.{sheet_of_text}
 use Rattle.price_sheet.specs.declared.SheetFault.{SheetFault}

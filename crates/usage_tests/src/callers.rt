@@ -1,11 +1,14 @@
 //! What a caller writes: the functions that stand word for word in the READMEs of `price_sheet`, `batch_store` and `focus_csv`.
 
 use crate::files::{Charged, worked_store};
-use batch_store::{Cut, Month, Period, Store};
-use batch_view::{Day, Offer};
+use batch_store::{Cut, Period, Store};
+use record_view::Month;
+use record_view::Day;
+use batch_view::Offer;
 use counted_io::Counted;
 use focus_csv::{CsvFault, write_file};
-use focus_row::{Issuer, RowFault, rows_of};
+use price_sheet::Issuer;
+use focus_row::{RowFault, rows_of};
 use price_sheet::{Place, Sheet, SheetFault};
 use std::alloc::{AllocError, Global};
 use std::test::Fail;

@@ -5,7 +5,9 @@ use batch_store::Store;
 use batch_view::Offer;
 use counted_io::{Counted, FakeWriter};
 use focus_csv::{CsvFault, row_texts, write_file};
-use focus_row::{Cut, FocusRow, Issuer, Period, RowFault, Sheet, rows_of};
+use batch_store::{Cut, Period};
+use focus_row::{FocusRow, RowFault, rows_of};
+use price_sheet::{Issuer, Sheet};
 use std::alloc::{AllocError, Global};
 use worked_texts::{AMENDED, CORRECTION, HEADER, READ, SHEET};
 

@@ -1,7 +1,8 @@
 //! A batch's records, as each call that hands them out tells them.
 
 use crate::stores::offered;
-use batch_view::{Asked, BatchView, Kind, Offer, Reading, Record, Stamp};
+use batch_view::{Asked, BatchView, Kind, Offer};
+use record_view::{Reading, Record, Stamp};
 use std::alloc::Global;
 
 /// A reading of each kind, and an amendment.

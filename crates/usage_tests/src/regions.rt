@@ -2,7 +2,8 @@
 
 use crate::files::{Charged, put, rows_in};
 use batch_store::{RecordPlace, Store};
-use batch_view::{BatchCode, BatchFault, BatchView, Offer, OwnedBatch, Reading, Record};
+use batch_view::{BatchCode, BatchFault, BatchView, Offer, OwnedBatch};
+use record_view::{Reading, Record};
 use counted_io::Counted;
 use focus_csv::write_file;
 use focus_row::FocusRow;

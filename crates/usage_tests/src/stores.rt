@@ -1,6 +1,7 @@
 //! A store that is filled and asked where memory runs out.
 
-use batch_store::{Cut, Month, Period, RecordPlace, Store};
+use batch_store::{Cut, Period, RecordPlace, Store};
+use record_view::Month;
 use batch_view::{Offer, OwnedBatch};
 use std::alloc::{AllocError, Global};
 use std::sync::Arc;

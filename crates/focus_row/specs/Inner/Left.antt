@@ -10,9 +10,9 @@ use Rattle.metering_model.specs.Step.{first_missing}
 use Rattle.metering_model.specs.JournalRules.{MeetsJournalRules}
 use Rattle.metering_model.specs.Row.{Row}
 use Rattle.metering_model.specs.Rows.{placed_row}
-use Rattle.batch_store.specs.Stores.{IsStored}
+use Rattle.journal_rules.specs.Stores.{IsStored}
 use Rattle.focus_row.specs.declared.due_batches.BatchPlace.{BatchPlace}
-pub use Rattle.journal_rules.specs.Inner.Left.{is_from, left, placed_from}
+use Rattle.journal_rules.specs.Inner.Left.{left, placed_from}
 
 abbrev pub record_at : Holding → Position → Option Record
 record_at h p = option_and_then (λ b. slice_get b.records p.index) (held h p.agent p.seq)

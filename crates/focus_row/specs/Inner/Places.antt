@@ -2,7 +2,7 @@
 use Rattle.std.specs.Prelude.{◌≡◌, ℕ, ◌≤◌, ◌<◌, true, false, List, length, Some, slice_get}
 use Rattle.std.specs.List.{Contains}
 use Rattle.metering_model.specs.Holding.{Position}
-use Rattle.batch_store.specs.Stores.{stands_before}
+use Rattle.journal_rules.specs.Stores.{stands_before}
 
 -- The places before an index stand before this one, and no later one does.
 pub record IsFirstFrom (ps : List Position) (p : Position) (at : ℕ) : Type 0 where

@@ -3,7 +3,7 @@ use Rattle.std.specs.Prelude.{ℕ, Bool, false, ◌==◌, ◌&&◌, Option, Some
 use Rattle.std.specs.Option.{is_some}
 use Rattle.metering_model.specs.Ballot.{Attempt, is_above, is_not_below}
 use Rattle.metering_model.specs.World.{Node, current_period}
-use Rattle.paxos_ballot.specs.Promises.{proposes}
+use Rattle.node_kept.specs.Promises.{proposes}
 
 -- the node has learned that period
 abbrev pub has_learned : ℕ → Node → Bool

@@ -4,7 +4,7 @@ use Rattle.metering_model.specs.Cut.{Cut}
 use Rattle.metering_model.specs.Front.{front}
 use Rattle.metering_model.specs.Ballot.{Vote, Attempt, greater_vote}
 use Rattle.metering_model.specs.World.{Packet, Accept, Node, current_period, last_cut}
-use Rattle.paxos_ballot.specs.Promises.{proposes, after_promise}
+use Rattle.node_kept.specs.Promises.{proposes, after_promise}
 use Rattle.group_node.specs.Nodes.{NodeAmong}
 
 -- the cut that a proposer sends, in a group with that base month and so many agents

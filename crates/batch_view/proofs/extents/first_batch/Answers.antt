@@ -1,7 +1,7 @@
 use Rattle.std.proofs.Common.{ℕ, ◌<◌, List, length, take, drop, subst, arith}
 use Rattle.std.proofs.lemmas.List.{take_rest}
 use Rattle.metering_model.specs.BatchReading.{lines_in}
-use Rattle.byte_text.specs.Lines.{IsPast}
+use Rattle.record_view.specs.Lines.{IsPast}
 use Rattle.batch_view.proofs.FirstLemmas.{without_head, without_lines, with_lines}
 use Rattle.batch_view.proofs.extents.first_batch.Goals as goal
 

@@ -2,7 +2,7 @@ use Rattle.std.proofs.Common.{ℕ, ◌==◌, drop, sym, ap, ◌∙◌}
 use Rattle.std.specs.List.{position}
 use Rattle.std.proofs.lemmas.List.{take_rest}
 use Rattle.batch_view.proofs.LineLemmas.{first_line}
-use Rattle.byte_text.proofs.LineLemmas.{lines_without_feed}
+use Rattle.record_view.proofs.LineLemmas.{lines_without_feed}
 use Rattle.batch_view.proofs.lines.next_line.Goals as goal
 
 pub returns-in_err-length : goal.returns-in_err-length

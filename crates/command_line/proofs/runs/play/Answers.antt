@@ -1,7 +1,7 @@
 use Rattle.std.proofs.Common.{◌≡◌, ◌≢◌, ℕ, List, Option, Err, IfSome, ap, inr, refl}
 use Rattle.metering_model.specs.declared.Refusal.{Refusal}
-use Rattle.input_sections.specs.declared.faults.ScheduleFault.{ScheduleFault}
-use Rattle.schedule_player.specs.Schedules.{schedule_in}
+use Rattle.program_input.specs.declared.ScheduleFault.{ScheduleFault}
+use Rattle.input_check.specs.Schedules.{schedule_in}
 use Rattle.program_input.specs.declared.faults.PlayFault.{PlayFault}
 use Rattle.program_input.specs.declared.faults.PlayFault.TheVariants as play
 use Rattle.command_line.specs.declared.commands.Command.TheVariants.{Play as PlaySchedule}

@@ -1,9 +1,9 @@
 use Rattle.std.proofs.Common.{◌≡◌, ℕ, List, Option, Err, IfSome, ap, inl, refl}
 use Rattle.metering_model.specs.declared.Refusal.{Refusal}
-use Rattle.input_sections.specs.declared.faults.ScheduleFault.{ScheduleFault}
+use Rattle.program_input.specs.declared.ScheduleFault.{ScheduleFault}
 use Rattle.program_input.specs.declared.faults.PlayFault.{PlayFault}
 use Rattle.program_input.specs.declared.faults.PlayFault.TheVariants as play
-use Rattle.batch_player.specs.RateInput.{rated_file}
+use Rattle.input_check.specs.RateInput.{rated_file}
 use Rattle.command_line.specs.declared.commands.Command.TheVariants.{Rate}
 use Rattle.command_line.specs.declared.statuses.Fault.TheVariants.{Play}
 use Rattle.command_line.specs.Endings.{status_of}

@@ -1,7 +1,8 @@
 use Rattle.std.proofs.Common.{◌≡◌, ◌<◌, ◌≤◌, ◌∙◌, ◌+◌, [], ◌++◌, length, drop, refl, rules, arith}
 use Rattle.std.proofs.KnownBytes.{Appends-nil}
 use Rattle.metering_model.specs.File.{file}
-use Rattle.focus_csv.specs.Rows.{batch_lines, joined}
+use Rattle.focus_csv.specs.Rows.{batch_lines}
+use Rattle.focus_row.specs.Rows.{joined}
 use Rattle.focus_csv.proofs.FileParts.{begun_file, next_batch, none_left}
 use Rattle.focus_csv.proofs.Sinks.{next_prefix, next_some, next_written, last_written, begun_anew}
 use Rattle.focus_csv.proofs.files.write_rows.Goals as goal

@@ -1,7 +1,8 @@
 use Rattle.std.proofs.Common.{◌≡◌, ◌++◌, List, ℕ, drop}
 use Rattle.std.specs.Io.KnownBytes.{Appends}
 use Rattle.metering_model.specs.File.{file}
-use Rattle.focus_csv.specs.Rows.{batch_lines, joined}
+use Rattle.focus_csv.specs.Rows.{batch_lines}
+use Rattle.focus_row.specs.Rows.{joined}
 use Rattle.focus_csv.proofs.files.write_rows.Given as goal
 
 -- Some of the file was written, the text comes next, and the lines of the batches still to come are the rest; no call failed.

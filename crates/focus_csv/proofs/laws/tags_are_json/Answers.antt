@@ -1,5 +1,5 @@
 use Rattle.std.proofs.lemmas.Bool.{and_parts}
-use Rattle.batch_view.proofs.TagsHold.{tags_hold}
+use Rattle.record_view.proofs.TagsHold.{tags_hold}
 use Rattle.focus_csv.proofs.TagJson.{tags_read, tags_written}
 use Rattle.focus_csv.proofs.laws.tags_are_json.Goals as goal
 

@@ -2,8 +2,8 @@
 use Rattle.std.proofs.Common.{◌≡◌, ◌∷◌, ◌++◌, [], map, sym, ap, ◌∙◌, rules}
 use Rattle.std.proofs.lemmas.List.{append-nil}
 use Rattle.metering_model.specs.File.{json_member}
-use Rattle.batch_view.specs.Lent.{lent_tags, lent_pair}
-use Rattle.batch_view.specs.TagTexts.{tag_of}
+use Rattle.record_view.specs.Lent.{lent_tags, lent_pair}
+use Rattle.record_view.specs.TagTexts.{tag_of}
 use Rattle.focus_csv.specs.Inner.Strings.{are_plain, doubled}
 use Rattle.focus_csv.proofs.JsonText.{next_texts}
 use Rattle.focus_csv.proofs.PlainTags.{all_plain, next_plain}

@@ -3,8 +3,8 @@
 use Rattle.std.proofs.Common.{◌≡◌, true, [], ◌∷◌, ◌++◌, map, List}
 use Rattle.std.specs.Prelude.{IsTrue}
 use Rattle.metering_model.specs.Batch.{Tag}
-use Rattle.batch_view.specs.Lent.{lent_tags}
-use Rattle.batch_view.specs.TagTexts.{tag_of}
+use Rattle.record_view.specs.Lent.{lent_tags}
+use Rattle.record_view.specs.TagTexts.{tag_of}
 use Rattle.focus_csv.specs.Inner.Strings.{are_plain, doubled}
 use Rattle.focus_csv.proofs.TagTexts.{members_left}
 use Rattle.focus_csv.proofs.tags.set_tags.Given as goal

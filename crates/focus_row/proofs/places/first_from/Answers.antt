@@ -1,8 +1,8 @@
 use Rattle.std.proofs.Common.{◌≡◌, ℕ, ◌<◌, ◌+◌, ◌-◌, ◌/◌, length, map, Some, get_or, ap, sym, ◌∙◌, option_map, arith}
 use Rattle.std.specs.Prelude.{List, slice_get}
 use Rattle.std.proofs.lemmas.Option.{slice_get-map, slice_get-get_or}
-use Rattle.batch_store.specs.declared.RecordPlace.{RecordPlace}
-use Rattle.batch_store.specs.Stores.{position_of}
+use Rattle.journal_rules.specs.declared.RecordPlace.{RecordPlace}
+use Rattle.journal_rules.specs.Stores.{position_of}
 use Rattle.focus_row.proofs.PlaceOrder.{before_middle, behind_middle}
 use Rattle.focus_row.proofs.places.first_from.Goals as goal
 

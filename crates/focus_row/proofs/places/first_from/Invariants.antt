@@ -1,7 +1,7 @@
 use Rattle.std.proofs.Common.{◌-◌, ◌≡◌, ℕ, ◌<◌, ◌≤◌, true, false, map, length, Some}
 use Rattle.std.specs.Prelude.{slice_get}
 use Rattle.metering_model.specs.Holding.{Position}
-use Rattle.batch_store.specs.Stores.{position_of, stands_before}
+use Rattle.journal_rules.specs.Stores.{position_of, stands_before}
 use Rattle.focus_row.proofs.places.first_from.Given as goal
 
 -- What is before the low end stands before the place, and nothing from the high end on does.

@@ -2,7 +2,7 @@ use Rattle.std.proofs.Common.{◌≡◌, map, Some, None, ap, sym, ◌∙◌, op
 use Rattle.std.specs.Prelude.{slice_get}
 use Rattle.std.proofs.lemmas.Option.{slice_get-map, slice_get-get_or, slice_get_past}
 use Rattle.std.proofs.lemmas.Bool.{not-true, not_from_false}
-use Rattle.batch_store.specs.Stores.{position_of}
+use Rattle.journal_rules.specs.Stores.{position_of}
 use Rattle.focus_row.proofs.PlaceOrder.{named_if_first, first_if_named, none_if_past}
 use Rattle.focus_row.proofs.places.is_named.Goals as goal
 

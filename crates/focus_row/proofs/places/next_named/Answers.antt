@@ -1,7 +1,7 @@
 use Rattle.std.proofs.Common.{◌≡◌, map, Some, None, ap, sym, ◌∙◌, option_map}
 use Rattle.std.specs.Prelude.{slice_get}
 use Rattle.std.proofs.lemmas.Option.{slice_get-map, slice_get-get_or, slice_get_past}
-use Rattle.batch_store.specs.Stores.{position_of}
+use Rattle.journal_rules.specs.Stores.{position_of}
 use Rattle.focus_row.proofs.PlaceOrder.{next_if_own, none_if_other, none_if_end}
 use Rattle.focus_row.proofs.places.next_named.Goals as goal
 

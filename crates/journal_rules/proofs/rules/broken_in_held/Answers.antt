@@ -3,7 +3,7 @@ use Rattle.std.proofs.lemmas.Option.{same_Some}
 use Rattle.metering_model.specs.Holding.{held, placed}
 use Rattle.metering_model.specs.JournalRules.{first_broken}
 use Rattle.metering_model.proofs.HoldingLaws.{put_held}
-use Rattle.batch_view.specs.Batches.{batch_of}
+use Rattle.batch_store.specs.Batches.{batch_of}
 use Rattle.journal_rules.proofs.OneMore.{own_place}
 use Rattle.journal_rules.proofs.rules.broken_in_held.Goals as goal
 

@@ -1,4 +1,4 @@
-use Rattle.batch_view.specs.Batches.{batch_of}
+use Rattle.batch_store.specs.Batches.{batch_of}
 use Rattle.journal_rules.proofs.OneMore.{put_there}
 use Rattle.journal_rules.proofs.rules.first_broken.Goals as goal
 

@@ -1,5 +1,5 @@
 use Rattle.std.proofs.Common.{arith}
-use Rattle.batch_view.specs.Batches.{batch_of}
+use Rattle.batch_store.specs.Batches.{batch_of}
 use Rattle.journal_rules.proofs.OneMore.{alone_there}
 use Rattle.journal_rules.proofs.rules.first_broken_alone.Goals as goal
 

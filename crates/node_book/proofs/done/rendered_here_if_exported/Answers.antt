@@ -1,5 +1,6 @@
 use Rattle.std.proofs.Common.{Some, sym, ap, ◌∙◌}
-use Rattle.group_core.specs.Words.{Reply, reply_of}
+use Rattle.group_events.specs.declared.replies.Reply.{Reply}
+use Rattle.group_events.specs.Replies.{reply_of}
 use Rattle.node_book.specs.Books.{file_in}
 use Rattle.node_book.proofs.done.rendered_here_if_exported.Goals as goal
 

@@ -3,7 +3,7 @@ use Rattle.std.proofs.lemmas.List.Splits.{length-slice_split}
 use Rattle.metering_model.specs.BatchReading.{fields_in}
 use Rattle.metering_model.specs.declared.KeptCode.TheVariants.{Head}
 use Rattle.metering_model.specs.KeptText.{kept_head_in}
-use Rattle.period_cut.proofs.CutTexts.{at_some}
+use Rattle.batch_store.proofs.CutTexts.{at_some}
 use Rattle.node_kept.proofs.head.head_fields.Goals as goal
 
 too_many : (v a r l p b n : List ℕ) (more : List (List ℕ)) → 0 < length more → kept_head_in (v ∷ a ∷ r ∷ l ∷ p ∷ b ∷ n ∷ more) ≡ Err Head

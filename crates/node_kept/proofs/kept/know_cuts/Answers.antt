@@ -1,6 +1,6 @@
 use Rattle.std.proofs.Common.{arith, subst}
 use Rattle.std.specs.Arc.{arc_value}
-use Rattle.period_cut.specs.Limits.{IsCut}
+use Rattle.batch_store.specs.Limits.{IsCut}
 use Rattle.node_kept.proofs.Limits.{all_more, all_taken}
 use Rattle.node_kept.proofs.kept.know_cuts.Goals as goal
 

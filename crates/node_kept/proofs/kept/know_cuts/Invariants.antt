@@ -1,6 +1,6 @@
 use Rattle.std.proofs.Common.{All, map, take}
 use Rattle.std.specs.Arc.{arc_value}
-use Rattle.period_cut.specs.Limits.{IsCut}
+use Rattle.batch_store.specs.Limits.{IsCut}
 use Rattle.node_kept.proofs.kept.know_cuts.Given as goal
 
 -- The first cuts are known.

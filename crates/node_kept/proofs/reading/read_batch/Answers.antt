@@ -1,6 +1,6 @@
 use Rattle.std.proofs.Common.{Ok, refl, take, sym, ap, ◌∙◌}
 use Rattle.std.specs.Arc.{arc_value}
-use Rattle.batch_view.specs.Batches.{batch_of}
+use Rattle.batch_store.specs.Batches.{batch_of}
 use Rattle.node_kept.proofs.NextBatch.{no_extent, extent_within, good_next, bad_next}
 use Rattle.node_kept.proofs.reading.read_batch.Goals as goal
 

@@ -3,7 +3,7 @@ use Rattle.std.specs.Arc.{arc_value}
 use Rattle.std.proofs.lemmas.Result.{err_from_is_err_and}
 use Rattle.metering_model.specs.Holding.{put}
 use Rattle.batch_store.specs.Stores.{Stored}
-use Rattle.batch_view.specs.Batches.{batch_of}
+use Rattle.batch_store.specs.Batches.{batch_of}
 use Rattle.node_kept.proofs.ReadSteps.{told_so, batch_fault, reads_one_more, reads_no_more, no_agent, no_place, when_ok}
 use Rattle.node_kept.proofs.reading.read_batches.Goals.{then-place-agents-via-then-place-agents, then-place-agents-via-else-place-agents+then-not-comes_behind}
 use Rattle.node_kept.proofs.reading.read_batches.Goals as goal

@@ -1,6 +1,6 @@
 use Rattle.std.proofs.Common.{◌++◌, flat_map, ap, ◌∙◌}
 use Rattle.metering_model.specs.Batch.{batch_text}
-use Rattle.batch_view.specs.Batches.{batch_of}
+use Rattle.batch_store.specs.Batches.{batch_of}
 use Rattle.node_kept.proofs.WriteSteps.{put_one_more, bytes_are_text}
 use Rattle.node_kept.proofs.writing.put_batches.Goals as goal
 

@@ -1,4 +1,5 @@
-use Rattle.period_cut.proofs.PeriodOrder.{month_start-lt, period_start-lt, period_end-lt, period_start-lt_base}
+use Rattle.utc_calendar.proofs.MonthOrder.{month_start-lt}
+use Rattle.period_cut.proofs.PeriodOrder.{period_start-lt, period_end-lt, period_start-lt_base}
 use Rattle.period_cut.proofs.laws.later_periods_begin_later.Goals as goal
 
 pub returns-clause-months : goal.returns-clause-months

@@ -1,5 +1,5 @@
 use Rattle.std.proofs.Common.{refl, rules, sym}
-use Rattle.input_sections.specs.declared.faults.ScheduleFault.TheVariants.{OutOfMemory}
+use Rattle.program_input.specs.declared.ScheduleFault.TheVariants.{OutOfMemory}
 use Rattle.schedule_player.proofs.PlayedLaws.{longer_schedule, plain_fault, told_of_known, of_known, cut_of_known, prefix_of_known, nothing_of}
 use Rattle.schedule_player.proofs.play.play_text.Goals as goal
 

@@ -1,5 +1,5 @@
 use Rattle.std.proofs.Common.{rules}
-use Rattle.group_core.specs.Words.{reply_of}
+use Rattle.group_events.specs.Replies.{reply_of}
 use Rattle.schedule_player.proofs.Held.{fits, held_after, on_ok_then}
 use Rattle.schedule_player.proofs.playing.play_event.Goals as goal
 

@@ -1,4 +1,4 @@
-use Rattle.group_core.specs.Words.{reply_of}
+use Rattle.group_events.specs.Replies.{reply_of}
 use Rattle.std.proofs.Common.{sym, ◌∙◌}
 use Rattle.schedule_player.proofs.Held.{held_is, is_told, is_told_of}
 use Rattle.schedule_player.proofs.reply_lines.hold.Goals as goal

@@ -7,7 +7,7 @@ use Rattle.metering_model.specs.declared.ChargeClass.TheVariants.{Correction}
 use Rattle.metering_model.specs.Row.{row}
 use Rattle.metering_model.specs.Rows.{differ}
 use Rattle.batch_view.specs.Lent.{model_reading}
-use Rattle.batch_store.specs.Stores.{AreAmended, position_of}
+use Rattle.journal_rules.specs.Stores.{AreAmended, position_of}
 use Rattle.charge_row.specs.FocusRows.{model_row}
 use Rattle.charge_row.specs.Regions.{IsNamed}
 use Rattle.focus_row.specs.Inner.Left.{Between, MayBeCharged}

@@ -1,6 +1,6 @@
 use Rattle.std.proofs.Common.{◌≡◌, ◌≤◌, ap, subst, ◌∙◌, map, arith}
 use Rattle.metering_model.specs.Cut.{last_of}
-use Rattle.batch_store.specs.Stores.{AreAmended, position_of}
+use Rattle.journal_rules.specs.Stores.{AreAmended, position_of}
 use Rattle.focus_row.specs.Inner.Left.{Between, MayBeCharged}
 use Rattle.focus_row.specs.Inner.Places.{IsNextNamed, NoneNamed}
 use Rattle.focus_row.proofs.StopLaws.{grows_at, skip_to_named, skip_unnamed, skip_agent}

@@ -1,7 +1,7 @@
 use Rattle.std.proofs.Common.{◌≡◌, sym, subst, pos, rules}
 use Rattle.std.specs.Prelude.{◌≤ℤ◌}
 use Rattle.metering_model.specs.ValueAtSequence.{value_at}
-use Rattle.batch_store.specs.Stores.{position_of}
+use Rattle.journal_rules.specs.Stores.{position_of}
 use Rattle.focus_row.specs.Inner.Left.{MayBeCharged}
 use Rattle.focus_row.proofs.StopLaws.{not_negative_at}
 use Rattle.focus_row.proofs.between.BetweenCuts.value.Goals as goal

@@ -1,7 +1,7 @@
 -- The last of the cuts that are kept.
 use Rattle.std.proofs.Common.{ap, ◌∙◌, None}
 use Rattle.std.specs.List.{last_or}
-use Rattle.node_kept.specs.Kept.{KeptAmong}
+use Rattle.metering_model.specs.KeptText.{KeptAmong}
 use Rattle.group_node.specs.Nodes.{NodeAmong}
 use Rattle.group_node.proofs.LastCut.{last_seen}
 use Rattle.group_node.proofs.nodes.Node.last_learned.Goals as goal

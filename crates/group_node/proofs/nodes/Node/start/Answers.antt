@@ -2,7 +2,8 @@ use Rattle.std.proofs.Common.{◌≡◌, length, sym, ap, subst, arith, rules}
 use Rattle.std.proofs.lemmas.List.{length-replicate}
 use Rattle.std.proofs.lemmas.Option.{same_Some}
 use Rattle.metering_model.specs.Ballot.{Attempt}
-use Rattle.node_kept.specs.Kept.{IsKept, KeptAmong}
+use Rattle.node_kept.specs.Kept.{IsKept}
+use Rattle.metering_model.specs.KeptText.{KeptAmong}
 use Rattle.group_node.specs.Nodes.{NodeAmong}
 use Rattle.group_node.proofs.KeptLemmas.{started_kept}
 use Rattle.group_node.proofs.nodes.Node.start.Goals as goal

@@ -1,6 +1,6 @@
 use Rattle.std.proofs.Common.{◌≡◌, subst, Ok, Err}
 use Rattle.std.specs.Arc.{arc_value}
-use Rattle.batch_view.specs.Batches.{batch_of}
+use Rattle.group_events.specs.Batches.{batch_of}
 use Rattle.metering_model.specs.BatchReading.{batch_in}
 use Rattle.metering_model.specs.Step.{on_batch}
 use Rattle.group_events.specs.Replies.{reply_of}

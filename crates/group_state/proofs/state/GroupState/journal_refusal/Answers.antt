@@ -1,7 +1,7 @@
 use Rattle.std.proofs.Common.{ap, ◌∙◌, sym, arith}
 use Rattle.metering_model.specs.Holding.{placed, put}
 use Rattle.metering_model.specs.JournalRules.{first_broken}
-use Rattle.batch_view.specs.Batches.{batch_of}
+use Rattle.group_events.specs.Batches.{batch_of}
 use Rattle.group_state.proofs.Changes.{wrong_seq_told, rule_told, full_told, may_journal}
 use Rattle.group_state.proofs.state.GroupState.journal_refusal.Goals as goal
 

@@ -3,7 +3,7 @@ use Rattle.std.proofs.lemmas.Bool.{false≢true}
 use Rattle.metering_model.specs.World.{Revive}
 use Rattle.metering_model.specs.KeptText.{HasText}
 use Rattle.metering_model.specs.Step.{on_revival, step, kept_now}
-use Rattle.node_kept.specs.Offers.{offer_of}
+use Rattle.group_events.specs.Offers.{offer_of}
 use Rattle.group_state.proofs.RevivalLaws.{own_text, stale_text}
 use Rattle.group_state.proofs.state.GroupState.revival_refusal.Goals as goal
 

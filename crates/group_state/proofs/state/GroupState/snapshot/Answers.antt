@@ -2,7 +2,7 @@ use Rattle.std.proofs.Common.{length, ap, subst, ◌∙◌, sym, Ok}
 use Rattle.std.specs.Arc.{arc_value}
 use Rattle.metering_model.specs.World.{voter_count}
 use Rattle.metering_model.specs.Step.{first_missing}
-use Rattle.batch_store.specs.Stores.{Stored}
+use Rattle.journal_rules.specs.Stores.{Stored}
 use Rattle.group_state.specs.Inner.Allowed.{MayTake}
 use Rattle.group_state.proofs.Outcomes.{exports, missing}
 use Rattle.group_state.proofs.Parts.{node_here, learned_size}

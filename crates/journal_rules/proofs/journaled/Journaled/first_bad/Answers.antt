@@ -1,7 +1,7 @@
 use Rattle.std.proofs.Common.{◌≡◌, ℕ, map, drop, sym, ap, ◌∙◌}
 use Rattle.metering_model.specs.JournalRules.{first_broken}
-use Rattle.batch_view.specs.Asked.{asked_in, asked_left}
-use Rattle.batch_view.specs.Batches.{batch_of}
+use Rattle.batch_store.specs.Asked.{asked_in, asked_left}
+use Rattle.batch_store.specs.Batches.{batch_of}
 use Rattle.journal_rules.specs.FirstBad.{first_bad}
 use Rattle.journal_rules.specs.Inner.Left.{placed_from}
 use Rattle.journal_rules.proofs.AskedLaws.{same_broken, same_bad}

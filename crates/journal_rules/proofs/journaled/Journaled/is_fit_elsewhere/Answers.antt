@@ -3,7 +3,7 @@ use Rattle.std.specs.List.{slice_get}
 use Rattle.std.specs.Option.{option_and_then, option_copied}
 use Rattle.metering_model.specs.Holding.{is_batch_at, reading_at, reading_of}
 use Rattle.metering_model.specs.JournalRules.{is_fit_target}
-use Rattle.batch_view.specs.Batches.{batch_of}
+use Rattle.batch_store.specs.Batches.{batch_of}
 use Rattle.batch_store.specs.Stores.{position_of}
 use Rattle.journal_rules.specs.Inner.Journaled.{stored_in}
 use Rattle.journal_rules.proofs.OneMore.{fit_elsewhere, unfit_elsewhere}

@@ -2,7 +2,7 @@ use Rattle.std.proofs.Common.{◌≡◌, true, sym, subst, ◌∙◌}
 use Rattle.std.specs.Option.{option_copied}
 use Rattle.metering_model.specs.Holding.{is_batch_at, reading_at}
 use Rattle.metering_model.specs.JournalRules.{is_fit_target}
-use Rattle.batch_view.specs.Batches.{batch_of}
+use Rattle.batch_store.specs.Batches.{batch_of}
 use Rattle.batch_store.specs.Stores.{position_of}
 use Rattle.journal_rules.specs.Inner.Journaled.{stored_in}
 use Rattle.journal_rules.proofs.OneMore.{fit_here}

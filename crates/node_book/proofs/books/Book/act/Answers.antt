@@ -5,7 +5,8 @@ use Rattle.metering_model.specs.declared.Worker.{Worker}
 use Rattle.metering_model.specs.History.{Entry}
 use Rattle.metering_model.specs.Step.{Outcome, step}
 use Rattle.metering_model.specs.World.{Event, Reply, opening}
-use Rattle.group_core.specs.Words.{event_of, reply_of}
+use Rattle.group_events.specs.Events.{event_of}
+use Rattle.group_events.specs.Replies.{reply_of}
 use Rattle.node_book.specs.Books.{Book}
 use Rattle.node_book.specs.Kept.{entry_of}
 use Rattle.node_book.proofs.Legal.{by_growth, legal_more, on_err}

@@ -1,5 +1,5 @@
 use Rattle.std.proofs.Common.{sym, ap, ◌∙◌}
-use Rattle.group_core.specs.Words.{reply_of}
+use Rattle.group_events.specs.Replies.{reply_of}
 use Rattle.node_book.specs.Books.{Told}
 use Rattle.node_book.proofs.Exports.{within_iff}
 use Rattle.node_book.proofs.done.Done.is_within.Goals as goal
