@@ -6,7 +6,7 @@ pub mod replies;
 mod sections;
 mod sheet_faults;
 
+pub use byte_text::Line;
 pub use refusals::{code_word, kept_code_word, refusal_line};
 pub use sections::put_section;
 pub use sheet_faults::{put_issuer_fault, put_sheet_fault};
-pub use byte_text::Line;

@@ -11,10 +11,10 @@ ghost use Rattle.metering_model.specs.Rows.{rows};
 ghost use Rattle.metering_model.specs.File.{file};
 ghost use Rattle.row_laws.specs.Due.{WereDueBefore, StartsBeforeItsPeriodEnds};
 
+use focus_csv::{put_file, rows_between};
+use journal_rules::Store;
 use period_cut::{Cut, Period};
 use price_sheet::{Issuer, Sheet};
-use journal_rules::Store;
-use focus_csv::{put_file, rows_between};
 use std::alloc::{AllocError, Global};
 
 /// The file of a billing period between two cuts of what a store has: from the bytes of its batches to those of the file.

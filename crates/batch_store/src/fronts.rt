@@ -7,8 +7,7 @@ ghost use Rattle.batch_store.specs.Stores.{IsStored};
 ghost use Rattle.batch_store.specs.Inner.Fronts.{is_due_by, IsLastDue};
 
 use crate::Store;
-use period_cut::Stamp;
-use period_cut::{Cut, Month, Period};
+use period_cut::{Cut, Month, Period, Stamp};
 use std::alloc::{AllocError, Global};
 
 /// No batch has a sequence above this one.

@@ -13,11 +13,11 @@ mod stores;
 mod values;
 mod walk;
 
-pub use stores::Store;
-pub use walk::Batches;
 pub use batch_view::{Asked, AskedReading, BatchView, Offer, OwnedBatch};
 pub use fx_money::Value;
 pub use period_cut::{Cut, Period};
+pub use stores::Store;
+pub use walk::Batches;
 
 /// Where a record stands: its agent, from 1; its batch's sequence, from 1; its index in the batch, from 0.
 #[derive(Clone, Copy, Debug, PartialEq, Eq, PartialOrd, Ord)]

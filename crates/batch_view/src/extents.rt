@@ -8,8 +8,7 @@ ghost use Rattle.batch_view.specs.Inner.First.{IsFirstBatch, IsHeadFirst};
 use crate::batch::BatchView;
 use crate::first_fault::MOST_BYTES;
 use crate::head::{Head, head_of_line};
-use record_view::{find_byte, lines_length};
-use record_view::Span;
+use record_view::{Span, find_byte, lines_length};
 
 /// The head line that comes first, if one does.
 fn first_head(text: &[u8]) -> Option<Head>

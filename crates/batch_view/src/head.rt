@@ -5,9 +5,8 @@ ghost use Rattle.metering_model.specs.BatchReading.{fields_in, version_in, head_
 ghost use Rattle.batch_view.specs.Inner.Lines.{head_line, BeginsWithHead};
 
 use crate::lines::next_line;
-use record_view::{read_whole, split_at_bar};
 use metering_model::{BatchCode, BatchFault, Version};
-use record_view::Span;
+use record_view::{Span, read_whole, split_at_bar};
 
 /// The format and the numbers of a head line, and where the records begin behind it.
 #[derive(Clone, Copy)]

@@ -3,8 +3,7 @@
 ghost use Rattle.std.specs.Prelude.{◌≡◌, ◌==◌, ◌≤◌, length, MatchOption};
 ghost use Rattle.batch_view.specs.Inner.Lines.{IsFirstLine, HasNoLine};
 
-use record_view::find_byte;
-use record_view::Span;
+use record_view::{Span, find_byte};
 
 /// The line that begins at `from`, without its line feed, or None where none follows.
 pub(crate) fn next_line(text: &[u8], from: u32) -> Option<Span>

@@ -1,7 +1,6 @@
 //! A charge, column by column.
 
-use rating::Tags;
-use rating::{Cost, Delta, Price};
+use rating::{Cost, Delta, Price, Tags};
 
 /// A row of a FOCUS file. Its texts are lent by the batch, the sheet, the issuer and the program; null is `None`.
 ///

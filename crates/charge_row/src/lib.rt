@@ -9,6 +9,6 @@ mod rows;
 mod words;
 
 pub use columns::FocusRow;
+pub use period_cut::{Cut, Period};
 pub use regions::RegionColumns;
 pub use rows::{Billing, row};
-pub use period_cut::{Cut, Period};

@@ -7,8 +7,7 @@ ghost use Rattle.rating.specs.Lent.{model_reading};
 ghost use Rattle.charge_row.specs.Regions.{IsNamed};
 
 use crate::words::or_null;
-use rating::Reading;
-use rating::Sheet;
+use rating::{Reading, Sheet};
 
 /// The columns that a reading's region gives.
 #[derive(Clone, Copy)]

@@ -16,13 +16,10 @@ use crate::commitments::{commitment_columns, commitment_status, pricing_category
 use crate::prices::{consumed_unit, price_columns};
 use crate::regions::{RegionColumns, region_columns, region_name};
 use crate::words::{category_text, class_text, frequency_text, or_null};
-use metering_model::Kind;
-use rating::Reading;
-use rating::Value;
-use metering_model::ChargeClass;
+use metering_model::{ChargeClass, Kind};
 use period_cut::{Month, Period};
+use rating::{Rated, Reading, Sheet, Value, commitment_of, price_of, priced_kind, rate, rate_flat};
 use sheet_text::{Commitment, Issuer, PriceRow};
-use rating::{Rated, Sheet, commitment_of, price_of, priced_kind, rate, rate_flat};
 
 /// What all rows of a billing period share: who bills, and the period's start and end.
 #[derive(Clone, Copy)]

@@ -6,8 +6,7 @@ ghost use Rattle.metering_model.specs.Sheet.{service_category_text, commitment_c
 ghost use Rattle.metering_model.specs.declared.ChargeClass.TheVariants.{New};
 ghost use Rattle.metering_model.specs.Row.{or_null, by_kind, category_text, class_text};
 
-use metering_model::Kind;
-use metering_model::{ChargeClass, CommitmentCategory, ServiceCategory};
+use metering_model::{ChargeClass, CommitmentCategory, Kind, ServiceCategory};
 
 /// FOCUS's ChargeClass.
 pub(crate) fn class_text<'a>(class: ChargeClass) -> Option<&'a [u8]>

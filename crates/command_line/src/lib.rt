@@ -8,8 +8,8 @@ mod statuses;
 mod words;
 
 pub use commands::Command;
+pub use period_file::{FileFault, file_text};
 pub use runs::{run, run_alone};
 pub use statuses::{Fault, ending};
-pub use words::{LineFault, command};
-pub use period_file::{FileFault, file_text};
 pub use threads_player::{Size, ThreadsFault};
+pub use words::{LineFault, command};

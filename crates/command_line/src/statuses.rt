@@ -4,13 +4,10 @@ ghost use Rattle.std.specs.Prelude.{◌≡◌, ◌+◌, ◌≤◌, ◌++◌, len
 ghost use Rattle.command_line.specs.Endings.{Tells, ending_line, message_of, status_of};
 
 use crate::words::LineFault;
-use answer_words::Line;
-use answer_words::refusal_line;
+use answer_words::{Line, put_section, refusal_line};
 use counted_io::{Sink, write_all};
-use answer_words::put_section;
 use period_file::FileFault;
-use program_input::PlayFault;
-use program_input::{ScheduleCode, ScheduleFault};
+use program_input::{PlayFault, ScheduleCode, ScheduleFault};
 use threads_player::{RunFault, ThreadsFault};
 
 /// Why the program did not do what it is asked for.

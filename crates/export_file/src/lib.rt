@@ -13,9 +13,9 @@ ghost use Rattle.focus_csv.specs.Rows.{joined};
 ghost use Rattle.charge_row.specs.FocusRows.{model_row};
 ghost use Rattle.focus_csv.specs.Faults.{is_sink_fault};
 
+use charge_row::FocusRow;
 use counted_io::Sink;
 use focus_csv::{CsvFault, RowsBetween, put_file, rows_between, write_rows};
-use charge_row::FocusRow;
 use group_events::Snapshot;
 use split::write_split;
 use std::alloc::{AllocError, Global};

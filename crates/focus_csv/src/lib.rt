@@ -10,11 +10,11 @@ ghost use Rattle.focus_row.specs.Rows.{model_row};
 ghost use Rattle.focus_csv.specs.Faults.{is_sink_fault};
 
 use counted_io::Sink;
-use focus_row::FocusRow;
 pub use files::{put_batches, put_file, write_rows};
+use focus_row::FocusRow;
+pub use focus_row::{RowsBetween, rows_between};
 use lines::file_bytes;
 pub use lines::{header_text, row_texts};
-pub use focus_row::{RowsBetween, rows_between};
 use std::alloc::Global;
 use thiserror::Error;
 use writing::write_text;

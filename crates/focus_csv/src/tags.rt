@@ -9,8 +9,8 @@ ghost use Rattle.focus_csv.specs.Inner.Runs.{behind};
 ghost use Rattle.focus_csv.specs.Inner.Strings.{is_odd, doubled};
 
 use crate::odd::OddFields;
-use record_view::Tags;
 use memchr::memchr2;
+use record_view::Tags;
 use serde_json::Value;
 use std::alloc::{AllocError, Global};
 use std::str;

@@ -13,10 +13,9 @@ ghost use Rattle.focus_row.specs.Inner.Left.{IsWithin, MayBeCharged, rows_of_bat
 
 use crate::due_batches::BatchPlace;
 use crate::walk::BatchRows;
-use charge_row::{Cut, Period};
-use journal_rules::{RecordPlace, Store};
+use charge_row::{Billing, Cut, FocusRow, Period};
 use fx_money::Value;
-use charge_row::{Billing, FocusRow};
+use journal_rules::{RecordPlace, Store};
 use price_sheet::{Issuer, Sheet};
 use std::alloc::{AllocError, Global};
 use std::marker::Model;

@@ -22,10 +22,10 @@ ghost use Rattle.focus_row.specs.Inner.Near.{AreNamed};
 
 use crate::between::BetweenCuts;
 use crate::places::is_named;
-use journal_rules::RecordPlace;
 use batch_view::{BatchView, Reading, Record};
-use fx_money::Value;
 use charge_row::{FocusRow, RegionColumns, row};
+use fx_money::Value;
+use journal_rules::RecordPlace;
 use metering_model::ChargeClass;
 use std::alloc::AllocError;
 

@@ -10,6 +10,6 @@ mod walk;
 mod whole;
 
 pub use between::{RowsBetween, rows_between};
+pub use charge_row::FocusRow;
 pub use walk::BatchRows;
 pub use whole::{RowFault, rows_of};
-pub use charge_row::FocusRow;

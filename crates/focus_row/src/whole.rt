@@ -10,12 +10,10 @@ ghost use Rattle.metering_model.specs.Rows.{rows};
 ghost use Rattle.charge_row.specs.FocusRows.{model_row};
 
 use crate::between::rows_between;
-use charge_row::{Cut, Period};
-use journal_rules::Store;
-use charge_row::FocusRow;
-use price_sheet::{Issuer, Sheet};
-use journal_rules::first_broken_up_to;
+use charge_row::{Cut, FocusRow, Period};
+use journal_rules::{Store, first_broken_up_to};
 use metering_model::BrokenRule;
+use price_sheet::{Issuer, Sheet};
 use std::alloc::Global;
 use thiserror::Error;
 

@@ -7,5 +7,5 @@ mod world;
 
 pub use metering_model::Refusal;
 pub use playing::Stopped;
-pub use world::World;
 pub use price_sheet::Sheet;
+pub use world::World;

@@ -5,10 +5,10 @@ mod events;
 mod replies;
 mod snapshots;
 
-pub use events::Event;
-pub use replies::Reply;
-pub use snapshots::Snapshot;
 pub use batch_view::{BatchView, Offer, OwnedBatch};
+pub use events::Event;
 pub use node_kept::{Kept, KeptFault, KeptOffer};
 pub use period_cut::{Cut, Period};
 pub use price_sheet::Sheet;
+pub use replies::Reply;
+pub use snapshots::Snapshot;

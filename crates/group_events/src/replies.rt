@@ -4,9 +4,9 @@ ghost use Rattle.std.specs.Prelude.{◌≡◌, ◌↔◌, true, IfOk, IfErr, IsT
 ghost use Rattle.group_events.specs.Replies.{grows, reply_of};
 
 use crate::Snapshot;
-use period_cut::Period;
 use metering_model::Refusal;
 use node_kept::Ballot;
+use period_cut::Period;
 use std::alloc::{AllocError, Global};
 
 /// What a group answers to an event.

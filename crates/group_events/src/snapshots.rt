@@ -8,8 +8,8 @@ ghost use Rattle.metering_model.specs.JournalRules.{MeetsJournalRules};
 ghost use Rattle.metering_model.specs.Step.{first_missing};
 ghost use Rattle.group_events.specs.Snapshots.{IsExportable};
 
-use period_cut::{Cut, Period};
 use node_kept::Store;
+use period_cut::{Cut, Period};
 use price_sheet::{Issuer, Sheet};
 use std::alloc::{AllocError, Global};
 use std::marker::Model;

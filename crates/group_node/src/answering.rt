@@ -6,8 +6,8 @@ ghost use Rattle.group_node.specs.Nodes.{IsNodeAmong};
 ghost use Rattle.group_node.specs.Inner.Answering.{has_learned, promises, accepts, proposes_at};
 
 use crate::nodes::Node;
-use period_cut::Period;
 use node_kept::Ballot;
+use period_cut::Period;
 
 fn is_above(ballot: Ballot, promised: Option<Ballot>) -> bool
     ensures { result ≡ is_above ballot promised }

@@ -10,8 +10,8 @@ ghost use Rattle.group_node.specs.Handling.{Does, Answers};
 
 use crate::nodes::Node;
 use crate::packets::{Handled, Packet};
-use period_cut::{Month, Period};
 use batch_view::OwnedBatch;
+use period_cut::{Month, Period};
 use std::alloc::{AllocError, Global};
 use std::sync::Arc;
 

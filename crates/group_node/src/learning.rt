@@ -6,8 +6,8 @@ ghost use Rattle.metering_model.specs.Deliveries.{learning};
 ghost use Rattle.group_node.specs.Handling.{Does};
 
 use crate::nodes::Node;
-use period_cut::{Cut, Period};
 use node_kept::{Acceptor, Ballot, Tally, Vote};
+use period_cut::{Cut, Period};
 use std::alloc::{AllocError, Global};
 use std::sync::Arc;
 

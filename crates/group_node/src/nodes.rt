@@ -8,10 +8,8 @@ ghost use Rattle.metering_model.specs.World.{current_period, new_kept, wake};
 ghost use Rattle.metering_model.specs.Step.{started_node};
 ghost use Rattle.group_node.specs.Nodes.{IsNodeAmong};
 
+use node_kept::{Acceptor, Attempt, Ballot, Kept, Parts, Store, Tally};
 use period_cut::Cut;
-use node_kept::Store;
-use node_kept::{Kept, Parts};
-use node_kept::{Acceptor, Attempt, Ballot, Tally};
 use std::alloc::{AllocError, Global};
 use std::marker::Model;
 use std::sync::Arc;

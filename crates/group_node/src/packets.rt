@@ -1,8 +1,8 @@
 //! Packets, and what comes of one.
 
-use period_cut::{Cut, Period};
 use batch_view::OwnedBatch;
 use node_kept::{Ballot, Vote};
+use period_cut::{Cut, Period};
 use std::sync::Arc;
 
 /// What nodes send one another. Batches and cuts are shared, and never copied.

@@ -16,9 +16,8 @@ ghost use Rattle.group_node.specs.Inner.Proposing.{proposal_at, accept_at, await
 use crate::nodes::Node;
 use crate::packets::Packet;
 use crate::voting::share_vote;
+use node_kept::{Attempt, Ballot, Store, Vote};
 use period_cut::{Cut, Month, Period};
-use node_kept::Store;
-use node_kept::{Attempt, Ballot, Vote};
 use std::alloc::{AllocError, Global};
 use std::sync::Arc;
 

@@ -9,8 +9,8 @@ ghost use Rattle.group_node.specs.Handling.{Does};
 
 use crate::nodes::Node;
 use crate::packets::Packet;
-use period_cut::{Cut, Period};
 use node_kept::{Ballot, Vote};
+use period_cut::{Cut, Period};
 use std::alloc::AllocError;
 use std::sync::Arc;
 

@@ -10,11 +10,11 @@ ghost use Rattle.group_state.specs.Reached.{IsReached};
 ghost use Rattle.group_state.specs.Inner.Allowed.{HandsOver, MayDeliver};
 
 use crate::GroupState;
-use utc_calendar::Month;
 use group_events::Reply;
 use group_node::{Node, Packet};
 use metering_model::Refusal;
 use std::alloc::{AllocError, Global};
+use utc_calendar::Month;
 
 /// Hands packet k to node i, and adds what it sends to the packets. Room for that is made first.
 fn hand_over(

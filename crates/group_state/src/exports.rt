@@ -11,9 +11,9 @@ ghost use Rattle.group_state.specs.Inner.Allowed.{MayTake};
 
 use crate::GroupState;
 use group_events::{Cut, Period, Reply, Sheet, Snapshot};
-use sheet_text::Issuer;
 use group_node::Node;
 use metering_model::Refusal;
+use sheet_text::Issuer;
 use std::alloc::{AllocError, Global};
 use std::sync::Arc;
 

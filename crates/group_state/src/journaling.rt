@@ -14,11 +14,9 @@ ghost use Rattle.group_state.specs.Reached.{IsReached};
 ghost use Rattle.group_state.specs.Inner.Allowed.{MayJournal};
 
 use crate::GroupState;
-use journal_rules::Store;
-use group_events::{BatchView, Offer, OwnedBatch};
-use group_events::Reply;
+use group_events::{BatchView, Offer, OwnedBatch, Reply};
 use group_node::Packet;
-use journal_rules::first_broken;
+use journal_rules::{Store, first_broken};
 use metering_model::{BrokenRule, Refusal};
 use std::alloc::AllocError;
 use std::sync::Arc;

@@ -11,5 +11,5 @@ mod starts;
 mod state;
 mod steps;
 
-pub use state::GroupState;
 pub use group_events::{Event, Reply, Snapshot};
+pub use state::GroupState;

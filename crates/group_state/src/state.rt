@@ -7,10 +7,10 @@ ghost use Rattle.metering_model.specs.World.{new_kept, opening, voter_count, wak
 ghost use Rattle.group_node.specs.Packets.{packet_of};
 ghost use Rattle.group_state.specs.Inner.Members.{IsMember};
 
-use journal_rules::Store;
-use sheet_text::Issuer;
 use group_events::Sheet;
 use group_node::{Node, Packet};
+use journal_rules::Store;
+use sheet_text::Issuer;
 use std::alloc::{AllocError, Global};
 use std::marker::Model;
 use std::sync::Arc;

@@ -13,10 +13,10 @@ ghost use Rattle.input_check.specs.Checks.{IsSaidOf, said_of_input};
 
 use crate::batches::check_rating;
 use crate::events::check_schedule;
-use schedule_player::{PlayFault, read_input};
 use byte_text::line_count;
 use counted_io::{Sink, Source, write_all};
 use input_sections::behind_word;
+use schedule_player::{PlayFault, read_input};
 use std::alloc::{AllocError, Global};
 
 /// Appends what is wrong with an input: a line for each thing, or nothing. A text that begins with `SCHEDULE` is taken for a

@@ -11,12 +11,11 @@ ghost use Rattle.input_check.specs.Checks.{said_of_events, said_of_reply, said_o
 ghost use Rattle.input_check.specs.Inner.Faults.{fault_of};
 
 use crate::sections::put_fault;
-use byte_text::Line;
 use answer_words::refusal_line;
-use schedule_player::{Reply, World};
+use byte_text::Line;
 use input_sections::{ScheduleFault, Unread};
 use metering_model::Refusal;
-use schedule_player::{event_of, opening_world};
+use schedule_player::{Reply, World, event_of, opening_world};
 use schedule_reader::{Planned, Preamble, event_in};
 use std::alloc::{AllocError, Global};
 

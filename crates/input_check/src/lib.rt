@@ -8,6 +8,6 @@ mod events;
 pub mod laws;
 mod sections;
 
-pub use checks::check_text;
 pub use batch_player::rate_text;
+pub use checks::check_text;
 pub use schedule_player::play_text;

@@ -8,9 +8,8 @@ ghost use Rattle.input_check.specs.Checks.{reason, said_by, said_of_fault, said_
 
 use answer_words::{put_issuer_fault, put_section, put_sheet_fault};
 use byte_text::Line;
-use input_sections::{ScheduleCode, ScheduleFault, Unread, read_section};
+use input_sections::{ScheduleCode, ScheduleFault, Sheet, Unread, read_section};
 use sheet_text::{Issuer, IssuerFault, SheetFault};
-use input_sections::Sheet;
 use std::alloc::{AllocError, Global};
 
 /// The text of the section that opens on a line, counted from 1. No memory is taken.

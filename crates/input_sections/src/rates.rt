@@ -9,9 +9,8 @@ ghost use Rattle.sheet_text.specs.Samples.{sample_issuer};
 use crate::faults::ScheduleFault;
 use crate::sections::{read_issuer, read_sheet};
 use crate::unread::Unread;
-use sheet_text::Month;
-use sheet_text::Issuer;
 use price_sheet::Sheet;
+use sheet_text::{Issuer, Month};
 use std::alloc::Global;
 
 const BASE_YEAR: u16 = 2025;

@@ -12,8 +12,8 @@ ghost use Rattle.sheet_text.specs.IssuerReading.{issuer_of_text};
 use crate::faults::{ScheduleCode, ScheduleFault};
 use crate::unread::{Unread, behind_word};
 use byte_text::read_whole;
-use sheet_text::{Issuer, IssuerFault, SheetFault};
 use price_sheet::Sheet;
+use sheet_text::{Issuer, IssuerFault, SheetFault};
 use std::alloc::Global;
 
 /// A section: the text of its lines, each with its line feed, and what is left behind it.

@@ -12,8 +12,7 @@ ghost use Rattle.journal_rules.specs.Inner.Journaled.{stored_in};
 
 use crate::prices::is_fit_reading;
 use crate::targets::{comes_earlier, has_fit_target};
-use batch_store::{RecordPlace, Store};
-use batch_store::{Asked, BatchView, OwnedBatch, Value};
+use batch_store::{Asked, BatchView, OwnedBatch, RecordPlace, Store, Value};
 use metering_model::BrokenRule;
 use rating::Sheet;
 use std::marker::Model;

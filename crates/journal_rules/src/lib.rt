@@ -6,5 +6,5 @@ mod prices;
 mod rules;
 mod targets;
 
-pub use rules::{first_bad_alone, first_broken, first_broken_alone, first_broken_up_to};
 pub use batch_store::{RecordPlace, Store};
+pub use rules::{first_bad_alone, first_broken, first_broken_alone, first_broken_up_to};

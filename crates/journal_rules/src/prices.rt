@@ -6,8 +6,8 @@ ghost use Rattle.metering_model.specs.Row.{commitment_of};
 ghost use Rattle.batch_store.specs.Asked.{reading_asked};
 
 use batch_store::AskedReading;
-use metering_model::Kind;
 use byte_text::is_same;
+use metering_model::Kind;
 use rating::{Sheet, commitment_for, is_priced, price_for};
 
 /// Whether the reading names no commitment, or one that fits it: usage its SKU, a purchase the SKU that buys it.

@@ -12,8 +12,7 @@ ghost use Rattle.journal_rules.specs.FirstBad.{first_bad};
 ghost use Rattle.journal_rules.specs.Inner.Left.{broken_left};
 
 use crate::journaled::Journaled;
-use batch_store::{Cut, Store};
-use batch_store::BatchView;
+use batch_store::{BatchView, Cut, Store};
 use metering_model::BrokenRule;
 use rating::Sheet;
 

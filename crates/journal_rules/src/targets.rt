@@ -8,8 +8,7 @@ ghost use Rattle.metering_model.specs.JournalRules.{is_fit_target, comes_earlier
 ghost use Rattle.batch_store.specs.Batches.{batch_of};
 ghost use Rattle.batch_store.specs.Stores.{position_of};
 
-use batch_store::RecordPlace;
-use batch_store::{BatchView, Value};
+use batch_store::{BatchView, RecordPlace, Value};
 use rating::is_priced;
 
 /// Whether the batch has a reading at the index that takes the value: no priced one has a negative value.

@@ -2,11 +2,11 @@
 
 use crate::digests::Digest;
 use crate::inputs::Inputs;
-use program_input::PlayFault;
 use batch_player::rate_text;
 use counted_io::{Counted, write_all};
 use input_check::check_text;
 use period_cut::Period;
+use program_input::PlayFault;
 use schedule_player::play_text;
 use std::alloc::Global;
 use std::io;

@@ -12,10 +12,10 @@ ghost use Rattle.node_book.specs.Books.{opened};
 ghost use Rattle.node_book.specs.Kept.{entry_of, told_of};
 
 use crate::{Entry, Receipt};
-use group_events::Event;
-use sheet_text::Issuer;
 use group_core::{Sheet, World, laws};
+use group_events::Event;
 use metering_model::Worker;
+use sheet_text::Issuer;
 use std::alloc::{AllocError, Global};
 use std::marker::Model;
 use std::sync::Arc;

@@ -8,11 +8,11 @@ mod entries;
 mod logs;
 mod plans;
 
+pub use batch_view::Offer;
 pub use books::Book;
 pub use done::Done;
 pub use entries::{Entry, Receipt};
+pub use group_events::{Event, Reply};
 pub use logs::Log;
 pub use metering_model::Worker;
 pub use plans::Plan;
-pub use batch_view::Offer;
-pub use group_events::{Event, Reply};

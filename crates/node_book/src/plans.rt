@@ -4,8 +4,8 @@ ghost use Rattle.std.specs.Prelude.{◌≡◌};
 ghost use Rattle.node_book.specs.Books.{node_total};
 ghost use Rattle.node_book.specs.Logs.{plan_of};
 
-use sheet_text::Issuer;
 use group_core::Sheet;
+use sheet_text::Issuer;
 use std::sync::Arc;
 
 /// What a group is to do: how many of its nodes vote and how many only observe, its sheet and its issuer, the texts of each

@@ -8,9 +8,9 @@ mod offers;
 mod reading;
 mod writing;
 
+pub use batch_store::Store;
 pub use faults::KeptFault;
 pub use kept::{Kept, Parts};
 pub use metering_model::KeptCode;
 pub use offers::KeptOffer;
-pub use batch_store::Store;
 pub use paxos_ballot::{Acceptor, Attempt, Ballot, Tally, Vote};

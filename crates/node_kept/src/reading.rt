@@ -12,8 +12,7 @@ ghost use Rattle.node_kept.specs.Inner.Left.{AreBatchesOf, AreCutsOf, IfTold, Is
 use crate::faults::KeptFault;
 use crate::head::{Head, head_of_line};
 use crate::kept::{Kept, Parts};
-use batch_store::{Cut, Store};
-use batch_store::{Offer, OwnedBatch};
+use batch_store::{Cut, Offer, OwnedBatch, Store};
 use byte_text::first_line;
 use metering_model::KeptCode;
 use paxos_ballot::{Acceptor, Ballot, Vote};

@@ -12,5 +12,5 @@ mod threads;
 
 pub use gates::Gate;
 pub use groups::run_group;
-pub use runs::{Run, RunFault};
 pub use node_book::{Book, Done, Log, Plan, Receipt};
+pub use runs::{Run, RunFault};

@@ -5,5 +5,5 @@ mod faults;
 mod inputs;
 
 pub use faults::PlayFault;
-pub use inputs::read_input;
 pub use input_sections::{ScheduleCode, ScheduleFault};
+pub use inputs::read_input;

@@ -8,9 +8,9 @@ mod rated;
 mod rounding;
 
 pub use charges::rate;
+pub use fx_money::{Cost, Delta, Price, Value};
 pub use metering_model::PricedKind;
+pub use price_sheet::Sheet;
 pub use prices::{commitment_for, commitment_of, is_priced, price_for, price_of, priced_kind};
 pub use rated::{Rated, rate_flat};
-pub use fx_money::{Cost, Delta, Price, Value};
-pub use price_sheet::Sheet;
 pub use record_view::{Reading, Tags};

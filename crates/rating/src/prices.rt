@@ -8,10 +8,9 @@ ghost use Rattle.metering_model.specs.PriceInForce.{commitment_with, price_in_fo
 ghost use Rattle.metering_model.specs.Row.{commitment_of, or_null, price_of, priced_kind};
 ghost use Rattle.record_view.specs.Lent.{model_reading};
 
-use metering_model::Kind;
-use record_view::{Reading, Stamp};
-use metering_model::PricedKind;
+use metering_model::{Kind, PricedKind};
 use price_sheet::{Commitment, PriceRow, Sheet};
+use record_view::{Reading, Stamp};
 
 /// The kind, where it is one that a price charges.
 pub fn priced_kind(kind: Kind) -> Option<PricedKind>

@@ -1,15 +1,15 @@
 //! One usage record, read where its line lies: no text is copied, and reading takes no memory.
 #![tactic(auto)]
 
+pub use byte_text::{find_byte, lines_length, read_whole, split_at_bar};
 pub use fields::{Field, Span};
+pub use fx_money::Value;
 pub use kept::{Numbers, kept_reading};
 pub use metering_model::{BatchCode, Kind, Version};
 pub use records::{Reading, Record, read_exact, read_plain, read_record};
 pub use spans::field_spans;
 pub use stamps::StampReader;
 pub use tags::Tags;
-pub use byte_text::{find_byte, lines_length, read_whole, split_at_bar};
-pub use fx_money::Value;
 pub use utc_calendar::{Day, Month, Stamp};
 
 mod exact;

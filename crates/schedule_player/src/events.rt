@@ -8,8 +8,7 @@ ghost use Rattle.group_events.specs.Events.{event_of, offer_of};
 ghost use Rattle.group_events.specs.Offers.{offer_of};
 ghost use Rattle.schedule_reader.specs.Events.{HasWholeLines, planned_of};
 
-use group_events::Offer;
-use group_events::{Event, KeptOffer};
+use group_events::{Event, KeptOffer, Offer};
 use schedule_reader::Planned;
 use std::alloc::{AllocError, Global};
 

@@ -8,7 +8,7 @@ mod reply_lines;
 mod reply_texts;
 
 pub use events::event_of;
-pub use play::{opening_world, play_text};
 pub use group_core::World;
 pub use group_events::Reply;
+pub use play::{opening_world, play_text};
 pub use program_input::{PlayFault, read_input};

@@ -16,11 +16,10 @@ ghost use Rattle.schedule_player.specs.Transcripts.{IsPrefixOfTranscript, IsTran
 ghost use Rattle.schedule_player.specs.Inner.Playing.{AppendsFirst, read_of};
 
 use crate::playing::play_events;
-use program_input::{PlayFault, read_input};
 use counted_io::{Sink, Source};
-use price_sheet::{Issuer, Sheet};
 use group_core::World;
-use program_input::ScheduleFault;
+use price_sheet::{Issuer, Sheet};
+use program_input::{PlayFault, ScheduleFault, read_input};
 use schedule_reader::Schedule;
 use std::alloc::{AllocError, Global};
 use std::sync::Arc;

@@ -9,8 +9,9 @@ ghost use Rattle.schedule_reader.specs.Forms.{IsRead};
 use crate::events::{Planned, events_in};
 use crate::lines::nodes_behind;
 use byte_text::is_same;
-use input_sections::{ScheduleCode, ScheduleFault, Unread, number_behind, read_issuer, read_sheet};
-use input_sections::{Issuer, Sheet};
+use input_sections::{
+    Issuer, ScheduleCode, ScheduleFault, Sheet, Unread, number_behind, read_issuer, read_sheet,
+};
 use std::alloc::Global;
 
 /// A schedule: how many voters, observers and agents the group has, by what it charges, and what happens to it, in this

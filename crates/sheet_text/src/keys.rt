@@ -12,10 +12,10 @@ use crate::names::Key;
 use byte_text::is_same;
 use fx_money::Price;
 use metering_model::{CommitmentCategory, ServiceCategory};
-use utc_calendar::{Day, Month};
 use std::alloc::{AllocError, Global};
 use toml::value::Array;
 use toml::{Table, Value};
+use utc_calendar::{Day, Month};
 
 /// The rows that a table of a sheet may have.
 const MOST_ROWS: usize = 10_000;

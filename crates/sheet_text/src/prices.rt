@@ -12,10 +12,10 @@ use crate::keys::{
 use crate::names::Key;
 use fx_money::Price;
 use metering_model::ServiceCategory;
-use utc_calendar::Day;
 use std::alloc::Global;
 use std::marker::Model;
 use toml::Table;
+use utc_calendar::Day;
 
 /// A price of a SKU from a day on.
 #[derive(Drop)]
