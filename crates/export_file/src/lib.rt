@@ -1,56 +1,35 @@
-//! The file of an export: its rows, and its bytes.
+//! The file of an export.
 #![tactic(auto)]
 
-ghost use Rattle.std.specs.Prelude.{◌≡◌, ◌++◌, Err, IfOk, OnOk, OnErr, map};
+ghost use Rattle.std.specs.Prelude.{◌≡◌, ◌++◌, Err, IfOk, OnOk, OnErr};
 ghost use Rattle.std.specs.Io.KnownBytes.{Appends};
 ghost use Rattle.std.specs.Thread.{IsSync};
 ghost use Rattle.counted_io.specs.Counts.{Rises, count_after};
-ghost use Rattle.counted_io.specs.Writing.{AppendsPrefix, AppendsSome};
+ghost use Rattle.counted_io.specs.Writing.{AppendsPrefix};
 ghost use Rattle.metering_model.specs.Rows.{rows};
 ghost use Rattle.metering_model.specs.Transcript.{file_of};
 ghost use Rattle.metering_model.specs.World as model;
 ghost use Rattle.focus_csv.specs.Rows.{joined};
-ghost use Rattle.charge_row.specs.FocusRows.{model_row};
 ghost use Rattle.focus_csv.specs.Faults.{is_sink_fault};
 
-use charge_row::FocusRow;
 use counted_io::Sink;
-use focus_csv::{CsvFault, RowsBetween, put_file, rows_between, write_rows};
+use focus_csv::{CsvFault, RowsBetween, put_file, rows_between};
 use group_events::Snapshot;
 use split::write_split;
 use std::alloc::{AllocError, Global};
 use std::thread::Threads;
 
 mod split;
+mod whole;
 
-/// What has the rows and the bytes of a period's file: a [`Snapshot`].
+pub use whole::ExportRows;
+
+/// What has the bytes of a period's file: a [`Snapshot`].
 pub trait ExportFile {
     ghost taken: { Self → model.Snapshot };
 
-    /// All rows of the file, in journal order.
-    fn rows(&self, alloc: Global) -> Result<Vec<FocusRow<'_>>, AllocError>
-        ensures { IfOk result (λ all. map model_row all.items
-            ≡ rows (taken self.now).sheet (taken self.now).issuer (taken self.now).batches (taken self.now).period
-            (taken self.now).from (taken self.now).to) };
-
-    /// Writes the file: the header line, and a line for each row, batch by batch. 64 rows at most are in memory, also
-    /// while the sink is waited for, and the text of one batch.
-    ///
-    /// `Write` comes only from a failed call of the sink, and that is the only one: a prefix of the file that is not all
-    /// of it went out. At want of memory no call failed, and a prefix of the file went out.
-    fn write_csv<W: Sink>(&self, alloc: Global, sink: &mut W) -> Result<(), CsvFault>
-        ensures written { OnOk result (Appends (W.contents sink.old) (W.contents sink.new) (file_of (taken self.now))) }
-        ensures prefix { result ≡ Err CsvFault.Write
-            → AppendsPrefix (W.contents sink.old) (W.contents sink.new) (file_of (taken self.now)) }
-        ensures fault { result ≡ Err CsvFault.Write
-            → Rises (W.failed_calls sink.old) (W.failed_calls sink.new) }
-        ensures memory { result ≡ Err CsvFault.OutOfMemory
-            → AppendsSome (W.contents sink.old) (W.contents sink.new) (file_of (taken self.now)) }
-        ensures count { W.failed_calls sink.new
-            ≡ count_after (is_sink_fault result) (W.failed_calls sink.old) };
-
-    /// Writes the same bytes. All lines are made before the first byte goes out, and those of many rows in several threads at
-    /// once; of the rows, 64 at most for each thread are in memory.
+    /// Writes the file: the header line, and a line for each row. All lines are made before the first byte goes out, and
+    /// those of many rows in several threads at once; of the rows, 64 at most for each thread are in memory.
     ///
     /// `Write` comes only from a failed call of the sink, and that is the only one: a prefix of the file that is not all
     /// of it went out. At want of memory the sink is as it was.
@@ -70,7 +49,7 @@ pub trait ExportFile {
         ensures count { W.failed_calls sink.new
             ≡ count_after (is_sink_fault result) (W.failed_calls sink.old) };
 
-    /// Appends the file to a text that its caller may use again: the same bytes that `write_csv` writes. At want of memory
+    /// Appends the file to a text that its caller may use again: the same bytes that `write_csv_split` writes. At want of memory
     /// the text is as before.
     fn put_csv(&self, alloc: Global, text: &mut Vec<u8>) -> Result<(), AllocError>
         ensures put { OnOk result (text.new.items ≡ text.old.items ++ file_of (taken self.now)) }
@@ -96,18 +75,6 @@ fn batches_of(alloc: Global, snapshot: &Snapshot) -> Result<RowsBetween<'_>, All
 
 impl ExportFile for Snapshot {
     ghost taken = { λ s. s };
-
-    fn rows(&self, alloc: Global) -> Result<Vec<FocusRow<'_>>, AllocError> {
-        let batches = batches_of(alloc, self)?;
-        batches.all(alloc)
-    }
-
-    fn write_csv<W: Sink>(&self, alloc: Global, sink: &mut W) -> Result<(), CsvFault> {
-        let Ok(batches) = batches_of(alloc, self) else {
-            return Err(CsvFault::OutOfMemory);
-        };
-        write_rows(alloc, &batches, sink)
-    }
 
     fn write_csv_split<R: Threads + Sync, W: Sink>(
         &self,

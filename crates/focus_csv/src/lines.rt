@@ -1,15 +1,14 @@
 //! The lines of the file.
 
-ghost use Rattle.std.specs.Prelude.{◌≡◌, ◌≢◌, ◌<◌, ◌++◌, ◌∷◌, [], length, map, slice_index_or, IfOk, IfErr, OnOk, OnErr};
+ghost use Rattle.std.specs.Prelude.{◌≡◌, ◌<◌, ◌++◌, ◌∷◌, [], length, map, slice_index_or, OnOk, OnErr};
 ghost use Rattle.std.specs.List.{flat_map};
-ghost use Rattle.metering_model.specs.File.{file, header_line, row_text};
+ghost use Rattle.metering_model.specs.File.{header_line, row_text};
 ghost use Rattle.focus_row.specs.Rows.{model_row};
 ghost use Rattle.focus_csv.specs.Inner.Beginnings.{BeginsWith};
 
-use crate::CsvFault;
 use crate::pieces::LinePieces;
 use focus_row::FocusRow;
-use std::alloc::{AllocError, Global};
+use std::alloc::AllocError;
 
 /// The row at a place.
 fn row_at<'a, 'b>(rows: &'a [FocusRow<'b>], i: usize) -> &'a FocusRow<'b>
@@ -43,16 +42,6 @@ pub(crate) fn put_lines(
     Ok(())
 }
 
-/// A head, and behind it the lines of the rows, in order.
-fn lines_behind(alloc: Global, head: &[u8], rows: &[FocusRow<'_>]) -> Result<Vec<u8>, AllocError>
-    ensures { IfOk result (λ v. v.items ≡ head.now ++ flat_map row_text (map model_row rows.now)) }
-{
-    let mut text = Vec::new(alloc);
-    text.extend_from_slice(head)?;
-    put_lines(&mut LinePieces::new(alloc), rows, &mut text)?;
-    Ok(text)
-}
-
 /// The header line of every file: the names of the 38 columns in order, and a line feed.
 pub fn header_text() -> &'static [u8]
     ensures { result.now ≡ header_line ++ 10 ∷ [] }
@@ -65,25 +54,4 @@ pub fn header_text() -> &'static [u8]
         ContractedCost,ContractedUnitPrice,EffectiveCost,InvoiceIssuerName,ListCost,ListUnitPrice,\
         PricingCategory,PricingQuantity,PricingUnit,ProviderName,PublisherName,RegionId,RegionName,\
         ResourceId,ServiceCategory,ServiceName,SkuId,SkuPriceId,SubAccountId,Tags\n"
-}
-
-/// The text of the rows without a header line: a line for each row, in order.
-///
-/// So a file can be written in parts: `header_text`, and then the texts of its rows, as many at a
-/// time as the caller likes. Its only fault is want of memory.
-pub fn row_texts(alloc: Global, rows: &[FocusRow<'_>]) -> Result<Vec<u8>, CsvFault>
-    ensures text { IfOk result (λ v. v.items ≡ flat_map row_text (map model_row rows.now)) }
-    ensures fault { IfErr result (λ fault. fault ≢ CsvFault.Write) }
-{
-    match lines_behind(alloc, &[], rows) {
-        Ok(text) => Ok(text),
-        Err(_) => Err(CsvFault::OutOfMemory),
-    }
-}
-
-/// The bytes of the file of the rows.
-pub(crate) fn file_bytes(alloc: Global, rows: &[FocusRow<'_>]) -> Result<Vec<u8>, AllocError>
-    ensures { IfOk result (λ v. v.items ≡ file (map model_row rows.now)) }
-{
-    lines_behind(alloc, header_text(), rows)
 }

@@ -5,7 +5,7 @@ use crate::samples::{
 };
 use counted_io::{Counted, FakeWriter};
 use group_events::{Event, Reply, Snapshot};
-use export_file::ExportFile;
+use export_file::{ExportFile, ExportRows};
 use group_core::{Stopped, World};
 use node_threads::{Book, Done, Receipt, Worker};
 use std::alloc::{AllocError, Global};

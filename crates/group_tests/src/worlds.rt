@@ -3,7 +3,7 @@
 use crate::samples::{WHOLE_PATH_SENT, are_sent, is_file, is_put, whole_path, world};
 use counted_io::Counted;
 use group_events::{Event, Snapshot};
-use export_file::ExportFile;
+use export_file::ExportRows;
 use group_core::World;
 use std::alloc::{AllocError, Global};
 use std::test::Fail;

@@ -1,7 +1,7 @@
 use Rattle.std.proofs.Common.{◌∙◌, subst, rules}
 use Rattle.std.specs.Prelude.{OnOk}
 use Rattle.std.specs.Io.KnownBytes.{Appends}
-use Rattle.focus_csv.proofs.write_file.Goals as goal
+use Rattle.focus_csv.proofs.whole.write_file.Goals as goal
 
 pub returns-in_default-clause-kept : goal.returns-in_default-clause-kept
 returns-in_default-clause-kept c = search rules

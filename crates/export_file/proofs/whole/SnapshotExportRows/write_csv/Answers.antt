@@ -3,7 +3,7 @@ use Rattle.std.proofs.Common.{List, subst}
 use Rattle.counted_io.specs.Writing.{AppendsPrefix, AppendsSome}
 use Rattle.metering_model.specs.Row.{Row}
 use Rattle.metering_model.specs.File.{file}
-use Rattle.export_file.proofs.SnapshotExportFile.write_csv.Goals as goal
+use Rattle.export_file.proofs.whole.SnapshotExportRows.write_csv.Goals as goal
 
 pub returns-clause-prefix : goal.returns-clause-prefix
 returns-clause-prefix g c is =

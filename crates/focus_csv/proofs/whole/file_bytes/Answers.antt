@@ -4,7 +4,7 @@ use Rattle.std.specs.List.{flat_map}
 use Rattle.std.proofs.lemmas.Result.{IfOk-weaker}
 use Rattle.metering_model.specs.File.{header_line, row_text}
 use Rattle.focus_row.specs.Rows.{model_row}
-use Rattle.focus_csv.proofs.lines.file_bytes.Goals as goal
+use Rattle.focus_csv.proofs.whole.file_bytes.Goals as goal
 
 pub returns : goal.returns
 returns c =

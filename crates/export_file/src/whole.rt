@@ -1,0 +1,61 @@
+//! The rows of an export, and its file written batch by batch: for callers of the library. No program calls what stands here.
+
+ghost use Rattle.std.specs.Prelude.{◌≡◌, Err, IfOk, OnOk, map};
+ghost use Rattle.std.specs.Io.KnownBytes.{Appends};
+ghost use Rattle.counted_io.specs.Counts.{Rises, count_after};
+ghost use Rattle.counted_io.specs.Writing.{AppendsPrefix, AppendsSome};
+ghost use Rattle.metering_model.specs.Rows.{rows};
+ghost use Rattle.metering_model.specs.Transcript.{file_of};
+ghost use Rattle.metering_model.specs.World as model;
+ghost use Rattle.charge_row.specs.FocusRows.{model_row};
+ghost use Rattle.focus_csv.specs.Faults.{is_sink_fault};
+
+use crate::batches_of;
+use charge_row::FocusRow;
+use counted_io::Sink;
+use focus_csv::{CsvFault, write_rows};
+use group_events::Snapshot;
+use std::alloc::{AllocError, Global};
+
+/// What has the rows of a period's file, and can write it without having all of it at once: a [`Snapshot`].
+pub trait ExportRows {
+    ghost exported: { Self → model.Snapshot };
+
+    /// All rows of the file, in journal order.
+    fn rows(&self, alloc: Global) -> Result<Vec<FocusRow<'_>>, AllocError>
+        ensures { IfOk result (λ all. map model_row all.items
+            ≡ rows (exported self.now).sheet (exported self.now).issuer (exported self.now).batches (exported self.now).period
+            (exported self.now).from (exported self.now).to) };
+
+    /// Writes the file: the header line, and a line for each row, batch by batch. 64 rows at most are in memory, also
+    /// while the sink is waited for, and the text of one batch.
+    ///
+    /// `Write` comes only from a failed call of the sink, and that is the only one: a prefix of the file that is not all
+    /// of it went out. At want of memory no call failed, and a prefix of the file went out.
+    fn write_csv<W: Sink>(&self, alloc: Global, sink: &mut W) -> Result<(), CsvFault>
+        ensures written { OnOk result (Appends (W.contents sink.old) (W.contents sink.new) (file_of (exported self.now))) }
+        ensures prefix { result ≡ Err CsvFault.Write
+            → AppendsPrefix (W.contents sink.old) (W.contents sink.new) (file_of (exported self.now)) }
+        ensures fault { result ≡ Err CsvFault.Write
+            → Rises (W.failed_calls sink.old) (W.failed_calls sink.new) }
+        ensures memory { result ≡ Err CsvFault.OutOfMemory
+            → AppendsSome (W.contents sink.old) (W.contents sink.new) (file_of (exported self.now)) }
+        ensures count { W.failed_calls sink.new
+            ≡ count_after (is_sink_fault result) (W.failed_calls sink.old) };
+}
+
+impl ExportRows for Snapshot {
+    ghost exported = { λ s. s };
+
+    fn rows(&self, alloc: Global) -> Result<Vec<FocusRow<'_>>, AllocError> {
+        let batches = batches_of(alloc, self)?;
+        batches.all(alloc)
+    }
+
+    fn write_csv<W: Sink>(&self, alloc: Global, sink: &mut W) -> Result<(), CsvFault> {
+        let Ok(batches) = batches_of(alloc, self) else {
+            return Err(CsvFault::OutOfMemory);
+        };
+        write_rows(alloc, &batches, sink)
+    }
+}

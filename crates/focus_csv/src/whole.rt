@@ -1,0 +1,74 @@
+//! Rows at hand, and their text made whole: for callers of the library. No program calls what stands here.
+
+ghost use Rattle.std.specs.Prelude.{◌≡◌, ◌≢◌, ◌++◌, map, Err, IfOk, IfErr, OnOk};
+ghost use Rattle.std.specs.List.{flat_map};
+ghost use Rattle.std.specs.Io.KnownBytes.{Appends};
+ghost use Rattle.counted_io.specs.Counts.{Rises, count_after};
+ghost use Rattle.counted_io.specs.Writing.{AppendsPrefix};
+ghost use Rattle.metering_model.specs.File.{file, row_text};
+ghost use Rattle.focus_row.specs.Rows.{model_row};
+ghost use Rattle.focus_csv.specs.Faults.{is_sink_fault};
+
+use crate::CsvFault;
+use crate::lines::{header_text, put_lines};
+use crate::pieces::LinePieces;
+use crate::writing::write_text;
+use counted_io::Sink;
+use focus_row::FocusRow;
+use std::alloc::{AllocError, Global};
+
+/// A head, and behind it the lines of the rows, in order.
+fn lines_behind(alloc: Global, head: &[u8], rows: &[FocusRow<'_>]) -> Result<Vec<u8>, AllocError>
+    ensures { IfOk result (λ v. v.items ≡ head.now ++ flat_map row_text (map model_row rows.now)) }
+{
+    let mut text = Vec::new(alloc);
+    text.extend_from_slice(head)?;
+    put_lines(&mut LinePieces::new(alloc), rows, &mut text)?;
+    Ok(text)
+}
+
+/// The text of the rows without a header line: a line for each row, in order.
+///
+/// So a file can be written in parts: `header_text`, and then the texts of its rows, as many at a
+/// time as the caller likes. Its only fault is want of memory.
+pub fn row_texts(alloc: Global, rows: &[FocusRow<'_>]) -> Result<Vec<u8>, CsvFault>
+    ensures text { IfOk result (λ v. v.items ≡ flat_map row_text (map model_row rows.now)) }
+    ensures fault { IfErr result (λ fault. fault ≢ CsvFault.Write) }
+{
+    match lines_behind(alloc, &[], rows) {
+        Ok(text) => Ok(text),
+        Err(_) => Err(CsvFault::OutOfMemory),
+    }
+}
+
+/// The bytes of the file of the rows.
+fn file_bytes(alloc: Global, rows: &[FocusRow<'_>]) -> Result<Vec<u8>, AllocError>
+    ensures { IfOk result (λ v. v.items ≡ file (map model_row rows.now)) }
+{
+    lines_behind(alloc, header_text(), rows)
+}
+
+/// Writes the file of the rows: the header line, and a line for each row in order.
+///
+/// `Write` comes only from a failed call of the sink, and that is the only one: a prefix of the file
+/// that is not all of it went out. At any other fault the sink is as it was.
+pub fn write_file<W: Sink>(
+    alloc: Global,
+    rows: &[FocusRow<'_>],
+    sink: &mut W,
+) -> Result<(), CsvFault>
+    ensures written { OnOk result
+        (Appends (W.contents sink.old) (W.contents sink.new) (file (map model_row rows.now))) }
+    ensures prefix { result ≡ Err CsvFault.Write
+        → AppendsPrefix (W.contents sink.old) (W.contents sink.new) (file (map model_row rows.now)) }
+    ensures fault { result ≡ Err CsvFault.Write
+        → Rises (W.failed_calls sink.old) (W.failed_calls sink.new) }
+    ensures count { W.failed_calls sink.new
+        ≡ count_after (is_sink_fault result) (W.failed_calls sink.old) }
+    ensures kept { IfErr result (λ fault. fault ≢ CsvFault.Write → sink.new ≡ sink.old) }
+{
+    let Ok(bytes) = file_bytes(alloc, rows) else {
+        return Err(CsvFault::OutOfMemory);
+    };
+    write_text(sink, bytes.as_slice())
+}
