@@ -24,6 +24,9 @@ const LEAST_PART: usize = 1_600;
 /// `rayon` starts no more threads.
 const MOST_PARTS: usize = 32;
 
+/// Two parts of few rows take longer than one: their threads cost more than they save.
+const LEAST_PARTS: usize = 3;
+
 /// For each row so many bytes are asked for at once, so that the lines of a part seldom outgrow their room.
 const LINE_ROOM: usize = 400;
 
@@ -204,16 +207,20 @@ fn write_unsplit<W: Sink>(
     }
 }
 
-/// How many parts the batches are split into: one, where no thread is worth it, and no more than there are processors. Few rows
-/// are told before the processors are counted, which takes longer than their file.
+/// How many parts the batches are split into: one, where no thread is worth it, or three at least, and beyond that no more than
+/// there are processors. Few rows are told before the processors are counted, which takes longer than their file.
 fn part_count(rt: &impl Threads, batches: &RowsBetween<'_>) -> usize
     ensures { 1 ≤ result }
 {
     let most = batches.estimated_rows(0, batches.batches()) / LEAST_PART;
-    if most < 2 {
+    if most < LEAST_PARTS {
         return 1;
     }
-    current_num_threads(rt).min(most).min(MOST_PARTS)
+    let threads = current_num_threads(rt);
+    if threads < 2 {
+        return 1;
+    }
+    threads.max(LEAST_PARTS).min(most).min(MOST_PARTS)
 }
 
 /// Writes the file of the batches. The lines of many rows are made in several threads at once, and all before the first byte

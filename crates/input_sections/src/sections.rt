@@ -1,10 +1,10 @@
 //! Sections of a text: a line that says how many lines follow, and these.
 
-ghost use Rattle.std.specs.Prelude.{◌≡◌, ◌≢◌, ◌≤◌, Ok, Err, IfOk, IfErr, IfSome, MatchResult, codes};
+ghost use Rattle.std.specs.Prelude.{◌≡◌, ◌≢◌, ◌<◌, ◌≤◌, Ok, Err, IfOk, IfErr, IfSome, MatchResult, codes, length};
 ghost use Rattle.std.specs.Str.{IsUtf8};
 ghost use Rattle.toml.specs.Errors.{IsBlank};
 ghost use Rattle.metering_model.specs.SheetRules.{IsSheet, IsIssuer};
-ghost use Rattle.input_sections.specs.Sections.{HasText, number_behind, section_in, read_as, sheet_section, issuer_section};
+ghost use Rattle.input_sections.specs.Sections.{HasText, lines_left, number_behind, section_in, section_of, read_as, sheet_section, issuer_section};
 ghost use Rattle.input_sections.specs.Inner.Told.{told_of_sheet, told_of_issuer};
 ghost use Rattle.price_sheet.specs.SheetReading.{sheet_of_text};
 ghost use Rattle.sheet_text.specs.IssuerReading.{issuer_of_text};
@@ -32,6 +32,30 @@ pub fn number_behind(line: &[u8], word: &[u8], most: u32) -> Option<u32>
     read_whole(behind_word(line, word)?, 1, most)
 }
 
+/// The lines that a line opens, so many of those below it. Where fewer follow, that is told of the opening line (L7).
+pub fn lines_below<'a>(
+    below: &Unread<'a>,
+    count: u32,
+    line: u32,
+) -> Result<Section<'a>, ScheduleFault>
+    ensures section { MatchResult result
+        (λ s. (count ≤ length (lines_left below.now)) × (section_of count below.now ≡ record { text = s.text.now; rest = s.rest }))
+        (λ fault. (length (lines_left below.now) < count) × (fault ≡ ScheduleFault.Refused ScheduleCode.Lines line)) }
+    ensures text { IfOk result (λ s. s.rest.text ≡ below.now.text) }
+{
+    let Some(rest) = below.behind_lines(count) else {
+        return Err(ScheduleFault::Refused {
+            code: ScheduleCode::Lines,
+            line,
+        });
+    };
+    let left = below.left();
+    Ok(Section {
+        text: &left[..rest.from() - below.from()],
+        rest,
+    })
+}
+
 /// Reads the section that a line with the word and a number from 1 to `most` opens.
 ///
 /// The code is told where that line is absent or of another form. Each fault is told of that line.
@@ -54,17 +78,7 @@ pub fn read_section<'a>(
     let Some(count) = number_behind(opening, word, most) else {
         return Err(ScheduleFault::Refused { code, line });
     };
-    let Some(rest) = below.behind_lines(count) else {
-        return Err(ScheduleFault::Refused {
-            code: ScheduleCode::Lines,
-            line,
-        });
-    };
-    let left = below.left();
-    Ok(Section {
-        text: &left[..rest.from() - below.from()],
-        rest,
-    })
+    lines_below(&below, count, line)
 }
 
 /// What a sheet's fault is told as, where its section opens at a line.

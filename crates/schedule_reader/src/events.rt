@@ -6,7 +6,7 @@ ghost use Rattle.schedule_reader.specs.Events.{HasWholeLines, planned_of};
 ghost use Rattle.schedule_reader.specs.Schedules.{one_behind, two_behind, event_of_line, line_event, journal_event, revival_of_line, revival_event, event_in, events_in};
 
 use crate::lines::{one_behind, two_behind};
-use input_sections::{ScheduleCode, ScheduleFault, Unread, read_section};
+use input_sections::{ScheduleCode, ScheduleFault, Unread, lines_below, read_section};
 use std::alloc::Global;
 
 const LAST_NODE: u32 = 98;
@@ -159,20 +159,13 @@ fn revival_event<'a>(unread: &Unread<'a>) -> Result<(Planned<'a>, Unread<'a>), S
             line,
         });
     };
-    let Some(rest) = below.behind_lines(count) else {
-        return Err(ScheduleFault::Refused {
-            code: ScheduleCode::Lines,
-            line,
-        });
-    };
-    let left = below.left();
-    let text = &left[..rest.from() - below.from()];
+    let section = lines_below(&below, count, line)?;
     Ok((
         Planned::Revive {
             node: node as u8,
-            text,
+            text: section.text,
         },
-        rest,
+        section.rest,
     ))
 }
 
