@@ -21,7 +21,6 @@ use Rattle.period_file.specs.declared.faults.FileFault.{FileFault}
 use Rattle.period_file.specs.declared.faults.FileFault.TheVariants as file
 use Rattle.period_file.specs.Faults.{tells_of_reader as file_read, tells_of_writer as file_wrote}
 use Rattle.period_file.specs.Files.{AppendsFront, AppendsPart}
-use Rattle.threads_player.specs.declared.RunFault.TheVariants as of_run
 use Rattle.threads_player.specs.declared.faults.ThreadsFault.{ThreadsFault}
 use Rattle.threads_player.specs.declared.faults.ThreadsFault.TheVariants as threads
 use Rattle.threads_player.specs.Faults.{tells_of_writer as threads_wrote}
@@ -223,38 +222,40 @@ file_comes_to sink period fault known reads reads' writer writer' read wrote non
 threads_no_line : (fault : ThreadsFault) → status_of (Threads fault) ≢ 2
 threads_no_line threads.Write two = absurd (cc)
 threads_no_line threads.Refused two = absurd (cc)
-threads_no_line (threads.Run of_run.OutOfMemory) two = absurd (cc)
-threads_no_line (threads.Run of_run.Mismatch) two = absurd (cc)
+threads_no_line threads.OutOfMemory two = absurd (cc)
+threads_no_line threads.Mismatch two = absurd (cc)
 
 threads_device : (Same Part : Type 0) (fault : ThreadsFault) (reads writes writes' : ℕ)
     → writes' ≡ count_after (threads_wrote (not_run fault)) writes → (fault ≡ threads.Write → Part) → status_of (Threads fault) ≡ 3
     → IsDevice Same Part (ending_line (Threads fault)) reads reads writes writes'
 threads_device Same Part threads.Write reads writes writes' wrote part three = inr (refl, wrote, refl, part refl)
 threads_device Same Part threads.Refused reads writes writes' wrote part three = absurd (cc)
-threads_device Same Part (threads.Run of_run.OutOfMemory) reads writes writes' wrote part three = absurd (cc)
-threads_device Same Part (threads.Run of_run.Mismatch) reads writes writes' wrote part three = absurd (cc)
+threads_device Same Part threads.OutOfMemory reads writes writes' wrote part three = absurd (cc)
+threads_device Same Part threads.Mismatch reads writes writes' wrote part three = absurd (cc)
 
 threads_calm : (fault : ThreadsFault) (writes writes' : ℕ) → writes' ≡ count_after (threads_wrote (not_run fault)) writes
     → status_of (Threads fault) ≢ 3 → writes' ≡ writes
 threads_calm threads.Write writes writes' wrote other = absurd (other refl)
 threads_calm threads.Refused writes writes' wrote other = wrote
-threads_calm (threads.Run fault) writes writes' wrote other = wrote
+threads_calm threads.OutOfMemory writes writes' wrote other = wrote
+threads_calm threads.Mismatch writes writes' wrote other = wrote
 
 not_write : (fault : ThreadsFault) → status_of (Threads fault) ≢ 3 → fault ≢ threads.Write
 not_write threads.Write other = absurd (other refl)
 not_write threads.Refused other = λ same. absurd (cc)
-not_write (threads.Run fault) other = λ same. absurd (cc)
+not_write threads.OutOfMemory other = λ same. absurd (cc)
+not_write threads.Mismatch other = λ same. absurd (cc)
 
 not_3_at : (status other : ℕ) → status ≡ other → (other ≡ 3 → ⊥) → status ≢ 3
 not_3_at status other is differ three = differ (sym is ∙ three)
 
 -- a group is refused for what came of it, or for its sheet
 threads_refused : (Sheet : Type 0) (fault : ThreadsFault) → (fault ≡ threads.Refused → Sheet) → status_of (Threads fault) ≡ 1
-    → (Threads fault ≡ Threads (threads.Run of_run.Mismatch)) ⊎ ((Threads fault ≡ Threads threads.Refused) × Sheet)
+    → (Threads fault ≡ Threads threads.Mismatch) ⊎ ((Threads fault ≡ Threads threads.Refused) × Sheet)
 threads_refused Sheet threads.Write sheet one = absurd (cc)
 threads_refused Sheet threads.Refused sheet one = inr (refl, sheet refl)
-threads_refused Sheet (threads.Run of_run.OutOfMemory) sheet one = absurd (cc)
-threads_refused Sheet (threads.Run of_run.Mismatch) sheet one = inl refl
+threads_refused Sheet threads.OutOfMemory sheet one = absurd (cc)
+threads_refused Sheet threads.Mismatch sheet one = inl refl
 
 pub threads_come_to : {W : Type 0} (sink : SinkOf W) (size : Size) (fault : ThreadsFault) (known : Option (List ℕ)) (reads : ℕ) (writer writer' : W)
     → sink.failed_calls writer' ≡ count_after (threads_wrote (not_run fault)) (sink.failed_calls writer)
@@ -291,8 +292,8 @@ tells_memory Told (File file.Write) four told = absurd (cc)
 tells_memory Told (File file.OutOfMemory) four told = told
 tells_memory Told (Threads threads.Write) four told = absurd (cc)
 tells_memory Told (Threads threads.Refused) four told = absurd (cc)
-tells_memory Told (Threads (threads.Run of_run.OutOfMemory)) four told = told
-tells_memory Told (Threads (threads.Run of_run.Mismatch)) four told = absurd (cc)
+tells_memory Told (Threads threads.OutOfMemory) four told = told
+tells_memory Told (Threads threads.Mismatch) four told = absurd (cc)
 
 -- which of the two failed is told
 tells_device : (Told : List ℕ → Type 0) (Same Part : Type 0) (line : List ℕ) (reads reads' writes writes' : ℕ)
@@ -346,8 +347,8 @@ in_range (File file.Write) = (omega arith, omega arith)
 in_range (File file.OutOfMemory) = (omega arith, omega arith)
 in_range (Threads threads.Write) = (omega arith, omega arith)
 in_range (Threads threads.Refused) = (omega arith, omega arith)
-in_range (Threads (threads.Run of_run.OutOfMemory)) = (omega arith, omega arith)
-in_range (Threads (threads.Run of_run.Mismatch)) = (omega arith, omega arith)
+in_range (Threads threads.OutOfMemory) = (omega arith, omega arith)
+in_range (Threads threads.Mismatch) = (omega arith, omega arith)
 
 -- reading nothing takes no byte
 pub nothing_read : (most : ℕ) (known : Option (List ℕ)) → ConsumesAtMost most known known

@@ -10,7 +10,6 @@ use Rattle.program_input.specs.declared.ScheduleFault.TheVariants as section
 use Rattle.command_line.specs.declared.words.LineFault.TheVariants as on_line
 use Rattle.program_input.specs.declared.faults.PlayFault.TheVariants as play
 use Rattle.period_file.specs.declared.faults.FileFault.TheVariants as file
-use Rattle.threads_player.specs.declared.RunFault.TheVariants as of_run
 use Rattle.threads_player.specs.declared.faults.ThreadsFault.TheVariants as threads
 use Rattle.answer_words.specs.Words.{section_text}
 use Rattle.command_line.specs.declared.statuses.Fault.{Fault}
@@ -33,8 +32,8 @@ status_of (File file.TooLong) = 1
 status_of (File file.Read) = 3
 status_of (File file.Write) = 3
 status_of (File file.OutOfMemory) = 4
-status_of (Threads (threads.Run of_run.OutOfMemory)) = 4
-status_of (Threads (threads.Run of_run.Mismatch)) = 1
+status_of (Threads threads.OutOfMemory) = 4
+status_of (Threads threads.Mismatch) = 1
 status_of (Threads threads.Write) = 3
 status_of (Threads threads.Refused) = 1
 
@@ -54,8 +53,8 @@ message_of (File file.TooLong) = codes "refused " ++ section_text code.TooLong 1
 message_of (File file.Read) = codes "read failed"
 message_of (File file.Write) = codes "write failed"
 message_of (File file.OutOfMemory) = codes "out of memory"
-message_of (Threads (threads.Run of_run.OutOfMemory)) = codes "out of memory"
-message_of (Threads (threads.Run of_run.Mismatch)) = codes "mismatch"
+message_of (Threads threads.OutOfMemory) = codes "out of memory"
+message_of (Threads threads.Mismatch) = codes "mismatch"
 message_of (Threads threads.Write) = codes "write failed"
 message_of (Threads threads.Refused) = codes "refused"
 

@@ -25,7 +25,6 @@ use Rattle.period_file.specs.Files.{AppendsFront, AppendsPart, IsFileOf as IsFir
 use Rattle.period_file.specs.declared.faults.FileFault.{FileFault}
 use Rattle.period_file.specs.declared.faults.FileFault.TheVariants as file
 use Rattle.threads_player.specs.Runs.{Run}
-use Rattle.threads_player.specs.declared.RunFault.TheVariants as of_run
 use Rattle.threads_player.specs.declared.faults.ThreadsFault.TheVariants as threads
 use Rattle.threads_player.specs.declared.sizes.Size.{Size}
 use Rattle.threads_player.specs.Reports.{report_text}
@@ -64,7 +63,7 @@ Refuses (Rate period) known fault = (told : PlayFault) × (fault ≡ of_fault.Pl
 Refuses Play known fault = (told : ScheduleFault) × (fault ≡ of_fault.Play (play.Schedule told)) × IfSome known (λ input. schedule_in input ≡ Err told)
 Refuses Check known fault = (input text : List ℕ) × IsSaidOf known input text × (text ≢ []) × (fault ≡ of_fault.Faults (line_count text))
 Refuses (File period) known fault = (told : FileFault) × (fault ≡ of_fault.File told) × IfSome known (λ input. file_in period input ≡ Err told)
-Refuses (Threads size) known fault = (fault ≡ of_fault.Threads (threads.Run of_run.Mismatch)) ⊎ ((fault ≡ of_fault.Threads threads.Refused) × IsSheetRefused)
+Refuses (Threads size) known fault = (fault ≡ of_fault.Threads threads.Mismatch) ⊎ ((fault ≡ of_fault.Threads threads.Refused) × IsSheetRefused)
 
 -- Known contents grew by what is said of the input.
 abbrev pub SaysOf : (known old new : Option (List ℕ)) → Type 0

@@ -8,7 +8,7 @@ use answer_words::{Line, put_section, refusal_line};
 use counted_io::{Sink, write_all};
 use period_file::FileFault;
 use program_input::{PlayFault, ScheduleCode, ScheduleFault};
-use threads_player::{RunFault, ThreadsFault};
+use threads_player::ThreadsFault;
 
 /// Why the program did not do what it is asked for.
 #[derive(Clone, Copy, Drop)]
@@ -33,7 +33,7 @@ fn status(fault: &Fault) -> u8
         | Fault::Play(PlayFault::Schedule(ScheduleFault::Refused { .. }))
         | Fault::Faults(_)
         | Fault::File(FileFault::NoFile | FileFault::Torn | FileFault::TooLong)
-        | Fault::Threads(ThreadsFault::Run(RunFault::Mismatch) | ThreadsFault::Refused) => 1,
+        | Fault::Threads(ThreadsFault::Mismatch | ThreadsFault::Refused) => 1,
         Fault::Line(LineFault::Line) => 2,
         Fault::Play(PlayFault::Read | PlayFault::Write)
         | Fault::File(FileFault::Read | FileFault::Write)
@@ -42,7 +42,7 @@ fn status(fault: &Fault) -> u8
         | Fault::File(FileFault::OutOfMemory)
         | Fault::Play(PlayFault::OutOfMemory)
         | Fault::Play(PlayFault::Schedule(ScheduleFault::OutOfMemory))
-        | Fault::Threads(ThreadsFault::Run(RunFault::OutOfMemory)) => 4,
+        | Fault::Threads(ThreadsFault::OutOfMemory) => 4,
     }
 }
 
@@ -68,7 +68,7 @@ fn put_message(line: &mut Line, fault: &Fault)
         | Fault::File(FileFault::OutOfMemory)
         | Fault::Play(PlayFault::OutOfMemory)
         | Fault::Play(PlayFault::Schedule(ScheduleFault::OutOfMemory))
-        | Fault::Threads(ThreadsFault::Run(RunFault::OutOfMemory)) => line.put(b"out of memory"),
+        | Fault::Threads(ThreadsFault::OutOfMemory) => line.put(b"out of memory"),
         Fault::Play(PlayFault::Read) | Fault::File(FileFault::Read) => line.put(b"read failed"),
         Fault::Play(PlayFault::Write)
         | Fault::File(FileFault::Write)
@@ -83,7 +83,7 @@ fn put_message(line: &mut Line, fault: &Fault)
             line.put(b"refused ");
             line.put(refusal_line(*refusal).as_slice());
         }
-        Fault::Threads(ThreadsFault::Run(RunFault::Mismatch)) => line.put(b"mismatch"),
+        Fault::Threads(ThreadsFault::Mismatch) => line.put(b"mismatch"),
         Fault::Threads(ThreadsFault::Refused) => line.put(b"refused"),
     }
 }

@@ -6,13 +6,31 @@ use thiserror::Error;
 /// Why no report of a run was written.
 #[derive(Clone, Copy, Debug, Drop, Error)]
 pub enum ThreadsFault {
-    /// N1 or N2: there was no memory or no thread, in the run or beside it; or the run came to a mismatch.
-    #[error("{0}")]
-    Run(RunFault),
+    /// N1: there was no memory or no thread, in the run or beside it.
+    #[error("out of memory")]
+    OutOfMemory,
+    /// N2: what the workers of the run brought back is not what stands in the book, or not what the plan asks.
+    #[error("mismatch")]
+    Mismatch,
     /// A call of the writer failed.
     #[error("write failed")]
     Write,
     /// The sheet that is built in is refused.
     #[error("refused")]
     Refused,
+}
+
+/// A run that hands nothing back is told as such.
+impl From<RunFault> for ThreadsFault {
+    ghost use Rattle.std.specs.Prelude.{◌≡◌};
+    ghost use Rattle.threads_player.specs.Faults.{of_run};
+
+    ghost from_gives = { λ fault told. told ≡ of_run fault };
+
+    fn from(fault: RunFault) -> ThreadsFault {
+        match fault {
+            RunFault::OutOfMemory => ThreadsFault::OutOfMemory,
+            RunFault::Mismatch => ThreadsFault::Mismatch,
+        }
+    }
 }

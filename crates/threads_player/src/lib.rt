@@ -11,6 +11,5 @@ mod sizes;
 mod texts;
 
 pub use faults::ThreadsFault;
-pub use node_threads::RunFault;
 pub use sizes::Size;
 pub use texts::threads_text;

@@ -11,7 +11,7 @@ ghost use Rattle.threads_player.specs.SampleSheet.{sample_sheet_text};
 use crate::journals::journals;
 use crate::samples::sample_sheet;
 use crate::{Size, ThreadsFault};
-use node_threads::{Plan, RunFault};
+use node_threads::Plan;
 use price_sheet::{Issuer, Sheet};
 use std::alloc::{AllocError, Global};
 use std::sync::Arc;
@@ -58,6 +58,6 @@ pub(crate) fn plan(alloc: Global, size: Size) -> Result<Plan, ThreadsFault>
     let sheet = sample_sheet(alloc)?;
     match plan_with(alloc, size, sheet) {
         Ok(plan) => Ok(plan),
-        Err(_) => Err(ThreadsFault::Run(RunFault::OutOfMemory)),
+        Err(_) => Err(ThreadsFault::OutOfMemory),
     }
 }

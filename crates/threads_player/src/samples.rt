@@ -6,7 +6,6 @@ ghost use Rattle.threads_player.specs.Runs.{IsSheetRefused};
 ghost use Rattle.threads_player.specs.SampleSheet.{sample_sheet_text};
 
 use crate::ThreadsFault;
-use node_threads::RunFault;
 use price_sheet::{Sheet, SheetFault};
 use std::alloc::Global;
 
@@ -69,7 +68,7 @@ pub(crate) fn sample_sheet(alloc: Global) -> Result<Sheet, ThreadsFault>
 {
     match Sheet::read(alloc, sheet_text()) {
         Ok(sheet) => Ok(sheet),
-        Err(SheetFault::OutOfMemory) => Err(ThreadsFault::Run(RunFault::OutOfMemory)),
+        Err(SheetFault::OutOfMemory) => Err(ThreadsFault::OutOfMemory),
         Err(_) => Err(ThreadsFault::Refused),
     }
 }

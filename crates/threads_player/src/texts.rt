@@ -15,7 +15,7 @@ use crate::plans::plan;
 use crate::reports::report;
 use crate::{Size, ThreadsFault};
 use counted_io::{Sink, write_all};
-use node_threads::{Run, RunFault, run_group};
+use node_threads::{Run, run_group};
 use std::alloc::Global;
 use std::sync::Wait;
 use std::thread::Threads;
@@ -30,7 +30,7 @@ fn run_of<R: Threads + Wait + Sync>(rt: &R, alloc: Global, size: Size) -> Result
     let plan = plan(alloc, size)?;
     match run_group(rt, alloc, plan, &Open) {
         Ok(run) => Ok(run),
-        Err(fault) => Err(ThreadsFault::Run(fault)),
+        Err(fault) => Err(ThreadsFault::from(fault)),
     }
 }
 
@@ -62,7 +62,7 @@ pub fn threads_text<R: Threads + Wait + Sync, W: Sink>(
 {
     let run = run_of(rt, alloc, size)?;
     let Ok(text) = report(alloc, &run) else {
-        return Err(ThreadsFault::Run(RunFault::OutOfMemory));
+        return Err(ThreadsFault::OutOfMemory);
     };
     match write_all(writer, &text) {
         Ok(_) => Ok(()),
