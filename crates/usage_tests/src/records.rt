@@ -1,7 +1,7 @@
 //! A batch's records, as each call that hands them out tells them.
 
 use crate::stores::offered;
-use batch_view::{Asked, BatchView, Kind, Offer};
+use batch_view::{Asked, BatchView, Kind, Offer, OwnedBatch};
 use record_view::{Reading, Record, Stamp};
 use std::alloc::Global;
 
@@ -14,14 +14,14 @@ X|1|5|7200\n\
 T|2025-01-04T00:00:01Z|2025-01-05T00:00:00Z|||Tax on all|0.5||\n\
 A|2025-01-05T00:00:00Z|2025-01-06T00:00:00Z|||Rest|0.01||\n";
 
-/// The same in regions.
+/// The same in regions. The last is one with a comma, a quotation mark and the last byte of texts.
 const SECOND_FORMAT: &[u8] = b"B2|1|2|6\n\
 U|2025-01-01T00:00:00Z|2025-01-01T02:00:00Z|acc-7|vm-1|cpu|5400|plan-1|env=prod|eu-1\n\
 P|2025-01-02T00:00:00Z|2025-02-01T00:00:00Z|acc-7||disk|1|plan-2||eu-1\n\
 C|2025-01-03T00:00:00Z|2025-01-04T00:00:00Z|||Gift|-1|||\n\
 X|1|5|7200\n\
 T|2025-01-04T00:00:01Z|2025-01-05T00:00:00Z|||Tax on all|0.5|||us-9\n\
-A|2025-01-05T00:00:00Z|2025-01-06T00:00:00Z|||Rest|0.01|||\n";
+A|2025-01-05T00:00:00Z|2025-01-06T00:00:00Z|||Rest|0.01|||a,\"b~\n";
 
 /// What the text says of a record: a reading's kind, start in seconds since 1970-01-01, key and commitment, or an
 /// amendment's sequence, index and value in millionths.
@@ -149,20 +149,64 @@ fn tells(view: &BatchView<'_>) -> bool {
         && view.count() == 6
 }
 
-/// Whether the batch tells the same, read in place and kept.
-fn is_read(alloc: Global, bytes: &[u8]) -> bool {
-    let in_place = match BatchView::parse(bytes) {
-        Ok(view) => tells(&view),
-        Err(_) => false,
-    };
-    match offered(alloc, bytes) {
-        Ok(Offer::Good(kept)) => in_place && tells(&kept.view()),
+/// Whether a reading has just this region, which ends where its line does, or none where there is no text.
+fn is_in(reading: &Reading<'_>, region: Option<&[u8]>, line_end: usize) -> bool {
+    match (reading.region(), region) {
+        (Some(field), Some(text)) => field.text == text && field.span.to as usize == line_end,
+        (found, text) => found.is_none() && text.is_none(),
+    }
+}
+
+/// Whether the last record is a reading in this region.
+fn ends_in(view: &BatchView<'_>, region: Option<&[u8]>) -> bool {
+    let end = view.bytes().len() - 1;
+    match &view.record_at(5) {
+        Some(Record::Reading(reading)) => is_in(reading, region, end),
         _ => false,
     }
 }
 
+/// Whether the third record is a reading whose region is the empty text, or that has none.
+fn is_nowhere(view: &BatchView<'_>, is_some: bool) -> bool {
+    match &view.record_at(2) {
+        Some(Record::Reading(reading)) => match reading.region() {
+            Some(field) => is_some && field.text.is_empty(),
+            None => !is_some,
+        },
+        _ => false,
+    }
+}
+
+/// Whether the record at this index has so many spans.
+fn has_spans(kept: &OwnedBatch, index: u16, count: usize) -> bool {
+    match kept.spans(index) {
+        Some(spans) => spans.len() == count,
+        None => false,
+    }
+}
+
+/// Whether each call tells what is said, and regions where there is one.
+fn tells_all(view: &BatchView<'_>, region: Option<&[u8]>) -> bool {
+    tells(view) && ends_in(view, region) && is_nowhere(view, region.is_some())
+}
+
+/// Whether the batch tells the same, read in place and kept, and of a reading that is kept so many spans.
+fn is_read(alloc: Global, bytes: &[u8], region: Option<&[u8]>, fields: usize) -> bool {
+    let in_place = match BatchView::parse(bytes) {
+        Ok(view) => tells_all(&view, region),
+        Err(_) => false,
+    };
+    match offered(alloc, bytes) {
+        Ok(Offer::Good(kept)) => {
+            in_place && tells_all(&kept.view(), region) && has_spans(&kept, 0, fields)
+        }
+        _ => false,
+    }
+}
+
+/// A reading has nine fields in the first format, and none of them is a region; in the second it has ten.
 #[test]
 fn records_are_told_alike_by_each_call(rt: HostRuntime) {
-    assert!(rt; is_read(rt.alloc(), FIRST_FORMAT));
-    assert!(rt; is_read(rt.alloc(), SECOND_FORMAT));
+    assert!(rt; is_read(rt.alloc(), FIRST_FORMAT, None, 9));
+    assert!(rt; is_read(rt.alloc(), SECOND_FORMAT, Some(b"a,\"b~"), 10));
 }

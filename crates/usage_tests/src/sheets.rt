@@ -1,7 +1,7 @@
-//! A sheet and an issuer where memory runs out, and the faults of a sheet's regions.
+//! A sheet and an issuer where memory runs out, and how their faults are written.
 
 use price_sheet::{Issuer, IssuerFault, Key, Place, Sheet, SheetFault};
-use std::alloc::{AllocError, Global};
+use std::alloc::Global;
 use std::test::Fail;
 use worked_texts::ISSUER;
 
@@ -56,75 +56,6 @@ name = "Europe 1"
 id = "eu-1"
 "#;
 
-/// What stands behind these rows, and the fault that is told then.
-const BEHIND: [(&str, Option<SheetFault>); 14] = [
-    ("", None),
-    (
-        "[[region]]\nid = \"cm-1\"\nname = \"Europe 1\"\nextra = 1\n",
-        None,
-    ),
-    (
-        "[[region]]\nid = \"eu-2\"\n",
-        Some(SheetFault::Missing(Place::Region(2), Key::Name)),
-    ),
-    (
-        "[[region]]\nname = 1\n",
-        Some(SheetFault::Missing(Place::Region(2), Key::Id)),
-    ),
-    (
-        "[[region]]\nid = 1\n",
-        Some(SheetFault::BadValue(Place::Region(2), Key::Id)),
-    ),
-    (
-        "[[region]]\nid = \"\"\nname = \"b\"\n",
-        Some(SheetFault::BadValue(Place::Region(2), Key::Id)),
-    ),
-    (
-        "[[region]]\nid = \"a\"\nname = \"\"\n",
-        Some(SheetFault::BadValue(Place::Region(2), Key::Name)),
-    ),
-    (
-        "[[region]]\nid = \"a\"\nname = \"b\\u007F\"\n",
-        Some(SheetFault::BadValue(Place::Region(2), Key::Name)),
-    ),
-    (
-        "[[region]]\nid = \"eu-1\"\nname = \"b\"\n[[region]]\n",
-        Some(SheetFault::Duplicate(Place::Region(2))),
-    ),
-    (
-        "[[region]]\nid = \"a\"\nname = \"b\"\n[[region]]\nid = \"eu-1\"\n",
-        Some(SheetFault::Missing(Place::Region(3), Key::Name)),
-    ),
-    // The faults of prices and commitments come first, wherever they stand.
-    (
-        "[[region]]\nid = \"a\"\n[[price]]\nsku = \"ops\"\n",
-        Some(SheetFault::Missing(Place::Price(4), Key::PriceId)),
-    ),
-    (
-        "[[region]]\nid = \"a\"\n[[commitment]]\nid = \"cm-1\"\n",
-        Some(SheetFault::Missing(Place::Commitment(2), Key::Sku)),
-    ),
-    (
-        "[[commitment]]\nid = \"cm-2\"\nsku = \"gpu\"\nbuy = \"ops\"\ncategory = \"Usage\"\ntype = \"Reserved\"\nrate = \"1\"\n[[region]]\n",
-        Some(SheetFault::UnknownSku(Place::Commitment(2), Key::Sku)),
-    ),
-    (
-        "[[commitment]]\nid = \"cm-2\"\nsku = \"ops\"\nbuy = \"gpu\"\ncategory = \"Usage\"\ntype = \"Reserved\"\nrate = \"1\"\n[[region]]\n",
-        Some(SheetFault::UnknownSku(Place::Commitment(2), Key::Buy)),
-    ),
-];
-
-/// The place of the first of these texts of which another fault is told.
-fn first_told_otherwise(alloc: Global) -> Result<Option<usize>, AllocError> {
-    for (place, (more, fault)) in BEHIND.iter().enumerate() {
-        let text = format!(in alloc; "{PLANS}{more}")?;
-        if Sheet::read(alloc, text.as_str()).err() != *fault {
-            return Ok(Some(place));
-        }
-    }
-    Ok(None)
-}
-
 /// Whether the sheet is read, or want of memory is told.
 fn is_sheet(alloc: Global) -> bool {
     match Sheet::read(alloc, PLANS) {
@@ -150,12 +81,6 @@ fn a_refused_growth_leaves_no_sheet_or_no_issuer(rt: HostRuntime) {
     if let Ok(sample) = Issuer::sample(rt.alloc()) {
         assert!(rt; is_sample(rt.alloc(), &sample));
     }
-}
-
-#[test]
-fn a_fault_of_a_region_is_told_behind_those_of_other_rows(rt: HostRuntime) -> Result<(), Fail> {
-    assert_eq!(rt; first_told_otherwise(rt.alloc())?, None);
-    Ok(())
 }
 
 #[test]
