@@ -7,28 +7,41 @@ use record_view::Day;
 use batch_view::Offer;
 use counted_io::Counted;
 use focus_csv::{CsvFault, write_file};
-use price_sheet::Issuer;
-use focus_row::{RowFault, rows_of};
-use price_sheet::{Place, Sheet, SheetFault};
+use focus_row::{FocusRow, RowFault, rows_of};
+use price_sheet::{Issuer, Place, PriceRow, Sheet, SheetFault};
 use std::alloc::{AllocError, Global};
-use std::test::Fail;
 use worked_texts::{AMENDED, HEADER, LINE, READ, SHEET};
+
+/// The list price of a row, and for what.
+fn price_of(alloc: Global, row: &PriceRow) -> Result<String, AllocError> {
+    let list = row.list().write(alloc)?;
+    format!(in alloc; "{list} for {} {}", row.per(), row.consumed_unit())
+}
 
 /// The list price of a SKU on a day, or why there is none.
 fn list_price(alloc: Global, text: &str, sku: &str, day: Day) -> Result<String, AllocError> {
-    let sheet = match Sheet::read(alloc, text) {
-        Ok(sheet) => sheet,
+    match Sheet::read(alloc, text) {
+        Ok(sheet) => match sheet.price(sku.as_bytes(), day) {
+            Some(row) => price_of(alloc, row),
+            None => format!(in alloc; "{sku} has no price yet"),
+        },
         Err(SheetFault::BadValue(Place::Price(row), key)) => {
-            return format!(in alloc; "price {row}: bad {key}");
+            format!(in alloc; "price {row}: bad {key}")
         }
-        Err(SheetFault::OutOfMemory) => return Err(AllocError),
-        Err(fault) => return format!(in alloc; "no sheet: {fault}"),
-    };
-    let Some(row) = sheet.price(sku.as_bytes(), day) else {
-        return format!(in alloc; "{sku} has no price yet");
-    };
-    let list = row.list().write(alloc)?;
-    format!(in alloc; "{list} for {} {}", row.per(), row.consumed_unit())
+        Err(SheetFault::OutOfMemory) => Err(AllocError),
+        Err(fault) => format!(in alloc; "no sheet: {fault}"),
+    }
+}
+
+/// Whether the text is a batch of the store's agents, which is put there.
+fn is_put(alloc: Global, store: &mut Store, text: &[u8]) -> Result<bool, AllocError> {
+    match Offer::read(alloc, text.to_vec(alloc)?)? {
+        Offer::Good(batch) if batch.view().agent() <= store.agents() => {
+            store.put(batch)?;
+            Ok(true)
+        }
+        _ => Ok(false),
+    }
 }
 
 /// The first batch that agent 1 lacks, and how far all are due.
@@ -39,11 +52,8 @@ fn missing_and_due(
 ) -> Result<Option<(u32, Cut)>, AllocError> {
     let mut store = Store::new(alloc, 2)?;
     for text in texts {
-        match Offer::read(alloc, text.to_vec(alloc)?)? {
-            Offer::Good(batch) if batch.view().agent() <= store.agents() => {
-                store.put(batch)?;
-            }
-            _ => return Ok(None),
+        if !is_put(alloc, &mut store, text)? {
+            return Ok(None);
         }
     }
     let before = Cut::zero(alloc, store.agents())?;
@@ -51,7 +61,14 @@ fn missing_and_due(
     Ok(Some((store.first_absent(1), due)))
 }
 
-/// A period's file between two cuts. None where batches are missing, or break a rule.
+/// The rows' file.
+fn file_with(alloc: Global, rows: &[FocusRow<'_>]) -> Result<Vec<u8>, CsvFault> {
+    let mut sink = Counted::new(Vec::new(alloc));
+    write_file(alloc, rows, &mut sink)?;
+    Ok(sink.into_inner())
+}
+
+/// A period's file between cuts. None where batches are missing, or break a rule.
 fn file_of(
     alloc: Global,
     store: &Store,
@@ -64,14 +81,11 @@ fn file_of(
     if store.agents() != from.agents() || store.agents() != to.agents() || !to.at_least(from) {
         return Ok(None);
     }
-    let rows = match rows_of(alloc, store, sheet, issuer, period, from, to) {
-        Ok(rows) => rows,
-        Err(RowFault::OutOfMemory) => return Err(CsvFault::OutOfMemory),
-        Err(_) => return Ok(None),
-    };
-    let mut sink = Counted::new(Vec::new(alloc));
-    write_file(alloc, &rows, &mut sink)?;
-    Ok(Some(sink.into_inner()))
+    match rows_of(alloc, store, sheet, issuer, period, from, to) {
+        Ok(rows) => Ok(Some(file_with(alloc, &rows)?)),
+        Err(RowFault::OutOfMemory) => Err(CsvFault::OutOfMemory),
+        Err(_) => Ok(None),
+    }
 }
 
 /// A second price whose SKU is no text.
@@ -93,16 +107,21 @@ fn is_said_with(alloc: Global, row: &str, day: Day, said: &str) -> bool {
     }
 }
 
+/// Whether the worked price is told on that first day, and not on the one before, nor by a sheet that is none.
+fn are_said(alloc: Global, first: Day, before: Day) -> bool {
+    is_said(alloc, SHEET, "cpu", first, "0.1 for 3600 Seconds")
+        && is_said(alloc, SHEET, "cpu", before, "cpu has no price yet")
+        && is_said_with(alloc, NO_TEXT, first, "price 2: bad sku")
+        && is_said(alloc, "", "cpu", first, "no sheet: S2 top base")
+}
+
 #[test]
-fn a_list_price_is_asked_for(rt: HostRuntime) -> Result<(), Fail> {
-    let alloc = rt.alloc();
-    let first = Day::read(b"2025-01-01").ok_or("no day")?;
-    let before = Day::read(b"2024-12-31").ok_or("no day")?;
-    assert!(rt; is_said(alloc, SHEET, "cpu", first, "0.1 for 3600 Seconds"));
-    assert!(rt; is_said(alloc, SHEET, "cpu", before, "cpu has no price yet"));
-    assert!(rt; is_said_with(alloc, NO_TEXT, first, "price 2: bad sku"));
-    assert!(rt; is_said(alloc, "", "cpu", first, "no sheet: S2 top base"));
-    Ok(())
+fn a_list_price_is_asked_for(rt: HostRuntime) {
+    let are_said = match (Day::read(b"2025-01-01"), Day::read(b"2024-12-31")) {
+        (Some(first), Some(before)) => are_said(rt.alloc(), first, before),
+        _ => false,
+    };
+    assert!(rt; are_said);
 }
 
 /// The third batch, of February.
@@ -151,17 +170,23 @@ fn is_asked_for(alloc: Global, of: &Charged) -> bool {
     ))
 }
 
-/// What is charged in January.
-fn charged(alloc: Global) -> Option<Charged> {
-    let store = worked_store(alloc).ok()?;
-    Charged::new(alloc, store, SHEET, 0, (0, 1))
+/// Whether it is that of what is charged by the worked sheet.
+fn is_asked_for_in(alloc: Global, store: Store) -> bool {
+    match Charged::new(alloc, store, SHEET, 0, (0, 1)) {
+        Some(of) => is_asked_for(alloc, &of),
+        None => false,
+    }
+}
+
+/// The same of the worked batches.
+fn is_file_of_worked(alloc: Global) -> bool {
+    match worked_store(alloc) {
+        Ok(store) => is_asked_for_in(alloc, store),
+        Err(_) => false,
+    }
 }
 
 #[test]
 fn the_file_of_a_period_is_asked_for(rt: HostRuntime) {
-    let is_worked = match charged(rt.alloc()) {
-        Some(of) => is_asked_for(rt.alloc(), &of),
-        None => false,
-    };
-    assert!(rt; is_worked);
+    assert!(rt; is_file_of_worked(rt.alloc()));
 }
