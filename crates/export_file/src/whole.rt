@@ -1,19 +1,18 @@
 //! The rows of an export, and its file written batch by batch: for callers of the library. No program calls what stands here.
 
-ghost use Rattle.std.specs.Prelude.{◌≡◌, Err, IfOk, OnOk, map};
+ghost use Rattle.std.specs.Prelude.{◌≡◌, Err, IfOk, OnOk};
 ghost use Rattle.std.specs.Io.KnownBytes.{Appends};
 ghost use Rattle.counted_io.specs.Counts.{Rises, count_after};
 ghost use Rattle.counted_io.specs.Writing.{AppendsPrefix, AppendsSome};
 ghost use Rattle.metering_model.specs.Rows.{rows};
 ghost use Rattle.metering_model.specs.Transcript.{file_of};
 ghost use Rattle.metering_model.specs.World as model;
-ghost use Rattle.charge_row.specs.FocusRows.{model_row};
+ghost use Rattle.focus_csv.specs.Rows.{joined};
 ghost use Rattle.focus_csv.specs.Faults.{is_sink_fault};
 
 use crate::batches_of;
-use charge_row::FocusRow;
 use counted_io::Sink;
-use focus_csv::{CsvFault, write_rows};
+use focus_csv::{CsvFault, RowsBetween, write_rows};
 use group_events::Snapshot;
 use std::alloc::{AllocError, Global};
 
@@ -21,9 +20,9 @@ use std::alloc::{AllocError, Global};
 pub trait ExportRows {
     ghost exported: { Self → model.Snapshot };
 
-    /// All rows of the file, in journal order.
-    fn rows(&self, alloc: Global) -> Result<Vec<FocusRow<'_>>, AllocError>
-        ensures { IfOk result (λ all. map model_row all.items
+    /// The rows of the file, batch by batch, in journal order; `all` of them makes one list.
+    fn batches(&self, alloc: Global) -> Result<RowsBetween<'_>, AllocError>
+        ensures { IfOk result (λ batches. joined batches
             ≡ rows (exported self.now).sheet (exported self.now).issuer (exported self.now).batches (exported self.now).period
             (exported self.now).from (exported self.now).to) };
 
@@ -47,9 +46,8 @@ pub trait ExportRows {
 impl ExportRows for Snapshot {
     ghost exported = { λ s. s };
 
-    fn rows(&self, alloc: Global) -> Result<Vec<FocusRow<'_>>, AllocError> {
-        let batches = batches_of(alloc, self)?;
-        batches.all(alloc)
+    fn batches(&self, alloc: Global) -> Result<RowsBetween<'_>, AllocError> {
+        batches_of(alloc, self)
     }
 
     fn write_csv<W: Sink>(&self, alloc: Global, sink: &mut W) -> Result<(), CsvFault> {

@@ -1,10 +1,10 @@
 //! What a caller writes: the function that stands word for word in the README of `group_core`.
 
 use crate::samples::{is_file, issuer, sheet};
-use group_events::{Event, Offer, Reply, Sheet};
 use export_file::ExportFile;
-use sheet_text::Issuer;
 use group_core::{Refusal, World};
+use group_events::{Event, Offer, Reply, Sheet};
+use sheet_text::Issuer;
 use std::alloc::{AllocError, Global};
 use std::sync::Arc;
 use std::test::Fail;

@@ -4,9 +4,9 @@ use crate::samples::{
     Do, WHOLE_PATH_SENT, are_sent, event_of, is_file, issuer, packet_in, sheet, whole_path, world,
 };
 use counted_io::{Counted, FakeWriter};
-use group_events::{Event, Reply, Snapshot};
 use export_file::{ExportFile, ExportRows};
 use group_core::{Stopped, World};
+use group_events::{Event, Reply, Snapshot};
 use node_threads::{Book, Done, Receipt, Worker};
 use std::alloc::{AllocError, Global};
 use std::test::Fail;

@@ -1,8 +1,8 @@
 //! A group that has sent all its packets.
 
 use crate::samples::alone;
-use group_events::{Event, Offer, Reply};
 use group_core::{Refusal, World};
+use group_events::{Event, Offer, Reply};
 use std::alloc::{AllocError, Global};
 use std::test::Fail;
 

@@ -2,8 +2,8 @@
 
 use crate::kept::{LEARNED, PROMISED, VOTED};
 use crate::samples::{alone, is_put, issuer, sheet};
-use group_events::{Event, KeptOffer, Offer, Reply};
 use group_core::{Refusal, World};
+use group_events::{Event, KeptOffer, Offer, Reply};
 use metering_model::{KeptCode, KeptTextFault};
 use std::alloc::{AllocError, Global};
 use std::test::Fail;

@@ -1,10 +1,10 @@
 //! What the tests have in common: sheet and issuer, the worked events with their answers, and a plan.
 
-use group_events::{Event, Offer, Reply, Sheet, Snapshot};
 use export_file::ExportFile;
-use sheet_text::Issuer;
 use group_core::World;
+use group_events::{Event, Offer, Reply, Sheet, Snapshot};
 use node_threads::Plan;
+use sheet_text::Issuer;
 use std::alloc::{AllocError, Global};
 use std::sync::Arc;
 use worked_texts::{AMENDED, HEADER, ISSUER, LINE, READ, SHEET};

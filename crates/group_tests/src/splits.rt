@@ -2,9 +2,9 @@
 
 use crate::samples::{issuer, packet_in, sheet};
 use counted_io::{Counted, FakeWriter};
-use group_events::{Event, Offer, Reply, Snapshot};
 use export_file::{ExportFile, ExportRows};
 use group_core::World;
+use group_events::{Event, Offer, Reply, Snapshot};
 use std::alloc::{AllocError, Global};
 use std::thread::Threads;
 

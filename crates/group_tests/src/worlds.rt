@@ -2,9 +2,9 @@
 
 use crate::samples::{WHOLE_PATH_SENT, are_sent, is_file, is_put, whole_path, world};
 use counted_io::Counted;
-use group_events::{Event, Snapshot};
 use export_file::ExportRows;
 use group_core::World;
+use group_events::{Event, Snapshot};
 use std::alloc::{AllocError, Global};
 use std::test::Fail;
 
@@ -39,7 +39,10 @@ fn is_written(alloc: Global, snapshot: &Snapshot) -> bool {
 
 /// Whether it has one row.
 fn has_one_row(alloc: Global, snapshot: &Snapshot) -> bool {
-    match snapshot.rows(alloc) {
+    let Ok(batches) = snapshot.batches(alloc) else {
+        return false;
+    };
+    match batches.all(alloc) {
         Ok(rows) => rows.len() == 1,
         Err(_) => false,
     }

@@ -1,8 +1,8 @@
 //! What a caller writes: the function that stands word for word in the README of `schedule_player`.
 
+use counted_io::Counted;
 use program_input::{PlayFault, ScheduleCode, ScheduleFault};
 use schedule_player::play_text;
-use counted_io::Counted;
 use std::alloc::{AllocError, Global};
 use worked_texts::{HEADER, SECTIONS};
 

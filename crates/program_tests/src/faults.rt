@@ -1,8 +1,6 @@
 //! The texts of faults.
 
 use command_line::{FileFault, LineFault, ThreadsFault};
-use program_input::{PlayFault, ScheduleCode, ScheduleFault};
-use node_threads::RunFault;
 use counted_io::{Failed, ReadFault};
 use focus_csv::CsvFault;
 use focus_row::RowFault;
@@ -10,6 +8,7 @@ use metering_model::{
     BatchCode, BatchFault, BrokenRule, KeptCode, KeptTextFault, NumberFault, Refusal,
 };
 use node_kept::KeptFault;
+use program_input::{PlayFault, ScheduleCode, ScheduleFault};
 use std::alloc::{AllocError, Global};
 use std::fmt::Display;
 
@@ -167,8 +166,8 @@ fn a_run_is_told_why_it_ends(rt: HostRuntime) {
         PlayFault::Refused(Refusal::NoNode),
     ];
     let of_threads = [
-        ThreadsFault::Run(RunFault::OutOfMemory),
-        ThreadsFault::Run(RunFault::Mismatch),
+        ThreadsFault::OutOfMemory,
+        ThreadsFault::Mismatch,
         ThreadsFault::Write,
         ThreadsFault::Refused,
     ];

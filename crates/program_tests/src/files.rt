@@ -1,10 +1,9 @@
 //! A file by a call that no word of the program asks for: one that begins behind a cut.
 
 use batch_player::file_between;
-use batch_store::Offer;
-use batch_store::{Cut, Period, Store};
-use price_sheet::{Issuer, Sheet};
+use batch_store::{Cut, Offer, Period, Store};
 use focus_row::rows_of;
+use price_sheet::{Issuer, Sheet};
 use std::alloc::{AllocError, Global};
 use std::test::Fail;
 use worked_texts::{AMENDED, CORRECTION, HEADER, LINE, READ, SHEET};

@@ -1,11 +1,11 @@
 //! Growths that are refused, each in turn behind the gate: what is told then, and what went out.
 
+use batch_player::rate_text;
+use batch_store::Period;
 use command_line::{FileFault, file_text};
+use counted_io::{Counted, FakeReader, FakeWriter};
 use program_input::PlayFault;
 use schedule_player::play_text;
-use batch_player::rate_text;
-use counted_io::{Counted, FakeReader, FakeWriter};
-use batch_store::Period;
 use std::alloc::{AllocError, Global};
 use std::test::Fail;
 use worked_texts::{HEADER, LINE, READ, SECTIONS};

@@ -1,7 +1,7 @@
 //! The words that the program is given.
 
-use command_line::{Command, LineFault, Size, command};
 use batch_store::Period;
+use command_line::{Command, LineFault, Size, command};
 use std::alloc::{AllocError, Global};
 use std::test::Fail;
 

@@ -6,10 +6,10 @@ use thiserror::Error;
 /// Why no report of a run was written.
 #[derive(Clone, Copy, Debug, Drop, Error)]
 pub enum ThreadsFault {
-    /// N1: there was no memory or no thread, in the run or beside it.
+    /// There was no memory or no thread, in the run (N1) or beside it.
     #[error("out of memory")]
     OutOfMemory,
-    /// N2: what the workers of the run brought back is not what stands in the book, or not what the plan asks.
+    /// The run came to a mismatch (N2).
     #[error("mismatch")]
     Mismatch,
     /// A call of the writer failed.

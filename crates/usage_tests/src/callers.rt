@@ -2,13 +2,12 @@
 
 use crate::files::{Charged, worked_store};
 use batch_store::{Cut, Period, Store};
-use record_view::Month;
-use record_view::Day;
 use batch_view::Offer;
 use counted_io::Counted;
 use focus_csv::{CsvFault, write_file};
 use focus_row::{FocusRow, RowFault, rows_of};
 use price_sheet::{Issuer, Place, PriceRow, Sheet, SheetFault};
+use record_view::{Day, Month};
 use std::alloc::{AllocError, Global};
 use worked_texts::{AMENDED, HEADER, LINE, READ, SHEET};
 

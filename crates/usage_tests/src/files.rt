@@ -1,11 +1,10 @@
 //! Rows and their texts where memory runs out, and files where sinks fail.
 
 use crate::stores::{cut_of, offered};
-use batch_store::Store;
+use batch_store::{Cut, Period, Store};
 use batch_view::Offer;
 use counted_io::{Counted, FakeWriter};
 use focus_csv::{CsvFault, row_texts, write_file};
-use batch_store::{Cut, Period};
 use focus_row::{FocusRow, RowFault, rows_of};
 use price_sheet::{Issuer, Sheet};
 use std::alloc::{AllocError, Global};

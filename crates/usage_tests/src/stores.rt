@@ -1,8 +1,8 @@
 //! A store that is filled and asked where memory runs out.
 
 use batch_store::{Cut, Period, RecordPlace, Store};
-use record_view::Month;
 use batch_view::{Offer, OwnedBatch};
+use record_view::Month;
 use std::alloc::{AllocError, Global};
 use std::sync::Arc;
 use std::test::Fail;
