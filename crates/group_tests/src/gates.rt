@@ -5,6 +5,7 @@ use node_threads::{Gate, Log, Plan, Run, RunFault, run_group};
 use std::alloc::Global;
 use std::sync::Wait;
 use std::sync::atomic::{AtomicBool, AtomicU64, Ordering};
+use std::test::Fail;
 use std::thread::Threads;
 
 /// No export was asked about yet.
@@ -196,4 +197,12 @@ fn a_refused_growth_ends_a_run(rt: HostRuntime) {
     if let Ok(plan) = plan_of(rt.alloc(), 2, 0, 2) {
         assert!(rt; is_ended(run_of(&rt, rt.alloc(), plan, &Held::of(NONE - 1))));
     }
+}
+
+/// The words of a run that hands nothing back.
+#[test]
+fn a_run_says_why_it_ends(rt: HostRuntime) -> Result<(), Fail> {
+    let text = format!(in rt.alloc(); "{}.{}", RunFault::OutOfMemory, RunFault::Mismatch)?;
+    assert_eq!(rt; text.as_str(), "out of memory.mismatch");
+    Ok(())
 }
