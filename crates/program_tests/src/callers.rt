@@ -1,4 +1,4 @@
-//! What a caller writes: the function that stands word for word in the README of `schedule_player`.
+//! What a caller writes: the functions that stand word for word in the README of `schedule_player`.
 
 use counted_io::Counted;
 use program_input::{PlayFault, ScheduleCode, ScheduleFault};
@@ -6,20 +6,26 @@ use schedule_player::play_text;
 use std::alloc::{AllocError, Global};
 use worked_texts::{HEADER, SECTIONS};
 
+/// In words why there is no transcript.
+fn reason(alloc: Global, fault: &PlayFault) -> Result<String, AllocError> {
+    match fault {
+        PlayFault::Schedule(ScheduleFault::Refused { code, line }) => match code {
+            ScheduleCode::Event => format!(in alloc; "line {line} is no event"),
+            _ => format!(in alloc; "line {line} breaks rule {code}"),
+        },
+        fault => format!(in alloc; "{fault}"),
+    }
+}
+
 /// The transcript of a schedule, or in words why there is none.
 fn transcript(alloc: Global, schedule: &[u8]) -> Result<Result<Vec<u8>, String>, AllocError> {
     let mut source = Counted::new(schedule);
     let mut sink = Counted::new(Vec::new(alloc));
-    let why = match play_text(alloc, &mut source, &mut sink) {
-        Ok(()) => return Ok(Ok(sink.into_inner())),
-        Err(PlayFault::OutOfMemory) => return Err(AllocError),
-        Err(PlayFault::Schedule(ScheduleFault::Refused { code, line })) => match code {
-            ScheduleCode::Event => format!(in alloc; "line {line} is no event")?,
-            _ => format!(in alloc; "line {line} breaks rule {code}")?,
-        },
-        Err(fault) => format!(in alloc; "{fault}")?,
-    };
-    Ok(Err(why))
+    match play_text(alloc, &mut source, &mut sink) {
+        Ok(()) => Ok(Ok(sink.into_inner())),
+        Err(PlayFault::OutOfMemory) => Err(AllocError),
+        Err(fault) => Ok(Err(reason(alloc, &fault)?)),
+    }
 }
 
 /// A node that agrees with itself on the first period, and is asked for its file.
