@@ -21,7 +21,7 @@ pub trait ExportRows {
     ghost exported: { Self → model.Snapshot };
 
     /// The rows of the file, batch by batch, in journal order; `all` of them makes one list.
-    fn batches(&self, alloc: Global) -> Result<RowsBetween<'_>, AllocError>
+    fn rows(&self, alloc: Global) -> Result<RowsBetween<'_>, AllocError>
         ensures { IfOk result (λ batches. joined batches
             ≡ rows (exported self.now).sheet (exported self.now).issuer (exported self.now).batches (exported self.now).period
             (exported self.now).from (exported self.now).to) };
@@ -46,7 +46,7 @@ pub trait ExportRows {
 impl ExportRows for Snapshot {
     ghost exported = { λ s. s };
 
-    fn batches(&self, alloc: Global) -> Result<RowsBetween<'_>, AllocError> {
+    fn rows(&self, alloc: Global) -> Result<RowsBetween<'_>, AllocError> {
         batches_of(alloc, self)
     }
 

@@ -39,7 +39,7 @@ fn is_written(alloc: Global, snapshot: &Snapshot) -> bool {
 
 /// Whether it has one row.
 fn has_one_row(alloc: Global, snapshot: &Snapshot) -> bool {
-    let Ok(batches) = snapshot.batches(alloc) else {
+    let Ok(batches) = snapshot.rows(alloc) else {
         return false;
     };
     match batches.all(alloc) {
