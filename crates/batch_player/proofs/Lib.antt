@@ -4,4 +4,3 @@ pub mod JournaledLaws
 pub mod ChargesLaws
 pub mod FrontLaws
 pub mod RatedLaws
-pub mod BatchLemmas

@@ -1,3 +1,2 @@
 pub mod RateInput
 pub mod Charges
-pub mod Batches

@@ -4,6 +4,5 @@
 mod files;
 mod rate;
 
-pub use batch_view::BatchView;
 pub use files::file_between;
 pub use rate::{first_refusal, rate_batch, rate_text};

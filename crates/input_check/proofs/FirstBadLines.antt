@@ -17,7 +17,7 @@ use Rattle.metering_model.specs.Sheet as model
 use Rattle.metering_model.specs.Transcript.{line_count}
 use Rattle.metering_model.proofs.BatchLaws.{batch_lines, batch_read, batch_written, head_of, lines_are_text}
 use Rattle.metering_model.proofs.LineLaws.{HeadLimits, head_lacks_feed, record_line, records_lack_feed}
-use Rattle.batch_player.proofs.BatchLemmas.{batch_of_is}
+use Rattle.batch_view.proofs.BatchLemmas.{batch_of_is}
 use Rattle.journal_rules.specs.FirstBad.{first_bad}
 use Rattle.input_sections.proofs.CountedLines.{lines_count}
 use Rattle.batch_player.specs.RateInput.{journaled_in}

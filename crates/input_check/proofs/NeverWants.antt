@@ -8,7 +8,7 @@ use Rattle.metering_model.specs.FirstFailure.{◌>>=◌, holds_or}
 use Rattle.metering_model.specs.Schedule.{Planned}
 use Rattle.metering_model.specs.Sheet as model
 use Rattle.sheet_text.specs.Samples.{sample_issuer}
-use Rattle.input_sections.specs.SheetReading.{sheet_of_text}
+use Rattle.price_sheet.specs.SheetReading.{sheet_of_text}
 use Rattle.sheet_text.specs.IssuerReading.{issuer_of_text}
 use Rattle.input_sections.specs.declared.faults.ScheduleCode.{ScheduleCode}
 use Rattle.input_sections.specs.declared.faults.ScheduleCode.TheVariants.{Head, Nodes, Agents, Sheet, Issuer, Event, Lines, TooLong}

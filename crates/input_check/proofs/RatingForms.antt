@@ -7,7 +7,7 @@ use Rattle.metering_model.specs.Schedule.{TextLines, AreLines, lines_text, secti
 use Rattle.metering_model.specs.Sheet as model
 use Rattle.metering_model.specs.Transcript.{line}
 use Rattle.metering_model.proofs.StepLaws.{step_ok, test_step, ok_same, ok_step_from, test_step_from}
-use Rattle.input_sections.specs.SheetReading.{sheet_of_text}
+use Rattle.price_sheet.specs.SheetReading.{sheet_of_text}
 use Rattle.sheet_text.specs.Samples.{sample_issuer}
 use Rattle.sheet_text.specs.IssuerReading.{issuer_of_text}
 use Rattle.input_sections.specs.declared.faults.ScheduleCode.TheVariants.{Sheet, Issuer, TooLong}

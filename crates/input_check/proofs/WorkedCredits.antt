@@ -10,7 +10,7 @@ use Rattle.sheet_text.specs.Names.{key_name}
 use Rattle.sheet_text.specs.Keys.{value_under, text_under, label_under, base_under, day_under, price_under, per_under, service_category_under, commitment_category_under, rows_in, rows_under}
 use Rattle.sheet_text.specs.RowReading.{price_row_in, commitment_in, region_in}
 use Rattle.sheet_text.specs.IssuerReading.{currency_under, issuer_in, issuer_of_text}
-use Rattle.input_sections.specs.SheetReading.{next_price, next_commitment, next_region, sheet_of_rows, sheet_in, sheet_of_text}
+use Rattle.price_sheet.specs.SheetReading.{next_price, next_commitment, next_region, sheet_of_rows, sheet_in, sheet_of_text}
 use Rattle.sheet_text.proofs.WorkedSteps.{scan_numeral, days_from_civil, day_count, days_of_years, days_of_months, skip_ws, skip_from, special, body, one_line, quoted, simple_key, key_after, underscore_fits, decimal_number, plain_number, number, word_value, word_len, unquoted, along_header, along_dots, at_key, define, key_equals, val, atom, header_key, expression, line, lines, skip_bom, parse_document}
 use Rattle.metering_model.specs.NumberText.{worth_of}
 use Rattle.input_sections.specs.declared.faults.ScheduleFault.{ScheduleFault}

@@ -13,9 +13,9 @@ use Rattle.metering_model.specs.Sheet as model
 use Rattle.metering_model.specs.Step.{step}
 use Rattle.metering_model.specs.Transcript.{line, line_count, refusal_text, reply_text, with_number}
 use Rattle.metering_model.specs.World.{World, Reply, Refused as IsRefused, opening}
-use Rattle.batch_player.specs.Batches.{batch_of}
+use Rattle.batch_view.specs.Batches.{batch_of}
 use Rattle.journal_rules.specs.FirstBad.{first_bad}
-use Rattle.input_sections.specs.SheetReading.{sheet_of_text}
+use Rattle.price_sheet.specs.SheetReading.{sheet_of_text}
 use Rattle.sheet_text.specs.IssuerReading.{issuer_of_text}
 use Rattle.input_sections.specs.declared.faults.ScheduleCode.{ScheduleCode}
 use Rattle.input_sections.specs.declared.faults.ScheduleCode.TheVariants as code

@@ -2,7 +2,7 @@
 use Rattle.std.specs.Prelude.{◌≡◌, ℕ, ◌≤◌, false, List, [], ◌++◌, length, Option, Some, None, Result, Ok, codes, IsTrue}
 use Rattle.std.specs.Str.{is_utf8}
 use Rattle.metering_model.specs.Schedule.{TextLines, AreLines, lines_text, section_text}
-use Rattle.input_sections.specs.SheetReading.{sheet_of_text}
+use Rattle.price_sheet.specs.SheetReading.{sheet_of_text}
 use Rattle.sheet_text.specs.Samples.{sample_issuer}
 use Rattle.sheet_text.specs.IssuerReading.{issuer_of_text}
 use Rattle.input_sections.specs.RateInput.{RateInput, default_sheet}

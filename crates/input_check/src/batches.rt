@@ -3,17 +3,19 @@
 ghost use Rattle.std.specs.Prelude.{◌≡◌, [], ◌++◌, OnOk};
 ghost use Rattle.metering_model.specs.Holding.{placed, put};
 ghost use Rattle.metering_model.specs.Sheet as model;
-ghost use Rattle.batch_player.specs.Batches.{batch_of};
+ghost use Rattle.batch_view.specs.Batches.{batch_of};
 ghost use Rattle.journal_rules.specs.FirstBad.{first_bad};
 ghost use Rattle.input_check.specs.Checks.{line_of, line_within, said_at, said_of_batch, said_of_rating};
 
 use crate::sections::put_fault;
 use answer_words::refusal_line;
-use batch_player::{BatchView, first_refusal};
+use batch_player::first_refusal;
+use batch_view::BatchView;
 use byte_text::{line_count, put_numbered};
-use input_sections::{Sheet, rate_input};
+use input_sections::rate_input;
 use journal_rules::first_bad_alone;
 use metering_model::Refusal;
+use price_sheet::Sheet;
 use std::alloc::{AllocError, Global};
 
 /// Appends that the input is refused at a line of it.

@@ -1,14 +1,15 @@
 //! The fault of a section, and what its reader says of it.
 
 ghost use Rattle.std.specs.Prelude.{◌≡◌, ◌≢◌, ◌≤◌, ◌++◌, codes, None, Some, MatchOption, OnOk};
-ghost use Rattle.input_sections.specs.SheetReading.{sheet_of_text};
+ghost use Rattle.price_sheet.specs.SheetReading.{sheet_of_text};
 ghost use Rattle.sheet_text.specs.IssuerReading.{issuer_of_text};
 ghost use Rattle.answer_words.specs.Words.{issuer_fault_text, sheet_fault_text};
 ghost use Rattle.input_check.specs.Checks.{reason, said_by, said_of_fault, said_of_text, section_on};
 
 use answer_words::{put_issuer_fault, put_section, put_sheet_fault};
 use byte_text::Line;
-use input_sections::{ScheduleCode, ScheduleFault, Sheet, Unread, read_section};
+use input_sections::{ScheduleCode, ScheduleFault, Unread, read_section};
+use price_sheet::Sheet;
 use sheet_text::{Issuer, IssuerFault, SheetFault};
 use std::alloc::{AllocError, Global};
 

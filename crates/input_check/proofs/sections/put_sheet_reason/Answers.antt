@@ -1,5 +1,5 @@
 use Rattle.std.proofs.Common.{◌≡◌, ◌++◌, List, ℕ, OnOk, sym, ap, subst, ◌∙◌}
-use Rattle.input_sections.specs.SheetReading.{sheet_of_text}
+use Rattle.price_sheet.specs.SheetReading.{sheet_of_text}
 use Rattle.answer_words.specs.Words.{sheet_fault_text}
 use Rattle.input_check.specs.Checks.{said_by}
 use Rattle.input_check.proofs.SaidLaws.{said_of_other, said_of_utf8}
