@@ -1,0 +1,11 @@
+use Rattle.sheet_laws.proofs.TwoRuns.{same_replies, same_world, still_priced}
+use Rattle.sheet_laws.proofs.laws.runs.Goals as goal
+
+pub returns-clause-replies : goal.returns-clause-replies
+returns-clause-replies c = same_replies
+
+pub returns-clause-world : goal.returns-clause-world
+returns-clause-world c = same_world
+
+pub returns-clause-priced : goal.returns-clause-priced
+returns-clause-priced c = still_priced
