@@ -1,1 +1,7 @@
 pub mod TwoRuns
+pub mod FoundReadings
+pub mod TwoRows
+pub mod PairedRows
+pub mod DayStarts
+pub mod Months
+pub mod ShownMonths

@@ -1,9 +1,15 @@
 //! What a longer sheet leaves as it was: replies, files of closed months, and rows. Each law is a function with an empty body.
 
-ghost use Rattle.std.specs.Prelude.{◌≡◌, ℕ, List, map};
+ghost use Rattle.std.specs.Prelude.{◌≡◌, ◌↔◌, ℕ, List, map, Some, ℤ, ◌≤ℤ◌};
+ghost use Rattle.std.specs.List.{Contains};
+ghost use Rattle.metering_model.specs.Dates.{period_end};
 ghost use Rattle.metering_model.specs.Sheet.{Sheet, Issuer};
-ghost use Rattle.metering_model.specs.World.{Event, opening};
+ghost use Rattle.metering_model.specs.SheetRules.{IsSheet, IsIssuer};
+ghost use Rattle.metering_model.specs.World.{Event, Snapshot, Exported, opening};
 ghost use Rattle.metering_model.specs.Step.{play};
+ghost use Rattle.metering_model.specs.Transcript.{file_of, transcript};
+ghost use Rattle.transcript_laws.specs.Shown.{Shows};
+ghost use Rattle.sheet_laws.specs.Longer.{GoesOnFrom, NamesAllAlike, day_start};
 ghost use Rattle.sheet_laws.specs.Runs.{under_sheet, world_under, AreAllPriced, PricesAllOf};
 
 /// Under two sheets of one base month the same events get the same replies, and lead to the same world, but for the sheet: where
@@ -23,4 +29,31 @@ pub fn runs()
     ensures priced { (voters observers agents : ℕ) (old new : Sheet) (issuer : Issuer) (events : List Event) → new.base ≡ old.base →
         PricesAllOf old new → AreAllPriced (play (opening voters observers agents old issuer) events).0 →
         AreAllPriced (play (opening voters observers agents new issuer) events).0 }
+{}
+
+/// The files of months that are over stay as they were. Where a sheet goes on from a day, the file of an export, of a period that
+/// ends by then, is the same bytes under that sheet: if it names the regions of the export's batches alike. So what a transcript
+/// shows under such a period, whoever reads it, the transcript of the same events under that sheet shows too, and shows nothing else
+/// there, where under neither sheet a batch is refused for a price or a commitment.
+pub fn months()
+    ensures files { (voters observers agents : ℕ) (old new : Sheet) (issuer : Issuer) (events : List Event) (day : ℤ) → GoesOnFrom day old new →
+        (s : Snapshot) → Contains (play (opening voters observers agents old issuer) events).0 (Exported s) →
+        period_end old.base s.period ≤ℤ day_start day → NamesAllAlike old new s.batches →
+        file_of (record s { sheet = new }) ≡ file_of s }
+    ensures shown { (voters observers agents : ℕ) (old new : Sheet) (issuer : Issuer) (events : List Event) (day : ℤ) → IsSheet old → IsSheet new → IsIssuer issuer → GoesOnFrom day old new →
+        AreAllPriced (play (opening voters observers agents old issuer) events).0 →
+        AreAllPriced (play (opening voters observers agents new issuer) events).0 →
+        (period : ℕ) → period_end old.base period ≤ℤ day_start day →
+        ((s : Snapshot) → Contains (play (opening voters observers agents old issuer) events).0 (Exported s) → s.period ≡ period → NamesAllAlike old new s.batches) →
+        (shown : List ℕ) →
+        Shows (transcript (play (opening voters observers agents old issuer) events).0) period shown
+        ↔ Shows (transcript (play (opening voters observers agents new issuer) events).0) period shown }
+    ensures same { (voters observers agents : ℕ) (old new : Sheet) (issuer : Issuer) (events : List Event) (day : ℤ) → IsSheet old → IsSheet new → IsIssuer issuer → GoesOnFrom day old new →
+        AreAllPriced (play (opening voters observers agents old issuer) events).0 →
+        AreAllPriced (play (opening voters observers agents new issuer) events).0 →
+        (period : ℕ) → period_end old.base period ≤ℤ day_start day →
+        ((s : Snapshot) → Contains (play (opening voters observers agents old issuer) events).0 (Exported s) → s.period ≡ period → NamesAllAlike old new s.batches) →
+        (one two : List ℕ) →
+        Shows (transcript (play (opening voters observers agents old issuer) events).0) period one →
+        Shows (transcript (play (opening voters observers agents new issuer) events).0) period two → one ≡ two }
 {}
