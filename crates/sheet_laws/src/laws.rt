@@ -1,16 +1,23 @@
 //! What a longer sheet leaves as it was: replies, files of closed months, and rows. Each law is a function with an empty body.
 
 ghost use Rattle.std.specs.Prelude.{◌≡◌, ◌↔◌, ℕ, List, map, Some, ℤ, ◌≤ℤ◌};
-ghost use Rattle.std.specs.List.{Contains};
+ghost use Rattle.std.specs.List.{AllZip, Contains};
 ghost use Rattle.metering_model.specs.Dates.{period_end};
+ghost use Rattle.metering_model.specs.Batch.{Reading};
+ghost use Rattle.metering_model.specs.Cut.{Cut};
 ghost use Rattle.metering_model.specs.Sheet.{Sheet, Issuer};
 ghost use Rattle.metering_model.specs.SheetRules.{IsSheet, IsIssuer};
+ghost use Rattle.metering_model.specs.Holding.{Holding, Position, reading_at, up_to};
+ghost use Rattle.metering_model.specs.JournalRules.{MeetsJournalRules};
+ghost use Rattle.metering_model.specs.Rows.{placed_rows};
+ghost use Rattle.metering_model.specs.Rows as model;
 ghost use Rattle.metering_model.specs.World.{Event, Snapshot, Exported, opening};
 ghost use Rattle.metering_model.specs.Step.{play};
 ghost use Rattle.metering_model.specs.Transcript.{file_of, transcript};
 ghost use Rattle.transcript_laws.specs.Shown.{Shows};
 ghost use Rattle.sheet_laws.specs.Longer.{GoesOnFrom, NamesAllAlike, day_start};
 ghost use Rattle.sheet_laws.specs.Runs.{under_sheet, world_under, AreAllPriced, PricesAllOf};
+ghost use Rattle.sheet_laws.specs.Pairs.{IsPricedBefore, StayAlike};
 
 /// Under two sheets of one base month the same events get the same replies, and lead to the same world, but for the sheet: where
 /// under neither of them a batch is refused for a price or a commitment. Where the new sheet has these for whatever reading the
@@ -56,4 +63,19 @@ pub fn months()
         (one two : List ℕ) →
         Shows (transcript (play (opening voters observers agents old issuer) events).0) period one →
         Shows (transcript (play (opening voters observers agents new issuer) events).0) period two → one ≡ two }
+{}
+
+/// Of any month, journals that meet the rules under both sheets have as many rows under the one as under the other, at the same
+/// places in the same order, and each two of them stay alike: the same row, where its reading starts before the day and its region
+/// is named alike, be it new or a Correction, and else the same columns but for those that a price gives and the region's name.
+/// Where each reading up to the later cut is so, the rows are the same, whatever the new sheet says of the rules.
+pub fn rows()
+    ensures pairs { (day : ℤ) (old new : Sheet) → GoesOnFrom day old new → (issuer : Issuer) (h : Holding) (period : ℕ) (from to : Cut) →
+        MeetsJournalRules old h → MeetsJournalRules new h →
+        AllZip (StayAlike day old new h) (placed_rows old issuer h period from to) (placed_rows new issuer h period from to) }
+    ensures all { (day : ℤ) (old new : Sheet) → GoesOnFrom day old new → (issuer : Issuer) (h : Holding) (period : ℕ) (from to : Cut) →
+        MeetsJournalRules old h →
+        ((at : Position) (r : Reading) → reading_at (up_to to h) at ≡ Some r → IsPricedBefore day r) →
+        NamesAllAlike old new (up_to to h) →
+        model.rows new issuer h period from to ≡ model.rows old issuer h period from to }
 {}
