@@ -5,3 +5,4 @@ pub mod PairedRows
 pub mod DayStarts
 pub mod Months
 pub mod ShownMonths
+pub mod RatedAlone

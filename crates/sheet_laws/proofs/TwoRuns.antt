@@ -106,7 +106,7 @@ module _ (new : Sheet) (w : World) where
   under = world_under new w
 
   -- a batch that comes to the rules on prices breaks the same rule first
-  abbrev BreaksTheSame : Batch → Type 0
+  abbrev pub BreaksTheSame : Batch → Type 0
   BreaksTheSame b = nat_le b.agent w.agents ≡ true → (b.seq == next_seq w.journals b.agent) ≡ true →
       first_broken new (put w.journals b) (placed b) ≡ first_broken w.sheet (put w.journals b) (placed b)
 

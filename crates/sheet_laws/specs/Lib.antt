@@ -1,3 +1,4 @@
 pub mod Longer
 pub mod Runs
 pub mod Pairs
+pub mod Rates

@@ -1,16 +1,17 @@
 //! What a longer sheet leaves as it was: replies, files of closed months, and rows. Each law is a function with an empty body.
 
-ghost use Rattle.std.specs.Prelude.{◌≡◌, ◌↔◌, ℕ, List, map, Some, ℤ, ◌≤ℤ◌};
+ghost use Rattle.std.specs.Prelude.{◌≡◌, ◌≢◌, ◌↔◌, ℕ, List, [], map, Some, Ok, Err, ℤ, ◌≤ℤ◌};
 ghost use Rattle.std.specs.List.{AllZip, Contains};
 ghost use Rattle.metering_model.specs.Dates.{period_end};
-ghost use Rattle.metering_model.specs.Batch.{Reading};
+ghost use Rattle.metering_model.specs.Batch.{Batch, Reading};
 ghost use Rattle.metering_model.specs.Cut.{Cut};
 ghost use Rattle.metering_model.specs.Sheet.{Sheet, Issuer};
 ghost use Rattle.metering_model.specs.SheetRules.{IsSheet, IsIssuer};
-ghost use Rattle.metering_model.specs.Holding.{Holding, Position, reading_at, up_to};
+ghost use Rattle.metering_model.specs.Holding.{Holding, Position, reading_at, put, up_to};
 ghost use Rattle.metering_model.specs.JournalRules.{MeetsJournalRules};
 ghost use Rattle.metering_model.specs.Rows.{placed_rows};
 ghost use Rattle.metering_model.specs.Rows as model;
+ghost use Rattle.metering_model.specs.declared.Refusal.TheVariants.{Unpriced};
 ghost use Rattle.metering_model.specs.World.{Event, Snapshot, Exported, opening};
 ghost use Rattle.metering_model.specs.Step.{play};
 ghost use Rattle.metering_model.specs.Transcript.{file_of, transcript};
@@ -18,6 +19,7 @@ ghost use Rattle.transcript_laws.specs.Shown.{Shows};
 ghost use Rattle.sheet_laws.specs.Longer.{GoesOnFrom, NamesAllAlike, day_start};
 ghost use Rattle.sheet_laws.specs.Runs.{under_sheet, world_under, AreAllPriced, PricesAllOf};
 ghost use Rattle.sheet_laws.specs.Pairs.{IsPricedBefore, StayAlike};
+ghost use Rattle.sheet_laws.specs.Rates.{journaled_in, placed_rows_alone, file_by};
 
 /// Under two sheets of one base month the same events get the same replies, and lead to the same world, but for the sheet: where
 /// under neither of them a batch is refused for a price or a commitment. Where the new sheet has these for whatever reading the
@@ -78,4 +80,28 @@ pub fn rows()
         ((at : Position) (r : Reading) → reading_at (up_to to h) at ≡ Some r → IsPricedBefore day r) →
         NamesAllAlike old new (up_to to h) →
         model.rows new issuer h period from to ≡ model.rows old issuer h period from to }
+{}
+
+/// A batch that is rated by itself, and under neither sheet refused for a price or a commitment, is refused under both or under
+/// neither. Its file is the same bytes where the period ends by the day, or where all its readings start before it, if its regions are
+/// named alike; and of any period its rows under both sheets stay alike, as those of `rows`.
+pub fn rated()
+    ensures batches { (old new : Sheet) (issuer : Issuer) (text : List ℕ) →
+        journaled_in old issuer text ≢ Err Unpriced → journaled_in new issuer text ≢ Err Unpriced →
+        journaled_in new issuer text ≡ journaled_in old issuer text }
+    ensures priced { (old new : Sheet) (issuer : Issuer) (text : List ℕ) → PricesAllOf old new →
+        journaled_in old issuer text ≢ Err Unpriced → journaled_in new issuer text ≡ journaled_in old issuer text }
+    ensures files { (day : ℤ) (old new : Sheet) → GoesOnFrom day old new → (issuer : Issuer) (text : List ℕ) (period : ℕ) →
+        journaled_in old issuer text ≢ Err Unpriced → journaled_in new issuer text ≢ Err Unpriced →
+        ((b : Batch) → journaled_in old issuer text ≡ Ok b → NamesAllAlike old new (put [] b)) →
+        period_end old.base period ≤ℤ day_start day →
+        file_by new issuer period text ≡ file_by old issuer period text }
+    ensures all { (day : ℤ) (old new : Sheet) → GoesOnFrom day old new → (issuer : Issuer) (text : List ℕ) (period : ℕ) →
+        journaled_in old issuer text ≢ Err Unpriced → journaled_in new issuer text ≢ Err Unpriced →
+        ((b : Batch) → journaled_in old issuer text ≡ Ok b → NamesAllAlike old new (put [] b)) →
+        ((b : Batch) → journaled_in old issuer text ≡ Ok b → (at : Position) (r : Reading) → reading_at (put [] b) at ≡ Some r → IsPricedBefore day r) →
+        file_by new issuer period text ≡ file_by old issuer period text }
+    ensures pairs { (day : ℤ) (old new : Sheet) → GoesOnFrom day old new → (issuer : Issuer) (text : List ℕ) (period : ℕ) (b : Batch) →
+        journaled_in old issuer text ≡ Ok b → journaled_in new issuer text ≡ Ok b →
+        AllZip (StayAlike day old new (put [] b)) (placed_rows_alone old issuer b period) (placed_rows_alone new issuer b period) }
 {}
