@@ -6,3 +6,4 @@ pub mod DayStarts
 pub mod Months
 pub mod ShownMonths
 pub mod RatedAlone
+pub mod LongerSheets

@@ -108,7 +108,7 @@ module _ (issuer : Issuer) (r : Reading) (period : ℕ) (class : ChargeClass) (w
 
 -- ---- what the two sheets give a reading
 
-fit_parts : (b x y : Bool) → (not b || (x && y)) ≡ true → b ≡ true → (x ≡ true) × (y ≡ true)
+pub fit_parts : (b x y : Bool) → (not b || (x && y)) ≡ true → b ≡ true → (x ≡ true) × (y ≡ true)
 fit_parts true true true e f = (refl, refl)
 fit_parts true true false e f = absurd (cc)
 fit_parts true false y e f = absurd (cc)
@@ -119,7 +119,7 @@ there None e = absurd (cc)
 there (Some x) e = (x, refl)
 
 -- a fit reading of a priced kind has a price of its SKU in force
-in_force : (sheet : Sheet) (r : Reading) → is_fit_reading sheet r ≡ true → is_priced r.kind ≡ true → (p : PriceRow) × (price_in_force sheet r.key (day_of r.start) ≡ Some p) × (p.sku ≡ r.key)
+pub in_force : (sheet : Sheet) (r : Reading) → is_fit_reading sheet r ≡ true → is_priced r.kind ≡ true → (p : PriceRow) × (price_in_force sheet r.key (day_of r.start) ≡ Some p) × (p.sku ≡ r.key)
 in_force sheet r fit priced =
     let has = (fit_parts (is_priced r.kind) (is_some (price_of sheet r)) (is_fit_commitment r (commitment_of sheet r)) fit priced).0 in
     let found = there (price_in_force sheet r.key (day_of r.start)) (subst (λ b. is_some (if b then price_in_force sheet r.key (day_of r.start) else None) ≡ true) priced has) in

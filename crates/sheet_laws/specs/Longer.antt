@@ -1,5 +1,6 @@
 -- Sheets that go on from another: each price that was in force before a day, and each commitment, is there as it was.
-use Rattle.std.specs.Prelude.{◌≡◌, ℕ, List, Some, ℤ, pos, ◌<ℤ◌, ◌*ℤ◌, option_map}
+use Rattle.std.specs.Prelude.{◌≡◌, ℕ, true, List, filter, All, Some, ℤ, pos, ◌<ℤ◌, ◌*ℤ◌, int_lt, option_map}
+use Rattle.std.specs.Option.{is_some}
 use Rattle.metering_model.specs.Batch.{Reading}
 use Rattle.metering_model.specs.Sheet.{PriceRow, Commitment, Sheet}
 use Rattle.metering_model.specs.PriceInForce.{price_in_force, commitment_with, region_named}
@@ -33,3 +34,18 @@ NamesItAlike old new r = (id : List ℕ) → region_of r ≡ Some id → NamesAl
 -- so is that of each reading of a holding
 abbrev pub NamesAllAlike : Sheet → Sheet → Holding → Type 0
 NamesAllAlike old new h = (at : Position) (r : Reading) → reading_at h at ≡ Some r → NamesItAlike old new r
+
+-- ---- what can be looked up of two sheets
+
+-- the price rows that begin before a day, in the order of the sheet
+abbrev pub rows_before : ℤ → Sheet → List PriceRow
+rows_before day sheet = filter (λ p. int_lt p.from day) sheet.prices
+
+-- Both have the same rows from before the day. Where a row of the old one begins, the new one has a price in force. Each commitment
+-- and each region of the old one is found in the new by its id.
+pub record IsLonger (day : ℤ) (old new : Sheet) : Type 0 where
+  pub base : new.base ≡ old.base
+  pub before : rows_before day new ≡ rows_before day old
+  pub still : All (λ p. is_some (price_in_force new p.sku p.from) ≡ true) old.prices
+  pub commitments : All (λ c. commitment_with new c.id ≡ Some c) old.commitments
+  pub regions : All (λ x. region_named new x.id ≡ Some x.name) old.regions

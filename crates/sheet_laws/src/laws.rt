@@ -7,6 +7,7 @@ ghost use Rattle.metering_model.specs.Batch.{Batch, Reading};
 ghost use Rattle.metering_model.specs.Cut.{Cut};
 ghost use Rattle.metering_model.specs.Sheet.{Sheet, Issuer};
 ghost use Rattle.metering_model.specs.SheetRules.{IsSheet, IsIssuer};
+ghost use Rattle.metering_model.specs.PriceInForce.{region_named};
 ghost use Rattle.metering_model.specs.Holding.{Holding, Position, reading_at, put, up_to};
 ghost use Rattle.metering_model.specs.JournalRules.{MeetsJournalRules};
 ghost use Rattle.metering_model.specs.Rows.{placed_rows};
@@ -16,7 +17,7 @@ ghost use Rattle.metering_model.specs.World.{Event, Snapshot, Exported, opening}
 ghost use Rattle.metering_model.specs.Step.{play};
 ghost use Rattle.metering_model.specs.Transcript.{file_of, transcript};
 ghost use Rattle.transcript_laws.specs.Shown.{Shows};
-ghost use Rattle.sheet_laws.specs.Longer.{GoesOnFrom, NamesAllAlike, day_start};
+ghost use Rattle.sheet_laws.specs.Longer.{GoesOnFrom, NamesAlike, NamesAllAlike, IsLonger, day_start};
 ghost use Rattle.sheet_laws.specs.Runs.{under_sheet, world_under, AreAllPriced, PricesAllOf};
 ghost use Rattle.sheet_laws.specs.Pairs.{IsPricedBefore, StayAlike};
 ghost use Rattle.sheet_laws.specs.Rates.{journaled_in, placed_rows_alone, file_by};
@@ -104,4 +105,13 @@ pub fn rated()
     ensures pairs { (day : ℤ) (old new : Sheet) → GoesOnFrom day old new → (issuer : Issuer) (text : List ℕ) (period : ℕ) (b : Batch) →
         journaled_in old issuer text ≡ Ok b → journaled_in new issuer text ≡ Ok b →
         AllZip (StayAlike day old new (put [] b)) (placed_rows_alone old issuer b period) (placed_rows_alone new issuer b period) }
+{}
+
+/// How a sheet comes to go on from another: it has the same price rows from before the day, a price in force where a row of the
+/// old one begins, and each of its commitments and regions. So it has all that the other laws ask of two sheets, but that a region
+/// which the old one does not name is not named by it either.
+pub fn longer()
+    ensures goes_on { (day : ℤ) (old new : Sheet) → IsLonger day old new → GoesOnFrom day old new }
+    ensures priced { (day : ℤ) (old new : Sheet) → IsLonger day old new → PricesAllOf old new }
+    ensures named { (day : ℤ) (old new : Sheet) → IsLonger day old new → (id name : List ℕ) → region_named old id ≡ Some name → NamesAlike old new id }
 {}
