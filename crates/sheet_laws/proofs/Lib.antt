@@ -7,3 +7,6 @@ pub mod Months
 pub mod ShownMonths
 pub mod RatedAlone
 pub mod LongerSheets
+pub mod Premises
+mod TwoSheets
+mod WorkedMonths

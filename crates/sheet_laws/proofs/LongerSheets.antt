@@ -15,7 +15,7 @@ use Rattle.metering_model.specs.JournalRules.{is_fit_commitment}
 use Rattle.metering_model.specs.Row.{price_of, commitment_of}
 use Rattle.metering_model.proofs.FieldLaws.{same_read}
 use Rattle.metering_model.proofs.PriceLaws.{in_force_begun, none_in_force}
-use Rattle.sheet_laws.specs.Longer.{GoesOnFrom, NamesAlike, IsLonger, without_from}
+use Rattle.sheet_laws.specs.Longer.{GoesOnFrom, NamesAlike, IsLonger, rows_before, without_from}
 use Rattle.sheet_laws.specs.Runs.{PricesAllOf}
 use Rattle.sheet_laws.proofs.TwoRows.{in_force, fit_parts, same_commitment}
 
@@ -56,11 +56,11 @@ through a b c h k = grind (arith, ints)
 never : (a b : ℤ) → a ≤ℤ b → b <ℤ a → ⊥
 never a b h k = grind (arith, ints)
 
-module _ (day : ℤ) (old new : Sheet) (longer : IsLonger day old new) where
-  same_in_force : (sku : List ℕ) (before : ℤ) → before <ℤ day → price_in_force new sku before ≡ price_in_force old sku before
-  same_in_force sku before early =
+module _ (day : ℤ) (old new : Sheet) where
+  same_in_force : rows_before day new ≡ rows_before day old → (sku : List ℕ) (before : ℤ) → before <ℤ day → price_in_force new sku before ≡ price_in_force old sku before
+  same_in_force same sku before early =
       ap latest
-      (sym (filter_twice has_begun begins stricter new.prices) ∙ ap (filter has_begun) longer.before ∙ filter_twice has_begun begins stricter old.prices)
+      (sym (filter_twice has_begun begins stricter new.prices) ∙ ap (filter has_begun) same ∙ filter_twice has_begun begins stricter old.prices)
     where
       has_begun : PriceRow → Bool
       has_begun r = is_same r.sku sku && int_le r.from before
@@ -71,14 +71,19 @@ module _ (day : ℤ) (old new : Sheet) (longer : IsLonger day old new) where
       stricter : (r : PriceRow) → has_begun r ≡ true → begins r ≡ true
       stricter r h = begun_before r.from before day (and_parts (is_same r.sku sku) (int_le r.from before) h).1 early
 
-  pub goes_on : GoesOnFrom day old new
-  goes_on = record {
-    base = longer.base;
-    prices = λ sku before p early e. ap (option_map without_from) (same_in_force sku before early ∙ e);
+  -- whatever the new sheet has of later rows
+  pub goes_on_by : new.base ≡ old.base → rows_before day new ≡ rows_before day old → All (λ c. commitment_with new c.id ≡ Some c) old.commitments → GoesOnFrom day old new
+  goes_on_by base same commitments = record {
+    base = base;
+    prices = λ sku before p early e. ap (option_map without_from) (same_in_force same sku before early ∙ e);
     commitments = λ id c e.
-        let it = found (λ (d : Commitment). commitment_with new d.id ≡ Some d) (λ d. is_same d.id id) old.commitments c longer.commitments e in
+        let it = found (λ (d : Commitment). commitment_with new d.id ≡ Some d) (λ d. is_same d.id id) old.commitments c commitments e in
         ap (commitment_with new) (sym (same_read c.id id it.1)) ∙ it.0;
   }
+
+module _ (day : ℤ) (old new : Sheet) (longer : IsLonger day old new) where
+  pub goes_on : GoesOnFrom day old new
+  goes_on = goes_on_by day old new longer.base longer.before longer.commitments
 
   pub named : (id name : List ℕ) → region_named old id ≡ Some name → NamesAlike old new id
   named id name e = by_region (region_with old id) refl e ∙ sym e

@@ -31,7 +31,7 @@ use Rattle.sheet_laws.proofs.PairedRows.{rows_stay}
 
 -- ---- readings of batches that are due
 
-each_passes : {A : Type 0} (test : A → Bool) (xs : List A) (k : ℕ) (x : A) → list_all test xs ≡ true → slice_get xs k ≡ Some x → test x ≡ true
+pub each_passes : {A : Type 0} (test : A → Bool) (xs : List A) (k : ℕ) (x : A) → list_all test xs ≡ true → slice_get xs k ≡ Some x → test x ≡ true
 each_passes test [] k x all e = absurd (none-some _ e)
 each_passes test (y ∷ ys) zero x all e = subst (λ z. test z ≡ true) (same_Some y x e) (and_parts (test y) (list_all test ys) all).0
 each_passes test (y ∷ ys) (suc k) x all e = each_passes test ys k x (and_parts (test y) (list_all test ys) all).1 e
