@@ -10,3 +10,10 @@ pub mod LongerSheets
 pub mod Premises
 mod TwoSheets
 mod WorkedMonths
+mod WorkedRows
+mod OtherSheets
+mod FalseRuns
+mod FalseMonths
+mod FalseShown
+mod FalseRows
+mod FalseRates

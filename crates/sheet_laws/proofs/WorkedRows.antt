@@ -1,0 +1,87 @@
+-- The laws of rows and of a batch by itself, on the worked months: what they ask is met.
+use Rattle.std.proofs.Common.{◌≡◌, ℕ, List, [], ◌∷◌, refl, sym, ap, subst, ◌∙◌, Result, Ok, Err}
+use Rattle.std.specs.Prelude.{◌≢◌}
+use Rattle.std.specs.Fmt.{digits}
+use Rattle.std.specs.List.{AllZip}
+use Rattle.jiff_core.specs.Calendar.{days_from_civil, day_count, days_of_years, days_of_months}
+use Rattle.metering_model.specs.NumberText.{worth_of, decimals_of}
+use Rattle.metering_model.specs.Batch.{Batch}
+use Rattle.metering_model.specs.Holding.{Holding, put}
+use Rattle.metering_model.specs.JournalRules.{MeetsJournalRules}
+use Rattle.metering_model.specs.Rows.{placed_rows}
+use Rattle.metering_model.specs.declared.Refusal.{Refusal}
+use Rattle.metering_model.specs.declared.Refusal.TheVariants.{Unpriced}
+use Rattle.metering_model.specs.World.{World}
+use Rattle.metering_model.specs.Schedule.{lines_text}
+use Rattle.metering_model.proofs.Samples.{issuer_1}
+use Rattle.group_laws.proofs.EveryRun.{holds_after}
+use Rattle.sheet_laws.specs.Longer.{GoesOnFrom, NamesAllAlike}
+use Rattle.sheet_laws.specs.Pairs.{StayAlike}
+use Rattle.sheet_laws.specs.Rates.{journaled_in, file_by}
+use Rattle.sheet_laws.proofs.LongerSheets.{goes_on, prices_all}
+use Rattle.sheet_laws.proofs.PairedRows.{rows_pair}
+use Rattle.sheet_laws.proofs.Premises.{named_alike}
+use Rattle.sheet_laws.proofs.RatedAlone.{priced_journaled, rated_in_time}
+use Rattle.sheet_laws.proofs.TwoRuns.{same_world}
+use Rattle.sheet_laws.proofs.TwoSheets.{february_1, old_sheet, new_sheet, it_is_longer}
+use Rattle.sheet_laws.proofs.WorkedMonths.{january_batch, two_months, run_under, read, january, january_is_over, all_are_priced, all_stay_priced}
+
+it_goes_on : GoesOnFrom february_1 old_sheet new_sheet
+it_goes_on = goes_on february_1 old_sheet new_sheet it_is_longer
+
+-- ---- February's rows
+
+abbrev journals : Holding
+journals = (run_under old_sheet).1.journals
+
+rules_before : MeetsJournalRules old_sheet journals
+rules_before =
+    let headline = holds_after 1 0 1 old_sheet issuer_1 two_months in
+    subst (λ x. MeetsJournalRules x journals) headline.sheet_kept headline.rules
+
+rules_after : MeetsJournalRules new_sheet journals
+rules_after =
+    let headline = holds_after 1 0 1 new_sheet issuer_1 two_months in
+    let same = same_world 1 0 1 old_sheet new_sheet issuer_1 two_months refl all_are_priced all_stay_priced in
+    subst (MeetsJournalRules new_sheet) (ap (λ (w : World). w.journals) same)
+    (subst (λ x. MeetsJournalRules x (run_under new_sheet).1.journals) headline.sheet_kept headline.rules)
+
+february_stays_alike : AllZip (StayAlike february_1 old_sheet new_sheet journals) (placed_rows old_sheet issuer_1 journals 1 (1 ∷ []) (2 ∷ [])) (placed_rows new_sheet issuer_1 journals 1 (1 ∷ []) (2 ∷ []))
+february_stays_alike = rows_pair february_1 old_sheet new_sheet it_goes_on issuer_1 journals 1 (1 ∷ []) (2 ∷ []) rules_before rules_after
+
+-- ---- January's batch by itself
+
+abbrev batch_text : List ℕ
+batch_text = lines_text january_batch
+
+is_journaled : journaled_in old_sheet issuer_1 batch_text ≡ Ok (read january_batch)
+unfolding days_from_civil day_count days_of_years days_of_months worth_of decimals_of digits
+is_journaled = refl
+
+not_refused : (b : Batch) → ◌≡◌ {A = Result Batch Refusal} (Ok b) (Err Unpriced) → ⊥
+not_refused b e = absurd (cc)
+
+taken_before : journaled_in old_sheet issuer_1 batch_text ≢ Err Unpriced
+taken_before e = not_refused (read january_batch) (sym is_journaled ∙ e)
+
+taken_after : journaled_in new_sheet issuer_1 batch_text ≢ Err Unpriced
+taken_after e = taken_before (sym (priced_journaled old_sheet new_sheet issuer_1 batch_text (prices_all february_1 old_sheet new_sheet it_is_longer) taken_before) ∙ e)
+
+names_of_batch : NamesAllAlike old_sheet new_sheet (put [] (read january_batch))
+unfolding days_from_civil day_count days_of_years days_of_months worth_of decimals_of digits
+names_of_batch = named_alike old_sheet new_sheet (put [] (read january_batch)) refl
+
+same_batch : (b c : Batch) → ◌≡◌ {A = Result Batch Refusal} (Ok b) (Ok c) → b ≡ c
+same_batch b c e = cc
+
+rated_before : file_by old_sheet issuer_1 0 batch_text ≡ Ok (lines_text january)
+unfolding days_from_civil day_count days_of_years days_of_months worth_of decimals_of digits
+rated_before = refl
+
+-- so under the longer sheet it is rated as the same file
+rated_after : file_by new_sheet issuer_1 0 batch_text ≡ Ok (lines_text january)
+rated_after =
+    rated_in_time february_1 old_sheet new_sheet it_goes_on issuer_1 batch_text 0 taken_before taken_after
+    (λ b e. subst (λ (c : Batch). NamesAllAlike old_sheet new_sheet (put [] c)) (same_batch (read january_batch) b (sym is_journaled ∙ e)) names_of_batch)
+    january_is_over
+    ∙ rated_before
