@@ -39,7 +39,7 @@ FilesStay Premise = (agents : ℕ) (old new : Sheet) (issuer : Issuer) (events :
     file_of (record s { sheet = new }) ≡ file_of s
 
 -- the byte at a place of a column of a row
-abbrev byte_at : (row column place : ℕ) → List ℕ → Option ℕ
+abbrev pub byte_at : (row column place : ℕ) → List ℕ → Option ℕ
 byte_at row column place text =
     option_and_then (λ field. slice_get field place) (option_and_then (λ line. slice_get (csv_fields line) column) (slice_get (data_lines text) row))
 

@@ -5,6 +5,7 @@ pub mod PairedRows
 pub mod DayStarts
 pub mod Months
 pub mod ShownMonths
+pub mod SameTranscripts
 pub mod RatedAlone
 pub mod LongerSheets
 pub mod Premises
@@ -17,3 +18,4 @@ mod FalseMonths
 mod FalseShown
 mod FalseRows
 mod FalseRates
+mod FalseTexts

@@ -15,8 +15,8 @@ day_start day = day *ℤ pos 86_400
 abbrev pub without_from : PriceRow → PriceRow
 without_from p = record p { from = pos 0 }
 
--- The new sheet has the old one's base. Of each SKU and each day before that day, it has in force what the old one has in
--- force, and it has each commitment of the old one. Whatever only the new one has, it may have.
+-- The new sheet has the old one's base. Of each SKU and each day before that day, it has in force what the old one has in force,
+-- but for the day that this is in force from; and it has each commitment of the old one. What only the new one has, it may have.
 pub record GoesOnFrom (day : ℤ) (old new : Sheet) : Type 0 where
   pub base : new.base ≡ old.base
   pub prices : (sku : List ℕ) (before : ℤ) (p : PriceRow) → before <ℤ day → price_in_force old sku before ≡ Some p →

@@ -44,7 +44,8 @@ pub fn runs()
 /// The files of months that are over stay as they were. Where a sheet goes on from a day, the file of an export, of a period that
 /// ends by then, is the same bytes under that sheet: if it names the regions of the export's batches alike. So what a transcript
 /// shows under such a period, whoever reads it, the transcript of the same events under that sheet shows too, and shows nothing else
-/// there, where under neither sheet a batch is refused for a price or a commitment.
+/// there, where under neither sheet a batch is refused for a price or a commitment. If all that is exported is of such periods, the
+/// whole transcripts are the same bytes.
 pub fn months()
     ensures files { (voters observers agents : ℕ) (old new : Sheet) (issuer : Issuer) (events : List Event) (day : ℤ) → GoesOnFrom day old new →
         (s : Snapshot) → Contains (play (opening voters observers agents old issuer) events).0 (Exported s) →
@@ -66,6 +67,12 @@ pub fn months()
         (one two : List ℕ) →
         Shows (transcript (play (opening voters observers agents old issuer) events).0) period one →
         Shows (transcript (play (opening voters observers agents new issuer) events).0) period two → one ≡ two }
+    ensures transcripts { (voters observers agents : ℕ) (old new : Sheet) (issuer : Issuer) (events : List Event) (day : ℤ) → GoesOnFrom day old new →
+        AreAllPriced (play (opening voters observers agents old issuer) events).0 →
+        AreAllPriced (play (opening voters observers agents new issuer) events).0 →
+        ((s : Snapshot) → Contains (play (opening voters observers agents old issuer) events).0 (Exported s) → (period_end old.base s.period ≤ℤ day_start day) × NamesAllAlike old new s.batches) →
+        transcript (play (opening voters observers agents new issuer) events).0
+        ≡ transcript (play (opening voters observers agents old issuer) events).0 }
 {}
 
 /// Of any month, journals that meet the rules under both sheets have as many rows under the one as under the other, at the same

@@ -1,5 +1,6 @@
 use Rattle.sheet_laws.proofs.Months.{file_stays}
 use Rattle.sheet_laws.proofs.ShownMonths.{both_show, both_alike}
+use Rattle.sheet_laws.proofs.SameTranscripts.{transcript_stays}
 use Rattle.sheet_laws.proofs.laws.months.Goals as goal
 
 pub returns-clause-files : goal.returns-clause-files
@@ -10,3 +11,6 @@ returns-clause-shown c = both_show
 
 pub returns-clause-same : goal.returns-clause-same
 returns-clause-same c = both_alike
+
+pub returns-clause-transcripts : goal.returns-clause-transcripts
+returns-clause-transcripts c = transcript_stays
