@@ -26,7 +26,7 @@ use Rattle.sheet_laws.proofs.WorkedMonths.{read, january_is_over}
 use Rattle.sheet_laws.proofs.FalseRuns.{again_before, again_after, priced_again, anew_before, anew_after, priced_anew}
 use Rattle.sheet_laws.proofs.OtherSheets.{replies, of_cm_2, of_none, journaled_again, numbered_anew}
 
-abbrev ShowTheSame : ℕ → Sheet → Sheet → Issuer → List Event → ℕ → Type 0
+abbrev pub ShowTheSame : ℕ → Sheet → Sheet → Issuer → List Event → ℕ → Type 0
 ShowTheSame agents old new issuer events period = (one two : List ℕ) →
     Shows (transcript (replies agents old issuer events)) period one → Shows (transcript (replies agents new issuer events)) period two → one ≡ two
 

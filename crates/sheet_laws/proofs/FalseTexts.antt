@@ -22,11 +22,8 @@ use Rattle.sheet_laws.proofs.Premises.{all_priced, named_alike}
 use Rattle.sheet_laws.proofs.TwoSheets.{february_1, old_sheet, it_is_longer, old_sheet_is_a_sheet}
 use Rattle.sheet_laws.proofs.WorkedMonths.{january_batch, february_batch, read, january_is_over}
 use Rattle.sheet_laws.proofs.FalseMonths.{byte_at}
+use Rattle.sheet_laws.proofs.FalseShown.{ShowTheSame}
 use Rattle.sheet_laws.proofs.OtherSheets.{replies, of_none, longer_sheet}
-
-abbrev ShowTheSame : ℕ → Sheet → Sheet → Issuer → List Event → ℕ → Type 0
-ShowTheSame agents old new issuer events period = (one two : List ℕ) →
-    Shows (transcript (replies agents old issuer events)) period one → Shows (transcript (replies agents new issuer events)) period two → one ≡ two
 
 abbrev ShownWith : (Sheet → Issuer → Type 0) → Type 0
 ShownWith Premise = (agents : ℕ) (old new : Sheet) (issuer : Issuer) (events : List Event) (day : ℤ) → Premise old issuer → Premise new issuer → GoesOnFrom day old new →

@@ -12,6 +12,7 @@ pub mod Premises
 mod TwoSheets
 mod WorkedMonths
 mod WorkedRows
+mod WorkedTexts
 mod OtherSheets
 mod FalseRuns
 mod FalseMonths

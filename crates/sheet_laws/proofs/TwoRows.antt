@@ -65,9 +65,6 @@ module _ (issuer : Issuer) (r : Reading) (period : ℕ) (class : ChargeClass) (w
   abbrev row_by : ℕ → Option PriceRow → Option Commitment → Option (List ℕ) → Row
   row_by base price c name = row_with base issuer r period class (charge (priced_kind r.kind) price c was now) price c name
 
-  is_row_by : (sheet : Sheet) → row sheet issuer r period class was now ≡ row_by sheet.base (price_of sheet r) (commitment_of sheet r) (option_map (region_name_of sheet) (region_of r))
-  is_row_by sheet = refl
-
   charge_without_from : (k : Option PricedKind) (price : Option PriceRow) (c : Option Commitment) → charge k (option_map without_from price) c was now ≡ charge k price c was now
   charge_without_from None price c = refl
   charge_without_from (Some k) None c = refl

@@ -44,9 +44,6 @@ chain_behind h k (Err e) f g each = refl
 abbrev or_next : Option BrokenRule → Option BrokenRule → Option BrokenRule
 or_next first later = elim first [ Some rule ↦ Some rule | None ↦ later ]
 
-IsNotUnpriced : Option BrokenRule → Type 0
-IsNotUnpriced o = o ≡ Some Unpriced → ⊥
-
 module _ (old new : Sheet) (h : Holding) where
   by_fit : (a b : Bool) (rest_old rest_new : Option BrokenRule) →
       (or_next (if a then None else Some Unpriced) rest_old ≡ Some Unpriced → ⊥) → (or_next (if b then None else Some Unpriced) rest_new ≡ Some Unpriced → ⊥) →
