@@ -20,3 +20,4 @@ mod FalseShown
 mod FalseRows
 mod FalseRates
 mod FalseTexts
+mod FalseLonger
