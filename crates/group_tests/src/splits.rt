@@ -8,8 +8,8 @@ use group_events::{Event, Offer, Reply, Snapshot};
 use std::alloc::{AllocError, Global};
 use std::thread::Threads;
 
-/// So many rows are split in two, where there are two processors, and fewer are not split.
-const SPLIT: u32 = 3_200;
+/// So many rows are split in three, where there are two processors or more, and fewer are not split.
+const SPLIT: u32 = 4_800;
 
 /// So many are split in four, where there are as many processors: three parts of two batches, and one of one.
 const FOUR: u32 = 6_400;
