@@ -19,7 +19,7 @@ use Rattle.metering_model.proofs.RulesUpToCut.{MeetsJournalRules-up_to}
 use Rattle.sheet_laws.specs.Longer.{GoesOnFrom, NamesAllAlike}
 use Rattle.sheet_laws.specs.Pairs.{IsPricedBefore, StayAlike}
 use Rattle.sheet_laws.proofs.FoundReadings.{above_too, readings_found}
-use Rattle.sheet_laws.proofs.TwoRows.{same_name, alike_but_prices, alike_but_region, alike}
+use Rattle.sheet_laws.proofs.TwoRows.{same_price, same_name, alike_but_prices, alike_but_region, alike}
 
 -- ---- lists of what two functions give of the same items
 
@@ -103,7 +103,8 @@ module _ (day : ℤ) (old new : Sheet) (goes : GoesOnFrom day old new) (issuer :
       reading = r;
       there = found;
       columns = alike_but_prices day old new goes r is_fit issuer period class was now fits_too;
-      prices = alike_but_region day old new goes r is_fit issuer period class was now;
+      same_price = alike_but_region day old new goes r is_fit issuer period class was now;
+      prices = λ before. alike_but_region day old new goes r is_fit issuer period class was now (same_price day old new goes r is_fit before);
       region = same_name day old new goes r is_fit;
       whole = alike day old new goes r is_fit issuer period class was now;
     }

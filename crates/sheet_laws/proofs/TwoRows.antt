@@ -15,7 +15,7 @@ use Rattle.metering_model.specs.Rating.{Rated}
 use Rattle.metering_model.specs.Row.{Row, row, charge, priced_kind, price_of, commitment_of, region_of, region_name_of, class_text, category_text, by_kind, or_null}
 use Rattle.metering_model.proofs.PriceLaws.{in_force_begun}
 use Rattle.sheet_laws.specs.Longer.{GoesOnFrom, NamesItAlike, without_from}
-use Rattle.sheet_laws.specs.Pairs.{without_prices, without_region_name, IsPricedBefore}
+use Rattle.sheet_laws.specs.Pairs.{without_prices, without_region_name, IsPricedBefore, IsPricedAlike}
 
 -- ---- a row by what the sheet gives it
 
@@ -144,7 +144,7 @@ module _ (day : ℤ) (old new : Sheet) (goes : GoesOnFrom day old new) (r : Read
           let is = (fit_parts (is_priced r.kind) (is_some (price_of old r)) (is_fit_commitment r (commitment_of old r)) fit e).1 in
           by_text r.commitment (subst (λ b. is_fit_commitment r (if b then option_and_then (commitment_with old) (or_null r.commitment) else None) ≡ true) e is)
 
-  pub same_price : IsPricedBefore day r → option_map without_from (price_of new r) ≡ option_map without_from (price_of old r)
+  pub same_price : IsPricedBefore day r → IsPricedAlike old new r
   same_price before = by_priced (is_priced r.kind) refl
     where
       by_priced : (b : Bool) → is_priced r.kind ≡ b →
@@ -192,12 +192,12 @@ module _ (day : ℤ) (old new : Sheet) (goes : GoesOnFrom day old new) (r : Read
         ap without_prices with_old
         ∙ same_columns issuer r period class was now old.base (price_of old r) (price_of new r) (commitment_of old r) (option_map (region_name_of old) (region_of r)) (option_map (region_name_of new) (region_of r)) (same_sku fit_new)
 
-    with_old_price : IsPricedBefore day r → row_of_sheet new ≡ by old.base (price_of old r) (commitment_of old r) (option_map (region_name_of new) (region_of r))
-    with_old_price before =
-        with_old ∙ same_by_price issuer r period class was now old.base (price_of old r) (price_of new r) (commitment_of old r) (option_map (region_name_of new) (region_of r)) (same_price before)
+    with_old_price : IsPricedAlike old new r → row_of_sheet new ≡ by old.base (price_of old r) (commitment_of old r) (option_map (region_name_of new) (region_of r))
+    with_old_price same =
+        with_old ∙ same_by_price issuer r period class was now old.base (price_of old r) (price_of new r) (commitment_of old r) (option_map (region_name_of new) (region_of r)) same
 
-    pub alike_but_region : IsPricedBefore day r → without_region_name (row_of_sheet new) ≡ without_region_name (row_of_sheet old)
-    alike_but_region before = ap without_region_name (with_old_price before)
+    pub alike_but_region : IsPricedAlike old new r → without_region_name (row_of_sheet new) ≡ without_region_name (row_of_sheet old)
+    alike_but_region same = ap without_region_name (with_old_price same)
 
     pub alike : IsPricedBefore day r → NamesItAlike old new r → row_of_sheet new ≡ row_of_sheet old
-    alike before names = with_old_price before ∙ ap (by old.base (price_of old r) (commitment_of old r)) (same_name names)
+    alike before names = with_old_price (same_price before) ∙ ap (by old.base (price_of old r) (commitment_of old r)) (same_name names)

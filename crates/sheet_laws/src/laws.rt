@@ -76,8 +76,9 @@ pub fn months()
 {}
 
 /// Of any month, journals that meet the rules under both sheets have as many rows under the one as under the other, at the same
-/// places in the same order, and each two of them stay alike: the same row, where its reading starts before the day and its region
-/// is named alike, be it new or a Correction, and else the same columns but for those that a price gives and the region's name.
+/// places in the same order, and each two of them stay alike: the same row, where both sheets price its reading alike, as they do
+/// where it starts before the day, and its region is named alike, be it new or a Correction. Priced alike, they differ in the
+/// region's name at most, and else in that and in the columns that a price gives.
 /// Where each reading up to the later cut is so, the rows are the same, whatever the new sheet says of the rules.
 pub fn rows()
     ensures pairs { (day : ℤ) (old new : Sheet) → GoesOnFrom day old new → (issuer : Issuer) (h : Holding) (period : ℕ) (from to : Cut) →
