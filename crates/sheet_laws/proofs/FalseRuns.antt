@@ -11,8 +11,8 @@ use Rattle.metering_model.specs.declared.Refusal.TheVariants.{Unpriced}
 use Rattle.metering_model.specs.World.{Event, Exported, Reply, Refused}
 use Rattle.metering_model.proofs.Samples.{issuer_1}
 use Rattle.group_laws.proofs.Limits.{at_entry}
-use Rattle.sheet_laws.specs.Runs.{under_sheet, AreAllPriced}
-use Rattle.sheet_laws.proofs.Premises.{is_unpriced, all_priced}
+use Rattle.sheet_laws.specs.Runs.{under_sheet, AreAllPriced, is_unpriced}
+use Rattle.sheet_laws.proofs.Premises.{all_priced}
 use Rattle.sheet_laws.proofs.TwoSheets.{old_sheet, new_sheet, with_gpu}
 use Rattle.sheet_laws.proofs.WorkedMonths.{two_months, run_under, all_are_priced}
 use Rattle.sheet_laws.proofs.OtherSheets.{replies, of_another_base, journaled_again, numbered_anew, first_is_unpriced, differ}

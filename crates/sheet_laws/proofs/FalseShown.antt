@@ -48,13 +48,13 @@ exports_alike agents old new events is_old is_new same s t p q has has_new =
 
 -- ---- under the old sheet the batch is journaled without its commitment, and so is billed
 
-abbrev billed_hour : Snapshot
+abbrev pub billed_hour : Snapshot
 billed_hour = record { period = 0; from = 0 ∷ []; to = 1 ∷ []; batches = read of_none ∷ []; sheet = old_sheet; issuer = issuer_1 }
 
 abbrev committed_hour : Snapshot
 committed_hour = record { period = 0; from = 0 ∷ []; to = 1 ∷ []; batches = read of_cm_2 ∷ []; sheet = new_sheet; issuer = issuer_1 }
 
-billed_is_exported : Contains again_before (Exported billed_hour)
+pub billed_is_exported : Contains again_before (Exported billed_hour)
 unfolding days_from_civil day_count days_of_years days_of_months worth_of decimals_of digits
 billed_is_exported = contains_at again_before 8 (Exported billed_hour) refl
 
@@ -62,7 +62,7 @@ committed_is_exported : Contains again_after (Exported committed_hour)
 unfolding days_from_civil day_count days_of_years days_of_months worth_of decimals_of digits
 committed_is_exported = contains_at again_after 8 (Exported committed_hour) refl
 
-names_of_billed : NamesAllAlike old_sheet new_sheet billed_hour.batches
+pub names_of_billed : NamesAllAlike old_sheet new_sheet billed_hour.batches
 unfolding days_from_civil day_count days_of_years days_of_months worth_of decimals_of digits
 names_of_billed = named_alike old_sheet new_sheet billed_hour.batches refl
 

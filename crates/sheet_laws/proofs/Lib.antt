@@ -5,6 +5,8 @@ pub mod PairedRows
 pub mod DayStarts
 pub mod Months
 pub mod ShownMonths
+pub mod LeftOut
+pub mod PlayedAgain
 pub mod SameTranscripts
 pub mod RatedAlone
 pub mod LongerSheets
@@ -17,6 +19,7 @@ mod OtherSheets
 mod FalseRuns
 mod FalseMonths
 mod FalseShown
+mod WorkedAgain
 mod FalseRows
 mod FalseRates
 mod FalseTexts

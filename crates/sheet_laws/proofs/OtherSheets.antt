@@ -7,7 +7,7 @@ use Rattle.metering_model.specs.World.{Event, Journal, Deliver, Start, Export, R
 use Rattle.metering_model.specs.Step.{play}
 use Rattle.metering_model.specs.Schedule.{TextLines, lines_text}
 use Rattle.metering_model.proofs.Samples.{cpu, ops, cpu_plan, cm_1, europe}
-use Rattle.sheet_laws.proofs.Premises.{is_unpriced}
+use Rattle.sheet_laws.specs.Runs.{is_unpriced}
 use Rattle.sheet_laws.proofs.TwoSheets.{old_sheet, new_sheet}
 
 abbrev pub replies : ℕ → Sheet → Issuer → List Event → List Reply

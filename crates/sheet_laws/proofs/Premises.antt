@@ -17,14 +17,10 @@ use Rattle.metering_model.specs.Step.{play}
 use Rattle.metering_model.proofs.FieldLaws.{same_read}
 use Rattle.group_laws.proofs.EveryRun.{holds_after}
 use Rattle.sheet_laws.specs.Longer.{NamesAlike, NamesAllAlike}
-use Rattle.sheet_laws.specs.Runs.{AreAllPriced}
+use Rattle.sheet_laws.specs.Runs.{AreAllPriced, is_unpriced}
 use Rattle.sheet_laws.proofs.Months.{in_batch, each_passes}
 
 -- ---- replies
-
-abbrev pub is_unpriced : Reply → Bool
-is_unpriced (Refused Unpriced) = true
-is_unpriced _ = false
 
 abbrev pub are_all_priced : List Reply → Bool
 are_all_priced rs = list_all (λ r. not (is_unpriced r)) rs

@@ -1,6 +1,6 @@
 //! What a longer sheet leaves as it was: replies, files of closed months, and rows. Each law is a function with an empty body.
 
-ghost use Rattle.std.specs.Prelude.{◌≡◌, ◌≢◌, ◌↔◌, ℕ, List, [], map, Some, Ok, Err, ℤ, ◌≤ℤ◌};
+ghost use Rattle.std.specs.Prelude.{◌≡◌, ◌≢◌, ◌↔◌, ℕ, List, [], ◌++◌, map, Some, Ok, Err, ℤ, ◌≤ℤ◌};
 ghost use Rattle.std.specs.List.{AllZip, Contains};
 ghost use Rattle.metering_model.specs.Dates.{period_end};
 ghost use Rattle.metering_model.specs.Batch.{Batch, Reading};
@@ -13,18 +13,19 @@ ghost use Rattle.metering_model.specs.JournalRules.{MeetsJournalRules};
 ghost use Rattle.metering_model.specs.Rows.{placed_rows};
 ghost use Rattle.metering_model.specs.Rows as model;
 ghost use Rattle.metering_model.specs.declared.Refusal.TheVariants.{Unpriced};
-ghost use Rattle.metering_model.specs.World.{Event, Snapshot, Exported, opening};
+ghost use Rattle.metering_model.specs.World.{World, Event, Snapshot, Exported, opening};
 ghost use Rattle.metering_model.specs.Step.{play};
 ghost use Rattle.metering_model.specs.Transcript.{file_of, transcript};
 ghost use Rattle.transcript_laws.specs.Shown.{Shows};
 ghost use Rattle.sheet_laws.specs.Longer.{GoesOnFrom, NamesAlike, NamesAllAlike, IsLonger, day_start};
-ghost use Rattle.sheet_laws.specs.Runs.{under_sheet, world_under, AreAllPriced, PricesAllOf};
+ghost use Rattle.sheet_laws.specs.Runs.{under_sheet, world_under, AreAllPriced, PricesAllOf, replies_kept, events_kept};
 ghost use Rattle.sheet_laws.specs.Pairs.{IsPricedBefore, StayAlike};
 ghost use Rattle.sheet_laws.specs.Rates.{journaled_in, placed_rows_alone, file_by};
 
 /// Under two sheets of one base month the same events get the same replies, and lead to the same world, but for the sheet: where
 /// under neither of them a batch is refused for a price or a commitment. Where the new sheet has these for whatever reading the
-/// old one has them for, none is refused so under the new one if none is under the old.
+/// old one has them for, none is refused so under the new one if none is under the old. And a run that leaves out the events that
+/// were refused so leads to the same world, and its replies are the others.
 pub fn runs()
     ensures replies { (voters observers agents : ℕ) (old new : Sheet) (issuer : Issuer) (events : List Event) → new.base ≡ old.base →
         AreAllPriced (play (opening voters observers agents old issuer) events).0 →
@@ -39,13 +40,17 @@ pub fn runs()
     ensures priced { (voters observers agents : ℕ) (old new : Sheet) (issuer : Issuer) (events : List Event) → new.base ≡ old.base →
         PricesAllOf old new → AreAllPriced (play (opening voters observers agents old issuer) events).0 →
         AreAllPriced (play (opening voters observers agents new issuer) events).0 }
+    ensures left_out { (w : World) (events : List Event) →
+        play w (events_kept events (play w events).0) ≡ (replies_kept (play w events).0, (play w events).1) }
 {}
 
 /// The files of months that are over stay as they were. Where a sheet goes on from a day, the file of an export, of a period that
 /// ends by then, is the same bytes under that sheet: if it names the regions of the export's batches alike. So what a transcript
 /// shows under such a period, whoever reads it, the transcript of the same events under that sheet shows too, and shows nothing else
 /// there, where under neither sheet a batch is refused for a price or a commitment. If all that is exported is of such periods, the
-/// whole transcripts are the same bytes.
+/// whole transcripts are the same bytes. Where that sheet prices all that the old one does, batches may have been refused so under
+/// the old one: the events but for these, with whatever further events behind them, have under that sheet a transcript that shows
+/// the file that the old one shows under such a period, and then no other there.
 pub fn months()
     ensures files { (voters observers agents : ℕ) (old new : Sheet) (issuer : Issuer) (events : List Event) (day : ℤ) → GoesOnFrom day old new →
         (s : Snapshot) → Contains (play (opening voters observers agents old issuer) events).0 (Exported s) →
@@ -73,6 +78,18 @@ pub fn months()
         ((s : Snapshot) → Contains (play (opening voters observers agents old issuer) events).0 (Exported s) → (period_end old.base s.period ≤ℤ day_start day) × NamesAllAlike old new s.batches) →
         transcript (play (opening voters observers agents new issuer) events).0
         ≡ transcript (play (opening voters observers agents old issuer) events).0 }
+    ensures shown_again { (voters observers agents : ℕ) (old new : Sheet) (issuer : Issuer) (events more : List Event) (day : ℤ) → IsSheet old → IsSheet new → IsIssuer issuer → GoesOnFrom day old new → PricesAllOf old new →
+        (period : ℕ) → period_end old.base period ≤ℤ day_start day →
+        ((s : Snapshot) → Contains (play (opening voters observers agents old issuer) events).0 (Exported s) → s.period ≡ period → NamesAllAlike old new s.batches) →
+        (shown : List ℕ) →
+        Shows (transcript (play (opening voters observers agents old issuer) events).0) period shown →
+        Shows (transcript (play (opening voters observers agents new issuer) (events_kept events (play (opening voters observers agents old issuer) events).0 ++ more)).0) period shown }
+    ensures again { (voters observers agents : ℕ) (old new : Sheet) (issuer : Issuer) (events more : List Event) (day : ℤ) → IsSheet old → IsSheet new → IsIssuer issuer → GoesOnFrom day old new → PricesAllOf old new →
+        (period : ℕ) → period_end old.base period ≤ℤ day_start day →
+        ((s : Snapshot) → Contains (play (opening voters observers agents old issuer) events).0 (Exported s) → s.period ≡ period → NamesAllAlike old new s.batches) →
+        (one two : List ℕ) →
+        Shows (transcript (play (opening voters observers agents old issuer) events).0) period one →
+        Shows (transcript (play (opening voters observers agents new issuer) (events_kept events (play (opening voters observers agents old issuer) events).0 ++ more)).0) period two → one ≡ two }
 {}
 
 /// Of any month, journals that meet the rules under both sheets have as many rows under the one as under the other, at the same

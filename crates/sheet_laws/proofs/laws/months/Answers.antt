@@ -1,4 +1,5 @@
 use Rattle.sheet_laws.proofs.Months.{file_stays}
+use Rattle.sheet_laws.proofs.PlayedAgain.{shown_again, alike_again}
 use Rattle.sheet_laws.proofs.ShownMonths.{both_show, both_alike}
 use Rattle.sheet_laws.proofs.SameTranscripts.{transcript_stays}
 use Rattle.sheet_laws.proofs.laws.months.Goals as goal
@@ -14,3 +15,9 @@ returns-clause-same c = both_alike
 
 pub returns-clause-transcripts : goal.returns-clause-transcripts
 returns-clause-transcripts c = transcript_stays
+
+pub returns-clause-shown_again : goal.returns-clause-shown_again
+returns-clause-shown_again c = shown_again
+
+pub returns-clause-again : goal.returns-clause-again
+returns-clause-again c = alike_again

@@ -1,3 +1,4 @@
+use Rattle.sheet_laws.proofs.LeftOut.{left_out}
 use Rattle.sheet_laws.proofs.TwoRuns.{same_replies, same_world, still_priced}
 use Rattle.sheet_laws.proofs.laws.runs.Goals as goal
 
@@ -9,3 +10,6 @@ returns-clause-world c = same_world
 
 pub returns-clause-priced : goal.returns-clause-priced
 returns-clause-priced c = still_priced
+
+pub returns-clause-left_out : goal.returns-clause-left_out
+returns-clause-left_out c = left_out
