@@ -10,11 +10,12 @@ use Rattle.metering_model.specs.NumberText.{worth_of, decimals_of}
 use Rattle.metering_model.specs.Cut.{Cut}
 use Rattle.metering_model.specs.Sheet.{Commitment, Sheet, Issuer}
 use Rattle.metering_model.specs.PriceInForce.{commitment_with}
-use Rattle.metering_model.specs.Holding.{Holding, put}
+use Rattle.metering_model.specs.Holding.{Holding, put, up_to}
 use Rattle.metering_model.specs.JournalRules.{MeetsJournalRules}
 use Rattle.metering_model.specs.Row.{Row}
 use Rattle.metering_model.specs.Rows.{PlacedRow, placed_rows}
 use Rattle.metering_model.specs.Schedule.{TextLines, lines_text}
+use Rattle.metering_model.proofs.RulesUpToCut.{MeetsJournalRules-up_to}
 use Rattle.metering_model.proofs.Samples.{cm_1, issuer_1}
 use Rattle.sheet_laws.specs.Longer.{GoesOnFrom}
 use Rattle.sheet_laws.specs.Pairs.{StayAlike}
@@ -26,7 +27,7 @@ use Rattle.sheet_laws.proofs.WorkedMonths.{read}
 use Rattle.sheet_laws.proofs.OtherSheets.{differ}
 
 abbrev RowsPair : (Sheet → Sheet → Holding → Type 0) → Type 0
-RowsPair Premise = (day : ℤ) (old new : Sheet) → GoesOnFrom day old new → (issuer : Issuer) (h : Holding) (period : ℕ) (from to : Cut) → Premise old new h →
+RowsPair Premise = (day : ℤ) (old new : Sheet) → GoesOnFrom day old new → (issuer : Issuer) (h : Holding) (period : ℕ) (from to : Cut) → Premise old new (up_to to h) →
     AllZip (StayAlike day old new h) (placed_rows old issuer h period from to) (placed_rows new issuer h period from to)
 
 abbrev pub gpu_alone : TextLines
@@ -66,7 +67,7 @@ same_sku old new h (x ∷ xs) (y ∷ ys) all = ap (λ (r : Row). Some (is_some r
 -- SkuId is null where nothing is in force
 rows_unpriced_after : RowsPair (λ old new h. MeetsJournalRules old h) → ⊥
 rows_unpriced_after law =
-    differ (sym sku_is_there ∙ sym (same_sku with_gpu old_sheet of_gpu (rows_of_may with_gpu) (rows_of_may old_sheet) (law february_1 with_gpu old_sheet without_gpu_it_goes_on issuer_1 of_gpu 4 (0 ∷ []) (1 ∷ []) rules_of_gpu)) ∙ sku_is_null)
+    differ (sym sku_is_there ∙ sym (same_sku with_gpu old_sheet of_gpu (rows_of_may with_gpu) (rows_of_may old_sheet) (law february_1 with_gpu old_sheet without_gpu_it_goes_on issuer_1 of_gpu 4 (0 ∷ []) (1 ∷ []) (MeetsJournalRules-up_to with_gpu (1 ∷ []) of_gpu rules_of_gpu))) ∙ sku_is_null)
 
 with_gpu_it_goes_on : GoesOnFrom february_1 old_sheet with_gpu
 with_gpu_it_goes_on = goes_on_by february_1 old_sheet with_gpu refl refl (All-cons Found cm_1 [] refl (All-nil Found))
@@ -76,4 +77,4 @@ with_gpu_it_goes_on = goes_on_by february_1 old_sheet with_gpu refl refl (All-co
 
 rows_unpriced_before : RowsPair (λ old new h. MeetsJournalRules new h) → ⊥
 rows_unpriced_before law =
-    differ (sym sku_is_there ∙ same_sku old_sheet with_gpu of_gpu (rows_of_may old_sheet) (rows_of_may with_gpu) (law february_1 old_sheet with_gpu with_gpu_it_goes_on issuer_1 of_gpu 4 (0 ∷ []) (1 ∷ []) rules_of_gpu) ∙ sku_is_null)
+    differ (sym sku_is_there ∙ same_sku old_sheet with_gpu of_gpu (rows_of_may old_sheet) (rows_of_may with_gpu) (law february_1 old_sheet with_gpu with_gpu_it_goes_on issuer_1 of_gpu 4 (0 ∷ []) (1 ∷ []) (MeetsJournalRules-up_to with_gpu (1 ∷ []) of_gpu rules_of_gpu)) ∙ sku_is_null)

@@ -8,7 +8,7 @@ use Rattle.std.proofs.lemmas.List.Elements.{All-nil, All-cons}
 use Rattle.metering_model.specs.Batch.{Batch, Record, Reading, Reads}
 use Rattle.metering_model.specs.Cut.{Cut, last_of}
 use Rattle.metering_model.specs.Holding.{Holding, IsHolding, Position, Placed, held, records_in_order, is_same_place, reading_of, reading_at, up_to}
-use Rattle.metering_model.proofs.HoldingLaws.{IsHolding-up_to, held-up_to, held-up_to_beyond}
+use Rattle.metering_model.proofs.HoldingLaws.{held-up_to, held-up_to_beyond}
 use Rattle.metering_model.proofs.RecordPlaces.{place_record, record_at, stands_at, records_at}
 use Rattle.metering_model.proofs.ValueBounds.{all_passing}
 
@@ -46,7 +46,7 @@ above_too h cut p r e = elim (cases_lt (last_of cut p.agent) p.seq) [
 abbrev pub IsFound : Holding → Placed → Type 0
 IsFound h x = (r : Reading) → x.what ≡ Reads r → reading_at h x.place ≡ Some r
 
-pub readings_found : (h : Holding) (cut : Cut) → IsHolding h → All (IsFound (up_to cut h)) (records_in_order (up_to cut h))
-readings_found h cut ok = λ k d inside r e.
-    let x = get_or (records_in_order (up_to cut h)) k d in
-    is_read (up_to cut h) x.place r (each_is_there (up_to cut h) (IsHolding-up_to h cut ok) k d inside ∙ ap (λ (o : Record). Some o) e)
+pub readings_found : (h : Holding) → IsHolding h → All (IsFound h) (records_in_order h)
+readings_found h ok = λ k d inside r e.
+    let x = get_or (records_in_order h) k d in
+    is_read h x.place r (each_is_there h ok k d inside ∙ ap (λ (o : Record). Some o) e)

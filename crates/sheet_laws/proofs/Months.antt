@@ -19,6 +19,7 @@ use Rattle.metering_model.specs.World.{World, Event, Snapshot, Reply, Exported, 
 use Rattle.metering_model.specs.Step.{cut_before, play}
 use Rattle.metering_model.specs.Transcript.{file_of}
 use Rattle.metering_model.proofs.HoldingLaws.{held-up_to, held-up_to_beyond}
+use Rattle.metering_model.proofs.RulesUpToCut.{MeetsJournalRules-up_to}
 use Rattle.row_laws.proofs.CountLaws.{place_from_one}
 use Rattle.row_laws.proofs.DueLaws.{due_later}
 use Rattle.group_laws.specs.Headline.{IsExport, HoldsAfter}
@@ -112,7 +113,7 @@ module _ (voters observers agents : ℕ) (old : Sheet) (issuer : Issuer) (events
     file_stays new day goes ends names =
         let rules : MeetsJournalRules old s.batches = subst (λ x. MeetsJournalRules x s.batches) sheet_of_export export.rules in
         ap file
-        (rows_stay day old new goes s.issuer s.batches s.period s.from s.to rules
+        (rows_stay day old new goes s.issuer s.batches s.period s.from s.to (MeetsJournalRules-up_to old s.to s.batches rules)
         (λ at r found _. starts_before_day r.start (period_end old.base s.period) day (starts_before_end at r (above_too s.batches s.to at r found)) ends)
         (λ at r found. names at r (above_too s.batches s.to at r found)))
         ∙ ap (λ x. file (rows x s.issuer s.batches s.period s.from s.to)) (sym sheet_of_export)

@@ -15,7 +15,6 @@ use Rattle.metering_model.specs.declared.ChargeClass.TheVariants.{New, Correctio
 use Rattle.metering_model.specs.Row.{Row, row}
 use Rattle.metering_model.specs.Rows.{PlacedRow, differ, row_of_reading, row_of, placed_row, placed_rows, rows}
 use Rattle.metering_model.proofs.Journals.{or_next_parts}
-use Rattle.metering_model.proofs.RulesUpToCut.{MeetsJournalRules-up_to}
 use Rattle.sheet_laws.specs.Longer.{GoesOnFrom, NamesAllAlike}
 use Rattle.sheet_laws.specs.Pairs.{IsPricedBefore, StayAlike}
 use Rattle.sheet_laws.proofs.FoundReadings.{above_too, readings_found}
@@ -60,8 +59,8 @@ all_fit sheet h (x ∷ xs) e =
     let parts = or_next_parts (broken_by sheet h x.place x.what) (first_broken sheet h xs) e in
     All-cons (IsFit sheet) x xs (λ r is. fit (is_fit_reading sheet r) (subst (λ what. broken_by sheet h x.place what ≡ None) is parts.0)) (all_fit sheet h xs parts.1)
 
-fit_up_to : (sheet : Sheet) (cut : Cut) (h : Holding) → MeetsJournalRules sheet h → All (IsFit sheet) (records_in_order (up_to cut h))
-fit_up_to sheet cut h rules = all_fit sheet (up_to cut h) (records_in_order (up_to cut h)) (MeetsJournalRules-up_to sheet cut h rules).none_broken
+fit_under : (sheet : Sheet) (h : Holding) → MeetsJournalRules sheet h → All (IsFit sheet) (records_in_order h)
+fit_under sheet h rules = all_fit sheet h (records_in_order h) rules.none_broken
 
 -- ---- rows
 
@@ -70,7 +69,7 @@ module _ (day : ℤ) (old new : Sheet) (goes : GoesOnFrom day old new) (issuer :
   placed_at at x = record { place = at; row = x }
 
   -- where all readings stay as they were, so do the rows
-  module _ (fits : MeetsJournalRules old h) (before : (at : Position) (r : Reading) → reading_at (up_to to h) at ≡ Some r → IsPricedBefore day r) (names : NamesAllAlike old new (up_to to h)) where
+  module _ (fits : MeetsJournalRules old (up_to to h)) (before : (at : Position) (r : Reading) → reading_at (up_to to h) at ≡ Some r → IsPricedBefore day r) (names : NamesAllAlike old new (up_to to h)) where
     reading_stays : (at : Position) (r : Reading) → is_fit_reading old r ≡ true → reading_at (up_to to h) at ≡ Some r → row_of_reading new issuer h period from to at r ≡ row_of_reading old issuer h period from to at r
     reading_stays at r is_fit found =
         let was = value_at h at (last_of from at.agent) in
@@ -89,13 +88,13 @@ module _ (day : ℤ) (old new : Sheet) (goes : GoesOnFrom day old new) (issuer :
     placed_rows_stay =
         given_alike (placed_row old issuer h period from to) (placed_row new issuer h period from to) (records_in_order (up_to to h)) (λ k d inside.
         let x = get_or (records_in_order (up_to to h)) k d in
-        record_stays x.place x.what (fit_up_to old to h fits k d inside) (readings_found h to fits.is_holding k d inside))
+        record_stays x.place x.what (fit_under old (up_to to h) fits k d inside) (readings_found (up_to to h) fits.is_holding k d inside))
 
     pub rows_stay : rows new issuer h period from to ≡ rows old issuer h period from to
     rows_stay = ap (map (λ (x : PlacedRow). x.row)) placed_rows_stay
 
-  -- the rows of journals that meet the rules of both sheets
-  module _ (fits_old : MeetsJournalRules old h) (fits_new : MeetsJournalRules new h) where
+  -- the rows of journals that meet the rules of both sheets as far as they are charged
+  module _ (fits_old : MeetsJournalRules old (up_to to h)) (fits_new : MeetsJournalRules new (up_to to h)) where
     pair : (at : Position) (r : Reading) (class : ChargeClass) (was now : ℤ) → is_fit_reading old r ≡ true → is_fit_reading new r ≡ true → reading_at h at ≡ Some r →
         StayAlike day old new h (placed_at at (row old issuer r period class was now)) (placed_at at (row new issuer r period class was now))
     pair at r class was now is_fit fits_too found = record {
@@ -136,5 +135,5 @@ module _ (day : ℤ) (old new : Sheet) (goes : GoesOnFrom day old new) (issuer :
     rows_pair =
         zipped (StayAlike day old new h) (placed_row old issuer h period from to) (placed_row new issuer h period from to) (records_in_order (up_to to h)) (λ k d inside.
         let x = get_or (records_in_order (up_to to h)) k d in
-        record_pairs x.place x.what (fit_up_to old to h fits_old k d inside) (fit_up_to new to h fits_new k d inside)
-        (λ r e. above_too h to x.place r (readings_found h to fits_old.is_holding k d inside r e)))
+        record_pairs x.place x.what (fit_under old (up_to to h) fits_old k d inside) (fit_under new (up_to to h) fits_new k d inside)
+        (λ r e. above_too h to x.place r (readings_found (up_to to h) fits_old.is_holding k d inside r e)))

@@ -28,6 +28,7 @@ use Rattle.metering_model.proofs.BatchLaws.{IsWellFormed-read}
 use Rattle.metering_model.proofs.Fronts.{front_goes_on}
 use Rattle.metering_model.proofs.HoldingLaws.{held-up_to_beyond}
 use Rattle.metering_model.proofs.Journals.{MeetsJournalRules-nil, MeetsJournalRules-put}
+use Rattle.metering_model.proofs.RulesUpToCut.{MeetsJournalRules-up_to}
 use Rattle.metering_model.proofs.StepLaws.{step_ok, test_step, ok_same}
 use Rattle.group_laws.proofs.Agreed.{last_of-zero}
 use Rattle.row_laws.proofs.CountLaws.{place_from_one}
@@ -120,7 +121,8 @@ module _ (day : ℤ) (old new : Sheet) (goes : GoesOnFrom day old new) (issuer :
       AllZip (StayAlike day old new (put [] b)) (placed_rows_alone old issuer b period) (placed_rows_alone new issuer b period)
   rows_pair_alone b e f =
       subst (λ base. AllZip (StayAlike day old new (put [] b)) (placed_rows_alone old issuer b period) (placed_rows new issuer (put [] b) period (zero_cut 64) (front base (put [] b) (zero_cut 64) period))) (sym goes.base)
-      (rows_pair day old new goes issuer (put [] b) period (zero_cut 64) (front_alone old b period) (rules_alone old issuer text b e) (rules_alone new issuer text b f))
+      (rows_pair day old new goes issuer (put [] b) period (zero_cut 64) (front_alone old b period)
+      (MeetsJournalRules-up_to old (front_alone old b period) (put [] b) (rules_alone old issuer text b e)) (MeetsJournalRules-up_to new (front_alone old b period) (put [] b) (rules_alone new issuer text b f)))
 
   abbrev file_of_batch : Sheet → Batch → List ℕ
   file_of_batch sheet b = file (rows sheet issuer (put [] b) period (zero_cut 64) (front_alone sheet b period))
@@ -130,7 +132,7 @@ module _ (day : ℤ) (old new : Sheet) (goes : GoesOnFrom day old new) (issuer :
       NamesAllAlike old new (put [] b) → file_of_batch new b ≡ file_of_batch old b
   file_stays_alone b rules before names =
       ap (λ base. file (rows new issuer (put [] b) period (zero_cut 64) (front base (put [] b) (zero_cut 64) period))) goes.base
-      ∙ ap file (rows_stay day old new goes issuer (put [] b) period (zero_cut 64) (front_alone old b period) rules before (λ at r found. names at r (above_too (put [] b) (front_alone old b period) at r found)))
+      ∙ ap file (rows_stay day old new goes issuer (put [] b) period (zero_cut 64) (front_alone old b period) (MeetsJournalRules-up_to old (front_alone old b period) (put [] b) rules) before (λ at r found. names at r (above_too (put [] b) (front_alone old b period) at r found)))
 
   module _ (p : journaled_in old issuer text ≢ Err IsUnpriced) (q : journaled_in new issuer text ≢ Err IsUnpriced) (names : (b : Batch) → journaled_in old issuer text ≡ Ok b → NamesAllAlike old new (put [] b)) where
     by_batch : (r : Result Batch Refusal) → ((b : Batch) → r ≡ Ok b → file_of_batch new b ≡ file_of_batch old b) → (r >>= λ b. Ok (file_of_batch new b)) ≡ (r >>= λ b. Ok (file_of_batch old b))

@@ -13,6 +13,7 @@ use Rattle.metering_model.specs.declared.Refusal.{Refusal}
 use Rattle.metering_model.specs.declared.Refusal.TheVariants.{Unpriced}
 use Rattle.metering_model.specs.World.{World}
 use Rattle.metering_model.specs.Schedule.{lines_text}
+use Rattle.metering_model.proofs.RulesUpToCut.{MeetsJournalRules-up_to}
 use Rattle.metering_model.proofs.Samples.{issuer_1}
 use Rattle.group_laws.proofs.EveryRun.{holds_after}
 use Rattle.sheet_laws.specs.Longer.{GoesOnFrom, NamesAllAlike}
@@ -47,7 +48,9 @@ rules_after =
     (subst (λ x. MeetsJournalRules x (run_under new_sheet).1.journals) headline.sheet_kept headline.rules)
 
 february_stays_alike : AllZip (StayAlike february_1 old_sheet new_sheet journals) (placed_rows old_sheet issuer_1 journals 1 (1 ∷ []) (2 ∷ [])) (placed_rows new_sheet issuer_1 journals 1 (1 ∷ []) (2 ∷ []))
-february_stays_alike = rows_pair february_1 old_sheet new_sheet it_goes_on issuer_1 journals 1 (1 ∷ []) (2 ∷ []) rules_before rules_after
+february_stays_alike =
+    rows_pair february_1 old_sheet new_sheet it_goes_on issuer_1 journals 1 (1 ∷ []) (2 ∷ [])
+    (MeetsJournalRules-up_to old_sheet (2 ∷ []) journals rules_before) (MeetsJournalRules-up_to new_sheet (2 ∷ []) journals rules_after)
 
 -- ---- January's batch by itself
 

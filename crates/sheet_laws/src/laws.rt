@@ -92,17 +92,17 @@ pub fn months()
         Shows (transcript (play (opening voters observers agents new issuer) (events_kept events (play (opening voters observers agents old issuer) events).0 ++ more)).0) period two → one ≡ two }
 {}
 
-/// Of any month, journals that meet the rules under both sheets have as many rows under the one as under the other, at the same
-/// places in the same order, and each two of them stay alike: the same row, where both sheets price its reading alike, as they do
-/// where it starts before the day, and its region is named alike, be it new or a Correction. Priced alike, they differ in the
-/// region's name at most, and else in that and in the columns that a price gives.
+/// Of any month, journals that meet the rules under both sheets up to the later cut, whatever stands above it, have as many rows
+/// under the one as under the other, at the same places in the same order, and each two of them stay alike: the same row, where
+/// both sheets price its reading alike, as they do where it starts before the day, and its region is named alike, be it new or a
+/// Correction. Priced alike, they differ in the region's name at most, and else in that and in the columns that a price gives.
 /// Where each reading up to the later cut is so, the rows are the same, whatever the new sheet says of the rules.
 pub fn rows()
     ensures pairs { (day : ℤ) (old new : Sheet) → GoesOnFrom day old new → (issuer : Issuer) (h : Holding) (period : ℕ) (from to : Cut) →
-        MeetsJournalRules old h → MeetsJournalRules new h →
+        MeetsJournalRules old (up_to to h) → MeetsJournalRules new (up_to to h) →
         AllZip (StayAlike day old new h) (placed_rows old issuer h period from to) (placed_rows new issuer h period from to) }
     ensures all { (day : ℤ) (old new : Sheet) → GoesOnFrom day old new → (issuer : Issuer) (h : Holding) (period : ℕ) (from to : Cut) →
-        MeetsJournalRules old h →
+        MeetsJournalRules old (up_to to h) →
         ((at : Position) (r : Reading) → reading_at (up_to to h) at ≡ Some r → IsPricedBefore day r) →
         NamesAllAlike old new (up_to to h) →
         model.rows new issuer h period from to ≡ model.rows old issuer h period from to }
