@@ -109,6 +109,10 @@ module _ (voters observers agents : ℕ) (old : Sheet) (issuer : Issuer) (events
         reading_in_time old.base agents reached.journals headline.rules.is_holding headline.cuts due s.period s.to export.to at r
         (subst (λ h. reading_at h at ≡ Some r) export.batches e)
 
+    -- what is exported was journaled
+    pub names_of_export : (new : Sheet) → NamesAllAlike old new reached.journals → NamesAllAlike old new s.batches
+    names_of_export new names at r e = names at r (above_too reached.journals s.to at r (subst (λ h. reading_at h at ≡ Some r) export.batches e))
+
     pub file_stays : (new : Sheet) (day : ℤ) → GoesOnFrom day old new → period_end old.base s.period ≤ℤ day_start day → NamesAllAlike old new s.batches → file_of (record s { sheet = new }) ≡ file_of s
     file_stays new day goes ends names =
         let rules : MeetsJournalRules old s.batches = subst (λ x. MeetsJournalRules x s.batches) sheet_of_export export.rules in

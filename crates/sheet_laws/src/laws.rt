@@ -50,12 +50,16 @@ pub fn runs()
 /// there, where under neither sheet a batch is refused for a price or a commitment. If all that is exported is of such periods, the
 /// whole transcripts are the same bytes. Where that sheet prices all that the old one does, batches may have been refused so under
 /// the old one: the events but for these, with whatever further events behind them, have under that sheet a transcript that shows
-/// the file that the old one shows under such a period, and then no other there.
+/// the file that the old one shows under such a period, and then no other there. Exports have their regions named alike where
+/// all batches that were journaled have them so.
 pub fn months()
     ensures files { (voters observers agents : ℕ) (old new : Sheet) (issuer : Issuer) (events : List Event) (day : ℤ) → GoesOnFrom day old new →
         (s : Snapshot) → Contains (play (opening voters observers agents old issuer) events).0 (Exported s) →
         period_end old.base s.period ≤ℤ day_start day → NamesAllAlike old new s.batches →
         file_of (record s { sheet = new }) ≡ file_of s }
+    ensures named { (voters observers agents : ℕ) (old new : Sheet) (issuer : Issuer) (events : List Event) →
+        NamesAllAlike old new (play (opening voters observers agents old issuer) events).1.journals →
+        (s : Snapshot) → Contains (play (opening voters observers agents old issuer) events).0 (Exported s) → NamesAllAlike old new s.batches }
     ensures shown { (voters observers agents : ℕ) (old new : Sheet) (issuer : Issuer) (events : List Event) (day : ℤ) → IsSheet old → IsSheet new → IsIssuer issuer → GoesOnFrom day old new →
         AreAllPriced (play (opening voters observers agents old issuer) events).0 →
         AreAllPriced (play (opening voters observers agents new issuer) events).0 →

@@ -1,4 +1,4 @@
-use Rattle.sheet_laws.proofs.Months.{file_stays}
+use Rattle.sheet_laws.proofs.Months.{file_stays, names_of_export}
 use Rattle.sheet_laws.proofs.PlayedAgain.{shown_again, alike_again}
 use Rattle.sheet_laws.proofs.ShownMonths.{both_show, both_alike}
 use Rattle.sheet_laws.proofs.SameTranscripts.{transcript_stays}
@@ -21,3 +21,6 @@ returns-clause-shown_again c = shown_again
 
 pub returns-clause-again : goal.returns-clause-again
 returns-clause-again c = alike_again
+
+pub returns-clause-named : goal.returns-clause-named
+returns-clause-named c = λ voters observers agents old new issuer events names s has. names_of_export voters observers agents old issuer events s has new names
