@@ -11,7 +11,7 @@ use Rattle.metering_model.specs.Batch.{Reading}
 use Rattle.metering_model.specs.Sheet.{PriceRow, Sheet}
 use Rattle.metering_model.specs.PriceInForce.{price_in_force, commitment_with, region_named}
 use Rattle.metering_model.proofs.Samples.{cpu, ops, cpu_plan, cm_1}
-use Rattle.sheet_laws.specs.Longer.{GoesOnFrom, NamesAlike, IsLonger, rows_before}
+use Rattle.sheet_laws.specs.Longer.{GoesOnFrom, NamesAlike, IsLonger, rows_before, rows_of_known}
 use Rattle.sheet_laws.specs.Runs.{PricesAllOf}
 use Rattle.sheet_laws.proofs.TwoSheets.{february_1, may_1, old_sheet, with_gpu}
 use Rattle.sheet_laws.proofs.OtherSheets.{of_another_base, with_another_price, with_another_name}
@@ -22,7 +22,7 @@ abbrev Base : Sheet → Sheet → Type 0
 Base old new = new.base ≡ old.base
 
 abbrev Before : ℤ → Sheet → Sheet → Type 0
-Before day old new = rows_before day new ≡ rows_before day old
+Before day old new = rows_of_known day old new ≡ rows_before day old
 
 abbrev Still : Sheet → Sheet → Type 0
 Still old new = All (λ p. is_some (price_in_force new p.sku p.from) ≡ true) old.prices

@@ -5,17 +5,18 @@ use Rattle.std.specs.Option.{is_some}
 use Rattle.std.proofs.lemmas.Bool.{and_parts, cond-true, cond-false, cases_Bool}
 use Rattle.std.proofs.lemmas.Int.{ints}
 use Rattle.std.proofs.lemmas.Option.{same_Some, none-some}
-use Rattle.std.proofs.lemmas.List.Elements.{All-head, All-tail}
+use Rattle.std.proofs.lemmas.List.Elements.{All-nil, All-cons, All-head, All-tail, All-contains, All-filter, filter_passes}
 use Rattle.metering_model.specs.Dates.{day_of}
 use Rattle.metering_model.specs.Batch.{is_priced}
 use Rattle.metering_model.specs.BatchReading.{is_same}
 use Rattle.metering_model.specs.Sheet.{PriceRow, Commitment, Region, Sheet}
-use Rattle.metering_model.specs.PriceInForce.{latest, price_in_force, commitment_with, region_with, region_named}
+use Rattle.metering_model.specs.PriceInForce.{later_of, latest, price_in_force, commitment_with, region_with, region_named}
 use Rattle.metering_model.specs.JournalRules.{is_fit_commitment}
 use Rattle.metering_model.specs.Row.{price_of, commitment_of}
 use Rattle.metering_model.proofs.FieldLaws.{same_read}
 use Rattle.metering_model.proofs.PriceLaws.{in_force_begun, none_in_force}
-use Rattle.sheet_laws.specs.Longer.{GoesOnFrom, NamesAlike, IsLonger, rows_before, without_from}
+use Rattle.metering_model.proofs.SheetLaws.{latest_has}
+use Rattle.sheet_laws.specs.Longer.{GoesOnFrom, NamesAlike, IsLonger, rows_before, rows_of_known, without_from}
 use Rattle.sheet_laws.specs.Runs.{PricesAllOf}
 use Rattle.sheet_laws.proofs.TwoRows.{in_force, fit_parts, same_commitment}
 
@@ -37,6 +38,15 @@ filter_twice p q stricter (x ∷ xs) = elim (cases_Bool (q x)) [
     fails : (x : _) → q x ≡ false → p x ≡ false
     fails x f = elim (cases_Bool (p x)) [ inl t ↦ absurd (let yes = stricter x t in cc) | inr n ↦ n ]
 
+-- one filter behind another is one filter
+filter_both : {A : Type 0} (p q r : A → Bool) → ((x : A) → (q x && p x) ≡ r x) → (xs : List A) → filter p (filter q xs) ≡ filter r xs
+filter_both p q r both [] = refl
+filter_both {A} p q r both (x ∷ xs) = by_tests (q x) (p x) (r x) (both x) refl (filter_both p q r both xs)
+  where
+    by_tests : (a b c : Bool) → (a && b) ≡ c → b ≡ p x → filter p (filter q xs) ≡ filter r xs → filter p (if a then x ∷ filter q xs else filter q xs) ≡ (if c then x ∷ filter r xs else filter r xs)
+    by_tests false b c e f rest = rest ∙ ap (λ t. if t then x ∷ filter r xs else filter r xs) e
+    by_tests true b c e f rest = ap (λ t. if t then x ∷ filter p (filter q xs) else filter p (filter q xs)) (sym f ∙ e) ∙ ap (λ (ys : List A). if c then x ∷ ys else ys) rest
+
 -- what is found is an element, and passes the test
 found : {A : Type 0} (P : A → Type 0) (test : A → Bool) (xs : List A) (y : A) → All P xs → find test xs ≡ Some y → P y × (test y ≡ true)
 found P test [] y all e = absurd (none-some y e)
@@ -53,8 +63,16 @@ begun_before a b c h k = grind (arith, ints)
 through : (a b c : ℤ) → a ≤ℤ b → b ≤ℤ c → a ≤ℤ c
 through a b c h k = grind (arith, ints)
 
+first : (a b c : ℤ) → a <ℤ b → b ≤ℤ c → a <ℤ c
+first a b c h k = grind (arith, ints)
+
 never : (a b : ℤ) → a ≤ℤ b → b <ℤ a → ⊥
 never a b h k = grind (arith, ints)
+
+found_commitments : (old new : Sheet) → All (λ c. commitment_with new c.id ≡ Some c) old.commitments → (id : List ℕ) (c : Commitment) → commitment_with old id ≡ Some c → commitment_with new id ≡ Some c
+found_commitments old new commitments id c e =
+    let it = found (λ (d : Commitment). commitment_with new d.id ≡ Some d) (λ d. is_same d.id id) old.commitments c commitments e in
+    ap (commitment_with new) (sym (same_read c.id id it.1)) ∙ it.0
 
 module _ (day : ℤ) (old new : Sheet) where
   same_in_force : rows_before day new ≡ rows_before day old → (sku : List ℕ) (before : ℤ) → before <ℤ day → price_in_force new sku before ≡ price_in_force old sku before
@@ -76,14 +94,123 @@ module _ (day : ℤ) (old new : Sheet) where
   goes_on_by base same commitments = record {
     base = base;
     prices = λ sku before p early e. ap (option_map without_from) (same_in_force same sku before early ∙ e);
-    commitments = λ id c e.
-        let it = found (λ (d : Commitment). commitment_with new d.id ≡ Some d) (λ d. is_same d.id id) old.commitments c commitments e in
-        ap (commitment_with new) (sym (same_read c.id id it.1)) ∙ it.0;
+    commitments = found_commitments old new commitments;
   }
+
+-- ---- the latest of rows of which some begin before all others
+
+later_first : (a b : ℤ) → a <ℤ b → int_lt a b ≡ true
+later_first a b h = grind (arith, ints)
+
+not_later : (a b : ℤ) → b <ℤ a → int_lt a b ≡ false
+not_later a b h = grind (arith, ints)
+
+later_not_none : (r : PriceRow) (o : Option PriceRow) → later_of r o ≡ None → ⊥
+later_not_none r None e = none-some r (sym e)
+later_not_none r (Some s) e = elim (cases_Bool (int_lt r.from s.from)) [
+  | inl t ↦ none-some s (sym e ∙ cond-true (int_lt r.from s.from) (Some s) (Some r) t)
+  | inr f ↦ none-some r (sym e ∙ cond-false (int_lt r.from s.from) (Some s) (Some r) f)
+]
+
+-- one that begins earlier is passed over
+over_earlier : (y q : PriceRow) → y.from <ℤ q.from → later_of y (Some q) ≡ Some q
+over_earlier y q early = cond-true (int_lt y.from q.from) (Some q) (Some y) (later_first y.from q.from early)
+
+before_earlier : (y q : PriceRow) → q.from <ℤ y.from → later_of y (Some q) ≡ Some y
+before_earlier y q early = cond-false (int_lt y.from q.from) (Some q) (Some y) (not_later y.from q.from early)
+
+module _ (Of : PriceRow → Type 0) (known : PriceRow → Bool) (apart : (e n : PriceRow) → Of e → Of n → known e ≡ false → known n ≡ true → e.from <ℤ n.from) where
+  abbrev IsAdded : PriceRow → Type 0
+  IsAdded x = Of x × (known x ≡ false)
+
+  -- where none is known, all are added
+  all_added : (ys : List PriceRow) → All Of ys → latest (filter known ys) ≡ None → All IsAdded ys
+  all_added [] all none = All-nil IsAdded
+  all_added (y ∷ ys) all none = elim (cases_Bool (known y)) [
+    | inl t ↦ absurd (later_not_none y (latest (filter known ys)) (sym (ap latest (cond-true (known y) (y ∷ filter known ys) (filter known ys) t)) ∙ none))
+    | inr f ↦
+        All-cons IsAdded y ys (All-head Of y ys all, f)
+        (all_added ys (All-tail Of y ys all) (sym (ap latest (cond-false (known y) (y ∷ filter known ys) (filter known ys) f)) ∙ none))
+  ]
+
+  -- the latest of those that are known is the latest of all
+  latest_known : (ys : List PriceRow) → All Of ys → (q : PriceRow) → latest (filter known ys) ≡ Some q → latest ys ≡ Some q
+  latest_known [] all q e = e
+  latest_known (y ∷ ys) all q e = elim (cases_Bool (known y)) [
+    | inl t ↦ by_known t (latest (filter known ys)) refl (latest_known ys (All-tail Of y ys all)) (sym (ap latest (cond-true (known y) (y ∷ filter known ys) (filter known ys) t)) ∙ e)
+    | inr f ↦
+        let is = sym (ap latest (cond-false (known y) (y ∷ filter known ys) (filter known ys) f)) ∙ e in
+        let of_q = latest_has Of (filter known ys) q (All-filter known Of ys (All-tail Of y ys all)) is in
+        let known_q = latest_has (λ (x : PriceRow). known x ≡ true) (filter known ys) q (filter_passes known ys) is in
+        ap (later_of y) (latest_known ys (All-tail Of y ys all) q is) ∙ over_earlier y q (apart y q (All-head Of y ys all) of_q f known_q)
+  ]
+    where
+      by_rest : known y ≡ true → All IsAdded ys → (o : Option PriceRow) → latest ys ≡ o → later_of y o ≡ Some y
+      by_rest t added None is = refl
+      by_rest t added (Some x) is =
+          let of_x = latest_has IsAdded ys x added is in
+          before_earlier y x (apart x y of_x.0 (All-head Of y ys all) of_x.1 t)
+
+      by_known : known y ≡ true → (o : Option PriceRow) → latest (filter known ys) ≡ o → ((s : PriceRow) → latest (filter known ys) ≡ Some s → latest ys ≡ Some s) →
+          later_of y o ≡ Some q → later_of y (latest ys) ≡ Some q
+      by_known t None is rest f = by_rest t (all_added ys (All-tail Of y ys all) is) (latest ys) refl ∙ f
+      by_known t (Some s) is rest f = ap (later_of y) (rest s is) ∙ f
+
+there : {A : Type 0} (o : Option A) → is_some o ≡ true → (x : A) × (o ≡ Some x)
+there None e = absurd (cc)
+there (Some x) e = (x, refl)
+
+none : {A : Type 0} (o : Option A) → is_some o ≡ false → o ≡ None
+none None e = refl
+none (Some x) e = absurd (cc)
+
+swapped : (a b c : Bool) → (c ≡ true → a ≡ true) → ((a && b) && c) ≡ (c && b)
+swapped true true true h = refl
+swapped true true false h = refl
+swapped true false true h = refl
+swapped true false false h = refl
+swapped false b true h = let no : false ≡ true = h refl in absurd (cc)
+swapped false b false h = refl
+
+module _ (day : ℤ) (old new : Sheet) (same : rows_of_known day old new ≡ rows_before day old) (sku : List ℕ) (before : ℤ) (early : before <ℤ day) where
+  abbrev has_begun : PriceRow → Bool
+  has_begun r = is_same r.sku sku && int_le r.from before
+
+  abbrev is_known : PriceRow → Bool
+  is_known r = is_some (price_in_force old r.sku r.from)
+
+  abbrev begins : PriceRow → Bool
+  begins r = int_lt r.from day
+
+  begins_then : (r : PriceRow) → has_begun r ≡ true → begins r ≡ true
+  begins_then r h = begun_before r.from before day (and_parts (is_same r.sku sku) (int_le r.from before) h).1 early
+
+  are_apart : (e n : PriceRow) → has_begun e ≡ true → has_begun n ≡ true → is_known e ≡ false → is_known n ≡ true → e.from <ℤ n.from
+  are_apart e n of_e of_n unknown known =
+      let e_is = same_read e.sku sku (and_parts (is_same e.sku sku) (int_le e.from before) of_e).0 in
+      let n_is = same_read n.sku sku (and_parts (is_same n.sku sku) (int_le n.from before) of_n).0 in
+      let m = there (price_in_force old n.sku n.from) known in
+      let begun = in_force_begun n.sku n.from old m.0 m.1 in
+      let after = none_in_force e.sku e.from old (none (price_in_force old e.sku e.from) unknown) in
+      first (e.from) (m.0.from) (n.from) (All-contains (λ (q : PriceRow). q.sku ≡ e.sku → e.from <ℤ q.from) old.prices m.0 after begun.0 (begun.1 ∙ n_is ∙ sym e_is)) begun.2
+
+  known_rows : filter is_known (filter has_begun new.prices) ≡ filter has_begun old.prices
+  known_rows =
+      filter_both is_known has_begun (λ r. has_begun r && is_known r) (λ r. refl) new.prices
+      ∙ sym (filter_both has_begun (λ r. begins r && is_known r) (λ r. has_begun r && is_known r) (λ r. swapped (begins r) (is_known r) (has_begun r) (begins_then r)) new.prices)
+      ∙ ap (filter has_begun) same
+      ∙ filter_twice has_begun begins begins_then old.prices
+
+  still_latest : (p : PriceRow) → price_in_force old sku before ≡ Some p → price_in_force new sku before ≡ Some p
+  still_latest p e = latest_known (λ r. has_begun r ≡ true) is_known are_apart (filter has_begun new.prices) (filter_passes has_begun new.prices) p (ap latest known_rows ∙ e)
 
 module _ (day : ℤ) (old new : Sheet) (longer : IsLonger day old new) where
   pub goes_on : GoesOnFrom day old new
-  goes_on = goes_on_by day old new longer.base longer.before longer.commitments
+  goes_on = record {
+    base = longer.base;
+    prices = λ sku before p early e. ap (option_map without_from) (still_latest day old new longer.before sku before early p e);
+    commitments = found_commitments old new longer.commitments;
+  }
 
   pub named : (id name : List ℕ) → region_named old id ≡ Some name → NamesAlike old new id
   named id name e = by_region (region_with old id) refl e ∙ sym e
@@ -95,10 +222,6 @@ module _ (day : ℤ) (old new : Sheet) (longer : IsLonger day old new) where
           ap (region_named new) (sym (same_read x.id id it.1)) ∙ it.0 ∙ f
 
   -- ---- what the old sheet prices
-
-  there : {A : Type 0} (o : Option A) → is_some o ≡ true → (x : A) × (o ≡ Some x)
-  there None e = absurd (cc)
-  there (Some x) e = (x, refl)
 
   still_in_force : (sku : List ℕ) (at : ℤ) (p : PriceRow) → price_in_force old sku at ≡ Some p → is_some (price_in_force new sku at) ≡ true
   still_in_force sku at p e = by_new (price_in_force new sku at) refl

@@ -1,5 +1,5 @@
 -- A sheet of January 2025, and a longer one from February on, which the worked examples speak of.
-use Rattle.std.proofs.Common.{◌≡◌, true, [], ◌∷◌, refl, arith, Some, ℤ, pos, codes}
+use Rattle.std.proofs.Common.{◌≡◌, true, [], ◌∷◌, length, refl, arith, Some, ℤ, pos, codes}
 use Rattle.std.specs.Prelude.{◌&&◌, All, IsTrue}
 use Rattle.std.specs.Option.{is_some}
 use Rattle.std.proofs.lemmas.List.Elements.{All-nil, All-cons}
@@ -10,7 +10,7 @@ use Rattle.metering_model.specs.SheetRules.{IsDay, IsPriceRow, IsCommitment, IsR
 use Rattle.metering_model.specs.PriceInForce.{price_in_force, commitment_with, region_named}
 use Rattle.metering_model.proofs.Samples.{january_2025, cpu, ops, cpu_plan, cm_1, europe, sheet_1}
 use Rattle.metering_model.proofs.WorkedSheets.{sheet_1_is_a_sheet}
-use Rattle.sheet_laws.specs.Longer.{GoesOnFrom, IsLonger}
+use Rattle.sheet_laws.specs.Longer.{GoesOnFrom, IsLonger, rows_before}
 use Rattle.sheet_laws.proofs.LongerSheets.{goes_on_by}
 
 -- the first days of February and of May
@@ -74,6 +74,33 @@ it_is_longer = record {
 
     Named : Region → Type 0
     Named x = region_named new_sheet x.id ≡ Some x.name
+
+-- Rows may also begin in months that are over, where the old sheet has no price: of a SKU that it lacks, and of CPU time before its first
+-- row. What was refused then may be charged.
+abbrev with_early_rows : Sheet
+with_early_rows = record old_sheet { prices = record cpu { from = pos 19_000; price_id = codes "cpu-0" } ∷ cpu ∷ ops ∷ cpu_plan ∷ record gpu { from = cpu.from } ∷ [] }
+
+with_early_rows_it_is_longer : IsLonger february_1 old_sheet with_early_rows
+with_early_rows_it_is_longer = record {
+  base = refl;
+  before = refl;
+  still = All-cons Still cpu (ops ∷ cpu_plan ∷ []) refl (All-cons Still ops (cpu_plan ∷ []) refl (All-cons Still cpu_plan [] refl (All-nil Still)));
+  commitments = All-cons Found cm_1 [] refl (All-nil Found);
+  regions = All-cons Named europe [] refl (All-nil Named);
+}
+  where
+    Still : PriceRow → Type 0
+    Still p = is_some (price_in_force with_early_rows p.sku p.from) ≡ true
+
+    Found : Commitment → Type 0
+    Found c = commitment_with with_early_rows c.id ≡ Some c
+
+    Named : Region → Type 0
+    Named x = region_named with_early_rows x.id ≡ Some x.name
+
+-- two rows more from before February
+they_are_more : (length (rows_before february_1 old_sheet) ≡ 3) × (length (rows_before february_1 with_early_rows) ≡ 5)
+they_are_more = (refl, refl)
 
 -- ---- both are sheets
 

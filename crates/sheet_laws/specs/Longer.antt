@@ -1,5 +1,5 @@
 -- Sheets that go on from another: each price that was in force before a day, and each commitment, is there as it was.
-use Rattle.std.specs.Prelude.{◌≡◌, ℕ, true, List, filter, All, Some, ℤ, pos, ◌<ℤ◌, ◌*ℤ◌, int_lt, option_map}
+use Rattle.std.specs.Prelude.{◌≡◌, ◌&&◌, ℕ, true, List, filter, All, Some, ℤ, pos, ◌<ℤ◌, ◌*ℤ◌, int_lt, option_map}
 use Rattle.std.specs.Option.{is_some}
 use Rattle.metering_model.specs.Batch.{Reading}
 use Rattle.metering_model.specs.Sheet.{PriceRow, Commitment, Sheet}
@@ -41,11 +41,17 @@ NamesAllAlike old new h = (at : Position) (r : Reading) → reading_at h at ≡ 
 abbrev pub rows_before : ℤ → Sheet → List PriceRow
 rows_before day sheet = filter (λ p. int_lt p.from day) sheet.prices
 
--- Both have the same rows from before the day. Where a row of the old one begins, the new one has a price in force. Each commitment
--- and each region of the old one is found in the new by its id.
+-- Of these, those of the new sheet that begin where the old one has a price of their SKU in force. One that begins where it has none
+-- prices what was refused.
+abbrev pub rows_of_known : ℤ → Sheet → Sheet → List PriceRow
+rows_of_known day old new = filter (λ p. int_lt p.from day && is_some (price_in_force old p.sku p.from)) new.prices
+
+-- Both have the same rows from before the day, but for those of the new one that begin before any of their SKU in the old. Where a
+-- row of the old one begins, the new one has a price in force. Each commitment and each region of the old one is found in the new by
+-- its id.
 pub record IsLonger (day : ℤ) (old new : Sheet) : Type 0 where
   pub base : new.base ≡ old.base
-  pub before : rows_before day new ≡ rows_before day old
+  pub before : rows_of_known day old new ≡ rows_before day old
   pub still : All (λ p. is_some (price_in_force new p.sku p.from) ≡ true) old.prices
   pub commitments : All (λ c. commitment_with new c.id ≡ Some c) old.commitments
   pub regions : All (λ x. region_named new x.id ≡ Some x.name) old.regions

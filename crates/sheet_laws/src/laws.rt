@@ -136,9 +136,9 @@ pub fn rated()
         AllZip (StayAlike day old new (put [] b)) (placed_rows_alone old issuer b period) (placed_rows_alone new issuer b period) }
 {}
 
-/// How a sheet comes to go on from another: it has the same price rows from before the day, a price in force where a row of the
-/// old one begins, and each of its commitments and regions. So it has all that the other laws ask of two sheets, but that a region
-/// which the old one does not name is not named by it either.
+/// How a sheet comes to go on from another: it has the same price rows from before the day, but for any that begin before all of
+/// their SKU in the old one, a price in force where a row of the old one begins, and each of its commitments and regions. So it has
+/// all that the other laws ask of two sheets, but that a region which the old one does not name is not named by it either.
 pub fn longer()
     ensures goes_on { (day : ℤ) (old new : Sheet) → IsLonger day old new → GoesOnFrom day old new }
     ensures priced { (day : ℤ) (old new : Sheet) → IsLonger day old new → PricesAllOf old new }
