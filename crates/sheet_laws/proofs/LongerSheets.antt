@@ -1,11 +1,11 @@
 -- A sheet with more rows goes on from the one that it had been, and prices all that it did.
-use Rattle.std.proofs.Common.{◌≡◌, ℕ, Bool, true, false, not, ◌&&◌, ◌||◌, List, [], ◌∷◌, filter, refl, sym, ap, subst, ◌∙◌, inl, inr, Option, Some, None, ℤ, ◌<ℤ◌, ◌≤ℤ◌, arith, option_map}
+use Rattle.std.proofs.Common.{◌≡◌, ℕ, Bool, true, false, not, ◌&&◌, ◌||◌, List, [], ◌∷◌, filter, refl, sym, ap, subst, ◌∙◌, inl, inr, Option, Some, None, ℤ, ◌<ℤ◌, ◌≤ℤ◌, arith, option_map, Contains}
 use Rattle.std.specs.Prelude.{All, find, int_le, int_lt, if◌then◌else◌}
 use Rattle.std.specs.Option.{is_some}
 use Rattle.std.proofs.lemmas.Bool.{and_parts, cond-true, cond-false, cases_Bool}
 use Rattle.std.proofs.lemmas.Int.{ints}
 use Rattle.std.proofs.lemmas.Option.{same_Some, none-some}
-use Rattle.std.proofs.lemmas.List.Elements.{All-nil, All-cons, All-head, All-tail, All-contains, All-filter, filter_passes}
+use Rattle.std.proofs.lemmas.List.Elements.{All-nil, All-cons, All-head, All-tail, All-contains, All-contains_itself, All-weaker, All-filter, filter_passes}
 use Rattle.metering_model.specs.Dates.{day_of}
 use Rattle.metering_model.specs.Batch.{is_priced}
 use Rattle.metering_model.specs.BatchReading.{is_same}
@@ -47,6 +47,12 @@ filter_both {A} p q r both (x ∷ xs) = by_tests (q x) (p x) (r x) (both x) refl
     by_tests false b c e f rest = rest ∙ ap (λ t. if t then x ∷ filter r xs else filter r xs) e
     by_tests true b c e f rest = ap (λ t. if t then x ∷ filter p (filter q xs) else filter p (filter q xs)) (sym f ∙ e) ∙ ap (λ (ys : List A). if c then x ∷ ys else ys) rest
 
+keeps_all : {A : Type 0} (p : A → Bool) (xs : List A) → All (λ x. p x ≡ true) xs → filter p xs ≡ xs
+keeps_all p [] all = refl
+keeps_all {A} p (x ∷ xs) all =
+    cond-true (p x) (x ∷ filter p xs) (filter p xs) (All-head (λ (y : A). p y ≡ true) x xs all)
+    ∙ ap (λ (ys : List A). x ∷ ys) (keeps_all p xs (All-tail (λ (y : A). p y ≡ true) x xs all))
+
 -- what is found is an element, and passes the test
 found : {A : Type 0} (P : A → Type 0) (test : A → Bool) (xs : List A) (y : A) → All P xs → find test xs ≡ Some y → P y × (test y ≡ true)
 found P test [] y all e = absurd (none-some y e)
@@ -73,29 +79,6 @@ found_commitments : (old new : Sheet) → All (λ c. commitment_with new c.id �
 found_commitments old new commitments id c e =
     let it = found (λ (d : Commitment). commitment_with new d.id ≡ Some d) (λ d. is_same d.id id) old.commitments c commitments e in
     ap (commitment_with new) (sym (same_read c.id id it.1)) ∙ it.0
-
-module _ (day : ℤ) (old new : Sheet) where
-  same_in_force : rows_before day new ≡ rows_before day old → (sku : List ℕ) (before : ℤ) → before <ℤ day → price_in_force new sku before ≡ price_in_force old sku before
-  same_in_force same sku before early =
-      ap latest
-      (sym (filter_twice has_begun begins stricter new.prices) ∙ ap (filter has_begun) same ∙ filter_twice has_begun begins stricter old.prices)
-    where
-      has_begun : PriceRow → Bool
-      has_begun r = is_same r.sku sku && int_le r.from before
-
-      begins : PriceRow → Bool
-      begins r = int_lt r.from day
-
-      stricter : (r : PriceRow) → has_begun r ≡ true → begins r ≡ true
-      stricter r h = begun_before r.from before day (and_parts (is_same r.sku sku) (int_le r.from before) h).1 early
-
-  -- whatever the new sheet has of later rows
-  pub goes_on_by : new.base ≡ old.base → rows_before day new ≡ rows_before day old → All (λ c. commitment_with new c.id ≡ Some c) old.commitments → GoesOnFrom day old new
-  goes_on_by base same commitments = record {
-    base = base;
-    prices = λ sku before p early e. ap (option_map without_from) (same_in_force same sku before early ∙ e);
-    commitments = found_commitments old new commitments;
-  }
 
 -- ---- the latest of rows of which some begin before all others
 
@@ -204,13 +187,48 @@ module _ (day : ℤ) (old new : Sheet) (same : rows_of_known day old new ≡ row
   still_latest : (p : PriceRow) → price_in_force old sku before ≡ Some p → price_in_force new sku before ≡ Some p
   still_latest p e = latest_known (λ r. has_begun r ≡ true) is_known are_apart (filter has_begun new.prices) (filter_passes has_begun new.prices) p (ap latest known_rows ∙ e)
 
+itself : (a : ℤ) → a ≤ℤ a
+itself a = grind (arith, ints)
+
+-- where a row begins, a price of its SKU is in force
+known_itself : (sheet : Sheet) → All (λ r. is_some (price_in_force sheet r.sku r.from) ≡ true) sheet.prices
+known_itself sheet =
+    All-weaker (Contains sheet.prices) (λ (r : PriceRow). is_some (price_in_force sheet r.sku r.from) ≡ true) (λ r has. by_price r has (price_in_force sheet r.sku r.from) refl) sheet.prices
+    (All-contains_itself sheet.prices)
+  where
+    by_price : (r : PriceRow) → Contains sheet.prices r → (o : Option PriceRow) → price_in_force sheet r.sku r.from ≡ o → is_some o ≡ true
+    by_price r has (Some q) is = refl
+    by_price r has None is =
+        absurd (never r.from r.from (itself r.from) (All-contains (λ (q : PriceRow). q.sku ≡ r.sku → r.from <ℤ q.from) sheet.prices r (none_in_force r.sku r.from sheet is) has refl))
+
+module _ (day : ℤ) (old new : Sheet) where
+  going_on : new.base ≡ old.base → rows_of_known day old new ≡ rows_before day old → All (λ c. commitment_with new c.id ≡ Some c) old.commitments → GoesOnFrom day old new
+  going_on base known commitments = record {
+    base = base;
+    prices = λ sku before p early e. ap (option_map without_from) (still_latest day old new known sku before early p e);
+    commitments = found_commitments old new commitments;
+  }
+
+  -- the same rows from before the day, and none besides
+  same_known : rows_before day new ≡ rows_before day old → rows_of_known day old new ≡ rows_before day old
+  same_known same =
+      sym (filter_both is_known begins (λ r. begins r && is_known r) (λ r. refl) new.prices)
+      ∙ ap (filter is_known) same
+      ∙ keeps_all is_known (filter begins old.prices) (All-filter begins (λ (r : PriceRow). is_known r ≡ true) old.prices (known_itself old))
+    where
+      is_known : PriceRow → Bool
+      is_known r = is_some (price_in_force old r.sku r.from)
+
+      begins : PriceRow → Bool
+      begins r = int_lt r.from day
+
+  -- whatever the new sheet has of later rows
+  pub goes_on_by : new.base ≡ old.base → rows_before day new ≡ rows_before day old → All (λ c. commitment_with new c.id ≡ Some c) old.commitments → GoesOnFrom day old new
+  goes_on_by base same commitments = going_on base (same_known same) commitments
+
 module _ (day : ℤ) (old new : Sheet) (longer : IsLonger day old new) where
   pub goes_on : GoesOnFrom day old new
-  goes_on = record {
-    base = longer.base;
-    prices = λ sku before p early e. ap (option_map without_from) (still_latest day old new longer.before sku before early p e);
-    commitments = found_commitments old new longer.commitments;
-  }
+  goes_on = going_on day old new longer.base longer.before longer.commitments
 
   pub named : (id name : List ℕ) → region_named old id ≡ Some name → NamesAlike old new id
   named id name e = by_region (region_with old id) refl e ∙ sym e

@@ -7,6 +7,7 @@ use Rattle.jiff_core.specs.Calendar.{days_from_civil, day_count, days_of_years, 
 use Rattle.metering_model.specs.NumberText.{worth_of, decimals_of}
 use Rattle.metering_model.specs.Dates.{period_end}
 use Rattle.metering_model.specs.Sheet.{Sheet}
+use Rattle.metering_model.specs.Holding.{Holding}
 use Rattle.metering_model.specs.World.{Event, Journal, Deliver, Start, Export, Snapshot, Reply, Exported, offer_of, opening}
 use Rattle.metering_model.specs.Step.{play}
 use Rattle.metering_model.specs.Transcript.{transcript}
@@ -14,10 +15,11 @@ use Rattle.metering_model.specs.Schedule.{lines_text}
 use Rattle.metering_model.proofs.Samples.{issuer_1}
 use Rattle.group_laws.proofs.Agreed.{element_of}
 use Rattle.group_laws.proofs.EveryRun.{contains_at, holds_after}
-use Rattle.sheet_laws.specs.Longer.{day_start}
+use Rattle.sheet_laws.specs.Longer.{NamesAllAlike, day_start}
 use Rattle.sheet_laws.specs.Runs.{AreAllPriced}
 use Rattle.sheet_laws.proofs.LongerSheets.{goes_on, prices_all}
-use Rattle.sheet_laws.proofs.Premises.{all_priced, alike_exports}
+use Rattle.sheet_laws.proofs.Months.{names_of_export}
+use Rattle.sheet_laws.proofs.Premises.{all_priced, named_alike, alike_exports}
 use Rattle.sheet_laws.proofs.SameTranscripts.{transcript_stays}
 use Rattle.sheet_laws.proofs.TwoRuns.{still_priced}
 use Rattle.sheet_laws.proofs.TwoSheets.{february_1, old_sheet, new_sheet, it_is_longer}
@@ -65,3 +67,14 @@ one_transcript =
       subst (λ p. period_end old_sheet.base p ≤ℤ day_start february_1) (sym (is_of_january s has)) january_is_over,
       alike_exports 1 0 1 old_sheet new_sheet issuer_1 one_month (january_export old_sheet) january_is_exported regions_are_named_alike s has (is_of_january s has),
     ))
+
+-- all that was journaled is of regions that are named alike, so each export is
+abbrev journals_of_one_month : Holding
+journals_of_one_month = (play (opening 1 0 1 old_sheet issuer_1) one_month).1.journals
+
+journals_are_named_alike : NamesAllAlike old_sheet new_sheet journals_of_one_month
+unfolding days_from_civil day_count days_of_years days_of_months worth_of decimals_of digits
+journals_are_named_alike = named_alike old_sheet new_sheet journals_of_one_month refl
+
+each_export_is_named_alike : (s : Snapshot) → Contains (replies_under old_sheet) (Exported s) → NamesAllAlike old_sheet new_sheet s.batches
+each_export_is_named_alike s has = names_of_export 1 0 1 old_sheet issuer_1 one_month s has new_sheet journals_are_named_alike

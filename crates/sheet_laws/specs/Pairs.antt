@@ -40,8 +40,8 @@ abbrev pub IsPricedAlike : Sheet → Sheet → Reading → Type 0
 IsPricedAlike old new r = option_map without_from (price_of new r) ≡ option_map without_from (price_of old r)
 
 -- Both rows stem from one reading, and have the same columns but for what its price gives and its region's name. What its price
--- gives is the same where both sheets price the reading alike, as they do where it starts before the day, and the region's name
--- where both sheets name it alike.
+-- gives is the same where both sheets price the reading alike, as they do where it starts before the day or asks for no price, and
+-- the region's name where both sheets name it alike.
 pub record StayAlike (day : ℤ) (old new : Sheet) (h : Holding) (x y : PlacedRow) : Type 0 where
   pub place : y.place ≡ x.place
   pub reading : Reading

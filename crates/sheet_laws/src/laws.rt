@@ -98,9 +98,11 @@ pub fn months()
 
 /// Of any month, journals that meet the rules under both sheets up to the later cut, whatever stands above it, have as many rows
 /// under the one as under the other, at the same places in the same order, and each two of them stay alike: the same row, where
-/// both sheets price its reading alike, as they do where it starts before the day, and its region is named alike, be it new or a
-/// Correction. Priced alike, they differ in the region's name at most, and else in that and in the columns that a price gives.
-/// Where each reading up to the later cut is so, the rows are the same, whatever the new sheet says of the rules.
+/// both sheets price its reading alike and name its region alike, be it new or a Correction. Priced alike are usage and purchases
+/// that start before the day, and credits, taxes and adjustments of any day, which have no price. Rows that are priced alike differ
+/// in the region's name at most, others in that and in the columns that a price gives. Where each reading up to the later cut
+/// starts before the day or has no price, and its region is named alike, the rows are the same, whatever the new sheet says of the
+/// rules.
 pub fn rows()
     ensures pairs { (day : ℤ) (old new : Sheet) → GoesOnFrom day old new → (issuer : Issuer) (h : Holding) (period : ℕ) (from to : Cut) →
         MeetsJournalRules old (up_to to h) → MeetsJournalRules new (up_to to h) →
@@ -113,8 +115,8 @@ pub fn rows()
 {}
 
 /// A batch that is rated by itself, and under neither sheet refused for a price or a commitment, is refused under both or under
-/// neither. Its file is the same bytes where the period ends by the day, or where all its readings start before it, if its regions are
-/// named alike; and of any period its rows under both sheets stay alike, as those of `rows`.
+/// neither. Its file is the same bytes where the period ends by the day, or where all its readings start before it or have no price,
+/// if its regions are named alike; and of any period its rows under both sheets stay alike, as those of `rows`.
 pub fn rated()
     ensures batches { (old new : Sheet) (issuer : Issuer) (text : List ℕ) →
         journaled_in old issuer text ≢ Err Unpriced → journaled_in new issuer text ≢ Err Unpriced →
