@@ -20,7 +20,7 @@ event_of (Start node) = model.Start node
 event_of (Restart node) = model.Restart node
 event_of (Export node period) = model.Export node period
 event_of (Keep node) = model.Keep node
-event_of (Revive node offer) = model.Revive node (kept.offer_of offer)
+event_of (Revive node offer) = model.Revive node (kept.kept_offer offer)
 
 -- whether the offer is of a batch, which a copy shares
 abbrev pub is_batch : model.Offer → Bool

@@ -5,7 +5,7 @@ ghost use Rattle.metering_model.specs.World.{Keep, Restart, Revive};
 ghost use Rattle.metering_model.specs.Step.{on_revival, step};
 ghost use Rattle.group_events.specs.Replies.{reply_of};
 ghost use Rattle.group_state.specs.Reached.{IsReached};
-ghost use Rattle.group_events.specs.Offers.{offer_of};
+ghost use Rattle.group_events.specs.Offers.{kept_offer};
 
 use crate::GroupState;
 use group_events::{KeptOffer, Reply};
@@ -26,8 +26,8 @@ impl GroupState {
     /// Why a node is not revived from what was offered, if it is not.
     fn revival_refusal(&self, node: u8, offer: &KeptOffer) -> Option<Refusal>
         requires reached { IsReached self.now }
-        ensures { MatchOption result (step self.now (Revive node (offer_of offer.now)) ≡ step self.now (Restart node))
-            (λ refusal. on_revival self.now node (offer_of offer.now) ≡ Err refusal) }
+        ensures { MatchOption result (step self.now (Revive node (kept_offer offer.now)) ≡ step self.now (Restart node))
+            (λ refusal. on_revival self.now node (kept_offer offer.now) ≡ Err refusal) }
     {
         let Some(kept_by) = self.node(node) else {
             return Some(Refusal::NoNode);
@@ -51,7 +51,7 @@ impl GroupState {
     /// lost. So what was read is what the node has, which stays where it is. No memory is taken.
     pub fn revive(&mut self, alloc: Global, node: u8, offer: &KeptOffer) -> Reply
         requires reached { IsReached self.old }
-        ensures { (reply_of result, self.new) ≡ step self.old (Revive node (offer_of offer.now)) }
+        ensures { (reply_of result, self.new) ≡ step self.old (Revive node (kept_offer offer.now)) }
     {
         if let Some(refusal) = self.revival_refusal(node, offer) {
             return Reply::Refused(refusal);

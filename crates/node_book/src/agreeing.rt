@@ -3,7 +3,7 @@
 ghost use Rattle.std.specs.Prelude.{◌≡◌, ◌↔◌, ℕ, ◌+◌, length, map, Some, slice_get, true, IsTrue};
 ghost use Rattle.metering_model.specs.World.{Journal, offer_of, opening};
 ghost use Rattle.metering_model.specs.History.{Entry as ModelEntry};
-ghost use Rattle.group_events.specs.Events.{event_of, offer_of as kept_offer_of};
+ghost use Rattle.group_events.specs.Events.{event_of, offer_of as journaled_offer};
 ghost use Rattle.group_events.specs.Replies.{reply_of};
 ghost use Rattle.node_book.specs.Books.{Log as ModelLog, node_total, opened};
 ghost use Rattle.node_book.specs.Kept.{entry_of};
@@ -62,7 +62,7 @@ fn is_told(history: &[Entry], who: Worker, done: &[Done]) -> bool
 
 /// Whether an offer is what comes of that text.
 fn is_offer_of(offer: &Offer, text: &[u8]) -> bool
-    ensures { IsTrue result ↔ (offer_of text.now ≡ kept_offer_of offer.now) }
+    ensures { IsTrue result ↔ (offer_of text.now ≡ journaled_offer offer.now) }
 {
     match offer {
         Offer::Good(batch) => batch.bytes() == text,

@@ -12,9 +12,9 @@ use Rattle.node_kept.specs.declared.offers.KeptOffer.{KeptOffer}
 use Rattle.node_kept.specs.declared.offers.KeptOffer.TheVariants.{Good, Bad}
 
 -- what was read by its text, and what could not be read by its fault
-abbrev pub offer_of : KeptOffer → model.KeptOffer
-offer_of (Good kept) = model.KeptGood (kept_text (arc_value kept))
-offer_of (Bad code line) = model.KeptBad (record { code = code; line = line })
+abbrev pub kept_offer : KeptOffer → model.KeptOffer
+kept_offer (Good kept) = model.KeptGood (kept_text (arc_value kept))
+kept_offer (Bad code line) = model.KeptBad (record { code = code; line = line })
 
 -- whether the offer is of what was read, which a copy shares
 abbrev pub is_read : model.KeptOffer → Bool

@@ -2,7 +2,7 @@
 
 ghost use Rattle.std.specs.Prelude.{◌≡◌, ◌↔◌, true, IfErr, IfOk, IsTrue};
 ghost use Rattle.metering_model.specs.KeptText.{kept_offer_of};
-ghost use Rattle.node_kept.specs.Offers.{BeginsWithHead, is_read, offer_of};
+ghost use Rattle.node_kept.specs.Offers.{BeginsWithHead, is_read, kept_offer};
 
 use crate::faults::KeptFault;
 use crate::kept::Kept;
@@ -23,7 +23,7 @@ impl KeptOffer {
     /// Reads a text. An error says that there was no memory, and comes only of a text that begins with a head line; the text is
     /// lost then.
     pub fn read(alloc: Global, text: Vec<u8>) -> Result<KeptOffer, AllocError>
-        ensures read { IfOk result (λ offer. offer_of offer ≡ kept_offer_of text.items) }
+        ensures read { IfOk result (λ offer. kept_offer offer ≡ kept_offer_of text.items) }
         ensures want { IfErr result (λ _. BeginsWithHead text.items) }
     {
         match Kept::read(alloc, &text) {
@@ -39,8 +39,8 @@ impl KeptOffer {
     /// The same offer once more: what was read is shared, and a fault is copied. An error says that what was read cannot be shared
     /// once more.
     pub fn copy(&self) -> Result<KeptOffer, AllocError>
-        ensures copy { IfOk result (λ copy. offer_of copy ≡ offer_of self.now) }
-        ensures want { IfErr result (λ _. is_read (offer_of self.now) ≡ true) }
+        ensures copy { IfOk result (λ copy. kept_offer copy ≡ kept_offer self.now) }
+        ensures want { IfErr result (λ _. is_read (kept_offer self.now) ≡ true) }
     {
         match self {
             KeptOffer::Good(kept) => match Arc::try_clone(kept) {
@@ -56,7 +56,7 @@ impl KeptOffer {
 
     /// Whether both are of the same text, or have the same fault. No memory is taken.
     pub fn same(&self, other: &KeptOffer) -> bool
-        ensures { IsTrue result ↔ (offer_of self.now ≡ offer_of other.now) }
+        ensures { IsTrue result ↔ (kept_offer self.now ≡ kept_offer other.now) }
     {
         match (self, other) {
             (KeptOffer::Good(one), KeptOffer::Good(two)) => one.same(two),

@@ -10,7 +10,7 @@ pub use records::{Reading, Record, read_exact, read_plain, read_record};
 pub use spans::field_spans;
 pub use stamps::StampReader;
 pub use tags::Tags;
-pub use utc_calendar::{Day, Month, Stamp};
+pub use utc_calendar::Stamp;
 
 mod exact;
 mod field_rules;

@@ -5,7 +5,7 @@ ghost use Rattle.metering_model.specs.Schedule as model;
 ghost use Rattle.metering_model.specs.World as world;
 ghost use Rattle.metering_model.specs.KeptText.{kept_offer_of};
 ghost use Rattle.group_events.specs.Events.{event_of, offer_of};
-ghost use Rattle.group_events.specs.Offers.{offer_of as kept_offer};
+ghost use Rattle.group_events.specs.Offers.{kept_offer};
 ghost use Rattle.schedule_reader.specs.Events.{HasWholeLines, planned_of};
 
 use group_events::{Event, KeptOffer, Offer};

@@ -7,8 +7,8 @@ use counted_io::Counted;
 use focus_csv::{CsvFault, write_file};
 use focus_row::{FocusRow, RowFault, rows_of};
 use price_sheet::{Issuer, Place, PriceRow, Sheet, SheetFault};
-use record_view::{Day, Month};
 use std::alloc::{AllocError, Global};
+use utc_calendar::{Day, Month};
 use worked_texts::{AMENDED, HEADER, LINE, READ, SHEET};
 
 /// The list price of a row, and for what.

@@ -2,10 +2,10 @@
 
 use batch_store::{Cut, Period, RecordPlace, Store};
 use batch_view::{Offer, OwnedBatch};
-use record_view::Month;
 use std::alloc::{AllocError, Global};
 use std::sync::Arc;
 use std::test::Fail;
+use utc_calendar::Month;
 use worked_texts::{AMENDED, READ};
 
 /// Two amendments in turn, of which the last gives back the value that was read.
