@@ -48,9 +48,9 @@ none_answer period known left read ends short =
     if_known known left came it (λ input. file_in period input ≡ Err fault.NoFile)
     (short_answer period it.input few ∙ ap answer_of (ap (first_file period) whole ∙ ends.none))
 
-module _ (period count : ℕ) (known mid : Option (List ℕ)) (ahead : List ℕ) (read : ℕ) (found : Finds period count [] ahead 0 read known mid) where
+module _ {period count : ℕ} {known mid : Option (List ℕ)} {ahead : List ℕ} {read : ℕ} (found : Finds period count [] ahead 0 read known mid) where
   -- bytes that came behind
-  module _ (left : Option (List ℕ)) (rest : List ℕ) (read' : ℕ) (taken : List ℕ) (more : Takes ahead rest read read' mid left taken) where
+  module _ {left : Option (List ℕ)} {rest : List ℕ} {read' : ℕ} {taken : List ℕ} (more : Takes ahead rest read read' mid left taken) where
     abbrev pub all_came : List ℕ
     all_came = found.takes.came ++ more.came
 
@@ -64,19 +64,19 @@ module _ (period count : ℕ) (known mid : Option (List ℕ)) (ahead : List ℕ)
     all_seen = seen period count known mid left ahead read read' found rest taken more
 
   -- copying stopped
-  pub front_at_stop : (left : Option (List ℕ)) (read' : ℕ) (old new : Option (List ℕ)) → Stops count ahead read read' mid left old new → AppendsFront known period old new
-  front_at_stop left read' old new stops =
-      let came = all_came left stops.rest read' (lines_text stops.lines) stops.takes in
-      let it = input_of known left came (all_consumed left stops.rest read' (lines_text stops.lines) stops.takes) in
+  pub front_at_stop : {left : Option (List ℕ)} {read' : ℕ} {old new : Option (List ℕ)} → Stops count ahead read read' mid left old new → AppendsFront known period old new
+  front_at_stop {left} {read'} {old} {new} stops =
+      let came = all_came stops.takes in
+      let it = input_of known left came (all_consumed stops.takes) in
       part_seen period count known mid left ahead read read' found stops.lines stops.rest it.rest it.input old new it.is_input stops.whole stops.few
-      (it.joined ∙ ap (λ t. t ++ it.rest) (all_seen left stops.rest read' (lines_text stops.lines) stops.takes)) stops.appended
+      (it.joined ∙ ap (λ t. t ++ it.rest) (all_seen stops.takes)) stops.appended
 
-  module _ (lacking : ℕ) (left : Option (List ℕ)) (rest : List ℕ) (read' : ℕ) (old new : Option (List ℕ)) (copies : Copies count lacking ahead rest read read' mid left old new) where
+  module _ {lacking : ℕ} {left : Option (List ℕ)} {rest : List ℕ} {read' : ℕ} {old new : Option (List ℕ)} (copies : Copies count lacking ahead rest read read' mid left old new) where
     abbrev pub copied : List ℕ
-    copied = all_came left rest read' (lines_text copies.lines) copies.takes
+    copied = all_came copies.takes
 
     copied_seen : copied ≡ ((lines_text found.lines ++ line found.above) ++ lines_text copies.lines) ++ rest
-    copied_seen = all_seen left rest read' (lines_text copies.lines) copies.takes
+    copied_seen = all_seen copies.takes
 
     few : length copies.lines ≤ count
     few = let counted = copies.counted in omega (arith, counted)
@@ -85,16 +85,16 @@ module _ (period count : ℕ) (known mid : Option (List ℕ)) (ahead : List ℕ)
     pub front_behind : (last : Option (List ℕ)) (came : List ℕ) → Consumes left last came → AppendsFront known period old new
     front_behind last came consumed =
         let all = copied ++ came in
-        let it = input_of known last all (Consumes-trans known left last copied came (all_consumed left rest read' (lines_text copies.lines) copies.takes) consumed) in
+        let it = input_of known last all (Consumes-trans known left last copied came (all_consumed copies.takes) consumed) in
         part_seen period count known mid left ahead read read' found copies.lines rest (came ++ it.rest) it.input old new it.is_input copies.whole few
         (it.joined ∙ append_assoc copied came it.rest ∙ ap (λ t. t ++ (came ++ it.rest)) copied_seen) (some_of_all old new (lines_text copies.lines) copies.appended)
 
     pub behind_consumed : (last : Option (List ℕ)) (came : List ℕ) → Consumes left last came → Consumes known last (copied ++ came)
-    behind_consumed last came consumed = Consumes-trans known left last copied came (all_consumed left rest read' (lines_text copies.lines) copies.takes) consumed
+    behind_consumed last came consumed = Consumes-trans known left last copied came (all_consumed copies.takes) consumed
 
     pub behind_counted : (came : List ℕ) (read'' : ℕ) → read'' ≡ read' + length came → length (copied ++ came) ≡ read''
     behind_counted came read'' counted =
-        let size = all_counted left rest read' (lines_text copies.lines) copies.takes in omega (arith, size, counted, length-append copied came)
+        let size = all_counted copies.takes in omega (arith, size, counted, length-append copied came)
 
     -- lines lack
     torn_first : 0 < lacking → IsEnded rest left → (input : List ℕ) → input ≡ copied → first_file period input ≡ TornFile (lines_text copies.lines)
@@ -103,10 +103,10 @@ module _ (period count : ℕ) (known mid : Option (List ℕ)) (ahead : List ℕ)
 
     pub torn_answer : 0 < lacking → IsEnded rest left → read' ≤ 4_294_967_296 → AppendsPart known period old new
     torn_answer some ended short =
-        let it = input_of known left copied (all_consumed left rest read' (lines_text copies.lines) copies.takes) in
+        let it = input_of known left copied (all_consumed copies.takes) in
         let whole : it.input ≡ copied = all_of known left copied it ended.1 in
         let first = torn_first some ended it.input whole in
-        let fits : length it.input ≤ 4_294_967_296 = let one = ap length whole in let two = all_counted left rest read' (lines_text copies.lines) copies.takes in omega (arith, one, two, short) in
+        let fits : length it.input ≤ 4_294_967_296 = let one = ap length whole in let two = all_counted copies.takes in omega (arith, one, two, short) in
         record {
           input = it.input;
           is_input = it.is_input;
@@ -116,9 +116,9 @@ module _ (period count : ℕ) (known mid : Option (List ℕ)) (ahead : List ℕ)
 
     pub torn_refused : 0 < lacking → IsEnded rest left → read' ≤ 4_294_967_296 → IfSome known (λ input. file_in period input ≡ Err fault.Torn)
     torn_refused some ended short =
-        let it = input_of known left copied (all_consumed left rest read' (lines_text copies.lines) copies.takes) in
+        let it = input_of known left copied (all_consumed copies.takes) in
         let whole : it.input ≡ copied = all_of known left copied it ended.1 in
-        let fits : length it.input ≤ 4_294_967_296 = let one = ap length whole in let two = all_counted left rest read' (lines_text copies.lines) copies.takes in omega (arith, one, two, short) in
+        let fits : length it.input ≤ 4_294_967_296 = let one = ap length whole in let two = all_counted copies.takes in omega (arith, one, two, short) in
         if_known known left copied it (λ input. file_in period input ≡ Err fault.Torn) (short_answer period it.input fits ∙ ap answer_of (torn_first some ended it.input whole))
 
     -- none lacks, and the rest was read
@@ -126,10 +126,10 @@ module _ (period count : ℕ) (known mid : Option (List ℕ)) (ahead : List ℕ)
         → (input file : List ℕ) × IsFileOf known period input file × Appends old new file
     whole_answer none last came read'' consumed counted end short =
         let all = copied ++ came in
-        let it = input_of known last all (Consumes-trans known left last copied came (all_consumed left rest read' (lines_text copies.lines) copies.takes) consumed) in
+        let it = input_of known last all (Consumes-trans known left last copied came (all_consumed copies.takes) consumed) in
         let whole : it.input ≡ all = all_of known last all it end in
         let fits : length it.input ≤ 4_294_967_296 =
-        let one = ap length whole in let two = all_counted left rest read' (lines_text copies.lines) copies.takes in let sum = length-append copied came in omega (arith, one, two, sum, counted, short) in
+        let one = ap length whole in let two = all_counted copies.takes in let sum = length-append copied came in omega (arith, one, two, sum, counted, short) in
         let enough : length copies.lines ≡ count = let sum = copies.counted in omega (arith, sum, none) in (
           it.input,
           lines_text copies.lines,
