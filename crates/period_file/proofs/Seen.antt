@@ -8,7 +8,8 @@ use Rattle.std.proofs.lemmas.Bool.Decides.{nat_tests}
 use Rattle.std.proofs.lemmas.List.{length-append, take-append-le}
 use Rattle.std.proofs.Math.Seq.{take-append_seam}
 use Rattle.counted_io.specs.Reading.{ConsumesAtMost}
-use Rattle.counted_io.specs.Writing.{AppendsSome}
+use Rattle.counted_io.specs.Writing.{AppendsPrefix, AppendsSome}
+use Rattle.counted_io.proofs.Prefixes.{prefix_within}
 use Rattle.metering_model.specs.Batch.{lacks}
 use Rattle.metering_model.specs.BatchReading.{Lines, lines_in}
 use Rattle.metering_model.specs.Transcript.{line}
@@ -16,7 +17,7 @@ use Rattle.metering_model.specs.Schedule.{TextLines, lines_text}
 use Rattle.transcript_laws.specs.FirstFiles.{NoFile, TornFile, WholeFile, first_file, first_of_lines, file_of_lines, lines_told, part_of}
 use Rattle.transcript_laws.proofs.TextLaws.{are_whole, lines_append, lines_and_rest, lines_before, whole_both}
 use Rattle.transcript_laws.proofs.FirstFileLaws.{file_is_whole, file_is_torn, first_behind, part_begins, told_first}
-use Rattle.period_file.specs.Files.{AppendsFront, answer_of, file_in}
+use Rattle.period_file.specs.Files.{AppendsFront, AppendsLess, answer_of, file_in}
 use Rattle.period_file.specs.declared.faults.FileFault.TheVariants as fault
 use Rattle.period_file.specs.Inner.Reading.{Takes, Finds}
 
@@ -142,6 +143,15 @@ module _ (period count : ℕ) (known mid left : Option (List ℕ)) (ahead : List
       let begins = part_begins found.number lines (lines_in (rest ++ behind)).lines (omega (arith, few, told)) in
       let part : part_of (first_file period input) ≡ lines_text lines ++ begins.0 = ap part_of (first_of_input lines rest behind input whole is) ∙ begins.1 in
       record { input = input; is_input = is_input; appended = subst (AppendsSome old new) (sym part) (some_longer old new (lines_text lines) begins.0 some) }
+
+  -- or a prefix of them, and not all
+  pub less_seen : (lines : TextLines) (rest behind input : List ℕ) (old new : Option (List ℕ)) → IfSome known (λ bytes. input ≡ bytes) → are_whole lines ≡ true → length lines ≤ count
+      → input ≡ ((above ++ lines_text lines) ++ rest) ++ behind → AppendsPrefix old new (lines_text lines) → AppendsLess known period old new
+  less_seen lines rest behind input old new is_input whole few is less =
+      let told = found.is_count in
+      let begins = part_begins found.number lines (lines_in (rest ++ behind)).lines (omega (arith, few, told)) in
+      let part : part_of (first_file period input) ≡ lines_text lines ++ begins.0 = ap part_of (first_of_input lines rest behind input whole is) ∙ begins.1 in
+      record { input = input; is_input = is_input; appended = subst (AppendsPrefix old new) (sym part) (prefix_within old new (lines_text lines) begins.0 less) }
 
   -- all lines came
   pub whole_seen : (lines : TextLines) (rest behind input : List ℕ) → are_whole lines ≡ true → length lines ≡ count → length input ≤ 4_294_967_296

@@ -14,9 +14,9 @@ use Rattle.metering_model.specs.Schedule.{lines_text}
 use Rattle.metering_model.proofs.Splitting.{list_all_both, lines_give_back}
 use Rattle.byte_text.proofs.LineLemmas.{lines_at_feed, lines_without_feed}
 use Rattle.counted_io.specs.Writing.{AppendsSome, AppendsPrefix}
-use Rattle.counted_io.proofs.Prefixes.{some_behind}
+use Rattle.counted_io.proofs.Prefixes.{prefix_behind}
 use Rattle.transcript_laws.proofs.TextLaws.{are_whole, lines_append, lines_in_whole, rest_in_lacks, whole_both}
-use Rattle.period_file.specs.Inner.Reading.{Takes, IsLineAt, AreInFront, CopiesAhead, StopsAhead, Copies, Stops}
+use Rattle.period_file.specs.Inner.Reading.{Takes, IsLineAt, AreInFront, CopiesAhead, StopsAhead, Copies, Stops, StopsShort}
 
 -- ---- bytes that came, and those that were taken
 
@@ -180,7 +180,8 @@ stops_at_read asked lacking a b c r s t l m n u v before reads = record {
     take_whole xs = ap (take (length xs)) (sym (append-nil xs)) ∙ take-append_seam xs []
 
 -- or a write
-pub stops_at_write : (asked lacking : ℕ) (a b c : List ℕ) (r s t : ℕ) (l m n u v w : Option (List ℕ)) → Copies asked lacking a b r s l m u v → Takes b c s t m n [] → StopsAhead lacking c v w → Stops asked a r t l n u w
+pub stops_at_write : (asked lacking : ℕ) (a b c : List ℕ) (r s t : ℕ) (l m n u v w : Option (List ℕ)) → Copies asked lacking a b r s l m u v → Takes b c s t m n [] → StopsAhead lacking c v w
+    → StopsShort asked a r t l n u w
 stops_at_write asked lacking a b c r s t l m n u v w before reads ahead = record {
   lines = before.lines ++ ahead.lines;
   rest = ahead.rest;
@@ -189,7 +190,20 @@ stops_at_write asked lacking a b c r s t l m n u v w before reads ahead = record
   takes =
       subst (Takes a ahead.rest r t l n) (ap (λ t. t ++ lines_text ahead.lines) (append-nil (lines_text before.lines)) ∙ sym (lines_append before.lines ahead.lines))
       (takes_front a c ahead.rest r t l n (lines_text before.lines ++ []) (lines_text ahead.lines) (takes_on a b c r s t l m n (lines_text before.lines) [] before.takes reads) ahead.split);
-  appended = subst (AppendsSome u w) (sym (lines_append before.lines ahead.lines)) (some_behind u v w (lines_text before.lines) (lines_text ahead.lines) before.appended ahead.appended);
+  appended =
+      subst (AppendsPrefix u w) (sym (lines_append before.lines ahead.lines))
+      (prefix_behind u v w (lines_text before.lines) (lines_text ahead.lines) before.appended ahead.appended);
+}
+
+-- short of all, it is some of it
+pub stops_some : {asked : ℕ} {a : List ℕ} {r t : ℕ} {l n u w : Option (List ℕ)} → StopsShort asked a r t l n u w → Stops asked a r t l n u w
+stops_some {asked} {a} {r} {t} {l} {n} {u} {w} it = record {
+  lines = it.lines;
+  rest = it.rest;
+  whole = it.whole;
+  few = it.few;
+  takes = it.takes;
+  appended = some_of_prefix u w (lines_text it.lines) it.appended;
 }
 
 -- reading on copies nothing

@@ -6,11 +6,11 @@ use Rattle.std.proofs.lemmas.List.{length-append}
 use Rattle.metering_model.specs.Transcript.{line}
 use Rattle.metering_model.specs.Schedule.{lines_text}
 use Rattle.transcript_laws.specs.FirstFiles.{TornFile, first_file, part_of}
-use Rattle.period_file.specs.Files.{AppendsFront, AppendsPart, IsFileOf, IsRefusal, answer_of, file_in}
+use Rattle.period_file.specs.Files.{AppendsFront, AppendsLess, AppendsPart, IsFileOf, IsRefusal, answer_of, file_in}
 use Rattle.period_file.specs.declared.faults.FileFault.{FileFault}
 use Rattle.period_file.specs.declared.faults.FileFault.TheVariants as fault
-use Rattle.period_file.specs.Inner.Reading.{EndsUntold, Takes, Finds, Copies, Stops, IsEnded, IsOfReading, IsOfCopying, IsBeyond}
-use Rattle.period_file.proofs.Seen.{input_of, all_of, if_known, short_answer, long_answer, part_seen, whole_seen, torn_seen, seen, size, some_of_all}
+use Rattle.period_file.specs.Inner.Reading.{EndsUntold, Takes, Finds, Copies, Stops, StopsShort, IsEnded, IsOfReading, IsOfCopying, IsBeyond}
+use Rattle.period_file.proofs.Seen.{input_of, all_of, if_known, short_answer, long_answer, part_seen, whole_seen, torn_seen, seen, size, some_of_all, less_seen}
 
 -- too much was read
 too_long : (period : ℕ) (known left : Option (List ℕ)) (came : List ℕ) → Consumes known left came → 4_294_967_296 < length came → IfSome known (λ input. file_in period input ≡ Err fault.TooLong)
@@ -69,6 +69,14 @@ module _ {period count : ℕ} {known mid : Option (List ℕ)} {ahead : List ℕ}
       let came = all_came stops.takes in
       let it = input_of known left came (all_consumed stops.takes) in
       part_seen period count known mid left ahead read read' found stops.lines stops.rest it.rest it.input old new it.is_input stops.whole stops.few
+      (it.joined ∙ ap (λ t. t ++ it.rest) (all_seen stops.takes)) stops.appended
+
+  -- short of all that was read
+  pub less_at_stop : {left : Option (List ℕ)} {read' : ℕ} {old new : Option (List ℕ)} → StopsShort count ahead read read' mid left old new → AppendsLess known period old new
+  less_at_stop {left} {read'} {old} {new} stops =
+      let came = all_came stops.takes in
+      let it = input_of known left came (all_consumed stops.takes) in
+      less_seen period count known mid left ahead read read' found stops.lines stops.rest it.rest it.input old new it.is_input stops.whole stops.few
       (it.joined ∙ ap (λ t. t ++ it.rest) (all_seen stops.takes)) stops.appended
 
   module _ {lacking : ℕ} {left : Option (List ℕ)} {rest : List ℕ} {read' : ℕ} {old new : Option (List ℕ)} (copies : Copies count lacking ahead rest read read' mid left old new) where

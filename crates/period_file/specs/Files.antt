@@ -1,7 +1,7 @@
 -- What is answered of an input that is asked for a period's file.
 use Rattle.std.specs.Prelude.{◌≡◌, ℕ, nat_le, if◌then◌else◌, List, length, Option, IfSome, Result, Ok, Err}
 use Rattle.std.specs.Io.KnownBytes.{Appends}
-use Rattle.counted_io.specs.Writing.{AppendsSome}
+use Rattle.counted_io.specs.Writing.{AppendsPrefix, AppendsSome}
 use Rattle.transcript_laws.specs.FirstFiles.{FirstFile, NoFile, TornFile, WholeFile, first_file, part_of}
 use Rattle.period_file.specs.declared.faults.FileFault.{FileFault}
 use Rattle.period_file.specs.declared.faults.FileFault.TheVariants as fault
@@ -41,3 +41,9 @@ pub record AppendsFront (known : Option (List ℕ)) (period : ℕ) (old new : Op
   pub input : List ℕ
   pub is_input : IfSome known (λ bytes. input ≡ bytes)
   pub appended : AppendsSome old new (part_of (first_file period input))
+
+-- They grew by a prefix of these bytes, which is not all of them.
+pub record AppendsLess (known : Option (List ℕ)) (period : ℕ) (old new : Option (List ℕ)) : Type 0 where
+  pub input : List ℕ
+  pub is_input : IfSome known (λ bytes. input ≡ bytes)
+  pub appended : AppendsPrefix old new (part_of (first_file period input))

@@ -5,8 +5,8 @@ ghost use Rattle.std.specs.Io.KnownBytes.{Appends, IsAtEnd};
 ghost use Rattle.counted_io.specs.Counts.{Rises, count_after};
 ghost use Rattle.counted_io.specs.Reading.{ConsumesAtMost};
 ghost use Rattle.period_file.specs.Faults.{tells_of_reader, tells_of_writer};
-ghost use Rattle.period_file.specs.Files.{AppendsFront, AppendsPart, IsFileOf, IsRefusal, file_in};
-ghost use Rattle.period_file.specs.Inner.Reading.{Copies, CopiesAhead, EndsUntold, Finds, IsBeyond, IsEnded, IsLineAt, IsOfCopying, IsOfReading, Stops, StopsAhead, Takes};
+ghost use Rattle.period_file.specs.Files.{AppendsFront, AppendsLess, AppendsPart, IsFileOf, IsRefusal, file_in};
+ghost use Rattle.period_file.specs.Inner.Reading.{Copies, CopiesAhead, EndsUntold, Finds, IsBeyond, IsEnded, IsLineAt, IsOfCopying, IsOfReading, Stops, StopsAhead, StopsShort, Takes};
 
 use crate::counts::{next_told, words_above};
 use crate::faults::FileFault;
@@ -84,6 +84,8 @@ fn copy_lines<S: Source, W: Sink>(
     ensures ended { IfOk result (λ lacking. 0 < lacking → IsEnded unread.new.bytes (S.remaining source.new)) }
     ensures stopped { OnErr result (Stops count unread.old.bytes unread.old.read unread.new.read
         (S.remaining source.old) (S.remaining source.new) (W.contents writer.old) (W.contents writer.new)) }
+    ensures short { result ≡ Err FileFault.Write → StopsShort count unread.old.bytes unread.old.read unread.new.read
+        (S.remaining source.old) (S.remaining source.new) (W.contents writer.old) (W.contents writer.new) }
     ensures within { IfOk result (λ lacking. unread.new.read ≤ 4_294_967_296) }
     ensures most { unread.new.read ≤ 4_294_967_297 }
     ensures copying { IfErr result (λ fault. IsOfCopying fault × IsBeyond fault unread.new.read) }
@@ -129,7 +131,8 @@ fn drop_rest<S: Source>(unread: &mut Unread, source: &mut S) -> Result<(), FileF
 /// and nothing else. The rest of the input is read and dropped, and no file stands in memory.
 ///
 /// `NoFile` tells that there is no such line, and then nothing was written; `Torn` that fewer lines follow than it says, and
-/// these were written. An input of more than 4 GiB is `TooLong`. At each other fault some front of the file was written.
+/// these were written. An input of more than 4 GiB is `TooLong`. At each other fault a prefix
+/// of the file was written, or all of it; after `Write` never all.
 pub fn file_text<R: Source, W: Sink>(
     alloc: Global,
     period: Period,
@@ -150,6 +153,10 @@ pub fn file_text<R: Source, W: Sink>(
         (W.contents writer.old) (W.contents writer.new) }
     ensures front { OnErr result (AppendsFront (R.remaining reader.old) period
         (W.contents writer.old) (W.contents writer.new)) }
+
+    // After `Write` it is a prefix of it, and never all.
+    ensures prefix { result ≡ Err FileFault.Write → AppendsLess (R.remaining reader.old) period
+        (W.contents writer.old) (W.contents writer.new) }
 
     // `Read` and `Write` come of one failed call each, and no other call fails.
     ensures read_fault { result ≡ Err FileFault.Read

@@ -2,7 +2,7 @@
 use Rattle.std.specs.Prelude.{◌≡◌, ℕ, ◌+◌, ◌<◌, ◌≤◌, min, true, List, ◌++◌, length, take, drop, Option, Some, None}
 use Rattle.std.specs.List.{list_all}
 use Rattle.std.specs.Io.KnownBytes.{Appends, Consumes, IsAtEnd}
-use Rattle.counted_io.specs.Writing.{AppendsSome}
+use Rattle.counted_io.specs.Writing.{AppendsPrefix, AppendsSome}
 use Rattle.metering_model.specs.Batch.{lacks}
 use Rattle.metering_model.specs.Transcript.{line}
 use Rattle.metering_model.specs.Schedule.{TextLines, lines_text}
@@ -124,14 +124,14 @@ pub record CopiesAhead (count : ℕ) (ahead rest : List ℕ) (old new : Option (
   pub split : ahead ≡ lines_text lines ++ rest
   pub appended : Appends old new (lines_text lines)
 
--- Of at most so many of the lines ahead a prefix was written.
+-- Of at most so many of the lines ahead a prefix was written, and not all of them.
 pub record StopsAhead (most : ℕ) (ahead : List ℕ) (old new : Option (List ℕ)) : Type 0 where
   pub lines : TextLines
   pub rest : List ℕ
   pub whole : list_all (lacks 10) lines ≡ true
   pub few : length lines ≤ most
   pub split : ahead ≡ lines_text lines ++ rest
-  pub appended : AppendsSome old new (lines_text lines)
+  pub appended : AppendsPrefix old new (lines_text lines)
 
 -- Lines were taken and written, fewer by so many than were asked for.
 pub record Copies (asked lacking : ℕ) (ahead rest : List ℕ) (read read' : ℕ) (left left' : Option (List ℕ)) (old new : Option (List ℕ)) : Type 0 where
@@ -149,3 +149,12 @@ pub record Stops (asked : ℕ) (ahead : List ℕ) (read read' : ℕ) (left left'
   pub few : length lines ≤ asked
   pub takes : Takes ahead rest read read' left left' (lines_text lines)
   pub appended : AppendsSome old new (lines_text lines)
+
+-- Copying stopped at a write: of such lines a prefix was written, and not all of them.
+pub record StopsShort (asked : ℕ) (ahead : List ℕ) (read read' : ℕ) (left left' : Option (List ℕ)) (old new : Option (List ℕ)) : Type 0 where
+  pub lines : TextLines
+  pub rest : List ℕ
+  pub whole : list_all (lacks 10) lines ≡ true
+  pub few : length lines ≤ asked
+  pub takes : Takes ahead rest read read' left left' (lines_text lines)
+  pub appended : AppendsPrefix old new (lines_text lines)

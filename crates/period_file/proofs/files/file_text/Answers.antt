@@ -1,10 +1,10 @@
-use Rattle.std.proofs.Common.{◌≡◌, Ok, [], ap, arith}
+use Rattle.std.proofs.Common.{◌≡◌, Ok, [], ap, arith, rules}
 use Rattle.std.proofs.KnownBytes.{Consumes-nil}
 use Rattle.std.proofs.lemmas.Result.{err_from_is_err_and}
 use Rattle.metering_model.specs.Schedule.{lines_text}
 use Rattle.period_file.proofs.Taking.{if_err_weaker, on_err, on_ok_both}
 use Rattle.period_file.proofs.Seen.{any_front, at_most}
-use Rattle.period_file.proofs.Told.{all_came, all_consumed, all_counted, behind_consumed, behind_counted, front_at_stop, front_behind, none_answer, refused_at_copying, refused_at_reading, torn_answer, torn_refused, whole_answer}
+use Rattle.period_file.proofs.Told.{all_came, all_consumed, all_counted, behind_consumed, behind_counted, front_at_stop, front_behind, less_at_stop, none_answer, refused_at_copying, refused_at_reading, torn_answer, torn_refused, whole_answer}
 use Rattle.period_file.proofs.files.file_text.Goals as goal
 
 pub returns-in_err-count-clause-refused : goal.returns-in_err-count-clause-refused
@@ -35,6 +35,11 @@ pub returns-in_err-lacking-clause-front : goal.returns-in_err-lacking-clause-fro
 returns-in_err-lacking-clause-front g c =
     let found = rw (c.new-unread.ensures.bytes, c.new-unread.ensures.read) at (c.in_ok-count.ensures.found c.in-Some.count (ap Ok c.in-Some.is)) in
     on_err c.from_residual-in_err-lacking.result (front_at_stop found c.in_err-lacking.ensures.stopped)
+
+pub returns-in_err-lacking-clause-prefix : goal.returns-in_err-lacking-clause-prefix
+returns-in_err-lacking-clause-prefix g c = λ is.
+    let found = rw (c.new-unread.ensures.bytes, c.new-unread.ensures.read) at (c.in_ok-count.ensures.found c.in-Some.count (ap Ok c.in-Some.is)) in
+    less_at_stop found (c.in_err-lacking.ensures.short (search rules))
 
 pub returns-in_err-lacking-clause-read : goal.returns-in_err-lacking-clause-read
 returns-in_err-lacking-clause-read g c =
