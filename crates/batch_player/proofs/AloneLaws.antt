@@ -18,7 +18,7 @@ use Rattle.metering_model.specs.declared.ChargeClass.TheVariants.{New}
 use Rattle.metering_model.specs.Row.{Row, row}
 use Rattle.metering_model.specs.Rows.{placed_row}
 use Rattle.metering_model.proofs.HoldingLaws.{IsHolding-nil, held-put_same}
-use Rattle.batch_player.specs.RateInput.{rows_alone}
+use Rattle.metering_model.specs.RatedAlone.{rows_alone}
 use Rattle.batch_player.specs.Charges.{Metered, last_value, metered_at, metered_in}
 
 -- an agent's first batch

@@ -27,7 +27,7 @@ use Rattle.metering_model.proofs.ChargeBounds.{charge_within_limits}
 use Rattle.metering_model.proofs.LineFeeds.{line_lacks_feed, spelling_quoted}
 use Rattle.row_laws.specs.Columns.{line_of_row}
 use Rattle.row_laws.proofs.FieldFeeds.{fields_one_line}
-use Rattle.batch_player.specs.RateInput.{file_by}
+use Rattle.metering_model.specs.RatedAlone.{file_by}
 use Rattle.batch_player.specs.Charges.{Metered, last_value, metered_at, metered_in, billed, BillsReading, BillsEach, BillsBatch}
 use Rattle.batch_player.proofs.Amounts.{cost_spelling}
 use Rattle.batch_player.proofs.AloneLaws.{first_batch, first_is, placed_from, place_of, value_alone, row_of_metered, rows_alone_are}

@@ -18,7 +18,7 @@ use Rattle.metering_model.specs.Step.{Outcome, or_bad_batch, on_batch, unless_br
 use Rattle.metering_model.specs.File.{file}
 use Rattle.metering_model.proofs.BatchLaws.{batch_read}
 use Rattle.metering_model.proofs.StepLaws.{step_ok, test_step, ok_same}
-use Rattle.batch_player.specs.RateInput.{world_before, journaled_in, rows_alone, file_by}
+use Rattle.metering_model.specs.RatedAlone.{world_before, journaled_in, rows_alone, file_by}
 
 -- the first rule that a batch breaks which is journaled alone
 abbrev pub broken_alone : Sheet → Batch → Option BrokenRule

@@ -10,7 +10,8 @@ use Rattle.input_sections.specs.Sections.{Unread, whole_of}
 use Rattle.input_sections.specs.RateInput.{RateInput, rate_input_in}
 use Rattle.program_input.specs.declared.faults.PlayFault.{PlayFault}
 use Rattle.program_input.specs.declared.faults.PlayFault.TheVariants.{Schedule, Refused}
-use Rattle.batch_player.specs.RateInput.{or_schedule, or_refused, file_by, rated_file}
+use Rattle.metering_model.specs.RatedAlone.{file_by}
+use Rattle.batch_player.specs.RateInput.{or_schedule, or_refused, rated_file}
 use Rattle.program_input.specs.Faults.{of_sections}
 use Rattle.program_input.proofs.FaultLaws.{first_fails, is_longer, same_section}
 use Rattle.batch_player.specs.Charges.{IsFileOf}

@@ -16,7 +16,8 @@ ghost use Rattle.metering_model.specs.File.{file};
 ghost use Rattle.metering_model.specs.declared.Refusal.{Refusal};
 ghost use Rattle.batch_view.specs.Batches.{batch_of};
 ghost use Rattle.input_sections.specs.declared.faults.ScheduleFault.{ScheduleFault};
-ghost use Rattle.batch_player.specs.RateInput.{file_by, journaled_in, rated_file};
+ghost use Rattle.metering_model.specs.RatedAlone.{file_by, journaled_in};
+ghost use Rattle.batch_player.specs.RateInput.{rated_file};
 ghost use Rattle.batch_player.specs.Charges.{IsFileOf};
 ghost use Rattle.program_input.specs.Faults.{tells_of_reader, tells_of_writer};
 

@@ -20,7 +20,7 @@ use Rattle.metering_model.proofs.LineLaws.{HeadLimits, head_lacks_feed, record_l
 use Rattle.batch_view.proofs.BatchLemmas.{batch_of_is}
 use Rattle.journal_rules.specs.FirstBad.{first_bad}
 use Rattle.input_sections.proofs.CountedLines.{lines_count}
-use Rattle.batch_player.specs.RateInput.{journaled_in}
+use Rattle.metering_model.specs.RatedAlone.{journaled_in}
 use Rattle.batch_player.proofs.JournaledLaws.{bad_target, later_batch, no_batch, taken, unpriced}
 use Rattle.input_check.specs.Checks.{IsFirstRefused, first_records, line_of, line_within, refused_by}
 use Rattle.input_check.proofs.FirstBadRecords.{fewer_are_batch, first_of_batch}

@@ -13,7 +13,7 @@ use Rattle.input_sections.specs.declared.faults.ScheduleFault.TheVariants as sec
 use Rattle.input_sections.specs.RateInput.{RateInput, rate_input_in}
 use Rattle.input_sections.specs.Sections.{Unread, begins_with, left}
 use Rattle.schedule_reader.specs.Schedules.{Preamble, event_in, events_in, preamble_in}
-use Rattle.batch_player.specs.RateInput.{journaled_in}
+use Rattle.metering_model.specs.RatedAlone.{journaled_in}
 use Rattle.answer_words.specs.Words.{section_text}
 use Rattle.input_check.specs.Checks.{line_within, reason, said_behind, said_below, said_of_batch, said_of_events, said_of_fault, said_of_input, said_of_journaled, said_of_rating, said_of_reply, said_of_schedule}
 

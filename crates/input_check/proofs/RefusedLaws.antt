@@ -15,7 +15,8 @@ use Rattle.input_sections.specs.declared.faults.ScheduleFault.{ScheduleFault}
 use Rattle.input_sections.specs.declared.faults.ScheduleFault.TheVariants as section
 use Rattle.schedule_reader.specs.Schedules.{Preamble, ReadSchedule, event_in, events_in, preamble_in, schedule_in}
 use Rattle.schedule_reader.proofs.PreambleLaws.{behind, by_preamble}
-use Rattle.batch_player.specs.RateInput.{journaled_in, or_refused, or_schedule, rated_file, rows_alone}
+use Rattle.metering_model.specs.RatedAlone.{journaled_in, rows_alone}
+use Rattle.batch_player.specs.RateInput.{or_refused, or_schedule, rated_file}
 use Rattle.input_check.specs.Checks.{SaysWhatIsPlayed, SaysWhatIsRated, event_lines, line_of_refusal, line_within, lines_of_events, said_at, said_below, said_behind, said_of_batch, said_of_events, said_of_fault, said_of_input, said_of_journaled, said_of_rating, said_of_replies, said_of_reply, said_of_schedule}
 use Rattle.input_check.proofs.NeverWants.{NeverWants, a_preamble, a_rating, some_events}
 use Rattle.input_check.proofs.SaidLaws.{said_as_rating, said_as_schedule}

@@ -24,7 +24,7 @@ use Rattle.input_sections.specs.Sections.{Section, Unread, begins_with, left, li
 use Rattle.input_sections.specs.RateInput.{RateInput, rate_input_in}
 use Rattle.schedule_reader.specs.Schedules.{Preamble, event_in, events_in, group_in, preamble_in}
 use Rattle.schedule_reader.proofs.EventLoop.{nonempty, empty}
-use Rattle.batch_player.specs.RateInput.{journaled_in}
+use Rattle.metering_model.specs.RatedAlone.{journaled_in}
 use Rattle.input_check.specs.Inner.Faults.{fault_of}
 use Rattle.input_check.specs.Checks.{IsSaidOf, from_line, line_within, said_at, said_behind, said_below, said_by, said_of_batch, said_of_events, said_of_fault, said_of_input, said_of_journaled, said_of_rating, said_of_reply, said_of_schedule, said_of_text, section_on, text_of}
 

@@ -27,7 +27,7 @@ use Rattle.schedule_reader.specs.Schedules.{Preamble, ReadSchedule, event_in, ev
 use Rattle.schedule_player.specs.Transcripts.{replies_to}
 use Rattle.schedule_player.specs.declared.PlayFault.{PlayFault}
 use Rattle.schedule_player.specs.declared.PlayFault.TheVariants as play
-use Rattle.batch_player.specs.RateInput.{journaled_in}
+use Rattle.metering_model.specs.RatedAlone.{journaled_in}
 use Rattle.answer_words.specs.Words.{issuer_fault_text, section_text, sheet_fault_text}
 
 -- ---- a section

@@ -10,7 +10,8 @@ ghost use Rattle.input_sections.specs.RateInput.{RateInput, rate_input_in};
 ghost use Rattle.input_sections.specs.Sections.{begins_with};
 ghost use Rattle.schedule_reader.specs.Forms.{IsReadOf};
 ghost use Rattle.schedule_reader.specs.Schedules.{ReadSchedule, schedule_in};
-ghost use Rattle.batch_player.specs.RateInput.{journaled_in, rated_file};
+ghost use Rattle.metering_model.specs.RatedAlone.{journaled_in};
+ghost use Rattle.batch_player.specs.RateInput.{rated_file};
 ghost use Rattle.input_check.specs.Checks.{BeginsWhereCounted, IsFirstRefused, SaysWhatIsPlayed, SaysWhatIsRated, event_lines, line_within, refused_by, said_of_input};
 ghost use Rattle.input_check.specs.RateForms.{IsRateForm, RateForm};
 

@@ -20,6 +20,7 @@ pub mod World
 pub mod KeptText
 pub mod Deliveries
 pub mod Step
+pub mod RatedAlone
 pub mod Chosen
 pub mod History
 pub mod Totals

@@ -10,7 +10,7 @@ use Rattle.metering_model.specs.declared.Refusal.{Refusal}
 use Rattle.metering_model.specs.declared.Refusal.TheVariants.{Unpriced}
 use Rattle.metering_model.specs.Schedule.{TextLines, lines_text}
 use Rattle.metering_model.proofs.Samples.{issuer_1}
-use Rattle.sheet_laws.specs.Rates.{journaled_in}
+use Rattle.metering_model.specs.RatedAlone.{journaled_in}
 use Rattle.sheet_laws.proofs.TwoSheets.{old_sheet, new_sheet, with_gpu}
 use Rattle.sheet_laws.proofs.WorkedMonths.{read}
 use Rattle.sheet_laws.proofs.FalseRows.{gpu_alone, gpu_is_journaled}
@@ -26,11 +26,11 @@ batch_not_refused : (b : Batch) → ◌≡◌ {A = Result Batch Refusal} (Ok b) 
 batch_not_refused b e = absurd (cc)
 
 cm_2_is_refused : journaled_by old_sheet of_cm_2 ≡ Err Unpriced
-unfolding days_from_civil day_count days_of_years days_of_months worth_of decimals_of digits
+unfolding days_from_civil day_count days_of_years days_of_months worth_of decimals_of digits journaled_in
 cm_2_is_refused = refl
 
 cm_2_is_journaled : journaled_by new_sheet of_cm_2 ≡ Ok (read of_cm_2)
-unfolding days_from_civil day_count days_of_years days_of_months worth_of decimals_of digits
+unfolding days_from_civil day_count days_of_years days_of_months worth_of decimals_of digits journaled_in
 cm_2_is_journaled = refl
 
 rated_unpriced_before : RatedAlike (λ old new issuer text. journaled_in new issuer text ≢ Err Unpriced) → ⊥
@@ -39,7 +39,7 @@ rated_unpriced_before law =
     batch_not_refused (read of_cm_2) (sym cm_2_is_journaled ∙ same ∙ cm_2_is_refused)
 
 gpu_alone_is_refused : journaled_by old_sheet gpu_alone ≡ Err Unpriced
-unfolding days_from_civil day_count days_of_years days_of_months worth_of decimals_of digits
+unfolding days_from_civil day_count days_of_years days_of_months worth_of decimals_of digits journaled_in
 gpu_alone_is_refused = refl
 
 rated_unpriced_after : RatedAlike (λ old new issuer text. journaled_in old issuer text ≢ Err Unpriced) → ⊥

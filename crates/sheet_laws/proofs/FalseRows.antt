@@ -19,7 +19,7 @@ use Rattle.metering_model.proofs.RulesUpToCut.{MeetsJournalRules-up_to}
 use Rattle.metering_model.proofs.Samples.{cm_1, issuer_1}
 use Rattle.sheet_laws.specs.Longer.{GoesOnFrom}
 use Rattle.sheet_laws.specs.Pairs.{StayAlike}
-use Rattle.sheet_laws.specs.Rates.{journaled_in}
+use Rattle.metering_model.specs.RatedAlone.{journaled_in}
 use Rattle.sheet_laws.proofs.LongerSheets.{goes_on_by}
 use Rattle.sheet_laws.proofs.RatedAlone.{rules_alone}
 use Rattle.sheet_laws.proofs.TwoSheets.{february_1, old_sheet, with_gpu, without_gpu_it_goes_on}
@@ -37,7 +37,7 @@ abbrev of_gpu : Holding
 of_gpu = put [] (read gpu_alone)
 
 pub gpu_is_journaled : journaled_in with_gpu issuer_1 (lines_text gpu_alone) ≡ Ok (read gpu_alone)
-unfolding days_from_civil day_count days_of_years days_of_months worth_of decimals_of digits
+unfolding days_from_civil day_count days_of_years days_of_months worth_of decimals_of digits journaled_in
 gpu_is_journaled = refl
 
 rules_of_gpu : MeetsJournalRules with_gpu of_gpu

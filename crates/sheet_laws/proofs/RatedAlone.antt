@@ -35,7 +35,7 @@ use Rattle.row_laws.proofs.CountLaws.{place_from_one}
 use Rattle.sheet_laws.specs.Longer.{GoesOnFrom, NamesAllAlike, day_start}
 use Rattle.sheet_laws.specs.Runs.{PricesAllOf}
 use Rattle.sheet_laws.specs.Pairs.{IsPricedBefore, StayAlike}
-use Rattle.sheet_laws.specs.Rates.{world_before, journaled_in, front_alone, placed_rows_alone, file_by}
+use Rattle.metering_model.specs.RatedAlone.{world_before, journaled_in, front_alone, placed_rows_alone, file_by}
 use Rattle.sheet_laws.proofs.DayStarts.{starts_before_day}
 use Rattle.sheet_laws.proofs.FoundReadings.{above_too}
 use Rattle.sheet_laws.proofs.Months.{in_batch, starts_in_time}
@@ -70,9 +70,11 @@ module _ (old new : Sheet) (issuer : Issuer) where
   priced_of (Ok b) prices p = journaled_alike b (priced_breaks_the_same new world_old b prices (λ e. p (refused_too old b e)))
 
   pub same_journaled : (text : List ℕ) → journaled_in old issuer text ≢ Err IsUnpriced → journaled_in new issuer text ≢ Err IsUnpriced → journaled_in new issuer text ≡ journaled_in old issuer text
+  unfolding journaled_in
   same_journaled text p q = same_of (or_bad_batch (batch_in text)) p q
 
   pub priced_journaled : (text : List ℕ) → PricesAllOf old new → journaled_in old issuer text ≢ Err IsUnpriced → journaled_in new issuer text ≡ journaled_in old issuer text
+  unfolding journaled_in
   priced_journaled text prices p = priced_of (or_bad_batch (batch_in text)) prices p
 
 -- ---- a batch that is journaled meets the rules
@@ -87,6 +89,7 @@ was_read (Ok x) b e = cc
 was_read (Err fault) b e = absurd (cc)
 
 pub rules_alone : (sheet : Sheet) (issuer : Issuer) (text : List ℕ) (b : Batch) → journaled_in sheet issuer text ≡ Ok b → MeetsJournalRules sheet (put [] b)
+unfolding journaled_in
 rules_alone sheet issuer text b e =
     let one = step_ok (or_bad_batch (batch_in text)) _ b e in
     let c : Batch = one.0 in

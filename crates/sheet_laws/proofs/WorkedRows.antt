@@ -20,7 +20,7 @@ use Rattle.metering_model.proofs.Samples.{issuer_1}
 use Rattle.group_laws.proofs.EveryRun.{holds_after}
 use Rattle.sheet_laws.specs.Longer.{GoesOnFrom, NamesAllAlike}
 use Rattle.sheet_laws.specs.Pairs.{StayAlike, IsPricedAlike, without_region_name}
-use Rattle.sheet_laws.specs.Rates.{journaled_in, placed_rows_alone, file_by}
+use Rattle.metering_model.specs.RatedAlone.{journaled_in, placed_rows_alone, file_by}
 use Rattle.sheet_laws.proofs.LongerSheets.{goes_on, prices_all}
 use Rattle.sheet_laws.proofs.Months.{in_batch}
 use Rattle.sheet_laws.proofs.PairedRows.{rows_pair}
@@ -61,7 +61,7 @@ abbrev batch_text : List ℕ
 batch_text = lines_text january_batch
 
 is_journaled : journaled_in old_sheet issuer_1 batch_text ≡ Ok (read january_batch)
-unfolding days_from_civil day_count days_of_years days_of_months worth_of decimals_of digits
+unfolding days_from_civil day_count days_of_years days_of_months worth_of decimals_of digits journaled_in
 is_journaled = refl
 
 not_refused : (b : Batch) → ◌≡◌ {A = Result Batch Refusal} (Ok b) (Err Unpriced) → ⊥
@@ -81,7 +81,7 @@ same_batch : (b c : Batch) → ◌≡◌ {A = Result Batch Refusal} (Ok b) (Ok c
 same_batch b c e = cc
 
 rated_before : file_by old_sheet issuer_1 0 batch_text ≡ Ok (lines_text january)
-unfolding days_from_civil day_count days_of_years days_of_months worth_of decimals_of digits
+unfolding days_from_civil day_count days_of_years days_of_months worth_of decimals_of digits journaled_in
 rated_before = refl
 
 -- so under the longer sheet it is rated as the same file
@@ -101,11 +101,11 @@ abbrev ops_batch : Batch
 ops_batch = read ops_alone
 
 ops_before : journaled_in old_sheet issuer_1 (lines_text ops_alone) ≡ Ok ops_batch
-unfolding days_from_civil day_count days_of_years days_of_months worth_of decimals_of digits
+unfolding days_from_civil day_count days_of_years days_of_months worth_of decimals_of digits journaled_in
 ops_before = refl
 
 ops_after : journaled_in new_sheet issuer_1 (lines_text ops_alone) ≡ Ok ops_batch
-unfolding days_from_civil day_count days_of_years days_of_months worth_of decimals_of digits
+unfolding days_from_civil day_count days_of_years days_of_months worth_of decimals_of digits journaled_in
 ops_after = refl
 
 -- its one reading has one price under both sheets

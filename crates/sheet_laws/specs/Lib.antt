@@ -1,4 +1,3 @@
 pub mod Longer
 pub mod Runs
 pub mod Pairs
-pub mod Rates

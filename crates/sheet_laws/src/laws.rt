@@ -20,7 +20,7 @@ ghost use Rattle.transcript_laws.specs.Shown.{Shows};
 ghost use Rattle.sheet_laws.specs.Longer.{GoesOnFrom, NamesAlike, NamesAllAlike, IsLonger, day_start};
 ghost use Rattle.sheet_laws.specs.Runs.{under_sheet, world_under, AreAllPriced, PricesAllOf, replies_kept, events_kept};
 ghost use Rattle.sheet_laws.specs.Pairs.{IsPricedBefore, StayAlike};
-ghost use Rattle.sheet_laws.specs.Rates.{journaled_in, placed_rows_alone, file_by};
+ghost use Rattle.metering_model.specs.RatedAlone.{journaled_in, placed_rows_alone, file_by};
 
 /// Under two sheets of one base month the same events get the same replies, and lead to the same world, but for the sheet: where
 /// under neither of them a batch is refused for a price or a commitment. Where the new sheet has these for whatever reading the

@@ -8,6 +8,7 @@ use Rattle.metering_model.specs.Sheet.{Sheet, Issuer}
 use Rattle.metering_model.specs.Cut.{Cut, zero_cut}
 use Rattle.metering_model.specs.Holding.{put}
 use Rattle.metering_model.specs.Front.{front}
+use Rattle.metering_model.specs.Row.{Row}
 use Rattle.metering_model.specs.Rows.{PlacedRow, placed_rows, rows}
 use Rattle.metering_model.specs.World.{World, opening}
 use Rattle.metering_model.specs.Step.{or_bad_batch, on_batch}
@@ -18,21 +19,25 @@ abbrev pub world_before : Sheet → Issuer → World
 world_before sheet issuer = opening 1 0 64 sheet issuer
 
 -- the batch that a text is, where that world journals it, or why it doesn't
-abbrev pub journaled_in : Sheet → Issuer → List ℕ → Result Batch Refusal
+unfoldable pub journaled_in : Sheet → Issuer → List ℕ → Result Batch Refusal
 journaled_in sheet issuer text = do
   b ← or_bad_batch (batch_in text)
   _ ← on_batch (world_before sheet issuer) b
   Ok b
 
--- how far the batch can be closed for a period
+-- how far the journals that have the batch and no other can be closed for a period
 abbrev pub front_alone : Sheet → Batch → ℕ → Cut
 front_alone sheet b period = front sheet.base (put [] b) (zero_cut 64) period
+
+-- the rows of a batch in a period, from the zero cut to there
+abbrev pub rows_alone : Sheet → Issuer → Batch → ℕ → List Row
+rows_alone sheet issuer b period = rows sheet issuer (put [] b) period (zero_cut 64) (front_alone sheet b period)
 
 abbrev pub placed_rows_alone : Sheet → Issuer → Batch → ℕ → List PlacedRow
 placed_rows_alone sheet issuer b period = placed_rows sheet issuer (put [] b) period (zero_cut 64) (front_alone sheet b period)
 
--- the file of its rows, or the first refusal
+-- the file of these rows, or the first refusal
 abbrev pub file_by : Sheet → Issuer → ℕ → List ℕ → Result (List ℕ) Refusal
 file_by sheet issuer period text = do
   b ← journaled_in sheet issuer text
-  Ok (file (rows sheet issuer (put [] b) period (zero_cut 64) (front_alone sheet b period)))
+  Ok (file (rows_alone sheet issuer b period))
