@@ -21,8 +21,8 @@ fn is_reading(batch: &OwnedBatch, index: u16) -> bool
 }
 
 impl Store {
-    /// The value of the reading at a place as of a sequence of its agent, 0 before its own; None where the store has no
-    /// reading there. No memory is taken.
+    /// The value of the reading at a place as of a sequence of its agent, in millionths, and 0 before the reading's own
+    /// sequence; None where the store has no reading there.
     pub fn value_at(&self, place: RecordPlace, upto: u32) -> Option<Value>
         requires from { 1 ≤ place.agent }
         requires to { place.agent ≤ self.now.agents }

@@ -77,7 +77,7 @@ impl<'a> Model for BatchView<'a> {
 }
 
 impl<'a> BatchView<'a> {
-    /// The batch that these bytes are, or their first fault: from the top, and in a line from the left.
+    /// The batch that these bytes are. An error is their first fault: from the top, and in a line from the left.
     pub fn parse(bytes: &'a [u8]) -> Result<BatchView<'a>, BatchFault>
         ensures ok { IfOk result (λ view. (view ≡ bytes.now) × (batch_in bytes.now ≡ Ok (batch_of bytes.now))) }
         ensures err { IfErr result (λ fault. batch_in bytes.now ≡ Err fault) }
@@ -118,7 +118,7 @@ impl<'a> BatchView<'a> {
         self.head.agent
     }
 
-    /// The place of the batch among those of its agent, from 1 to 1,000,000.
+    /// The sequence of the batch among those of its agent, from 1 to 1,000,000.
     pub fn seq(&self) -> u32
         ensures value { result ≡ (batch_of self.now).seq }
         ensures range { (1 ≤ result) × (result ≤ 1_000_000) }
@@ -134,8 +134,7 @@ impl<'a> BatchView<'a> {
         self.head.count
     }
 
-    /// The records, in order. Over what an `OwnedBatch` keeps each is looked up; over bytes alone the walk goes once over
-    /// them.
+    /// The records, in order.
     pub fn records(&self) -> Records<'a>
         ensures { result ≡ record { bytes = self.now; index = 0 } }
     {
@@ -148,8 +147,7 @@ impl<'a> BatchView<'a> {
         }
     }
 
-    /// The record at that index, counted from 0. Over what an `OwnedBatch` keeps it is looked up; over bytes alone it
-    /// is looked for from the front.
+    /// The record at that index, counted from 0; None from the count on.
     pub fn record_at(&self, index: u16) -> Option<Record<'a>>
         ensures there { IsSome result ↔ (index < length (batch_of self.now).records) }
         ensures record { IfSome result (λ r. slice_get (batch_of self.now).records index ≡ Some (record_of r)) }
@@ -161,8 +159,7 @@ impl<'a> BatchView<'a> {
         }
     }
 
-    /// The kind of the reading at that index; None where an amendment stands there, and from the count on. Over what an
-    /// `OwnedBatch` keeps no text is looked up; over bytes alone the record is looked for from the front.
+    /// The kind of the reading at that index; None where an amendment stands there, and from the count on.
     pub fn kind_at(&self, index: u16) -> Option<Kind>
         ensures { result ≡ kind_in (batch_of self.now) index }
     {

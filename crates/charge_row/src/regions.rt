@@ -17,7 +17,7 @@ pub struct RegionColumns<'a> {
 }
 
 impl<'a> RegionColumns<'a> {
-    /// Those of no region: both are null.
+    /// The columns of no region: both are null.
     pub fn none() -> RegionColumns<'a>
         ensures id { option_copied result.id ≡ None }
         ensures name { option_copied result.name ≡ None }

@@ -31,7 +31,8 @@ fn answer_of(read: Result<Input, ReadFault>) -> Result<Vec<u8>, PlayFault>
     }
 }
 
-/// All of the input. One that is too long is refused at line 1, whatever it is for.
+/// All bytes of the input. Schedule is L8 at line 1, of one of more than 16,777,216 bytes; Read is a failed call of the
+/// reader; OutOfMemory an allocation failure. No other fault is returned, and at most 16,777,217 bytes are taken.
 pub fn read_input<R: Source>(alloc: Global, reader: &mut R) -> Result<Vec<u8>, PlayFault>
     ensures whole { IfOk result
         (λ bytes. IfSome (R.remaining reader.old) (λ input. bytes.items ≡ input)) }

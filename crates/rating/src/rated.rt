@@ -46,8 +46,8 @@ impl Model for Rated {
     } };
 }
 
-/// What a credit, a tax or an adjustment comes to, from an old amount to a new one: the difference,
-/// under all four costs, and no quantity.
+/// What a credit, a tax or an adjustment comes to, from an old amount to a new one: the difference, under all four
+/// costs, and no quantity.
 pub fn rate_flat(was: Value, now: Value) -> Rated
     ensures flat { result ≡ model.flat was now }
 {

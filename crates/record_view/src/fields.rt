@@ -7,7 +7,7 @@ ghost use Rattle.record_view.specs.Inner.Placed.{IsPlaced, front_of, back_of};
 
 use memchr::memrchr;
 
-/// A place in the bytes of a batch, from `from` (included) to `to` (not included).
+/// A place in the bytes of a batch, from `from` (included) to `to` (not included), in bytes from its beginning.
 #[derive(Clone, Copy, PartialEq, Eq, Debug)]
 pub struct Span {
     pub from: u32,

@@ -43,7 +43,7 @@ impl<'a> Reading<'a> {
         self.tags
     }
 
-    /// Where the usage was, which may be the empty text. None in a batch of format B1.
+    /// Where the usage was, which may be the empty text; None in a batch of format B1.
     pub fn region(&self) -> Option<Field<'a>>
         ensures { result ≡ reading_region self.now }
     {
@@ -59,9 +59,8 @@ pub enum Record<'a> {
     Amend { seq: u32, index: u16, value: Value },
 }
 
-/// The record that the line at this span is in a batch of that format, where it is a reading, plain but for its region: read in
-/// one pass. So each reading is given whose line has only plain bytes (0x20 to 0x7B) and bars; of other lines None says nothing.
-/// The stamps may be any reader's. It is inlined, so that a caller who takes only parts of the record has no whole one in memory.
+/// The record that the line at this span is in a batch of that format, where it is a reading, plain but for its region.
+/// Each reading is returned whose line has only plain bytes (0x20 to 0x7B) and bars; of other lines None says nothing.
 #[inline(always)]
 pub fn read_plain<'a>(
     version: Version,
@@ -83,8 +82,8 @@ pub fn read_plain<'a>(
     plain_behind(version, letter.text, rest, stamps)
 }
 
-/// The record that the line at this span is in a batch of that format, or the rule that its first bad field breaks.
-/// Each field is looked at by itself, but for what stands before a region that is no text.
+/// The record that the line at this span is in a batch of that format, at most 65,536 bytes long. An error is the rule
+/// that the first bad field breaks, from the left.
 #[inline(always)]
 pub fn read_exact<'a>(
     version: Version,
@@ -115,8 +114,8 @@ pub fn read_exact<'a>(
     }
 }
 
-/// The record that the line at this span is in a batch of that format, or the rule that its first bad field breaks. A plain
-/// reading is read in one pass, and only what is none is read field by field.
+/// The record that the line at this span is in a batch of that format, at most 65,536 bytes long. An error is the rule
+/// that the first bad field breaks, from the left.
 #[inline(never)]
 pub fn read_record<'a>(
     version: Version,

@@ -225,8 +225,7 @@ impl<'a> Tags<'a> {
         Tags { rest: text }
     }
 
-    /// The tags as they stand in the batch, `key=value` between semicolons, or the empty text. So where two texts are the same, the
-    /// tags are.
+    /// The tags as they stand in the batch: `key=value` joined by semicolons, or the empty text.
     pub fn text(&self) -> &'a [u8]
         ensures { tags_in result.now ≡ Some (map tag_of (lent_tags self.now)) }
     {

@@ -18,7 +18,7 @@ const LAST_PERIOD: u32 = 1_199;
 /// A revival has no more lines than this.
 const MOST_LINES: u32 = 200_000;
 
-/// An event as it stands in a schedule. What is journaled is lent from the text, and not read.
+/// An event as it stands in a schedule. What is journaled is lent from the text, and not read as a batch.
 #[derive(Clone, Copy, Drop)]
 pub enum Planned<'a> {
     /// These lines, each with its line feed, are offered as a batch.
@@ -169,7 +169,7 @@ fn revival_event<'a>(unread: &Unread<'a>) -> Result<(Planned<'a>, Unread<'a>), S
     ))
 }
 
-/// The next event, and what is left behind it. No memory is taken.
+/// The next event, and what is left after it. Refused is the first fault by line. Never OutOfMemory.
 #[tactic(auto, unfolding(crate::specs::Schedules::event_in))]
 pub fn event_in<'a>(unread: &Unread<'a>) -> Result<(Planned<'a>, Unread<'a>), ScheduleFault>
     ensures event { MatchResult result (λ r. event_in unread.now ≡ Ok (planned_of r.0, r.1)) (λ fault. event_in unread.now ≡ Err fault) }

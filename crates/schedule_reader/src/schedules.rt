@@ -98,7 +98,7 @@ fn group_in<'a>(text: &'a [u8]) -> Result<(u8, u8, u8, Unread<'a>), ScheduleFaul
     Ok((voters as u8, observers as u8, agents as u8, rest))
 }
 
-/// What stands above the events of a schedule, and what is left behind it: the events, of which none was read.
+/// What stands above the events of a schedule, and what is left after it: the events, of which none was read.
 #[derive(Drop)]
 pub struct Preamble<'a> {
     /// At least 1, and with the observers at most 99.
@@ -112,8 +112,8 @@ pub struct Preamble<'a> {
 }
 
 impl<'a> Preamble<'a> {
-    /// Reads what stands above the events of a schedule. A text that has no such is refused at its first fault by line, or with
-    /// want of memory.
+    /// Reads what stands above the events of a schedule. Refused is the text's first fault by line. OutOfMemory comes
+    /// only of a text whose numbers of nodes and agents are read.
     #[tactic(auto, unfolding(crate::specs::Schedules::preamble_in))]
     pub fn read(alloc: Global, text: &'a [u8]) -> Result<Preamble<'a>, ScheduleFault>
         ensures taken { IfOk result (λ p. preamble_in text.now
@@ -138,9 +138,9 @@ impl<'a> Preamble<'a> {
 }
 
 impl<'a> Schedule<'a> {
-    /// Reads the text of a schedule, once and from the top; journals are lent from it and not read.
+    /// Reads the text of a schedule; journals are lent from it, and not read as batches.
     ///
-    /// A text that is none is refused at its first fault by line, or with want of memory.
+    /// Refused is the first fault by line. OutOfMemory comes only of a text whose numbers of nodes and agents are read.
     pub fn read(alloc: Global, text: &'a [u8]) -> Result<Schedule<'a>, ScheduleFault>
         ensures taken { IfOk result (λ s. schedule_in text.now
             ≡ Ok (record { voters = s.voters; observers = s.observers; agents = s.agents; sheet = s.sheet; issuer = s.issuer; events = map planned_of s.events.items })) }
