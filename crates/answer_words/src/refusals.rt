@@ -106,7 +106,7 @@ fn put_refusal(line: &mut Line, refusal: Refusal)
     }
 }
 
-/// The code of the refusal and what it tells, as `G1 V2 line 4`. No memory is taken.
+/// The code of the refusal and its numbers, as `G1 V2 line 4`; at most 44 bytes.
 pub fn refusal_line(refusal: Refusal) -> Line
     ensures text { result ≡ refusal_text refusal }
     ensures short { length result ≤ 44 }

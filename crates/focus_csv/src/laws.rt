@@ -14,7 +14,7 @@ ghost use Rattle.focus_row.specs.Rows.{FocusRow, model_row};
 ghost use Rattle.focus_csv.specs.Columns.{column_names};
 ghost use Rattle.focus_csv.specs.TagData.{tag_data};
 
-/// The header line, and behind it the texts of parts in order, is the file of the rows of all parts.
+/// The header line, followed by the texts of parts in order, is the file of the rows of all parts.
 pub fn a_file_is_written_in_parts()
     ensures begun { header_line ++ 10 ∷ [] ≡ file [] }
     ensures next { (written part : List Row) →

@@ -23,11 +23,10 @@ pub enum RowFault {
     /// Q1: the store lacks this batch, and perhaps later ones up to the cut.
     #[error("missing agent {agent} seq {seq}")]
     Missing { agent: u8, seq: u32 },
-    /// Q2, Q3: the first record up to the cut that breaks a rule breaks that on targets (Q2, as G3) or prices (Q3, as
-    /// G4).
+    /// Q2, Q3: the first record up to the cut that breaks a rule breaks that on targets (Q2: G3) or on prices (Q3: G4).
     #[error("{0}")]
     Broken(BrokenRule),
-    /// Q4: an allocation for the rows failed.
+    /// Q4: out of memory: an allocation for the rows failed.
     #[error("out of memory")]
     OutOfMemory,
 }

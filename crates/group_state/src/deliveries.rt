@@ -77,7 +77,8 @@ impl GroupState {
         }
     }
 
-    /// Hands a packet to a node, once more where it had it before, and sends what the node answers.
+    /// Delivers a packet to a node, also one that it had before, and sends what the node answers. An error is an
+    /// allocation failure, and leaves the world as it was.
     pub fn deliver(&mut self, alloc: Global, packet: u32, node: u8) -> Result<Reply, AllocError>
         requires reached { IsReached self.old }
         ensures ok { IfOk result (λ reply. (reply_of reply, self.new) ≡ step self.old (Deliver packet node)) }

@@ -111,7 +111,8 @@ impl GroupState {
         Ok(Reply::Journaled { packet })
     }
 
-    /// Journals a batch that is its agent's next and breaks no rule, and sends it in a packet.
+    /// Journals a batch that is its agent's next and breaks no rule, and sends it in a packet. An error is an
+    /// allocation failure, and leaves the world as it was.
     pub fn journal(&mut self, offer: &Offer) -> Result<Reply, AllocError>
         requires reached { IsReached self.old }
         ensures ok { IfOk result (λ reply. (reply_of reply, self.new) ≡ step self.old (Journal (offer_of offer.now))) }

@@ -1,9 +1,9 @@
-//! What was done, by whom, and what it was answered.
+//! What was done, by whom, and the replies.
 
 use group_events::{Event, Reply};
 use metering_model::Worker;
 
-/// One act: who acted, the event, and what it was answered.
+/// One act: who acted, the event, and the reply.
 #[derive(Drop)]
 pub struct Entry {
     pub who: Worker,
@@ -11,7 +11,7 @@ pub struct Entry {
     pub reply: Reply,
 }
 
-/// What a worker is told of its act: the place of the entry in the history, counted from 0, and the reply.
+/// What a worker gets back of its act: the index of the entry in the history, counted from 0, and the reply.
 #[derive(Drop)]
 pub struct Receipt {
     pub index: usize,

@@ -22,7 +22,7 @@ pub struct Plan {
 }
 
 impl Plan {
-    /// How many nodes the group has: the voters, and the observers behind them.
+    /// How many nodes the group has: voters and observers.
     pub fn nodes(&self) -> usize
         ensures { result ≡ node_total (plan_of self.now) }
     {

@@ -10,7 +10,7 @@ use paxos_ballot::Acceptor;
 use std::marker::Model;
 use std::sync::Arc;
 
-/// The parts of what a node keeps. Nothing is asked of them here.
+/// The parts of what a node keeps. No limit holds of them here.
 #[derive(Drop)]
 pub struct Parts {
     /// How many ballots the node has begun.
@@ -73,7 +73,7 @@ fn know_text(parts: &Parts)
 }
 
 impl Parts {
-    /// Whether both are the same: rounds, cuts, ballots and batches. No memory is taken.
+    /// Whether both are the same: rounds, cuts, ballots and batches.
     pub fn same(&self, other: &Parts) -> bool
         ensures { IsTrue result ↔ (self.now ≡ other.now) }
     {
@@ -103,7 +103,7 @@ impl Model for Kept {
 }
 
 impl Kept {
-    /// These parts, which are within the limits. No memory is taken.
+    /// These parts, which have to be within the limits.
     pub fn of(parts: Parts) -> Kept
         requires { IsKept parts }
         ensures { result ≡ parts }
@@ -112,7 +112,7 @@ impl Kept {
         Kept { parts }
     }
 
-    /// The parts, as they were kept. No memory is taken.
+    /// The parts, which are within the limits.
     pub fn into_parts(self) -> Parts
         ensures value { result ≡ self }
         ensures kept { IsKept result }
@@ -128,7 +128,7 @@ impl Kept {
         &self.parts
     }
 
-    /// Whether both are the same: rounds, cuts, ballots and batches. No memory is taken.
+    /// Whether both are the same: rounds, cuts, ballots and batches.
     pub fn same(&self, other: &Kept) -> bool
         ensures same { IsTrue result ↔ (self.now ≡ other.now) }
         ensures texts { HasText self.now × HasText other.now }

@@ -218,10 +218,10 @@ fn read_parts(alloc: Global, text: &[u8], head: Head) -> Result<Parts, KeptFault
 }
 
 impl Kept {
-    /// What a node keeps whose text this is, or the text's first fault by line.
+    /// What a node keeps whose text this is. `Refused` is the first fault by line; `OutOfMemory` comes only of a text
+    /// that begins with a head line.
     ///
-    /// Each batch is copied once. Want of memory is told only of a text that begins with a head line. Bytes from which a node may
-    /// be revived are compared with what it keeps where that is done; here only their form is looked at.
+    /// Only the form of the text is looked at, and not whether any node keeps this.
     pub fn read(alloc: Global, text: &[u8]) -> Result<Kept, KeptFault>
         ensures ok { IfOk result (λ kept. kept_in text.now ≡ Ok kept) }
         ensures refused { IfErr result (IsFaultOf text.now) }

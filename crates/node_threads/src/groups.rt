@@ -15,10 +15,10 @@ use std::alloc::Global;
 use std::sync::Wait;
 use std::thread::Threads;
 
-/// Runs a group: a thread for each node, voter or observer, and one for each agent, round one book.
-///
-/// With Ok receipts agree: all logs agree with the book's history, each agent offered its texts to the journals, and each node
-/// exported each period once. A fault is `OutOfMemory` where memory or a thread was refused, and `Mismatch` where receipts do not agree.
+/// Runs a group: a thread for each node and each agent, around one book. With Ok all logs agree with the book's
+/// history: each agent offered its texts to the journals, and each node exported each period once. `OutOfMemory` stands
+/// for a failed allocation, or a thread that could not be started, and `Mismatch` for receipts that do not agree; no
+/// clause says when a fault comes.
 pub fn run_group<R: Threads + Wait + Sync, G: Gate + Sync>(
     rt: &R,
     alloc: Global,

@@ -1,4 +1,4 @@
-//! The line above a file, and the number of lines that it tells.
+//! The line above a file, and the number of lines that it says.
 
 ghost use Rattle.std.specs.Prelude.{◌≡◌, ◌≤◌, ℕ, List, Option, Some, None, Ok, IfOk, IfErr};
 ghost use Rattle.counted_io.specs.Counts.{count_after};

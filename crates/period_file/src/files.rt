@@ -125,11 +125,10 @@ fn drop_rest<S: Source>(unread: &mut Unread, source: &mut S) -> Result<(), FileF
     }
 }
 
-/// Writes the first file of the period in the transcript that a reader gives: the lines that stand behind its line above,
-/// and nothing else. The rest of the input is read and dropped, and no file stands in memory.
-///
-/// `NoFile` tells that there is no such line, and then nothing was written; `Torn` that fewer lines follow than it says, and
-/// these were written. An input of more than 4 GiB is `TooLong`. At each other fault some front of the file was written.
+/// Writes the first file of the period in the transcript that a reader gives, and nothing else. After `NoFile` nothing
+/// was written: no line stands above such a file. After `Torn`, where fewer lines follow than it says, these were.
+/// `TooLong` is an input of more than 4,294,967,296 bytes. After it and each other fault a prefix of the file was
+/// written, perhaps none or all of it.
 pub fn file_text<R: Source, W: Sink>(
     alloc: Global,
     period: Period,

@@ -17,7 +17,7 @@ pub enum PlayFault {
     /// P3: a call of the writer failed.
     #[error("write failed")]
     Write,
-    /// P4: an allocation failed.
+    /// P4: out of memory: an allocation failed.
     #[error("out of memory")]
     OutOfMemory,
     /// P5: the batch is refused.
