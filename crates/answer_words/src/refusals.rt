@@ -37,7 +37,7 @@ pub fn kept_code_word(code: KeptCode) -> &'static [u8]
     }
 }
 
-/// Appends a word of at most 12 bytes, and a number behind it.
+/// Appends a word of at most 12 bytes, and a number after it.
 fn put_numbered(line: &mut Line, word: &[u8], number: u32)
     requires short { length word.now ≤ 12 }
     requires room { length line.old + 22 ≤ 64 }

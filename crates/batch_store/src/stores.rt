@@ -115,8 +115,8 @@ impl Store {
         self.shelves[usize::from(agent) - 1].first_absent()
     }
 
-    /// Of the batches of an agent behind a sequence and up to another, one such that none behind it amends the batch at the
-    /// first; None where none does.
+    /// Of the batches of an agent after a sequence and up to another, one such that none after it amends the batch at
+    /// the first; None where none does.
     pub(crate) fn last_amender(&self, agent: u8, seq: u32, upto: u32) -> Option<u32>
         requires from { 1 ≤ agent }
         requires to { agent ≤ self.now.agents }

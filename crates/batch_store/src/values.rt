@@ -45,8 +45,8 @@ impl Store {
         own.value_given(place.seq, place.index)
     }
 
-    /// The value that the last batch behind the reading's own and up to a sequence gives it. Only batches that are listed as
-    /// amending its own are looked at.
+    /// The value that the last batch after the reading's own and up to a sequence gives it. Only batches that are
+    /// listed as amending its own are looked at.
     fn last_amended(&self, place: RecordPlace, upto: u32) -> Option<Value>
         requires from { 1 ≤ place.agent }
         requires to { place.agent ≤ self.now.agents }

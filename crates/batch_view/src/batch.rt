@@ -46,7 +46,8 @@ fn kind_found(found: Found) -> Option<Kind>
     }
 }
 
-/// The kind of the reading at that index of bytes with this head, from its entry. (Bytes and head are for the proof alone.)
+/// The kind of the reading at that index of bytes with this head, from its entry. (Bytes and head are for the proof
+/// alone.)
 fn kept_kind(_bytes: &[u8], _head: Head, entries: &[Entry], index: u16) -> Option<Kind>
     requires { KeepsBatch _bytes.now _head entries.now }
     ensures { result ≡ kind_in (batch_of _bytes.now) index }
@@ -169,7 +170,7 @@ impl<'a> BatchView<'a> {
         }
     }
 
-    /// The kind of the reading at that index, looked for from the front.
+    /// The kind of the reading at that index, looked for from the beginning.
     fn kind_looked_for(&self, index: u16) -> Option<Kind>
         ensures { result ≡ kind_in (batch_of self.now) index }
     {
@@ -180,7 +181,7 @@ impl<'a> BatchView<'a> {
         }
     }
 
-    /// The record at that index, looked for from the front.
+    /// The record at that index, looked for from the beginning.
     fn look_for(&self, index: u16) -> Option<Record<'a>>
         ensures there { IsSome result ↔ (index < length (batch_of self.now).records) }
         ensures record { IfSome result (λ r. slice_get (batch_of self.now).records index ≡ Some (record_of r)) }

@@ -39,7 +39,7 @@ fn feeds_in_step<const LANES: usize>(text: &[u8]) -> usize
     feeds.to_bitmask().count_ones() as usize
 }
 
-/// How many line feeds were counted in steps of so many bytes, and what is left behind the last step.
+/// How many line feeds were counted in steps of so many bytes, and what is left after the last step.
 #[inline(always)]
 fn feeds_in_steps<const LANES: usize>(text: &[u8]) -> (usize, &[u8])
     requires { (0 < LANES) × (LANES ≤ 64) }

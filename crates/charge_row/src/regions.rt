@@ -36,7 +36,8 @@ pub(crate) fn region_name<'a>(sheet: &'a Sheet, id: &'a [u8]) -> &'a [u8]
     sheet.region(id).unwrap_or(id)
 }
 
-/// The columns of a reading's region. Where it is the region that is near, these are that one's, and the sheet is not asked.
+/// The columns of a reading's region. Where it is the region that is near, these are that one's, and the sheet is not
+/// asked.
 pub(crate) fn region_columns<'a>(
     sheet: &'a Sheet,
     reading: &Reading<'a>,

@@ -1,4 +1,5 @@
-//! The rows of an export, and its file written batch by batch: for callers of the library. No program calls what stands here.
+//! The rows of an export, and its file written batch by batch: for callers of the library. No program calls what stands
+//! here.
 
 ghost use Rattle.std.specs.Prelude.{◌≡◌, Err, IfOk, OnOk};
 ghost use Rattle.std.specs.Io.KnownBytes.{Appends};

@@ -19,8 +19,8 @@ use counted_io::Sink;
 use focus_row::{BatchRows, FocusRow, RowsBetween};
 use std::alloc::{AllocError, Global};
 
-/// Appends the lines of the walk's next rows, which are put where some may stand. At want of memory the text is as before, or has
-/// some of the lines behind it.
+/// Appends the lines of the walk's next rows, which are put where some may stand. At an allocation failure the text is
+/// as before, or has some of the lines after it.
 fn put_part<'a>(
     walk: &mut BatchRows<'_, 'a>,
     pieces: &mut LinePieces,
@@ -36,8 +36,8 @@ fn put_part<'a>(
     Ok(())
 }
 
-/// Appends the lines of all rows that the walk has left, a part of them at a time. At want of memory the text is as before, or has
-/// some of the lines behind it.
+/// Appends the lines of all rows that the walk has left, a part of them at a time. At an allocation failure the text is
+/// as before, or has some of the lines after it.
 fn put_walk<'a>(
     walk: &mut BatchRows<'_, 'a>,
     pieces: &mut LinePieces,
@@ -53,8 +53,8 @@ fn put_walk<'a>(
     Ok(())
 }
 
-/// Appends the lines of the batch of that number, whose rows are put where some may stand. At want of memory the text is as before,
-/// or has some of the lines behind it.
+/// Appends the lines of the batch of that number, whose rows are put where some may stand. At an allocation failure the
+/// text is as before, or has some of the lines after it.
 fn put_batch<'a>(
     batches: &RowsBetween<'a>,
     k: usize,
@@ -71,8 +71,8 @@ fn put_batch<'a>(
     Ok(())
 }
 
-/// Appends the lines of the batches from one number to before another, in order. At want of memory the text is as before, or
-/// has some of the lines behind it.
+/// Appends the lines of the batches from one number to before another, in order. At an allocation failure the text is
+/// as before, or has some of the lines after it.
 fn put_each(
     alloc: Global,
     batches: &RowsBetween<'_>,

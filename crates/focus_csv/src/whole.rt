@@ -17,7 +17,7 @@ use counted_io::Sink;
 use focus_row::FocusRow;
 use std::alloc::{AllocError, Global};
 
-/// A head, and behind it the lines of the rows, in order.
+/// A head, and after it the lines of the rows, in order.
 fn lines_behind(alloc: Global, head: &[u8], rows: &[FocusRow<'_>]) -> Result<Vec<u8>, AllocError>
     ensures { IfOk result (λ v. v.items ≡ head.now ++ flat_map row_text (map model_row rows.now)) }
 {

@@ -54,7 +54,8 @@ fn hand_over(
 }
 
 impl GroupState {
-    /// Why a packet is not delivered to a node: there is no such packet, no such node, or no room for what it would send.
+    /// Why a packet is not delivered to a node: there is no such packet, no such node, or no room for what it would
+    /// send.
     fn delivery_refusal(&self, packet: u32, node: u8) -> Option<Refusal>
         requires { IsReached self.now }
         ensures { MatchOption result

@@ -74,7 +74,8 @@ impl GroupState {
         first_broken(&self.journals, &self.sheet, batch)
     }
 
-    /// Why a batch is not journaled; None where it is its agent's next, breaks no rule, and there is room for its packet.
+    /// Why a batch is not journaled; None where it is its agent's next, breaks no rule, and there is room for its
+    /// packet.
     fn journal_refusal(&self, batch: &OwnedBatch) -> Option<Refusal>
         requires { MeetsJournalRules self.now.sheet self.now.journals }
         ensures { MatchOption result

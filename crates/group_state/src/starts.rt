@@ -19,7 +19,7 @@ use std::alloc::{AllocError, Global};
 /// A node begins no more ballots than this.
 const MOST_ROUNDS: u16 = 10_000;
 
-/// Node i begins its next ballot, of that period, and its first packet stands behind those that were there.
+/// Node i begins its next ballot, of that period, and its first packet stands after those that were there.
 fn begin(
     packets: &mut Vec<Packet>,
     node: &mut Node,

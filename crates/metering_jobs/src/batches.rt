@@ -1,4 +1,5 @@
-//! Batches as agents journal them: the same resources in each, with other values, and the readings of an hour beside each other.
+//! Batches as agents journal them: the same resources in each, with other values, and the readings of an hour beside
+//! each other.
 
 use crate::numbers::Numbers;
 use crate::sheets::{PLANS, PRICES, REGIONS};
@@ -35,7 +36,7 @@ fn put(text: &mut Vec<u8>, part: &[u8]) -> Result<(), AllocError> {
     text.extend_from_slice(part)
 }
 
-/// A word and the number behind it.
+/// A word and the number after it.
 pub fn put_word(text: &mut Vec<u8>, word: &[u8], number: u32) -> Result<(), AllocError> {
     put(text, word)?;
     put(text, Buffer::new().format(number).as_bytes())
@@ -51,7 +52,7 @@ struct Resource {
     front: Vec<u8>,
     /// Whether the value stands in the front already.
     has_value: bool,
-    /// From behind the value on, with the line feed.
+    /// From after the value on, with the line feed.
     back: Vec<u8>,
 }
 

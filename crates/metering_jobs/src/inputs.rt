@@ -109,7 +109,7 @@ impl Inputs {
         }
     }
 
-    /// The sections of a sheet and of an issuer, and a batch of that group behind them.
+    /// The sections of a sheet and of an issuer, and a batch of that group after them.
     fn batch(&mut self, seed: u64, group: u32) -> Result<Vec<u8>, AllocError> {
         if group != self.group {
             self.resources = resources_of(self.alloc, self.seed, group)?;

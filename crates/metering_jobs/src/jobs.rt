@@ -47,8 +47,8 @@ impl Job {
         }
     }
 
-    /// What is timed: of `rate` how many batches, of the others how many batches an agent journals in each period, and of `close`
-    /// how many periods there are.
+    /// What is timed: of `rate` how many batches, of the others how many batches an agent journals in each period, and
+    /// of `close` how many periods there are.
     pub fn size(self) -> u32 {
         match self {
             Job::Rate | Job::Close => 1_000,

@@ -129,7 +129,7 @@ impl Done {
         }
     }
 
-    /// Whether it is of the entry at that place, with that reply. No memory is taken.
+    /// Whether it is of the entry at that place, with that reply. Nothing is allocated.
     pub(crate) fn is_of(&self, index: usize, reply: &Reply) -> bool
         ensures { IsTrue result ↔ (self.now ≡ record { index = index; reply = reply_of reply.now }) }
     {

@@ -8,8 +8,9 @@ use group_core::Sheet;
 use sheet_text::Issuer;
 use std::sync::Arc;
 
-/// What a group is to do: how many of its nodes vote and how many only observe, its sheet and its issuer, the texts of each
-/// agent's batches in order, how many periods each node is to export, and how often a gate is asked before a node goes on.
+/// What a group is to do: how many of its nodes vote and how many only observe, its sheet and its issuer, the texts of
+/// each agent's batches in order, how many periods each node is to export, and how often a gate is asked before a node
+/// goes on.
 #[derive(Drop)]
 pub struct Plan {
     pub voters: u8,

@@ -60,7 +60,8 @@ fn know_cuts(cuts: &[Arc<Cut>])
     }
 }
 
-/// Learns that what is within the limits of a `Kept` has a text: cuts and store keep those of their types. Nothing is done.
+/// Learns that what is within the limits of a `Kept` has a text: cuts and store keep those of their types. Nothing is
+/// done.
 fn know_text(parts: &Parts)
     requires { IsKept parts.now }
     ensures { HasText parts.now }
@@ -84,8 +85,8 @@ impl Parts {
     }
 }
 
-/// What a node keeps: a round up to 10,000, at most 1,200 learned cuts, ballots from 1 to 990,098, and as many agents in
-/// the learned cuts and in the vote's cut as in the store. So it has a text.
+/// What a node keeps: a round up to 10,000, at most 1,200 learned cuts, ballots from 1 to 990,098, and as many agents
+/// in the learned cuts and in the vote's cut as in the store. So it has a text.
 #[derive(Drop)]
 pub struct Kept {
     parts: Parts,

@@ -7,8 +7,8 @@ use node_book::{Book, Log, Plan};
 use std::marker::Model;
 use thiserror::Error;
 
-/// A run in which each worker did what the plan asks: the plan, the book that the workers acted on, and the log that each of
-/// them brought back, the agents' first.
+/// A run in which each worker did what the plan asks: the plan, the book that the workers acted on, and the log that
+/// each of them brought back, the agents' first.
 #[derive(Drop)]
 pub struct Run {
     pub(crate) plan: Plan,

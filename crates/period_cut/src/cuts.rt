@@ -14,7 +14,7 @@ use std::marker::Model;
 /// No batch has a sequence above this one.
 const LAST_SEQ: u32 = 1_000_000;
 
-/// Appends sequences, joined by `|`. Where memory is refused some of that may stand behind what was there.
+/// Appends sequences, joined by `|`. Where an allocation fails some of that may stand after what was there.
 fn put_entries(text: &mut Vec<u8>, entries: &[u32]) -> Result<(), AllocError>
     ensures put { OnOk result (text.new.items ≡ text.old.items ++ join_with_byte 124 (map decimal entries.now)) }
     ensures behind { OnErr result (HasBehind text.old.items text.new.items) }

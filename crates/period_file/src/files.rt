@@ -70,7 +70,7 @@ fn copy_ahead<W: Sink>(unread: &mut Unread, writer: &mut W, most: u64) -> Result
     Ok(count)
 }
 
-/// Writes the lines that follow, so many, and answers how many lack where fewer follow.
+/// Writes the lines that follow, so many, and returns how many lack where fewer follow.
 fn copy_lines<S: Source, W: Sink>(
     unread: &mut Unread,
     source: &mut S,

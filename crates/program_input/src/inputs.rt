@@ -17,7 +17,7 @@ use std::alloc::Global;
 /// The most bytes that an input may have.
 const MOST_BYTES: u32 = 16_777_216;
 
-/// What comes of reading up to the limit: want of memory and a failed call are told just where they were met.
+/// What comes of reading up to the limit: an allocation failure and a failed call are told just where they were met.
 fn answer_of(read: Result<Input, ReadFault>) -> Result<Vec<u8>, PlayFault>
     ensures { result ≡ whole_input read }
 {

@@ -11,7 +11,7 @@ use metering_model::Version;
 
 const BAR: u8 = b'|';
 
-/// Stands behind the last field of an amendment, and of a reading without a region.
+/// Stands after the last field of an amendment, and of a reading without a region.
 const NOWHERE: Span = Span { from: 0, to: 0 };
 
 /// The spans of the fields of a line that has four.

@@ -57,7 +57,8 @@ impl<'a> StampReader<'a> {
         self.read_anew(first, second)
     }
 
-    /// Both stamps, which are known from then on, where both are stamps. Apart, so that the path of known ones stays short.
+    /// Both stamps, which are known from then on, where both are stamps. Apart, so that the path of known ones stays
+    /// short.
     #[inline(never)]
     fn read_anew(&mut self, first: &'a [u8], second: &'a [u8]) -> Option<(Stamp, Stamp)>
         ensures { result ≡ option_zip (stamp_in first.now) (stamp_in second.now) }

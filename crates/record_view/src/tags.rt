@@ -185,7 +185,7 @@ fn end_of<'a>(text: Field<'a>) -> Field<'a>
     }
 }
 
-/// The first of the parts between `;`, and what stands behind it.
+/// The first of the parts between `;`, and what stands after it.
 fn first_part<'a>(text: Field<'a>) -> (Field<'a>, Field<'a>)
     requires placed { IsPlaced (lent text) }
     requires some { 0 < length text.text.now }

@@ -28,7 +28,7 @@ pub struct Schedule<'a> {
     pub events: Vec<Planned<'a>>,
 }
 
-/// What is left behind the first line of a schedule.
+/// What is left after the first line of a schedule.
 #[tactic(auto, unfolding(crate::specs::Schedules::head_line))]
 fn head_line<'a>(unread: &Unread<'a>) -> Result<Unread<'a>, ScheduleFault>
     ensures head { MatchResult result (λ rest. head_line unread.now ≡ Ok rest) (λ fault. head_line unread.now ≡ Err fault) }
@@ -45,7 +45,7 @@ fn head_line<'a>(unread: &Unread<'a>) -> Result<Unread<'a>, ScheduleFault>
     }
 }
 
-/// The number, from 1 to `most`, that the next line tells behind the word, and what is left behind it.
+/// The number, from 1 to `most`, that the next line tells after the word, and what is left after it.
 #[tactic(auto, unfolding(crate::specs::Schedules::number_line))]
 fn number_line<'a>(
     unread: &Unread<'a>,
@@ -68,7 +68,7 @@ fn number_line<'a>(
     }
 }
 
-/// The voters and the observers that the next line tells, and what is left behind it.
+/// The voters and the observers that the next line tells, and what is left after it.
 #[tactic(auto, unfolding(crate::specs::Schedules::nodes_line))]
 fn nodes_line<'a>(unread: &Unread<'a>) -> Result<(u32, u32, Unread<'a>), ScheduleFault>
     ensures nodes { MatchResult result (λ r. nodes_line unread.now ≡ Ok (r.0, r.1, r.2)) (λ fault. nodes_line unread.now ≡ Err fault) }
@@ -85,7 +85,7 @@ fn nodes_line<'a>(unread: &Unread<'a>) -> Result<(u32, u32, Unread<'a>), Schedul
     }
 }
 
-/// How many voters, observers and agents a text tells, and what is left behind the lines that say so.
+/// How many voters, observers and agents a text tells, and what is left after the lines that say so.
 #[tactic(auto, unfolding(crate::specs::Schedules::group_in))]
 fn group_in<'a>(text: &'a [u8]) -> Result<(u8, u8, u8, Unread<'a>), ScheduleFault>
     ensures group { MatchResult result (λ r. group_in text.now ≡ Ok (r.0, r.1, r.2, r.3)) (λ fault. group_in text.now ≡ Err fault) }

@@ -59,7 +59,8 @@ pub fn what_is_cut_out_is_the_periods_file()
         (holds : HoldsOfBytes voters observers agents sheet issuer events text) → (period : ℕ) (part : List ℕ) → first_file period text ≢ TornFile part }
 {}
 
-/// Read as CSV, a line of fields gives just these fields, whatever bytes they have; so a row's line gives the row's fields.
+/// Read as CSV, a line of fields gives just these fields, whatever bytes they have; so a row's line gives the row's
+/// fields.
 pub fn a_line_read_as_csv_gives_its_fields()
     ensures line { (first : List ℕ) (others : List (List ℕ)) →
         csv_fields (join_with_byte 44 (map quoted (first ∷ others))) ≡ first ∷ others }
