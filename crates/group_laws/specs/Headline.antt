@@ -1,5 +1,6 @@
 -- What holds after every run of a group, whatever is lost, repeated, reordered or restarted: the chosen cuts are one growing
--- list, each export is of two neighbouring cuts of it, and each reading is charged as new in one row of one period.
+-- list, each export is of one of them and the one before it (zero before the first), and a reading is charged as new in one row
+-- of one period: in just one, where a chosen cut reaches it.
 use Rattle.std.specs.Prelude.{◌≡◌, ◌↔◌, ℕ, ◌+◌, ◌<◌, ◌≤◌, List, ◌++◌, length, Some, None, Ok, slice_get}
 use Rattle.std.specs.List.{Contains}
 use Rattle.metering_model.specs.Batch.{Batch, Reading}
@@ -19,8 +20,8 @@ use Rattle.metering_model.specs.Transcript.{file_of}
 abbrev pub IsPrefixOf : {A : Type 0} → List A → List A → Type 0
 IsPrefixOf {A} xs ys = (rest : List A) × (xs ++ rest ≡ ys)
 
--- There are as many answers as events. An export is of the period that was asked for, and the journals have just the batches
--- that were answered `Journaled`. What else an event is answered, `step` alone says.
+-- There are as many replies as events. An export is of the period that was asked for, and the journals have just the batches
+-- whose reply was `Journaled`. What other replies there are, `step` alone says.
 pub record AreAnswers (events : List Event) (replies : List Reply) (w : World) : Type 0 where
   pub one_each : length replies ≡ length events
   pub asked : (k : ℕ) (s : Snapshot) → slice_get replies k ≡ Some (Exported s) → (node : ℕ) × (slice_get events k ≡ Some (Export node s.period))
@@ -29,7 +30,7 @@ pub record AreAnswers (events : List Event) (replies : List Reply) (w : World) :
   pub only : (agent seq : ℕ) (b : Batch) → held w.journals agent seq ≡ Some b →
       (k : ℕ) × (packet : ℕ) × (offer : Offer) × (slice_get events k ≡ Some (Journal offer)) × (slice_get replies k ≡ Some (Journaled packet)) × (batch_of offer ≡ Ok b)
 
--- what Paxos promises: no period has two chosen cuts
+-- what Paxos promises: two cuts that are chosen for one period are the same
 abbrev pub AtMostOneIsChosen : World → Type 0
 AtMostOneIsChosen w = (period : ℕ) (c d : Cut) → IsChosen w period c → IsChosen w period d → c ≡ d
 
