@@ -34,8 +34,9 @@ pub record AreAnswers (events : List Event) (replies : List Reply) (w : World) :
 abbrev pub AtMostOneIsChosen : World → Type 0
 AtMostOneIsChosen w = (period : ℕ) (c d : Cut) → IsChosen w period c → IsChosen w period d → c ≡ d
 
--- The list's entry at a period is the cut that a majority chose for it, whether or not a node has learned it yet; and a
--- period past the list's end has none.
+-- The list's entry at a period is the cut that a majority chose for it, whether or not a node has learned it yet, and a period
+-- past the list's end has none. What each node has learned is a prefix of the list. The journals reach up to each cut, and
+-- their batches between it and the one before are due for its period.
 pub record AreTheCuts (w : World) (cuts : List Cut) : Type 0 where
   pub chosen : (period : ℕ) (cut : Cut) → (slice_get cuts period ≡ Some cut) ↔ IsChosen w period cut
   pub learned : (n : Node) → Contains w.nodes n → IsPrefixOf n.kept.learned cuts
@@ -44,7 +45,8 @@ pub record AreTheCuts (w : World) (cuts : List Cut) : Type 0 where
   pub journaled : (period : ℕ) (cut : Cut) → slice_get cuts period ≡ Some cut → (agent : ℕ) → last_of cut agent < next_seq w.journals agent
   pub due : (period : ℕ) (cut : Cut) → slice_get cuts period ≡ Some cut → AreDueBetween w.sheet.base period w.journals (cut_before w.agents cuts period) cut
 
--- The snapshot is of its period's cut and the one before it, and its file has the rows that the journals have between them.
+-- The snapshot is of its period's cut and the one before it, with the world's sheet and issuer and just the journals' batches
+-- up to its cut, which meet the rules; and its file has the rows that the journals have between the two.
 pub record IsExport (w : World) (cuts : List Cut) (s : Snapshot) : Type 0 where
   pub from : s.from ≡ cut_before w.agents cuts s.period
   pub to : slice_get cuts s.period ≡ Some s.to
@@ -61,8 +63,9 @@ pub record IsNewIn (w : World) (cuts : List Cut) (period index : ℕ) (x : Place
   pub row : slice_get (placed_rows w.sheet w.issuer w.journals period (cut_before w.agents cuts period) to) index ≡ Some x
   pub new : x.row.charge_class ≡ None
 
--- No batch is charged in two periods: it lies between the two cuts of at most one. No reading is new in two rows, be they of
--- one period or of two, and each reading up to a cut is new in one.
+-- No batch is charged as new in two periods: it lies between the two cuts of at most one. No reading is new in two rows, be
+-- they of one period or of two, and each reading up to a cut of the list is new in one, of that cut's period or an earlier
+-- one.
 pub record AreChargedOnce (w : World) (cuts : List Cut) : Type 0 where
   pub apart : (p q : ℕ) (c d : Cut) (agent seq : ℕ) → slice_get cuts p ≡ Some c → slice_get cuts q ≡ Some d →
       last_of (cut_before w.agents cuts p) agent < seq → seq ≤ last_of c agent →
