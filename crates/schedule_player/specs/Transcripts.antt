@@ -37,7 +37,7 @@ pub record IsTranscriptOfSome (input text : List ℕ) : Type 0 where
   pub done : ℕ
   pub is_first : IsTranscriptOfFirst schedule done text
 
--- It is that, or empty; of an empty text nothing is said but the input, which then need not be a schedule.
+-- It is that, or empty: then the input need not be a schedule.
 pub record IsPrefixOfTranscript (known : Option (List ℕ)) (input text : List ℕ) : Type 0 where
   pub is_input : IfSome known (λ bytes. input ≡ bytes)
   pub is_prefix : (text ≡ []) ⊎ IsTranscriptOfSome input text
