@@ -30,8 +30,11 @@ use std::sync::Arc;
 /// millionths.
 #[derive(Clone, Copy)]
 pub struct Amendment {
+    /// The sequence of the batch that has the reading, from 1.
     pub seq: u32,
+    /// The index of the reading in that batch, from 0.
     pub index: u16,
+    /// The new value, in millionths.
     pub value: Value,
     /// The index of the amendment itself.
     pub own: u16,

@@ -12,7 +12,9 @@ use rating::{Reading, Sheet};
 /// The columns that a reading's region gives.
 #[derive(Clone, Copy)]
 pub struct RegionColumns<'a> {
+    /// RegionId; None is null.
     pub id: Option<&'a [u8]>,
+    /// RegionName; None is null.
     pub name: Option<&'a [u8]>,
 }
 

@@ -24,8 +24,11 @@ use sheet_text::{Commitment, Issuer, PriceRow};
 /// What all rows of a billing period share: who bills, and the period's start and end.
 #[derive(Clone, Copy)]
 pub struct Billing<'a> {
+    /// Who bills.
     pub issuer: &'a Issuer,
+    /// BillingPeriodStart, `YYYY-MM-DDTHH:mm:ssZ`.
     pub start_text: [u8; 20],
+    /// BillingPeriodEnd, `YYYY-MM-DDTHH:mm:ssZ`.
     pub end_text: [u8; 20],
 }
 

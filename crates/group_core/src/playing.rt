@@ -14,6 +14,7 @@ use std::alloc::{AllocError, Global};
 /// An allocation failed, after these replies. The world stands after exactly their events.
 #[derive(Drop)]
 pub struct Stopped {
+    /// The replies to the events that were done.
     pub replies: Vec<Reply>,
 }
 

@@ -20,6 +20,7 @@ const BASE_YEAR: u16 = 2025;
 pub struct RateInput {
     pub sheet: Sheet,
     pub issuer: Issuer,
+    /// Where the batch begins, in bytes from the beginning of the text.
     pub batch_from: usize,
 }
 

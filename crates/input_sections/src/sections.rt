@@ -19,7 +19,9 @@ use std::alloc::Global;
 /// A section: the text of its lines, each with its line feed, and what is left after it.
 #[derive(Drop)]
 pub struct Section<'a> {
+    /// The lines of the section.
     pub text: &'a [u8],
+    /// What is left after them.
     pub rest: Unread<'a>,
 }
 

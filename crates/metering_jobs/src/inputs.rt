@@ -55,7 +55,7 @@ impl Inputs {
         })
     }
 
-    /// The input at a place, counted from 0.
+    /// The input at a place, counted from 0. An error is an allocation failure.
     pub fn at(&mut self, place: u32) -> Result<Vec<u8>, AllocError> {
         let alloc = self.alloc;
         let seed = seed_at(self.seed, place);

@@ -200,7 +200,7 @@ fn head_of(alloc: Global, plan: &Plan) -> Result<String, AllocError> {
     Ok(head)
 }
 
-/// The text of a schedule.
+/// The text of a schedule. An error is an allocation failure.
 pub fn schedule(alloc: Global, seed: u64, plan: &Plan) -> Result<Vec<u8>, AllocError> {
     let nodes = plan.voters.saturating_add(plan.observers);
     let head = head_of(alloc, plan)?;

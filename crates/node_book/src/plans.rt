@@ -13,12 +13,17 @@ use std::sync::Arc;
 /// goes on.
 #[derive(Drop)]
 pub struct Plan {
+    /// How many nodes vote.
     pub voters: u8,
+    /// How many nodes only observe.
     pub observers: u8,
     pub sheet: Arc<Sheet>,
     pub issuer: Arc<Issuer>,
+    /// For each agent, from 1, the texts of its batches in order.
     pub journals: Vec<Vec<Vec<u8>>>,
+    /// How many periods each node is to export, from period 0 on.
     pub periods: u16,
+    /// How many times at most a node asks its gate before it goes on.
     pub turns: u32,
 }
 

@@ -16,9 +16,13 @@ pub struct Rated {
     pub consumed: Option<Delta>,
     /// PricingQuantity: priced units.
     pub priced: Option<Delta>,
+    /// ListCost.
     pub list: Cost,
+    /// ContractedCost.
     pub contracted: Cost,
+    /// BilledCost.
     pub billed: Cost,
+    /// EffectiveCost.
     pub effective: Cost,
 }
 

@@ -17,7 +17,9 @@ pub struct Span {
 /// A text that a batch lends, and its place there.
 #[derive(Clone, Copy)]
 pub struct Field<'a> {
+    /// The bytes.
     pub text: &'a [u8],
+    /// Where they stand in the batch.
     pub span: Span,
 }
 

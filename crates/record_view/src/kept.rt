@@ -20,6 +20,7 @@ pub struct Numbers {
     pub kind: Kind,
     pub start: Stamp,
     pub end: Stamp,
+    /// In millionths.
     pub value: Value,
 }
 

@@ -21,15 +21,25 @@ use utc_calendar::Stamp;
 /// What an agent metered. The value is in millionths.
 #[derive(Clone, Copy)]
 pub struct Reading<'a> {
+    /// What it charges for.
     pub kind: Kind,
+    /// The first moment of its time.
     pub start: Stamp,
+    /// The moment after its time, later than the start.
     pub end: Stamp,
+    /// The start as it stands in the batch.
     pub start_text: Field<'a>,
+    /// The end as it stands in the batch.
     pub end_text: Field<'a>,
+    /// Of whom it is metered, which may be the empty text.
     pub account: Field<'a>,
+    /// What it is metered of, which may be the empty text.
     pub resource: Field<'a>,
+    /// The SKU of usage and purchases; of other kinds the description of the charge. Not empty.
     pub key: Field<'a>,
+    /// In millionths: metered units of usage and purchases, of other kinds the amount in the currency.
     pub value: Value,
+    /// The commitment that usage or a purchase names; the empty text where there is none.
     pub commitment: Field<'a>,
     pub(crate) tags: Tags<'a>,
     pub(crate) region: Option<Field<'a>>,

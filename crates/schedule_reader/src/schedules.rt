@@ -20,11 +20,13 @@ use std::alloc::Global;
 pub struct Schedule<'a> {
     /// At least 1, and with the observers at most 99.
     pub voters: u8,
+    /// With the voters at most 99.
     pub observers: u8,
     /// From 1 to 64.
     pub agents: u8,
     pub sheet: Sheet,
     pub issuer: Issuer,
+    /// What happens to the group, in order.
     pub events: Vec<Planned<'a>>,
 }
 
@@ -103,11 +105,13 @@ fn group_in<'a>(text: &'a [u8]) -> Result<(u8, u8, u8, Unread<'a>), ScheduleFaul
 pub struct Preamble<'a> {
     /// At least 1, and with the observers at most 99.
     pub voters: u8,
+    /// With the voters at most 99.
     pub observers: u8,
     /// From 1 to 64.
     pub agents: u8,
     pub sheet: Sheet,
     pub issuer: Issuer,
+    /// The events, which were not read.
     pub rest: Unread<'a>,
 }
 
