@@ -53,8 +53,8 @@ const BLOCK: usize = 64 * 1024;
 
 /// All the bytes of the source, or TooLong where it had more than `limit` bytes. At most `limit` + 1 bytes are taken.
 ///
-/// An error returns nothing of what was read: Failed where a call of the source failed, OutOfMemory where an allocation
-/// failed.
+/// An error returns nothing of what was read: Failed is one failed call of the source, OutOfMemory an allocation
+/// failure.
 pub fn read_to_limit<S: Source>(
     alloc: Global,
     source: &mut S,

@@ -54,8 +54,8 @@ impl Acceptor {
         }
     }
 
-    /// An acceptor that has promised this ballot and accepted this vote. The vote's ballot may be above the one
-    /// promised, or without one.
+    /// An acceptor that has promised this ballot and accepted this vote. The vote's ballot need not be below the one
+    /// promised, nor be promised at all.
     pub fn of(promised: Option<Ballot>, vote: Option<Vote>) -> Acceptor
         ensures { result ≡ record { promised = promised; vote = vote } }
     {
