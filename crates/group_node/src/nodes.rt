@@ -104,7 +104,7 @@ impl Node {
         kept.parts().same(&self.kept)
     }
 
-    /// Begins the next round of node i, which has to vote, and returns its ballot. It may have begun 9,999 rounds
+    /// Begins the next round of node i, which has to vote, and returns its ballot. It has begun at most 9,999 rounds
     /// before.
     pub fn start(&mut self, i: u8) -> Ballot
         requires votes { i < self.old.voters }
