@@ -104,7 +104,7 @@ impl Done {
         Ok(Done { receipt, file })
     }
 
-    /// The same without further threads.
+    /// The same without further threads. An error is an allocation failure.
     pub fn in_one_thread(alloc: Global, receipt: Receipt) -> Result<Done, AllocError>
         ensures { IfOk result (λ done. done ≡ told_of receipt) }
     {
@@ -119,7 +119,7 @@ impl Done {
         &self.receipt
     }
 
-    /// The file: there is one just where the reply is an export, and it is that of its snapshot.
+    /// The file, where the reply is an export: that of its snapshot. None at any other reply.
     pub fn file(&self) -> Option<&[u8]>
         ensures { MatchOption result (file_in self.now.reply ≡ None) (λ bytes. file_in self.now.reply ≡ Some bytes.now) }
     {

@@ -99,14 +99,14 @@ impl Acceptor {
         self.promised == other.promised && is_same_vote(self.vote.as_ref(), other.vote.as_ref())
     }
 
-    /// The greatest ballot promised.
+    /// The greatest ballot promised; None before the first.
     pub fn promised(&self) -> Option<Ballot>
         ensures { result ≡ self.now.promised }
     {
         self.promised
     }
 
-    /// The vote accepted last.
+    /// The vote accepted last; None before the first.
     pub fn vote(&self) -> Option<&Vote>
         ensures { option_copied result ≡ self.now.vote }
     {

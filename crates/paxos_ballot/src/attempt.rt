@@ -68,8 +68,8 @@ impl Attempt {
         !self.sent && self.promising.with(from).has_majority()
     }
 
-    /// The vote of the greatest ballot among the one reported so far and this one. Of two votes of one ballot it is the
-    /// one reported before.
+    /// The vote of the greatest ballot among the one reported so far and this one; None where there is neither. Of two
+    /// votes of one ballot it is the one reported before.
     pub fn greatest_told<'a>(&'a self, vote: Option<&'a Vote>) -> Option<&'a Vote>
         ensures { option_copied result ≡ greater_vote self.now.told (option_copied vote.entry) }
     {
