@@ -99,14 +99,14 @@ impl Acceptor {
         self.promised == other.promised && is_same_vote(self.vote.as_ref(), other.vote.as_ref())
     }
 
-    /// The greatest ballot promised; None before the first.
+    /// The greatest ballot promised; None where none is.
     pub fn promised(&self) -> Option<Ballot>
         ensures { result ≡ self.now.promised }
     {
         self.promised
     }
 
-    /// The vote accepted last; None before the first.
+    /// The vote accepted last; None where none is.
     pub fn vote(&self) -> Option<&Vote>
         ensures { option_copied result ≡ self.now.vote }
     {
