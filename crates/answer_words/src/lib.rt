@@ -1,4 +1,4 @@
-//! The words of answers: of replies and refusals, and of what is wrong with sections, sheets and issuers.
+//! The words of replies and refusals, and of what is wrong with sections, sheets and issuers.
 #![tactic(auto)]
 
 mod refusals;

@@ -17,7 +17,10 @@ use period_cut::{Cut, Period};
 use price_sheet::{Issuer, Sheet};
 use std::alloc::{AllocError, Global};
 
-/// The file of a billing period between two cuts of what a store has: from the bytes of its batches to those of the file.
+/// The bytes of a billing period's file, between two cuts of what a store has.
+///
+/// The store has to have each batch up to `to`, and these to meet the rules of the journals. An error is an allocation
+/// failure.
 pub fn file_between(
     alloc: Global,
     store: &Store,

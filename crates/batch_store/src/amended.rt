@@ -34,7 +34,8 @@ fn add_named(
 }
 
 impl Store {
-    /// The places up to the cut `from` that an amendment above it and up to the cut `to` names, each once, rising.
+    /// The places up to the cut `from` that amendments above it and up to the cut `to` name, each once, rising. An
+    /// error is an allocation failure.
     pub fn amended(
         &self,
         alloc: Global,

@@ -15,7 +15,7 @@ const LAST_SEQ: u32 = 1_000_000;
 
 impl Store {
     /// For each agent the greatest sequence such that all batches above the cut and up to it are there and due for the
-    /// period, or the cut's own.
+    /// period, or the cut's own. An error is an allocation failure.
     pub fn due_front(
         &self,
         alloc: Global,

@@ -53,7 +53,7 @@ fn share_filed(
 }
 
 impl Shelf {
-    /// A shelf without batches, which takes no memory.
+    /// A shelf without batches; nothing is allocated.
     pub(crate) fn new(alloc: Global) -> Shelf
         ensures { result ≡ [] }
     {
@@ -111,7 +111,7 @@ impl Shelf {
         MOST_BATCHES + 1
     }
 
-    /// Moves the first batch of the map behind those without a gap, if it comes next and there is room for it.
+    /// Moves the first batch of the map after those without a gap, if it comes next and there is room for it.
     fn move_first(&mut self) -> bool
         ensures { self.new ≡ self.old }
     {
@@ -142,7 +142,7 @@ impl Shelf {
         }
     }
 
-    /// Adds a batch whose sequence has none, behind those without a gap where it comes next, and else in the map.
+    /// Adds a batch whose sequence has none, after those without a gap where it comes next, and else in the map.
     fn add(&mut self, seq: u32, batch: Arc<OwnedBatch>) -> Result<(), AllocError>
         requires seq { seq ≡ (batch_of (arc_value batch)).seq }
         requires range { (1 ≤ seq) × (seq ≤ 1_000_000) }
@@ -159,8 +159,8 @@ impl Shelf {
         Ok(())
     }
 
-    /// Adds a batch and answers true; a batch of its sequence stays, and the answer is false. After an error all is as
-    /// it was.
+    /// Adds a batch and returns true; a batch of its sequence stays, and false is returned. After an error all is as it
+    /// was.
     pub(crate) fn put(&mut self, batch: Arc<OwnedBatch>) -> Result<bool, AllocError>
         requires { AreOf (batch_of (arc_value batch)).agent self.old }
         ensures added { IfOk result (λ added. IsTrue added ↔ (at_seq self.old (batch_of (arc_value batch)).seq ≡ None)) }

@@ -46,7 +46,8 @@ fn kind_found(found: Found) -> Option<Kind>
     }
 }
 
-/// The kind of the reading at that index of bytes with this head, from its entry. (Bytes and head are for the proof alone.)
+/// The kind of the reading at that index of bytes with this head, from its entry. (Bytes and head are for the proof
+/// alone.)
 fn kept_kind(_bytes: &[u8], _head: Head, entries: &[Entry], index: u16) -> Option<Kind>
     requires { KeepsBatch _bytes.now _head entries.now }
     ensures { result ≡ kind_in (batch_of _bytes.now) index }
@@ -77,7 +78,7 @@ impl<'a> Model for BatchView<'a> {
 }
 
 impl<'a> BatchView<'a> {
-    /// The batch that these bytes are, or their first fault: from the top, and in a line from the left.
+    /// The batch that these bytes are. An error is their first fault: from the top, and in a line from the left.
     pub fn parse(bytes: &'a [u8]) -> Result<BatchView<'a>, BatchFault>
         ensures ok { IfOk result (λ view. (view ≡ bytes.now) × (batch_in bytes.now ≡ Ok (batch_of bytes.now))) }
         ensures err { IfErr result (λ fault. batch_in bytes.now ≡ Err fault) }
@@ -118,7 +119,7 @@ impl<'a> BatchView<'a> {
         self.head.agent
     }
 
-    /// The place of the batch among those of its agent, from 1 to 1,000,000.
+    /// The sequence of the batch among those of its agent, from 1 to 1,000,000.
     pub fn seq(&self) -> u32
         ensures value { result ≡ (batch_of self.now).seq }
         ensures range { (1 ≤ result) × (result ≤ 1_000_000) }
@@ -134,8 +135,7 @@ impl<'a> BatchView<'a> {
         self.head.count
     }
 
-    /// The records, in order. Over what an `OwnedBatch` keeps each is looked up; over bytes alone the walk goes once over
-    /// them.
+    /// The records, in order.
     pub fn records(&self) -> Records<'a>
         ensures { result ≡ record { bytes = self.now; index = 0 } }
     {
@@ -148,8 +148,7 @@ impl<'a> BatchView<'a> {
         }
     }
 
-    /// The record at that index, counted from 0. Over what an `OwnedBatch` keeps it is looked up; over bytes alone it
-    /// is looked for from the front.
+    /// The record at that index, counted from 0; None from the count on.
     pub fn record_at(&self, index: u16) -> Option<Record<'a>>
         ensures there { IsSome result ↔ (index < length (batch_of self.now).records) }
         ensures record { IfSome result (λ r. slice_get (batch_of self.now).records index ≡ Some (record_of r)) }
@@ -161,8 +160,7 @@ impl<'a> BatchView<'a> {
         }
     }
 
-    /// The kind of the reading at that index; None where an amendment stands there, and from the count on. Over what an
-    /// `OwnedBatch` keeps no text is looked up; over bytes alone the record is looked for from the front.
+    /// The kind of the reading at that index; None where an amendment stands there, and from the count on.
     pub fn kind_at(&self, index: u16) -> Option<Kind>
         ensures { result ≡ kind_in (batch_of self.now) index }
     {
@@ -172,7 +170,7 @@ impl<'a> BatchView<'a> {
         }
     }
 
-    /// The kind of the reading at that index, looked for from the front.
+    /// The kind of the reading at that index, looked for from the beginning.
     fn kind_looked_for(&self, index: u16) -> Option<Kind>
         ensures { result ≡ kind_in (batch_of self.now) index }
     {
@@ -183,7 +181,7 @@ impl<'a> BatchView<'a> {
         }
     }
 
-    /// The record at that index, looked for from the front.
+    /// The record at that index, looked for from the beginning.
     fn look_for(&self, index: u16) -> Option<Record<'a>>
         ensures there { IsSome result ↔ (index < length (batch_of self.now).records) }
         ensures record { IfSome result (λ r. slice_get (batch_of self.now).records index ≡ Some (record_of r)) }

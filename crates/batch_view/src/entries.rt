@@ -30,7 +30,8 @@ pub(crate) enum Found {
     },
 }
 
-/// What is kept of a record: the spans of its nine fields, of ten with a region, or of an amendment's four, and its numbers.
+/// What is kept of a record: the spans of its nine fields, of ten with a region, or of an amendment's four, and its
+/// numbers.
 #[derive(Clone, Copy)]
 pub(crate) struct Entry {
     pub(crate) spans: [Span; 10],
@@ -118,8 +119,8 @@ fn plain_entry<'a>(
     }
 }
 
-/// What is kept of the record that a line is, or the rule that its first bad field breaks. Apart, so that the path of a plain
-/// reading stays short.
+/// What is kept of the record that a line is, or the rule that its first bad field breaks. Apart, so that the path of a
+/// plain reading stays short.
 #[inline(never)]
 fn exact_entry(version: Version, source: &[u8], line: Span) -> Result<Entry, BatchCode>
     requires ordered { line.from ≤ line.to }

@@ -1,4 +1,4 @@
-//! How far a batch goes that has other bytes behind it.
+//! How far a batch goes in a text that has other bytes after it.
 
 ghost use Rattle.std.specs.Prelude.{◌≡◌, ◌≤◌, length, None, MatchOption};
 ghost use Rattle.metering_model.specs.BatchReading.{lines_in};
@@ -34,11 +34,10 @@ pub(crate) fn first_batch(text: &[u8]) -> Option<(Head, u32)>
 }
 
 impl<'a> BatchView<'a> {
-    /// The length of the head line that the bytes begin with and of the lines that it counts, in bytes. Whether these are a
-    /// batch is not looked at.
+    /// The length in bytes of the head line that the bytes begin with and of the lines that it counts. Whether these
+    /// are a batch is not looked at.
     ///
-    /// `None` where no head line comes first, fewer lines follow, or all together have more than 65,536 bytes. No memory is
-    /// taken, and no byte beyond these is read.
+    /// `None` where no head line comes first, fewer lines follow, or all together have more than 65,536 bytes.
     pub fn extent(bytes: &[u8]) -> Option<u32>
         ensures { result ≡ extent_in bytes.now }
     {

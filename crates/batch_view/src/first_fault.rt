@@ -34,7 +34,7 @@ pub(crate) fn record_from(
     }
 }
 
-/// Reads so many records of that format, the first of them on line 2 and at `from`, and answers where they end.
+/// Reads so many records of that format, the first of them on line 2 and at `from`, and returns where they end.
 fn check_records(version: Version, text: &[u8], from: u32, count: u16) -> Result<u32, BatchFault>
     requires behind { IsBehindLines text.now 1 from }
     requires short { length text.now ≤ 65536 }

@@ -8,7 +8,7 @@ use crate::lines::next_line;
 use metering_model::{BatchCode, BatchFault, Version};
 use record_view::{Span, read_whole, split_at_bar};
 
-/// The format and the numbers of a head line, and where the records begin behind it.
+/// The format and the numbers of a head line, and where the records begin after it.
 #[derive(Clone, Copy)]
 pub(crate) struct Head {
     pub(crate) version: Version,

@@ -21,7 +21,7 @@ pub(crate) enum Unkept {
     NoMemory,
 }
 
-/// Reads so many records of that format, the first of them on line 2 and at `from`, and answers where they end.
+/// Reads so many records of that format, the first of them on line 2 and at `from`, and returns where they end.
 fn keep_entries(
     alloc: Global,
     version: Version,

@@ -117,8 +117,8 @@ fn put_tag(
 
 // ---- all tags
 
-/// Makes a piece that of tags: one JSON object without blanks, by rising keys. Where their text has no odd byte, none is asked
-/// for in a tag.
+/// Makes a piece that of tags: one JSON object without blanks, by rising keys. Where their text has no odd byte, none
+/// is asked for in a tag.
 pub(crate) fn set_tags(
     odd: &mut OddFields,
     piece: &mut Vec<u8>,

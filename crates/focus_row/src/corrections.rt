@@ -122,8 +122,8 @@ impl<'a> BetweenCuts<'a> {
         ))
     }
 
-    /// Puts the correction of a reading up to `from` behind the other rows, where it has one. It stands apart, so that the way of
-    /// readings above `from` clears no room for it. At want of memory the rows are as before.
+    /// Puts the correction of a reading up to `from` after the other rows, where it has one. It stands apart, so that
+    /// the way of readings above `from` clears no room for it. At an allocation failure the rows are as before.
     #[inline(never)]
     fn put_correction(
         &self,
@@ -153,8 +153,8 @@ impl<'a> BetweenCuts<'a> {
         Ok(())
     }
 
-    /// Puts the row of a record behind the others, where it has one. The region of the row before is near. At want of memory the
-    /// rows are as before.
+    /// Puts the row of a record after the others, where it has one. The region of the row before is near. At an
+    /// allocation failure the rows are as before.
     fn put_row(
         &self,
         rows: &mut Vec<FocusRow<'a>>,
@@ -185,8 +185,9 @@ impl<'a> BetweenCuts<'a> {
         Ok(())
     }
 
-    /// Puts the rows of a batch's records from an index on behind the other rows, until there are as many as the limit, and answers
-    /// the index of the first record whose row was not asked for. At want of memory some of them may stand there.
+    /// Puts the rows of a batch's records from an index on after the other rows, until there are as many as the limit,
+    /// and returns the index of the first record whose row was not asked for. At an allocation failure some of them may
+    /// stand there.
     pub(crate) fn put_rows(
         &self,
         rows: &mut Vec<FocusRow<'a>>,

@@ -20,8 +20,8 @@ pub(crate) struct BatchPlace {
 }
 
 impl<'a> BetweenCuts<'a> {
-    /// For how many rows of a batch with so many records room is made where all of them are made: above `from` each reading has
-    /// one, up to it few have.
+    /// For how many rows of a batch with so many records room is made where all of them are made: above `from` each
+    /// reading has one, up to it few have.
     fn room_for(&self, agent: u8, seq: u32, count: u16) -> usize
         requires from { 1 ≤ agent }
         requires to { agent ≤ self.now.agents }

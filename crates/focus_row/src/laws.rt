@@ -1,4 +1,4 @@
-//! What the rows of all periods come to, passed on under these names. Each law is a function without an effect.
+//! What the rows of all periods come to, passed on under these names. Each law is a function with an empty body.
 
 ghost use Rattle.std.specs.Prelude.{◌≡◌, ℕ, List, Some};
 ghost use Rattle.metering_model.specs.Batch.{Reading};
@@ -23,7 +23,7 @@ pub fn totals()
     row_laws::laws::totals();
 }
 
-/// A smaller holding has the rows of a larger one, where it lacks nothing up to the later cut.
+/// A part of a holding has the rows of the whole, where it lacks nothing of it up to the later cut.
 pub fn rows_stay()
     ensures { (sheet : Sheet) (issuer : Issuer) (part whole : Holding) (period : ℕ) (from to : Cut) →
         IsHolding part → IsHolding whole → IsPartOf part whole → LacksNothingUpTo to part whole → IsAtLeast to from →

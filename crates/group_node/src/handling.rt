@@ -46,7 +46,7 @@ impl Node {
         Ok(())
     }
 
-    /// Whether node i would send something, if the packet came now. No memory is taken.
+    /// Whether node i would send something, if it got the packet now.
     pub fn sends(&self, i: u8, packet: &Packet) -> bool
         requires { IsPacketAmong self.now.voters self.now.agents (packet_of packet.now) }
         ensures { Answers i (packet_of packet.now) self.now result }
@@ -70,8 +70,8 @@ impl Node {
         }
     }
 
-    /// Node i handles a packet, in a group of this base month. An error says that there was no memory, and leaves the node
-    /// as it was.
+    /// Node i handles a packet, in a group of this base month. Returns the packet that it sends, and the period that it
+    /// learns. An error is an allocation failure, and leaves the node as it was.
     pub fn handle(
         &mut self,
         alloc: Global,

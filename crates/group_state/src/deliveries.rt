@@ -54,7 +54,8 @@ fn hand_over(
 }
 
 impl GroupState {
-    /// Why a packet is not delivered to a node: there is no such packet, no such node, or no room for what it would send.
+    /// Why a packet is not delivered to a node: there is no such packet, no such node, or no room for what it would
+    /// send.
     fn delivery_refusal(&self, packet: u32, node: u8) -> Option<Refusal>
         requires { IsReached self.now }
         ensures { MatchOption result
@@ -77,7 +78,8 @@ impl GroupState {
         }
     }
 
-    /// Hands a packet to a node, once more where it had it before, and sends what the node answers.
+    /// Delivers a packet to a node, also one that it had before, and sends what the node answers. An error is an
+    /// allocation failure, and leaves the world as it was.
     pub fn deliver(&mut self, alloc: Global, packet: u32, node: u8) -> Result<Reply, AllocError>
         requires reached { IsReached self.old }
         ensures ok { IfOk result (λ reply. (reply_of reply, self.new) ≡ step self.old (Deliver packet node)) }

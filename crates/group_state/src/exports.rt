@@ -66,7 +66,8 @@ impl GroupState {
         Snapshot::of(alloc, period, from, to, node.store(), sheet, issuer)
     }
 
-    /// What the file of a period is made of, as a node has learned it; or why the node can't tell. Nothing changes.
+    /// What the file of the period is made of, as the node has learned it, or why that is refused. An error is an
+    /// allocation failure.
     pub fn snapshot(
         &self,
         alloc: Global,
@@ -90,7 +91,7 @@ impl GroupState {
         Ok(Ok(taken))
     }
 
-    /// Answers with what [`GroupState::snapshot`] gives.
+    /// Replies with what [`GroupState::snapshot`] returns. An error is an allocation failure.
     pub fn export(&self, alloc: Global, node: u8, period: u16) -> Result<Reply, AllocError>
         requires reached { IsReached self.now }
         ensures { IfOk result (λ reply. (reply_of reply, self.now) ≡ step self.now (Export node period)) }

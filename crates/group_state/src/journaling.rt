@@ -74,7 +74,8 @@ impl GroupState {
         first_broken(&self.journals, &self.sheet, batch)
     }
 
-    /// Why a batch is not journaled; None where it is its agent's next, breaks no rule, and there is room for its packet.
+    /// Why a batch is not journaled; None where it is its agent's next, breaks no rule, and there is room for its
+    /// packet.
     fn journal_refusal(&self, batch: &OwnedBatch) -> Option<Refusal>
         requires { MeetsJournalRules self.now.sheet self.now.journals }
         ensures { MatchOption result
@@ -111,7 +112,8 @@ impl GroupState {
         Ok(Reply::Journaled { packet })
     }
 
-    /// Journals a batch that is its agent's next and breaks no rule, and sends it in a packet.
+    /// Journals a batch that is its agent's next and breaks no rule, and sends it in a packet. An error is an
+    /// allocation failure, and leaves the world as it was.
     pub fn journal(&mut self, offer: &Offer) -> Result<Reply, AllocError>
         requires reached { IsReached self.old }
         ensures ok { IfOk result (λ reply. (reply_of reply, self.new) ≡ step self.old (Journal (offer_of offer.now))) }

@@ -19,7 +19,7 @@ use std::alloc::{AllocError, Global};
 /// A node begins no more ballots than this.
 const MOST_ROUNDS: u16 = 10_000;
 
-/// Node i begins its next ballot, of that period, and its first packet stands behind those that were there.
+/// Node i begins its next ballot, of that period, and its first packet stands after those that were there.
 fn begin(
     packets: &mut Vec<Packet>,
     node: &mut Node,
@@ -64,7 +64,8 @@ impl GroupState {
         Ok(period)
     }
 
-    /// A voter begins a ballot that no node has used before, and asks for promises.
+    /// A voter begins a ballot that no node has used before, and asks for promises. An error is an allocation failure,
+    /// and leaves the world as it was.
     pub fn start(&mut self, node: u8) -> Result<Reply, AllocError>
         ensures ok { IfOk result (λ reply. (reply_of reply, self.new) ≡ step self.old (Start node)) }
         ensures err { OnErr result (self.new ≡ self.old) }
@@ -82,8 +83,7 @@ impl GroupState {
         Ok(reply)
     }
 
-    /// A node forgets its attempt and its tally, and keeps round, learned cuts, promise, vote and batches. No memory is
-    /// taken.
+    /// A node drops its attempt and its tally, and keeps round, learned cuts, promise, vote and batches.
     pub fn restart(&mut self, alloc: Global, node: u8) -> Reply
         ensures { (reply_of result, self.new) ≡ step self.old (Restart node) }
     {

@@ -15,9 +15,8 @@ use std::alloc::{AllocError, Global};
 use std::marker::Model;
 use std::sync::Arc;
 
-/// What a group is at one moment: the sheet and the issuer, the batches that were journaled, the packets that were ever
-/// sent, by number, and the nodes, of which the first vote. Packets, journals and nodes share batches and cuts, and never
-/// copy one.
+/// The state of a group: the sheet and the issuer, the batches that were journaled, the packets that were ever sent, by
+/// number, and the nodes, of which the first vote.
 #[derive(Drop)]
 pub struct GroupState {
     pub(crate) sheet: Arc<Sheet>,
@@ -65,7 +64,8 @@ fn new_nodes(alloc: Global, nodes: u8, voters: u8, agents: u8) -> Result<Vec<Nod
 }
 
 impl GroupState {
-    /// A group of so many voters, observers and agents, with empty journals, before any event.
+    /// A group of so many voters, at least 1, and observers, at most 99 with the voters, and 1 to 64 agents, before any
+    /// event. An error is an allocation failure.
     pub fn new(
         alloc: Global,
         voters: u8,

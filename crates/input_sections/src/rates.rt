@@ -15,11 +15,12 @@ use std::alloc::Global;
 
 const BASE_YEAR: u16 = 2025;
 
-/// What a rating is given: by what is charged, and where in the text the batch begins.
+/// The input of a rating: a sheet and an issuer, and where in the text the batch begins, in bytes.
 #[derive(Drop)]
 pub struct RateInput {
     pub sheet: Sheet,
     pub issuer: Issuer,
+    /// Where the batch begins, in bytes from the beginning of the text.
     pub batch_from: usize,
 }
 
@@ -63,10 +64,10 @@ fn issuer_or_sample<'a>(
     }
 }
 
-/// Reads what a rating is given: a text that may begin with the section of a sheet, then with that of an issuer, and
-/// of which all the rest is a batch, which is not read here.
-///
-/// Without their sections the sheet has base month 2025-01 and no rows, and the issuer is the sample.
+/// Reads the input of a rating: a text that may begin with the sections of a sheet, then of an issuer, and whose rest
+/// is a batch, which is not read here. Without a sheet the base month is 2025-01 and there are no rows; without an
+/// issuer it is the sample. Refused is the first fault by line. OutOfMemory comes only of a text of at most 16,777,216
+/// bytes.
 #[tactic(auto, unfolding(crate::specs::RateInput::rate_input_in))]
 pub fn rate_input(alloc: Global, text: &[u8]) -> Result<RateInput, ScheduleFault>
     ensures taken { IfOk result (λ r. rate_input_in text.now

@@ -16,14 +16,16 @@ use price_sheet::Sheet;
 use sheet_text::{Issuer, IssuerFault, SheetFault};
 use std::alloc::Global;
 
-/// A section: the text of its lines, each with its line feed, and what is left behind it.
+/// A section: the text of its lines, each with its line feed, and what is left after it.
 #[derive(Drop)]
 pub struct Section<'a> {
+    /// The lines of the section.
     pub text: &'a [u8],
+    /// What is left after them.
     pub rest: Unread<'a>,
 }
 
-/// The number that stands in a line behind the word, from 1 to `most`, which is at most 1,000,000. No memory is taken.
+/// The number from 1 to `most` that stands after the word in a line, else None. `most` is at most 1,000,000.
 pub fn number_behind(line: &[u8], word: &[u8], most: u32) -> Option<u32>
     requires { most ≤ 1_000_000 }
     ensures value { result ≡ number_behind word.now most line.now }
@@ -32,7 +34,8 @@ pub fn number_behind(line: &[u8], word: &[u8], most: u32) -> Option<u32>
     read_whole(behind_word(line, word)?, 1, most)
 }
 
-/// The lines that a line opens, so many of those below it. Where fewer follow, that is told of the opening line (L7).
+/// The next `count` lines of what is left, as a section. Where fewer are left, L7 is reported at `line`, the number of
+/// the line that opens them.
 pub fn lines_below<'a>(
     below: &Unread<'a>,
     count: u32,
@@ -56,9 +59,10 @@ pub fn lines_below<'a>(
     })
 }
 
-/// Reads the section that a line with the word and a number from 1 to `most` opens.
+/// Reads the section that a line with the word and a number from 1 to `most` opens; `most` is at most 1,000,000.
 ///
-/// The code is told where that line is absent or of another form. Each fault is told of that line.
+/// Refused at that line: with L7 where it has no line feed or fewer lines follow, and with `code` where it is absent or
+/// of another form. Never OutOfMemory.
 #[tactic(auto, unfolding(crate::specs::Sections::section_in))]
 pub fn read_section<'a>(
     unread: &Unread<'a>,
@@ -153,8 +157,9 @@ fn issuer_of(alloc: Global, text: &[u8], line: u32) -> Result<Issuer, ScheduleFa
     }
 }
 
-/// Reads a section of up to 200,000 lines that is a price sheet. Want of memory is told only of a section that is UTF-8 and not
-/// blank.
+/// Reads a section of up to 200,000 lines that is a price sheet; what is left stands after it. Refused as
+/// `read_section` says, and with L4 where its lines are no sheet. OutOfMemory comes only of a section that is UTF-8 and
+/// not blank.
 #[tactic(auto, unfolding(crate::specs::Sections::sheet_section))]
 pub fn read_sheet<'a>(
     alloc: Global,
@@ -172,7 +177,8 @@ pub fn read_sheet<'a>(
     Ok((sheet, section.rest))
 }
 
-/// Reads a section of up to 100 lines that is an issuer. Want of memory is told only of a section that is UTF-8.
+/// Reads a section of up to 100 lines that is an issuer; what is left stands after it. Refused as `read_section` says,
+/// and with L5 where its lines are no issuer. OutOfMemory comes only of a section that is UTF-8.
 #[tactic(auto, unfolding(crate::specs::Sections::issuer_section))]
 pub fn read_issuer<'a>(
     alloc: Global,

@@ -1,4 +1,5 @@
-//! The rules of the journals: which record of what a store has, or of a batch that is to be put into it, breaks one first.
+//! The rules of the journals: which record of what a store has, or of a batch that is to be put into it, breaks one
+//! first.
 #![tactic(auto)]
 
 mod journaled;

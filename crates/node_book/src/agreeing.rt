@@ -1,4 +1,4 @@
-//! Whether what the workers bring back is what stands in the book, and what their plan asks.
+//! Whether the logs of the workers agree with the book, and with what their plan asks.
 
 ghost use Rattle.std.specs.Prelude.{◌≡◌, ◌↔◌, ℕ, ◌+◌, length, map, Some, slice_get, true, IsTrue};
 ghost use Rattle.metering_model.specs.World.{Journal, offer_of, opening};
@@ -193,11 +193,9 @@ impl Book {
             && self.issuer.same(&plan.issuer)
     }
 
-    /// Whether these logs are just what the history has, and what the plan asks: each worker of the plan, and no other, has a log of
-    /// its own entries, each once and in order; each agent offered its texts to the journals, and each node exported each
-    /// period once. No memory is taken.
-    ///
-    /// Where they agree, all files of one period are the same bytes.
+    /// Whether these logs are just what the history has, and what the plan asks: each worker of the plan, and no other,
+    /// has a log of its own entries, each once and in order; each agent offered its texts to the journals, and each
+    /// node exported each period once. Where it is so, all files of one period are the same bytes.
     pub fn agrees(&self, plan: &Plan, logs: &[Log]) -> bool
         ensures agrees { IsTrue result ↔ Agree self.now (plan_of plan.now) (map log_of logs.now) }
         ensures files { IsTrue result → FilesAgree (map log_of logs.now) }

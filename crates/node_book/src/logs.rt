@@ -9,7 +9,9 @@ use metering_model::Worker;
 /// What a worker did, in order.
 #[derive(Drop)]
 pub struct Log {
+    /// The worker.
     pub who: Worker,
+    /// Its acts, in order.
     pub done: Vec<Done>,
 }
 

@@ -8,8 +8,8 @@ ghost use Rattle.node_kept.specs.Inner.Head.{head_of};
 use byte_text::{is_same, read_whole, split_at_bar, whole_up_to};
 use metering_model::KeptCode;
 
-/// The numbers of a head line: how many agents there are, the round, how many cuts were learned, the ballots promised and
-/// voted for, 0 for none, and how many batches there are.
+/// The numbers of a head line: how many agents there are, the round, how many cuts were learned, the ballots promised
+/// and voted for, 0 for none, and how many batches there are.
 #[derive(Clone, Copy)]
 pub(crate) struct Head {
     pub(crate) agents: u8,

@@ -22,7 +22,7 @@ use std::sync::Arc;
 /// The line below the head line.
 const SECOND_LINE: u64 = 2;
 
-/// The cut on the first line, which has that number, and what stands behind that line.
+/// The cut on the first line, which has that number, and what stands after that line.
 fn read_cut<'a>(
     alloc: Global,
     text: &'a [u8],
@@ -52,7 +52,7 @@ fn read_cut<'a>(
     }
 }
 
-/// So many cuts, the first of them on the second line, and what stands behind them.
+/// So many cuts, the first of them on the second line, and what stands after them.
 fn read_cuts<'a>(
     alloc: Global,
     text: &'a [u8],
@@ -79,7 +79,7 @@ fn read_cuts<'a>(
     Ok((cuts, rest))
 }
 
-/// The batch that stands first, its head line on that line, and what stands behind it.
+/// The batch that stands first, its head line on that line, and what stands after it.
 fn read_batch<'a>(
     alloc: Global,
     text: &'a [u8],
@@ -114,14 +114,14 @@ struct Place {
     seq: u32,
 }
 
-/// Whether the place comes behind the other, by agent and then by sequence.
+/// Whether the place comes after the other, by agent and then by sequence.
 fn comes_behind(place: Place, other: Place) -> bool
     ensures { result ≡ comes_behind other.agent other.seq place.agent place.seq }
 {
     other.agent < place.agent || (other.agent == place.agent && other.seq < place.seq)
 }
 
-/// So many batches, the first of them from that line on, in a store; the line behind them, and what stands there.
+/// So many batches, the first of them from that line on, in a store; the line after them, and what stands there.
 fn read_batches<'a>(
     alloc: Global,
     text: &'a [u8],
@@ -218,10 +218,10 @@ fn read_parts(alloc: Global, text: &[u8], head: Head) -> Result<Parts, KeptFault
 }
 
 impl Kept {
-    /// What a node keeps whose text this is, or the text's first fault by line.
+    /// What a node keeps whose text this is. `Refused` is the first fault by line; `OutOfMemory` comes only of a text
+    /// that begins with a head line.
     ///
-    /// Each batch is copied once. Want of memory is told only of a text that begins with a head line. Bytes from which a node may
-    /// be revived are compared with what it keeps where that is done; here only their form is looked at.
+    /// Only the form of the text is looked at, and not whether any node keeps this.
     pub fn read(alloc: Global, text: &[u8]) -> Result<Kept, KeptFault>
         ensures ok { IfOk result (λ kept. kept_in text.now ≡ Ok kept) }
         ensures refused { IfErr result (IsFaultOf text.now) }

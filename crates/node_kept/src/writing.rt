@@ -122,7 +122,8 @@ fn put_head_of(
 }
 
 impl Parts {
-    /// The text of what is kept: a line of numbers, one for each cut, and the batches as they are, each copied once.
+    /// The text of what is kept: a line of numbers, one for each cut, and the batches as they are. An error is an
+    /// allocation failure.
     pub fn write(&self, alloc: Global) -> Result<Vec<u8>, AllocError>
         ensures { IfOk result (λ text. text.items ≡ kept_text self.now) }
     {
@@ -139,7 +140,7 @@ impl Parts {
 }
 
 impl Kept {
-    /// Its text, which `Kept::read` takes.
+    /// Its text, which `Kept::read` takes. An error is an allocation failure.
     pub fn write(&self, alloc: Global) -> Result<Vec<u8>, AllocError>
         ensures { IfOk result (λ text. text.items ≡ kept_text self.now) }
     {

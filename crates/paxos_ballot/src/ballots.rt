@@ -24,8 +24,7 @@ impl Model for Ballot {
 }
 
 impl Ballot {
-    /// The ballot of a node in one of its rounds, of which it has at most 10,000.
-    /// Nodes are numbered from 0, and are at most 99.
+    /// The ballot of a node in one of its rounds, at most 10,000. Nodes are numbered from 0, and are at most 99.
     pub fn of(round: u16, node: u8, nodes: u8) -> Ballot
         requires round { round ≤ 10_000 }
         requires node { node < nodes }
@@ -37,7 +36,7 @@ impl Ballot {
         }
     }
 
-    /// The ballot of that number, as `number` gave it; `None` for 0, which stands for no ballot.
+    /// The ballot of that number, as `number` returns it; `None` for 0, which stands for no ballot.
     pub fn numbered(number: u32) -> Option<Ballot>
         ensures { result ≡ ballot_numbered number }
     {
@@ -48,7 +47,7 @@ impl Ballot {
         }
     }
 
-    /// The number itself.
+    /// The number of the ballot.
     pub fn number(self) -> u32
         ensures { result ≡ self }
     {
@@ -68,7 +67,7 @@ pub fn majority(nodes: u8) -> u8
 pub struct Vote {
     /// The ballot at which it was accepted.
     pub ballot: Ballot,
-    /// The cut, shared and never copied.
+    /// The cut, shared.
     pub cut: Arc<Cut>,
 }
 

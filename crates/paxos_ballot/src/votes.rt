@@ -30,7 +30,7 @@ impl Model for Tally {
 }
 
 impl Tally {
-    /// Nobody has accepted at any ballot. It takes no memory.
+    /// A tally among that many nodes, at most 99, in which nobody has accepted.
     pub fn new(alloc: Global, nodes: u8) -> Tally
         requires { nodes ≤ 99 }
         ensures nodes { result.nodes ≡ nodes }
@@ -42,8 +42,8 @@ impl Tally {
         }
     }
 
-    /// Takes the word of a node that it accepted a vote, and answers the vote's cut where a majority has now
-    /// accepted at that ballot. An error says that there was no memory for one more ballot; nothing has changed then.
+    /// Counts that a node accepted a vote, and returns the vote's cut where a majority has now accepted at that ballot.
+    /// An error is an allocation failure, and leaves the tally as it was.
     pub fn on_accepted(&mut self, from: u8, vote: Vote) -> Result<Option<Arc<Cut>>, AllocError>
         requires { from < self.old.nodes }
         ensures nodes { self.new.nodes ≡ self.old.nodes }

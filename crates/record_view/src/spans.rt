@@ -11,7 +11,7 @@ use metering_model::Version;
 
 const BAR: u8 = b'|';
 
-/// Stands behind the last field of an amendment, and of a reading without a region.
+/// Stands after the last field of an amendment, and of a reading without a region.
 const NOWHERE: Span = Span { from: 0, to: 0 };
 
 /// The spans of the fields of a line that has four.
@@ -56,9 +56,8 @@ fn last_spans(line: Span, region: Option<Field<'_>>) -> (u32, Span)
     }
 }
 
-/// The spans of the fields of a record that was read from that line in a batch of that format, from left to right: nine of a
-/// reading, or ten with its region, and four of an amendment, with nothing meant by those behind them. A reading isn't
-/// looked through again.
+/// The spans of the fields of a record that was read from that line in a batch of that format, from left to right: nine
+/// of a reading, or ten with its region, and four of an amendment. What stands after these in the array means nothing.
 #[inline(always)]
 pub fn field_spans(version: Version, source: &[u8], line: Span, what: &Record<'_>) -> [Span; 10]
     requires ordered { line.from ≤ line.to }

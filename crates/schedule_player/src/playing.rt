@@ -18,7 +18,7 @@ use group_core::World;
 use schedule_reader::Planned;
 use std::alloc::{AllocError, Global};
 
-/// Does one event, and puts the text of its reply behind what waits. Where memory is refused, nothing of it waits.
+/// Does one event, and puts the text of its reply after what waits. Where an allocation fails, nothing of it waits.
 fn play_event(
     alloc: Global,
     world: &mut World,
@@ -40,8 +40,9 @@ fn play_event(
     lines.add(alloc, &reply)
 }
 
-/// Writes what waits, if it is much. So what waits has a bound, however long a transcript is: before an event it is little, and
-/// behind it one reply's text more. (Of memory no clause speaks, and the file of the last export stays at hand.)
+/// Writes what waits, if it is much. So what waits has a bound, however long a transcript is: before an event it is
+/// little, and after it one reply's text more. (Of memory no clause speaks, and the file of the last export stays at
+/// hand.)
 fn write_many<W: Sink>(lines: &mut ReplyLines, writer: &mut W) -> Result<(), Failed>
     ensures written { OnOk result ((written : List ℕ) × (written ++ lines.new.text ≡ lines.old.text) × Appends (W.contents writer.old) (W.contents writer.new) written) }
     ensures prefix { OnErr result (AppendsPrefix (W.contents writer.old) (W.contents writer.new) lines.old.text) }
@@ -59,8 +60,8 @@ fn write_many<W: Sink>(lines: &mut ReplyLines, writer: &mut W) -> Result<(), Fai
     }
 }
 
-/// Does the events in turn, as long as memory is found, and answers how many were done. What a transcript says of their replies
-/// was written, or waits, and little of it waits.
+/// Does the events in turn, as long as memory is found, and returns how many were done. What a transcript says of their
+/// replies was written, or waits, and little of it waits.
 fn play_on<W: Sink>(
     alloc: Global,
     world: &mut World,
@@ -88,8 +89,8 @@ fn play_on<W: Sink>(
     Ok(events.len())
 }
 
-/// Does the events in turn, as long as memory is found, and writes just what a transcript says of the replies of those that were
-/// done. It answers how many these are.
+/// Does the events in turn, as long as memory is found, and writes just what a transcript says of the replies of those
+/// that were done. It answers how many these are.
 pub(crate) fn play_events<W: Sink>(
     alloc: Global,
     world: World,

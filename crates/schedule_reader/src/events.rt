@@ -18,7 +18,7 @@ const LAST_PERIOD: u32 = 1_199;
 /// A revival has no more lines than this.
 const MOST_LINES: u32 = 200_000;
 
-/// An event as it stands in a schedule. What is journaled is lent from the text, and not read.
+/// An event as it stands in a schedule. What is journaled is lent from the text, and not read as a batch.
 #[derive(Clone, Copy, Drop)]
 pub enum Planned<'a> {
     /// These lines, each with its line feed, are offered as a batch.
@@ -103,7 +103,7 @@ fn event_of_line<'a>(line: &'a [u8]) -> Option<Planned<'a>>
     keep(line)
 }
 
-/// The event of the next line, and what is left behind it.
+/// The event of the next line, and what is left after it.
 #[tactic(auto, unfolding(crate::specs::Schedules::line_event))]
 fn line_event<'a>(unread: &Unread<'a>) -> Result<(Planned<'a>, Unread<'a>), ScheduleFault>
     ensures event { MatchResult result (λ r. line_event unread.now ≡ Ok (planned_of r.0, r.1)) (λ fault. line_event unread.now ≡ Err fault) }
@@ -120,7 +120,7 @@ fn line_event<'a>(unread: &Unread<'a>) -> Result<(Planned<'a>, Unread<'a>), Sche
     }
 }
 
-/// The journal that the next line opens, and what is left behind its lines.
+/// The journal that the next line opens, and what is left after its lines.
 #[tactic(auto, unfolding(crate::specs::Schedules::journal_event))]
 fn journal_event<'a>(unread: &Unread<'a>) -> Result<(Planned<'a>, Unread<'a>), ScheduleFault>
     ensures event { MatchResult result (λ r. journal_event unread.now ≡ Ok (planned_of r.0, r.1)) (λ fault. journal_event unread.now ≡ Err fault) }
@@ -144,7 +144,7 @@ fn revival_of_line(line: &[u8]) -> Option<(u32, u32)>
     }
 }
 
-/// The revival that the next line opens, and what is left behind its lines.
+/// The revival that the next line opens, and what is left after its lines.
 #[tactic(auto, unfolding(crate::specs::Schedules::revival_event))]
 fn revival_event<'a>(unread: &Unread<'a>) -> Result<(Planned<'a>, Unread<'a>), ScheduleFault>
     ensures event { MatchResult result (λ r. revival_event unread.now ≡ Ok (planned_of r.0, r.1)) (λ fault. revival_event unread.now ≡ Err fault) }
@@ -169,7 +169,7 @@ fn revival_event<'a>(unread: &Unread<'a>) -> Result<(Planned<'a>, Unread<'a>), S
     ))
 }
 
-/// The next event, and what is left behind it. No memory is taken.
+/// The next event, and what is left after it. Refused is the first fault by line. Never OutOfMemory.
 #[tactic(auto, unfolding(crate::specs::Schedules::event_in))]
 pub fn event_in<'a>(unread: &Unread<'a>) -> Result<(Planned<'a>, Unread<'a>), ScheduleFault>
     ensures event { MatchResult result (λ r. event_in unread.now ≡ Ok (planned_of r.0, r.1)) (λ fault. event_in unread.now ≡ Err fault) }

@@ -14,7 +14,7 @@ use std::marker::Model;
 // UTC is counted without leap seconds.
 const SECONDS_PER_DAY: i64 = 86_400;
 
-/// A day of UTC.
+/// A day of UTC, in the years 0001 to 9999.
 #[derive(Clone, Copy, Debug, PartialEq, Eq, PartialOrd, Ord)]
 pub struct Day {
     number: i32,
@@ -56,7 +56,7 @@ impl Day {
         }
     }
 
-    /// The first day of a month, which is numbered from 1.
+    /// The first day of a month: the year from 1 to 9999, the month from 1 to 12.
     pub fn first_of_month(year: u16, month: u8) -> Day
         requires year_from { 1 ≤ year }
         requires year_to { year ≤ 9999 }
@@ -96,7 +96,7 @@ impl Day {
         self.number
     }
 
-    /// The day's first moment.
+    /// The first moment of the day.
     pub fn start(self) -> Stamp
         ensures { result ≡ self *ℤ pos 86_400 }
     {
@@ -106,7 +106,7 @@ impl Day {
     }
 }
 
-/// A moment of UTC, to the second.
+/// A moment of UTC, to the second, in the years 0001 to 9999.
 #[derive(Clone, Copy, Debug, PartialEq, Eq, PartialOrd, Ord)]
 pub struct Stamp {
     seconds: i64,
@@ -132,8 +132,7 @@ impl Stamp {
         Stamp::on_day(Day::read(date)?, time)
     }
 
-    /// Reads two stamps, each as `read` does; `None` where either is none. The day of both is found once, where it is
-    /// the same.
+    /// Reads two stamps, each as `read` does; `None` where either is none.
     pub fn read_both(first: &[u8], second: &[u8]) -> Option<(Stamp, Stamp)>
         ensures { result ≡ option_zip (stamp_in first.now) (stamp_in second.now) }
     {

@@ -30,7 +30,7 @@ impl Model for Month {
 }
 
 impl Month {
-    /// A month of a year; both are numbered from 1.
+    /// A month of a year: the year from 1 to 9999, the month from 1 to 12.
     pub fn of(year: u16, month: u8) -> Month
         requires year_from { 1 ≤ year }
         requires year_to { year ≤ 9999 }
@@ -51,7 +51,7 @@ impl Month {
         Some(Month { number })
     }
 
-    /// Whether a sheet may have it as its base month: it lies from 2000-01 to 2100-12.
+    /// Whether it may be a sheet's base month: it lies from 2000-01 to 2100-12.
     pub fn is_base(self) -> bool
         ensures { IsTrue result ↔ IsBaseMonth self }
     {
@@ -66,7 +66,7 @@ impl Month {
         self.number
     }
 
-    /// The month so many months later, at most the last of the year 9999.
+    /// The month that many months later, which has to be one of the years up to 9999.
     pub fn after(self, months: u16) -> Month
         requires { self + months < 120_000 }
         ensures { result ≡ self + months }
