@@ -5,6 +5,7 @@ use Rattle.std.specs.Option.{is_some}
 pub use Rattle.metering_model.specs.declared.PricedKind.{PricedKind}
 pub use Rattle.metering_model.specs.declared.PricedKind.TheVariants.{Usage, Purchase}
 use Rattle.metering_model.specs.Sheet.{PriceRow, Commitment}
+use Rattle.metering_model.specs.Limits.{one_in_millionths}
 
 -- twice the distance from v to per times q
 abbrev pub twice_off : ℕ → ℤ → ℤ → ℕ
@@ -62,5 +63,5 @@ rated row c kind was now = costs row c kind (now -ℤ was) (pricing_quantity row
 -- what a credit, a tax or an adjustment is, from an old amount to a new one: the difference, under all four costs
 abbrev pub flat : ℤ → ℤ → Rated
 flat was now =
-    let amount = cost_at 1_000_000 (now -ℤ was) in
+    let amount = cost_at one_in_millionths (now -ℤ was) in
     record { consumed = None; priced = None; list = amount; contracted = amount; billed = amount; effective = amount }

@@ -3,6 +3,7 @@
 ghost use Rattle.std.specs.Prelude.{◌≡◌, ℕ, ◌+◌, ◌^◌, ◌<◌, ◌≤◌, ◌↔◌, ◌⊎◌, true, false, List, [], ◌∷◌, ◌++◌, length, slice_set, Some, None, Ok, ℤ, unsigned_abs, unwrap_or, slice_get, All, Err, pos, ◌≤ℤ◌, ◌<ℤ◌};
 ghost use Rattle.std.specs.Option.{is_some};
 ghost use Rattle.std.specs.List.{flat_map, filter_map, Contains};
+ghost use Rattle.metering_model.specs.Limits.{most_agents, most_batches};
 ghost use Rattle.metering_model.specs.NumberText.{Spells, number_in, spelling, Range, value_in, value_limit, price_in, price_limit};
 ghost use Rattle.metering_model.specs.Dates.{IsMonthText, IsDayText, IsStampText, month_in, day_in, stamp_in};
 ghost use Rattle.metering_model.specs.Batch.{Batch, Reading, IsBatch, IsWellFormed, is_priced};
@@ -58,7 +59,7 @@ pub fn what_is_kept_is_read_where_its_parts_are_joined()
     ensures joined { (text : List ℕ) (k : KeptAmong) → (kept_in text ≡ Ok k) ↔ IsKeptText text k }
     ensures back { (k : KeptAmong) → HasText k → kept_in (kept_text k) ≡ Ok k }
     ensures one { (k l : KeptAmong) → HasText k → HasText l → kept_text k ≡ kept_text l → k ≡ l }
-    ensures few { (h : Holding) → IsHolding h → All (λ b. b.agent ≤ 64) h → length h ≤ 64_000_000 }
+    ensures few { (h : Holding) → IsHolding h → All (λ b. b.agent ≤ most_agents) h → length h ≤ most_batches }
 {}
 
 /// For `per` above 0, a pricing quantity is the value divided by `per`, rounded half to even, and no other number is.

@@ -4,6 +4,7 @@ ghost use Rattle.std.specs.List.{join_with_byte};
 ghost use Rattle.metering_model.specs.BatchReading.{fields_in};
 ghost use Rattle.metering_model.specs.Cut.{IsAtLeast, last_of, zero_cut};
 ghost use Rattle.metering_model.specs.KeptText.{cut_in};
+ghost use Rattle.metering_model.specs.Limits.{last_sequence, most_agents};
 ghost use Rattle.period_cut.specs.Limits.{IsCut};
 ghost use Rattle.period_cut.specs.Inner.Entries.{HasBehind};
 
@@ -12,7 +13,7 @@ use std::alloc::{AllocError, Global};
 use std::marker::Model;
 
 /// No batch has a sequence above this one.
-const LAST_SEQ: u32 = 1_000_000;
+const LAST_SEQUENCE: u32 = 1_000_000;
 
 /// Appends sequences, joined by `|`. Where an allocation fails some of that may stand after what was there.
 fn put_entries(text: &mut Vec<u8>, entries: &[u32]) -> Result<(), AllocError>
@@ -50,7 +51,7 @@ impl Cut {
     /// The cut before the first period: 0 for each of the agents, 1 to 64. An error is an allocation failure.
     pub fn zero(alloc: Global, agents: u8) -> Result<Cut, AllocError>
         requires from { 1 ≤ agents }
-        requires to { agents ≤ 64 }
+        requires to { agents ≤ most_agents }
         ensures { IfOk result (λ cut. cut ≡ zero_cut agents) }
     {
         Ok(Cut {
@@ -71,7 +72,7 @@ impl Cut {
     /// `None` for a line of another form. An error is an allocation failure.
     pub fn read(alloc: Global, line: &[u8], agents: u8) -> Result<Option<Cut>, AllocError>
         requires from { 1 ≤ agents }
-        requires to { agents ≤ 64 }
+        requires to { agents ≤ most_agents }
         ensures { IfOk result (λ cut. cut ≡ cut_in agents (fields_in line.now)) }
     {
         let mut entries = Vec::with_capacity(alloc, usize::from(agents))?;
@@ -80,7 +81,7 @@ impl Cut {
             let Some((field, behind)) = split_at_bar(rest) else {
                 return Ok(None);
             };
-            let Some(seq) = read_whole(field, 0, LAST_SEQ) else {
+            let Some(seq) = read_whole(field, 0, LAST_SEQUENCE) else {
                 return Ok(None);
             };
             entries.push(seq)?;
@@ -89,7 +90,7 @@ impl Cut {
         if split_at_bar(rest).is_some() {
             return Ok(None);
         }
-        let Some(seq) = read_whole(rest, 0, LAST_SEQ) else {
+        let Some(seq) = read_whole(rest, 0, LAST_SEQUENCE) else {
             return Ok(None);
         };
         entries.push(seq)?;
@@ -131,7 +132,7 @@ impl Cut {
         requires from { 1 ≤ agent }
         requires to { agent ≤ length self.now }
         ensures value { result ≡ last_of self.now agent }
-        ensures within { result ≤ 1_000_000 }
+        ensures within { result ≤ last_sequence }
     {
         self.entries[usize::from(agent) - 1]
     }
@@ -140,7 +141,7 @@ impl Cut {
     pub fn set(&mut self, agent: u8, seq: u32)
         requires from { 1 ≤ agent }
         requires to { agent ≤ length self.old }
-        requires seq { seq ≤ 1_000_000 }
+        requires seq { seq ≤ last_sequence }
         ensures { self.new ≡ slice_set self.old (agent - 1) seq }
     {
         self.entries[usize::from(agent) - 1] = seq;

@@ -5,7 +5,7 @@ ghost use Rattle.metering_model.specs.Dates.{period_start, period_end, period_st
 use std::marker::Model;
 use utc_calendar::{Month, Stamp};
 
-const PERIODS: u16 = 1_200;
+const MOST_PERIODS: u16 = 1_200;
 
 /// A billing period, from 0 to 1,199; period 0 is the base month.
 ///
@@ -34,7 +34,7 @@ impl Period {
         ensures valid { IsSome result ↔ IsPeriod number }
         ensures value { IfSome result (λ period. period ≡ number) }
     {
-        if number < PERIODS {
+        if number < MOST_PERIODS {
             Some(Period { number })
         } else {
             None

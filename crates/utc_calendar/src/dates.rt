@@ -5,6 +5,7 @@ ghost use Rattle.std.specs.Option.{option_zip};
 ghost use Rattle.jiff_core.specs.Calendar.{days_from_civil};
 ghost use Rattle.jiff_core.specs.Date.{epoch_day};
 ghost use Rattle.metering_model.specs.Dates.{month_in, day_of_month, day_in, second_in, has_stamp_form, stamp_of, stamp_in, day_of};
+ghost use Rattle.metering_model.specs.Limits.{last_year};
 ghost use Rattle.utc_calendar.specs.Years.{IsMonthNumber, IsDayNumber, IsStampNumber};
 
 use crate::digits;
@@ -59,7 +60,7 @@ impl Day {
     /// The first day of a month: the year from 1 to 9999, the month from 1 to 12.
     pub fn first_of_month(year: u16, month: u8) -> Day
         requires year_from { 1 ≤ year }
-        requires year_to { year ≤ 9999 }
+        requires year_to { year ≤ last_year }
         requires month_from { 1 ≤ month }
         requires month_to { month ≤ 12 }
         ensures { result ≡ days_from_civil (pos year) month 1 }

@@ -1,6 +1,7 @@
 //! Calendar months.
 ghost use Rattle.std.specs.Prelude.{◌≡◌, ℕ, ◌+◌, ◌-◌, ◌*◌, ◌<◌, ◌≤◌, ◌↔◌, IsTrue};
 ghost use Rattle.metering_model.specs.Dates.{month_in, month_start, month_start_text, two_digits, IsBaseMonth};
+ghost use Rattle.metering_model.specs.Limits.{last_year};
 ghost use Rattle.utc_calendar.specs.Years.{IsMonthNumber};
 
 use crate::dates::{Day, Stamp, month_number};
@@ -33,7 +34,7 @@ impl Month {
     /// A month of a year: the year from 1 to 9999, the month from 1 to 12.
     pub fn of(year: u16, month: u8) -> Month
         requires year_from { 1 ≤ year }
-        requires year_to { year ≤ 9999 }
+        requires year_to { year ≤ last_year }
         requires month_from { 1 ≤ month }
         requires month_to { month ≤ 12 }
         ensures { result ≡ 12 * year + month - 1 }
