@@ -79,6 +79,13 @@ impl CommitmentTable {
         row_placed(&self.rows, &self.places, id)
     }
 
+    /// The commitments, in the order of the sheet.
+    pub(crate) fn rows(&self) -> &[Commitment]
+        ensures { result.now ≡ self.now }
+    {
+        &self.rows
+    }
+
     /// Whether the commitments are the same, in the same order.
     pub(crate) fn same(&self, other: &CommitmentTable) -> bool
         ensures { IsTrue result ↔ (self.now ≡ other.now) }

@@ -83,6 +83,13 @@ impl PriceTable {
         row_in_force(&self.rows, &self.index, sku, day)
     }
 
+    /// The rows, in the order of the sheet.
+    pub(crate) fn rows(&self) -> &[PriceRow]
+        ensures { result.now ≡ self.now }
+    {
+        &self.rows
+    }
+
     /// Whether the rows are the same, in the same order.
     pub(crate) fn same(&self, other: &PriceTable) -> bool
         ensures { IsTrue result ↔ (self.now ≡ other.now) }

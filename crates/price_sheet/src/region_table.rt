@@ -74,6 +74,13 @@ impl RegionTable {
         row_placed(&self.rows, &self.places, id)
     }
 
+    /// The regions, in the order of the sheet.
+    pub(crate) fn rows(&self) -> &[Region]
+        ensures { result.now ≡ self.now }
+    {
+        &self.rows
+    }
+
     /// Whether the regions are the same, in the same order.
     pub(crate) fn same(&self, other: &RegionTable) -> bool
         ensures { IsTrue result ↔ (self.now ≡ other.now) }

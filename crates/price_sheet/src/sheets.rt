@@ -15,7 +15,7 @@ use crate::places::fault_at;
 use crate::price_table::PriceTable;
 use crate::region_table::RegionTable;
 use sheet_text::{
-    Commitment, Day, Key, Month, Place, PriceRow, SheetFault, base_under, rows_under,
+    Commitment, Day, Key, Month, Place, PriceRow, Region, SheetFault, base_under, rows_under,
 };
 use std::alloc::{AllocError, Global};
 use std::marker::Model;
@@ -140,6 +140,27 @@ impl Sheet {
             commitments,
             regions,
         })
+    }
+
+    /// The prices, in the order of the sheet. No memory is taken.
+    pub fn prices(&self) -> &[PriceRow]
+        ensures { result.now ≡ self.now.prices }
+    {
+        self.prices.rows()
+    }
+
+    /// The commitments, in the order of the sheet. No memory is taken.
+    pub fn commitments(&self) -> &[Commitment]
+        ensures { result.now ≡ self.now.commitments }
+    {
+        self.commitments.rows()
+    }
+
+    /// The regions, in the order of the sheet. No memory is taken.
+    pub fn regions(&self) -> &[Region]
+        ensures { result.now ≡ self.now.regions }
+    {
+        self.regions.rows()
     }
 
     /// The price of a SKU that is in force on a day: the one that began last. No memory is taken.
