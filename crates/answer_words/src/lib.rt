@@ -8,5 +8,5 @@ mod sheet_faults;
 
 pub use byte_text::Line;
 pub use refusals::{code_word, kept_code_word, refusal_line};
-pub use sections::put_section;
+pub use sections::{put_section, section_code_word};
 pub use sheet_faults::{put_issuer_fault, put_sheet_fault};

@@ -7,7 +7,7 @@ use byte_text::Line;
 use input_sections::ScheduleCode;
 
 /// The text of a section's code, as `L4`.
-fn section_code_word(code: ScheduleCode) -> &'static [u8]
+pub fn section_code_word(code: ScheduleCode) -> &'static [u8]
     ensures word { result.now ≡ section_code_text code }
     ensures length { length result.now ≡ 2 }
 {

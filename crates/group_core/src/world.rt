@@ -1,6 +1,7 @@
 //! A group, whose type keeps that some run leads to it.
 
 ghost use Rattle.std.specs.Prelude.{◌≡◌, ◌≢◌, ℕ, ◌+◌, ◌≤◌, true, Some, slice_get, IfOk, OnErr, [], ◌∷◌};
+ghost use Rattle.std.specs.Option.{option_map};
 ghost use Rattle.std.specs.Arc.{arc_value};
 ghost use Rattle.metering_model.specs.World.{Node, KeptOffer, KeptGood, Refused, Revive, opening, voter_count};
 ghost use Rattle.metering_model.specs.KeptText.{kept_text};
@@ -10,6 +11,7 @@ ghost use Rattle.group_laws.specs.EveryRun.{KeepsLimits};
 ghost use Rattle.group_laws.specs.Revivals.{refusal_of_other};
 ghost use Rattle.group_state.specs.Words.{event_of, is_exported, is_kept_text, is_refused, reply_of};
 ghost use Rattle.group_state.specs.Reached.{IsReached};
+ghost use Rattle.group_state.specs.BadRecords.{bad_record};
 ghost use Rattle.group_core.specs.Headline.{AreExportsOf, ChargesOnce, ExportsStay, HasOneList, IsExportOf, IsSameGroup, LearnsWhatIsChosen, ListGrows};
 
 use group_state::{Event, GroupState, Reply, Snapshot};
@@ -104,6 +106,21 @@ impl World {
         ensures stay { ExportsStay self.old self.new }
     {
         self.state.step(alloc, event)
+    }
+
+    /// The sheet by which the group's usage is priced.
+    pub fn sheet(&self) -> &Sheet
+        ensures { result.now ≡ self.now.sheet }
+    {
+        self.state.sheet()
+    }
+
+    /// The index of the record for which an event's batch is refused where it comes next in its agent's journal: the first that
+    /// breaks a rule beside the journals. Nothing changes, and no memory is taken.
+    pub fn bad_record(&self, event: &Event) -> Option<u16>
+        ensures { result ≡ option_map (λ p. p.index) (bad_record self.now (event_of event.now)) }
+    {
+        self.state.bad_record(event)
     }
 
     /// The reply to an export of a period at a node, or why it is refused: first for a node that is not there, then for

@@ -1,22 +1,25 @@
 //! A batch is journaled.
 
-ghost use Rattle.std.specs.Prelude.{◌≡◌, ◌≤◌, ◌++◌, ◌∷◌, [], None, Some, Ok, Err, map, IfOk, OnErr, MatchOption};
+ghost use Rattle.std.specs.Prelude.{◌≡◌, ◌≤◌, ◌++◌, ◌∷◌, [], true, None, Some, Ok, Err, map, IfOk, OnErr, MatchOption};
+ghost use Rattle.std.specs.Option.{option_map};
 ghost use Rattle.std.specs.Arc.{arc_value};
 ghost use Rattle.metering_model.specs.Holding.{held, placed, put};
 ghost use Rattle.metering_model.specs.JournalRules.{MeetsJournalRules, first_broken, next_seq};
 ghost use Rattle.metering_model.specs.World.{CarriesBatch, Journal};
 ghost use Rattle.metering_model.specs.Step.{on_batch, step, unless_broken};
 ghost use Rattle.group_events.specs.Batches.{batch_of};
+ghost use Rattle.journal_rules.specs.FirstBad.{first_bad};
 ghost use Rattle.group_node.specs.Packets.{packet_of};
-ghost use Rattle.group_events.specs.Events.{offer_of};
+ghost use Rattle.group_events.specs.Events.{event_of, offer_of};
 ghost use Rattle.group_events.specs.Replies.{reply_of};
 ghost use Rattle.group_state.specs.Reached.{IsReached};
+ghost use Rattle.group_state.specs.BadRecords.{bad_in, bad_record, is_next};
 ghost use Rattle.group_state.specs.Inner.Allowed.{MayJournal};
 
 use crate::GroupState;
-use group_events::{BatchView, Offer, OwnedBatch, Reply};
+use group_events::{BatchView, Event, Offer, OwnedBatch, Reply};
 use group_node::Packet;
-use journal_rules::{Store, first_broken};
+use journal_rules::{Store, first_bad, first_broken};
 use metering_model::{BrokenRule, Refusal};
 use std::alloc::AllocError;
 use std::sync::Arc;
@@ -98,6 +101,56 @@ impl GroupState {
             None
         } else {
             Some(Refusal::WorldFull)
+        }
+    }
+
+    /// Whether a batch is of an agent of the group, and comes next in its journal, which so lacks it.
+    fn is_next(&self, batch: &BatchView<'_>) -> bool
+        requires { MeetsJournalRules self.now.sheet self.now.journals }
+        ensures next { result ≡ is_next self.now (batch_of batch.now) }
+        ensures agent { result ≡ true → (batch_of batch.now).agent ≤ self.now.agents }
+        ensures absent { result ≡ true → held self.now.journals (batch_of batch.now).agent (batch_of batch.now).seq ≡ None }
+    {
+        let agent = batch.agent();
+        if agent > self.agents() {
+            return false;
+        }
+        batch.seq() == self.next_seq(agent)
+    }
+
+    /// The index of the first bad record of a batch that its journal lacks.
+    fn first_bad(&self, batch: &BatchView<'_>) -> Option<u16>
+        requires agent { (batch_of batch.now).agent ≤ self.now.agents }
+        requires new { held self.now.journals (batch_of batch.now).agent (batch_of batch.now).seq ≡ None }
+        ensures { result ≡ option_map (λ p. p.index) (first_bad self.now.sheet (put self.now.journals (batch_of batch.now)) (placed (batch_of batch.now))) }
+    {
+        match first_bad(&self.journals, &self.sheet, batch) {
+            Some((index, _)) => Some(index),
+            None => None,
+        }
+    }
+
+    /// The index of the first bad record of a batch that comes next.
+    fn bad_in(&self, batch: &BatchView<'_>) -> Option<u16>
+        requires { MeetsJournalRules self.now.sheet self.now.journals }
+        ensures { result ≡ option_map (λ p. p.index) (bad_in self.now (batch_of batch.now)) }
+    {
+        if self.is_next(batch) {
+            self.first_bad(batch)
+        } else {
+            None
+        }
+    }
+
+    /// The index of the record for which an event's batch is refused where it comes next in its agent's journal: the first that
+    /// breaks a rule beside the journals. Nothing changes, and no memory is taken.
+    pub fn bad_record(&self, event: &Event) -> Option<u16>
+        requires reached { IsReached self.now }
+        ensures { result ≡ option_map (λ p. p.index) (bad_record self.now (event_of event.now)) }
+    {
+        match event {
+            Event::Journal(Offer::Good(batch)) => self.bad_in(&batch.view()),
+            _ => None,
         }
     }
 

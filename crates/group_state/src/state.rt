@@ -92,6 +92,13 @@ impl GroupState {
         })
     }
 
+    /// The sheet by which the group's usage is priced.
+    pub fn sheet(&self) -> &Sheet
+        ensures { result.now ≡ self.now.sheet }
+    {
+        &self.sheet
+    }
+
     /// The packet of that number.
     pub(crate) fn packet(&self, packet: u32) -> Option<&Packet>
         ensures { option_map packet_of (option_copied result) ≡ slice_get self.now.packets packet }

@@ -42,6 +42,27 @@ pub fn first_broken_alone(sheet: &Sheet, batch: &BatchView<'_>) -> Option<Broken
     Journaled { store: None, batch }.first_broken(sheet)
 }
 
+/// The index of the first bad record of such a batch, in the journals that have it too, and the rule that it breaks. No memory is
+/// taken.
+pub fn first_bad(
+    store: &Store,
+    sheet: &Sheet,
+    batch: &BatchView<'_>,
+) -> Option<(u16, BrokenRule)>
+    requires agent { (batch_of batch.now).agent ≤ store.now.agents }
+    requires new { held store.now.batches (batch_of batch.now).agent (batch_of batch.now).seq ≡ None }
+    ensures rule { option_map (λ r. r.1) result ≡ first_broken sheet.now (put store.now.batches (batch_of batch.now)) (placed (batch_of batch.now)) }
+    ensures index { option_map (λ r. r.0) result ≡ option_map (λ p. p.index) (first_bad sheet.now (put store.now.batches (batch_of batch.now)) (placed (batch_of batch.now))) }
+{
+    // For the proof alone: its clause says that the agents are 1 to 64, and their batches a holding.
+    let _agents = store.agents();
+    Journaled {
+        store: Some(store),
+        batch,
+    }
+    .first_bad(sheet)
+}
+
 /// The index of the first bad record of a batch, in journals that have this batch alone, and the rule that it breaks;
 /// None where there is none.
 pub fn first_bad_alone(sheet: &Sheet, batch: &BatchView<'_>) -> Option<(u16, BrokenRule)>
