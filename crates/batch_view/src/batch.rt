@@ -3,6 +3,7 @@
 ghost use Rattle.std.specs.Prelude.{◌≡◌, ◌≤◌, ◌<◌, ◌+◌, length, Some, None, Ok, Err, IfOk, IfErr, IfSome, IsSome, ◌↔◌};
 ghost use Rattle.std.specs.List.{slice_get};
 ghost use Rattle.metering_model.specs.BatchReading.{batch_in};
+ghost use Rattle.metering_model.specs.Limits.{last_sequence, most_agents, most_records};
 ghost use Rattle.record_view.specs.Lent.{record_of};
 ghost use Rattle.batch_view.specs.Batches.{batch_of, IsLentAt, RecordsLeft};
 ghost use Rattle.batch_view.specs.Kept.{kind_in};
@@ -114,7 +115,7 @@ impl<'a> BatchView<'a> {
     /// The agent that sent the batch, from 1 to 64.
     pub fn agent(&self) -> u8
         ensures value { result ≡ (batch_of self.now).agent }
-        ensures range { (1 ≤ result) × (result ≤ 64) }
+        ensures range { (1 ≤ result) × (result ≤ most_agents) }
     {
         self.head.agent
     }
@@ -122,7 +123,7 @@ impl<'a> BatchView<'a> {
     /// The sequence of the batch among those of its agent, from 1 to 1,000,000.
     pub fn seq(&self) -> u32
         ensures value { result ≡ (batch_of self.now).seq }
-        ensures range { (1 ≤ result) × (result ≤ 1_000_000) }
+        ensures range { (1 ≤ result) × (result ≤ last_sequence) }
     {
         self.head.seq
     }
@@ -130,7 +131,7 @@ impl<'a> BatchView<'a> {
     /// The number of records, from 0 to 1,000.
     pub fn count(&self) -> u16
         ensures value { result ≡ length (batch_of self.now).records }
-        ensures range { result ≤ 1_000 }
+        ensures range { result ≤ most_records }
     {
         self.head.count
     }

@@ -3,6 +3,7 @@
 ghost use Rattle.std.specs.Prelude.{◌≡◌, ◌≤◌, ◌+◌, length, take, drop, slice_range, Ok, Err, IsOk, IfOk, IfErr, MatchResult, MatchOption, IfSome};
 ghost use Rattle.std.specs.List.{slice_get};
 ghost use Rattle.metering_model.specs.BatchReading.{batch_in, lines_in, records_in, record_in, fields_in};
+ghost use Rattle.metering_model.specs.Limits.{most_batch_bytes};
 ghost use Rattle.record_view.specs.Lent.{record_of, IsLentRecord};
 ghost use Rattle.record_view.specs.Spans.{spans_at, IsRecordAt};
 ghost use Rattle.batch_view.specs.Inner.Lines.{lines_from, first_record, IsBehindLines, IsHeadOf};
@@ -72,7 +73,7 @@ pub(crate) fn entry_at(entries: &[Entry], index: u16) -> Option<&Entry>
 fn entry_of(version: Version, source: &[u8], line: Span, what: &Record<'_>) -> Entry
     requires ordered { line.from ≤ line.to }
     requires within { line.to ≤ length source.now }
-    requires short { length source.now ≤ 65536 }
+    requires short { length source.now ≤ most_batch_bytes }
     requires read { record_in version (fields_in (slice_range source.now line.from line.to)) ≡ Ok (record_of what.now) }
     requires lent { IsLentRecord source.now line what.now }
     ensures fits { FitsRecord result.found result.value (record_of what.now) }
@@ -110,7 +111,7 @@ fn plain_entry<'a>(
 ) -> Option<Entry>
     requires ordered { line.from ≤ line.to }
     requires within { line.to ≤ length source.now }
-    requires short { length source.now ≤ 65536 }
+    requires short { length source.now ≤ most_batch_bytes }
     ensures { IfSome result (IsEntryAt version source.now line) }
 {
     match read_plain(version, source, line, stamps) {
@@ -125,7 +126,7 @@ fn plain_entry<'a>(
 fn exact_entry(version: Version, source: &[u8], line: Span) -> Result<Entry, BatchCode>
     requires ordered { line.from ≤ line.to }
     requires within { line.to ≤ length source.now }
-    requires short { length source.now ≤ 65536 }
+    requires short { length source.now ≤ most_batch_bytes }
     ensures { MatchResult result
         (IsEntryAt version source.now line)
         (λ code. record_in version (fields_in (slice_range source.now line.from line.to)) ≡ Err code) }
@@ -145,7 +146,7 @@ pub(crate) fn entry_from<'a>(
     stamps: &mut StampReader<'a>,
 ) -> Result<(Entry, u32), BatchCode>
     requires within { from ≤ length text.now }
-    requires short { length text.now ≤ 65536 }
+    requires short { length text.now ≤ most_batch_bytes }
     ensures { MatchResult result
         (λ kept. KeepsRecord version text.now from kept.0 kept.1)
         (λ code. first_record version (lines_from text.now from).lines ≡ Err code) }

@@ -4,6 +4,7 @@ ghost use Rattle.std.specs.Prelude.{◌≡◌, ◌<◌, ◌≤◌, Some, Err, le
 ghost use Rattle.metering_model.specs.Dates.{IsBaseMonth};
 ghost use Rattle.metering_model.specs.World.{Deliver, Packet as ModelPacket};
 ghost use Rattle.metering_model.specs.Step.{on_delivery, step};
+ghost use Rattle.metering_model.specs.Limits.{most_packets};
 ghost use Rattle.group_node.specs.Packets.{IsPacketAmong, packet_of};
 ghost use Rattle.group_events.specs.Replies.{reply_of};
 ghost use Rattle.group_state.specs.Reached.{IsReached};
@@ -25,7 +26,7 @@ fn hand_over(
     i: u8,
     base: Month,
 ) -> Result<Reply, AllocError>
-    requires few { length packets.old.items ≤ 1_000_000 }
+    requires few { length packets.old.items ≤ most_packets }
     requires there { k < length packets.old.items }
     requires base { IsBaseMonth base }
     requires packet { (q : ModelPacket) → slice_get (map packet_of packets.old.items) k ≡ Some q → IsPacketAmong node.old.voters node.old.agents q }

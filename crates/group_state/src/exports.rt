@@ -5,6 +5,7 @@ ghost use Rattle.std.specs.Arc.{arc_value};
 ghost use Rattle.metering_model.specs.Holding.{up_to};
 ghost use Rattle.metering_model.specs.World.{Export};
 ghost use Rattle.metering_model.specs.Step.{cut_before, snapshot, step};
+ghost use Rattle.metering_model.specs.Limits.{most_agents};
 ghost use Rattle.group_events.specs.Replies.{reply_of};
 ghost use Rattle.group_state.specs.Reached.{IsReached};
 ghost use Rattle.group_state.specs.Inner.Allowed.{MayTake};
@@ -20,7 +21,7 @@ use std::sync::Arc;
 /// The cut that a node has learned for the period before, shared; the zero cut where there is none.
 fn cut_before(alloc: Global, node: &Node, agents: u8, period: u16) -> Result<Arc<Cut>, AllocError>
     requires from { 1 ≤ agents }
-    requires to { agents ≤ 64 }
+    requires to { agents ≤ most_agents }
     ensures { IfOk result (λ cut. arc_value cut ≡ cut_before agents node.now.node.kept.learned period) }
 {
     let before = if period == 0 {

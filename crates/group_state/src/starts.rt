@@ -4,6 +4,7 @@ ghost use Rattle.std.specs.Prelude.{◌≡◌, ◌+◌, ◌++◌, ◌∷◌, ◌
 ghost use Rattle.metering_model.specs.Ballot.{ballot_of};
 ghost use Rattle.metering_model.specs.World.{Prepare, Restart, Start, Started, current_period};
 ghost use Rattle.metering_model.specs.Step.{on_start, started_node, step};
+ghost use Rattle.metering_model.specs.Limits.{most_packets, most_rounds};
 ghost use Rattle.group_node.specs.Packets.{packet_of};
 ghost use Rattle.group_events.specs.Replies.{reply_of};
 ghost use Rattle.group_state.specs.Reached.{IsReached};
@@ -26,9 +27,9 @@ fn begin(
     i: u8,
     period: Period,
 ) -> Result<Reply, AllocError>
-    requires few { length packets.old.items < 1_000_000 }
+    requires few { length packets.old.items < most_packets }
     requires votes { i < node.old.voters }
-    requires round { node.old.node.kept.round < 10_000 }
+    requires round { node.old.node.kept.round < most_rounds }
     ensures ok { IfOk result (λ reply.
         Begins i period (map packet_of packets.old.items) (map packet_of packets.new.items) node.old node.new (reply_of reply)) }
     ensures packets_kept { OnErr result (packets.new.items ≡ packets.old.items) }

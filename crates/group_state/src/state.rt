@@ -4,6 +4,7 @@ ghost use Rattle.std.specs.Prelude.{◌≡◌, ◌+◌, ◌≤◌, IfOk, IfSome,
 ghost use Rattle.std.specs.Option.{option_copied, option_map};
 ghost use Rattle.std.specs.Arc.{arc_value};
 ghost use Rattle.metering_model.specs.World.{new_kept, opening, voter_count, wake};
+ghost use Rattle.metering_model.specs.Limits.{most_agents, most_nodes};
 ghost use Rattle.group_node.specs.Packets.{packet_of};
 ghost use Rattle.group_state.specs.Inner.Members.{IsMember};
 
@@ -51,9 +52,9 @@ impl Model for GroupState {
 
 /// So many nodes of a group with so many voters and agents, which have begun nothing and hold nothing.
 fn new_nodes(alloc: Global, nodes: u8, voters: u8, agents: u8) -> Result<Vec<Node>, AllocError>
-    requires voters_to { voters ≤ 99 }
+    requires voters_to { voters ≤ most_nodes }
     requires from { 1 ≤ agents }
-    requires to { agents ≤ 64 }
+    requires to { agents ≤ most_agents }
     ensures { IfOk result (λ made. made.items ≡ replicate nodes (record { voters = voters; agents = agents; node = wake new_kept })) }
 {
     let mut made = Vec::with_capacity(alloc, usize::from(nodes))?;
@@ -75,9 +76,9 @@ impl GroupState {
         issuer: Arc<Issuer>,
     ) -> Result<GroupState, AllocError>
         requires voters_from { 1 ≤ voters }
-        requires nodes_to { voters + observers ≤ 99 }
+        requires nodes_to { voters + observers ≤ most_nodes }
         requires agents_from { 1 ≤ agents }
-        requires agents_to { agents ≤ 64 }
+        requires agents_to { agents ≤ most_agents }
         ensures { IfOk result (λ state. state ≡ opening voters observers agents (arc_value sheet) (arc_value issuer)) }
     {
         let journals = Store::new(alloc, agents)?;
@@ -117,7 +118,7 @@ impl GroupState {
     /// The number of agents.
     pub(crate) fn agents(&self) -> u8
         ensures value { result ≡ self.now.agents }
-        ensures range { (1 ≤ result) × (result ≤ 64) }
+        ensures range { (1 ≤ result) × (result ≤ most_agents) }
     {
         self.journals.agents()
     }

@@ -3,6 +3,7 @@
 ghost use Rattle.std.specs.Prelude.{◌≡◌, ◌<◌, ◌≤◌, length, slice_range, IfOk, IfErr, IfSome, IfNone, Ok, Err};
 ghost use Rattle.metering_model.specs.declared.Version.TheVariants.{B1, B2};
 ghost use Rattle.metering_model.specs.BatchReading.{record_in, fields_in};
+ghost use Rattle.metering_model.specs.Limits.{most_batch_bytes};
 ghost use Rattle.record_view.specs.Parts.{lent};
 ghost use Rattle.record_view.specs.Plain.{IsPlainReading};
 ghost use Rattle.record_view.specs.Lent.{lent_tags, reading_tags, reading_region, record_of, IsLentRecord};
@@ -102,7 +103,7 @@ pub fn read_exact<'a>(
 ) -> Result<Record<'a>, BatchCode>
     requires ordered { span.from ≤ span.to }
     requires within { span.to ≤ length source.now }
-    requires short { length source.now ≤ 65536 }
+    requires short { length source.now ≤ most_batch_bytes }
     ensures ok { IfOk result (λ r.
         record_in version (fields_in (slice_range source.now span.from span.to)) ≡ Ok (record_of r)) }
     ensures err { IfErr result (λ e.
@@ -134,7 +135,7 @@ pub fn read_record<'a>(
 ) -> Result<Record<'a>, BatchCode>
     requires ordered { span.from ≤ span.to }
     requires within { span.to ≤ length source.now }
-    requires short { length source.now ≤ 65536 }
+    requires short { length source.now ≤ most_batch_bytes }
     ensures ok { IfOk result (λ r.
         record_in version (fields_in (slice_range source.now span.from span.to)) ≡ Ok (record_of r)) }
     ensures err { IfErr result (λ e.

@@ -2,6 +2,7 @@
 
 ghost use Rattle.std.specs.Prelude.{◌≡◌, ◌≢◌, ◌≤◌, length, take, slice_range, Ok, MatchOption, IfSome, ◌<◌, ◌-◌};
 ghost use Rattle.metering_model.specs.BatchReading.{record_in, fields_in};
+ghost use Rattle.metering_model.specs.Limits.{most_batch_bytes};
 ghost use Rattle.record_view.specs.Lent.{record_of, fields_at, IsLentRecord};
 ghost use Rattle.record_view.specs.Spans.{field_count, spans_at};
 
@@ -62,7 +63,7 @@ fn last_spans(line: Span, region: Option<Field<'_>>) -> (u32, Span)
 pub fn field_spans(version: Version, source: &[u8], line: Span, what: &Record<'_>) -> [Span; 10]
     requires ordered { line.from ≤ line.to }
     requires within { line.to ≤ length source.now }
-    requires short { length source.now ≤ 65536 }
+    requires short { length source.now ≤ most_batch_bytes }
     requires read { record_in version (fields_in (slice_range source.now line.from line.to)) ≡ Ok (record_of what.now) }
     requires lent { IsLentRecord source.now line what.now }
     ensures { take (field_count version what.now) result ≡ spans_at source.now line }
