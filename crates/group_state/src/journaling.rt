@@ -149,7 +149,11 @@ impl GroupState {
         ensures { result ≡ option_map (λ p. p.index) (bad_record self.now (event_of event.now)) }
     {
         match event {
-            Event::Journal(Offer::Good(batch)) => self.bad_in(&batch.view()),
+            Event::Journal(Offer::Good(batch)) => {
+                // For the proof alone: its clause says that the bytes are a batch.
+                let _ = batch.bytes();
+                self.bad_in(&batch.view())
+            }
             _ => None,
         }
     }
