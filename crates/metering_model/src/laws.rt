@@ -137,7 +137,8 @@ pub fn what_agrees_up_to_a_cut_is_charged_alike()
 
 /// A revival from a text gets the same reply, and leaves the same world, as one from what reading that text gives.
 pub fn texts_and_their_offer_are_revived_alike()
-    ensures { (w : World) (node : ℕ) (text : List ℕ) → step w (Revive node (kept_offer_of text)) ≡ step w (Revive node (KeptGood text)) }
+    ensures { (w : World) (node : ℕ) (text : List ℕ)
+        → step w (Revive node (kept_offer_of text)) ≡ step w (Revive node (KeptGood text)) }
 {}
 
 /// Journaling a text gets the same reply, and leaves the same world, as journaling what reading that text gives.
@@ -157,14 +158,16 @@ pub fn journals_keep_their_rules()
         MeetsJournalRules sheet h → held h agent seq ≡ Some b → seq < next_seq h agent }
     ensures all_below_next { (sheet : Sheet) (h : Holding) (agent seq : ℕ) →
         MeetsJournalRules sheet h → 0 < seq → seq < next_seq h agent → is_some (held h agent seq) ≡ true }
-    ensures cuts { (sheet : Sheet) (h : Holding) (cut : Cut) → MeetsJournalRules sheet h → MeetsJournalRules sheet (up_to cut h) }
+    ensures cuts { (sheet : Sheet) (h : Holding) (cut : Cut) → MeetsJournalRules sheet h
+        → MeetsJournalRules sheet (up_to cut h) }
 {}
 
 /// A front is at least the cut that it is taken of, each batch in between is held and due, and for no agent does this
 /// hold up to a greater sequence. A part of a holding has no greater front than the whole.
 pub fn a_front_goes_on_from_its_cut()
     ensures grows { (base period : ℕ) (h : Holding) (cut : Cut) → IsAtLeast (front base h cut period) cut }
-    ensures due { (base period : ℕ) (h : Holding) (cut : Cut) → AreDueBetween base period h cut (front base h cut period) }
+    ensures due { (base period : ℕ) (h : Holding) (cut : Cut)
+        → AreDueBetween base period h cut (front base h cut period) }
     ensures greatest { (base period : ℕ) (h : Holding) (cut : Cut) (agent seq : ℕ) → 1 ≤ agent → agent ≤ length cut →
         ((s : ℕ) → last_of cut agent < s → s ≤ seq → IsDueAt base period h agent s) →
         seq ≤ last_of (front base h cut period) agent }
@@ -176,13 +179,15 @@ pub fn a_front_goes_on_from_its_cut()
 /// No two rows between two cuts have the same place. Those of null class are of batches between the cuts, and each
 /// reading between the cuts has one. They are the rows of the batches up to the later cut, one batch after the other.
 pub fn rows_between_two_cuts_have_their_places()
-    ensures apart { (sheet : Sheet) (issuer : Issuer) (h : Holding) (period : ℕ) (from to : Cut) (k l : ℕ) (x y : PlacedRow) →
+    ensures apart { (sheet : Sheet) (issuer : Issuer) (h : Holding) (period : ℕ) (from to : Cut)
+        (k l : ℕ) (x y : PlacedRow) →
         IsHolding h → slice_get (placed_rows sheet issuer h period from to) k ≡ Some x →
         slice_get (placed_rows sheet issuer h period from to) l ≡ Some y → x.place ≡ y.place → k ≡ l }
     ensures new { (sheet : Sheet) (issuer : Issuer) (h : Holding) (period : ℕ) (from to : Cut) (k : ℕ) (x : PlacedRow) →
         slice_get (placed_rows sheet issuer h period from to) k ≡ Some x → x.row.charge_class ≡ None →
         (last_of from x.place.agent < x.place.seq) × (x.place.seq ≤ last_of to x.place.agent) }
-    ensures each { (sheet : Sheet) (issuer : Issuer) (h : Holding) (period : ℕ) (from to : Cut) (at : Position) (r : Reading) →
+    ensures each { (sheet : Sheet) (issuer : Issuer) (h : Holding) (period : ℕ) (from to : Cut)
+        (at : Position) (r : Reading) →
         reading_at h at ≡ Some r → last_of from at.agent < at.seq → at.seq ≤ last_of to at.agent →
         (k : ℕ) × (x : PlacedRow) × (slice_get (placed_rows sheet issuer h period from to) k ≡ Some x)
         × (x.row.charge_class ≡ None) × (x.place ≡ at) }
@@ -254,7 +259,8 @@ pub fn pricing_quantities_lie_between_0_and_their_values()
 /// The value of a reading at a sequence has a magnitude below the limit of values. In journals that meet their rules,
 /// that of usage or a purchase is not negative.
 pub fn values_keep_their_limits()
-    ensures limit { (h : Holding) (at : Position) (upto : ℕ) → IsHolding h → unsigned_abs (value_at h at upto) < value_limit }
+    ensures limit { (h : Holding) (at : Position) (upto : ℕ) → IsHolding h
+        → unsigned_abs (value_at h at upto) < value_limit }
     ensures not_negative { (sheet : Sheet) (h : Holding) (at : Position) (r : Reading) (upto : ℕ) →
         MeetsJournalRules sheet h → reading_at h at ≡ Some r → is_priced r.kind ≡ true →
         pos 0 ≤ℤ value_at h at upto }

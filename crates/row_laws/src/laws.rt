@@ -28,7 +28,8 @@ ghost use Rattle.row_laws.specs.Priced.{IsPriceTimesQuantity, is_usage, is_purch
 /// Over growing cuts, the rows of a reading add up to what it would be charged once, at its value as of the last cut:
 /// in both quantities and all four costs.
 pub fn totals()
-    ensures { (sheet : Sheet) (issuer : Issuer) (h : Holding) (agents : ℕ) (cuts : List Cut) (at : Position) (r : Reading) →
+    ensures { (sheet : Sheet) (issuer : Issuer) (h : Holding) (agents : ℕ) (cuts : List Cut)
+        (at : Position) (r : Reading) →
         IsHolding h → IsGrowing agents cuts → reading_at h at ≡ Some r →
         model.totals (rows_of_place sheet issuer h agents cuts at)
         ≡ amounts_of (charged_at_once sheet r (value_at h at (last_of (last_cut agents cuts) at.agent))) }
@@ -45,10 +46,12 @@ pub fn rows_stay()
 pub fn a_place_has_at_most_one_row_a_period()
     ensures at_most { (sheet : Sheet) (issuer : Issuer) (h : Holding) (period : ℕ) (from to : Cut) (at : Position) →
         IsHolding h → length (at_place at (placed_rows sheet issuer h period from to)) ≤ 1 }
-    ensures which { (sheet : Sheet) (issuer : Issuer) (h : Holding) (period : ℕ) (from to : Cut) (at : Position) (r : Reading) →
+    ensures which { (sheet : Sheet) (issuer : Issuer) (h : Holding) (period : ℕ) (from to : Cut)
+        (at : Position) (r : Reading) →
         IsHolding h → reading_at h at ≡ Some r →
         at_place at (placed_rows sheet issuer h period from to)
-        ≡ (if nat_le at.seq (last_of to at.agent) then option_to_list (row_of_reading sheet issuer h period from to at r) else []) }
+        ≡ (if nat_le at.seq (last_of to at.agent) then option_to_list
+        (row_of_reading sheet issuer h period from to at r) else []) }
     ensures no_reading { (sheet : Sheet) (issuer : Issuer) (h : Holding) (period : ℕ) (from to : Cut) (at : Position) →
         IsHolding h → reading_at h at ≡ None → at_place at (placed_rows sheet issuer h period from to) ≡ [] }
 {}
@@ -56,14 +59,17 @@ pub fn a_place_has_at_most_one_row_a_period()
 /// Over growing cuts, a reading up to the last cut is charged as new exactly once: in the period whose cut is the first
 /// to reach it.
 pub fn each_reading_is_new_once()
-    ensures at_most_once { (sheet : Sheet) (issuer : Issuer) (h : Holding) (agents : ℕ) (cuts : List Cut) (at : Position) →
+    ensures at_most_once { (sheet : Sheet) (issuer : Issuer) (h : Holding) (agents : ℕ)
+        (cuts : List Cut) (at : Position) →
         IsHolding h → IsGrowing agents cuts →
         length (filter is_new (rows_of_place sheet issuer h agents cuts at)) ≤ 1 }
-    ensures if_reached { (sheet : Sheet) (issuer : Issuer) (h : Holding) (agents : ℕ) (cuts : List Cut) (at : Position) (r : Reading) →
+    ensures if_reached { (sheet : Sheet) (issuer : Issuer) (h : Holding) (agents : ℕ)
+        (cuts : List Cut) (at : Position) (r : Reading) →
         IsHolding h → IsGrowing agents cuts → reading_at h at ≡ Some r →
         length (filter is_new (rows_of_place sheet issuer h agents cuts at))
         ≡ (if nat_le at.seq (last_of (last_cut agents cuts) at.agent) then 1 else 0) }
-    ensures when { (sheet : Sheet) (issuer : Issuer) (h : Holding) (period : ℕ) (from to : Cut) (at : Position) (r : Reading) →
+    ensures when { (sheet : Sheet) (issuer : Issuer) (h : Holding) (period : ℕ) (from to : Cut)
+        (at : Position) (r : Reading) →
         IsHolding h → IsAtLeast to from → reading_at h at ≡ Some r →
         length (filter is_new (at_place at (placed_rows sheet issuer h period from to)))
         ≡ (if nat_lt (last_of from at.agent) at.seq && nat_le at.seq (last_of to at.agent) then 1 else 0) }
@@ -128,7 +134,8 @@ pub fn what_is_due_in_each_period_is_due_over_all()
 /// where price and quantity are not null.
 pub fn unit_prices_times_quantities_are_costs()
     ensures list { (sheet : Sheet) (issuer : Issuer) (h : Holding) (period : ℕ) (from to : Cut) →
-        All (λ x. IsPriceTimesQuantity x.list_unit_price x.pricing_quantity x.list_cost) (rows sheet issuer h period from to) }
+        All (λ x. IsPriceTimesQuantity x.list_unit_price x.pricing_quantity x.list_cost)
+        (rows sheet issuer h period from to) }
     ensures contracted { (sheet : Sheet) (issuer : Issuer) (h : Holding) (period : ℕ) (from to : Cut) →
         All (λ x. IsPriceTimesQuantity x.contracted_unit_price x.pricing_quantity x.contracted_cost)
         (rows sheet issuer h period from to) }
@@ -159,20 +166,25 @@ pub fn columns_are_null_together()
 /// Where the journals meet their rules, just usage and purchases have the columns that a price gives, and just usage
 /// has a ConsumedQuantity.
 pub fn usage_and_purchases_have_their_price()
-    ensures price { (sheet : Sheet) (issuer : Issuer) (h : Holding) (period : ℕ) (from to : Cut) → MeetsJournalRules sheet h →
+    ensures price { (sheet : Sheet) (issuer : Issuer) (h : Holding) (period : ℕ) (from to : Cut)
+        → MeetsJournalRules sheet h →
         All (λ x. PriceColumnsAre (is_usage x || is_purchase x) x) (rows sheet issuer h period from to) }
     ensures consumed { (sheet : Sheet) (issuer : Issuer) (h : Holding) (period : ℕ) (from to : Cut) →
-        MeetsJournalRules sheet h → All (λ x. is_some x.consumed_quantity ≡ is_usage x) (rows sheet issuer h period from to) }
+        MeetsJournalRules sheet h
+        → All (λ x. is_some x.consumed_quantity ≡ is_usage x)
+        (rows sheet issuer h period from to) }
 {}
 
 /// Where the journals meet their rules, usage under a commitment bills nothing, and all else bills the contracted cost.
 /// The effective cost of usage under a commitment is the commitment's rate times the PricingQuantity, that of its
 /// purchase is 0, and without a commitment it is the contracted cost.
 pub fn commitments_are_billed_where_they_are_bought()
-    ensures billed { (sheet : Sheet) (issuer : Issuer) (h : Holding) (period : ℕ) (from to : Cut) → MeetsJournalRules sheet h →
+    ensures billed { (sheet : Sheet) (issuer : Issuer) (h : Holding) (period : ℕ) (from to : Cut)
+        → MeetsJournalRules sheet h →
         All (λ x. x.billed_cost ≡ (if is_usage x && is_some x.commitment_discount_id then pos 0 else x.contracted_cost))
         (rows sheet issuer h period from to) }
-    ensures bought { (sheet : Sheet) (issuer : Issuer) (h : Holding) (period : ℕ) (from to : Cut) → MeetsJournalRules sheet h →
+    ensures bought { (sheet : Sheet) (issuer : Issuer) (h : Holding) (period : ℕ) (from to : Cut)
+        → MeetsJournalRules sheet h →
         All (λ x. is_purchase x ≡ true → is_some x.commitment_discount_id ≡ true → x.effective_cost ≡ pos 0)
         (rows sheet issuer h period from to) }
     ensures used { (sheet : Sheet) (issuer : Issuer) (h : Holding) (period : ℕ) (from to : Cut) →
@@ -181,5 +193,6 @@ pub fn commitments_are_billed_where_they_are_bought()
         option_map (λ c. pos c.rate *ℤ q) (commitment_with sheet id) ≡ Some x.effective_cost)
         (rows sheet issuer h period from to) }
     ensures others { (sheet : Sheet) (issuer : Issuer) (h : Holding) (period : ℕ) (from to : Cut) →
-        All (λ x. x.commitment_discount_id ≡ None → x.effective_cost ≡ x.contracted_cost) (rows sheet issuer h period from to) }
+        All (λ x. x.commitment_discount_id ≡ None → x.effective_cost ≡ x.contracted_cost)
+        (rows sheet issuer h period from to) }
 {}

@@ -196,7 +196,8 @@ pub fn month_number(text: &[u8]) -> Option<u32>
 #[inline(always)]
 fn date_and_time(text: &[u8]) -> Option<(&[u8], &[u8])>
     ensures { MatchOption result (has_stamp_form text.now ≡ false) (λ parts.
-        (has_stamp_form text.now ≡ true) × (parts.0.now ≡ take 10 text.now) × (parts.1.now ≡ slice_range text.now 11 19)) }
+        (has_stamp_form text.now ≡ true) × (parts.0.now ≡ take 10 text.now)
+        × (parts.1.now ≡ slice_range text.now 11 19)) }
 {
     if text.len() != 20 || text[10] != b'T' || text[19] != b'Z' {
         return None;
