@@ -10,8 +10,9 @@ ghost use Rattle.metering_model.specs.PriceInForce.{latest};
 ghost use Rattle.price_sheet.specs.SheetReading.{next_price, placed_price, prices_sku, prices_in};
 ghost use Rattle.price_sheet.specs.Inner.Places.{IndexesPrices};
 
-use crate::places::fault_at;
+use crate::places::at_place;
 use crate::price_index::PriceIndex;
+use crate::rows::same_rows;
 use sheet_text::{Day, KeyFault, Place, PriceRow, SheetFault};
 use std::alloc::Global;
 use std::marker::Model;
@@ -83,6 +84,13 @@ impl PriceTable {
         row_in_force(&self.rows, &self.index, sku, day)
     }
 
+    /// The rows, in the order of the sheet.
+    pub(crate) fn rows(&self) -> &[PriceRow]
+        ensures { result.now ≡ self.now }
+    {
+        &self.rows
+    }
+
     /// Whether the rows are the same, in the same order.
     pub(crate) fn same(&self, other: &PriceTable) -> bool
         ensures { IsTrue result ↔ (self.now ≡ other.now) }
@@ -130,10 +138,7 @@ fn placed_price(
     ensures { result ≡ placed_price rows.now read }
 {
     let place = Place::Price(rows.len() as u16 + 1);
-    let row = match read {
-        Ok(row) => row,
-        Err(fault) => return Err(fault_at(place, fault)),
-    };
+    let row = at_place(place, read)?;
     if is_priced_before(rows, index, &row) {
         return Err(SheetFault::Duplicate(place));
     }
@@ -154,18 +159,4 @@ fn next_price(
         → next_price rows.now (table_view table.now) ≡ Err fault) }
 {
     placed_price(rows, index, PriceRow::read(alloc, table))
-}
-
-fn same_rows(left: &[PriceRow], right: &[PriceRow]) -> bool
-    ensures { IsTrue result ↔ (left.now ≡ right.now) }
-{
-    if left.len() != right.len() {
-        return false;
-    }
-    for i in 0..left.len() {
-        if !left[i].same(&right[i]) {
-            return false;
-        }
-    }
-    true
 }

@@ -10,12 +10,13 @@ ghost use Rattle.metering_model.specs.PriceInForce.{price_in_force, commitment_w
 ghost use Rattle.sheet_text.specs.Keys.{base_under};
 ghost use Rattle.price_sheet.specs.SheetReading.{prices_in, commitments_in, regions_in, empty_sheet, sheet_of_rows, sheet_in, sheet_of_text};
 
-use crate::commitment_table::CommitmentTable;
-use crate::places::fault_at;
+use crate::commitment_table::read_commitments;
+use crate::id_table::IdTable;
+use crate::places::at_place;
 use crate::price_table::PriceTable;
-use crate::region_table::RegionTable;
+use crate::region_table::read_regions;
 use sheet_text::{
-    Commitment, Day, Key, Month, Place, PriceRow, SheetFault, base_under, rows_under,
+    Commitment, Day, Key, Month, Place, PriceRow, Region, SheetFault, base_under, rows_under,
 };
 use std::alloc::{AllocError, Global};
 use std::marker::Model;
@@ -26,8 +27,8 @@ use toml::Table;
 pub struct Sheet {
     base: Month,
     prices: PriceTable,
-    commitments: CommitmentTable,
-    regions: RegionTable,
+    commitments: IdTable<Commitment>,
+    regions: IdTable<Region>,
 }
 
 impl Model for Sheet {
@@ -76,8 +77,8 @@ impl Sheet {
         Ok(Sheet {
             base,
             prices: PriceTable::new(alloc),
-            commitments: CommitmentTable::new(alloc),
-            regions: RegionTable::new(alloc),
+            commitments: IdTable::new(alloc),
+            regions: IdTable::new(alloc),
         })
     }
 
@@ -88,22 +89,10 @@ impl Sheet {
         ensures refused { IfErr result (λ fault. fault ≢ SheetFault.OutOfMemory → sheet_in (table_view table.now) ≡ Err fault) }
         ensures want { IfErr result (λ fault. fault ≡ SheetFault.OutOfMemory → IsOk (base_under Key.Base (table_view table.now))) }
     {
-        let base = match base_under(table, Key::Base) {
-            Ok(base) => base,
-            Err(fault) => return Err(fault_at(Place::Top, fault)),
-        };
-        let price_tables = match rows_under(alloc, table, Key::Price) {
-            Ok(tables) => tables,
-            Err(fault) => return Err(fault_at(Place::Top, fault)),
-        };
-        let commitment_tables = match rows_under(alloc, table, Key::Commitment) {
-            Ok(tables) => tables,
-            Err(fault) => return Err(fault_at(Place::Top, fault)),
-        };
-        let region_tables = match rows_under(alloc, table, Key::Region) {
-            Ok(tables) => tables,
-            Err(fault) => return Err(fault_at(Place::Top, fault)),
-        };
+        let base = at_place(Place::Top, base_under(table, Key::Base))?;
+        let price_tables = at_place(Place::Top, rows_under(alloc, table, Key::Price))?;
+        let commitment_tables = at_place(Place::Top, rows_under(alloc, table, Key::Commitment))?;
+        let region_tables = at_place(Place::Top, rows_under(alloc, table, Key::Region))?;
         Sheet::of_rows(
             alloc,
             base,
@@ -132,14 +121,35 @@ impl Sheet {
             (map (λ t. table_view t.now) commitment_tables.now) (map (λ t. table_view t.now) region_tables.now) ≡ Err fault) }
     {
         let prices = PriceTable::read(alloc, price_tables)?;
-        let commitments = CommitmentTable::read(alloc, &prices, commitment_tables)?;
-        let regions = RegionTable::read(alloc, region_tables)?;
+        let commitments = read_commitments(alloc, &prices, commitment_tables)?;
+        let regions = read_regions(alloc, region_tables)?;
         Ok(Sheet {
             base,
             prices,
             commitments,
             regions,
         })
+    }
+
+    /// The prices, in the order of the sheet. No memory is taken.
+    pub fn prices(&self) -> &[PriceRow]
+        ensures { result.now ≡ self.now.prices }
+    {
+        self.prices.rows()
+    }
+
+    /// The commitments, in the order of the sheet. No memory is taken.
+    pub fn commitments(&self) -> &[Commitment]
+        ensures { result.now ≡ self.now.commitments }
+    {
+        self.commitments.rows()
+    }
+
+    /// The regions, in the order of the sheet. No memory is taken.
+    pub fn regions(&self) -> &[Region]
+        ensures { result.now ≡ self.now.regions }
+    {
+        self.regions.rows()
     }
 
     /// The price of a SKU that is in force on a day: the one that began last. No memory is taken.

@@ -60,10 +60,7 @@ pub(crate) fn text_under<'a>(table: &'a Table, key: Key) -> Result<&'a str, KeyF
     ensures want { IfErr result (λ fault. fault ≢ KeyFault.OutOfMemory) }
 {
     let value = value_under(table, key)?;
-    match value.as_str() {
-        Some(text) => Ok(text),
-        None => Err(KeyFault::BadValue(key)),
-    }
+    value.as_str().ok_or(KeyFault::BadValue(key))
 }
 
 /// Whether no byte of it is a control character of ASCII.
@@ -104,10 +101,7 @@ pub(crate) fn day_under(table: &Table, key: Key) -> Result<Day, KeyFault>
     ensures { Gives (λ d. d) result (day_under key (table_view table.now)) }
 {
     let text = text_under(table, key)?;
-    match Day::read(text.as_bytes()) {
-        Some(day) => Ok(day),
-        None => Err(KeyFault::BadValue(key)),
-    }
+    Day::read(text.as_bytes()).ok_or(KeyFault::BadValue(key))
 }
 
 /// The base month under a key. No memory is taken, and want of it is never told.
@@ -177,10 +171,7 @@ pub(crate) fn service_category_under(table: &Table, key: Key) -> Result<ServiceC
     ensures { Gives (λ c. c) result (service_category_under key (table_view table.now)) }
 {
     let text = text_under(table, key)?;
-    match service_category_in(text.as_bytes()) {
-        Some(category) => Ok(category),
-        None => Err(KeyFault::BadValue(key)),
-    }
+    service_category_in(text.as_bytes()).ok_or(KeyFault::BadValue(key))
 }
 
 /// The category of which it is the text.
@@ -205,10 +196,7 @@ pub(crate) fn commitment_category_under(
     ensures { Gives (λ c. c) result (commitment_category_under key (table_view table.now)) }
 {
     let text = text_under(table, key)?;
-    match commitment_category_in(text.as_bytes()) {
-        Some(category) => Ok(category),
-        None => Err(KeyFault::BadValue(key)),
-    }
+    commitment_category_in(text.as_bytes()).ok_or(KeyFault::BadValue(key))
 }
 
 /// The tables of an array that has nothing but tables.

@@ -1,22 +1,19 @@
--- One row more, read and its place kept.
-use Rattle.std.proofs.Common.{◌≡◌, ◌+◌, ◌<◌, [], ◌∷◌, ◌++◌, Ok, map, drop, length, get_or, sym, ap, ◌∙◌, rules}
+-- One row more, read and put behind the others.
+use Rattle.std.proofs.Common.{◌≡◌, ◌+◌, ◌<◌, [], ◌∷◌, ◌++◌, Ok, map, drop, length, get_or, length-append, sym, ap, ◌∙◌, rules, arith}
 use Rattle.std.proofs.lemmas.List.{at_drop_more}
 use Rattle.toml.specs.View.{table_view}
 use Rattle.price_sheet.specs.SheetReading.{next_region, regions_in}
-use Rattle.price_sheet.specs.Inner.Places.{IndexesRegions}
 use Rattle.price_sheet.proofs.IdLaws.{region_step}
-use Rattle.price_sheet.proofs.region_table.RegionTable.read.Goals as goal
+use Rattle.price_sheet.proofs.region_table.read_regions.Goals as goal
 
 pub loop-table-preserved : goal.loop-table-preserved
 loop-table-preserved c =
-    let read = c.loop-table.rows.items in
+    let read = c.loop-table.rows in
     let row = c.in_ok-row.row in
-    let rows = read ++ row ∷ [] in
     let tables = c.args.tables.now in
     let at = c.loop-table.table-index in
     let table = c.table-item.result in
-    let items : c.push.new.self.items ≡ rows = search rules in
-    let indexed : IndexesRegions rows c.add_place.new.places.entries = search rules in
+    let rows : c.put.new.self ≡ read ++ row ∷ [] = search rules in
     let within : at < length tables = search rules in
     let item : get_or tables at table ≡ table = search rules in
     let next : next_region read (table_view table.now) ≡ Ok row = search rules in
@@ -24,7 +21,6 @@ loop-table-preserved c =
     let rest = at_drop_more (λ ts. regions_in read (map (λ t. table_view t.now) ts)) tables at table within in
     let first = ap (λ t. regions_in read (table_view t.now ∷ map (λ t. table_view t.now) (drop (at + 1) tables))) item in
     record {
-      read = rw items (step ∙ sym first ∙ sym rest ∙ c.loop-table.invariant.read);
-      count = search rules;
-      indexed = rw items indexed;
+      read = rw rows (step ∙ sym first ∙ sym rest ∙ c.loop-table.invariant.read);
+      count = rw rows (omega (arith, length-append read (row ∷ []), c.loop-table.invariant.count));
     }
