@@ -54,14 +54,14 @@ impl<R: Named> IdTable<R> {
         same_rows(&self.rows, &other.rows)
     }
 
-    /// The row with an id. No memory is taken.
+    /// The row with an id. Nothing is allocated.
     pub(crate) fn with_id(&self, id: &[u8]) -> Option<&R>
         ensures { option_copied result ≡ find (λ x. is_same (R.id x) id.now) self.now }
     {
         row_placed(&self.rows, &self.places, id)
     }
 
-    /// Whether a row of the table has the id of this one. No memory is taken.
+    /// Whether a row of the table has the id of this one. Nothing is allocated.
     pub(crate) fn has_id_of(&self, row: &R) -> bool
         ensures { result ≡ list_any (λ x. is_same (R.id row.now) (R.id x)) self.now }
     {
@@ -70,7 +70,7 @@ impl<R: Named> IdTable<R> {
 }
 
 impl<R: Named + Drop> IdTable<R> {
-    /// Puts a row behind the others, whose id is new. Where memory is refused the table stays as it was.
+    /// Puts a row after the others, whose id is new. Where an allocation fails the table stays as it was.
     pub(crate) fn put(&mut self, alloc: Global, row: R) -> Result<(), AllocError>
         requires few { length self.old < 10_000 }
         requires new { list_any (λ x. is_same (R.id row) (R.id x)) self.old ≡ false }

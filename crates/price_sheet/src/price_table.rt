@@ -69,14 +69,14 @@ impl PriceTable {
         Ok(PriceTable { rows, index })
     }
 
-    /// Whether some row prices the SKU. No memory is taken.
+    /// Whether some row prices the SKU. Nothing is allocated.
     pub(crate) fn has_sku(&self, sku: &[u8]) -> bool
         ensures { result ≡ prices_sku self.now sku.now }
     {
         self.index.has_sku(sku)
     }
 
-    /// Of the rows of a SKU that have begun on a day, the one that began last. No memory is taken.
+    /// Of the rows of a SKU that have begun on a day, the one that began last. Nothing is allocated.
     pub(crate) fn in_force(&self, sku: &[u8], day: Day) -> Option<&PriceRow>
         ensures { option_copied result
             ≡ latest (filter (λ r. is_same r.sku sku.now && int_le r.from day) self.now) }
@@ -126,8 +126,8 @@ fn is_priced_before(rows: &[PriceRow], index: &PriceIndex, row: &PriceRow) -> bo
     }
 }
 
-/// What was read of one more table, told of its place: the row, or its first fault. No memory is taken, so want of it is told
-/// only where reading met it.
+/// What was read of one more table, told of its place: the row, or its first fault. Nothing is allocated, so want of it
+/// is told only where reading met it.
 fn placed_price(
     rows: &[PriceRow],
     index: &PriceIndex,

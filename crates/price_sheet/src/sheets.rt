@@ -48,8 +48,8 @@ impl Model for Sheet {
 }
 
 impl Sheet {
-    /// Reads a sheet from TOML, or tells the text's first fault. The table that `toml` makes of the text and the rows that are
-    /// kept take memory: of a text of nothing but blanks and comments no want of it is told.
+    /// Reads a sheet from TOML. An error is the text's first fault, or OutOfMemory, which never comes of a text of
+    /// nothing but blanks and comments.
     #[tactic(auto, unfolding(crate::specs::SheetReading::sheet_of_text))]
     pub fn read(alloc: Global, text: &str) -> Result<Sheet, SheetFault>
         ensures taken { IfOk result (λ sheet. sheet_of_text text.now ≡ Ok sheet) }
@@ -69,7 +69,7 @@ impl Sheet {
         }
     }
 
-    /// A sheet with this base month and no rows.
+    /// A sheet with this base month, from 2000-01 to 2100-12, and no rows. An error is an allocation failure.
     pub fn empty(alloc: Global, base: Month) -> Result<Sheet, AllocError>
         requires { IsBaseMonth base }
         ensures { IfOk result (λ sheet. sheet ≡ empty_sheet base) }
@@ -82,7 +82,7 @@ impl Sheet {
         })
     }
 
-    /// Reads a sheet from a table. No memory is taken before the base month is read.
+    /// Reads a sheet from a table. Nothing is allocated before the base month is read.
     #[tactic(auto, using(crate::proofs::Chains::placed_fails), unfolding(crate::specs::SheetReading::sheet_in))]
     fn of_table(alloc: Global, table: &Table) -> Result<Sheet, SheetFault>
         ensures taken { IfOk result (λ sheet. sheet_in (table_view table.now) ≡ Ok sheet) }
@@ -131,42 +131,43 @@ impl Sheet {
         })
     }
 
-    /// The prices, in the order of the sheet. No memory is taken.
+    /// The prices, in the order of the sheet.
     pub fn prices(&self) -> &[PriceRow]
         ensures { result.now ≡ self.now.prices }
     {
         self.prices.rows()
     }
 
-    /// The commitments, in the order of the sheet. No memory is taken.
+    /// The commitments, in the order of the sheet.
     pub fn commitments(&self) -> &[Commitment]
         ensures { result.now ≡ self.now.commitments }
     {
         self.commitments.rows()
     }
 
-    /// The regions, in the order of the sheet. No memory is taken.
+    /// The regions, in the order of the sheet.
     pub fn regions(&self) -> &[Region]
         ensures { result.now ≡ self.now.regions }
     {
         self.regions.rows()
     }
 
-    /// The price of a SKU that is in force on a day: the one that began last. No memory is taken.
+    /// The price of a SKU that is in force on a day: of those that have begun, the one that began last; None where none
+    /// has.
     pub fn price(&self, sku: &[u8], day: Day) -> Option<&PriceRow>
         ensures { option_copied result ≡ price_in_force self.now sku.now day }
     {
         self.prices.in_force(sku, day)
     }
 
-    /// The commitment with an id. No memory is taken.
+    /// The commitment with an id; None where there is none.
     pub fn commitment(&self, id: &[u8]) -> Option<&Commitment>
         ensures { option_copied result ≡ commitment_with self.now id.now }
     {
         self.commitments.with_id(id)
     }
 
-    /// The name of the region with an id. No memory is taken.
+    /// The name of the region with an id; None where the sheet names none.
     pub fn region(&self, id: &[u8]) -> Option<&[u8]>
         ensures { option_copied result ≡ region_named self.now id.now }
     {

@@ -104,7 +104,7 @@ pub(crate) fn day_under(table: &Table, key: Key) -> Result<Day, KeyFault>
     Day::read(text.as_bytes()).ok_or(KeyFault::BadValue(key))
 }
 
-/// The base month under a key. No memory is taken, and want of it is never told.
+/// The base month under a key, from 2000-01 to 2100-12, or what is wrong there. Never OutOfMemory.
 #[tactic(auto, unfolding(crate::specs::Keys::base_under))]
 pub fn base_under(table: &Table, key: Key) -> Result<Month, KeyFault>
     ensures gives { Gives (λ m. m) result (base_under key (table_view table.now)) }
@@ -233,7 +233,8 @@ fn rows_in<'a>(alloc: Global, key: Key, value: &'a Value) -> Result<Vec<&'a Tabl
     Ok(tables)
 }
 
-/// The rows under a key, in order; none where the key is not there.
+/// The rows under a key, in order, at most 10,000; none where the key is absent. An error is what is wrong under the
+/// key, or OutOfMemory.
 #[tactic(auto, unfolding(crate::specs::Keys::rows_under))]
 pub fn rows_under<'a>(alloc: Global, table: &'a Table, key: Key) -> Result<Vec<&'a Table>, KeyFault>
     ensures gives { Gives (λ rows. map (λ t. table_view t.now) rows.items) result
