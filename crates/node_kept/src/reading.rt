@@ -4,6 +4,7 @@ ghost use Rattle.std.specs.Prelude.{◌≡◌, ◌+◌, ◌≤◌, ◌∷◌, []
 ghost use Rattle.std.specs.Arc.{arc_value};
 ghost use Rattle.metering_model.specs.BatchReading.{lines_in};
 ghost use Rattle.metering_model.specs.KeptText.{at_kept_line, batches_in, cuts_in, cuts_of_vote, kept_below, kept_in, kept_of_parts, next_batch};
+ghost use Rattle.metering_model.specs.Limits.{most_agents, most_periods};
 ghost use Rattle.batch_store.specs.Batches.{batch_of};
 ghost use Rattle.node_kept.specs.Offers.{BeginsWithHead, IsFaultOf};
 ghost use Rattle.node_kept.specs.Inner.Head.{head_of};
@@ -30,7 +31,7 @@ fn read_cut<'a>(
     agents: u8,
 ) -> Result<(Arc<Cut>, &'a [u8]), KeptFault>
     requires from { 1 ≤ agents }
-    requires to { agents ≤ 64 }
+    requires to { agents ≤ most_agents }
     ensures { MatchResult result
         (λ read. AreCutsOf text.now line agents 1 (arc_value read.0 ∷ []) read.1.now)
         (λ fault. IfTold fault (λ f. cuts_in line agents 1 (lines_in text.now).lines ≡ Err f)) }
@@ -60,7 +61,7 @@ fn read_cuts<'a>(
     count: u16,
 ) -> Result<(Vec<Arc<Cut>>, &'a [u8]), KeptFault>
     requires from { 1 ≤ agents }
-    requires to { agents ≤ 64 }
+    requires to { agents ≤ most_agents }
     ensures { MatchResult result
         (λ read. AreCutsOf text.now 2 agents count (map arc_value read.0.items) read.1.now)
         (λ fault. IfTold fault (λ f. cuts_in 2 agents count (lines_in text.now).lines ≡ Err f)) }
@@ -130,7 +131,7 @@ fn read_batches<'a>(
     count: u32,
 ) -> Result<(Store, u64, &'a [u8]), KeptFault>
     requires from { 1 ≤ agents }
-    requires to { agents ≤ 64 }
+    requires to { agents ≤ most_agents }
     requires first { first ≤ 100_000 }
     ensures { MatchResult result
         (λ read. AreBatchesOf text.now first agents count read.0.batches read.1 read.2.now × (read.0.agents ≡ agents))
@@ -198,8 +199,8 @@ fn parts_of(head: Head, mut cuts: Vec<Arc<Cut>>, store: Store) -> Parts
 /// The parts below a head line.
 fn read_parts(alloc: Global, text: &[u8], head: Head) -> Result<Parts, KeptFault>
     requires from { 1 ≤ head.agents }
-    requires to { head.agents ≤ 64 }
-    requires learned { head.learned ≤ 1_200 }
+    requires to { head.agents ≤ most_agents }
+    requires learned { head.learned ≤ most_periods }
     ensures { MatchResult result
         (λ parts. kept_below (lines_in text.now).lines (lines_in text.now).rest (head_of head) ≡ Ok parts)
         (λ fault. IfTold fault (λ f. kept_below (lines_in text.now).lines (lines_in text.now).rest (head_of head) ≡ Err f)) }

@@ -6,6 +6,7 @@ ghost use Rattle.std.specs.List.{flat_map};
 ghost use Rattle.std.specs.Option.{option_copied};
 ghost use Rattle.metering_model.specs.Batch.{batch_text, line_of_fields};
 ghost use Rattle.metering_model.specs.KeptText.{cut_text, kept_head_fields, kept_text, promised_number, vote_cuts, vote_number};
+ghost use Rattle.metering_model.specs.Limits.{most_batches};
 
 use crate::kept::{Kept, Parts};
 use batch_store::{Batches, Cut};
@@ -77,7 +78,7 @@ fn put_vote(text: &mut Vec<u8>, vote: Option<&Vote>) -> Result<(), AllocError>
 
 /// How many batches there are, and how many bytes they have together.
 fn size_of(mut batches: Batches<'_>) -> (u32, usize)
-    requires { length batches ≤ 64_000_000 }
+    requires { length batches ≤ most_batches }
     ensures { result.0 ≡ length batches.entry }
 {
     let mut count = 0;

@@ -2,6 +2,7 @@
 ghost use Rattle.std.specs.Prelude.{◌≡◌, ◌<◌, ◌≤◌, length, if◌then◌else◌, Some, None};
 ghost use Rattle.std.specs.Option.{option_copied};
 ghost use Rattle.metering_model.specs.Ballot.{new_attempt, greater_vote};
+ghost use Rattle.metering_model.specs.Limits.{most_nodes};
 ghost use Rattle.paxos_ballot.specs.Promises.{proposes, after_promise};
 ghost use Rattle.paxos_ballot.specs.Proposals.{proposal_in};
 
@@ -42,7 +43,7 @@ impl Attempt {
 
     /// An attempt in a group of that many nodes, at most 99, in which nobody has promised.
     pub fn new(ballot: Ballot, nodes: u8) -> Attempt
-        requires { nodes ≤ 99 }
+        requires { nodes ≤ most_nodes }
         ensures { result ≡ new_attempt nodes ballot }
     {
         Attempt {

@@ -2,6 +2,7 @@
 ghost use Rattle.std.specs.Prelude.{◌≡◌, ◌<◌, ◌≤◌};
 ghost use Rattle.metering_model.specs.Ballot.{ballot_of, majority};
 ghost use Rattle.metering_model.specs.KeptText.{ballot_numbered};
+ghost use Rattle.metering_model.specs.Limits.{most_nodes, most_rounds};
 
 use period_cut::Cut;
 use std::marker::Model;
@@ -26,9 +27,9 @@ impl Model for Ballot {
 impl Ballot {
     /// The ballot of a node in one of its rounds, at most 10,000. Nodes are numbered from 0, and are at most 99.
     pub fn of(round: u16, node: u8, nodes: u8) -> Ballot
-        requires round { round ≤ 10_000 }
+        requires round { round ≤ most_rounds }
         requires node { node < nodes }
-        requires nodes { nodes ≤ 99 }
+        requires nodes { nodes ≤ most_nodes }
         ensures { result ≡ ballot_of round node nodes }
     {
         Ballot {

@@ -2,6 +2,7 @@
 ghost use Rattle.std.specs.Prelude.{◌≡◌, ◌<◌, ◌≤◌, [], OnOk, OnErr, IfOk, if◌then◌else◌, Some, None, option_map};
 ghost use Rattle.std.specs.Arc.{arc_value};
 ghost use Rattle.metering_model.specs.Ballot.{with_node, accepting_at, with_accepted, has_majority};
+ghost use Rattle.metering_model.specs.Limits.{most_nodes};
 
 use crate::ballots::Vote;
 use crate::node_set::NodeSet;
@@ -32,7 +33,7 @@ impl Model for Tally {
 impl Tally {
     /// A tally among that many nodes, at most 99, in which nobody has accepted.
     pub fn new(alloc: Global, nodes: u8) -> Tally
-        requires { nodes ≤ 99 }
+        requires { nodes ≤ most_nodes }
         ensures nodes { result.nodes ≡ nodes }
         ensures accepting { result.accepting ≡ [] }
     {
