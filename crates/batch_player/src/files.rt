@@ -34,7 +34,9 @@ pub fn file_between(
     requires grows { IsAtLeast to.now from.now }
     requires whole { first_missing store.now.batches to.now ≡ None }
     requires met { MeetsJournalRules sheet.now (up_to to.now store.now.batches) }
-    ensures file { IfOk result (λ text. text.items ≡ file (rows sheet.now issuer.now store.now.batches period from.now to.now)) }
+    ensures file { IfOk result
+        (λ text. text.items ≡ file
+        (rows sheet.now issuer.now store.now.batches period from.now to.now)) }
 
     // It is the file of the journals, of which the store has all up to the later cut.
     ensures journals { (journals : Holding) → IsHolding journals → IsPartOf store.now.batches journals

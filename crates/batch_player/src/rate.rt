@@ -100,7 +100,8 @@ fn rate_input_text<W: Sink>(
 ) -> Result<(), PlayFault>
     ensures file { OnOk result ((text : List ℕ) × IsFileOf (Some input.items) period input.items text
         × Appends (W.contents writer.old) (W.contents writer.new) text) }
-    ensures prefix { result ≡ Err PlayFault.Write → (text : List ℕ) × IsFileOf (Some input.items) period input.items text
+    ensures prefix { result ≡ Err PlayFault.Write
+        → (text : List ℕ) × IsFileOf (Some input.items) period input.items text
         × AppendsPrefix (W.contents writer.old) (W.contents writer.new) text }
     ensures refused { (refusal : Refusal) → result ≡ Err (PlayFault.Refused refusal)
         → rated_file period input.items ≡ Err (PlayFault.Refused refusal) }
@@ -136,7 +137,8 @@ pub fn rate_batch<W: Sink>(
 ) -> Result<(), PlayFault>
     ensures file { OnOk result ((text : List ℕ) × (file_by sheet.now issuer.now period input.items ≡ Ok text)
         × Appends (W.contents writer.old) (W.contents writer.new) text) }
-    ensures prefix { result ≡ Err PlayFault.Write → (text : List ℕ) × (file_by sheet.now issuer.now period input.items ≡ Ok text)
+    ensures prefix { result ≡ Err PlayFault.Write
+        → (text : List ℕ) × (file_by sheet.now issuer.now period input.items ≡ Ok text)
         × AppendsPrefix (W.contents writer.old) (W.contents writer.new) text }
     ensures refused { (refusal : Refusal) → result ≡ Err (PlayFault.Refused refusal)
         → file_by sheet.now issuer.now period input.items ≡ Err refusal }
@@ -238,7 +240,8 @@ fn file_of_journaled(
     batch: Arc<OwnedBatch>,
 ) -> Result<Vec<u8>, AllocError>
     requires first { (batch_of (arc_value batch)).seq ≡ 1 }
-    requires fit { first_broken sheet.now (put [] (batch_of (arc_value batch))) (placed (batch_of (arc_value batch))) ≡ None }
+    requires fit { first_broken sheet.now (put [] (batch_of (arc_value batch)))
+        (placed (batch_of (arc_value batch))) ≡ None }
     ensures { IfOk result (λ text. file_by sheet.now issuer.now period (arc_value batch) ≡ Ok text.items) }
 {
     // For the proof alone: its clause says that the bytes are a batch.

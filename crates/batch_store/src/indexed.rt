@@ -71,7 +71,8 @@ impl IndexedShelf {
     /// Of the batches after a sequence and up to another, one such that none after it amends the batch at the first;
     /// None where none does. Nothing is allocated.
     pub(crate) fn last_amender(&self, seq: u32, upto: u32) -> Option<u32>
-        ensures { MatchOption result (NoneAmends (at_seq self.now) seq seq upto) (IsLastAmender (at_seq self.now) seq upto) }
+        ensures { MatchOption result (NoneAmends (at_seq self.now) seq seq upto)
+            (IsLastAmender (at_seq self.now) seq upto) }
     {
         self.amenders.last(seq, upto)
     }
@@ -80,7 +81,8 @@ impl IndexedShelf {
     /// was: what was listed for a batch that found no room is passed over, and no answer shows it.
     pub(crate) fn put(&mut self, batch: Arc<OwnedBatch>) -> Result<bool, AllocError>
         requires { AreOf (batch_of (arc_value batch)).agent self.old }
-        ensures added { IfOk result (λ added. IsTrue added ↔ (at_seq self.old (batch_of (arc_value batch)).seq ≡ None)) }
+        ensures added { IfOk result
+            (λ added. IsTrue added ↔ (at_seq self.old (batch_of (arc_value batch)).seq ≡ None)) }
         ensures batches { IfOk result (λ _. self.new ≡ put self.old (batch_of (arc_value batch))) }
         ensures kept { IfErr result (λ _. self.new ≡ self.old) }
     {

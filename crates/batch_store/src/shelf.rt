@@ -163,7 +163,8 @@ impl Shelf {
     /// was.
     pub(crate) fn put(&mut self, batch: Arc<OwnedBatch>) -> Result<bool, AllocError>
         requires { AreOf (batch_of (arc_value batch)).agent self.old }
-        ensures added { IfOk result (λ added. IsTrue added ↔ (at_seq self.old (batch_of (arc_value batch)).seq ≡ None)) }
+        ensures added { IfOk result
+            (λ added. IsTrue added ↔ (at_seq self.old (batch_of (arc_value batch)).seq ≡ None)) }
         ensures batches { IfOk result (λ _. self.new ≡ put self.old (batch_of (arc_value batch))) }
         ensures kept { IfErr result (λ _. self.new ≡ self.old) }
     {

@@ -129,7 +129,8 @@ impl Store {
     /// A store of the batches up to a cut, which stay in this one too. An error is an allocation failure.
     pub fn share(&self, alloc: Global, upto: &Cut) -> Result<Store, AllocError>
         requires { length upto.now ≡ self.now.agents }
-        ensures { IfOk result (λ part. part ≡ record { agents = self.now.agents; batches = up_to upto.now self.now.batches }) }
+        ensures { IfOk result (λ part. part
+            ≡ record { agents = self.now.agents; batches = up_to upto.now self.now.batches }) }
     {
         let mut shelves = Vec::with_capacity(alloc, self.shelves.len())?;
         for (index, shelf) in self.shelves.iter().enumerate() {

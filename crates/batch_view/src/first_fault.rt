@@ -40,7 +40,8 @@ fn check_records(version: Version, text: &[u8], from: u32, count: u16) -> Result
     requires behind { IsBehindLines text.now 1 from }
     requires short { length text.now ≤ most_batch_bytes }
     ensures { MatchResult result
-        (λ end. IsOk (records_in version 2 count (drop 1 (lines_in text.now).lines)) × IsBehindLines text.now (count + 1) end)
+        (λ end. IsOk (records_in version 2 count (drop 1 (lines_in text.now).lines))
+        × IsBehindLines text.now (count + 1) end)
         (λ fault. records_in version 2 count (drop 1 (lines_in text.now).lines) ≡ Err fault) }
 {
     let mut at = from;

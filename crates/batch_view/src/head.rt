@@ -66,7 +66,8 @@ pub(crate) fn head_of_line(text: &[u8], span: Span) -> Option<Head>
     requires short { length text.now ≤ most_batch_bytes }
     ensures { MatchOption result
         (head_in (fields_in (slice_range text.now span.from span.to)) ≡ Err BatchCode.Head)
-        (λ h. (head_in (fields_in (slice_range text.now span.from span.to)) ≡ Ok (head_line h)) × (h.records_from ≡ span.to + 1)) }
+        (λ h. (head_in (fields_in (slice_range text.now span.from span.to)) ≡ Ok (head_line h))
+        × (h.records_from ≡ span.to + 1)) }
 {
     let fields = head_fields(&text[span.from as usize..span.to as usize])?;
     Some(Head {

@@ -241,7 +241,9 @@ impl Offer {
         ensures answer { IfOk result (λ answer. MatchOption answer
             (extent_in text.now ≡ None)
             (λ first. (extent_in text.now ≡ Some first.1) × IsOfferOf (take first.1 text.now) first.0)) }
-        ensures want { IfErr result (λ _. (n : ℕ) × (extent_in text.now ≡ Some n) × (batch_in (take n text.now) ≡ Ok (batch_of (take n text.now)))) }
+        ensures want { IfErr result
+            (λ _. (n : ℕ) × (extent_in text.now ≡ Some n)
+            × (batch_in (take n text.now) ≡ Ok (batch_of (take n text.now)))) }
     {
         let Some((head, length)) = first_batch(text) else {
             return Ok(None);

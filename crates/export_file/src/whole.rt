@@ -24,7 +24,8 @@ pub trait ExportRows {
     /// The rows of the file, batch by batch, in journal order. An error is an allocation failure.
     fn rows(&self, alloc: Global) -> Result<RowsBetween<'_>, AllocError>
         ensures { IfOk result (λ batches. joined batches
-            ≡ rows (exported self.now).sheet (exported self.now).issuer (exported self.now).batches (exported self.now).period
+            ≡ rows (exported self.now).sheet (exported self.now).issuer (exported self.now).batches
+            (exported self.now).period
             (exported self.now).from (exported self.now).to) };
 
     /// Writes the file: the header line, and a line for each row.
@@ -32,7 +33,8 @@ pub trait ExportRows {
     /// `Write` is one failed call of the sink, and a proper prefix of the file was written. At `OutOfMemory` no call
     /// failed, and a prefix of the file was written, perhaps none or all of it.
     fn write_csv<W: Sink>(&self, alloc: Global, sink: &mut W) -> Result<(), CsvFault>
-        ensures written { OnOk result (Appends (W.contents sink.old) (W.contents sink.new) (file_of (exported self.now))) }
+        ensures written { OnOk result
+            (Appends (W.contents sink.old) (W.contents sink.new) (file_of (exported self.now))) }
         ensures prefix { result ≡ Err CsvFault.Write
             → AppendsPrefix (W.contents sink.old) (W.contents sink.new) (file_of (exported self.now)) }
         ensures fault { result ≡ Err CsvFault.Write

@@ -27,7 +27,9 @@ fn put_part<'a>(
     rows: &mut Vec<FocusRow<'a>>,
     text: &mut Vec<u8>,
 ) -> Result<(), AllocError>
-    ensures put { OnOk result (text.new.items ++ flat_map row_text walk.new.rows ≡ text.old.items ++ flat_map row_text walk.old.rows) }
+    ensures put { OnOk result
+        (text.new.items ++ flat_map row_text walk.new.rows ≡ text.old.items
+        ++ flat_map row_text walk.old.rows) }
     ensures fewer { OnOk result (0 < walk.old.records → walk.new.records < walk.old.records) }
     ensures begins { BeginsWith text.new.items text.old.items }
 {
@@ -82,7 +84,9 @@ fn put_each(
 ) -> Result<(), AllocError>
     requires order { from ≤ to }
     requires within { to ≤ length batches.now }
-    ensures put { OnOk result (text.new.items ≡ text.old.items ++ batch_lines (take (to - from) (drop from batches.now))) }
+    ensures put { OnOk result
+        (text.new.items ≡ text.old.items
+        ++ batch_lines (take (to - from) (drop from batches.now))) }
     ensures begins { OnErr result (BeginsWith text.new.items text.old.items) }
 {
     let mut pieces = LinePieces::new(alloc);
@@ -104,7 +108,9 @@ pub fn put_batches(
 ) -> Result<(), AllocError>
     requires order { from ≤ to }
     requires within { to ≤ length batches.now }
-    ensures put { OnOk result (text.new.items ≡ text.old.items ++ batch_lines (take (to - from) (drop from batches.now))) }
+    ensures put { OnOk result
+        (text.new.items ≡ text.old.items
+        ++ batch_lines (take (to - from) (drop from batches.now))) }
     ensures kept { OnErr result (text.new.items ≡ text.old.items) }
 {
     let before = text.len();

@@ -45,7 +45,8 @@ pub fn lines_are_records_of_csv()
 pub fn tags_are_json()
     ensures written { (ts : List Tag) → IsTrue (list_all (λ t. is_text t.key && is_text t.value) ts)
         → compact_text (tag_data ts) ≡ json_object ts }
-    ensures read { (ts : List Tag) → IsTrue (list_all (λ t. is_text t.key && is_text t.value) ts) → IsTrue (keys_rise ts)
+    ensures read { (ts : List Tag) → IsTrue (list_all (λ t. is_text t.key && is_text t.value) ts)
+        → IsTrue (keys_rise ts)
         → read (json_object ts) ≡ Some (tag_data ts) }
     ensures field { (row : FocusRow) → (compact_text (tag_data (model_row row).tags) ≡ json_object (model_row row).tags)
         × (read (json_object (model_row row).tags) ≡ Some (tag_data (model_row row).tags)) }

@@ -160,7 +160,8 @@ pub fn rows_between<'a>(
     requires grows { IsAtLeast to.now from.now }
     requires whole { first_missing store.now.batches to.now ≡ None }
     requires met { MeetsJournalRules sheet.now (up_to to.now store.now.batches) }
-    ensures { IfOk result (λ batches. joined batches ≡ rows sheet.now issuer.now store.now.batches period from.now to.now) }
+    ensures { IfOk result (λ batches. joined batches
+        ≡ rows sheet.now issuer.now store.now.batches period from.now to.now) }
 {
     let amended = store.amended(alloc, from, to)?;
     // For the proof alone: its clause says that the agents are 1 to 64, and their batches a holding.

@@ -15,7 +15,8 @@ ghost use Rattle.row_laws.specs.Charged.{charged_at_once};
 /// Over growing cuts, the rows of a reading add up to what it would be charged once, at its value as of the last cut:
 /// in both quantities and all four costs.
 pub fn totals()
-    ensures { (sheet : Sheet) (issuer : Issuer) (h : Holding) (agents : ℕ) (cuts : List Cut) (at : Position) (r : Reading) →
+    ensures { (sheet : Sheet) (issuer : Issuer) (h : Holding) (agents : ℕ) (cuts : List Cut)
+        (at : Position) (r : Reading) →
         IsHolding h → IsGrowing agents cuts → reading_at h at ≡ Some r →
         model.totals (rows_of_place sheet issuer h agents cuts at)
         ≡ amounts_of (charged_at_once sheet r (value_at h at (last_of (last_cut agents cuts) at.agent))) }

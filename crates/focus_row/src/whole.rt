@@ -54,7 +54,8 @@ pub fn rows_of<'a>(
         → first_missing store.now.batches to.now ≡ Some (agent, seq) }
     ensures broken { (rule : BrokenRule) → result ≡ Err (RowFault.Broken rule)
         → (first_missing store.now.batches to.now ≡ None)
-        × (first_broken sheet.now (up_to to.now store.now.batches) (records_in_order (up_to to.now store.now.batches)) ≡ Some rule) }
+        × (first_broken sheet.now (up_to to.now store.now.batches)
+        (records_in_order (up_to to.now store.now.batches)) ≡ Some rule) }
     ensures memory { result ≡ Err RowFault.OutOfMemory → (first_missing store.now.batches to.now ≡ None)
         × MeetsJournalRules sheet.now (up_to to.now store.now.batches) }
 {

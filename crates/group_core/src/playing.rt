@@ -24,16 +24,22 @@ impl World {
     /// the headline holds: one chosen cut a period at most, exports of neighbouring cuts, equal for one period, and no
     /// reading charged as new twice.
     pub fn play(&mut self, alloc: Global, events: &[Event]) -> Result<Vec<Reply>, Stopped>
-        ensures run { IfOk result (λ replies. (map reply_of replies.items, self.new) ≡ play self.old (map event_of events.now)) }
+        ensures run { IfOk result
+            (λ replies. (map reply_of replies.items, self.new)
+            ≡ play self.old (map event_of events.now)) }
         ensures short { IfErr result (λ why. length why.replies.items < length events.now) }
-        ensures stopped { IfErr result (λ why. (map reply_of why.replies.items, self.new) ≡ play self.old (map event_of (take (length why.replies.items) events.now))) }
+        ensures stopped { IfErr result
+            (λ why. (map reply_of why.replies.items, self.new)
+            ≡ play self.old (map event_of (take (length why.replies.items) events.now))) }
         ensures one_cut { AtMostOneIsChosen self.new }
         ensures learned { LearnsWhatIsChosen self.new }
         ensures cuts { HasOneList self.new }
         ensures exports { AreExportsOf self.new (replies_in result) }
         ensures agree { ExportsAgree self.new (replies_in result) }
         ensures charged_once { ChargesOnce self.new }
-        ensures answers { AnswersEach self.old (map event_of (take (length (replies_in result)) events.now)) (replies_in result) self.new }
+        ensures answers { AnswersEach self.old
+            (map event_of (take (length (replies_in result)) events.now))
+            (replies_in result) self.new }
         ensures group { IsSameGroup self.old self.new }
         ensures grows { ListGrows self.old self.new }
         ensures stay { ExportsStay self.old self.new }
@@ -54,7 +60,8 @@ impl World {
         replies: &mut Vec<Reply>,
     ) -> Result<(), AllocError>
         requires begun { replies.old.items ≡ [] }
-        ensures run { (map reply_of replies.new.items, self.new) ≡ play self.old (map event_of (take (length replies.new.items) events.now)) }
+        ensures run { (map reply_of replies.new.items, self.new)
+            ≡ play self.old (map event_of (take (length replies.new.items) events.now)) }
         ensures all { OnOk result (length replies.new.items ≡ length events.now) }
         ensures short { OnErr result (length replies.new.items < length events.now) }
     {

@@ -97,7 +97,8 @@ impl World {
         ensures refused { IfOk result (λ reply. is_refused (reply_of reply) ≡ true → self.new ≡ self.old) }
         ensures exported { IfOk result (λ reply. is_exported (reply_of reply) ≡ true → self.new ≡ self.old) }
         ensures kept { IfOk result (λ reply. is_kept_text (reply_of reply) ≡ true → self.new ≡ self.old) }
-        ensures others { (node : ℕ) (n : Node) (offer : KeptOffer) → event_of event.now ≡ Revive node offer → slice_get self.old.nodes node ≡ Some n →
+        ensures others { (node : ℕ) (n : Node) (offer : KeptOffer)
+            → event_of event.now ≡ Revive node offer → slice_get self.old.nodes node ≡ Some n →
             offer ≢ KeptGood (kept_text (kept_now self.old n)) →
             IfOk result (λ reply. (reply_of reply ≡ Refused (refusal_of_other offer)) × (self.new ≡ self.old)) }
         ensures exports { IfOk result (λ reply. AreExportsOf self.new (reply_of reply ∷ [])) }

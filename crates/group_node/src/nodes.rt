@@ -91,7 +91,8 @@ impl Node {
 
     /// The text of what the node keeps over a restart. An error is an allocation failure.
     pub fn write_kept(&self, alloc: Global) -> Result<Vec<u8>, AllocError>
-        ensures { IfOk result (λ text. text.items ≡ kept_text (record { agents = self.now.agents; kept = self.now.node.kept })) }
+        ensures { IfOk result (λ text. text.items
+            ≡ kept_text (record { agents = self.now.agents; kept = self.now.node.kept })) }
     {
         self.kept.write(alloc)
     }

@@ -29,9 +29,11 @@ fn hand_over(
     requires few { length packets.old.items ≤ most_packets }
     requires there { k < length packets.old.items }
     requires base { IsBaseMonth base }
-    requires packet { (q : ModelPacket) → slice_get (map packet_of packets.old.items) k ≡ Some q → IsPacketAmong node.old.voters node.old.agents q }
+    requires packet { (q : ModelPacket) → slice_get (map packet_of packets.old.items) k ≡ Some q
+        → IsPacketAmong node.old.voters node.old.agents q }
     ensures ok { IfOk result (λ reply.
-        HandsOver base i k (map packet_of packets.old.items) (map packet_of packets.new.items) node.old node.new (reply_of reply)) }
+        HandsOver base i k (map packet_of packets.old.items)
+        (map packet_of packets.new.items) node.old node.new (reply_of reply)) }
     ensures packets_kept { OnErr result (packets.new.items ≡ packets.old.items) }
     ensures node_kept { OnErr result (node.new ≡ node.old) }
 {

@@ -32,7 +32,11 @@ fn keep_batch(
 ) -> Result<(), AllocError>
     requires { (batch_of (arc_value batch.now)).agent ≤ journals.old.agents }
     ensures journals { IfOk result (λ _. journals.new
-        ≡ record { agents = journals.old.agents; batches = put journals.old.batches (batch_of (arc_value batch.now)) }) }
+        ≡ record {
+          agents = journals.old.agents;
+          batches = put journals.old.batches
+              (batch_of (arc_value batch.now));
+        }) }
     ensures packets { IfOk result (λ _. map packet_of packets.new.items
         ≡ map packet_of packets.old.items ++ CarriesBatch (batch_of (arc_value batch.now)) ∷ []) }
     ensures journals_kept { OnErr result (journals.new ≡ journals.old) }
@@ -72,7 +76,8 @@ impl GroupState {
     fn broken_rule(&self, batch: &BatchView<'_>) -> Option<BrokenRule>
         requires agent { (batch_of batch.now).agent ≤ self.now.agents }
         requires new { held self.now.journals (batch_of batch.now).agent (batch_of batch.now).seq ≡ None }
-        ensures { result ≡ first_broken self.now.sheet (put self.now.journals (batch_of batch.now)) (placed (batch_of batch.now)) }
+        ensures { result ≡ first_broken self.now.sheet (put self.now.journals (batch_of batch.now))
+            (placed (batch_of batch.now)) }
     {
         first_broken(&self.journals, &self.sheet, batch)
     }
@@ -109,7 +114,8 @@ impl GroupState {
         requires { MeetsJournalRules self.now.sheet self.now.journals }
         ensures next { result ≡ is_next self.now (batch_of batch.now) }
         ensures agent { result ≡ true → (batch_of batch.now).agent ≤ self.now.agents }
-        ensures absent { result ≡ true → held self.now.journals (batch_of batch.now).agent (batch_of batch.now).seq ≡ None }
+        ensures absent { result ≡ true
+            → held self.now.journals (batch_of batch.now).agent (batch_of batch.now).seq ≡ None }
     {
         let agent = batch.agent();
         if agent > self.agents() {
@@ -122,7 +128,9 @@ impl GroupState {
     fn first_bad(&self, batch: &BatchView<'_>) -> Option<u16>
         requires agent { (batch_of batch.now).agent ≤ self.now.agents }
         requires new { held self.now.journals (batch_of batch.now).agent (batch_of batch.now).seq ≡ None }
-        ensures { result ≡ option_map (λ p. p.index) (first_bad self.now.sheet (put self.now.journals (batch_of batch.now)) (placed (batch_of batch.now))) }
+        ensures { result ≡ option_map (λ p. p.index)
+            (first_bad self.now.sheet (put self.now.journals (batch_of batch.now))
+            (placed (batch_of batch.now))) }
     {
         match first_bad(&self.journals, &self.sheet, batch) {
             Some((index, _)) => Some(index),
@@ -161,7 +169,8 @@ impl GroupState {
     /// Journals a batch that may be journaled.
     fn take(&mut self, batch: &Arc<OwnedBatch>) -> Result<Reply, AllocError>
         requires { MayJournal self.old (batch_of (arc_value batch.now)) }
-        ensures ok { IfOk result (λ reply. on_batch self.old (batch_of (arc_value batch.now)) ≡ Ok (reply_of reply, self.new)) }
+        ensures ok { IfOk result (λ reply. on_batch self.old (batch_of (arc_value batch.now))
+            ≡ Ok (reply_of reply, self.new)) }
         ensures err { OnErr result (self.new ≡ self.old) }
     {
         let packet = self.packets.len() as u32;

@@ -31,7 +31,8 @@ fn begin(
     requires votes { i < node.old.voters }
     requires round { node.old.node.kept.round < most_rounds }
     ensures ok { IfOk result (λ reply.
-        Begins i period (map packet_of packets.old.items) (map packet_of packets.new.items) node.old node.new (reply_of reply)) }
+        Begins i period (map packet_of packets.old.items)
+        (map packet_of packets.new.items) node.old node.new (reply_of reply)) }
     ensures packets_kept { OnErr result (packets.new.items ≡ packets.old.items) }
     ensures node_kept { OnErr result (node.new ≡ node.old) }
 {
@@ -45,7 +46,8 @@ fn begin(
 impl GroupState {
     /// The period for which a node may begin a ballot, or why it may begin none.
     fn period_to_begin(&self, node: u8) -> Result<Period, Refusal>
-        ensures { MatchResult result (λ period. MayBegin self.now node period) (λ refusal. on_start self.now node ≡ Err refusal) }
+        ensures { MatchResult result (λ period. MayBegin self.now node period)
+            (λ refusal. on_start self.now node ≡ Err refusal) }
     {
         let Some(starter) = self.nodes.get(usize::from(node)) else {
             return Err(Refusal::NoNode);

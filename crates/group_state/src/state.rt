@@ -55,7 +55,8 @@ fn new_nodes(alloc: Global, nodes: u8, voters: u8, agents: u8) -> Result<Vec<Nod
     requires voters_to { voters ≤ most_nodes }
     requires from { 1 ≤ agents }
     requires to { agents ≤ most_agents }
-    ensures { IfOk result (λ made. made.items ≡ replicate nodes (record { voters = voters; agents = agents; node = wake new_kept })) }
+    ensures { IfOk result (λ made. made.items
+        ≡ replicate nodes (record { voters = voters; agents = agents; node = wake new_kept })) }
 {
     let mut made = Vec::with_capacity(alloc, usize::from(nodes))?;
     for _ in 0..nodes {

@@ -29,7 +29,8 @@ fn sheet_or_default<'a>(
     alloc: Global,
     unread: Unread<'a>,
 ) -> Result<(Sheet, Unread<'a>), ScheduleFault>
-    ensures taken { IfOk result (λ r. if_begun (codes "sheet ") sheet_section default_sheet unread.entry ≡ Ok (r.0, r.1)) }
+    ensures taken { IfOk result
+        (λ r. if_begun (codes "sheet ") sheet_section default_sheet unread.entry ≡ Ok (r.0, r.1)) }
     ensures refused { IfErr result (λ fault. fault ≢ ScheduleFault.OutOfMemory
         → if_begun (codes "sheet ") sheet_section default_sheet unread.entry ≡ Err fault) }
     ensures rules { IfOk result (λ r. IsSheet r.0) }
@@ -49,7 +50,9 @@ fn issuer_or_sample<'a>(
     alloc: Global,
     unread: Unread<'a>,
 ) -> Result<(Issuer, Unread<'a>), ScheduleFault>
-    ensures taken { IfOk result (λ r. if_begun (codes "issuer ") issuer_section sample_issuer unread.entry ≡ Ok (r.0, r.1)) }
+    ensures taken { IfOk result
+        (λ r. if_begun (codes "issuer ") issuer_section sample_issuer unread.entry
+        ≡ Ok (r.0, r.1)) }
     ensures refused { IfErr result (λ fault. fault ≢ ScheduleFault.OutOfMemory
         → if_begun (codes "issuer ") issuer_section sample_issuer unread.entry ≡ Err fault) }
     ensures rules { IfOk result (λ r. IsIssuer r.0) }

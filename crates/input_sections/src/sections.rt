@@ -42,7 +42,8 @@ pub fn lines_below<'a>(
     line: u32,
 ) -> Result<Section<'a>, ScheduleFault>
     ensures section { MatchResult result
-        (λ s. (count ≤ length (lines_left below.now)) × (section_of count below.now ≡ record { text = s.text.now; rest = s.rest }))
+        (λ s. (count ≤ length (lines_left below.now))
+        × (section_of count below.now ≡ record { text = s.text.now; rest = s.rest }))
         (λ fault. (length (lines_left below.now) < count) × (fault ≡ ScheduleFault.Refused ScheduleCode.Lines line)) }
     ensures text { IfOk result (λ s. s.rest.text ≡ below.now.text) }
 {
@@ -119,7 +120,9 @@ fn told_of_issuer(fault: IssuerFault, line: u32) -> ScheduleFault
 
 /// The sheet of a section that opens at a line.
 fn sheet_of(alloc: Global, text: &[u8], line: u32) -> Result<Sheet, ScheduleFault>
-    ensures taken { IfOk result (λ sheet. read_as sheet_of_text (ScheduleFault.Refused ScheduleCode.Sheet line) text.now ≡ Ok sheet) }
+    ensures taken { IfOk result
+        (λ sheet. read_as sheet_of_text (ScheduleFault.Refused ScheduleCode.Sheet line) text.now
+        ≡ Ok sheet) }
     ensures refused { IfErr result (λ fault. fault ≢ ScheduleFault.OutOfMemory
         → read_as sheet_of_text (ScheduleFault.Refused ScheduleCode.Sheet line) text.now ≡ Err fault) }
     ensures want { IfErr result (λ fault. fault ≡ ScheduleFault.OutOfMemory → IsUtf8 text.now × ¬ IsBlank text.now) }
@@ -139,7 +142,9 @@ fn sheet_of(alloc: Global, text: &[u8], line: u32) -> Result<Sheet, ScheduleFaul
 
 /// The issuer of a section that opens at a line.
 fn issuer_of(alloc: Global, text: &[u8], line: u32) -> Result<Issuer, ScheduleFault>
-    ensures taken { IfOk result (λ issuer. read_as issuer_of_text (ScheduleFault.Refused ScheduleCode.Issuer line) text.now ≡ Ok issuer) }
+    ensures taken { IfOk result
+        (λ issuer. read_as issuer_of_text (ScheduleFault.Refused ScheduleCode.Issuer line) text.now
+        ≡ Ok issuer) }
     ensures refused { IfErr result (λ fault. fault ≢ ScheduleFault.OutOfMemory
         → read_as issuer_of_text (ScheduleFault.Refused ScheduleCode.Issuer line) text.now ≡ Err fault) }
     ensures want { IfErr result (λ fault. fault ≡ ScheduleFault.OutOfMemory → IsUtf8 text.now) }
@@ -168,7 +173,8 @@ pub fn read_sheet<'a>(
     ensures taken { IfOk result (λ r. sheet_section unread.now ≡ Ok (r.0, r.1)) }
     ensures refused { IfErr result (λ fault. fault ≢ ScheduleFault.OutOfMemory → sheet_section unread.now ≡ Err fault) }
     ensures want { IfErr result (λ fault. fault ≡ ScheduleFault.OutOfMemory
-        → HasText (λ text. IsUtf8 text × ¬ IsBlank text) (section_in ScheduleCode.Sheet (codes "sheet ") 200_000 unread.now)) }
+        → HasText (λ text. IsUtf8 text × ¬ IsBlank text)
+        (section_in ScheduleCode.Sheet (codes "sheet ") 200_000 unread.now)) }
     ensures rules { IfOk result (λ r. IsSheet r.0) }
     ensures text { IfOk result (λ r. r.1.text ≡ unread.now.text) }
 {
@@ -185,7 +191,8 @@ pub fn read_issuer<'a>(
     unread: &Unread<'a>,
 ) -> Result<(Issuer, Unread<'a>), ScheduleFault>
     ensures taken { IfOk result (λ r. issuer_section unread.now ≡ Ok (r.0, r.1)) }
-    ensures refused { IfErr result (λ fault. fault ≢ ScheduleFault.OutOfMemory → issuer_section unread.now ≡ Err fault) }
+    ensures refused { IfErr result
+        (λ fault. fault ≢ ScheduleFault.OutOfMemory → issuer_section unread.now ≡ Err fault) }
     ensures want { IfErr result (λ fault. fault ≡ ScheduleFault.OutOfMemory
         → HasText IsUtf8 (section_in ScheduleCode.Issuer (codes "issuer ") 100 unread.now)) }
     ensures rules { IfOk result (λ r. IsIssuer r.0) }

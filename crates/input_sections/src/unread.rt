@@ -91,7 +91,9 @@ impl<'a> Unread<'a> {
     /// Refused at that line: with `code` where nothing is left, and with L7 where it has no line feed. Never
     /// OutOfMemory.
     pub fn first_line(&self, code: ScheduleCode) -> Result<(&'a [u8], Unread<'a>), ScheduleFault>
-        ensures line { MatchResult result (λ parts. first_line code self.now ≡ Ok (parts.0.now, parts.1)) (λ fault. first_line code self.now ≡ Err fault) }
+        ensures line { MatchResult result
+            (λ parts. first_line code self.now ≡ Ok (parts.0.now, parts.1))
+            (λ fault. first_line code self.now ≡ Err fault) }
         ensures text { IfOk result (λ parts. parts.1.text ≡ self.now.text) }
         ensures want { IfErr result (λ fault. fault ≢ ScheduleFault.OutOfMemory) }
     {

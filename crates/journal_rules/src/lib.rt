@@ -8,6 +8,4 @@ mod rules;
 mod targets;
 
 pub use batch_store::{RecordPlace, Store};
-pub use rules::{
-    first_bad, first_bad_alone, first_broken, first_broken_alone, first_broken_up_to,
-};
+pub use rules::{first_bad, first_bad_alone, first_broken, first_broken_alone, first_broken_up_to};

@@ -22,7 +22,8 @@ use rating::Sheet;
 pub fn first_broken(store: &Store, sheet: &Sheet, batch: &BatchView<'_>) -> Option<BrokenRule>
     requires agent { (batch_of batch.now).agent ≤ store.now.agents }
     requires new { held store.now.batches (batch_of batch.now).agent (batch_of batch.now).seq ≡ None }
-    ensures { result ≡ first_broken sheet.now (put store.now.batches (batch_of batch.now)) (placed (batch_of batch.now)) }
+    ensures { result ≡ first_broken sheet.now (put store.now.batches (batch_of batch.now))
+        (placed (batch_of batch.now)) }
 {
     // For the proof alone: its clause says that the agents are 1 to 64, and their batches a holding.
     let _agents = store.agents();
@@ -44,15 +45,16 @@ pub fn first_broken_alone(sheet: &Sheet, batch: &BatchView<'_>) -> Option<Broken
 
 /// The index of the first bad record of such a batch, in the journals that have it too, and the rule that it breaks. No memory is
 /// taken.
-pub fn first_bad(
-    store: &Store,
-    sheet: &Sheet,
-    batch: &BatchView<'_>,
-) -> Option<(u16, BrokenRule)>
+pub fn first_bad(store: &Store, sheet: &Sheet, batch: &BatchView<'_>) -> Option<(u16, BrokenRule)>
     requires agent { (batch_of batch.now).agent ≤ store.now.agents }
     requires new { held store.now.batches (batch_of batch.now).agent (batch_of batch.now).seq ≡ None }
-    ensures rule { option_map (λ r. r.1) result ≡ first_broken sheet.now (put store.now.batches (batch_of batch.now)) (placed (batch_of batch.now)) }
-    ensures index { option_map (λ r. r.0) result ≡ option_map (λ p. p.index) (first_bad sheet.now (put store.now.batches (batch_of batch.now)) (placed (batch_of batch.now))) }
+    ensures rule { option_map (λ r. r.1) result
+        ≡ first_broken sheet.now (put store.now.batches (batch_of batch.now))
+        (placed (batch_of batch.now)) }
+    ensures index { option_map (λ r. r.0) result
+        ≡ option_map (λ p. p.index)
+        (first_bad sheet.now (put store.now.batches (batch_of batch.now))
+        (placed (batch_of batch.now))) }
 {
     // For the proof alone: its clause says that the agents are 1 to 64, and their batches a holding.
     let _agents = store.agents();
@@ -66,8 +68,11 @@ pub fn first_bad(
 /// The index of the first bad record of a batch, in journals that have this batch alone, and the rule that it breaks;
 /// None where there is none.
 pub fn first_bad_alone(sheet: &Sheet, batch: &BatchView<'_>) -> Option<(u16, BrokenRule)>
-    ensures rule { option_map (λ r. r.1) result ≡ first_broken sheet.now (put [] (batch_of batch.now)) (placed (batch_of batch.now)) }
-    ensures index { option_map (λ r. r.0) result ≡ option_map (λ p. p.index) (first_bad sheet.now (put [] (batch_of batch.now)) (placed (batch_of batch.now))) }
+    ensures rule { option_map (λ r. r.1) result
+        ≡ first_broken sheet.now (put [] (batch_of batch.now)) (placed (batch_of batch.now)) }
+    ensures index { option_map (λ r. r.0) result
+        ≡ option_map (λ p. p.index)
+        (first_bad sheet.now (put [] (batch_of batch.now)) (placed (batch_of batch.now))) }
 {
     // For the proof alone: its clause says that the agent is one of 64.
     let _agent = batch.agent();

@@ -119,11 +119,22 @@ impl Book {
     /// An error is an allocation failure, and leaves world and history as they were.
     pub fn act(&mut self, alloc: Global, who: Worker, event: Event) -> Result<Receipt, AllocError>
         ensures history { IfOk result (λ _. self.new.history
-            ≡ self.old.history ++ record { who = who; event = event_of event; reply = (step self.old.world (event_of event)).0 } ∷ []) }
+            ≡ self.old.history ++ record {
+              who = who;
+              event = event_of event;
+              reply =
+                  (step self.old.world (event_of event)).0;
+            } ∷ []) }
         ensures world { IfOk result (λ _. self.new.world ≡ (step self.old.world (event_of event)).1) }
-        ensures refused { IfOk result (λ receipt. is_refused (told_of receipt).reply ≡ true → self.new.world ≡ self.old.world) }
-        ensures exported { IfOk result (λ receipt. is_exported (told_of receipt).reply ≡ true → self.new.world ≡ self.old.world) }
-        ensures kept { IfOk result (λ receipt. is_kept_text (told_of receipt).reply ≡ true → self.new.world ≡ self.old.world) }
+        ensures refused { IfOk result
+            (λ receipt. is_refused (told_of receipt).reply ≡ true
+            → self.new.world ≡ self.old.world) }
+        ensures exported { IfOk result
+            (λ receipt. is_exported (told_of receipt).reply ≡ true
+            → self.new.world ≡ self.old.world) }
+        ensures kept { IfOk result
+            (λ receipt. is_kept_text (told_of receipt).reply ≡ true
+            → self.new.world ≡ self.old.world) }
         ensures group { opened self.new ≡ opened self.old }
         ensures receipt { IfOk result (λ receipt. told_of receipt
             ≡ record { index = length self.old.history; reply = (step self.old.world (event_of event)).0 }) }

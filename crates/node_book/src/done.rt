@@ -121,7 +121,8 @@ impl Done {
 
     /// The file, where the reply is an export: that of its snapshot. None at any other reply.
     pub fn file(&self) -> Option<&[u8]>
-        ensures { MatchOption result (file_in self.now.reply ≡ None) (λ bytes. file_in self.now.reply ≡ Some bytes.now) }
+        ensures { MatchOption result (file_in self.now.reply ≡ None)
+            (λ bytes. file_in self.now.reply ≡ Some bytes.now) }
     {
         match &self.file {
             Some(bytes) => Some(bytes.as_slice()),

@@ -30,7 +30,9 @@ fn export_count(done: &[Done], period: u16) -> usize
 
 /// Whether no period from that one on was exported.
 fn are_within(done: &[Done], periods: u16) -> bool
-    ensures { IsTrue result ↔ ((period : ℕ) → periods ≤ period → count_by (λ t. is_export_of period t.reply) done.now ≡ 0) }
+    ensures { IsTrue result ↔
+        ((period : ℕ) → periods ≤ period
+        → count_by (λ t. is_export_of period t.reply) done.now ≡ 0) }
 {
     for one in done {
         if !one.is_within(periods) {

@@ -203,7 +203,8 @@ fn read_parts(alloc: Global, text: &[u8], head: Head) -> Result<Parts, KeptFault
     requires learned { head.learned ≤ most_periods }
     ensures { MatchResult result
         (λ parts. kept_below (lines_in text.now).lines (lines_in text.now).rest (head_of head) ≡ Ok parts)
-        (λ fault. IfTold fault (λ f. kept_below (lines_in text.now).lines (lines_in text.now).rest (head_of head) ≡ Err f)) }
+        (λ fault. IfTold fault (λ f. kept_below (lines_in text.now).lines (lines_in text.now).rest
+        (head_of head) ≡ Err f)) }
 {
     let count = head.learned + cuts_of_vote(head.ballot);
     let (cuts, rest) = read_cuts(alloc, text, head.agents, count)?;

@@ -37,7 +37,8 @@ fn vote_number(vote: Option<&Vote>) -> u32
 
 /// Appends a head line of these numbers.
 fn put_head(text: &mut Vec<u8>, numbers: &[u64]) -> Result<(), AllocError>
-    ensures { IfOk result (λ _. text.new.items ≡ text.old.items ++ line_of_fields (codes "K1" ∷ map decimal numbers.now)) }
+    ensures { IfOk result (λ _. text.new.items ≡ text.old.items
+        ++ line_of_fields (codes "K1" ∷ map decimal numbers.now)) }
 {
     text.extend_from_slice(b"K1")?;
     for number in numbers {
@@ -68,7 +69,8 @@ fn put_cuts(text: &mut Vec<u8>, cuts: &[Arc<Cut>]) -> Result<(), AllocError>
 
 /// Appends the line of the vote's cut, if there is a vote.
 fn put_vote(text: &mut Vec<u8>, vote: Option<&Vote>) -> Result<(), AllocError>
-    ensures { IfOk result (λ _. text.new.items ≡ text.old.items ++ flat_map cut_text (vote_cuts (option_copied vote.entry))) }
+    ensures { IfOk result (λ _. text.new.items ≡ text.old.items
+        ++ flat_map cut_text (vote_cuts (option_copied vote.entry))) }
 {
     match vote {
         Some(vote) => put_cut(text, &vote.cut),

@@ -35,7 +35,8 @@ pub fn run_group<R: Threads + Wait + Sync, G: Gate + Sync>(
     ensures agree { IfOk result (λ run. Agree run.book (plan_of plan) run.logs) }
     ensures files { IfOk result (λ run. FilesAgree run.logs) }
     ensures history { IfOk result (λ run. IsLegal (opened run.book) run.book.history run.book.world) }
-    ensures headline { IfOk result (λ run. HoldsAfter run.book.voters run.book.observers run.book.agents run.book.sheet run.book.issuer
+    ensures headline { IfOk result
+        (λ run. HoldsAfter run.book.voters run.book.observers run.book.agents run.book.sheet run.book.issuer
         (map (λ e. e.event) run.book.history) (map (λ e. e.reply) run.book.history) run.book.world) }
 {
     let Ok((desk, reports)) = open(alloc, &plan) else {

@@ -65,7 +65,8 @@ impl Acceptor {
     /// Promises a ballot above the one promised. To any other the reply is Silent, and nothing changes.
     pub fn on_prepare(&mut self, ballot: Ballot) -> PrepareStep
         ensures answer { result ≡ (if is_above ballot self.old.promised then Promise else Silent) }
-        ensures state { self.new ≡ (if is_above ballot self.old.promised then after_prepare ballot self.old else self.old) }
+        ensures state { self.new ≡
+            (if is_above ballot self.old.promised then after_prepare ballot self.old else self.old) }
     {
         if let Some(promised) = self.promised {
             if ballot.number() <= promised.number() {
@@ -80,7 +81,8 @@ impl Acceptor {
     /// accepts; else false, and nothing changes.
     pub fn on_accept(&mut self, vote: Vote) -> bool
         ensures answer { result ≡ is_not_below vote.ballot self.old.promised }
-        ensures state { self.new ≡ (if is_not_below vote.ballot self.old.promised then after_accept vote self.old else self.old) }
+        ensures state { self.new ≡
+            (if is_not_below vote.ballot self.old.promised then after_accept vote self.old else self.old) }
     {
         if let Some(promised) = self.promised {
             if vote.ballot.number() < promised.number() {

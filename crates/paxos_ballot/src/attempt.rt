@@ -93,7 +93,8 @@ impl Attempt {
     pub fn on_promise(&mut self, from: u8, vote: Option<Vote>) -> PromiseStep<'_>
         requires { from < length self.old.promising }
         ensures* state { sem 𝓛 (ends_as self.entry (after_promise from vote self.old)) }
-        ensures answer { proposal_in result ≡ (if proposes from self.old then Some (greater_vote self.old.told vote) else None) }
+        ensures answer { proposal_in result
+            ≡ (if proposes from self.old then Some (greater_vote self.old.told vote) else None) }
     {
         if self.sent {
             return PromiseStep::Waiting;

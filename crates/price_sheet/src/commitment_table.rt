@@ -20,7 +20,8 @@ pub(crate) fn read_commitments(
     tables: &[&Table],
 ) -> Result<IdTable<Commitment>, SheetFault>
     requires { length tables.now ≤ 10_000 }
-    ensures taken { IfOk result (λ rows. commitments_in prices.now [] (map (λ t. table_view t.now) tables.now) ≡ Ok rows) }
+    ensures taken { IfOk result
+        (λ rows. commitments_in prices.now [] (map (λ t. table_view t.now) tables.now) ≡ Ok rows) }
     ensures refused { IfErr result (λ fault. fault ≢ SheetFault.OutOfMemory
         → commitments_in prices.now [] (map (λ t. table_view t.now) tables.now) ≡ Err fault) }
 {

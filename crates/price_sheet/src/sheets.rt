@@ -86,8 +86,12 @@ impl Sheet {
     #[tactic(auto, using(crate::proofs::Chains::placed_fails), unfolding(crate::specs::SheetReading::sheet_in))]
     fn of_table(alloc: Global, table: &Table) -> Result<Sheet, SheetFault>
         ensures taken { IfOk result (λ sheet. sheet_in (table_view table.now) ≡ Ok sheet) }
-        ensures refused { IfErr result (λ fault. fault ≢ SheetFault.OutOfMemory → sheet_in (table_view table.now) ≡ Err fault) }
-        ensures want { IfErr result (λ fault. fault ≡ SheetFault.OutOfMemory → IsOk (base_under Key.Base (table_view table.now))) }
+        ensures refused { IfErr result
+            (λ fault. fault ≢ SheetFault.OutOfMemory
+            → sheet_in (table_view table.now) ≡ Err fault) }
+        ensures want { IfErr result
+            (λ fault. fault ≡ SheetFault.OutOfMemory
+            → IsOk (base_under Key.Base (table_view table.now))) }
     {
         let base = at_place(Place::Top, base_under(table, Key::Base))?;
         let price_tables = at_place(Place::Top, rows_under(alloc, table, Key::Price))?;
@@ -115,10 +119,12 @@ impl Sheet {
         requires few { (length price_tables.now ≤ 10_000) × (length commitment_tables.now ≤ 10_000)
             × (length region_tables.now ≤ 10_000) }
         ensures taken { IfOk result (λ sheet. sheet_of_rows base (map (λ t. table_view t.now) price_tables.now)
-            (map (λ t. table_view t.now) commitment_tables.now) (map (λ t. table_view t.now) region_tables.now) ≡ Ok sheet) }
+            (map (λ t. table_view t.now) commitment_tables.now)
+            (map (λ t. table_view t.now) region_tables.now) ≡ Ok sheet) }
         ensures refused { IfErr result (λ fault. fault ≢ SheetFault.OutOfMemory
             → sheet_of_rows base (map (λ t. table_view t.now) price_tables.now)
-            (map (λ t. table_view t.now) commitment_tables.now) (map (λ t. table_view t.now) region_tables.now) ≡ Err fault) }
+            (map (λ t. table_view t.now) commitment_tables.now)
+            (map (λ t. table_view t.now) region_tables.now) ≡ Err fault) }
     {
         let prices = PriceTable::read(alloc, price_tables)?;
         let commitments = read_commitments(alloc, &prices, commitment_tables)?;

@@ -34,7 +34,8 @@ pub fn is_priced(kind: Kind) -> bool
 /// one.
 #[inline(always)]
 pub fn price_for<'a>(sheet: &'a Sheet, kind: Kind, key: &[u8], start: Stamp) -> Option<&'a PriceRow>
-    ensures { option_copied result ≡ (if is_priced kind then price_in_force sheet.now key.now (day_of start) else None) }
+    ensures { option_copied result
+        ≡ (if is_priced kind then price_in_force sheet.now key.now (day_of start) else None) }
 {
     if !is_priced(kind) {
         return None;
@@ -53,7 +54,9 @@ pub fn price_of<'a>(sheet: &'a Sheet, reading: &Reading<'_>) -> Option<&'a Price
 /// price.
 #[inline(always)]
 pub fn commitment_for<'a>(sheet: &'a Sheet, kind: Kind, commitment: &[u8]) -> Option<&'a Commitment>
-    ensures { option_copied result ≡ (if is_priced kind then option_and_then (commitment_with sheet.now) (or_null commitment.now) else None) }
+    ensures { option_copied result
+        ≡ (if is_priced kind then option_and_then (commitment_with sheet.now)
+        (or_null commitment.now) else None) }
 {
     if !is_priced(kind) || commitment.is_empty() {
         return None;

@@ -86,7 +86,8 @@ pub fn kept_reading<'a>(
     numbers: Numbers,
 ) -> Record<'a>
     requires { (line : Span) × IsReadingOn version source.now spans.now numbers line }
-    ensures { (line : Span) → IsReadingOn version source.now spans.now numbers line → IsRecordAt version source.now line result }
+    ensures { (line : Span) → IsReadingOn version source.now spans.now numbers line
+        → IsRecordAt version source.now line result }
 {
     Record::Reading(lend_fields(version, source, spans, numbers))
 }

@@ -49,7 +49,8 @@ pub(crate) fn before_region<'a>(
     ensures text { IfSome result (λ p. IfSome p.1 (λ region. IsTrue (is_text region.text.now))) }
     ensures none { IfNone result (IsTrue (is_plain_line rest.entry.text.now)
         → (version ≡ B2) × (parts_at 124 (lent rest.entry) ≡ lent rest.entry ∷ [])) }
-    ensures plain { IfSome result (λ p. IsTrue (is_plain_line rest.entry.text.now) → IsTrue (is_plain_line p.0.text.now)) }
+    ensures plain { IfSome result
+        (λ p. IsTrue (is_plain_line rest.entry.text.now) → IsTrue (is_plain_line p.0.text.now)) }
 {
     match version {
         Version::B1 => Some((rest, None)),

@@ -145,7 +145,9 @@ pub fn play_text<R: Source, W: Sink>(
         → Rises (R.failed_calls reader.old) (R.failed_calls reader.new) }
     ensures write_fault { result ≡ Err PlayFault.Write
         → Rises (W.failed_calls writer.old) (W.failed_calls writer.new) }
-    ensures untouched { IfErr result (λ fault. fault ≢ PlayFault.Write → fault ≢ PlayFault.OutOfMemory → writer.new ≡ writer.old) }
+    ensures untouched { IfErr result
+        (λ fault. fault ≢ PlayFault.Write → fault ≢ PlayFault.OutOfMemory
+        → writer.new ≡ writer.old) }
     ensures read { ConsumesAtMost 16_777_217 (R.remaining reader.old) (R.remaining reader.new) }
 
     // With Ok nothing is left to read.

@@ -55,7 +55,8 @@ fn waiting(waits: bool, file: &[u8]) -> &[u8]
 
 /// Puts a file that waits after the lines before it. It stays at hand.
 fn join_file(lines: &mut Vec<u8>, waits: &mut bool, file: &[u8]) -> Result<(), AllocError>
-    ensures joined { OnOk result ((lines.new.items ≡ lines.old.items ++ waiting waits.old file.now) × (waits.new ≡ false)) }
+    ensures joined { OnOk result
+        ((lines.new.items ≡ lines.old.items ++ waiting waits.old file.now) × (waits.new ≡ false)) }
     ensures kept { OnErr result ((lines.new.items ≡ lines.old.items) × (waits.new ≡ waits.old)) }
 {
     lines.extend_from_slice(waiting(*waits, file))?;

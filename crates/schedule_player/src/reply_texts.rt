@@ -21,7 +21,8 @@ fn put_exported(
     requires { file.old.items ≡ [] }
     ensures file { OnOk result (file.new.items ≡ file_of snapshot.now) }
     ensures line { OnOk result (line.new.items ≡ line.old.items
-        ++ (with_number (codes "exported period ") snapshot.now.period ++ with_number (codes " lines ") (line_count (file_of snapshot.now)))) }
+        ++ (with_number (codes "exported period ") snapshot.now.period
+        ++ with_number (codes " lines ") (line_count (file_of snapshot.now)))) }
 {
     snapshot.put_csv(alloc, file)?;
     replies::put_exported(line, snapshot.period(), line_count(file))
@@ -31,7 +32,9 @@ fn put_exported(
 fn put_kept(kept: &[u8], line: &mut Vec<u8>, file: &mut Vec<u8>) -> Result<(), AllocError>
     requires { file.old.items ≡ [] }
     ensures file { OnOk result (file.new.items ≡ kept.now) }
-    ensures line { OnOk result (line.new.items ≡ line.old.items ++ with_number (codes "kept lines ") (line_count kept.now)) }
+    ensures line { OnOk result
+        (line.new.items ≡ line.old.items
+        ++ with_number (codes "kept lines ") (line_count kept.now)) }
 {
     file.extend_from_slice(kept)?;
     replies::put_kept(line, line_count(kept))

@@ -33,7 +33,8 @@ pub struct Schedule<'a> {
 /// What is left after the first line of a schedule.
 #[tactic(auto, unfolding(crate::specs::Schedules::head_line))]
 fn head_line<'a>(unread: &Unread<'a>) -> Result<Unread<'a>, ScheduleFault>
-    ensures head { MatchResult result (λ rest. head_line unread.now ≡ Ok rest) (λ fault. head_line unread.now ≡ Err fault) }
+    ensures head { MatchResult result (λ rest. head_line unread.now ≡ Ok rest)
+        (λ fault. head_line unread.now ≡ Err fault) }
     ensures want { IfErr result (λ fault. fault ≢ ScheduleFault.OutOfMemory) }
 {
     let (line, rest) = unread.first_line(ScheduleCode::Head)?;
@@ -56,7 +57,9 @@ fn number_line<'a>(
     most: u32,
 ) -> Result<(u32, Unread<'a>), ScheduleFault>
     requires { most ≤ 1_000_000 }
-    ensures number { MatchResult result (λ r. number_line code word.now most unread.now ≡ Ok (r.0, r.1)) (λ fault. number_line code word.now most unread.now ≡ Err fault) }
+    ensures number { MatchResult result
+        (λ r. number_line code word.now most unread.now ≡ Ok (r.0, r.1))
+        (λ fault. number_line code word.now most unread.now ≡ Err fault) }
     ensures within { IfOk result (λ r. r.0 ≤ most) }
     ensures want { IfErr result (λ fault. fault ≢ ScheduleFault.OutOfMemory) }
 {
@@ -73,7 +76,8 @@ fn number_line<'a>(
 /// The voters and the observers that the next line tells, and what is left after it.
 #[tactic(auto, unfolding(crate::specs::Schedules::nodes_line))]
 fn nodes_line<'a>(unread: &Unread<'a>) -> Result<(u32, u32, Unread<'a>), ScheduleFault>
-    ensures nodes { MatchResult result (λ r. nodes_line unread.now ≡ Ok (r.0, r.1, r.2)) (λ fault. nodes_line unread.now ≡ Err fault) }
+    ensures nodes { MatchResult result (λ r. nodes_line unread.now ≡ Ok (r.0, r.1, r.2))
+        (λ fault. nodes_line unread.now ≡ Err fault) }
     ensures within { IfOk result (λ r. r.0 + r.1 ≤ 99) }
     ensures want { IfErr result (λ fault. fault ≢ ScheduleFault.OutOfMemory) }
 {
@@ -90,7 +94,8 @@ fn nodes_line<'a>(unread: &Unread<'a>) -> Result<(u32, u32, Unread<'a>), Schedul
 /// How many voters, observers and agents a text tells, and what is left after the lines that say so.
 #[tactic(auto, unfolding(crate::specs::Schedules::group_in))]
 fn group_in<'a>(text: &'a [u8]) -> Result<(u8, u8, u8, Unread<'a>), ScheduleFault>
-    ensures group { MatchResult result (λ r. group_in text.now ≡ Ok (r.0, r.1, r.2, r.3)) (λ fault. group_in text.now ≡ Err fault) }
+    ensures group { MatchResult result (λ r. group_in text.now ≡ Ok (r.0, r.1, r.2, r.3))
+        (λ fault. group_in text.now ≡ Err fault) }
     ensures want { IfErr result (λ fault. fault ≢ ScheduleFault.OutOfMemory) }
 {
     let whole = Unread::whole(text)?;
@@ -124,7 +129,9 @@ impl<'a> Preamble<'a> {
             ≡ Ok (record { voters = p.voters; observers = p.observers; agents = p.agents; sheet = p.sheet; issuer = p.issuer; rest = p.rest })) }
         ensures refused { IfErr result (λ fault. fault ≢ ScheduleFault.OutOfMemory → preamble_in text.now ≡ Err fault) }
         ensures want { IfErr result (λ fault. fault ≡ ScheduleFault.OutOfMemory → IsOk (group_in text.now)) }
-        ensures group { IfOk result (λ p. (1 ≤ p.voters) × (p.voters + p.observers ≤ 99) × (1 ≤ p.agents) × (p.agents ≤ 64)) }
+        ensures group { IfOk result
+            (λ p. (1 ≤ p.voters) × (p.voters + p.observers ≤ 99) × (1 ≤ p.agents)
+            × (p.agents ≤ 64)) }
         ensures rules { IfOk result (λ p. IsSheet p.sheet × IsIssuer p.issuer) }
     {
         let (voters, observers, agents, unread) = group_in(text)?;

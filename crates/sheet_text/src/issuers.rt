@@ -49,7 +49,8 @@ impl Issuer {
     #[tactic(auto, unfolding(crate::specs::IssuerReading::issuer_of_text))]
     pub fn read(alloc: Global, text: &str) -> Result<Issuer, IssuerFault>
         ensures taken { IfOk result (λ issuer. issuer_of_text text.now ≡ Ok issuer) }
-        ensures refused { IfErr result (λ fault. fault ≢ IssuerFault.OutOfMemory → issuer_of_text text.now ≡ Err fault) }
+        ensures refused { IfErr result
+            (λ fault. fault ≢ IssuerFault.OutOfMemory → issuer_of_text text.now ≡ Err fault) }
         ensures rules { IfOk result IsIssuer }
     {
         let table = match toml::table_from_str(alloc, text) {
