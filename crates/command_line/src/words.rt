@@ -20,13 +20,11 @@ use threads_player::Size;
 const FOCUSD: &str =
     "Turns usage records into FOCUS 1.0 cost rows. Input comes on standard input alone";
 
-const RATE: &str =
-    "Writes the file of a month of one batch alone, at most 16777216 bytes with its sheet";
+const RATE: &str = "Writes the file of a period of one batch, from an input of at most 16 MiB";
 
 const PLAY: &str = "Plays a schedule of at most 16 MiB, and writes its transcript";
 
-const CHECK: &str =
-    "Writes, line by line, what rate or play refuses of an input, at most 16777216 bytes";
+const CHECK: &str = "Writes what rate or play refuses of an input of at most 16 MiB, by lines";
 
 const FILE: &str = "Copies the file of a period out of a transcript of at most 4 GiB";
 
@@ -156,15 +154,21 @@ fn threads_grammar<'a>(alloc: Global) -> Result<clap::Command<'a>, LineFault>
 }
 
 // Without its commands: `help` is none of them, since `--help` asks for it.
-fn bare_grammar<'a>(alloc: Global) -> clap::Command<'a>
-    ensures app { app_of result ≡ bare_grammar }
+fn bare_grammar<'a>(alloc: Global) -> Result<clap::Command<'a>, LineFault>
+    ensures app { IfOk result (λ c. app_of c ≡ bare_grammar) }
+    ensures memory { result ≢ Err LineFault.Line }
 {
-    clap::Command::new(alloc, "focusd")
-        .about(FOCUSD)
-        .version("0.3.0")
-        .no_binary_name(true)
-        .disable_help_subcommand(true)
-        .subcommand_required(true)
+    let Ok(focusd) = clap::Command::new(alloc, "focusd").bin_name("focusd") else {
+        return Err(LineFault::OutOfMemory);
+    };
+    Ok(
+        focusd
+            .about(FOCUSD)
+            .version("0.3.0")
+            .no_binary_name(true)
+            .disable_help_subcommand(true)
+            .subcommand_required(true),
+    )
 }
 
 // A command without options
@@ -195,7 +199,7 @@ fn grammar<'a>(alloc: Global) -> Result<clap::Command<'a>, LineFault>
     ensures app { IfOk result (λ c. app_of c ≡ grammar_of_focusd) }
     ensures memory { result ≢ Err LineFault.Line }
 {
-    let rating = with(bare_grammar(alloc), period_grammar(alloc, "rate", RATE)?)?;
+    let rating = with(bare_grammar(alloc)?, period_grammar(alloc, "rate", RATE)?)?;
     let playing = with(rating, plain_grammar(alloc, "play", PLAY))?;
     let checking = with(playing, plain_grammar(alloc, "check", CHECK))?;
     let filing = with(checking, period_grammar(alloc, "file", FILE)?)?;

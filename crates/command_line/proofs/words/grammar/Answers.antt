@@ -5,7 +5,7 @@ use Rattle.command_line.proofs.words.grammar.Goals as goal
 -- each call adds its command to what the grammar was
 pub returns-clause-app : goal.returns-clause-app
 returns-clause-app c =
-    let rating = c.in_ok-rating.ensures.app ∙ ap₂ with_subcommand c.bare_grammar.ensures.app (ap (λ (a : App). a.top) c.in_ok-period_grammar.ensures.app) in
+    let rating = c.in_ok-rating.ensures.app ∙ ap₂ with_subcommand c.in_ok-bare_grammar.ensures.app (ap (λ (a : App). a.top) c.in_ok-period_grammar.ensures.app) in
     let playing = c.in_ok-playing.ensures.app ∙ ap₂ with_subcommand rating (ap (λ (a : App). a.top) c.plain_grammar.ensures.app) in
     let checking = c.in_ok-checking.ensures.app ∙ ap₂ with_subcommand playing (ap (λ (a : App). a.top) c.plain_grammar-2.ensures.app) in
     let filing = c.in_ok-filing.ensures.app ∙ ap₂ with_subcommand checking (ap (λ (a : App). a.top) c.in_ok-period_grammar-2.ensures.app) in
