@@ -72,6 +72,13 @@ impl CommitmentTable {
         Ok(CommitmentTable { rows, places })
     }
 
+    /// The commitments, in the order of the sheet.
+    pub(crate) fn rows(&self) -> &[Commitment]
+        ensures { result.now ≡ self.now }
+    {
+        self.rows.as_slice()
+    }
+
     /// The commitment with an id. No memory is taken.
     pub(crate) fn with_id(&self, id: &[u8]) -> Option<&Commitment>
         ensures { option_copied result ≡ find (λ c. is_same c.id id.now) self.now }

@@ -9,5 +9,5 @@ mod price_table;
 mod region_table;
 mod sheets;
 
-pub use sheet_text::{Commitment, Issuer, IssuerFault, Key, Place, PriceRow, SheetFault};
+pub use sheet_text::{Commitment, Issuer, IssuerFault, Key, Place, PriceRow, Region, SheetFault};
 pub use sheets::Sheet;

@@ -68,6 +68,13 @@ impl PriceTable {
         Ok(PriceTable { rows, index })
     }
 
+    /// The rows, in the order of the sheet.
+    pub(crate) fn rows(&self) -> &[PriceRow]
+        ensures { result.now ≡ self.now }
+    {
+        self.rows.as_slice()
+    }
+
     /// Whether some row prices the SKU. No memory is taken.
     pub(crate) fn has_sku(&self, sku: &[u8]) -> bool
         ensures { result ≡ prices_sku self.now sku.now }

@@ -67,6 +67,13 @@ impl RegionTable {
         Ok(RegionTable { rows, places })
     }
 
+    /// The regions, in the order of the sheet.
+    pub(crate) fn rows(&self) -> &[Region]
+        ensures { result.now ≡ self.now }
+    {
+        self.rows.as_slice()
+    }
+
     /// The region with an id. No memory is taken.
     pub(crate) fn with_id(&self, id: &[u8]) -> Option<&Region>
         ensures { option_copied result ≡ find (λ x. is_same x.id id.now) self.now }

@@ -15,7 +15,7 @@ use crate::places::fault_at;
 use crate::price_table::PriceTable;
 use crate::region_table::RegionTable;
 use sheet_text::{
-    Commitment, Day, Key, Month, Place, PriceRow, SheetFault, base_under, rows_under,
+    Commitment, Day, Key, Month, Place, PriceRow, Region, SheetFault, base_under, rows_under,
 };
 use std::alloc::{AllocError, Global};
 use std::marker::Model;
@@ -164,6 +164,27 @@ impl Sheet {
             Some(region) => Some(region.name().as_bytes()),
             None => None,
         }
+    }
+
+    /// The rows of prices, in the order of the sheet.
+    pub fn prices(&self) -> &[PriceRow]
+        ensures { result.now ≡ self.now.prices }
+    {
+        self.prices.rows()
+    }
+
+    /// The commitments, in the order of the sheet.
+    pub fn commitments(&self) -> &[Commitment]
+        ensures { result.now ≡ self.now.commitments }
+    {
+        self.commitments.rows()
+    }
+
+    /// The regions, in the order of the sheet.
+    pub fn regions(&self) -> &[Region]
+        ensures { result.now ≡ self.now.regions }
+    {
+        self.regions.rows()
     }
 
     /// The month that period 0 bills, from 2000-01 to 2100-12.
