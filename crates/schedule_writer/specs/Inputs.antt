@@ -37,10 +37,14 @@ offered_length text =
 
 -- ---- the items
 
--- what is offered as a batch: the line of the input on which it begins, counted from 1, and its text
+-- what is offered as a batch: the byte of the input at which it begins, and its text
 pub record Offered : Type 0 where
-  pub line : ℕ
+  pub from : ℕ
   pub text : List ℕ
+
+-- the line of the input on which a batch begins, counted from 1: one more than the line feeds above it
+abbrev pub line_of : List ℕ → Offered → ℕ
+line_of input b = 1 + line_count (take b.from input)
 
 pub data Item : Type 0 where
   Offers : Offered → Item
@@ -50,18 +54,25 @@ pub data Item : Type 0 where
 abbrev pub close_line : List ℕ
 close_line = line (codes "close")
 
--- the items of a text that begins on a line, and no more than so many
-unfoldable pub items_in : ℕ → ℕ → List ℕ → List Item
-items_in zero n text = []
-items_in (suc most) n text =
-    if is_empty text then []
-    else (if begins_with close_line text then Closes ∷ items_in most (n + 1) (drop (length close_line) text)
-    else Offers (record { line = n; text = take (offered_length text) text })
-    ∷ items_in most (n + line_count (take (offered_length text) text)) (drop (offered_length text) text))
+-- the item that begins at a byte of the input, and how many bytes it has
+abbrev pub item_at : List ℕ → ℕ → Item
+item_at input from =
+    if begins_with close_line (drop from input) then Closes
+    else Offers (record { from = from; text = take (offered_length (drop from input)) (drop from input) })
+
+abbrev pub item_length : List ℕ → ℕ
+item_length left = if begins_with close_line left then length close_line else offered_length left
+
+-- the items from a byte on, and no more than so many
+unfoldable pub items_in : ℕ → List ℕ → ℕ → List Item
+items_in zero input from = []
+items_in (suc most) input from =
+    if is_empty (drop from input) then []
+    else item_at input from ∷ items_in most input (from + item_length (drop from input))
 
 -- the items behind the sections of an input
 unfoldable pub items_of : List ℕ → RateInput → List Item
-items_of input given = items_in (length given.batch) (1 + line_count (take (length input - length given.batch) input)) given.batch
+items_of input given = items_in (length input) input (length input - length given.batch)
 
 -- the batches, in the order in which they are journaled
 abbrev pub batches_of : List Item → List Offered

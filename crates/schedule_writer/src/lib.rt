@@ -2,7 +2,14 @@
 #![tactic(auto)]
 
 mod asked;
+mod certifying;
+mod drafting;
+mod drafts;
 mod faults;
+mod inputs;
+mod judging;
+mod lines;
+mod plans;
 mod writing;
 
 pub use asked::Request;

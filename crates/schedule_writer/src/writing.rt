@@ -14,9 +14,94 @@ ghost use Rattle.schedule_writer.specs.Requests.{IsRequest};
 ghost use Rattle.schedule_writer.specs.Schedules.{IsScheduleOf};
 
 use crate::asked::Request;
+use crate::certifying::certify;
+use crate::drafting::schedule_for;
 use crate::faults::WriteFault;
-use counted_io::{Sink, Source};
+use crate::inputs::read_items;
+use crate::judging::judge_all;
+use crate::plans::Plan;
+use counted_io::{Sink, Source, write_all};
+use input_sections::{RateInput, rate_input};
+use schedule_player::{PlayFault, read_input};
 use std::alloc::Global;
+use std::sync::Arc;
+
+/// The last period that is closed: the one that is asked for, or that of the last line which closes one, where that is later.
+fn last_closed(through: Option<u16>, asked: u16, closes: &[usize]) -> Option<u16> {
+    let through = match through {
+        Some(through) => through,
+        None => asked,
+    };
+    let closed = closes.len().saturating_sub(1);
+    if closed <= usize::from(through) {
+        return Some(through);
+    }
+    if closed <= 1_199 {
+        Some(closed as u16)
+    } else {
+        None
+    }
+}
+
+/// The schedule for an input, where the journals take its batches.
+fn schedule_of(
+    alloc: Global,
+    request: &Request,
+    input: &[u8],
+    given: RateInput,
+) -> Result<Vec<u8>, WriteFault> {
+    let RateInput {
+        sheet,
+        issuer,
+        batch_from,
+    } = given;
+    let Ok(items) = read_items(alloc, input, batch_from) else {
+        return Err(WriteFault::OutOfMemory);
+    };
+    let Ok(sheet) = Arc::new(alloc, sheet) else {
+        return Err(WriteFault::OutOfMemory);
+    };
+    let Ok(issuer) = Arc::new(alloc, issuer) else {
+        return Err(WriteFault::OutOfMemory);
+    };
+    let asked = judge_all(alloc, &sheet, &issuer, input, &items.batches)?;
+    let Some(last) = last_closed(request.through, asked.last, &items.closes) else {
+        return Err(WriteFault::TooLong);
+    };
+    let plan = Plan {
+        voters: request.nodes,
+        observers: request.observers,
+        nodes: request.nodes + request.observers,
+        last,
+        batches: &items.batches,
+        closes: &items.closes,
+    };
+    let text = schedule_for(alloc, request, asked.agents, input, batch_from, &plan)?;
+    certify(alloc, &plan, asked.agents, &sheet, &issuer, &text)?;
+    Ok(text)
+}
+
+/// The schedule for an input.
+fn schedule_for_input(
+    alloc: Global,
+    request: &Request,
+    input: &[u8],
+) -> Result<Vec<u8>, WriteFault> {
+    match rate_input(alloc, input) {
+        Ok(given) => schedule_of(alloc, request, input, given),
+        Err(fault) => Err(WriteFault::from(fault)),
+    }
+}
+
+/// All of the input.
+fn input_of<R: Source>(alloc: Global, reader: &mut R) -> Result<Vec<u8>, WriteFault> {
+    match read_input(alloc, reader) {
+        Ok(input) => Ok(input),
+        Err(PlayFault::Read) => Err(WriteFault::Read),
+        Err(PlayFault::Schedule(fault)) => Err(WriteFault::from(fault)),
+        Err(_) => Err(WriteFault::OutOfMemory),
+    }
+}
 
 /// Reads a sheet and an issuer, each if it is there, and batches, and writes a schedule that closes their months: each batch is
 /// journaled, and each period closed behind the batches that stand above its line `close`, or behind all.
@@ -61,5 +146,10 @@ pub fn schedule_text<R: Source, W: Sink>(
     ensures writes { W.failed_calls writer.new
         ≡ count_after (tells_of_writer result) (W.failed_calls writer.old) }
 {
-    Err(WriteFault::OutOfMemory)
+    let input = input_of(alloc, reader)?;
+    let text = schedule_for_input(alloc, &request, &input)?;
+    match write_all(writer, &text) {
+        Ok(()) => Ok(()),
+        Err(_) => Err(WriteFault::Write),
+    }
 }
