@@ -2,7 +2,9 @@
 use Rattle.std.specs.Prelude.{◌≡◌, ◌≤◌, ◌⊎◌, ℕ, zero, suc, ◌+◌, ◌-◌, ◌==◌, Bool, true, false, IsTrue, if◌then◌else◌, max, fold, map, List, [], ◌∷◌, ◌++◌, length, take, drop, Option, Some, None, Result, Ok, Err, unwrap_or, slice_get, codes}
 use Rattle.std.specs.List.{filter_map, list_all, position}
 use Rattle.metering_model.specs.Batch.{is_empty}
-use Rattle.metering_model.specs.BatchReading.{BatchCode, Head, batch_in}
+use Rattle.metering_model.specs.declared.BatchCode.{BatchCode}
+use Rattle.metering_model.specs.declared.BatchCode.TheVariants.{Head}
+use Rattle.metering_model.specs.BatchReading.{batch_in}
 use Rattle.metering_model.specs.Front.{is_due}
 use Rattle.metering_model.specs.Transcript.{line, line_count}
 use Rattle.batch_view.specs.Batches.{batch_of}

@@ -3,3 +3,4 @@ pub mod Requests
 pub mod Inputs
 pub mod Refusals
 pub mod Schedules
+pub mod Inner

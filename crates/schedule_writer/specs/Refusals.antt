@@ -2,7 +2,9 @@
 use Rattle.std.specs.Prelude.{◌≡◌, ◌<◌, ◌≤◌, ℕ, ◌+◌, List, [], ◌∷◌, ◌++◌, All, map, length, take, drop, codes, decimal, unwrap_or, Ok, Err}
 use Rattle.std.specs.List.{filter_map, position}
 use Rattle.metering_model.specs.Sheet.{Sheet, Issuer}
-use Rattle.metering_model.specs.World.{World, Event, Journal, Reply, Journaled, Refused, Refusal, BadBatch, BadTarget, Unpriced, offer_of, opening}
+use Rattle.metering_model.specs.World.{World, Event, Journal, Reply, Journaled, Refused, offer_of, opening}
+use Rattle.metering_model.specs.declared.Refusal.{Refusal}
+use Rattle.metering_model.specs.declared.Refusal.TheVariants.{BadBatch, BadTarget, Unpriced}
 use Rattle.metering_model.specs.Step.{play, step}
 use Rattle.metering_model.specs.BatchReading.{lines_in}
 use Rattle.metering_model.specs.Schedule.{lines_text}
@@ -12,7 +14,7 @@ use Rattle.input_sections.specs.RateInput.{RateInput, rate_input_in}
 use Rattle.schedule_writer.specs.Inputs.{Offered, batches_of, items_of, line_of}
 
 -- what a world answers to a text that is to be journaled
-abbrev pub answer_to : World → List ℕ → Reply
+unfoldable pub answer_to : World → List ℕ → Reply
 answer_to w text = (step w (Journal (offer_of text))).0
 
 -- a world of one node and 64 agents, in which nothing has happened

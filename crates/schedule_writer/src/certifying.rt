@@ -1,7 +1,15 @@
 //! Whether a text is a schedule that does what was planned. It is read as `play` reads it, and its events are done; the files
 //! are not made.
 
-use crate::faults::WriteFault;
+ghost use Rattle.std.specs.Prelude.{◌≡◌, ◌+◌, ◌≤◌, All, IfOk, Ok, OnOk, Some, map};
+ghost use Rattle.metering_model.specs.Schedule.{event_of};
+ghost use Rattle.metering_model.specs.Step.{step};
+ghost use Rattle.schedule_reader.specs.Events.{HasWholeLines, planned_of};
+ghost use Rattle.schedule_reader.specs.Schedules.{schedule_in};
+ghost use Rattle.schedule_writer.specs.Inner.Certified.{IsCertified};
+ghost use Rattle.schedule_writer.specs.Inner.Plans.{behind, behind_all, nothing_seen, plan_of};
+
+use crate::faults::Stop;
 use crate::plans::{Plan, Seen};
 use input_sections::ScheduleFault;
 use price_sheet::{Issuer, Sheet};
@@ -16,16 +24,22 @@ fn do_event(
     world: &mut World,
     seen: Seen,
     planned: &Planned<'_>,
-) -> Result<Seen, WriteFault> {
+) -> Result<Seen, Stop>
+    requires nodes { plan.now.nodes ≤ 99 }
+    requires last { plan.now.last ≤ 1_199 }
+    requires whole { HasWholeLines planned.now }
+    ensures seen { IfOk result (λ next. behind (plan_of plan.now) seen (step world.old (event_of (planned_of planned.now))).0 (planned_of planned.now) ≡ Some next) }
+    ensures world { OnOk result (world.new ≡ (step world.old (event_of (planned_of planned.now))).1) }
+{
     let Ok(event) = event_of(alloc, planned) else {
-        return Err(WriteFault::OutOfMemory);
+        return Err(Stop::OutOfMemory);
     };
     let Ok(reply) = world.step(alloc, &event) else {
-        return Err(WriteFault::OutOfMemory);
+        return Err(Stop::OutOfMemory);
     };
     match plan.behind(seen, planned, &reply) {
         Some(seen) => Ok(seen),
-        None => Err(WriteFault::NotClosed),
+        None => Err(Stop::NotClosed),
     }
 }
 
@@ -35,7 +49,12 @@ fn do_events(
     plan: &Plan<'_>,
     world: &mut World,
     events: &[Planned<'_>],
-) -> Result<Seen, WriteFault> {
+) -> Result<Seen, Stop>
+    requires nodes { plan.now.nodes ≤ 99 }
+    requires last { plan.now.last ≤ 1_199 }
+    requires whole { All HasWholeLines events.now }
+    ensures { IfOk result (λ seen. behind_all (plan_of plan.now) nothing_seen world.old (map planned_of events.now) ≡ Some seen) }
+{
     let mut seen = Seen {
         journaled: 0,
         node: 0,
@@ -55,11 +74,18 @@ fn read_back<'a>(
     sheet: &Sheet,
     issuer: &Issuer,
     text: &'a [u8],
-) -> Result<Schedule<'a>, WriteFault> {
+) -> Result<Schedule<'a>, Stop>
+    ensures taken { IfOk result (λ s. schedule_in text.now
+        ≡ Ok (record { voters = s.voters; observers = s.observers; agents = s.agents; sheet = s.sheet; issuer = s.issuer; events = map planned_of s.events.items })) }
+    ensures lines { IfOk result (λ s. All HasWholeLines s.events.items) }
+    ensures group { IfOk result (λ s. (s.voters ≡ plan.now.voters) × (s.observers ≡ plan.now.observers) × (s.agents ≡ agents)) }
+    ensures sheet { IfOk result (λ s. s.sheet ≡ sheet.now) }
+    ensures issuer { IfOk result (λ s. s.issuer ≡ issuer.now) }
+{
     let schedule = match Schedule::read(alloc, text) {
         Ok(schedule) => schedule,
-        Err(ScheduleFault::OutOfMemory) => return Err(WriteFault::OutOfMemory),
-        Err(_) => return Err(WriteFault::NotClosed),
+        Err(ScheduleFault::OutOfMemory) => return Err(Stop::OutOfMemory),
+        Err(_) => return Err(Stop::NotClosed),
     };
     let is_group = schedule.voters == plan.voters
         && schedule.observers == plan.observers
@@ -67,7 +93,7 @@ fn read_back<'a>(
     if is_group && schedule.sheet.same(sheet) && schedule.issuer.same(issuer) {
         Ok(schedule)
     } else {
-        Err(WriteFault::NotClosed)
+        Err(Stop::NotClosed)
     }
 }
 
@@ -79,7 +105,13 @@ pub(crate) fn certify(
     sheet: &Sheet,
     issuer: &Issuer,
     text: &[u8],
-) -> Result<(), WriteFault> {
+) -> Result<(), Stop>
+    requires voters { 1 ≤ plan.now.voters }
+    requires nodes { (plan.now.nodes ≡ plan.now.voters + plan.now.observers) × (plan.now.nodes ≤ 99) }
+    requires last { plan.now.last ≤ 1_199 }
+    requires agents { (1 ≤ agents) × (agents ≤ 64) }
+    ensures { OnOk result (IsCertified (plan_of plan.now) plan.now.voters plan.now.observers agents sheet.now issuer.now text.now) }
+{
     let schedule = read_back(alloc, plan, agents, sheet, issuer, text)?;
     let Schedule {
         voters,
@@ -90,12 +122,12 @@ pub(crate) fn certify(
         events,
     } = schedule;
     let Ok(mut world) = opening_world(alloc, voters, observers, agents, sheet, issuer) else {
-        return Err(WriteFault::OutOfMemory);
+        return Err(Stop::OutOfMemory);
     };
     let seen = do_events(alloc, plan, &mut world, &events)?;
     if plan.is_done(seen) {
         Ok(())
     } else {
-        Err(WriteFault::NotClosed)
+        Err(Stop::NotClosed)
     }
 }

@@ -1,11 +1,12 @@
 //! What a schedule tells to happen: batches are journaled, and periods are closed.
 
-use crate::asked::Request;
+ghost use Rattle.std.specs.Prelude.{◌≤◌};
+
 use crate::drafts::Draft;
-use crate::faults::WriteFault;
+use crate::faults::Stop;
 use crate::inputs::Offered;
 use crate::plans::Plan;
-use byte_text::line_count;
+use byte_text::{Line, line_count};
 use input_sections::{ScheduleCode, Unread, read_section};
 use std::alloc::Global;
 
@@ -17,66 +18,74 @@ const SAMPLE_ISSUER: &[u8] =
     b"issuer 7\nprovider = \"Sample Cloud\"\npublisher = \"Sample Cloud\"\nissuer = \"Sample Cloud Ltd\"\naccount_id = \"A-100\"\naccount_name = \"Payer\"\ncurrency = \"USD\"\nother_service = \"Billing\"\n";
 
 /// Where the sheet's section ends, if the input begins with one.
-fn sheet_end(input: &[u8]) -> Result<usize, WriteFault> {
-    let unread = Unread::whole(input)?;
-    if unread.begins_with(b"sheet ") {
-        let section = read_section(&unread, ScheduleCode::Sheet, b"sheet ", 200_000)?;
-        Ok(section.rest.from())
-    } else {
-        Ok(0)
+fn sheet_end(input: &[u8]) -> Option<usize> {
+    let Ok(unread) = Unread::whole(input) else {
+        return None;
+    };
+    if !unread.begins_with(b"sheet ") {
+        return Some(0);
+    }
+    match read_section(&unread, ScheduleCode::Sheet, b"sheet ", 200_000) {
+        Ok(section) => Some(section.rest.from()),
+        Err(_) => None,
     }
 }
 
 /// Appends a section of the input, or else what is taken in its place.
-fn put_section(draft: &mut Draft, section: &[u8], else_taken: &[u8]) -> Result<(), WriteFault> {
+fn put_section(draft: &mut Draft, section: &[u8], else_taken: &[u8]) -> Result<(), Stop> {
     match section {
         [] => draft.put(else_taken),
         _ => draft.put(section),
     }
 }
 
+/// Appends the line of the nodes.
+fn put_nodes(draft: &mut Draft, plan: &Plan<'_>) -> Result<(), Stop> {
+    let mut line = Line::new();
+    line.put(b"nodes ");
+    line.put_number(u32::from(plan.voters));
+    if plan.observers > 0 {
+        line.put(b" observers ");
+        line.put_number(u32::from(plan.observers));
+    }
+    line.put(b"\n");
+    draft.put(line.as_slice())
+}
+
 /// Appends what stands above the events.
 fn put_above(
     draft: &mut Draft,
-    request: &Request,
+    plan: &Plan<'_>,
     agents: u8,
     input: &[u8],
     batch_from: usize,
-) -> Result<(), WriteFault> {
+) -> Result<(), Stop> {
     draft.put(b"SCHEDULE 1\n")?;
-    if request.observers == 0 {
-        draft.put_line(b"nodes ", u32::from(request.nodes), None)?;
-    } else {
-        draft.put_line(b"nodes ", u32::from(request.nodes), None)?;
-        draft.text.truncate(draft.text.len() - 1);
-        draft.put_line(b" observers ", u32::from(request.observers), None)?;
-    }
-    draft.put_line(b"agents ", u32::from(agents), None)?;
-    let end = sheet_end(input)?;
+    put_nodes(draft, plan)?;
+    draft.put_line(b"agents ", u128::from(agents), None)?;
+    let Some(end) = sheet_end(input) else {
+        return Err(Stop::NotClosed);
+    };
     let Some(sheet) = input.get(..end) else {
-        return Err(WriteFault::NotClosed);
+        return Err(Stop::NotClosed);
     };
     let Some(issuer) = input.get(end..batch_from) else {
-        return Err(WriteFault::NotClosed);
+        return Err(Stop::NotClosed);
     };
     put_section(draft, sheet, EMPTY_SHEET)?;
     put_section(draft, issuer, SAMPLE_ISSUER)
 }
 
 /// Appends that a batch is journaled, and reaches all nodes.
-fn put_batch(draft: &mut Draft, nodes: u8, text: &[u8]) -> Result<(), WriteFault> {
+fn put_batch(draft: &mut Draft, nodes: u8, text: &[u8]) -> Result<(), Stop> {
     let packet = draft.packet()?;
-    let lines = line_count(text);
-    let Ok(lines) = u32::try_from(lines) else {
-        return Err(WriteFault::TooLong);
-    };
-    draft.put_line(b"journal ", lines, None)?;
+    draft.put_line(b"journal ", line_count(text) as u128, None)?;
     draft.put(text)?;
     draft.deliver_to(packet, 0, nodes)
 }
 
 /// Appends that these batches are journaled.
-fn put_batches(draft: &mut Draft, nodes: u8, batches: &[Offered<'_>]) -> Result<(), WriteFault> {
+fn put_batches(draft: &mut Draft, nodes: u8, batches: &[Offered<'_>]) -> Result<(), Stop> {
     for offered in batches {
         put_batch(draft, nodes, offered.text)?;
     }
@@ -84,7 +93,7 @@ fn put_batches(draft: &mut Draft, nodes: u8, batches: &[Offered<'_>]) -> Result<
 }
 
 /// Appends that each of the first nodes takes a packet and answers it by one that reaches node 0.
-fn put_round(draft: &mut Draft, packet: u32, many: u8) -> Result<(), WriteFault> {
+fn put_round(draft: &mut Draft, packet: u32, many: u8) -> Result<(), Stop> {
     draft.deliver_to(packet, 0, many)?;
     for _ in 0..many {
         let answer = draft.packet()?;
@@ -94,7 +103,7 @@ fn put_round(draft: &mut Draft, packet: u32, many: u8) -> Result<(), WriteFault>
 }
 
 /// Appends one ballot: node 0 asks a majority, proposes, and tells all others what was decided.
-fn put_ballot(draft: &mut Draft, voters: u8, nodes: u8) -> Result<(), WriteFault> {
+fn put_ballot(draft: &mut Draft, voters: u8, nodes: u8) -> Result<(), Stop> {
     let many = voters / 2 + 1;
     let prepare = draft.packet()?;
     draft.put_line(b"start ", 0, None)?;
@@ -108,28 +117,30 @@ fn put_ballot(draft: &mut Draft, voters: u8, nodes: u8) -> Result<(), WriteFault
 }
 
 /// Appends that a period is closed, and that each node shows its file.
-fn put_closed(draft: &mut Draft, voters: u8, nodes: u8, period: u16) -> Result<(), WriteFault> {
+fn put_closed(draft: &mut Draft, voters: u8, nodes: u8, period: u16) -> Result<(), Stop> {
     put_ballot(draft, voters, nodes)?;
     for node in 0..nodes {
-        draft.put_line(b"export ", u32::from(node), Some(u32::from(period)))?;
+        draft.put_line(b"export ", u128::from(node), Some(u32::from(period)))?;
     }
     Ok(())
 }
 
 /// Appends all that happens: before each period is closed the batches above it are journaled, and those that are left at the end.
-fn put_events(draft: &mut Draft, plan: &Plan<'_>) -> Result<(), WriteFault> {
+fn put_events(draft: &mut Draft, plan: &Plan<'_>) -> Result<(), Stop>
+    requires { plan.now.last ≤ 1_199 }
+{
     let mut journaled = 0;
     for period in 0..plan.last + 1 {
         let due = plan.due_before(period);
         let Some(batches) = plan.batches.get(journaled..due) else {
-            return Err(WriteFault::NotClosed);
+            return Err(Stop::NotClosed);
         };
         put_batches(draft, plan.nodes, batches)?;
         put_closed(draft, plan.voters, plan.nodes, period)?;
         journaled = due;
     }
     let Some(batches) = plan.batches.get(journaled..) else {
-        return Err(WriteFault::NotClosed);
+        return Err(Stop::NotClosed);
     };
     put_batches(draft, plan.nodes, batches)
 }
@@ -137,14 +148,15 @@ fn put_events(draft: &mut Draft, plan: &Plan<'_>) -> Result<(), WriteFault> {
 /// The text of a schedule.
 pub(crate) fn schedule_for(
     alloc: Global,
-    request: &Request,
+    plan: &Plan<'_>,
     agents: u8,
     input: &[u8],
     batch_from: usize,
-    plan: &Plan<'_>,
-) -> Result<Vec<u8>, WriteFault> {
+) -> Result<Vec<u8>, Stop>
+    requires { plan.now.last ≤ 1_199 }
+{
     let mut draft = Draft::new(alloc);
-    put_above(&mut draft, request, agents, input, batch_from)?;
+    put_above(&mut draft, plan, agents, input, batch_from)?;
     put_events(&mut draft, plan)?;
     Ok(draft.text)
 }

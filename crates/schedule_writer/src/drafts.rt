@@ -1,6 +1,6 @@
 //! The text of a schedule, as it grows.
 
-use crate::faults::WriteFault;
+use crate::faults::Stop;
 use byte_text::put_numbered;
 use std::alloc::{AllocError, Global};
 
@@ -21,10 +21,10 @@ pub(crate) struct Draft {
 fn put_line(
     text: &mut Vec<u8>,
     words: &[u8],
-    number: u32,
+    number: u128,
     other: Option<u32>,
 ) -> Result<(), AllocError> {
-    put_numbered(text, words, u128::from(number))?;
+    put_numbered(text, words, number)?;
     if let Some(other) = other {
         put_numbered(text, b" ", u128::from(other))?;
     }
@@ -41,10 +41,10 @@ impl Draft {
     }
 
     /// The number of the next packet that is sent.
-    pub(crate) fn packet(&mut self) -> Result<u32, WriteFault> {
+    pub(crate) fn packet(&mut self) -> Result<u32, Stop> {
         let number = self.packets;
         if number >= MOST_PACKETS {
-            return Err(WriteFault::TooLong);
+            return Err(Stop::TooLong);
         }
         self.packets = number + 1;
         Ok(number)
@@ -56,13 +56,13 @@ impl Draft {
     }
 
     /// Appends a text.
-    pub(crate) fn put(&mut self, text: &[u8]) -> Result<(), WriteFault> {
+    pub(crate) fn put(&mut self, text: &[u8]) -> Result<(), Stop> {
         if !self.has_room(text.len()) {
-            return Err(WriteFault::TooLong);
+            return Err(Stop::TooLong);
         }
         match self.text.extend_from_slice(text) {
             Ok(()) => Ok(()),
-            Err(_) => Err(WriteFault::OutOfMemory),
+            Err(_) => Err(Stop::OutOfMemory),
         }
     }
 
@@ -70,26 +70,26 @@ impl Draft {
     pub(crate) fn put_line(
         &mut self,
         words: &[u8],
-        number: u32,
+        number: u128,
         other: Option<u32>,
-    ) -> Result<(), WriteFault> {
+    ) -> Result<(), Stop> {
         if put_line(&mut self.text, words, number, other).is_err() {
-            return Err(WriteFault::OutOfMemory);
+            return Err(Stop::OutOfMemory);
         }
         if self.has_room(0) {
             Ok(())
         } else {
-            Err(WriteFault::TooLong)
+            Err(Stop::TooLong)
         }
     }
 
     /// Appends that a packet reaches a node.
-    pub(crate) fn deliver(&mut self, packet: u32, node: u8) -> Result<(), WriteFault> {
-        self.put_line(b"deliver ", packet, Some(u32::from(node)))
+    pub(crate) fn deliver(&mut self, packet: u32, node: u8) -> Result<(), Stop> {
+        self.put_line(b"deliver ", u128::from(packet), Some(u32::from(node)))
     }
 
     /// Appends that a packet reaches the nodes from one to another.
-    pub(crate) fn deliver_to(&mut self, packet: u32, from: u8, to: u8) -> Result<(), WriteFault> {
+    pub(crate) fn deliver_to(&mut self, packet: u32, from: u8, to: u8) -> Result<(), Stop> {
         for node in from..to {
             self.deliver(packet, node)?;
         }

@@ -46,3 +46,26 @@ impl From<ScheduleFault> for WriteFault {
         }
     }
 }
+
+/// Why a step stopped that reads nothing and writes nothing.
+#[derive(Clone, Copy, Debug, PartialEq, Eq, Drop)]
+pub(crate) enum Stop {
+    TooLong,
+    NotClosed,
+    OutOfMemory,
+}
+
+impl From<Stop> for WriteFault {
+    ghost use Rattle.std.specs.Prelude.{◌≡◌};
+    ghost use Rattle.schedule_writer.specs.Inner.Stops.{of_stop};
+
+    ghost from_gives = { λ stop told. told ≡ of_stop stop };
+
+    fn from(stop: Stop) -> WriteFault {
+        match stop {
+            Stop::TooLong => WriteFault::TooLong,
+            Stop::NotClosed => WriteFault::NotClosed,
+            Stop::OutOfMemory => WriteFault::OutOfMemory,
+        }
+    }
+}

@@ -1,6 +1,13 @@
 //! For which of its records a batch is refused.
 
-use crate::faults::WriteFault;
+ghost use Rattle.std.specs.Prelude.{◌≡◌, ◌≤◌, true, false, Ok, Some, IfOk, IfSome, length};
+ghost use Rattle.metering_model.specs.World.{Refused};
+ghost use Rattle.batch_view.specs.Batches.{batch_of};
+ghost use Rattle.group_events.specs.Replies.{is_refused, reply_of};
+ghost use Rattle.schedule_writer.specs.Inner.Judged.{IsFirstBad};
+ghost use Rattle.schedule_writer.specs.Refusals.{IsJournaled, answer_to, first_records};
+
+use crate::faults::Stop;
 use batch_view::BatchView;
 use byte_text::{first_line, lines_length, put_numbered};
 use group_events::{Event, Offer, Reply};
@@ -9,7 +16,9 @@ use schedule_player::World;
 use std::alloc::{AllocError, Global};
 
 /// The text of a batch with so many of its records, or None where it has fewer.
-fn first_records(alloc: Global, text: &[u8], count: u32) -> Result<Option<Vec<u8>>, AllocError> {
+fn first_records(alloc: Global, text: &[u8], count: u32) -> Result<Option<Vec<u8>>, AllocError>
+    ensures { IfOk result (λ part. IfSome part (λ bytes. bytes.items ≡ first_records count text.now)) }
+{
     let Ok(view) = BatchView::parse(text) else {
         return Ok(None);
     };
@@ -19,7 +28,10 @@ fn first_records(alloc: Global, text: &[u8], count: u32) -> Result<Option<Vec<u8
     let Some(length) = lines_length(below, count) else {
         return Ok(None);
     };
-    let mut part = Vec::from_slice(alloc, &text[..text.len().min(2)])?;
+    if text.len() < 2 {
+        return Ok(None);
+    }
+    let mut part = Vec::from_slice(alloc, &text[..2])?;
     put_numbered(&mut part, b"|", u128::from(view.agent()))?;
     put_numbered(&mut part, b"|", u128::from(view.seq()))?;
     put_numbered(&mut part, b"|", u128::from(count))?;
@@ -29,23 +41,52 @@ fn first_records(alloc: Global, text: &[u8], count: u32) -> Result<Option<Vec<u8
 }
 
 /// What the world answers to a batch with so many of its records.
-fn answer_to(
+fn answer_to(alloc: Global, world: &mut World, text: &[u8], count: u32) -> Result<Reply, Stop>
+    ensures answer { IfOk result (λ reply. reply_of reply ≡ answer_to world.old (first_records count text.now)) }
+    ensures kept { IfOk result (λ reply. is_refused (reply_of reply) ≡ true → world.new ≡ world.old) }
+{
+    let part = match first_records(alloc, text, count) {
+        Ok(Some(part)) => part,
+        Ok(None) => return Err(Stop::NotClosed),
+        Err(_) => return Err(Stop::OutOfMemory),
+    };
+    let Ok(offer) = Offer::read(alloc, part) else {
+        return Err(Stop::OutOfMemory);
+    };
+    match world.step(alloc, &Event::Journal(offer)) {
+        Ok(reply) => Ok(reply),
+        Err(_) => Err(Stop::OutOfMemory),
+    }
+}
+
+/// Whether a reply refuses so: true where it does, false where a batch was journaled, and None at any other.
+fn refuses_so(reply: &Reply, refusal: Refusal) -> Option<bool>
+    ensures refused { result ≡ Some true → reply_of reply.now ≡ Refused refusal }
+    ensures taken { result ≡ Some false → IsJournaled (reply_of reply.now) }
+{
+    match reply {
+        Reply::Journaled { .. } => Some(false),
+        Reply::Refused(other) => { if *other == refusal { Some(true) } else { None } }
+        _ => None,
+    }
+}
+
+/// Whether the world refuses a batch with so many of its records so: true where it does, and false where it journals it.
+fn is_refused_so(
     alloc: Global,
     world: &mut World,
     text: &[u8],
     count: u32,
-) -> Result<Reply, WriteFault> {
-    let part = match first_records(alloc, text, count) {
-        Ok(Some(part)) => part,
-        Ok(None) => return Err(WriteFault::NotClosed),
-        Err(_) => return Err(WriteFault::OutOfMemory),
-    };
-    let Ok(offer) = Offer::read(alloc, part) else {
-        return Err(WriteFault::OutOfMemory);
-    };
-    match world.step(alloc, &Event::Journal(offer)) {
-        Ok(reply) => Ok(reply),
-        Err(_) => Err(WriteFault::OutOfMemory),
+    refusal: Refusal,
+) -> Result<bool, Stop>
+    ensures refused { result ≡ Ok true → answer_to world.old (first_records count text.now) ≡ Refused refusal }
+    ensures kept { result ≡ Ok true → world.new ≡ world.old }
+    ensures taken { result ≡ Ok false → IsJournaled (answer_to world.old (first_records count text.now)) }
+{
+    let reply = answer_to(alloc, world, text, count)?;
+    match refuses_so(&reply, refusal) {
+        Some(answer) => Ok(answer),
+        None => Err(Stop::NotClosed),
     }
 }
 
@@ -56,18 +97,22 @@ pub(crate) fn first_refused(
     world: &mut World,
     text: &[u8],
     refusal: Refusal,
-) -> Result<u32, WriteFault> {
+) -> Result<u32, Stop>
+    ensures bad { IfOk result (IsFirstBad world.old text.now (length (batch_of text.now).records) refusal) }
+    ensures within { IfOk result (λ index. index ≤ 999) }
+{
     let Ok(view) = BatchView::parse(text) else {
-        return Err(WriteFault::NotClosed);
+        return Err(Stop::NotClosed);
     };
     let count = u32::from(view.count());
+    if !is_refused_so(alloc, world, text, count, refusal)? {
+        return Err(Stop::NotClosed);
+    }
     for above in 0..count {
         let index = count - 1 - above;
-        match answer_to(alloc, world, text, index)? {
-            Reply::Journaled { .. } => return Ok(index),
-            Reply::Refused(other) if other == refusal => {}
-            _ => return Err(WriteFault::NotClosed),
+        if !is_refused_so(alloc, world, text, index, refusal)? {
+            return Ok(index);
         }
     }
-    Err(WriteFault::NotClosed)
+    Err(Stop::NotClosed)
 }
