@@ -1,0 +1,152 @@
+-- What is found of one batch more.
+use Rattle.std.proofs.Common.{◌≡◌, ◌<◌, ◌≤◌, ◌⊎◌, ◌&&◌, ℕ, suc, ◌+◌, ◌-◌, Bool, true, false, max, List, [], ◌∷◌, ◌++◌, length, take, drop, map, get_or, All, refl, sym, ap, subst, ◌∙◌, inl, inr, ⊎_elim, arith, drop-cons}
+use Rattle.std.specs.List.{fold, list_all}
+use Rattle.std.proofs.lemmas.List.{map-append, take-append-drop}
+use Rattle.std.proofs.lemmas.List.Elements.{All-push}
+use Rattle.std.proofs.lemmas.List.Folds.{list_all-append}
+use Rattle.std.proofs.lemmas.List.Sums.{fold-append}
+use Rattle.std.proofs.lemmas.Bool.{cases_lt}
+use Rattle.metering_model.specs.Batch.{Batch}
+use Rattle.metering_model.specs.Front.{is_due}
+use Rattle.metering_model.specs.Sheet.{Sheet, Issuer}
+use Rattle.metering_model.specs.Step.{play, step}
+use Rattle.metering_model.specs.World.{World, Refused}
+use Rattle.metering_model.specs.declared.Refusal.{Refusal}
+use Rattle.metering_model.proofs.PlayLaws.{play-last, replies-last}
+use Rattle.row_laws.proofs.DueLaws.{due_later}
+use Rattle.batch_view.specs.Batches.{batch_of}
+use Rattle.schedule_writer.specs.declared.inputs.Offered.{Offered as LentBatch}
+use Rattle.schedule_writer.specs.Inputs.{Offered, IsLastStart, agents_of, are_due}
+use Rattle.schedule_writer.specs.Refusals.{IsJournaled, IsLineOf, answer_to, answers_to, journal_of, world_before, world_behind}
+use Rattle.schedule_writer.specs.Inner.Judged.{IsLaterStart, IsRefusedAmong}
+use Rattle.schedule_writer.specs.Inner.Plans.{offered_of}
+
+-- ---- the world
+
+world_more : (sheet : Sheet) (issuer : Issuer) (w v : World) (bs : List Offered) (b : Offered) → w ≡ world_behind sheet issuer bs → v ≡ (step w (journal_of b)).1
+    → v ≡ world_behind sheet issuer (bs ++ b ∷ [])
+world_more sheet issuer w v bs b here after =
+    after ∙ (ap (λ x. (step x (journal_of b)).1) here ∙ (sym (play-last (world_before sheet issuer) (map journal_of bs) (journal_of b))
+    ∙ ap (λ es. (play (world_before sheet issuer) es).1) (sym (map-append journal_of bs (b ∷ [])))))
+
+answers_last : (sheet : Sheet) (issuer : Issuer) (bs : List Offered) (b : Offered)
+    → answers_to sheet issuer (bs ++ b ∷ []) ≡ answers_to sheet issuer bs ++ answer_to (world_behind sheet issuer bs) b.text ∷ []
+unfolding answer_to
+answers_last sheet issuer bs b =
+    ap (λ es. (play (world_before sheet issuer) es).0) (map-append journal_of bs (b ∷ []))
+    ∙ replies-last (world_before sheet issuer) (map journal_of bs) (journal_of b)
+
+taken_more : (sheet : Sheet) (issuer : Issuer) (w : World) (bs : List Offered) (b : Offered) → w ≡ world_behind sheet issuer bs
+    → All IsJournaled (answers_to sheet issuer bs) → IsJournaled (answer_to w b.text) → All IsJournaled (answers_to sheet issuer (bs ++ b ∷ []))
+taken_more sheet issuer w bs b here all one =
+    subst (All IsJournaled) (sym (answers_last sheet issuer bs b))
+    (All-push IsJournaled (answers_to sheet issuer bs) (answer_to (world_behind sheet issuer bs) b.text) all (subst (λ x. IsJournaled (answer_to x b.text)) here one))
+
+-- ---- agents and periods
+
+agents_more : (bs : List Offered) (b : Offered) → max (agents_of bs) (batch_of b.text).agent ≡ agents_of (bs ++ b ∷ [])
+agents_more bs b =
+    sym (ap (fold max 1) (map-append (λ o. (batch_of o.text).agent) bs (b ∷ []))
+    ∙ fold-append max 1 (map (λ o. (batch_of o.text).agent) bs) ((batch_of b.text).agent ∷ []))
+
+both : (a b : Bool) → a ≡ true → b ≡ true → (a && (b && true)) ≡ true
+both true true x y = refl
+both true false x y = y
+both false b x y = x
+
+first_is_false : (a b : Bool) → a ≡ false → (a && (b && true)) ≡ false
+first_is_false false b is = refl
+first_is_false true b is = absurd (cc)
+
+other_is_false : (a b : Bool) → b ≡ false → (a && (b && true)) ≡ false
+other_is_false true false is = refl
+other_is_false false false is = refl
+other_is_false a true is = absurd (cc)
+
+split_true : (a b : Bool) → (a && b) ≡ true → (a ≡ true) × (b ≡ true)
+split_true true b is = (refl, is)
+split_true false b is = absurd (cc)
+
+both_true : (a b : Bool) → a ≡ true → b ≡ true → (a && b) ≡ true
+both_true true b x y = y
+both_true false b x y = x
+
+are_due_later : (base p q : ℕ) (bs : List Offered) → p ≤ q → are_due base p bs ≡ true → are_due base q bs ≡ true
+are_due_later base p q [] up is = refl
+are_due_later base p q (b ∷ bs) up is =
+    let so = split_true (is_due base p (batch_of b.text)) (are_due base p bs) is in
+    both_true (is_due base q (batch_of b.text)) (are_due base q bs) (due_later base p q (batch_of b.text) up so.0) (are_due_later base p q bs up so.1)
+
+due_of_more : (base q : ℕ) (bs : List Offered) (b : Offered) → are_due base q (bs ++ b ∷ []) ≡ (are_due base q bs && (is_due base q (batch_of b.text) && true))
+due_of_more base q bs b = list_all-append (λ o. is_due base q (batch_of o.text)) bs (b ∷ [])
+
+last_more : (base p q : ℕ) (bs : List Offered) (b : Offered) → IsLastStart base bs p → IsLaterStart base (batch_of b.text) p q → IsLastStart base (bs ++ b ∷ []) q
+last_more base p q bs b last later = record { within = later.within; none_behind = none_behind; one_there = one_there }
+  where
+    none_behind : (q ≡ 1_199) ⊎ (are_due base q (bs ++ b ∷ []) ≡ true)
+    none_behind =
+        ⊎_elim inl
+        (λ due. ⊎_elim (λ end. inl (omega (arith, later.later, later.within)))
+        (λ all. inr (due_of_more base q bs b ∙ both (are_due base q bs) (is_due base q (batch_of b.text)) (are_due_later base p q bs later.later all) due))
+        last.none_behind)
+        later.none_behind
+
+    one_there : (q ≡ 0) ⊎ (are_due base (q - 1) (bs ++ b ∷ []) ≡ false)
+    one_there =
+        ⊎_elim (λ less. inr (due_of_more base (q - 1) bs b ∙ other_is_false (are_due base (q - 1) bs) (is_due base (q - 1) (batch_of b.text)) (later.not_before (q - 1) (omega arith) (omega arith))))
+        (λ up.
+        let same : p ≡ q = omega (arith, later.later) in
+        ⊎_elim (λ none. inl (omega arith))
+        (λ some. inr (due_of_more base (q - 1) bs b ∙ first_is_false (are_due base (q - 1) bs) (is_due base (q - 1) (batch_of b.text)) (ap (λ k. are_due base (k - 1) bs) (sym same) ∙ some)))
+        last.one_there)
+        (cases_lt p q)
+
+-- ---- batches as they are lent
+
+-- what is judged so far
+pub record IsJudged (sheet : Sheet) (issuer : Issuer) (bs : List Offered) (w : World) (agents last : ℕ) : Type 0 where
+  pub world : w ≡ world_behind sheet issuer bs
+  pub taken : All IsJournaled (answers_to sheet issuer bs)
+  pub are_agents : agents ≡ agents_of bs
+  pub is_last : IsLastStart sheet.base bs last
+
+pub judged_more : (sheet : Sheet) (issuer : Issuer) (bs : List Offered) (b : Offered) (w v : World) (agents last more later : ℕ) → IsJudged sheet issuer bs w agents last
+    → IsJournaled (answer_to w b.text) → v ≡ (step w (journal_of b)).1 → more ≡ max agents (batch_of b.text).agent
+    → IsLaterStart sheet.base (batch_of b.text) last later → IsJudged sheet issuer (bs ++ b ∷ []) v more later
+judged_more sheet issuer bs b w v agents last more later so journaled after are is =
+    record {
+      world = world_more sheet issuer w v bs b so.world after;
+      taken = taken_more sheet issuer w bs b so.world so.taken journaled;
+      are_agents = are ∙ (ap (λ n. max n (batch_of b.text).agent) so.are_agents ∙ agents_more bs b);
+      is_last = last_more sheet.base last later bs b so.is_last is;
+    }
+
+pub nothing_judged : (sheet : Sheet) (issuer : Issuer) (w : World) → w ≡ world_before sheet issuer → IsJudged sheet issuer [] w 1 0
+nothing_judged sheet issuer w is =
+    record {
+      world = is;
+      taken = λ k d below. absurd (omega arith);
+      are_agents = refl;
+      is_last = record { within = omega arith; none_behind = inr refl; one_there = inl refl };
+    }
+
+-- the batch at a place parts the others
+pub parted : (bs : List LentBatch) (i : ℕ) (d : LentBatch) → i < length bs
+    → map offered_of bs ≡ map offered_of (take i bs) ++ offered_of (get_or bs i d) ∷ map offered_of (drop (suc i) bs)
+parted bs i d within =
+    ap (map offered_of) (sym (take-append-drop i bs))
+    ∙ (map-append offered_of (take i bs) (drop i bs) ∙ ap (λ t. map offered_of (take i bs) ++ map offered_of t) (drop-cons bs i d within))
+
+pub refused_among : (input : List ℕ) (sheet : Sheet) (issuer : Issuer) (bs : List LentBatch) (i : ℕ) (d : LentBatch) (w : World) (agents last line : ℕ) (why : Refusal) → i < length bs
+    → IsJudged sheet issuer (map offered_of (take i bs)) w agents last → answer_to w (get_or bs i d).text.now ≡ Refused why
+    → IsLineOf input w (offered_of (get_or bs i d)) why line → IsRefusedAmong input sheet issuer (map offered_of bs) line why
+refused_among input sheet issuer bs i d w agents last line why within so refused at =
+    record {
+      before = map offered_of (take i bs);
+      batch = offered_of (get_or bs i d);
+      behind = map offered_of (drop (suc i) bs);
+      all = parted bs i d within;
+      taken = so.taken;
+      refused = subst (λ x. answer_to x (get_or bs i d).text.now ≡ Refused why) so.world refused;
+      at_line = subst (λ x. IsLineOf input x (offered_of (get_or bs i d)) why line) so.world at;
+    }

@@ -1,0 +1,4 @@
+pub mod Plans
+pub mod Stops
+pub mod Judged
+pub mod Certified

@@ -1,0 +1,124 @@
+-- What an input asks to be journaled and to be closed, in its order.
+use Rattle.std.specs.Prelude.{◌≡◌, ◌≤◌, ◌⊎◌, ℕ, zero, suc, ◌+◌, ◌-◌, ◌==◌, Bool, true, false, IsTrue, if◌then◌else◌, max, fold, map, List, [], ◌∷◌, ◌++◌, length, take, drop, Option, Some, None, Result, Ok, Err, unwrap_or, slice_get, codes}
+use Rattle.std.specs.List.{filter_map, list_all, position}
+use Rattle.metering_model.specs.Batch.{is_empty}
+use Rattle.metering_model.specs.declared.BatchCode.{BatchCode}
+use Rattle.metering_model.specs.declared.BatchCode.TheVariants.{Head}
+use Rattle.metering_model.specs.BatchReading.{batch_in}
+use Rattle.metering_model.specs.Front.{is_due}
+use Rattle.metering_model.specs.Transcript.{line, line_count}
+use Rattle.batch_view.specs.Batches.{batch_of}
+use Rattle.batch_view.specs.Extents.{extent_in}
+use Rattle.input_sections.specs.RateInput.{RateInput}
+use Rattle.input_sections.specs.Sections.{begins_with}
+
+-- ---- where a batch ends
+
+-- the text up to the place of a line feed, and all of it where there is none
+abbrev pub through_feed : Option ℕ → List ℕ → List ℕ
+through_feed (Some i) text = take (i + 1) text
+through_feed None text = text
+
+-- the first line with its line feed
+abbrev pub head_text : List ℕ → List ℕ
+head_text text = through_feed (position (λ c. c == 10) text) text
+
+abbrev pub is_head_code : BatchCode → Bool
+is_head_code Head = true
+is_head_code _ = false
+
+-- no line comes first that a batch may begin with
+abbrev pub lacks_head : List ℕ → Bool
+lacks_head text = elim (batch_in (head_text text)) [ Ok b ↦ false | Err fault ↦ is_head_code fault.code ]
+
+-- How many bytes are offered as the batch that comes next: the head line and the lines that it counts. A first line that is no
+-- head is offered by itself, and where the lines are too few or too long all that is left.
+unfoldable pub offered_length : List ℕ → ℕ
+offered_length text =
+    elim (extent_in text) [ Some n ↦ n | None ↦ (if lacks_head text then length (head_text text) else length text) ]
+
+-- ---- the items
+
+-- what is offered as a batch: the byte of the input at which it begins, and its text
+pub record Offered : Type 0 where
+  pub from : ℕ
+  pub text : List ℕ
+
+-- the line of the input on which a batch begins, counted from 1: one more than the line feeds above it
+abbrev pub line_of : List ℕ → Offered → ℕ
+line_of input b = 1 + line_count (take b.from input)
+
+pub data Item : Type 0 where
+  Offers : Offered → Item
+  Closes : Item
+
+-- a line that says that the period is closed which is open
+abbrev pub close_line : List ℕ
+close_line = line (codes "close")
+
+-- the item that begins at a byte of the input, and how many bytes it has
+abbrev pub item_at : List ℕ → ℕ → Item
+item_at input from =
+    if begins_with close_line (drop from input) then Closes
+    else Offers (record { from = from; text = take (offered_length (drop from input)) (drop from input) })
+
+abbrev pub item_length : List ℕ → ℕ
+item_length left = if begins_with close_line left then length close_line else offered_length left
+
+-- the items from a byte on, and no more than so many
+unfoldable pub items_in : ℕ → List ℕ → ℕ → List Item
+items_in zero input from = []
+items_in (suc most) input from =
+    if is_empty (drop from input) then []
+    else item_at input from ∷ items_in most input (from + item_length (drop from input))
+
+-- the items behind the sections of an input
+unfoldable pub items_of : List ℕ → RateInput → List Item
+items_of input given = items_in (length input) input (length input - length given.batch)
+
+-- the batches, in the order in which they are journaled
+abbrev pub batches_of : List Item → List Offered
+batches_of [] = []
+batches_of (Offers b ∷ is) = b ∷ batches_of is
+batches_of (Closes ∷ is) = batches_of is
+
+-- how many batches stand above each line that closes a period, where so many stand above all of these
+abbrev pub closes_from : ℕ → List Item → List ℕ
+closes_from n [] = []
+closes_from n (Offers b ∷ is) = closes_from (n + 1) is
+closes_from n (Closes ∷ is) = n ∷ closes_from n is
+
+abbrev pub closes_of : List Item → List ℕ
+closes_of is = closes_from 0 is
+
+-- how many batches are journaled before a period is closed: those above its line, and where it has none all
+abbrev pub due_before : List Item → ℕ → ℕ
+due_before is p = unwrap_or (slice_get (closes_of is) p) (length (batches_of is))
+
+-- ---- the group, and the last period
+
+-- the greatest agent that a batch names, and 1 where none does
+abbrev pub agents_of : List Offered → ℕ
+agents_of bs = fold max 1 (map (λ b. (batch_of b.text).agent) bs)
+
+-- each reading of the batches starts before the end of the period
+abbrev pub are_due : ℕ → ℕ → List Offered → Bool
+are_due base p bs = list_all (λ b. is_due base p (batch_of b.text)) bs
+
+-- The last period in which a reading starts, of 1,200: no reading starts behind it, unless it is the last of these, and one starts
+-- in it, unless it is the first.
+pub record IsLastStart (base : ℕ) (bs : List Offered) (p : ℕ) : Type 0 where
+  pub within : p ≤ 1_199
+  pub none_behind : (p ≡ 1_199) ⊎ (are_due base p bs ≡ true)
+  pub one_there : (p ≡ 0) ⊎ (are_due base (p - 1) bs ≡ false)
+
+-- the period that is asked for, or else the last one in which a reading starts
+abbrev pub IsAskedFor : Option ℕ → ℕ → List Offered → ℕ → Type 0
+IsAskedFor (Some through) base bs p = p ≡ through
+IsAskedFor None base bs p = IsLastStart base bs p
+
+-- The last period that is closed: the one that is asked for, or that of the last line which closes one, where that is later.
+pub record IsLastClosed (through : Option ℕ) (base : ℕ) (is : List Item) (last : ℕ) : Type 0 where
+  pub asked : ℕ
+  pub is_asked : IsAskedFor through base (batches_of is) asked
+  pub is_last : last ≡ max asked (length (closes_of is) - 1)

@@ -1,0 +1,6 @@
+pub mod Faults
+pub mod Requests
+pub mod Inputs
+pub mod Refusals
+pub mod Schedules
+pub mod Inner

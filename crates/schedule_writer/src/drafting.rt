@@ -1,0 +1,162 @@
+//! What a schedule tells to happen: batches are journaled, and periods are closed.
+
+ghost use Rattle.std.specs.Prelude.{◌≤◌};
+
+use crate::drafts::Draft;
+use crate::faults::Stop;
+use crate::inputs::Offered;
+use crate::plans::Plan;
+use byte_text::{Line, line_count};
+use input_sections::{ScheduleCode, Unread, read_section};
+use std::alloc::Global;
+
+/// A sheet without rows, as it is taken where the input has none.
+const EMPTY_SHEET: &[u8] = b"sheet 1\nbase = \"2025-01\"\n";
+
+/// The sample issuer, as it is taken where the input has none.
+const SAMPLE_ISSUER: &[u8] =
+    b"issuer 7\nprovider = \"Sample Cloud\"\npublisher = \"Sample Cloud\"\nissuer = \"Sample Cloud Ltd\"\naccount_id = \"A-100\"\naccount_name = \"Payer\"\ncurrency = \"USD\"\nother_service = \"Billing\"\n";
+
+/// Where the sheet's section ends, if the input begins with one.
+fn sheet_end(input: &[u8]) -> Option<usize> {
+    let Ok(unread) = Unread::whole(input) else {
+        return None;
+    };
+    if !unread.begins_with(b"sheet ") {
+        return Some(0);
+    }
+    match read_section(&unread, ScheduleCode::Sheet, b"sheet ", 200_000) {
+        Ok(section) => Some(section.rest.from()),
+        Err(_) => None,
+    }
+}
+
+/// Appends a section of the input, or else what is taken in its place.
+fn put_section(draft: &mut Draft, section: &[u8], else_taken: &[u8]) -> Result<(), Stop> {
+    match section {
+        [] => draft.put(else_taken),
+        _ => draft.put(section),
+    }
+}
+
+/// Appends the line of the nodes.
+fn put_nodes(draft: &mut Draft, plan: &Plan<'_>) -> Result<(), Stop> {
+    let mut line = Line::new();
+    line.put(b"nodes ");
+    line.put_number(u32::from(plan.voters));
+    if plan.observers > 0 {
+        line.put(b" observers ");
+        line.put_number(u32::from(plan.observers));
+    }
+    line.put(b"\n");
+    draft.put(line.as_slice())
+}
+
+/// Appends what stands above the events.
+fn put_above(
+    draft: &mut Draft,
+    plan: &Plan<'_>,
+    agents: u8,
+    input: &[u8],
+    batch_from: usize,
+) -> Result<(), Stop> {
+    draft.put(b"SCHEDULE 1\n")?;
+    put_nodes(draft, plan)?;
+    draft.put_line(b"agents ", u128::from(agents), None)?;
+    let Some(end) = sheet_end(input) else {
+        return Err(Stop::NotClosed);
+    };
+    let Some(sheet) = input.get(..end) else {
+        return Err(Stop::NotClosed);
+    };
+    let Some(issuer) = input.get(end..batch_from) else {
+        return Err(Stop::NotClosed);
+    };
+    put_section(draft, sheet, EMPTY_SHEET)?;
+    put_section(draft, issuer, SAMPLE_ISSUER)
+}
+
+/// Appends that a batch is journaled, and reaches all nodes.
+fn put_batch(draft: &mut Draft, nodes: u8, text: &[u8]) -> Result<(), Stop> {
+    let packet = draft.packet()?;
+    draft.put_line(b"journal ", line_count(text) as u128, None)?;
+    draft.put(text)?;
+    draft.deliver_to(packet, 0, nodes)
+}
+
+/// Appends that these batches are journaled.
+fn put_batches(draft: &mut Draft, nodes: u8, batches: &[Offered<'_>]) -> Result<(), Stop> {
+    for offered in batches {
+        put_batch(draft, nodes, offered.text)?;
+    }
+    Ok(())
+}
+
+/// Appends that each of the first nodes takes a packet and answers it by one that reaches node 0.
+fn put_round(draft: &mut Draft, packet: u32, many: u8) -> Result<(), Stop> {
+    draft.deliver_to(packet, 0, many)?;
+    for _ in 0..many {
+        let answer = draft.packet()?;
+        draft.deliver(answer, 0)?;
+    }
+    Ok(())
+}
+
+/// Appends one ballot: node 0 asks a majority, proposes, and tells all others what was decided.
+fn put_ballot(draft: &mut Draft, voters: u8, nodes: u8) -> Result<(), Stop> {
+    let many = voters / 2 + 1;
+    let prepare = draft.packet()?;
+    draft.put_line(b"start ", 0, None)?;
+    put_round(draft, prepare, many)?;
+    let accept = draft.packet()?;
+    put_round(draft, accept, many)?;
+    // Who has learned a cut sends it to whoever asks for that period.
+    draft.deliver(accept, 0)?;
+    let decided = draft.packet()?;
+    draft.deliver_to(decided, 1, nodes)
+}
+
+/// Appends that a period is closed, and that each node shows its file.
+fn put_closed(draft: &mut Draft, voters: u8, nodes: u8, period: u16) -> Result<(), Stop> {
+    put_ballot(draft, voters, nodes)?;
+    for node in 0..nodes {
+        draft.put_line(b"export ", u128::from(node), Some(u32::from(period)))?;
+    }
+    Ok(())
+}
+
+/// Appends all that happens: before each period is closed the batches above it are journaled, and those that are left at the end.
+fn put_events(draft: &mut Draft, plan: &Plan<'_>) -> Result<(), Stop>
+    requires { plan.now.last ≤ 1_199 }
+{
+    let mut journaled = 0;
+    for period in 0..plan.last + 1 {
+        let due = plan.due_before(period);
+        let Some(batches) = plan.batches.get(journaled..due) else {
+            return Err(Stop::NotClosed);
+        };
+        put_batches(draft, plan.nodes, batches)?;
+        put_closed(draft, plan.voters, plan.nodes, period)?;
+        journaled = due;
+    }
+    let Some(batches) = plan.batches.get(journaled..) else {
+        return Err(Stop::NotClosed);
+    };
+    put_batches(draft, plan.nodes, batches)
+}
+
+/// The text of a schedule.
+pub(crate) fn schedule_for(
+    alloc: Global,
+    plan: &Plan<'_>,
+    agents: u8,
+    input: &[u8],
+    batch_from: usize,
+) -> Result<Vec<u8>, Stop>
+    requires { plan.now.last ≤ 1_199 }
+{
+    let mut draft = Draft::new(alloc);
+    put_above(&mut draft, plan, agents, input, batch_from)?;
+    put_events(&mut draft, plan)?;
+    Ok(draft.text)
+}

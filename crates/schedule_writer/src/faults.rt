@@ -1,0 +1,71 @@
+//! Why no schedule was written, or not all of one.
+
+use input_sections::ScheduleFault;
+use metering_model::Refusal;
+use thiserror::Error;
+
+/// Why no schedule was written, or not all of one.
+#[derive(Clone, Copy, Debug, PartialEq, Eq, Drop, Error)]
+pub enum WriteFault {
+    /// A call of the reader failed.
+    #[error("read failed")]
+    Read,
+    /// A section of the input is refused, or the input is too long.
+    #[error("refused {0}")]
+    Section(ScheduleFault),
+    /// The journals refuse a batch, at this line of the input, counted from 1.
+    #[error("line {line}: {refusal}")]
+    Refused { line: u32, refusal: Refusal },
+    /// The schedule would have more bytes, or more packets, than a schedule may have.
+    #[error("too long")]
+    TooLong,
+    /// What was to be written does not close the months as it should.
+    #[error("not closed")]
+    NotClosed,
+    /// A call of the writer failed.
+    #[error("write failed")]
+    Write,
+    /// A growth was refused.
+    #[error("out of memory")]
+    OutOfMemory,
+}
+
+/// A refused section is told as it is, and want of memory as such.
+impl From<ScheduleFault> for WriteFault {
+    ghost use Rattle.std.specs.Prelude.{◌≡◌};
+    ghost use Rattle.schedule_writer.specs.Faults.{of_sections};
+
+    ghost from_gives = { λ fault told. told ≡ of_sections fault };
+
+    fn from(fault: ScheduleFault) -> WriteFault {
+        match fault {
+            ScheduleFault::Refused { code, line } => {
+                WriteFault::Section(ScheduleFault::Refused { code, line })
+            }
+            ScheduleFault::OutOfMemory => WriteFault::OutOfMemory,
+        }
+    }
+}
+
+/// Why a step stopped that reads nothing and writes nothing.
+#[derive(Clone, Copy, Debug, PartialEq, Eq, Drop)]
+pub(crate) enum Stop {
+    TooLong,
+    NotClosed,
+    OutOfMemory,
+}
+
+impl From<Stop> for WriteFault {
+    ghost use Rattle.std.specs.Prelude.{◌≡◌};
+    ghost use Rattle.schedule_writer.specs.Inner.Stops.{of_stop};
+
+    ghost from_gives = { λ stop told. told ≡ of_stop stop };
+
+    fn from(stop: Stop) -> WriteFault {
+        match stop {
+            Stop::TooLong => WriteFault::TooLong,
+            Stop::NotClosed => WriteFault::NotClosed,
+            Stop::OutOfMemory => WriteFault::OutOfMemory,
+        }
+    }
+}

@@ -1,0 +1,17 @@
+//! From a sheet, an issuer and batches to a schedule that closes their months.
+#![tactic(auto)]
+
+mod asked;
+mod certifying;
+mod drafting;
+mod drafts;
+mod faults;
+mod inputs;
+mod judging;
+mod lines;
+mod plans;
+mod writing;
+
+pub use asked::Request;
+pub use faults::WriteFault;
+pub use writing::schedule_text;

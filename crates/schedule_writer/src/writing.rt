@@ -1,0 +1,261 @@
+//! `focusd schedule`: from batches to a schedule that closes their months.
+
+ghost use Rattle.std.specs.Prelude.{◌≡◌, ◌≢◌, ◌+◌, ◌-◌, ◌<◌, ◌≤◌, ℕ, List, Some, Ok, Err, IfOk, IfErr, IfSome, OnOk, OnErr, false, drop, length, map, max, unwrap_or};
+ghost use Rattle.std.specs.Arc.{arc_value};
+ghost use Rattle.std.specs.Io.KnownBytes.{Appends, IsAtEnd};
+ghost use Rattle.counted_io.specs.Counts.{Rises, count_after};
+ghost use Rattle.counted_io.specs.Reading.{ConsumesAtMost};
+ghost use Rattle.counted_io.specs.Writing.{AppendsPrefix};
+ghost use Rattle.metering_model.specs.declared.Refusal.{Refusal};
+ghost use Rattle.input_sections.specs.declared.faults.ScheduleFault.{ScheduleFault};
+ghost use Rattle.input_sections.specs.RateInput.{rate_input_in};
+ghost use Rattle.schedule_writer.specs.Faults.{tells_of_reader, tells_of_writer};
+ghost use Rattle.schedule_writer.specs.Refusals.{IsRefusedAt};
+ghost use Rattle.schedule_writer.specs.Requests.{IsRequest};
+ghost use Rattle.schedule_writer.specs.Schedules.{IsScheduleOf};
+ghost use Rattle.schedule_writer.specs.Inner.Certified.{IsCertified};
+ghost use Rattle.schedule_writer.specs.Inner.Judged.{IsOfBatches, IsReadInput};
+ghost use Rattle.schedule_writer.specs.Inner.Plans.{offered_of, plan_of};
+ghost use Rattle.input_sections.specs.declared.faults.ScheduleCode.{ScheduleCode};
+
+use crate::asked::Request;
+use crate::certifying::certify;
+use crate::drafting::schedule_for;
+use crate::faults::{Stop, WriteFault};
+use crate::inputs::{Offered, read_items};
+use crate::judging::judge_all;
+use crate::plans::Plan;
+use counted_io::{Sink, Source, write_all};
+use input_sections::{RateInput, rate_input};
+use price_sheet::{Issuer, Sheet};
+use schedule_player::{PlayFault, read_input};
+use std::alloc::Global;
+use std::sync::Arc;
+
+/// The last period that is closed: the one that is asked for, or that of the last line which closes one, where that is later. None
+/// where that is no period.
+fn last_closed(asked: u16, closes: &[usize]) -> Option<u16>
+    requires { asked ≤ 1_199 }
+    ensures { IfSome result (λ last. (last ≡ max asked (length closes.now - 1)) × (last ≤ 1_199)) }
+{
+    let closed = closes.len().saturating_sub(1);
+    if closed <= usize::from(asked) {
+        return Some(asked);
+    }
+    if closed <= 1_199 {
+        Some(closed as u16)
+    } else {
+        None
+    }
+}
+
+/// The period that is asked for, or else this one.
+fn asked_for(through: Option<u16>, last: u16) -> u16
+    ensures { result ≡ unwrap_or through last }
+{
+    match through {
+        Some(through) => through,
+        None => last,
+    }
+}
+
+/// The text of a schedule, where it stands the test.
+fn certified_text(
+    alloc: Global,
+    plan: &Plan<'_>,
+    agents: u8,
+    sheet: &Sheet,
+    issuer: &Issuer,
+    input: &[u8],
+    batch_from: usize,
+) -> Result<Vec<u8>, Stop>
+    requires voters { 1 ≤ plan.now.voters }
+    requires nodes { (plan.now.nodes ≡ plan.now.voters + plan.now.observers) × (plan.now.nodes ≤ 99) }
+    requires last { plan.now.last ≤ 1_199 }
+    requires agents { (1 ≤ agents) × (agents ≤ 64) }
+    ensures { IfOk result (λ text. IsCertified (plan_of plan.now) plan.now.voters plan.now.observers agents sheet.now issuer.now text.items) }
+{
+    let text = schedule_for(alloc, plan, agents, input, batch_from)?;
+    certify(alloc, plan, agents, sheet, issuer, &text)?;
+    Ok(text)
+}
+
+/// The schedule for an input, of which these are the batches, and the numbers of those above each line that closes a period.
+fn schedule_with(
+    alloc: Global,
+    request: Request,
+    input: &[u8],
+    batch_from: usize,
+    sheet: &Arc<Sheet>,
+    issuer: &Arc<Issuer>,
+    batches: &[Offered<'_>],
+    closes: &[usize],
+) -> Result<Vec<u8>, WriteFault>
+    requires request { IsRequest request }
+    requires read { IsReadInput input.now (arc_value sheet.now) (arc_value issuer.now) (map offered_of batches.now) closes.now }
+    ensures schedule { IfOk result (λ text. IsScheduleOf request (Some input.now) input.now text.items) }
+    ensures refused { (line : ℕ) (why : Refusal) → result ≡ Err (WriteFault.Refused line why) → IsRefusedAt input.now line why }
+    ensures others { IfErr result IsOfBatches }
+{
+    let asked = judge_all(alloc, sheet, issuer, input, batches)?;
+    let through = asked_for(request.through, asked.last);
+    let Some(last) = last_closed(through, closes) else {
+        return Err(WriteFault::TooLong);
+    };
+    let plan = Plan {
+        voters: request.nodes,
+        observers: request.observers,
+        nodes: request.nodes + request.observers,
+        last,
+        batches,
+        closes,
+    };
+    match certified_text(alloc, &plan, asked.agents, sheet, issuer, input, batch_from) {
+        Ok(text) => Ok(text),
+        Err(stop) => Err(WriteFault::from(stop)),
+    }
+}
+
+/// The schedule for an input, behind whose sections these batches begin.
+fn schedule_of(
+    alloc: Global,
+    request: Request,
+    input: &[u8],
+    given: RateInput,
+) -> Result<Vec<u8>, WriteFault>
+    requires request { IsRequest request }
+    requires given { rate_input_in input.now ≡ Ok (record { sheet = given.sheet; issuer = given.issuer; batch = drop given.batch_from input.now }) }
+    requires within { given.batch_from ≤ length input.now }
+    ensures schedule { IfOk result (λ text. IsScheduleOf request (Some input.now) input.now text.items) }
+    ensures refused { (line : ℕ) (why : Refusal) → result ≡ Err (WriteFault.Refused line why) → IsRefusedAt input.now line why }
+    ensures others { IfErr result IsOfBatches }
+{
+    let RateInput {
+        sheet,
+        issuer,
+        batch_from,
+    } = given;
+    let Ok(items) = read_items(alloc, input, batch_from) else {
+        return Err(WriteFault::OutOfMemory);
+    };
+    let Ok(sheet) = Arc::new(alloc, sheet) else {
+        return Err(WriteFault::OutOfMemory);
+    };
+    let Ok(issuer) = Arc::new(alloc, issuer) else {
+        return Err(WriteFault::OutOfMemory);
+    };
+    schedule_with(
+        alloc,
+        request,
+        input,
+        batch_from,
+        &sheet,
+        &issuer,
+        &items.batches,
+        &items.closes,
+    )
+}
+
+/// The schedule for an input.
+fn schedule_for_input(alloc: Global, request: Request, input: &[u8]) -> Result<Vec<u8>, WriteFault>
+    requires request { IsRequest request }
+    ensures schedule { IfOk result (λ text. IsScheduleOf request (Some input.now) input.now text.items) }
+    ensures section { (fault : ScheduleFault) → result ≡ Err (WriteFault.Section fault)
+        → (fault ≢ ScheduleFault.OutOfMemory) × (rate_input_in input.now ≡ Err fault) }
+    ensures refused { (line : ℕ) (why : Refusal) → result ≡ Err (WriteFault.Refused line why) → IsRefusedAt input.now line why }
+    ensures no_read { result ≢ Err WriteFault.Read }
+    ensures no_write { result ≢ Err WriteFault.Write }
+{
+    match rate_input(alloc, input) {
+        Ok(given) => schedule_of(alloc, request, input, given),
+        Err(fault) => Err(WriteFault::from(fault)),
+    }
+}
+
+/// All of the input.
+fn input_of<R: Source>(alloc: Global, reader: &mut R) -> Result<Vec<u8>, WriteFault>
+    ensures whole { IfOk result
+        (λ bytes. IfSome (R.remaining reader.old) (λ input. bytes.items ≡ input)) }
+    ensures end { OnOk result (IsAtEnd (R.remaining reader.new)) }
+    ensures section { (fault : ScheduleFault) → result ≡ Err (WriteFault.Section fault)
+        → (fault ≡ ScheduleFault.Refused ScheduleCode.TooLong 1)
+        × IfSome (R.remaining reader.old) (λ input. 16_777_216 < length input) }
+    ensures fault { result ≡ Err WriteFault.Read
+        → Rises (R.failed_calls reader.old) (R.failed_calls reader.new) }
+    ensures taken { ConsumesAtMost 16_777_217 (R.remaining reader.old) (R.remaining reader.new) }
+    ensures count { R.failed_calls reader.new
+        ≡ count_after (tells_of_reader result) (R.failed_calls reader.old) }
+    ensures no_write { result ≢ Err WriteFault.Write }
+    ensures no_refusal { (line : ℕ) (why : Refusal) → result ≢ Err (WriteFault.Refused line why) }
+{
+    match read_input(alloc, reader) {
+        Ok(input) => Ok(input),
+        Err(PlayFault::Read) => Err(WriteFault::Read),
+        Err(PlayFault::Schedule(fault)) => Err(WriteFault::Section(fault)),
+        Err(_) => Err(WriteFault::OutOfMemory),
+    }
+}
+
+/// Writes a text.
+fn write_text<W: Sink>(text: &[u8], writer: &mut W) -> Result<(), WriteFault>
+    ensures written { OnOk result (Appends (W.contents writer.old) (W.contents writer.new) text.now) }
+    ensures prefix { OnErr result (AppendsPrefix (W.contents writer.old) (W.contents writer.new) text.now) }
+    ensures fault { IfErr result (λ fault. fault ≡ WriteFault.Write) }
+    ensures write_fault { OnErr result (Rises (W.failed_calls writer.old) (W.failed_calls writer.new)) }
+    ensures writes { W.failed_calls writer.new
+        ≡ count_after (tells_of_writer result) (W.failed_calls writer.old) }
+    ensures reads { tells_of_reader result ≡ false }
+{
+    match write_all(writer, text) {
+        Ok(()) => Ok(()),
+        Err(_) => Err(WriteFault::Write),
+    }
+}
+
+/// Reads a sheet and an issuer, each if it is there, and batches, and writes a schedule that closes their months: each batch is
+/// journaled, and each period closed behind the batches that stand above its line `close`, or behind all.
+///
+/// At most 16,777,217 bytes are read. After `Write` a prefix of the schedule was written, and after any other fault nothing.
+/// `NotClosed` says that what was to be written did not stand the test; no clause says that this never happens.
+pub fn schedule_text<R: Source, W: Sink>(
+    alloc: Global,
+    request: Request,
+    reader: &mut R,
+    writer: &mut W,
+) -> Result<(), WriteFault>
+    requires { IsRequest request }
+
+    // With Ok just a schedule of the input was written, as it was asked for.
+    ensures schedule { OnOk result ((input text : List ℕ)
+        × IsScheduleOf request (R.remaining reader.old) input text
+        × Appends (W.contents writer.old) (W.contents writer.new) text) }
+
+    // After `Write` a prefix of it was, and never all of it.
+    ensures prefix { result ≡ Err WriteFault.Write → (input text : List ℕ)
+        × IsScheduleOf request (R.remaining reader.old) input text
+        × AppendsPrefix (W.contents writer.old) (W.contents writer.new) text }
+    ensures section { (fault : ScheduleFault) → result ≡ Err (WriteFault.Section fault)
+        → IfSome (R.remaining reader.old) (λ input. rate_input_in input ≡ Err fault) }
+    ensures refused { (line : ℕ) (refusal : Refusal) → result ≡ Err (WriteFault.Refused line refusal)
+        → IfSome (R.remaining reader.old) (λ input. IsRefusedAt input line refusal) }
+    ensures plain_memory { result ≢ Err (WriteFault.Section ScheduleFault.OutOfMemory) }
+    ensures read_fault { result ≡ Err WriteFault.Read
+        → Rises (R.failed_calls reader.old) (R.failed_calls reader.new) }
+    ensures write_fault { result ≡ Err WriteFault.Write
+        → Rises (W.failed_calls writer.old) (W.failed_calls writer.new) }
+    ensures untouched { IfErr result (λ fault. fault ≢ WriteFault.Write → writer.new ≡ writer.old) }
+    ensures read { ConsumesAtMost 16_777_217 (R.remaining reader.old) (R.remaining reader.new) }
+
+    // With Ok nothing is left to read.
+    ensures end { OnOk result (IsAtEnd (R.remaining reader.new)) }
+
+    // `Read` and `Write` come of one failed call each, and no other call fails.
+    ensures reads { R.failed_calls reader.new
+        ≡ count_after (tells_of_reader result) (R.failed_calls reader.old) }
+    ensures writes { W.failed_calls writer.new
+        ≡ count_after (tells_of_writer result) (W.failed_calls writer.old) }
+{
+    let input = input_of(alloc, reader)?;
+    let text = schedule_for_input(alloc, request, &input)?;
+    write_text(&text, writer)
+}
