@@ -12,7 +12,7 @@ ghost use Rattle.input_sections.specs.declared.faults.ScheduleFault.{ScheduleFau
 ghost use Rattle.program_input.specs.Faults.{tells_of_reader, tells_of_writer};
 ghost use Rattle.sheet_changes.specs.Changes.{IsSaidOf, SaysChanges, StaysBefore, two_sheets_in};
 ghost use Rattle.sheet_changes.specs.Faults.{of_input};
-ghost use Rattle.sheet_changes.specs.Inner.Compared.{GoesOnBy, likeness_of, nothing_behind};
+ghost use Rattle.sheet_changes.specs.Inner.Compared.{GoesOnBy, StaysBy, likeness_of, nothing_behind};
 
 use crate::comparisons::{Likeness, likeness_between, put_likeness};
 use crate::faults::SheetsFault;
@@ -26,7 +26,8 @@ use utc_calendar::Day;
 
 /// Refuses what stands behind the last section.
 fn nothing_behind(unread: &Unread<'_>) -> Result<(), ScheduleFault>
-    ensures { result ≡ nothing_behind unread.now }
+    ensures taken { IfOk result (λ none. nothing_behind unread.now ≡ Ok none) }
+    ensures refused { IfErr result (λ fault. (fault ≢ ScheduleFault.OutOfMemory) × (nothing_behind unread.now ≡ Err fault)) }
 {
     if unread.left().is_empty() {
         Ok(())
@@ -48,8 +49,10 @@ fn two_sheets(alloc: Global, text: &[u8]) -> Result<(Sheet, Sheet), ScheduleFaul
     let unread = Unread::whole(text)?;
     let (old, unread) = read_sheet(alloc, &unread)?;
     let (new, unread) = read_sheet(alloc, &unread)?;
-    nothing_behind(&unread)?;
-    Ok((old, new))
+    match nothing_behind(&unread) {
+        Ok(()) => Ok((old, new)),
+        Err(fault) => Err(fault),
+    }
 }
 
 /// Whether a new sheet goes on from a day, as its likeness tells.
@@ -63,7 +66,17 @@ fn goes_on(likeness: &Likeness<'_>, day: Day) -> bool
     }
 }
 
-/// Puts what is said of two sheets into an empty text. It answers whether all stays that was asked for.
+/// Whether all stays that is asked for, by a likeness and by whether no region is listed.
+fn stays(before: Option<Day>, likeness: &Likeness<'_>, none_listed: bool) -> bool
+    ensures { IsTrue result ↔ StaysBy before (likeness_of likeness.now) none_listed }
+{
+    match before {
+        Some(day) => none_listed && goes_on(likeness, day),
+        None => true,
+    }
+}
+
+/// Puts what is said of two sheets into an empty text. It answers whether all stays that is asked for.
 fn put_changes(
     text: &mut Vec<u8>,
     before: Option<Day>,
@@ -79,10 +92,7 @@ fn put_changes(
     put_likeness(text, &likeness)?;
     let first = text.len();
     put_regions(text, old, new)?;
-    let Some(day) = before else {
-        return Ok(true);
-    };
-    Ok(text.len() == first && goes_on(&likeness, day))
+    Ok(stays(before, &likeness, text.len() == first))
 }
 
 /// Writes what is said of two sheets, all at once: at want of memory nothing.
@@ -98,7 +108,7 @@ fn write_changes<W: Sink>(
         × (text : List ℕ) × SaysChanges old.now new.now text × Appends (W.contents writer.old) (W.contents writer.new) text) }
     ensures prefix { result ≡ Err PlayFault.Write → (text : List ℕ) × SaysChanges old.now new.now text
         × AppendsPrefix (W.contents writer.old) (W.contents writer.new) text }
-    ensures memory { result ≡ Err PlayFault.OutOfMemory → writer.new ≡ writer.old }
+    ensures untouched { IfErr result (λ fault. fault ≢ PlayFault.Write → writer.new ≡ writer.old) }
     ensures others { (result ≢ Err PlayFault.Read) × ((fault : ScheduleFault) → result ≢ Err (PlayFault.Schedule fault))
         × ((refusal : Refusal) → result ≢ Err (PlayFault.Refused refusal)) }
     ensures write_fault { result ≡ Err PlayFault.Write

@@ -25,13 +25,25 @@ fn has_same(old: &Sheet, new: &Sheet, commitment: &Commitment) -> bool
 }
 
 /// The id of the first commitment of the old sheet that the new one has not so.
-pub(crate) fn first_unlike_commitment<'a>(old: &'a Sheet, new: &Sheet) -> Option<&'a str>
+fn first_unlike<'a>(
+    commitments: &'a [Commitment],
+    old: &Sheet,
+    new: &Sheet,
+) -> Option<&'a str>
+    requires { commitments.now ≡ old.now.commitments }
     ensures { MatchOption result (All (HasSame old.now new.now) old.now.commitments) (λ id. IsFirstUnlike old.now new.now id.now) }
 {
-    for commitment in old.commitments() {
+    for commitment in commitments {
         if !has_same(old, new, commitment) {
             return Some(commitment.id());
         }
     }
     None
+}
+
+/// The id of the first commitment of the old sheet that the new one has not so.
+pub(crate) fn first_unlike_commitment<'a>(old: &'a Sheet, new: &Sheet) -> Option<&'a str>
+    ensures { MatchOption result (All (HasSame old.now new.now) old.now.commitments) (λ id. IsFirstUnlike old.now new.now id.now) }
+{
+    first_unlike(old.commitments(), old, new)
 }

@@ -11,7 +11,7 @@ pub(crate) fn day_text(day: Day) -> [u8; 10]
     ensures { IsDayText result day }
 {
     let date = Date::from_unix_epoch_day(i64::from(day.number())).unwrap();
-    let year = date.year as u32;
+    let year = u32::from(date.year.unsigned_abs());
     let [thousands, hundreds] = two_digits(year / 100);
     let [tens, ones] = two_digits(year % 100);
     let [month_tens, month_ones] = two_digits(u32::from(date.month));

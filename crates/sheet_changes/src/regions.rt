@@ -35,11 +35,16 @@ fn put_region(text: &mut Vec<u8>, region: &Region) -> Result<(), AllocError>
     Ok(())
 }
 
-/// Appends the lines of the regions of the old sheet that the new one names otherwise.
-fn put_renamed(text: &mut Vec<u8>, old: &Sheet, new: &Sheet) -> Result<(), AllocError>
-    ensures { OnOk result (text.new.items ≡ text.old.items ++ region_lines (ids_of (filter (is_named_otherwise old.now new.now) old.now.regions))) }
+/// Appends the lines of those regions that the two sheets name otherwise.
+fn put_renamed(
+    text: &mut Vec<u8>,
+    regions: &[Region],
+    old: &Sheet,
+    new: &Sheet,
+) -> Result<(), AllocError>
+    ensures { OnOk result (text.new.items ≡ text.old.items ++ region_lines (ids_of (filter (is_named_otherwise old.now new.now) regions.now))) }
 {
-    for region in old.regions() {
+    for region in regions {
         if is_named_otherwise(old, new, region) {
             put_region(text, region)?;
         }
@@ -47,11 +52,11 @@ fn put_renamed(text: &mut Vec<u8>, old: &Sheet, new: &Sheet) -> Result<(), Alloc
     Ok(())
 }
 
-/// Appends the lines of the regions of the new sheet that the old one lacks.
-fn put_added(text: &mut Vec<u8>, old: &Sheet, new: &Sheet) -> Result<(), AllocError>
-    ensures { OnOk result (text.new.items ≡ text.old.items ++ region_lines (ids_of (filter (is_added old.now) new.now.regions))) }
+/// Appends the lines of those regions that the old sheet lacks.
+fn put_added(text: &mut Vec<u8>, regions: &[Region], old: &Sheet) -> Result<(), AllocError>
+    ensures { OnOk result (text.new.items ≡ text.old.items ++ region_lines (ids_of (filter (is_added old.now) regions.now))) }
 {
-    for region in new.regions() {
+    for region in regions {
         if is_added(old, region) {
             put_region(text, region)?;
         }
@@ -64,6 +69,6 @@ fn put_added(text: &mut Vec<u8>, old: &Sheet, new: &Sheet) -> Result<(), AllocEr
 pub(crate) fn put_regions(text: &mut Vec<u8>, old: &Sheet, new: &Sheet) -> Result<(), AllocError>
     ensures { OnOk result (text.new.items ≡ text.old.items ++ region_lines (unlike_regions old.now new.now)) }
 {
-    put_renamed(text, old, new)?;
-    put_added(text, old, new)
+    put_renamed(text, old.regions(), old, new)?;
+    put_added(text, new.regions(), old)
 }

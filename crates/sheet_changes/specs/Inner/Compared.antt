@@ -1,5 +1,5 @@
 -- What the comparison of two sheets finds.
-use Rattle.std.specs.Prelude.{◌≡◌, ⊤, ℕ, Bool, true, false, not, if◌then◌else◌, int_lt, List, ◌++◌, map, filter, All, Option, Some, None, Result, ℤ, ◌<ℤ◌, ◌≤ℤ◌, option_map}
+use Rattle.std.specs.Prelude.{◌≡◌, ⊤, ℕ, Bool, true, false, not, if◌then◌else◌, int_lt, List, ◌++◌, map, filter, All, IsTrue, Option, Some, None, Result, ℤ, ◌<ℤ◌, ◌≤ℤ◌, option_map}
 use Rattle.std.specs.List.{Contains}
 use Rattle.std.specs.Option.{is_some}
 use Rattle.metering_model.specs.BatchReading.{is_same}
@@ -79,6 +79,11 @@ GoesOnBy model.Alike day = ⊤
 GoesOnBy (model.AlikeBefore last) day = day ≤ℤ last
 GoesOnBy model.UnlikeBase day = ⊥
 GoesOnBy (model.UnlikeCommitment id) day = ⊥
+
+-- it says so, and no region is listed
+abbrev pub StaysBy : Option ℤ → model.Likeness → (none_listed : Bool) → Type 0
+StaysBy None l none_listed = ⊤
+StaysBy (Some day) l none_listed = IsTrue none_listed × GoesOnBy l day
 
 -- ---- the input
 
