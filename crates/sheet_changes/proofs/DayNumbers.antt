@@ -13,9 +13,9 @@ pub year_from : (y : ℤ) (m d : ℕ) → IsCivilDate y m d → IsDayNumber (day
 year_from y m d date number =
     by_lt_z y (pos 1)
     (λ before.
-      let first = day_count-early (pos 1) 10_000 1 1 refl (omega arith) (omega arith) (omega arith) in
-      let earlier = day_count-lt_year y m d (pos 1) 1 1 date (omega arith) before in
-      absurd (omega (arith, signed_arith, days_from_civil-day_count y m d, number, first, earlier)))
+    let first = day_count-early (pos 1) 10_000 1 1 refl (omega arith) (omega arith) (omega arith) in
+    let earlier = day_count-lt_year y m d (pos 1) 1 1 date (omega arith) before in
+    absurd (omega (arith, signed_arith, days_from_civil-day_count y m d, number, first, earlier)))
     (λ from. from)
 
 pub year_of : (y : ℤ) → pos 1 ≤ℤ y → pos (unsigned_abs y) ≡ y

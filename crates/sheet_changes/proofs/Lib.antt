@@ -6,3 +6,5 @@ mod CommitmentLaws
 mod RegionLaws
 mod LikenessLaws
 mod SaidLaws
+mod TwoSheets
+mod WorkedChanges

@@ -5,8 +5,8 @@ use Rattle.std.proofs.lemmas.Int.{ints, by_lt_z}
 use Rattle.std.proofs.lemmas.List.Elements.{All-weaker}
 use Rattle.metering_model.specs.Sheet.{PriceRow, Sheet}
 use Rattle.sheet_laws.specs.Longer.{GoesOnFrom}
-use Rattle.sheet_changes.specs.Changes.{Likeness, Alike, AlikeBefore, UnlikeBase, UnlikeCommitment, IsFirstUnlike, IsLikeness}
-use Rattle.sheet_changes.specs.Inner.Compared.{GoesOnBy, HasSame, IsFirstDay, StaysOn}
+use Rattle.sheet_changes.specs.Changes.{Likeness, Alike, AlikeBefore, UnlikeBase, UnlikeCommitment, GoesOnBy, IsLikeness}
+use Rattle.sheet_changes.specs.Inner.Compared.{HasSame, IsFirstDay, StaysOn}
 use Rattle.sheet_changes.proofs.CommitmentLaws.{commitments_stay, goes_on_from_none}
 use Rattle.sheet_changes.proofs.PriceDays.{stays_from, stays_of, stays_on}
 

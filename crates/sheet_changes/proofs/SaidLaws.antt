@@ -1,5 +1,5 @@
 -- What is said of two sheets, and of the input that they stand in.
-use Rattle.std.proofs.Common.{◌≡◌, ◌↔◌, ℕ, ◌+◌, ◌<◌, Bool, true, false, List, [], ◌∷◌, ◌++◌, length, Option, Some, None, Result, Ok, Err, ℤ, refl, sym, ap, subst, ◌∙◌, arith, eq-eqb, eqb-eq}
+use Rattle.std.proofs.Common.{◌≡◌, ◌↔◌, ℕ, ◌+◌, ◌<◌, Bool, true, false, List, [], ◌∷◌, ◌++◌, length, Option, Some, None, Result, Ok, Err, ℤ, refl, sym, ap, subst, ◌∙◌, arith, eq-eqb, eqb-true}
 use Rattle.std.specs.Prelude.{◌==◌, IsTrue, IfSome}
 use Rattle.std.proofs.lemmas.List.{append-nil, length-append}
 use Rattle.metering_model.specs.FirstFailure.{◌>>=◌, holds_or}
@@ -13,8 +13,8 @@ use Rattle.input_sections.specs.declared.faults.ScheduleFault.{ScheduleFault}
 use Rattle.input_sections.specs.declared.faults.ScheduleFault.TheVariants.{Refused}
 use Rattle.input_sections.specs.Sections.{Unread, sheet_section, whole_of}
 use Rattle.program_input.proofs.FaultLaws.{first_fails, is_longer}
-use Rattle.sheet_changes.specs.Changes.{Likeness, IsLikeness, IsLikenessText, AreUnlikeRegions, SaysChanges, StaysBefore, region_lines, two_sheets_in}
-use Rattle.sheet_changes.specs.Inner.Compared.{GoesOnBy, StaysBy, nothing_behind, unlike_regions}
+use Rattle.sheet_changes.specs.Changes.{Likeness, GoesOnBy, IsLikeness, IsLikenessText, AreUnlikeRegions, SaysChanges, StaysBefore, region_lines, two_sheets_in}
+use Rattle.sheet_changes.specs.Inner.Compared.{StaysBy, nothing_behind, unlike_regions}
 use Rattle.sheet_changes.proofs.LikenessLaws.{goes_on_by}
 use Rattle.sheet_changes.proofs.RegionLaws.{are_unlike, none_listed}
 
@@ -27,7 +27,7 @@ no_line (x ∷ xs) e = absurd (omega (arith, e))
 -- as long as before, exactly if no line was put behind
 as_long : (text : List ℕ) (ids : List (List ℕ)) → IsTrue (length (text ++ region_lines ids) == length text) ↔ (ids ≡ [])
 as_long text ids = (
-  λ same. no_line ids (omega (arith, eqb-eq (length (text ++ region_lines ids)) (length text) same, length-append text (region_lines ids))),
+  λ same. no_line ids (omega (arith, eqb-true (length (text ++ region_lines ids)) (length text) same, length-append text (region_lines ids))),
   λ none. eq-eqb (length (text ++ region_lines ids)) (length text) (ap (λ more. length (text ++ region_lines more)) none ∙ ap length (append-nil text)),
 )
 
@@ -49,8 +49,7 @@ module _ (old new : Sheet) (old_ok : IsSheet old) (new_ok : IsSheet new) (l : Li
       let regions = none_listed old new (unlike_regions old new) (are_unlike old new old_ok new_ok) in
       let lines = as_long first (unlike_regions old new) in
       let days = goes_on_by old new l day is_so in
-      let back = sym (ap (λ t. length t == length first) is) in
-      (
+      let back = sym (ap (λ t. length t == length first) is) in (
         λ by. (days.0 by.1, regions.0 (lines.0 (subst IsTrue (sym back) by.0))),
         λ stays. (subst IsTrue back (lines.1 (regions.1 stays.1)), days.1 stays.0),
       )

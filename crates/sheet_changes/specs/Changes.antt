@@ -1,5 +1,5 @@
 -- What is said of an old sheet and a new one: of which months the files stay, and which regions are named otherwise.
-use Rattle.std.specs.Prelude.{◌≡◌, ◌≢◌, ⊤, ℕ, ◌++◌, List, [], ◌∷◌, All, flat_map, IsTrue, Option, Some, None, IfSome, Result, Ok, ℤ, ◌<ℤ◌, codes}
+use Rattle.std.specs.Prelude.{◌≡◌, ◌≢◌, ⊤, ℕ, ◌++◌, List, [], ◌∷◌, All, flat_map, IsTrue, Option, Some, None, IfSome, Result, Ok, ℤ, ◌<ℤ◌, ◌≤ℤ◌, codes}
 use Rattle.std.specs.List.{Contains}
 use Rattle.metering_model.specs.Batch.{is_empty}
 use Rattle.metering_model.specs.BatchReading.{is_same}
@@ -38,6 +38,13 @@ IsLikeness old new Alike = (day : ℤ) → GoesOnFrom day old new
 IsLikeness old new (AlikeBefore day) = GoesOnFrom day old new × ((later : ℤ) → day <ℤ later → ¬ GoesOnFrom later old new)
 IsLikeness old new UnlikeBase = new.base ≢ old.base
 IsLikeness old new (UnlikeCommitment id) = (new.base ≡ old.base) × IsFirstUnlike old new id
+
+-- the likeness alone says that the new sheet goes on from the day
+abbrev pub GoesOnBy : Likeness → ℤ → Type 0
+GoesOnBy Alike day = ⊤
+GoesOnBy (AlikeBefore last) day = day ≤ℤ last
+GoesOnBy UnlikeBase day = ⊥
+GoesOnBy (UnlikeCommitment id) day = ⊥
 
 -- what is said of it, with the text of the day
 abbrev pub IsLikenessText : Likeness → List ℕ → Type 0

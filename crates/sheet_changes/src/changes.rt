@@ -10,9 +10,9 @@ ghost use Rattle.metering_model.specs.SheetRules.{IsSheet};
 ghost use Rattle.metering_model.specs.declared.Refusal.{Refusal};
 ghost use Rattle.input_sections.specs.declared.faults.ScheduleFault.{ScheduleFault};
 ghost use Rattle.program_input.specs.Faults.{tells_of_reader, tells_of_writer};
-ghost use Rattle.sheet_changes.specs.Changes.{IsSaidOf, SaysChanges, StaysBefore, two_sheets_in};
+ghost use Rattle.sheet_changes.specs.Changes.{GoesOnBy, IsSaidOf, SaysChanges, StaysBefore, two_sheets_in};
 ghost use Rattle.sheet_changes.specs.Faults.{of_input};
-ghost use Rattle.sheet_changes.specs.Inner.Compared.{GoesOnBy, StaysBy, likeness_of, nothing_behind};
+ghost use Rattle.sheet_changes.specs.Inner.Compared.{StaysBy, likeness_of, nothing_behind};
 
 use crate::comparisons::{Likeness, likeness_between, put_likeness};
 use crate::faults::SheetsFault;

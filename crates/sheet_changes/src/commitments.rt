@@ -25,11 +25,7 @@ fn has_same(old: &Sheet, new: &Sheet, commitment: &Commitment) -> bool
 }
 
 /// The id of the first commitment of the old sheet that the new one has not so.
-fn first_unlike<'a>(
-    commitments: &'a [Commitment],
-    old: &Sheet,
-    new: &Sheet,
-) -> Option<&'a str>
+fn first_unlike<'a>(commitments: &'a [Commitment], old: &Sheet, new: &Sheet) -> Option<&'a str>
     requires { commitments.now ≡ old.now.commitments }
     ensures { MatchOption result (All (HasSame old.now new.now) old.now.commitments) (λ id. IsFirstUnlike old.now new.now id.now) }
 {

@@ -7,6 +7,7 @@ mod commitments;
 mod comparisons;
 mod days;
 mod faults;
+pub mod laws;
 mod prices;
 mod regions;
 

@@ -51,13 +51,7 @@ fn earlier(first: Option<Day>, day: Day) -> Day
     ensures { result ≡ earlier first day }
 {
     match first {
-        Some(found) => {
-            if found < day {
-                found
-            } else {
-                day
-            }
-        }
+        Some(found) => { if found < day { found } else { day } }
         None => day,
     }
 }

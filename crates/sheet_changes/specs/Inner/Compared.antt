@@ -73,17 +73,10 @@ unlike_regions old new = ids_of (filter (is_named_otherwise old new) old.regions
 
 -- ---- what is asked for
 
--- the likeness alone says that the new sheet goes on from the day
-abbrev pub GoesOnBy : model.Likeness → ℤ → Type 0
-GoesOnBy model.Alike day = ⊤
-GoesOnBy (model.AlikeBefore last) day = day ≤ℤ last
-GoesOnBy model.UnlikeBase day = ⊥
-GoesOnBy (model.UnlikeCommitment id) day = ⊥
-
--- it says so, and no region is listed
+-- the likeness says that the new sheet goes on from the day, and no region is listed
 abbrev pub StaysBy : Option ℤ → model.Likeness → (none_listed : Bool) → Type 0
 StaysBy None l none_listed = ⊤
-StaysBy (Some day) l none_listed = IsTrue none_listed × GoesOnBy l day
+StaysBy (Some day) l none_listed = IsTrue none_listed × model.GoesOnBy l day
 
 -- ---- the input
 
