@@ -27,7 +27,8 @@ fn has_same(old: &Sheet, new: &Sheet, commitment: &Commitment) -> bool
 /// The id of the first commitment of the old sheet that the new one has not so.
 fn first_unlike<'a>(commitments: &'a [Commitment], old: &Sheet, new: &Sheet) -> Option<&'a str>
     requires { commitments.now ≡ old.now.commitments }
-    ensures { MatchOption result (All (HasSame old.now new.now) old.now.commitments) (λ id. IsFirstUnlike old.now new.now id.now) }
+    ensures { MatchOption result (All (HasSame old.now new.now) old.now.commitments)
+        (λ id. IsFirstUnlike old.now new.now id.now) }
 {
     for commitment in commitments {
         if !has_same(old, new, commitment) {
@@ -39,7 +40,8 @@ fn first_unlike<'a>(commitments: &'a [Commitment], old: &Sheet, new: &Sheet) -> 
 
 /// The id of the first commitment of the old sheet that the new one has not so.
 pub(crate) fn first_unlike_commitment<'a>(old: &'a Sheet, new: &Sheet) -> Option<&'a str>
-    ensures { MatchOption result (All (HasSame old.now new.now) old.now.commitments) (λ id. IsFirstUnlike old.now new.now id.now) }
+    ensures { MatchOption result (All (HasSame old.now new.now) old.now.commitments)
+        (λ id. IsFirstUnlike old.now new.now id.now) }
 {
     first_unlike(old.commitments(), old, new)
 }

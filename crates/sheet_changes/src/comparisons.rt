@@ -3,7 +3,7 @@
 ghost use Rattle.std.specs.Prelude.{◌≡◌, ◌++◌, ◌∷◌, List, ℕ, [], OnOk};
 ghost use Rattle.metering_model.specs.Transcript.{line};
 ghost use Rattle.sheet_changes.specs.Changes.{IsLikeness, IsLikenessText};
-ghost use Rattle.sheet_changes.specs.Inner.Compared.{likeness_of};
+ghost use Rattle.sheet_changes.specs.Likenesses.{likeness_of};
 
 use crate::commitments::first_unlike_commitment;
 use crate::days::day_text;
@@ -52,7 +52,8 @@ fn put_both(text: &mut Vec<u8>, word: &[u8], behind: &[u8]) -> Result<(), AllocE
 
 /// Appends the words of a likeness.
 fn put_words(text: &mut Vec<u8>, likeness: &Likeness<'_>) -> Result<(), AllocError>
-    ensures { OnOk result ((words : List ℕ) × IsLikenessText (likeness_of likeness.now) words × (text.new.items ≡ text.old.items ++ words)) }
+    ensures { OnOk result ((words : List ℕ) × IsLikenessText (likeness_of likeness.now) words
+        × (text.new.items ≡ text.old.items ++ words)) }
 {
     match likeness {
         Likeness::Alike => put_both(text, b"alike", b""),
@@ -64,7 +65,8 @@ fn put_words(text: &mut Vec<u8>, likeness: &Likeness<'_>) -> Result<(), AllocErr
 
 /// Appends the line of a likeness.
 pub(crate) fn put_likeness(text: &mut Vec<u8>, likeness: &Likeness<'_>) -> Result<(), AllocError>
-    ensures { OnOk result ((words : List ℕ) × IsLikenessText (likeness_of likeness.now) words × (text.new.items ≡ text.old.items ++ line words)) }
+    ensures { OnOk result ((words : List ℕ) × IsLikenessText (likeness_of likeness.now) words
+        × (text.new.items ≡ text.old.items ++ line words)) }
 {
     put_words(text, likeness)?;
     text.push(b'\n')?;
