@@ -1,5 +1,5 @@
 -- Which commitments stay.
-use Rattle.std.proofs.Common.{◌≡◌, ◌≢◌, ℕ, suc, ◌<◌, Bool, true, false, ◌&&◌, List, [], ◌∷◌, ◌++◌, take, drop, length, get_or, Option, Some, None, ℤ, refl, sym, ap, subst, ◌∙◌, inl, inr, eq-eqb, Contains}
+use Rattle.std.proofs.Common.{◌≡◌, ℕ, suc, ◌<◌, Bool, true, List, [], ◌∷◌, ◌++◌, take, drop, length, get_or, Some, ℤ, refl, sym, ap, subst, ◌∙◌, inl, inr, eq-eqb, Contains}
 use Rattle.std.specs.Prelude.{All, find, ◌==◌}
 use Rattle.std.proofs.Math.Seq.{split_at}
 use Rattle.std.proofs.lemmas.Bool.{and_from, cond-true, cond-false, cases_Bool}

@@ -1,8 +1,8 @@
 -- The year of a day of the years 0001 to 9999.
-use Rattle.std.proofs.Common.{◌≡◌, ℕ, ◌+◌, ◌/◌, ◌%◌, ◌<◌, ◌≤◌, List, [], ◌∷◌, refl, arith, ℤ, pos, negsuc, ◌≤ℤ◌, ◌<ℤ◌}
+use Rattle.std.proofs.Common.{◌≡◌, ℕ, ◌/◌, ◌%◌, ◌≤◌, List, [], ◌∷◌, refl, arith, ℤ, pos, negsuc, ◌≤ℤ◌}
 use Rattle.std.specs.Prelude.{slice_index, unsigned_abs}
 use Rattle.std.proofs.lemmas.Int.{by_lt_z}
-use Rattle.jiff_core.specs.Calendar.{IsCivilDate, IsYear, days_from_civil, day_count}
+use Rattle.jiff_core.specs.Calendar.{IsCivilDate, IsYear, days_from_civil}
 use Rattle.metering_model.specs.Dates.{day_text, two_digits}
 use Rattle.jiff_core.proofs.SignedLemmas.{signed_arith}
 use Rattle.jiff_core.proofs.MarchLemmas.{day_count-early}

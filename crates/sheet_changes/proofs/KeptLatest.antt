@@ -8,7 +8,7 @@ use Rattle.std.proofs.lemmas.List.Elements.{All-nil, All-cons, All-filter, All-w
 use Rattle.metering_model.specs.BatchReading.{is_same}
 use Rattle.metering_model.specs.Sheet.{PriceRow, Sheet}
 use Rattle.metering_model.specs.PriceInForce.{later_of, latest, price_in_force}
-use Rattle.metering_model.proofs.PriceLaws.{in_force_begun, none_in_force, not_in_force}
+use Rattle.metering_model.proofs.PriceLaws.{none_in_force, not_in_force}
 use Rattle.metering_model.proofs.SheetLaws.{latest_has}
 
 -- ---- none of a list begins after its latest

@@ -1,6 +1,6 @@
 -- From which days a sheet goes on is what its likeness says.
-use Rattle.std.proofs.Common.{◌≡◌, ◌↔◌, ℕ, List, [], ◌∷◌, ◌++◌, Option, Some, None, ℤ, ◌≤ℤ◌, ◌<ℤ◌, refl, sym, ap, subst, ◌∙◌, arith}
-use Rattle.std.specs.Prelude.{All, pos, ◌+ℤ◌}
+use Rattle.std.proofs.Common.{◌≡◌, ◌↔◌, ◌++◌, Some, None, ℤ, ◌≤ℤ◌, ◌<ℤ◌, sym, subst, arith}
+use Rattle.std.specs.Prelude.{All}
 use Rattle.std.proofs.lemmas.Int.{ints, by_lt_z}
 use Rattle.std.proofs.lemmas.List.Elements.{All-weaker}
 use Rattle.metering_model.specs.Sheet.{PriceRow, Sheet}

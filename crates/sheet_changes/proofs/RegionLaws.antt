@@ -1,11 +1,10 @@
 -- The regions that are listed are just those that the two sheets do not name alike, each once.
-use Rattle.std.proofs.Common.{◌≡◌, ◌≢◌, ◌↔◌, ℕ, zero, suc, ◌+◌, ◌<◌, Bool, true, false, not, ◌&&◌, ◌||◌, List, [], ◌∷◌, ◌++◌, map, filter, length, Option, Some, None, option_map, refl, sym, ap, subst, ◌∙◌, inl, inr, ◌⊎◌, arith, Contains}
-use Rattle.std.specs.Prelude.{All, find}
+use Rattle.std.proofs.Common.{◌≡◌, ◌↔◌, ℕ, zero, suc, Bool, true, false, not, ◌||◌, List, [], ◌∷◌, ◌++◌, filter, length, Option, Some, None, option_map, refl, sym, ap, subst, ◌∙◌, inl, inr, ◌⊎◌, arith, Contains}
+use Rattle.std.specs.Prelude.{All}
 use Rattle.std.specs.Option.{is_some}
 use Rattle.std.specs.List.{list_any}
 use Rattle.std.proofs.lemmas.Bool.{and_parts, and_from, or_parts, not-true, true≢false, false≢true, cond-true, cond-false, cases_Bool}
-use Rattle.std.proofs.lemmas.Option.{same_Some, none-some}
-use Rattle.std.proofs.lemmas.List.{map-append}
+use Rattle.std.proofs.lemmas.Option.{none-some}
 use Rattle.std.proofs.lemmas.List.Elements.{All-nil, All-cons, All-head, All-tail, All-append, All-weaker, All-contains_itself, Contains-append_left, Contains-append_right}
 use Rattle.metering_model.specs.BatchReading.{is_same}
 use Rattle.metering_model.specs.Sheet.{Region, Sheet}
@@ -13,7 +12,7 @@ use Rattle.metering_model.specs.SheetRules.{IsSheet, are_apart, has_same_region}
 use Rattle.metering_model.specs.PriceInForce.{region_named, region_with}
 use Rattle.metering_model.proofs.FieldLaws.{same_read}
 use Rattle.sheet_laws.specs.Longer.{NamesAlike}
-use Rattle.sheet_changes.specs.Changes.{AreUnlikeRegions, region_lines}
+use Rattle.sheet_changes.specs.Changes.{AreUnlikeRegions}
 use Rattle.sheet_changes.specs.Inner.Compared.{ids_of, is_added, is_named_otherwise, is_same_name, unlike_regions}
 use Rattle.sheet_changes.proofs.CommitmentLaws.{find_some, found, same_text}
 

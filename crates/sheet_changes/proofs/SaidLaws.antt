@@ -1,5 +1,5 @@
 -- What is said of two sheets, and of the input that they stand in.
-use Rattle.std.proofs.Common.{◌≡◌, ◌↔◌, ℕ, ◌+◌, ◌<◌, Bool, true, false, List, [], ◌∷◌, ◌++◌, length, Option, Some, None, Result, Ok, Err, ℤ, refl, sym, ap, subst, ◌∙◌, arith, eq-eqb, eqb-true}
+use Rattle.std.proofs.Common.{◌≡◌, ◌↔◌, ℕ, ◌<◌, List, [], ◌∷◌, ◌++◌, length, Option, Some, None, Ok, Err, ℤ, refl, sym, ap, subst, ◌∙◌, arith, eq-eqb, eqb-true}
 use Rattle.std.specs.Prelude.{◌==◌, IsTrue, IfSome}
 use Rattle.std.proofs.lemmas.List.{append-nil, length-append}
 use Rattle.metering_model.specs.FirstFailure.{◌>>=◌, holds_or}
@@ -7,13 +7,12 @@ use Rattle.metering_model.specs.Sheet.{Sheet}
 use Rattle.metering_model.specs.SheetRules.{IsSheet}
 use Rattle.metering_model.specs.Transcript.{line}
 use Rattle.metering_model.proofs.StepLaws.{ok_step_from}
-use Rattle.sheet_laws.specs.Longer.{GoesOnFrom, NamesAlike}
 use Rattle.input_sections.specs.declared.faults.ScheduleCode.TheVariants.{TooLong}
 use Rattle.input_sections.specs.declared.faults.ScheduleFault.{ScheduleFault}
 use Rattle.input_sections.specs.declared.faults.ScheduleFault.TheVariants.{Refused}
 use Rattle.input_sections.specs.Sections.{Unread, sheet_section, whole_of}
 use Rattle.program_input.proofs.FaultLaws.{first_fails, is_longer}
-use Rattle.sheet_changes.specs.Changes.{Likeness, GoesOnBy, IsLikeness, IsLikenessText, AreUnlikeRegions, SaysChanges, StaysBefore, region_lines, two_sheets_in}
+use Rattle.sheet_changes.specs.Changes.{Likeness, IsLikeness, IsLikenessText, SaysChanges, StaysBefore, region_lines, two_sheets_in}
 use Rattle.sheet_changes.specs.Inner.Compared.{StaysBy, nothing_behind, unlike_regions}
 use Rattle.sheet_changes.proofs.LikenessLaws.{goes_on_by}
 use Rattle.sheet_changes.proofs.RegionLaws.{are_unlike, none_listed}

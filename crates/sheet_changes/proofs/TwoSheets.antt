@@ -1,5 +1,5 @@
 -- An old sheet, and new ones of which each is another in one way, which the worked examples speak of.
-use Rattle.std.proofs.Common.{◌≡◌, [], ◌∷◌, ℤ, pos, codes}
+use Rattle.std.proofs.Common.{[], ◌∷◌, ℤ, pos, codes}
 use Rattle.metering_model.specs.Sheet.{PriceRow, Region, Sheet}
 use Rattle.metering_model.proofs.Samples.{cpu, ops, cpu_plan, cm_1, europe, sheet_1}
 

@@ -1,16 +1,15 @@
 -- What is said of the sheets of the examples.
-use Rattle.std.proofs.Common.{◌≡◌, ◌≢◌, ℕ, List, [], ◌∷◌, ◌++◌, length, Option, Some, None, option_map, ℤ, ◌<ℤ◌, refl, ap, arith, codes, Contains}
+use Rattle.std.proofs.Common.{◌≡◌, ℕ, [], ◌∷◌, ◌++◌, length, Option, Some, option_map, ℤ, ◌<ℤ◌, refl, ap, arith, codes, Contains}
 use Rattle.std.specs.Prelude.{All}
 use Rattle.std.proofs.lemmas.Int.{ints}
 use Rattle.std.proofs.lemmas.Option.{same_Some}
 use Rattle.std.proofs.lemmas.List.Elements.{All-nil, All-cons}
 use Rattle.jiff_core.specs.Calendar.{days_from_civil, day_count, days_of_years, days_of_months}
-use Rattle.metering_model.specs.Dates.{IsDayText}
 use Rattle.metering_model.specs.Sheet.{PriceRow, Commitment, Sheet}
 use Rattle.metering_model.specs.PriceInForce.{commitment_with}
 use Rattle.metering_model.proofs.Samples.{cpu, ops, cpu_plan, cm_1}
 use Rattle.sheet_laws.specs.Longer.{NamesAlike}
-use Rattle.sheet_changes.specs.Changes.{Alike, AlikeBefore, UnlikeBase, UnlikeCommitment, IsFirstUnlike, AreUnlikeRegions, IsLikeness, IsLikenessText}
+use Rattle.sheet_changes.specs.Changes.{Alike, AlikeBefore, UnlikeBase, UnlikeCommitment, AreUnlikeRegions, IsLikeness, IsLikenessText}
 use Rattle.sheet_changes.specs.Inner.Compared.{HasSame, StaysOn, unlike_regions}
 use Rattle.sheet_changes.proofs.LikenessLaws.{alike, alike_before}
 use Rattle.sheet_changes.proofs.TwoSheets.{february_1, january_31, february_2, old_sheet, cpu_later, with_later_price, with_split_price, with_another_contract, with_another_rate, with_another_name, with_asia_alone, of_another_base}

@@ -1,5 +1,5 @@
 -- What is said of an old sheet and a new one: of which months the files stay, and which regions are named otherwise.
-use Rattle.std.specs.Prelude.{◌≡◌, ◌≢◌, ⊤, ℕ, ◌++◌, List, [], ◌∷◌, All, flat_map, IsTrue, Option, Some, None, IfSome, Result, Ok, ℤ, ◌<ℤ◌, ◌≤ℤ◌, codes}
+use Rattle.std.specs.Prelude.{◌≡◌, ◌≢◌, ⊤, ℕ, ◌++◌, List, ◌∷◌, All, flat_map, IsTrue, Option, Some, None, IfSome, Result, Ok, ℤ, ◌<ℤ◌, ◌≤ℤ◌, codes}
 use Rattle.std.specs.List.{Contains}
 use Rattle.metering_model.specs.Batch.{is_empty}
 use Rattle.metering_model.specs.BatchReading.{is_same}
@@ -13,7 +13,7 @@ use Rattle.sheet_laws.specs.Longer.{GoesOnFrom, NamesAlike}
 use Rattle.input_sections.specs.declared.faults.ScheduleCode.TheVariants as code
 use Rattle.input_sections.specs.declared.faults.ScheduleFault.{ScheduleFault}
 use Rattle.input_sections.specs.declared.faults.ScheduleFault.TheVariants.{Refused}
-use Rattle.input_sections.specs.Sections.{Unread, left, sheet_section, whole_of}
+use Rattle.input_sections.specs.Sections.{left, sheet_section, whole_of}
 
 -- from which days the new sheet goes on: from each, from those up to one, or from none
 pub data Likeness : Type 0 where

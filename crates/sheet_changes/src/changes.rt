@@ -12,7 +12,8 @@ ghost use Rattle.input_sections.specs.declared.faults.ScheduleFault.{ScheduleFau
 ghost use Rattle.program_input.specs.Faults.{tells_of_reader, tells_of_writer};
 ghost use Rattle.sheet_changes.specs.Changes.{GoesOnBy, IsSaidOf, SaysChanges, StaysBefore, two_sheets_in};
 ghost use Rattle.sheet_changes.specs.Faults.{of_input};
-ghost use Rattle.sheet_changes.specs.Inner.Compared.{StaysBy, likeness_of, nothing_behind};
+ghost use Rattle.sheet_changes.specs.Likenesses.{likeness_of};
+ghost use Rattle.sheet_changes.specs.Inner.Compared.{StaysBy, nothing_behind};
 
 use crate::comparisons::{Likeness, likeness_between, put_likeness};
 use crate::faults::SheetsFault;
@@ -27,8 +28,8 @@ use utc_calendar::Day;
 /// Refuses what stands behind the last section.
 fn nothing_behind(unread: &Unread<'_>) -> Result<(), ScheduleFault>
     ensures taken { IfOk result (λ none. nothing_behind unread.now ≡ Ok none) }
-    ensures refused { IfErr result
-        (λ fault. (fault ≢ ScheduleFault.OutOfMemory) × (nothing_behind unread.now ≡ Err fault)) }
+    ensures refused { IfErr result (λ fault. (fault ≢ ScheduleFault.OutOfMemory)
+        × (nothing_behind unread.now ≡ Err fault)) }
 {
     if unread.left().is_empty() {
         Ok(())
@@ -135,10 +136,8 @@ fn compare_input<W: Sink>(
     input: &[u8],
     writer: &mut W,
 ) -> Result<bool, PlayFault>
-    ensures said { IfOk result
-        (λ stays. (old new : model.Sheet) × (text : List ℕ)
-        × (IsTrue stays ↔ StaysBefore before old new)
-        × (two_sheets_in input.now ≡ Ok (old, new)) × SaysChanges old new text
+    ensures said { IfOk result (λ stays. (old new : model.Sheet) × (text : List ℕ)
+        × (IsTrue stays ↔ StaysBefore before old new) × (two_sheets_in input.now ≡ Ok (old, new)) × SaysChanges old new text
         × Appends (W.contents writer.old) (W.contents writer.new) text) }
     ensures prefix { result ≡ Err PlayFault.Write → (old new : model.Sheet) × (text : List ℕ)
         × (two_sheets_in input.now ≡ Ok (old, new)) × SaysChanges old new text
@@ -158,12 +157,12 @@ fn compare_input<W: Sink>(
     }
 }
 
-/// Reads the sections of an old sheet and a new one, and writes what the new one does to closed months: a line that says from
-/// which days it goes on, and a line for each region that the two do not name alike.
+/// Reads the sections of an old sheet and a new one, and writes what the new one does to closed months: a line that
+/// says from which days it goes on, and a line for each region that the two do not name alike.
 ///
-/// Where a day is given, files of months that end before it are to stay, and where they do not, that is told once all lines
-/// were written (`Unlike`). At most 16,777,217 bytes are read. After `Write` a prefix of the lines was written, and after any
-/// fault but that and `Unlike` nothing. `Refused` is never answered.
+/// Where a day is given, the new sheet is to go on from it and to name each region alike. Where it does not, that is
+/// told once all lines were written (`Unlike`). At most 16,777,217 bytes are read. After `Write` a prefix of the lines
+/// was written, and after any fault but that and `Unlike` nothing. `Refused` is never answered.
 pub fn sheets_text<R: Source, W: Sink>(
     alloc: Global,
     before: Option<Day>,
@@ -171,9 +170,8 @@ pub fn sheets_text<R: Source, W: Sink>(
     writer: &mut W,
 ) -> Result<(), SheetsFault>
     // With Ok just what is said of the two sheets was written, and all stays that was asked for.
-    ensures said { OnOk result
-        ((old new : model.Sheet) × (text : List ℕ) × IsSaidOf (R.remaining reader.old) old new text
-        × StaysBefore before old new × Appends (W.contents writer.old) (W.contents writer.new) text) }
+    ensures said { OnOk result ((old new : model.Sheet) × (text : List ℕ)
+        × IsSaidOf (R.remaining reader.old) old new text × StaysBefore before old new × Appends (W.contents writer.old) (W.contents writer.new) text) }
 
     // With `Unlike` it was written too, and not all stays.
     ensures unlike { result ≡ Err SheetsFault.Unlike
@@ -188,8 +186,8 @@ pub fn sheets_text<R: Source, W: Sink>(
         → IfSome (R.remaining reader.old) (λ input. two_sheets_in input ≡ Err fault) }
     ensures plain_memory { result ≢ Err (SheetsFault.Input (PlayFault.Schedule ScheduleFault.OutOfMemory)) }
     ensures unrefused { (refusal : Refusal) → result ≢ Err (SheetsFault.Input (PlayFault.Refused refusal)) }
-    ensures untouched { IfErr result (λ fault. fault ≢ SheetsFault.Unlike → fault ≢ SheetsFault.Input PlayFault.Write
-        → writer.new ≡ writer.old) }
+    ensures untouched { IfErr result (λ fault. fault ≢ SheetsFault.Unlike
+        → fault ≢ SheetsFault.Input PlayFault.Write → writer.new ≡ writer.old) }
     ensures read { ConsumesAtMost 16_777_217 (R.remaining reader.old) (R.remaining reader.new) }
 
     // With Ok and with `Unlike` nothing is left to read.

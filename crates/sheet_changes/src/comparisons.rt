@@ -3,7 +3,7 @@
 ghost use Rattle.std.specs.Prelude.{◌≡◌, ◌++◌, ◌∷◌, List, ℕ, [], OnOk};
 ghost use Rattle.metering_model.specs.Transcript.{line};
 ghost use Rattle.sheet_changes.specs.Changes.{IsLikeness, IsLikenessText};
-ghost use Rattle.sheet_changes.specs.Inner.Compared.{likeness_of};
+ghost use Rattle.sheet_changes.specs.Likenesses.{likeness_of};
 
 use crate::commitments::first_unlike_commitment;
 use crate::days::day_text;

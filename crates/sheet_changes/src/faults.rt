@@ -9,7 +9,7 @@ pub enum SheetsFault {
     /// The input is refused, a read or a write failed, or a growth was refused.
     #[error("{0}")]
     Input(PlayFault),
-    /// All was written. Before the day that was asked for a price or a commitment is another, or a region is named otherwise.
+    /// All was written. From the day that was asked for the new sheet does not go on, or a region is named otherwise.
     #[error("unlike")]
     Unlike,
 }

@@ -1,15 +1,31 @@
-//! What a likeness says, both ways. The law is a function with an empty body.
+//! What a likeness says, both ways, and what it says of files. The laws are functions that do nothing.
 
-ghost use Rattle.std.specs.Prelude.{◌↔◌, List, ℕ, ℤ};
-ghost use Rattle.metering_model.specs.Sheet.{Sheet};
-ghost use Rattle.sheet_laws.specs.Longer.{GoesOnFrom};
-ghost use Rattle.sheet_changes.specs.Changes.{GoesOnBy, IsFirstUnlike, IsLikeness, Likeness};
+ghost use Rattle.std.specs.Prelude.{◌≡◌, ◌↔◌, List, ℕ, Some, ℤ, ◌≤ℤ◌};
+ghost use Rattle.std.specs.List.{Contains};
+ghost use Rattle.metering_model.specs.Dates.{period_end};
+ghost use Rattle.metering_model.specs.Sheet.{Sheet, Issuer};
+ghost use Rattle.metering_model.specs.World.{Event, Snapshot, Exported, opening};
+ghost use Rattle.metering_model.specs.Step.{play};
+ghost use Rattle.metering_model.specs.Transcript.{file_of};
+ghost use Rattle.sheet_laws.specs.Longer.{GoesOnFrom, day_start};
+ghost use Rattle.sheet_changes.specs.Changes.{GoesOnBy, IsFirstUnlike, IsLikeness, Likeness, StaysBefore};
 
-/// A likeness says from which days the new sheet goes on, and from which it does not. Where a commitment is another it goes on
-/// from none, whatever its prices.
+/// A likeness says from which days the new sheet goes on, and from which it does not. Where a commitment is another it
+/// goes on from none, whatever its prices.
 pub fn likeness()
-    ensures days { (old new : Sheet) (l : Likeness) (day : ℤ) → IsLikeness old new l
-        → GoesOnBy l day ↔ GoesOnFrom day old new }
-    ensures commitment { (old new : Sheet) (id : List ℕ) (day : ℤ) → IsFirstUnlike old new id
-        → ¬ GoesOnFrom day old new }
+    ensures days { (old new : Sheet) (l : Likeness) (day : ℤ)
+        → IsLikeness old new l → GoesOnBy l day ↔ GoesOnFrom day old new }
+    ensures commitment { (old new : Sheet) (id : List ℕ) (day : ℤ)
+        → IsFirstUnlike old new id → ¬ GoesOnFrom day old new }
 {}
+
+/// Where all stays that was asked for before a day, the file of an export, of a period that ends by then, is the same
+/// bytes under the new sheet.
+pub fn closed_months()
+    ensures files { (voters observers agents : ℕ) (old new : Sheet) (issuer : Issuer) (events : List Event) (day : ℤ)
+        → StaysBefore (Some day) old new
+        → (s : Snapshot) → Contains (play (opening voters observers agents old issuer) events).0 (Exported s)
+        → period_end old.base s.period ≤ℤ day_start day → file_of (record s { sheet = new }) ≡ file_of s }
+{
+    sheet_laws::laws::months();
+}

@@ -1,5 +1,5 @@
-//! What a new price sheet does to closed months, said line by line: up to which day prices and commitments stay, and which
-//! regions are named otherwise.
+//! What a new price sheet does to closed months, said line by line: up to which day prices and commitments stay, and
+//! which regions are named otherwise.
 #![tactic(auto)]
 
 mod changes;
@@ -14,3 +14,4 @@ mod regions;
 pub use changes::sheets_text;
 pub use comparisons::{Likeness, likeness_between};
 pub use faults::SheetsFault;
+pub use utc_calendar::Day;

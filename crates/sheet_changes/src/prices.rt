@@ -1,10 +1,9 @@
 //! The first day on which a price in force is another.
 
-ghost use Rattle.std.specs.Prelude.{◌≡◌, ◌↔◌, ◌++◌, ◌∷◌, [], List, IsTrue};
+ghost use Rattle.std.specs.Prelude.{◌≡◌, ◌↔◌, ◌++◌, ◌∷◌, [], IsTrue};
 ghost use Rattle.std.specs.Option.{option_copied};
-ghost use Rattle.metering_model.specs.Sheet as model;
 ghost use Rattle.sheet_laws.specs.Longer.{without_from};
-ghost use Rattle.sheet_changes.specs.Inner.Compared.{IsFirstDay, Stays, StaysOn, earlier};
+ghost use Rattle.sheet_changes.specs.Inner.Compared.{GoesThrough, IsFirstDay, Stays, StaysOn, earlier};
 
 use price_sheet::{PriceRow, Sheet};
 use utc_calendar::Day;
@@ -58,8 +57,7 @@ fn earlier(first: Option<Day>, day: Day) -> Day
 
 /// The first day, where one more row is looked at.
 fn with_row(old: &Sheet, new: &Sheet, first: Option<Day>, row: &PriceRow) -> Option<Day>
-    ensures { (rows : List model.PriceRow) → IsFirstDay old.now new.now rows first
-        → IsFirstDay old.now new.now (rows ++ row.now ∷ []) result }
+    ensures { GoesThrough old.now new.now first (row.now ∷ []) result }
 {
     if begins_alike(old, new, row) {
         return first;
@@ -69,8 +67,7 @@ fn with_row(old: &Sheet, new: &Sheet, first: Option<Day>, row: &PriceRow) -> Opt
 
 /// The first day, where more rows are looked at.
 fn with_rows(old: &Sheet, new: &Sheet, first: Option<Day>, rows: &[PriceRow]) -> Option<Day>
-    ensures { (before : List model.PriceRow) → IsFirstDay old.now new.now before first
-        → IsFirstDay old.now new.now (before ++ rows.now) result }
+    ensures { GoesThrough old.now new.now first rows.now result }
 {
     let mut found = first;
     for row in rows {

@@ -1,10 +1,8 @@
 //! The regions that two sheets name otherwise, and a line for each.
 
-ghost use Rattle.std.specs.Prelude.{◌≡◌, ◌++◌, ◌∷◌, [], List, ℕ, filter, OnOk};
-ghost use Rattle.std.specs.Option.{option_map};
-ghost use Rattle.metering_model.specs.Transcript.{line};
+ghost use Rattle.std.specs.Prelude.{◌≡◌, ◌++◌, ◌∷◌, [], OnOk};
 ghost use Rattle.sheet_changes.specs.Changes.{region_lines};
-ghost use Rattle.sheet_changes.specs.Inner.Compared.{ids_of, is_added, is_named_otherwise, unlike_regions};
+ghost use Rattle.sheet_changes.specs.Inner.Compared.{is_added, is_named_otherwise, lines_of, unlike_regions};
 
 use price_sheet::{Region, Sheet};
 use std::alloc::AllocError;
@@ -42,8 +40,7 @@ fn put_renamed(
     old: &Sheet,
     new: &Sheet,
 ) -> Result<(), AllocError>
-    ensures { OnOk result (text.new.items ≡ text.old.items
-        ++ region_lines (ids_of (filter (is_named_otherwise old.now new.now) regions.now))) }
+    ensures { OnOk result (text.new.items ≡ text.old.items ++ lines_of (is_named_otherwise old.now new.now) regions.now) }
 {
     for region in regions {
         if is_named_otherwise(old, new, region) {
@@ -55,8 +52,7 @@ fn put_renamed(
 
 /// Appends the lines of those regions that the old sheet lacks.
 fn put_added(text: &mut Vec<u8>, regions: &[Region], old: &Sheet) -> Result<(), AllocError>
-    ensures { OnOk result (text.new.items ≡ text.old.items
-        ++ region_lines (ids_of (filter (is_added old.now) regions.now))) }
+    ensures { OnOk result (text.new.items ≡ text.old.items ++ lines_of (is_added old.now) regions.now) }
 {
     for region in regions {
         if is_added(old, region) {
@@ -66,8 +62,8 @@ fn put_added(text: &mut Vec<u8>, regions: &[Region], old: &Sheet) -> Result<(), 
     Ok(())
 }
 
-/// Appends a line for each region that the two sheets do not name alike: those of the old sheet in its order, then those that
-/// the new one alone has.
+/// Appends a line for each region that the two sheets do not name alike: those of the old sheet in its order, then
+/// those that the new one alone has.
 pub(crate) fn put_regions(text: &mut Vec<u8>, old: &Sheet, new: &Sheet) -> Result<(), AllocError>
     ensures { OnOk result (text.new.items ≡ text.old.items ++ region_lines (unlike_regions old.now new.now)) }
 {

@@ -1,5 +1,5 @@
 -- What the comparison of two sheets finds.
-use Rattle.std.specs.Prelude.{◌≡◌, ⊤, ℕ, Bool, true, false, not, if◌then◌else◌, int_lt, List, ◌++◌, map, filter, All, IsTrue, Option, Some, None, Result, ℤ, ◌<ℤ◌, ◌≤ℤ◌, option_map}
+use Rattle.std.specs.Prelude.{◌≡◌, ⊤, ℕ, Bool, true, false, not, if◌then◌else◌, int_lt, List, ◌++◌, map, filter, All, IsTrue, Option, Some, None, Result, ℤ, ◌<ℤ◌, option_map}
 use Rattle.std.specs.List.{Contains}
 use Rattle.std.specs.Option.{is_some}
 use Rattle.metering_model.specs.BatchReading.{is_same}
@@ -13,15 +13,6 @@ use Rattle.input_sections.specs.declared.faults.ScheduleFault.{ScheduleFault}
 use Rattle.input_sections.specs.declared.faults.ScheduleFault.TheVariants.{Refused}
 use Rattle.input_sections.specs.Sections.{Unread, left}
 use Rattle.sheet_changes.specs.Changes as model
-use Rattle.sheet_changes.specs.declared.comparisons.Likeness.{Likeness}
-use Rattle.sheet_changes.specs.declared.comparisons.Likeness.TheVariants.{Alike, AlikeBefore, UnlikeBase, UnlikeCommitment}
-
--- an id by its bytes
-abbrev pub likeness_of : Likeness → model.Likeness
-likeness_of Alike = model.Alike
-likeness_of (AlikeBefore day) = model.AlikeBefore day
-likeness_of UnlikeBase = model.UnlikeBase
-likeness_of (UnlikeCommitment id) = model.UnlikeCommitment id.now
 
 -- ---- prices
 
@@ -45,6 +36,10 @@ IsFirstDay old new rows None = All (λ r. StaysOn old new r.sku r.from) rows
 IsFirstDay old new rows (Some day) =
     ((r : PriceRow) × Contains rows r × (r.from ≡ day) × ¬ StaysOn old new r.sku r.from) × All (λ r. r.from <ℤ day → StaysOn old new r.sku r.from) rows
 
+-- The day is found among these rows and among those that were looked at before.
+abbrev pub GoesThrough : Sheet → Sheet → Option ℤ → List PriceRow → Option ℤ → Type 0
+GoesThrough old new first rows found = (before : List PriceRow) → IsFirstDay old new before first → IsFirstDay old new (before ++ rows) found
+
 -- ---- commitments
 
 abbrev pub HasSame : Sheet → Sheet → Commitment → Type 0
@@ -66,6 +61,10 @@ is_added old x = not (is_some (region_named old x.id))
 
 abbrev pub ids_of : List Region → List (List ℕ)
 ids_of rows = map (λ x. x.id) rows
+
+-- the lines of those that pass a test
+abbrev pub lines_of : (Region → Bool) → List Region → List ℕ
+lines_of test rows = model.region_lines (ids_of (filter test rows))
 
 -- those of the old sheet that the new one names otherwise, then those that the new one alone has
 abbrev pub unlike_regions : Sheet → Sheet → List (List ℕ)

@@ -1,6 +1,7 @@
-use Rattle.std.proofs.Common.{◌≡◌, ◌++◌, ap₂, length, rules, sym, subst}
+use Rattle.std.proofs.Common.{◌≡◌, ap₂, length, rules, sym, subst}
 use Rattle.std.specs.Prelude.{◌==◌}
-use Rattle.sheet_changes.specs.Inner.Compared.{StaysBy, likeness_of}
+use Rattle.sheet_changes.specs.Inner.Compared.{StaysBy}
+use Rattle.sheet_changes.specs.Likenesses.{likeness_of}
 use Rattle.sheet_changes.proofs.SaidLaws.{says, stays}
 use Rattle.sheet_changes.proofs.changes.put_changes.Goals as goal
 

@@ -1,4 +1,4 @@
-use Rattle.std.proofs.Common.{sym, ap, Err, rules}
+use Rattle.std.proofs.Common.{rules}
 use Rattle.sheet_changes.proofs.SaidLaws.{longer_input}
 use Rattle.sheet_changes.proofs.changes.sheets_text.Goals as goal
 

@@ -1,4 +1,3 @@
-use Rattle.std.proofs.Common.{rules}
 use Rattle.sheet_changes.proofs.SaidLaws.{left_behind}
 use Rattle.sheet_changes.proofs.changes.two_sheets.Goals as goal
 

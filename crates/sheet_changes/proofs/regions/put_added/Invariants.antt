@@ -1,7 +1,6 @@
-use Rattle.std.proofs.Common.{◌≡◌, ◌++◌, filter, take}
-use Rattle.sheet_changes.specs.Changes.{region_lines}
-use Rattle.sheet_changes.specs.Inner.Compared.{ids_of, is_added}
+use Rattle.std.proofs.Common.{◌≡◌, ◌++◌, take}
+use Rattle.sheet_changes.specs.Inner.Compared.{is_added, lines_of}
 use Rattle.sheet_changes.proofs.regions.put_added.Given as goal
 
 abbrev pub invariant-loop-region : goal.invariant-loop-region
-invariant-loop-region l = l.text.items ≡ l.fn.text.items ++ region_lines (ids_of (filter (is_added l.old) (take l.region-index l.regions)))
+invariant-loop-region l = l.text.items ≡ l.fn.text.items ++ lines_of (is_added l.old) (take l.region-index l.regions)
