@@ -37,7 +37,7 @@ pub fn kept_code_word(code: KeptCode) -> &'static [u8]
     }
 }
 
-/// Appends a word of at most 12 bytes, and a number behind it.
+/// Appends a word of at most 12 bytes, and a number after it.
 fn put_numbered(line: &mut Line, word: &[u8], number: u32)
     requires short { length word.now ≤ 12 }
     requires room { length line.old + 22 ≤ 64 }
@@ -106,7 +106,7 @@ fn put_refusal(line: &mut Line, refusal: Refusal)
     }
 }
 
-/// The code of the refusal and what it tells, as `G1 V2 line 4`. No memory is taken.
+/// The code of the refusal and its numbers, as `G1 V2 line 4`; at most 44 bytes.
 pub fn refusal_line(refusal: Refusal) -> Line
     ensures text { result ≡ refusal_text refusal }
     ensures short { length result ≤ 44 }

@@ -1,6 +1,6 @@
-//! The words of a reply's line. A file or a kept text that stands behind it is put by the caller.
+//! The words of a reply's line. A file or a kept text that follows is appended by the caller.
 //!
-//! Where memory is refused, a part of the words may stand behind what was there.
+//! An error is an allocation failure: then some of the words may be appended.
 
 ghost use Rattle.std.specs.Prelude.{◌≡◌, ◌++◌, codes, OnOk};
 ghost use Rattle.metering_model.specs.Transcript.{if_any, refusal_text, with_number};
@@ -12,7 +12,8 @@ use paxos_ballot::Ballot;
 use period_cut::Period;
 use std::alloc::AllocError;
 
-/// Appends the packet that a batch went out in.
+/// Appends the packet that carries a journaled batch. An error is an allocation failure, and may leave some of the
+/// words.
 pub fn put_journaled(line: &mut Vec<u8>, packet: u32) -> Result<(), AllocError>
     ensures { OnOk result (line.new.items ≡ line.old.items ++ with_number (codes "journaled packet ") packet) }
 {
@@ -29,7 +30,7 @@ fn put_learned(line: &mut Vec<u8>, learned: Option<Period>) -> Result<(), AllocE
     }
 }
 
-/// Appends what a node did with a packet.
+/// Appends what a node did with a packet. An error is an allocation failure, and may leave some of the words.
 pub fn put_delivered(
     line: &mut Vec<u8>,
     sent: Option<u32>,
@@ -43,7 +44,8 @@ pub fn put_delivered(
     put_learned(line, learned)
 }
 
-/// Appends which ballot a node began, and the packet that it sent.
+/// Appends which ballot a node began, and the packet that it sent. An error is an allocation failure, and may leave
+/// some of the words.
 pub fn put_started(line: &mut Vec<u8>, ballot: Ballot, packet: u32) -> Result<(), AllocError>
     ensures { OnOk result (line.new.items
         ≡ line.old.items ++ (with_number (codes "started ballot ") ballot ++ with_number (codes " packet ") packet)) }
@@ -52,14 +54,15 @@ pub fn put_started(line: &mut Vec<u8>, ballot: Ballot, packet: u32) -> Result<()
     put_numbered(line, b" packet ", u128::from(packet))
 }
 
-/// Appends that a node began again.
+/// Appends that a node restarted. An error is an allocation failure.
 pub fn put_restarted(line: &mut Vec<u8>) -> Result<(), AllocError>
     ensures { OnOk result (line.new.items ≡ line.old.items ++ codes "restarted") }
 {
     line.extend_from_slice(b"restarted")
 }
 
-/// Appends of which period an export is, and how many lines its file has.
+/// Appends the period of an export, and how many lines its file has. An error is an allocation failure, and may leave
+/// some of the words.
 pub fn put_exported(line: &mut Vec<u8>, period: Period, lines: usize) -> Result<(), AllocError>
     ensures { OnOk result (line.new.items
         ≡ line.old.items ++ (with_number (codes "exported period ") period ++ with_number (codes " lines ") lines)) }
@@ -68,14 +71,14 @@ pub fn put_exported(line: &mut Vec<u8>, period: Period, lines: usize) -> Result<
     put_numbered(line, b" lines ", lines as u128)
 }
 
-/// Appends how many lines a kept text has.
+/// Appends how many lines a kept text has. An error is an allocation failure, and may leave some of the words.
 pub fn put_kept(line: &mut Vec<u8>, lines: usize) -> Result<(), AllocError>
     ensures { OnOk result (line.new.items ≡ line.old.items ++ with_number (codes "kept lines ") lines) }
 {
     put_numbered(line, b"kept lines ", lines as u128)
 }
 
-/// Appends why nothing was done.
+/// Appends why an event was refused. An error is an allocation failure, and may leave some of the words.
 pub fn put_refused(line: &mut Vec<u8>, refusal: Refusal) -> Result<(), AllocError>
     ensures { OnOk result (line.new.items ≡ line.old.items ++ (codes "refused " ++ refusal_text refusal)) }
 {

@@ -7,7 +7,7 @@ use byte_text::Line;
 use input_sections::ScheduleCode;
 
 /// The text of a section's code, as `L4`.
-fn section_code_word(code: ScheduleCode) -> &'static [u8]
+pub fn section_code_word(code: ScheduleCode) -> &'static [u8]
     ensures word { result.now ≡ section_code_text code }
     ensures length { length result.now ≡ 2 }
 {
@@ -23,7 +23,7 @@ fn section_code_word(code: ScheduleCode) -> &'static [u8]
     }
 }
 
-/// Appends the code and the line of a text's first fault, as `L4 line 1`.
+/// Appends the code and the line of a text's first fault, as `L4 line 1`: at most 18 bytes, which have to be free.
 pub fn put_section(line: &mut Line, code: ScheduleCode, at: u32)
     requires room { length line.old + 18 ≤ 64 }
     ensures put { line.new ≡ line.old ++ section_text code at }

@@ -38,7 +38,8 @@ fn put_row(text: &mut Vec<u8>, code: &[u8], place: Place) -> Result<(), AllocErr
     put_place(text, place)
 }
 
-/// Appends why a text is no sheet, as `S3 price 2 per`. Where memory is refused a part of it may stand there.
+/// Appends why a text is no sheet, as `S3 price 2 per`. An error is an allocation failure, and may leave a part of it
+/// appended.
 pub fn put_sheet_fault(text: &mut Vec<u8>, fault: SheetFault) -> Result<(), AllocError>
     ensures { OnOk result (text.new.items ≡ text.old.items ++ sheet_fault_text fault) }
 {
@@ -60,7 +61,8 @@ fn put_issuer_key(text: &mut Vec<u8>, code: &[u8], key: Key) -> Result<(), Alloc
     text.extend_from_slice(key.name().as_bytes())
 }
 
-/// Appends why a text is no issuer, as `I3 currency`. Where memory is refused a part of it may stand there.
+/// Appends why a text is no issuer, as `I3 currency`. An error is an allocation failure, and may leave a part of it
+/// appended.
 pub fn put_issuer_fault(text: &mut Vec<u8>, fault: IssuerFault) -> Result<(), AllocError>
     ensures { OnOk result (text.new.items ≡ text.old.items ++ issuer_fault_text fault) }
 {

@@ -17,7 +17,10 @@ use period_cut::{Cut, Period};
 use price_sheet::{Issuer, Sheet};
 use std::alloc::{AllocError, Global};
 
-/// The file of a billing period between two cuts of what a store has: from the bytes of its batches to those of the file.
+/// The bytes of a billing period's file, between two cuts of what a store has.
+///
+/// The store has to have each batch up to `to`, and these to meet the rules of the journals. An error is an allocation
+/// failure.
 pub fn file_between(
     alloc: Global,
     store: &Store,
@@ -31,7 +34,9 @@ pub fn file_between(
     requires grows { IsAtLeast to.now from.now }
     requires whole { first_missing store.now.batches to.now ≡ None }
     requires met { MeetsJournalRules sheet.now (up_to to.now store.now.batches) }
-    ensures file { IfOk result (λ text. text.items ≡ file (rows sheet.now issuer.now store.now.batches period from.now to.now)) }
+    ensures file { IfOk result
+        (λ text. text.items ≡ file
+        (rows sheet.now issuer.now store.now.batches period from.now to.now)) }
 
     // It is the file of the journals, of which the store has all up to the later cut.
     ensures journals { (journals : Holding) → IsHolding journals → IsPartOf store.now.batches journals

@@ -37,10 +37,9 @@ use std::sync::Arc;
 const AGENTS: u8 = 64;
 
 /// Reads a text that may begin with the sections of a sheet and of an issuer and ends with a batch, and writes the
-/// batch's file in a billing period, from the zero cut to its front.
-///
-/// Without their sections the base month is 2025-01, there is no price, and the issuer is the sample. At most 16,777,217
-/// bytes are read. After any fault but `Write` nothing was written, and after that a prefix of the file.
+/// batch's file in a billing period, from the zero cut to its front. Without their sections the base month is 2025-01,
+/// there is no price, and the issuer is the sample. At most 16,777,217 bytes are read. After `Write`, one failed call,
+/// a proper prefix of the file was written, and after any other fault nothing.
 pub fn rate_text<R: Source, W: Sink>(
     alloc: Global,
     period: Period,
@@ -101,7 +100,8 @@ fn rate_input_text<W: Sink>(
 ) -> Result<(), PlayFault>
     ensures file { OnOk result ((text : List ℕ) × IsFileOf (Some input.items) period input.items text
         × Appends (W.contents writer.old) (W.contents writer.new) text) }
-    ensures prefix { result ≡ Err PlayFault.Write → (text : List ℕ) × IsFileOf (Some input.items) period input.items text
+    ensures prefix { result ≡ Err PlayFault.Write
+        → (text : List ℕ) × IsFileOf (Some input.items) period input.items text
         × AppendsPrefix (W.contents writer.old) (W.contents writer.new) text }
     ensures refused { (refusal : Refusal) → result ≡ Err (PlayFault.Refused refusal)
         → rated_file period input.items ≡ Err (PlayFault.Refused refusal) }
@@ -123,12 +123,10 @@ fn rate_input_text<W: Sink>(
     rate_batch(alloc, period, &given.sheet, &given.issuer, batch, writer)
 }
 
-/// Writes the file of one batch in a billing period, from the zero cut to its front, by a sheet and an issuer. The text of
-/// the batch is the whole input.
-///
-/// It is refused as by a group of 64 agents in which nothing has happened. Want of memory hides no refusal: it is told of a
-/// batch alone that such a group journals. After any fault but `Write` nothing was written, and after that a prefix of the
-/// file. Neither `Read` nor `Schedule` is ever answered.
+/// Writes the file of one batch in a billing period, from the zero cut to its front, by a sheet and an issuer.
+/// `Refused` is why a group of 64 agents in which nothing has happened refuses the batch; `OutOfMemory` comes only of a
+/// batch that such a group journals. No other fault is returned but `Write`, one failed call, after which a proper
+/// prefix of the file was written; after the others nothing was.
 pub fn rate_batch<W: Sink>(
     alloc: Global,
     period: Period,
@@ -139,7 +137,8 @@ pub fn rate_batch<W: Sink>(
 ) -> Result<(), PlayFault>
     ensures file { OnOk result ((text : List ℕ) × (file_by sheet.now issuer.now period input.items ≡ Ok text)
         × Appends (W.contents writer.old) (W.contents writer.new) text) }
-    ensures prefix { result ≡ Err PlayFault.Write → (text : List ℕ) × (file_by sheet.now issuer.now period input.items ≡ Ok text)
+    ensures prefix { result ≡ Err PlayFault.Write
+        → (text : List ℕ) × (file_by sheet.now issuer.now period input.items ≡ Ok text)
         × AppendsPrefix (W.contents writer.old) (W.contents writer.new) text }
     ensures refused { (refusal : Refusal) → result ≡ Err (PlayFault.Refused refusal)
         → file_by sheet.now issuer.now period input.items ≡ Err refusal }
@@ -211,7 +210,7 @@ fn file_of_batch(
     }
 }
 
-/// Why a group of 64 agents in which nothing has happened does not journal the batch. No memory is taken.
+/// Why a group of 64 agents in which nothing has happened does not journal the batch; None where it does.
 pub fn first_refusal(sheet: &Sheet, view: &BatchView<'_>) -> Option<Refusal>
     ensures taken { result ≡ None → ((batch_of view.now).seq ≡ 1)
         × (first_broken sheet.now (put [] (batch_of view.now)) (placed (batch_of view.now)) ≡ None) }
@@ -241,7 +240,8 @@ fn file_of_journaled(
     batch: Arc<OwnedBatch>,
 ) -> Result<Vec<u8>, AllocError>
     requires first { (batch_of (arc_value batch)).seq ≡ 1 }
-    requires fit { first_broken sheet.now (put [] (batch_of (arc_value batch))) (placed (batch_of (arc_value batch))) ≡ None }
+    requires fit { first_broken sheet.now (put [] (batch_of (arc_value batch)))
+        (placed (batch_of (arc_value batch))) ≡ None }
     ensures { IfOk result (λ text. file_by sheet.now issuer.now period (arc_value batch) ≡ Ok text.items) }
 {
     // For the proof alone: its clause says that the bytes are a batch.

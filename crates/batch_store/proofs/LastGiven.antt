@@ -120,7 +120,9 @@ module _ (p : Position) where
       elim (cases_Bool (is_batch_at p.agent (s + 1) b)) [
         | inl at ↦
             let held_here = cond-true (is_batch_at p.agent (s + 1) b) (Some b) (held h p.agent (s + 1)) at in
-            let above = ap (λ q. pick q h (s + 1)) (cond-true (is_batch_until (s + 1) b) (option_or (given_by b) o) o (at_is_until b (s + 1) at)) ∙ pick-none (option_or (given_by b) o) h (s + 1) (list_all-weaker (comes_before b) (λ c. not (is_batch_until (s + 1) c)) (λ c. later_not_until b c (s + 1) at) h parts.0) in
+            let above = ap (λ q. pick q h (s + 1)) (cond-true (is_batch_until (s + 1) b) (option_or (given_by b) o) o (at_is_until b (s + 1) at)) ∙ pick-none
+            (option_or (given_by b) o) h (s + 1)
+            (list_all-weaker (comes_before b) (λ c. not (is_batch_until (s + 1) c)) (λ c. later_not_until b c (s + 1) at) h parts.0) in
             let below = ap (λ q. pick q h s) (cond-false (is_batch_until s b) (option_or (given_by b) o) o (at_not_below b s at)) ∙ pick-none o h s (list_all-weaker (comes_before b) (λ c. not (is_batch_until s c)) (λ c. later_not_below b c s at) h parts.0) in
             above ∙ sym (ap (λ f. option_or (option_and_then given_by f) (pick o (b ∷ h) s)) held_here ∙ ap (λ q. option_or (given_by b) q) below)
         | inr past ↦

@@ -87,7 +87,9 @@ amendment_names from to b n (Reads r) a p above until gives within agent seq ind
 amendment_names from to b n (Amends s i v) a p above until gives within agent seq index =
     let is : ◌≡◌ {A = Amendment} (record { seq = s; index = i; value = v; own = n }) a = same_Some (record { seq = s; index = i; value = v; own = n }) a gives in
     let low : s ≤ last_of from b.agent = subst (λ x. x ≤ last_of from b.agent) (sym (ap (λ x. x.seq) is)) within in
-    let test = and_from (nat_lt (last_of from b.agent) b.seq && nat_le b.seq (last_of to b.agent)) (nat_le s (last_of from b.agent)) (and_from (nat_lt (last_of from b.agent) b.seq) (nat_le b.seq (last_of to b.agent)) (lt-ltb (last_of from b.agent) b.seq above) (le-leb b.seq (last_of to b.agent) until)) (le-leb s (last_of from b.agent) low) in
+    let test = and_from (nat_lt (last_of from b.agent) b.seq && nat_le b.seq (last_of to b.agent)) (nat_le s (last_of from b.agent))
+    (and_from (nat_lt (last_of from b.agent) b.seq) (nat_le b.seq (last_of to b.agent)) (lt-ltb (last_of from b.agent) b.seq above)
+    (le-leb b.seq (last_of to b.agent) until)) (le-leb s (last_of from b.agent) low) in
     let place : ◌≡◌ {A = Position} (record { agent = b.agent; seq = s; index = i }) p = same_position p b.agent s i (sym agent) (ap (λ x. x.seq) is ∙ sym seq) (ap (λ x. x.index) is ∙ sym index) in
     cond-true (nat_lt (last_of from b.agent) b.seq && nat_le b.seq (last_of to b.agent) && nat_le s (last_of from b.agent)) (Some (record { agent = b.agent; seq = s; index = i })) None test ∙ ap Some place
 
@@ -150,7 +152,8 @@ Adds-before_first h from to xs none = subst (λ (ys : List RecordPlace). Adds (I
 
 pub Adds-agent : (h : Holding) (from to : Cut) (agent low high : ℕ) (mid new : List RecordPlace) → 1 ≤ agent → low ≡ last_of from agent → high ≡ last_of to agent → Adds (IsNamedBefore h from to agent) [] mid → Adds (IsNamedOf h agent low high) mid new
     → Adds (IsNamedBefore h from to (agent + 1)) [] new
-Adds-agent h from to agent low high mid new some is_low is_high before adds = Adds-same (λ p. IsNamedBefore h from to agent p ⊎ IsNamedOf h agent low high p) (IsNamedBefore h from to (agent + 1)) [] new (Adds-onward (IsNamedBefore h from to agent) (IsNamedOf h agent low high) [] mid new before adds) later earlier
+Adds-agent h from to agent low high mid new some is_low is_high before adds = Adds-same (λ p. IsNamedBefore h from to agent p ⊎ IsNamedOf h agent low high p)
+    (IsNamedBefore h from to (agent + 1)) [] new (Adds-onward (IsNamedBefore h from to agent) (IsNamedOf h agent low high) [] mid new before adds) later earlier
   where
     later : (p : Position) → IsNamedBefore h from to agent p ⊎ IsNamedOf h agent low high p → IsNamedBefore h from to (agent + 1) p
     later p (inl n) = record { agent = n.agent; some = n.some; less = let less = n.less in omega arith; named = n.named }
@@ -167,7 +170,9 @@ Adds-agent h from to agent low high mid new some is_low is_high before adds = Ad
     ]
 
 -- The places of all agents, sorted and each once, are the ones that are amended.
-pub are_amended : (h : Holding) (from to : Cut) (before : ℕ) (old : List RecordPlace) (ps : List Position) → IsHolding h → length to < before → Adds (IsNamedBefore h from to before) [] old → ((p : Position) → Contains ps p ↔ Contains (map position_of old) p) → rise ps ≡ true → AreAmended h from to ps
+pub are_amended : (h : Holding) (from to : Cut) (before : ℕ) (old : List RecordPlace) (ps : List Position) → IsHolding h → length to < before
+    → Adds (IsNamedBefore h from to before) [] old → ((p : Position) → Contains ps p ↔ Contains (map position_of old) p) → rise ps ≡ true
+    → AreAmended h from to ps
 are_amended h from to before old ps is size adds same rises = record {
   each = λ p. (
     (λ has. elim ((adds p).0 ((same p).0 has)) [

@@ -124,7 +124,9 @@ module _ (h : Holding) (agent from : ℕ) where
   -- one that is held names what its amendments name
   pub Adds-held : (seq : ℕ) (b : Batch) (all : List Amendment) (old mid new : List RecordPlace) → from ≤ seq → Some b ≡ held h agent (seq + 1) → AreAmendmentsOf b all → Adds (IsNamedOf h agent from seq) old mid → new ≡ mid ++ filter_map (named_place agent from) all
       → Adds (IsNamedOf h agent from (seq + 1)) old new
-  Adds-held seq b all old mid new some at sorted adds is = Adds-same (λ p. IsNamedOf h agent from seq p ⊎ IsNamedIn agent from all p) (IsNamedOf h agent from (seq + 1)) old new (Adds-onward (IsNamedOf h agent from seq) (IsNamedIn agent from all) old mid new adds (Adds-append agent from all mid new is)) later earlier
+  Adds-held seq b all old mid new some at sorted adds is = Adds-same (λ p. IsNamedOf h agent from seq p ⊎ IsNamedIn agent from all p)
+      (IsNamedOf h agent from (seq + 1)) old new
+      (Adds-onward (IsNamedOf h agent from seq) (IsNamedIn agent from all) old mid new adds (Adds-append agent from all mid new is)) later earlier
     where
       later : (p : Position) → IsNamedOf h agent from seq p ⊎ IsNamedIn agent from all p → IsNamedOf h agent from (seq + 1) p
       later p (inl n) = record { seq = n.seq; batch = n.batch; above = n.above; until = let until = n.until in omega arith; is_held = n.is_held; named = n.named }

@@ -27,8 +27,8 @@ fn list_one(pairs: &mut BTreeSet<u64>, by: u32, seq: u32) -> Result<(), AllocErr
     Ok(())
 }
 
-/// Lists the batch `by` at each earlier sequence that these amendments name. Neighbours that name one sequence are listed
-/// once.
+/// Lists the batch `by` at each earlier sequence that these amendments name. Neighbours that name one sequence are
+/// listed once.
 fn list_each(pairs: &mut BTreeSet<u64>, by: u32, amendments: &[Amendment]) -> Result<(), AllocError>
     ensures kept { KeepsListed pairs.old.keys pairs.new.keys }
     ensures listed { OnOk result (AreListed by amendments.now pairs.new.keys) }
@@ -43,7 +43,7 @@ fn list_each(pairs: &mut BTreeSet<u64>, by: u32, amendments: &[Amendment]) -> Re
     Ok(())
 }
 
-/// Of the batches behind a sequence and up to another that are listed as amending the first, the last.
+/// Of the batches after a sequence and up to another that are listed as amending the first, the last.
 fn last_listed(pairs: &BTreeSet<u64>, seq: u32, upto: u32) -> Option<u32>
     ensures { MatchOption result (NoneListed seq seq upto pairs.now.keys) (IsLastListed seq upto pairs.now.keys) }
 {
@@ -57,9 +57,9 @@ fn last_listed(pairs: &BTreeSet<u64>, seq: u32, upto: u32) -> Option<u32>
     }
 }
 
-/// For the batches of an agent, by sequence, the later batches that amend them; nothing for a batch that none amends. An
-/// amended batch need not be there, and one that is listed need not either. So an index of more batches serves for fewer,
-/// and is shared whole: whoever lists more while it is shared does so on a copy.
+/// For the batches of an agent, by sequence, the later batches that amend them; nothing for a batch that none amends.
+/// An amended batch need not be there, and one that is listed need not either. So an index of more batches serves for
+/// fewer, and is shared whole: whoever lists more while it is shared does so on a copy.
 #[derive(Drop)]
 pub(crate) struct Amenders {
     pairs: Option<Arc<BTreeSet<u64>>>,
@@ -76,7 +76,7 @@ impl Model for Amenders {
 }
 
 impl Amenders {
-    /// Nothing is listed, and no memory is taken.
+    /// Nothing is listed, and nothing is allocated.
     pub(crate) fn new(alloc: Global) -> Amenders
         ensures { result ≡ [] }
     {
@@ -102,8 +102,8 @@ impl Amenders {
         }
     }
 
-    /// Of the batches behind a sequence and up to another that are listed as amending the first, the last. No memory is
-    /// taken.
+    /// Of the batches after a sequence and up to another that are listed as amending the first, the last. Nothing is
+    /// allocated.
     pub(crate) fn last(&self, seq: u32, upto: u32) -> Option<u32>
         ensures { MatchOption result (NoneListed seq seq upto self.now) (IsLastListed seq upto self.now) }
     {

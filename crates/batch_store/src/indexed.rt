@@ -34,7 +34,7 @@ impl Model for IndexedShelf {
 }
 
 impl IndexedShelf {
-    /// No batches, which take no memory.
+    /// No batches; nothing is allocated.
     pub(crate) fn new(alloc: Global) -> IndexedShelf
         ensures { result ≡ [] }
     {
@@ -68,19 +68,21 @@ impl IndexedShelf {
         self.shelf.first_absent()
     }
 
-    /// Of the batches behind a sequence and up to another, one such that none behind it amends the batch at the first;
-    /// None where none does. No memory is taken.
+    /// Of the batches after a sequence and up to another, one such that none after it amends the batch at the first;
+    /// None where none does. Nothing is allocated.
     pub(crate) fn last_amender(&self, seq: u32, upto: u32) -> Option<u32>
-        ensures { MatchOption result (NoneAmends (at_seq self.now) seq seq upto) (IsLastAmender (at_seq self.now) seq upto) }
+        ensures { MatchOption result (NoneAmends (at_seq self.now) seq seq upto)
+            (IsLastAmender (at_seq self.now) seq upto) }
     {
         self.amenders.last(seq, upto)
     }
 
-    /// Adds a batch and answers true; a batch of its sequence stays, and the answer is false. After an error all is as it
+    /// Adds a batch and returns true; a batch of its sequence stays, and false is returned. After an error all is as it
     /// was: what was listed for a batch that found no room is passed over, and no answer shows it.
     pub(crate) fn put(&mut self, batch: Arc<OwnedBatch>) -> Result<bool, AllocError>
         requires { AreOf (batch_of (arc_value batch)).agent self.old }
-        ensures added { IfOk result (λ added. IsTrue added ↔ (at_seq self.old (batch_of (arc_value batch)).seq ≡ None)) }
+        ensures added { IfOk result
+            (λ added. IsTrue added ↔ (at_seq self.old (batch_of (arc_value batch)).seq ≡ None)) }
         ensures batches { IfOk result (λ _. self.new ≡ put self.old (batch_of (arc_value batch))) }
         ensures kept { IfErr result (λ _. self.new ≡ self.old) }
     {

@@ -9,5 +9,6 @@ use crate::RecordPlace;
 pub fn places_are_compared_by_where_they_stand(a: RecordPlace, b: RecordPlace)
     ensures equality { IsTrue (⟦<RecordPlace as PartialEq>⟧.eq a b) ↔ (a ≡ b) }
     ensures order { ⟦<RecordPlace as PartialOrd>⟧.partial_cmp a b
-        ≡ Some (ordering_then (nat_cmp a.agent b.agent) (ordering_then (nat_cmp a.seq b.seq) (nat_cmp a.index b.index))) }
+        ≡ Some (ordering_then (nat_cmp a.agent b.agent)
+        (ordering_then (nat_cmp a.seq b.seq) (nat_cmp a.index b.index))) }
 {}

@@ -7,8 +7,8 @@ use crate::Store;
 use period_cut::Cut;
 
 impl Store {
-    /// The least agent and sequence up to a cut that is absent; None where the store has every batch up to it. No memory
-    /// is taken.
+    /// The absent batch up to a cut that is the least, by agent and then by sequence; None where the store has each
+    /// batch up to it.
     pub fn first_missing(&self, cut: &Cut) -> Option<(u8, u32)>
         requires { length cut.now ≡ self.now.agents }
         ensures { result ≡ first_missing self.now.batches cut.now }

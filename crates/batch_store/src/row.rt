@@ -1,6 +1,7 @@
 //! A row of batches, most of which others may share.
 
 ghost use Rattle.std.specs.Prelude.{◌≡◌, ◌<◌, ◌≤◌, ◌∷◌, ◌++◌, [], length, take, slice_index_or, IfOk, OnOk, OnErr};
+ghost use Rattle.metering_model.specs.Limits.{last_sequence};
 ghost use Rattle.batch_store.specs.Inner.Rows.{AreClones, part_at};
 
 use batch_view::OwnedBatch;
@@ -11,12 +12,13 @@ use std::sync::Arc;
 /// So many batches are shared as one part.
 const MANY: usize = 64;
 
-/// Batches in order. Each part of 64 of them is a list that others may share and that stays as it is. So to share many takes a
-/// sixty-fourth of the steps, what is shared is just what was asked for, and of 64 batches 63 are added in place.
+/// Batches in order. Each part of 64 of them is a list that others may share and that stays as it is. So to share many
+/// takes a sixty-fourth of the steps, what is shared is just what was asked for, and of 64 batches 63 are added in
+/// place.
 #[derive(Drop)]
 pub(crate) struct Row {
     parts: Vec<Arc<Vec<Arc<OwnedBatch>>>>,
-    /// Those behind the parts, fewer than 64.
+    /// Those after the parts, fewer than 64.
     last: Vec<Arc<OwnedBatch>>,
     /// How many there are in all.
     count: usize,
@@ -35,7 +37,7 @@ impl Model for Row {
     ghost invariant = { λ r. IsRow r.parts.items r.last.items r.count };
 }
 
-/// The batches of a part, or those behind the parts.
+/// The batches of a part, or those after the parts.
 fn part_at<'a>(
     parts: &'a [Arc<Vec<Arc<OwnedBatch>>>],
     last: &'a [Arc<OwnedBatch>],
@@ -51,7 +53,7 @@ fn part_at<'a>(
     }
 }
 
-/// A part of batches and one behind them.
+/// A part of batches and one after them.
 fn part_of(
     alloc: Global,
     batches: &[Arc<OwnedBatch>],
@@ -66,7 +68,7 @@ fn part_of(
 }
 
 impl Row {
-    /// No batch, which takes no memory.
+    /// No batch; nothing is allocated.
     pub(crate) fn new(alloc: Global) -> Row
         ensures { result ≡ [] }
     {
@@ -93,9 +95,9 @@ impl Row {
         &part_at(&self.parts, &self.last, place / MANY)[place % MANY]
     }
 
-    /// Adds a batch behind the others. At an error all is as it was.
+    /// Adds a batch after the others. At an error all is as it was.
     pub(crate) fn push(&mut self, batch: Arc<OwnedBatch>) -> Result<(), AllocError>
-        requires { length self.old < 1_000_000 }
+        requires { length self.old < last_sequence }
         ensures added { OnOk result (AreClones (self.old ++ batch ∷ []) self.new) }
         ensures kept { OnErr result (self.new ≡ self.old) }
     {

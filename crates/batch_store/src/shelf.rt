@@ -4,6 +4,7 @@ ghost use Rattle.std.specs.Prelude.{◌+◌, ◌∷◌, MatchOption, ◌≡◌, 
 ghost use Rattle.std.specs.Option.{option_copied, option_map, is_some};
 ghost use Rattle.std.specs.Arc.{arc_value};
 ghost use Rattle.metering_model.specs.Holding.{put};
+ghost use Rattle.metering_model.specs.Limits.{last_sequence};
 ghost use Rattle.batch_view.specs.Batches.{batch_of};
 ghost use Rattle.batch_store.specs.Inner.Shelves.{AreFiled, AreOf, Rises, at_seq, from_seq, up_to_seq, contents, filed_up_to};
 
@@ -15,7 +16,7 @@ use std::marker::Model;
 use std::sync::Arc;
 
 /// An agent has no sequence above this.
-const MOST_BATCHES: u32 = 1_000_000;
+const LAST_SEQUENCE: u32 = 1_000_000;
 
 /// The batches of one agent, at most one for each sequence. Those from sequence 1 on without a gap are found by their
 /// number, and those ahead of a gap in a map.
@@ -53,7 +54,7 @@ fn share_filed(
 }
 
 impl Shelf {
-    /// A shelf without batches, which takes no memory.
+    /// A shelf without batches; nothing is allocated.
     pub(crate) fn new(alloc: Global) -> Shelf
         ensures { result ≡ [] }
     {
@@ -103,15 +104,15 @@ impl Shelf {
         ensures range { (1 ≤ result) × (result ≤ 1_000_001) }
     {
         let next = self.whole.len() as u32 + 1;
-        for seq in next..MOST_BATCHES + 1 {
+        for seq in next..LAST_SEQUENCE + 1 {
             if !self.ahead.contains_key(&seq) {
                 return seq;
             }
         }
-        MOST_BATCHES + 1
+        LAST_SEQUENCE + 1
     }
 
-    /// Moves the first batch of the map behind those without a gap, if it comes next and there is room for it.
+    /// Moves the first batch of the map after those without a gap, if it comes next and there is room for it.
     fn move_first(&mut self) -> bool
         ensures { self.new ≡ self.old }
     {
@@ -142,10 +143,10 @@ impl Shelf {
         }
     }
 
-    /// Adds a batch whose sequence has none, behind those without a gap where it comes next, and else in the map.
+    /// Adds a batch whose sequence has none, after those without a gap where it comes next, and else in the map.
     fn add(&mut self, seq: u32, batch: Arc<OwnedBatch>) -> Result<(), AllocError>
         requires seq { seq ≡ (batch_of (arc_value batch)).seq }
-        requires range { (1 ≤ seq) × (seq ≤ 1_000_000) }
+        requires range { (1 ≤ seq) × (seq ≤ last_sequence) }
         requires of_agent { AreOf (batch_of (arc_value batch)).agent self.old }
         requires absent { at_seq self.old seq ≡ None }
         ensures ok { OnOk result (self.new ≡ put self.old (batch_of (arc_value batch))) }
@@ -159,11 +160,12 @@ impl Shelf {
         Ok(())
     }
 
-    /// Adds a batch and answers true; a batch of its sequence stays, and the answer is false. After an error all is as
-    /// it was.
+    /// Adds a batch and returns true; a batch of its sequence stays, and false is returned. After an error all is as it
+    /// was.
     pub(crate) fn put(&mut self, batch: Arc<OwnedBatch>) -> Result<bool, AllocError>
         requires { AreOf (batch_of (arc_value batch)).agent self.old }
-        ensures added { IfOk result (λ added. IsTrue added ↔ (at_seq self.old (batch_of (arc_value batch)).seq ≡ None)) }
+        ensures added { IfOk result
+            (λ added. IsTrue added ↔ (at_seq self.old (batch_of (arc_value batch)).seq ≡ None)) }
         ensures batches { IfOk result (λ _. self.new ≡ put self.old (batch_of (arc_value batch))) }
         ensures kept { IfErr result (λ _. self.new ≡ self.old) }
     {

@@ -4,6 +4,7 @@ ghost use Rattle.std.specs.Prelude.{◌≡◌, ℕ, true, ◌≤◌, ◌<◌, �
 ghost use Rattle.std.specs.Option.{option_copied, option_map, is_some};
 ghost use Rattle.std.specs.Arc.{arc_value};
 ghost use Rattle.metering_model.specs.Holding.{held, put, up_to};
+ghost use Rattle.metering_model.specs.Limits.{most_agents};
 ghost use Rattle.batch_view.specs.Batches.{batch_of};
 ghost use Rattle.batch_store.specs.Stores.{IsStored};
 ghost use Rattle.batch_store.specs.Inner.Amenders.{IsLastAmender, NoneAmends};
@@ -16,7 +17,7 @@ use std::alloc::{AllocError, Global};
 use std::marker::Model;
 use std::sync::Arc;
 
-/// The batches of 1 to 64 agents, at most one for each agent and sequence. Batches are shared, and never copied.
+/// The batches of 1 to 64 agents, at most one for each agent and sequence.
 #[derive(Drop)]
 pub struct Store {
     shelves: Vec<IndexedShelf>,
@@ -34,10 +35,10 @@ impl Model for Store {
 }
 
 impl Store {
-    /// A store of so many agents, from 1 to 64, without batches.
+    /// A store of so many agents, from 1 to 64, without batches. An error is an allocation failure.
     pub fn new(alloc: Global, agents: u8) -> Result<Store, AllocError>
         requires from { 1 ≤ agents }
-        requires to { agents ≤ 64 }
+        requires to { agents ≤ most_agents }
         ensures { IfOk result (λ store. store ≡ record { agents = agents; batches = [] }) }
     {
         let mut shelves = Vec::with_capacity(alloc, usize::from(agents))?;
@@ -55,8 +56,8 @@ impl Store {
         self.shelves.len() as u8
     }
 
-    /// Adds a batch and answers true; where its agent has one of its sequence, that one stays, and the answer is false.
-    /// After an error all is as it was.
+    /// Adds a batch and returns true; where its agent has one of its sequence, that one stays, and false is returned.
+    /// An error is an allocation failure, and leaves the store as it was. The batch has to be of an agent of the store.
     pub fn put(&mut self, batch: Arc<OwnedBatch>) -> Result<bool, AllocError>
         requires { (batch_of (arc_value batch)).agent ≤ self.old.agents }
         ensures added { IfOk result (λ added. IsTrue added
@@ -69,7 +70,7 @@ impl Store {
         self.shelves[usize::from(agent) - 1].put(batch)
     }
 
-    /// The batch of an agent at a sequence. No memory is taken.
+    /// The batch of an agent at a sequence; None where it is absent. The agent has to be one of the store.
     pub fn get(&self, agent: u8, seq: u32) -> Option<&OwnedBatch>
         requires from { 1 ≤ agent }
         requires to { agent ≤ self.now.agents }
@@ -78,7 +79,7 @@ impl Store {
         self.shelves[usize::from(agent) - 1].get(seq)
     }
 
-    /// The batch of an agent at a sequence that is there. No memory is taken.
+    /// The batch of an agent at a sequence, which has to be there.
     pub fn batch_at(&self, agent: u8, seq: u32) -> BatchView<'_>
         requires from { 1 ≤ agent }
         requires to { agent ≤ self.now.agents }
@@ -90,21 +91,21 @@ impl Store {
         self.get(agent, seq).unwrap().view()
     }
 
-    /// The batches, by agent and then by sequence. No memory is taken.
+    /// The batches, by agent and then by sequence.
     pub fn batches(&self) -> Batches<'_>
         ensures { result ≡ self.now.batches }
     {
         Batches::of(self.shelves.as_slice())
     }
 
-    /// Whether both have as many agents and the same batches. No memory is taken.
+    /// Whether both have as many agents and the same batches.
     pub fn same(&self, other: &Store) -> bool
         ensures { IsTrue result ↔ (self.now ≡ other.now) }
     {
         self.agents() == other.agents() && are_same(self.batches(), other.batches())
     }
 
-    /// The least sequence that an agent has no batch of, from 1 to 1,000,001. No memory is taken.
+    /// The least sequence, from 1 to 1,000,001, at which an agent has no batch.
     pub fn first_absent(&self, agent: u8) -> u32
         requires from { 1 ≤ agent }
         requires to { agent ≤ self.now.agents }
@@ -115,8 +116,8 @@ impl Store {
         self.shelves[usize::from(agent) - 1].first_absent()
     }
 
-    /// Of the batches of an agent behind a sequence and up to another, one such that none behind it amends the batch at the
-    /// first; None where none does.
+    /// Of the batches of an agent after a sequence and up to another, one such that none after it amends the batch at
+    /// the first; None where none does.
     pub(crate) fn last_amender(&self, agent: u8, seq: u32, upto: u32) -> Option<u32>
         requires from { 1 ≤ agent }
         requires to { agent ≤ self.now.agents }
@@ -126,10 +127,11 @@ impl Store {
         self.shelves[usize::from(agent) - 1].last_amender(seq, upto)
     }
 
-    /// The batches up to a cut, shared.
+    /// A store of the batches up to a cut, which stay in this one too. An error is an allocation failure.
     pub fn share(&self, alloc: Global, upto: &Cut) -> Result<Store, AllocError>
         requires { length upto.now ≡ self.now.agents }
-        ensures { IfOk result (λ part. part ≡ record { agents = self.now.agents; batches = up_to upto.now self.now.batches }) }
+        ensures { IfOk result (λ part. part
+            ≡ record { agents = self.now.agents; batches = up_to upto.now self.now.batches }) }
     {
         let mut shelves = Vec::with_capacity(alloc, self.shelves.len())?;
         for (index, shelf) in self.shelves.iter().enumerate() {

@@ -21,8 +21,8 @@ fn is_reading(batch: &OwnedBatch, index: u16) -> bool
 }
 
 impl Store {
-    /// The value of the reading at a place as of a sequence of its agent, 0 before its own; None where the store has no
-    /// reading there. No memory is taken.
+    /// The value of the reading at a place as of a sequence of its agent, in millionths, and 0 before the reading's own
+    /// sequence; None where the store has no reading there.
     pub fn value_at(&self, place: RecordPlace, upto: u32) -> Option<Value>
         requires from { 1 ≤ place.agent }
         requires to { place.agent ≤ self.now.agents }
@@ -45,8 +45,8 @@ impl Store {
         own.value_given(place.seq, place.index)
     }
 
-    /// The value that the last batch behind the reading's own and up to a sequence gives it. Only batches that are listed as
-    /// amending its own are looked at.
+    /// The value that the last batch after the reading's own and up to a sequence gives it. Only batches that are
+    /// listed as amending its own are looked at.
     fn last_amended(&self, place: RecordPlace, upto: u32) -> Option<Value>
         requires from { 1 ≤ place.agent }
         requires to { place.agent ≤ self.now.agents }

@@ -58,7 +58,10 @@ records_fault bytes h fault short begins bad =
     by_records bytes h short begins
     ∙ ap (λ x. x >>= (λ rs. at_line (h.count + 2) (holds_or (all_read (drop 1 (lines_in bytes).lines) (lines_in bytes).rest h.count) Count) >>= (λ _. Ok (whole h rs)))) bad
 
-by_end : (bytes : List ℕ) (h : Head) (rs : List Record) → length bytes ≤ 65_536 → BeginsWithHead bytes h → records_in h.version 2 h.count (drop 1 (lines_in bytes).lines) ≡ Ok rs → batch_in bytes ≡ (at_line (h.count + 2) (holds_or (all_read (drop 1 (lines_in bytes).lines) (lines_in bytes).rest h.count) Count) >>= (λ _. Ok (whole h rs)))
+by_end : (bytes : List ℕ) (h : Head) (rs : List Record) → length bytes ≤ 65_536 → BeginsWithHead bytes h
+    → records_in h.version 2 h.count (drop 1 (lines_in bytes).lines) ≡ Ok rs
+    → batch_in bytes ≡ (at_line (h.count + 2) (holds_or (all_read (drop 1 (lines_in bytes).lines) (lines_in bytes).rest h.count) Count) >>=
+    (λ _. Ok (whole h rs)))
 by_end bytes h rs short begins good =
     by_records bytes h short begins
     ∙ ap (λ x. x >>= (λ rs. at_line (h.count + 2) (holds_or (all_read (drop 1 (lines_in bytes).lines) (lines_in bytes).rest h.count) Count) >>= (λ _. Ok (whole h rs)))) good
@@ -73,7 +76,9 @@ empty_text text no_line no_rest = by_place (position (λ (c : ℕ). c == 10) tex
     by_place None e = sym (ap (λ ls. ls.rest) (lines_without_feed text e)) ∙ no_rest
 
 -- bytes behind the last record
-pub end_fault : (bytes : List ℕ) (h : Head) (rs : List Record) (end : ℕ) → length bytes ≤ 65_536 → BeginsWithHead bytes h → records_in h.version 2 h.count (drop 1 (lines_in bytes).lines) ≡ Ok rs → IsBehindLines bytes (h.count + 1) end → end < length bytes → batch_in bytes ≡ Err (record { code = Count; line = h.count + 2 })
+pub end_fault : (bytes : List ℕ) (h : Head) (rs : List Record) (end : ℕ) → length bytes ≤ 65_536 → BeginsWithHead bytes h
+    → records_in h.version 2 h.count (drop 1 (lines_in bytes).lines) ≡ Ok rs → IsBehindLines bytes (h.count + 1) end → end < length bytes
+    → batch_in bytes ≡ Err (record { code = Count; line = h.count + 2 })
 end_fault bytes h rs end short begins good behind more =
     by_end bytes h rs short begins good
     ∙ ap (λ b. at_line (h.count + 2) (holds_or b Count) >>= (λ _. Ok (whole h rs))) (not_all (cases_Bool (length (drop 1 (lines_in bytes).lines) == h.count)) (cases_Bool (is_empty (lines_in bytes).rest)))
@@ -88,7 +93,9 @@ end_fault bytes h rs end short begins good behind more =
         let empty = empty_text (drop end bytes) (behind.lines ∙ nil_from_length (drop (h.count + 1) (lines_in bytes).lines) left) (behind.rest ∙ none) in
         omega (arith, length-drop end bytes, ap length empty)
 
-    not_all : ((length (drop 1 (lines_in bytes).lines) == h.count) ≡ true) ⊎ ((length (drop 1 (lines_in bytes).lines) == h.count) ≡ false) → (is_empty (lines_in bytes).rest ≡ true) ⊎ (is_empty (lines_in bytes).rest ≡ false) → all_read (drop 1 (lines_in bytes).lines) (lines_in bytes).rest h.count ≡ false
+    not_all : ((length (drop 1 (lines_in bytes).lines) == h.count) ≡ true) ⊎ ((length (drop 1 (lines_in bytes).lines) == h.count) ≡ false)
+        → (is_empty (lines_in bytes).rest ≡ true) ⊎ (is_empty (lines_in bytes).rest ≡ false)
+        → all_read (drop 1 (lines_in bytes).lines) (lines_in bytes).rest h.count ≡ false
     not_all (inr few) e = and_left _ _ few
     not_all (inl enough) (inr some) = and_right _ _ some
     not_all (inl enough) (inl none) = absurd (impossible (eqb-true _ _ enough) (no_rest (lines_in bytes).rest none))
@@ -152,7 +159,9 @@ there bytes index short batch within =
     }
 
 -- what stands at a record's line can be read
-pub never_fails : (version : Version) (bytes : List ℕ) (index at : ℕ) (code : BatchCode) → version ≡ (batch_of bytes).version → length bytes ≤ 65_536 → batch_in bytes ≡ Ok (batch_of bytes) → index < length (batch_of bytes).records → IsBehindLines bytes (index + 1) at → first_record version (lines_from bytes at).lines ≡ Err code → ⊥
+pub never_fails : (version : Version) (bytes : List ℕ) (index at : ℕ) (code : BatchCode) → version ≡ (batch_of bytes).version → length bytes ≤ 65_536
+    → batch_in bytes ≡ Ok (batch_of bytes) → index < length (batch_of bytes).records → IsBehindLines bytes (index + 1) at
+    → first_record version (lines_from bytes at).lines ≡ Err code → ⊥
 never_fails version bytes index at code format short batch within behind fault =
     let good = (there bytes index short batch within).read in
     let bad : first_record (batch_of bytes).version (drop (index + 1) (lines_in bytes).lines) ≡ Err code =
@@ -170,7 +179,9 @@ pub record IsRecordOf (bytes : List ℕ) (index : ℕ) (r : LentRecord) (next : 
   pub lent : IsLentAt bytes index r
   pub behind : IsBehindLines bytes (index + 2) next
 
-pub record_read : (version : Version) (bytes : List ℕ) (index at : ℕ) (r : LentRecord) (next : ℕ) → version ≡ (batch_of bytes).version → length bytes ≤ 65_536 → batch_in bytes ≡ Ok (batch_of bytes) → index < length (batch_of bytes).records → IsBehindLines bytes (index + 1) at → LendsRecord version bytes at r next → IsRecordOf bytes index r next
+pub record_read : (version : Version) (bytes : List ℕ) (index at : ℕ) (r : LentRecord) (next : ℕ) → version ≡ (batch_of bytes).version → length bytes ≤ 65_536
+    → batch_in bytes ≡ Ok (batch_of bytes) → index < length (batch_of bytes).records → IsBehindLines bytes (index + 1) at → LendsRecord version bytes at r next
+    → IsRecordOf bytes index r next
 record_read version bytes index at r next format short batch within behind lends =
     let stands = there bytes index short batch within in
     let line = one_more_line bytes (index + 1) at lends.span behind lends.is_line in

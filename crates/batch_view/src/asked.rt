@@ -16,7 +16,7 @@ use metering_model::Kind;
 use record_view::{Record, Stamp, Value};
 use std::marker::Model;
 
-/// What the rules ask of a reading.
+/// What the rules of the journals look at in a reading.
 #[derive(Clone, Copy)]
 pub struct AskedReading<'a> {
     pub kind: Kind,
@@ -25,7 +25,7 @@ pub struct AskedReading<'a> {
     pub commitment: &'a [u8],
 }
 
-/// What the rules ask of a record.
+/// What the rules of the journals look at in a record.
 #[derive(Clone, Copy)]
 pub enum Asked<'a> {
     Reading(AskedReading<'a>),
@@ -65,8 +65,7 @@ fn kept_asked<'a>(bytes: &'a [u8], head: Head, entries: &[Entry], index: u16) ->
 }
 
 impl<'a> BatchView<'a> {
-    /// What the rules of the journals ask of each record, in order. Over what an `OwnedBatch` keeps it is looked up; over
-    /// bytes alone the walk goes once over them.
+    /// What the rules of the journals look at in each record, in order.
     pub fn asked(&self) -> AskedRecords<'a>
         ensures { result ≡ record { bytes = self.now; index = 0 } }
     {
@@ -80,7 +79,7 @@ impl<'a> BatchView<'a> {
     }
 }
 
-/// What is asked of the records of a batch that are still to come.
+/// What the rules look at in the records of a batch that are still to come.
 #[derive(Drop)]
 pub struct AskedRecords<'a> {
     bytes: &'a [u8],

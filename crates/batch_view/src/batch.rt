@@ -3,6 +3,7 @@
 ghost use Rattle.std.specs.Prelude.{◌≡◌, ◌≤◌, ◌<◌, ◌+◌, length, Some, None, Ok, Err, IfOk, IfErr, IfSome, IsSome, ◌↔◌};
 ghost use Rattle.std.specs.List.{slice_get};
 ghost use Rattle.metering_model.specs.BatchReading.{batch_in};
+ghost use Rattle.metering_model.specs.Limits.{last_sequence, most_agents, most_records};
 ghost use Rattle.record_view.specs.Lent.{record_of};
 ghost use Rattle.batch_view.specs.Batches.{batch_of, IsLentAt, RecordsLeft};
 ghost use Rattle.batch_view.specs.Kept.{kind_in};
@@ -46,7 +47,8 @@ fn kind_found(found: Found) -> Option<Kind>
     }
 }
 
-/// The kind of the reading at that index of bytes with this head, from its entry. (Bytes and head are for the proof alone.)
+/// The kind of the reading at that index of bytes with this head, from its entry. (Bytes and head are for the proof
+/// alone.)
 fn kept_kind(_bytes: &[u8], _head: Head, entries: &[Entry], index: u16) -> Option<Kind>
     requires { KeepsBatch _bytes.now _head entries.now }
     ensures { result ≡ kind_in (batch_of _bytes.now) index }
@@ -77,7 +79,7 @@ impl<'a> Model for BatchView<'a> {
 }
 
 impl<'a> BatchView<'a> {
-    /// The batch that these bytes are, or their first fault: from the top, and in a line from the left.
+    /// The batch that these bytes are. An error is their first fault: from the top, and in a line from the left.
     pub fn parse(bytes: &'a [u8]) -> Result<BatchView<'a>, BatchFault>
         ensures ok { IfOk result (λ view. (view ≡ bytes.now) × (batch_in bytes.now ≡ Ok (batch_of bytes.now))) }
         ensures err { IfErr result (λ fault. batch_in bytes.now ≡ Err fault) }
@@ -113,15 +115,15 @@ impl<'a> BatchView<'a> {
     /// The agent that sent the batch, from 1 to 64.
     pub fn agent(&self) -> u8
         ensures value { result ≡ (batch_of self.now).agent }
-        ensures range { (1 ≤ result) × (result ≤ 64) }
+        ensures range { (1 ≤ result) × (result ≤ most_agents) }
     {
         self.head.agent
     }
 
-    /// The place of the batch among those of its agent, from 1 to 1,000,000.
+    /// The sequence of the batch among those of its agent, from 1 to 1,000,000.
     pub fn seq(&self) -> u32
         ensures value { result ≡ (batch_of self.now).seq }
-        ensures range { (1 ≤ result) × (result ≤ 1_000_000) }
+        ensures range { (1 ≤ result) × (result ≤ last_sequence) }
     {
         self.head.seq
     }
@@ -129,13 +131,12 @@ impl<'a> BatchView<'a> {
     /// The number of records, from 0 to 1,000.
     pub fn count(&self) -> u16
         ensures value { result ≡ length (batch_of self.now).records }
-        ensures range { result ≤ 1_000 }
+        ensures range { result ≤ most_records }
     {
         self.head.count
     }
 
-    /// The records, in order. Over what an `OwnedBatch` keeps each is looked up; over bytes alone the walk goes once over
-    /// them.
+    /// The records, in order.
     pub fn records(&self) -> Records<'a>
         ensures { result ≡ record { bytes = self.now; index = 0 } }
     {
@@ -148,8 +149,7 @@ impl<'a> BatchView<'a> {
         }
     }
 
-    /// The record at that index, counted from 0. Over what an `OwnedBatch` keeps it is looked up; over bytes alone it
-    /// is looked for from the front.
+    /// The record at that index, counted from 0; None from the count on.
     pub fn record_at(&self, index: u16) -> Option<Record<'a>>
         ensures there { IsSome result ↔ (index < length (batch_of self.now).records) }
         ensures record { IfSome result (λ r. slice_get (batch_of self.now).records index ≡ Some (record_of r)) }
@@ -161,8 +161,7 @@ impl<'a> BatchView<'a> {
         }
     }
 
-    /// The kind of the reading at that index; None where an amendment stands there, and from the count on. Over what an
-    /// `OwnedBatch` keeps no text is looked up; over bytes alone the record is looked for from the front.
+    /// The kind of the reading at that index; None where an amendment stands there, and from the count on.
     pub fn kind_at(&self, index: u16) -> Option<Kind>
         ensures { result ≡ kind_in (batch_of self.now) index }
     {
@@ -172,7 +171,7 @@ impl<'a> BatchView<'a> {
         }
     }
 
-    /// The kind of the reading at that index, looked for from the front.
+    /// The kind of the reading at that index, looked for from the beginning.
     fn kind_looked_for(&self, index: u16) -> Option<Kind>
         ensures { result ≡ kind_in (batch_of self.now) index }
     {
@@ -183,7 +182,7 @@ impl<'a> BatchView<'a> {
         }
     }
 
-    /// The record at that index, looked for from the front.
+    /// The record at that index, looked for from the beginning.
     fn look_for(&self, index: u16) -> Option<Record<'a>>
         ensures there { IsSome result ↔ (index < length (batch_of self.now).records) }
         ensures record { IfSome result (λ r. slice_get (batch_of self.now).records index ≡ Some (record_of r)) }

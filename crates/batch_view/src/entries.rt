@@ -3,6 +3,7 @@
 ghost use Rattle.std.specs.Prelude.{◌≡◌, ◌≤◌, ◌+◌, length, take, drop, slice_range, Ok, Err, IsOk, IfOk, IfErr, MatchResult, MatchOption, IfSome};
 ghost use Rattle.std.specs.List.{slice_get};
 ghost use Rattle.metering_model.specs.BatchReading.{batch_in, lines_in, records_in, record_in, fields_in};
+ghost use Rattle.metering_model.specs.Limits.{most_batch_bytes};
 ghost use Rattle.record_view.specs.Lent.{record_of, IsLentRecord};
 ghost use Rattle.record_view.specs.Spans.{spans_at, IsRecordAt};
 ghost use Rattle.batch_view.specs.Inner.Lines.{lines_from, first_record, IsBehindLines, IsHeadOf};
@@ -30,7 +31,8 @@ pub(crate) enum Found {
     },
 }
 
-/// What is kept of a record: the spans of its nine fields, of ten with a region, or of an amendment's four, and its numbers.
+/// What is kept of a record: the spans of its nine fields, of ten with a region, or of an amendment's four, and its
+/// numbers.
 #[derive(Clone, Copy)]
 pub(crate) struct Entry {
     pub(crate) spans: [Span; 10],
@@ -71,7 +73,7 @@ pub(crate) fn entry_at(entries: &[Entry], index: u16) -> Option<&Entry>
 fn entry_of(version: Version, source: &[u8], line: Span, what: &Record<'_>) -> Entry
     requires ordered { line.from ≤ line.to }
     requires within { line.to ≤ length source.now }
-    requires short { length source.now ≤ 65536 }
+    requires short { length source.now ≤ most_batch_bytes }
     requires read { record_in version (fields_in (slice_range source.now line.from line.to)) ≡ Ok (record_of what.now) }
     requires lent { IsLentRecord source.now line what.now }
     ensures fits { FitsRecord result.found result.value (record_of what.now) }
@@ -109,7 +111,7 @@ fn plain_entry<'a>(
 ) -> Option<Entry>
     requires ordered { line.from ≤ line.to }
     requires within { line.to ≤ length source.now }
-    requires short { length source.now ≤ 65536 }
+    requires short { length source.now ≤ most_batch_bytes }
     ensures { IfSome result (IsEntryAt version source.now line) }
 {
     match read_plain(version, source, line, stamps) {
@@ -118,13 +120,13 @@ fn plain_entry<'a>(
     }
 }
 
-/// What is kept of the record that a line is, or the rule that its first bad field breaks. Apart, so that the path of a plain
-/// reading stays short.
+/// What is kept of the record that a line is, or the rule that its first bad field breaks. Apart, so that the path of a
+/// plain reading stays short.
 #[inline(never)]
 fn exact_entry(version: Version, source: &[u8], line: Span) -> Result<Entry, BatchCode>
     requires ordered { line.from ≤ line.to }
     requires within { line.to ≤ length source.now }
-    requires short { length source.now ≤ 65536 }
+    requires short { length source.now ≤ most_batch_bytes }
     ensures { MatchResult result
         (IsEntryAt version source.now line)
         (λ code. record_in version (fields_in (slice_range source.now line.from line.to)) ≡ Err code) }
@@ -144,7 +146,7 @@ pub(crate) fn entry_from<'a>(
     stamps: &mut StampReader<'a>,
 ) -> Result<(Entry, u32), BatchCode>
     requires within { from ≤ length text.now }
-    requires short { length text.now ≤ 65536 }
+    requires short { length text.now ≤ most_batch_bytes }
     ensures { MatchResult result
         (λ kept. KeepsRecord version text.now from kept.0 kept.1)
         (λ code. first_record version (lines_from text.now from).lines ≡ Err code) }

@@ -2,13 +2,14 @@
 
 ghost use Rattle.std.specs.Prelude.{◌≡◌, ◌≤◌, ◌+◌, ◌∷◌, [], length, Ok, Err, MatchOption, MatchResult, slice_range};
 ghost use Rattle.metering_model.specs.BatchReading.{fields_in, version_in, head_in, batch_in};
+ghost use Rattle.metering_model.specs.Limits.{most_batch_bytes};
 ghost use Rattle.batch_view.specs.Inner.Lines.{head_line, BeginsWithHead};
 
 use crate::lines::next_line;
 use metering_model::{BatchCode, BatchFault, Version};
 use record_view::{Span, read_whole, split_at_bar};
 
-/// The format and the numbers of a head line, and where the records begin behind it.
+/// The format and the numbers of a head line, and where the records begin after it.
 #[derive(Clone, Copy)]
 pub(crate) struct Head {
     pub(crate) version: Version,
@@ -62,10 +63,11 @@ fn read_version(text: &[u8]) -> Option<Version>
 pub(crate) fn head_of_line(text: &[u8], span: Span) -> Option<Head>
     requires ordered { span.from ≤ span.to }
     requires within { span.to ≤ length text.now }
-    requires short { length text.now ≤ 65536 }
+    requires short { length text.now ≤ most_batch_bytes }
     ensures { MatchOption result
         (head_in (fields_in (slice_range text.now span.from span.to)) ≡ Err BatchCode.Head)
-        (λ h. (head_in (fields_in (slice_range text.now span.from span.to)) ≡ Ok (head_line h)) × (h.records_from ≡ span.to + 1)) }
+        (λ h. (head_in (fields_in (slice_range text.now span.from span.to)) ≡ Ok (head_line h))
+        × (h.records_from ≡ span.to + 1)) }
 {
     let fields = head_fields(&text[span.from as usize..span.to as usize])?;
     Some(Head {
@@ -79,7 +81,7 @@ pub(crate) fn head_of_line(text: &[u8], span: Span) -> Option<Head>
 
 /// The head of a text that is not too long, or its first fault.
 pub(crate) fn read_head(text: &[u8]) -> Result<Head, BatchFault>
-    requires { length text.now ≤ 65536 }
+    requires { length text.now ≤ most_batch_bytes }
     ensures { MatchResult result (BeginsWithHead text.now) (λ fault. batch_in text.now ≡ Err fault) }
 {
     let fault = BatchFault {

@@ -2,6 +2,7 @@
 
 ghost use Rattle.std.specs.Prelude.{◌≡◌, ◌≤◌, ◌+◌, length, drop, Err, MatchResult};
 ghost use Rattle.metering_model.specs.BatchReading.{batch_in, lines_in, records_in};
+ghost use Rattle.metering_model.specs.Limits.{most_batch_bytes};
 ghost use Rattle.batch_view.specs.Inner.Lines.{BeginsWithHead, IsBehindLines};
 ghost use Rattle.batch_view.specs.Inner.Kept.{IfFault, KeepsEntries, KeepsBatch};
 
@@ -21,7 +22,7 @@ pub(crate) enum Unkept {
     NoMemory,
 }
 
-/// Reads so many records of that format, the first of them on line 2 and at `from`, and answers where they end.
+/// Reads so many records of that format, the first of them on line 2 and at `from`, and returns where they end.
 fn keep_entries(
     alloc: Global,
     version: Version,
@@ -30,7 +31,7 @@ fn keep_entries(
     count: u16,
 ) -> Result<(Vec<Entry>, u32), Unkept>
     requires behind { IsBehindLines text.now 1 from }
-    requires short { length text.now ≤ 65536 }
+    requires short { length text.now ≤ most_batch_bytes }
     ensures { MatchResult result
         (λ kept. KeepsEntries version text.now count kept.1 kept.0.items)
         (λ why. IfFault why (λ fault. records_in version 2 count (drop 1 (lines_in text.now).lines) ≡ Err fault)) }
@@ -65,7 +66,7 @@ pub(crate) fn keep_below(
     bytes: &[u8],
     head: Head,
 ) -> Result<(Head, Vec<Entry>), Unkept>
-    requires short { length bytes.now ≤ 65536 }
+    requires short { length bytes.now ≤ most_batch_bytes }
     requires begins { BeginsWithHead bytes.now head }
     ensures { MatchResult result
         (λ kept. KeepsBatch bytes.now kept.0 kept.1.items)

@@ -1,4 +1,4 @@
-//! Batches of usage records, read in place: no text is copied, and reading takes no memory.
+//! Batches of usage records, read in place: their texts are lent, and not copied.
 #![tactic(auto)]
 
 pub use asked::{Asked, AskedReading, AskedRecords};

@@ -26,11 +26,15 @@ use std::alloc::{AllocError, AllocFailed, Global};
 use std::marker::Model;
 use std::sync::Arc;
 
-/// An amendment of a batch: the reading at that sequence and index of its agent has this value from now on.
+/// An amendment of a batch: from now on the reading at that sequence and index of its agent has this value, in
+/// millionths.
 #[derive(Clone, Copy)]
 pub struct Amendment {
+    /// The sequence of the batch that has the reading, from 1.
     pub seq: u32,
+    /// The index of the reading in that batch, from 0.
     pub index: u16,
+    /// The new value, in millionths.
     pub value: Value,
     /// The index of the amendment itself.
     pub own: u16,
@@ -66,7 +70,7 @@ impl OwnedBatch {
         self.bytes
     }
 
-    /// The batch that is kept. Nothing is read again.
+    /// The batch that is kept.
     pub fn view(&self) -> BatchView<'_>
         ensures { result ≡ self.now }
     {
@@ -81,8 +85,8 @@ impl OwnedBatch {
         &self.bytes
     }
 
-    /// Where the fields of the record at that index stand, from left to right, in bytes from the front of the batch;
-    /// None from the count on. No memory is taken.
+    /// Where the fields of the record at that index stand, from left to right, in bytes from the beginning of the
+    /// batch; None from the count on.
     pub fn spans(&self, index: u16) -> Option<&[Span]>
         ensures there { IsSome result ↔ (index < length (batch_of self.now).records) }
         ensures spans { IfSome result (λ spans. AreFieldSpans self.now index spans.now) }
@@ -91,7 +95,7 @@ impl OwnedBatch {
         Some(&entry.spans[..field_total(self.head.version, entry.found)])
     }
 
-    /// The amendments, by the position that each names, then by their own index. No memory is taken.
+    /// The amendments, by the position that each names, then by their own index.
     pub fn amendments(&self) -> &[Amendment]
         ensures { AreAmendmentsOf (batch_of self.now) result.now }
     {
@@ -99,7 +103,7 @@ impl OwnedBatch {
     }
 
     /// The value that the batch gives the reading at that sequence and index of its agent: that of its last amendment
-    /// of it, or else, where the reading is one of the batch itself, the reading's own. No memory is taken.
+    /// of it, or else, where the reading is one of the batch itself, the reading's own; else None.
     pub fn value_given(&self, seq: u32, index: u16) -> Option<Value>
         ensures { result ≡ value_given_in (batch_of self.now) seq index }
     {
@@ -134,7 +138,7 @@ impl OwnedBatch {
         }
     }
 
-    /// Whether each reading starts before that moment. One comparison with the latest start.
+    /// Whether each reading starts before that moment. It is so of a batch without readings.
     pub fn starts_before(&self, moment: Stamp) -> bool
         ensures { result ≡ list_all (starts_before moment) (batch_of self.now).records }
     {
@@ -145,7 +149,7 @@ impl OwnedBatch {
 /// What comes of bytes that are offered as a batch.
 #[derive(Drop)]
 pub enum Offer {
-    /// They are one.
+    /// They are a batch.
     Good(Arc<OwnedBatch>),
     /// They are none, for this fault.
     Bad(BatchFault),
@@ -206,9 +210,9 @@ fn offer_of(
 }
 
 impl Offer {
-    /// Keeps just these bytes where they are a batch, and else tells their first fault.
-    /// An error says that there was no memory to keep the batch; the bytes are lost then. It comes for a batch alone:
-    /// what is none has its fault told, whatever memory there is.
+    /// The offer of these bytes: the batch that they are, or their first fault.
+    ///
+    /// An error is an allocation failure. It comes only of bytes that are a batch, and they are lost.
     pub fn read(alloc: Global, bytes: Vec<u8>) -> Result<Offer, AllocError>
         ensures answer { IfOk result (IsOfferOf bytes.items) }
         ensures want { IfErr result (λ _. batch_in bytes.items ≡ Ok (batch_of bytes.items)) }
@@ -219,8 +223,7 @@ impl Offer {
         }
     }
 
-    /// As `read` does, but that want of memory hands the bytes back: so whoever has more to ask of them than whether they
-    /// are a batch can ask it before want of memory is told.
+    /// As `read`, but an allocation failure returns the bytes.
     pub fn read_or_back(alloc: Global, bytes: Vec<u8>) -> Result<Offer, AllocFailed<Vec<u8>>>
         ensures answer { IfOk result (IsOfferOf bytes.items) }
         ensures back { IfErr result (λ refused. refused.value.items ≡ bytes.items) }
@@ -230,16 +233,17 @@ impl Offer {
         offer_of(alloc, bytes, kept)
     }
 
-    /// The batch that stands first in a text, and how long it is, in bytes: its head line and the lines that this counts.
-    /// Just these bytes are copied, once, and are answered as by `read`. What stands behind them is not looked at.
-    ///
-    /// `None` where no head line comes first, fewer lines follow, or all together have more than 65,536 bytes.
-    /// An error says that there was no memory to keep the batch. It comes for a batch alone.
+    /// The batch that stands first in a text, as `read` offers it, and its length in bytes: its head line and the lines
+    /// that this counts. What stands after them is not looked at. `None` where no head line comes first, fewer lines
+    /// follow, or all together have more than 65,536 bytes. An error is an allocation failure, and comes only of a
+    /// batch.
     pub fn read_first(alloc: Global, text: &[u8]) -> Result<Option<(Offer, u32)>, AllocError>
         ensures answer { IfOk result (λ answer. MatchOption answer
             (extent_in text.now ≡ None)
             (λ first. (extent_in text.now ≡ Some first.1) × IsOfferOf (take first.1 text.now) first.0)) }
-        ensures want { IfErr result (λ _. (n : ℕ) × (extent_in text.now ≡ Some n) × (batch_in (take n text.now) ≡ Ok (batch_of (take n text.now)))) }
+        ensures want { IfErr result
+            (λ _. (n : ℕ) × (extent_in text.now ≡ Some n)
+            × (batch_in (take n text.now) ≡ Ok (batch_of (take n text.now)))) }
     {
         let Some((head, length)) = first_batch(text) else {
             return Ok(None);

@@ -9,14 +9,14 @@ ghost use Rattle.byte_text.specs.Runs.{lowest_set};
 use memchr::memchr;
 use std::simd::prelude::*;
 
-/// Where the first such byte stands. This is quick where it stands far from the front.
+/// The index of the first such byte; None where the text has none.
 pub fn find_byte(text: &[u8], byte: u8) -> Option<usize>
     ensures { result ≡ position (λ c. c == byte) text.now }
 {
     memchr(byte, text)
 }
 
-/// The place of the lowest bit that is set in a mask of bytes that were tested at once, or how many these are where none is.
+/// The index of the lowest bit that is set in the mask, or `many` where none is.
 #[inline(always)]
 pub fn lowest_set(mask: u64, many: usize) -> usize
     ensures { result ≡ lowest_set mask many }
@@ -39,7 +39,7 @@ fn feeds_in_step<const LANES: usize>(text: &[u8]) -> usize
     feeds.to_bitmask().count_ones() as usize
 }
 
-/// How many line feeds were counted in steps of so many bytes, and what is left behind the last step.
+/// How many line feeds were counted in steps of so many bytes, and what is left after the last step.
 #[inline(always)]
 fn feeds_in_steps<const LANES: usize>(text: &[u8]) -> (usize, &[u8])
     requires { (0 < LANES) × (LANES ≤ 64) }
@@ -70,7 +70,7 @@ fn feeds_by_bytes(text: &[u8]) -> usize
     count
 }
 
-/// How many lines a text has, each with its line feed: what stands behind the last line feed counts for none.
+/// How many line feeds a text has. What stands after the last one is no line.
 pub fn line_count(text: &[u8]) -> usize
     ensures { result ≡ line_count text.now }
 {
@@ -93,7 +93,7 @@ pub fn is_same(left: &[u8], right: &[u8]) -> bool
     left == right
 }
 
-/// How many bytes so many lines have, each with its line feed, or None where the text has fewer.
+/// How many bytes the first `count` lines have, each with its line feed; None where the text has fewer lines.
 pub fn lines_length(text: &[u8], count: u32) -> Option<usize>
     ensures { MatchOption result (length (lines_in text.now).lines < count) (IsPast text.now count) }
 {
@@ -104,7 +104,7 @@ pub fn lines_length(text: &[u8], count: u32) -> Option<usize>
     Some(length)
 }
 
-/// The first line, without its line feed, and what stands behind it; None where no line feed is there.
+/// The first line, without its line feed, and what stands after it; None where the text has no line feed.
 pub fn first_line(text: &[u8]) -> Option<(&[u8], &[u8])>
     ensures { MatchOption result ((lines_in text.now).lines ≡ [])
         (λ parts. lines_in text.now ≡ with_line parts.0.now (lines_in parts.1.now)) }
@@ -113,7 +113,7 @@ pub fn first_line(text: &[u8]) -> Option<(&[u8], &[u8])>
     Some((&text[..feed], &text[feed + 1..]))
 }
 
-/// What stands before the first `|`, and what stands behind it; None where there is none.
+/// What stands before the first `|`, and what stands after it; None where the text has none.
 pub fn split_at_bar(text: &[u8]) -> Option<(&[u8], &[u8])>
     ensures { MatchOption result
         (fields_in text.now ≡ text.now ∷ [])

@@ -1,4 +1,4 @@
-//! Texts as bytes: finding and counting bytes, whole numbers read and put, and the words of a refusal.
+//! Texts as bytes: finding and counting bytes, whole numbers read and appended, and the words of a refusal.
 #![tactic(auto)]
 
 mod finding;

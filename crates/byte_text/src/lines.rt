@@ -1,4 +1,4 @@
-//! Short texts that take no memory.
+//! Short texts on the stack.
 
 ghost use Rattle.std.specs.Prelude.{◌≡◌, ◌+◌, ◌≤◌, [], ◌++◌, decimal, length};
 
@@ -44,7 +44,7 @@ impl Line {
         &self.bytes[..self.length]
     }
 
-    /// Appends a text.
+    /// Appends a text. Both together may have at most 64 bytes.
     pub fn put(&mut self, text: &[u8])
         requires room { length self.old + length text.now ≤ 64 }
         ensures { self.new ≡ self.old ++ text.now }
@@ -54,7 +54,7 @@ impl Line {
         self.length = end;
     }
 
-    /// Appends a number, which has at most 10 digits.
+    /// Appends a number in decimal. 10 bytes have to be free, and it takes no more.
     pub fn put_number(&mut self, number: u32)
         requires room { length self.old + 10 ≤ 64 }
         ensures put { self.new ≡ self.old ++ decimal number }
@@ -63,7 +63,7 @@ impl Line {
         self.put(Buffer::new().format(number).as_bytes());
     }
 
-    /// Appends a number of 64 bits, which has at most 20 digits.
+    /// Appends a number of 64 bits in decimal. 20 bytes have to be free, and it takes no more.
     pub fn put_long_number(&mut self, number: u64)
         requires room { length self.old + 20 ≤ 64 }
         ensures put { self.new ≡ self.old ++ decimal number }

@@ -1,4 +1,5 @@
-//! Words and numbers, appended to a text. Where memory is refused the text stays as it was.
+//! Words and numbers, appended to a text. An error is an allocation failure: it comes only where the spare capacity is
+//! too small for what is appended, and leaves the text's bytes as they were.
 
 ghost use Rattle.std.specs.Prelude.{◌≡◌, ◌+◌, ◌<◌, ◌≤◌, ◌%◌, ◌++◌, decimal, length, vec_len, vec_capacity, OnOk, OnErr};
 ghost use Rattle.metering_model.specs.Dates.{two_digits};
@@ -7,7 +8,7 @@ ghost use Rattle.metering_model.specs.Transcript.{if_any, with_number};
 use itoa::Buffer;
 use std::alloc::AllocError;
 
-/// Appends a number.
+/// Appends a number in decimal. An error is an allocation failure, and leaves the text's bytes as they were.
 pub fn put_number(text: &mut Vec<u8>, number: u128) -> Result<(), AllocError>
     ensures put { OnOk result (text.new.items ≡ text.old.items ++ decimal number) }
     ensures kept { OnErr result (text.new.items ≡ text.old.items) }
@@ -17,7 +18,8 @@ pub fn put_number(text: &mut Vec<u8>, number: u128) -> Result<(), AllocError>
     text.extend_from_slice(Buffer::new().format(number).as_bytes())
 }
 
-/// Appends a word, and a number behind it.
+/// Appends a word, and then a number in decimal. An error is an allocation failure, and leaves the text's bytes as they
+/// were.
 pub fn put_numbered(text: &mut Vec<u8>, word: &[u8], number: u128) -> Result<(), AllocError>
     ensures put { OnOk result (text.new.items ≡ text.old.items ++ with_number word.now number) }
     ensures kept { OnErr result (text.new.items ≡ text.old.items) }
@@ -33,7 +35,8 @@ pub fn put_numbered(text: &mut Vec<u8>, word: &[u8], number: u128) -> Result<(),
     result
 }
 
-/// Appends a word, and a number behind it, where there is a number.
+/// Appends a word, and then a number in decimal; nothing at None. An error is an allocation failure, and leaves the
+/// text's bytes as they were.
 pub fn put_if_any(text: &mut Vec<u8>, word: &[u8], number: Option<u32>) -> Result<(), AllocError>
     ensures put { OnOk result (text.new.items ≡ text.old.items ++ if_any word.now number) }
     ensures kept { OnErr result (text.new.items ≡ text.old.items) }
@@ -53,7 +56,8 @@ fn last_digit(number: u16) -> u8
     b'0' + (number % 10) as u8
 }
 
-/// Appends the last two digits of a number.
+/// Appends the last two digits of a number, with a leading zero. An error is an allocation failure, and leaves the
+/// text's bytes as they were.
 pub fn put_two_digits(text: &mut Vec<u8>, number: u16) -> Result<(), AllocError>
     ensures put { OnOk result (text.new.items ≡ text.old.items ++ two_digits number) }
     ensures kept { OnErr result (text.new.items ≡ text.old.items) }

@@ -43,7 +43,7 @@ fn number_within(digits: &[u8], limit: u64) -> Option<u64>
     Some(number)
 }
 
-/// The whole number that a text writes, where it is one up to the limit.
+/// The whole number that a text writes; None where it is none, or above the limit, which is below 10^12.
 pub fn whole_up_to(text: &[u8], limit: u64) -> Option<u64>
     requires { limit < 1_000_000_000_000 }
     ensures { MatchOption result (IsTrue (is_whole_part text.now) → limit < number_of text.now)
@@ -56,7 +56,7 @@ pub fn whole_up_to(text: &[u8], limit: u64) -> Option<u64>
     }
 }
 
-/// The whole number that a text writes, from `low` to `high`.
+/// The whole number from `low` to `high` that a text writes, else None. `high` is at most 1,000,000.
 pub fn read_whole(text: &[u8], low: u32, high: u32) -> Option<u32>
     requires { high ≤ 1_000_000 }
     ensures value { result ≡ whole_in low high text.now }

@@ -12,12 +12,14 @@ use rating::{Reading, Sheet};
 /// The columns that a reading's region gives.
 #[derive(Clone, Copy)]
 pub struct RegionColumns<'a> {
+    /// RegionId; None is null.
     pub id: Option<&'a [u8]>,
+    /// RegionName; None is null.
     pub name: Option<&'a [u8]>,
 }
 
 impl<'a> RegionColumns<'a> {
-    /// Those of no region: both are null.
+    /// The columns of no region: both are null.
     pub fn none() -> RegionColumns<'a>
         ensures id { option_copied result.id ≡ None }
         ensures name { option_copied result.name ≡ None }
@@ -36,7 +38,8 @@ pub(crate) fn region_name<'a>(sheet: &'a Sheet, id: &'a [u8]) -> &'a [u8]
     sheet.region(id).unwrap_or(id)
 }
 
-/// The columns of a reading's region. Where it is the region that is near, these are that one's, and the sheet is not asked.
+/// The columns of a reading's region. Where it is the region that is near, these are that one's, and the sheet is not
+/// asked.
 pub(crate) fn region_columns<'a>(
     sheet: &'a Sheet,
     reading: &Reading<'a>,

@@ -24,13 +24,16 @@ use sheet_text::{Commitment, Issuer, PriceRow};
 /// What all rows of a billing period share: who bills, and the period's start and end.
 #[derive(Clone, Copy)]
 pub struct Billing<'a> {
+    /// Who bills.
     pub issuer: &'a Issuer,
+    /// BillingPeriodStart, `YYYY-MM-DDTHH:mm:ssZ`.
     pub start_text: [u8; 20],
+    /// BillingPeriodEnd, `YYYY-MM-DDTHH:mm:ssZ`.
     pub end_text: [u8; 20],
 }
 
 impl<'a> Billing<'a> {
-    /// Of an issuer, in a period behind a base month.
+    /// For an issuer, in a period counted from a base month.
     pub fn new(issuer: &'a Issuer, base: Month, period: Period) -> Billing<'a>
         requires base { IsBaseMonth base }
         ensures issuer { result.issuer.now ≡ issuer.now }
@@ -135,9 +138,10 @@ fn row_by<'a>(
     }
 }
 
-/// The row of a reading, from an old value to a new one, at the price in force on its day, under the commitment that it names
-/// and in its region. The region of another row of this sheet may be near: where the two are the same, its name is taken over
-/// and not looked up again. It takes no memory.
+/// The row of a reading in the billing period, from an old value to a new one, neither negative for usage and
+/// purchases: at the price in force on the day of its start, under the commitment that it names and in its region.
+///
+/// `near` is any region's columns by this sheet, or none; the row is the same with each.
 pub fn row<'a>(
     billing: &Billing<'a>,
     sheet: &'a Sheet,

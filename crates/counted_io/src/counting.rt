@@ -18,7 +18,7 @@ pub struct Counted<T> {
 }
 
 impl<T> Counted<T> {
-    /// Begins to count, with no failed call.
+    /// Wraps a writer or a reader, with no failed call counted yet.
     pub fn new(inner: T) -> Counted<T>
         ensures inner { inner_of result ≡ inner }
         ensures fresh { failures_of result ≡ 0 }
@@ -33,14 +33,14 @@ impl<T> Counted<T> {
         &self.inner
     }
 
-    /// Gives the writer or reader back, and drops the count.
+    /// Returns the writer or reader, and drops the count.
     pub fn into_inner(self) -> T
         ensures { result ≡ inner_of self }
     {
         self.inner
     }
 
-    /// How many calls failed. It stays at the greatest u64.
+    /// How many calls failed. The count stops at the greatest u64.
     pub fn failed_calls(&self) -> u64
         ensures { result ≡ failures_of self.now }
     {

@@ -1,6 +1,6 @@
-//! Devices over memory for tests: a writer and a reader that go wrong at the calls they are told.
+//! Devices over memory for tests: a writer and a reader that fail at the calls that a test names.
 //!
-//! Calls are counted from 1. Wrap one as `Counted::new(..)` where a sink or a source is wanted.
+//! Calls are counted from 1. Wrap one as `Counted::new(..)` where a sink or a source is required.
 ghost use Rattle.std.specs.Prelude.{◌≡◌, ◌<◌, ◌+◌, ◌++◌, ◌⊎◌, length, take, drop, min, Some, None, true, false, vec_len, vec_capacity, IsTrue, IsErr, IfOk, OnErr, is_err};
 ghost use Rattle.std.specs.Io.{ReadsAtMost, WritesAtMost};
 ghost use Rattle.std.specs.Io.KnownBytes.{Keeps, ReadConsumes, WriteAppends};
@@ -10,23 +10,23 @@ ghost use Rattle.counted_io.specs.Devices.{carried, carried_unless, is_call, is_
 use std::io;
 use std::io::{ErrorKind, Read, Write};
 
-/// A writer into a vector. As long as nothing is asked of it, it takes all that it is given.
+/// A writer into a vector. Unless a field says otherwise, it takes all bytes of each call.
 #[derive(Drop)]
 pub struct FakeWriter {
-    /// What it has taken, behind what was there.
+    /// What it has taken, after what was there at first.
     pub taken: Vec<u8>,
-    /// How many calls were made, flushes too. It stays at the greatest u64.
+    /// How many calls were made, flushes too. The count stops at the greatest u64.
     pub calls: u64,
-    /// The call that fails.
+    /// The call that fails, if any.
     pub failing: Option<u64>,
-    /// The call from which on it takes nothing.
+    /// The call from which on it takes nothing, if any.
     pub full_from: Option<u64>,
     /// Whether it takes at most one byte a call.
     pub byte_by_byte: bool,
 }
 
 impl FakeWriter {
-    /// A writer that takes all, behind what the vector holds.
+    /// A writer that takes all, and appends to what the vector holds.
     pub fn new(taken: Vec<u8>) -> FakeWriter
         ensures { result ≡ record {
           taken = taken;
@@ -45,7 +45,7 @@ impl FakeWriter {
         }
     }
 
-    /// The same writer, of which this call fails.
+    /// The same writer, whose call of that number fails.
     pub fn failing_at(self, call: u64) -> FakeWriter
         ensures { result ≡ record {
           taken = self.taken;
@@ -61,7 +61,7 @@ impl FakeWriter {
         }
     }
 
-    /// The same writer, which takes nothing from this call on.
+    /// The same writer, which takes nothing from the call of that number on.
     pub fn full_from(self, call: u64) -> FakeWriter
         ensures { result ≡ record {
           taken = self.taken;
@@ -125,7 +125,7 @@ impl Write for FakeWriter {
         Ok(count)
     }
 
-    /// A flush is a call like another.
+    /// Counts as a call, and fails only at the call that fails.
     fn flush(&mut self) -> io::Result<()>
         ensures bytes { Keeps (Some self.old.taken.items) (Some self.new.taken.items) }
         ensures failing { is_err result ≡ is_call self.old.failing self.new.calls }
@@ -146,16 +146,16 @@ impl Write for FakeWriter {
     }
 }
 
-/// A reader of a slice. As long as nothing is asked of it, it gives as much as there is room for.
+/// A reader of a slice. Unless a field says otherwise, each call fills the buffer as far as the slice goes.
 #[derive(Drop)]
 pub struct FakeReader<'a> {
     /// What it has not given yet.
     pub rest: &'a [u8],
-    /// How many calls were made. It stays at the greatest u64.
+    /// How many calls were made. The count stops at the greatest u64.
     pub calls: u64,
-    /// The call that fails.
+    /// The call that fails, if any.
     pub failing: Option<u64>,
-    /// The call that gives nothing, as the end does, whatever is left.
+    /// The call that gives nothing, as at the end, whatever is left; if any.
     pub pausing: Option<u64>,
     /// Whether it gives at most one byte a call.
     pub byte_by_byte: bool,
@@ -181,7 +181,7 @@ impl<'a> FakeReader<'a> {
         }
     }
 
-    /// The same reader, of which this call fails.
+    /// The same reader, whose call of that number fails.
     pub fn failing_at(self, call: u64) -> FakeReader<'a>
         ensures { result ≡ record {
           rest = self.entry.rest;
@@ -197,7 +197,7 @@ impl<'a> FakeReader<'a> {
         }
     }
 
-    /// The same reader, of which this call gives nothing, and those behind it go on.
+    /// The same reader, whose call of that number gives nothing, and later ones go on.
     pub fn pausing_at(self, call: u64) -> FakeReader<'a>
         ensures { result ≡ record {
           rest = self.entry.rest;

@@ -1,5 +1,5 @@
-//! Sinks and sources of bytes that count the calls that failed, so that whoever calls them can show
-//! that a fault which it answers is one of the device, during that very call.
+//! Sinks and sources of bytes that count the calls that failed, so that callers can show that a fault which they report
+//! is one of the device, during that very call.
 #![tactic(auto)]
 
 mod counting;

@@ -14,12 +14,13 @@ pub trait Source {
     /// The bytes that it will give from here on, where they are known.
     ghost remaining: { Self → Option (List ℕ) } = { λ _. None };
 
-    /// How many calls failed. It stays at the greatest u64.
+    /// How many calls failed. The count stops at the greatest u64.
     ghost failed_calls: { Self → ℕ };
 
-    /// Puts the next bytes at the front of `room`, and answers how many they are.
+    /// Puts the next bytes at the beginning of `room`, and returns how many they are.
     ///
-    /// No byte where there is room is the end. An error took nothing, and it alone is a failure.
+    /// 0 with a `room` that is not empty is the end. An error took nothing, and counts as a failed call; nothing else
+    /// does.
     fn read(&mut self, room: &mut [u8]) -> io::Result<usize>
         ensures bound { ReadsAtMost result room.new }
         ensures consumed { ReadConsumes (remaining self.old) (remaining self.new) result room.new }
@@ -42,7 +43,7 @@ pub enum ReadFault {
     /// A call of the source failed.
     #[error("read failed")]
     Failed,
-    /// No room could be made for the bytes.
+    /// Out of memory: an allocation for the bytes failed.
     #[error("out of memory")]
     OutOfMemory,
 }
@@ -50,10 +51,10 @@ pub enum ReadFault {
 /// The most bytes that one call asks for.
 const BLOCK: usize = 64 * 1024;
 
-/// Reads until the source ends, or until one byte more than `limit` bytes has come.
+/// All the bytes of the source, or TooLong where it had more than `limit` bytes. At most `limit` + 1 bytes are taken.
 ///
-/// The room that it takes grows with what is read. Where the answer is no whole input, what was read
-/// is lost.
+/// An error returns nothing of what was read: Failed is one failed call of the source, OutOfMemory an allocation
+/// failure.
 pub fn read_to_limit<S: Source>(
     alloc: Global,
     source: &mut S,

@@ -13,12 +13,12 @@ pub trait Sink {
     /// The bytes that it holds, where they are known.
     ghost contents: { Self → Option (List ℕ) } = { λ _. None };
 
-    /// How many calls failed. It stays at the greatest u64.
+    /// How many calls failed. The count stops at the greatest u64.
     ghost failed_calls: { Self → ℕ };
 
-    /// Takes a prefix of `bytes`, and answers how many it took.
+    /// Takes a prefix of `bytes`, and returns how many it took.
     ///
-    /// An error took nothing. A call fails at an error, and where it takes nothing of something.
+    /// An error took nothing. A call counts as failed at an error, and where it takes none of some bytes.
     fn write(&mut self, bytes: &[u8]) -> io::Result<usize>
         ensures bound { WritesAtMost result bytes.now }
         ensures appended { WriteAppends (contents self.old) (contents self.new) result bytes.now }
@@ -33,7 +33,7 @@ pub struct Failed;
 
 /// Writes all of `bytes`, in as many calls as the sink needs, and stops at the first that fails.
 ///
-/// At an error a prefix of `bytes` was written, and never all of them.
+/// At an error a proper prefix of `bytes` was written.
 pub fn write_all<S: Sink>(sink: &mut S, bytes: &[u8]) -> Result<(), Failed>
     ensures written { OnOk result (Appends (S.contents sink.old) (S.contents sink.new) bytes.now) }
     ensures prefix { OnErr result

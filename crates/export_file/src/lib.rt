@@ -28,11 +28,10 @@ pub use whole::ExportRows;
 pub trait ExportFile {
     ghost taken: { Self → model.Snapshot };
 
-    /// Writes the file: the header line, and a line for each row. All lines are made before the first byte goes out, and
-    /// those of many rows in several threads at once; of the rows, 64 at most for each thread are in memory.
+    /// Writes the file: the header line, and a line for each row.
     ///
-    /// `Write` comes only from a failed call of the sink, and that is the only one: a prefix of the file that is not all
-    /// of it went out. At want of memory the sink is as it was.
+    /// `Write` is one failed call of the sink, and a proper prefix of the file was written. At `OutOfMemory` the sink
+    /// is as it was.
     fn write_csv_split<R: Threads + Sync, W: Sink>(
         &self,
         rt: &R,
@@ -49,8 +48,8 @@ pub trait ExportFile {
         ensures count { W.failed_calls sink.new
             ≡ count_after (is_sink_fault result) (W.failed_calls sink.old) };
 
-    /// Appends the file to a text that its caller may use again: the same bytes that `write_csv_split` writes. At want of memory
-    /// the text is as before.
+    /// Appends the file, the same bytes that `write_csv_split` writes. An error is an allocation failure, and leaves
+    /// the text's bytes as they were.
     fn put_csv(&self, alloc: Global, text: &mut Vec<u8>) -> Result<(), AllocError>
         ensures put { OnOk result (text.new.items ≡ text.old.items ++ file_of (taken self.now)) }
         ensures kept { OnErr result (text.new.items ≡ text.old.items) };

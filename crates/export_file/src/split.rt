@@ -1,4 +1,5 @@
-//! The file of a snapshot whose lines are made in several threads at once: parts of its batches, each in room of its own.
+//! The file of a snapshot whose lines are made in several threads at once: parts of its batches, each in room of its
+//! own.
 
 ghost use Rattle.std.specs.Prelude.{◌≡◌, ◌≢◌, ℕ, ◌<◌, ◌≤◌, ◌*◌, ◌-◌, ◌++◌, ◌∷◌, [], length, min, slice_index_or, true, is_err, IsTrue, IfOk, IfErr, Err, OnOk, OnErr};
 ghost use Rattle.std.specs.List.{flat_map, list_all};
@@ -207,8 +208,9 @@ fn write_unsplit<W: Sink>(
     }
 }
 
-/// How many parts the batches are split into: one, where no thread is worth it, or three at least, and beyond that no more than
-/// there are processors. Few rows are told before the processors are counted, which takes longer than their file.
+/// How many parts the batches are split into: one, where no thread is worth it, or three at least, and beyond that no
+/// more than there are processors. Few rows are told before the processors are counted, which takes longer than their
+/// file.
 fn part_count(rt: &impl Threads, batches: &RowsBetween<'_>) -> usize
     ensures { 1 ≤ result }
 {
@@ -223,8 +225,8 @@ fn part_count(rt: &impl Threads, batches: &RowsBetween<'_>) -> usize
     threads.max(LEAST_PARTS).min(most).min(MOST_PARTS)
 }
 
-/// Writes the file of the batches. The lines of many rows are made in several threads at once, and all before the first byte
-/// goes out.
+/// Writes the file of the batches. The lines of many rows are made in several threads at once, and all before the first
+/// byte goes out.
 pub(crate) fn write_split<W: Sink>(
     rt: &(impl Threads + Sync),
     alloc: Global,

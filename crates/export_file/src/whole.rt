@@ -1,4 +1,5 @@
-//! The rows of an export, and its file written batch by batch: for callers of the library. No program calls what stands here.
+//! The rows of an export, and its file written batch by batch: for callers of the library. No program calls what stands
+//! here.
 
 ghost use Rattle.std.specs.Prelude.{◌≡◌, Err, IfOk, OnOk};
 ghost use Rattle.std.specs.Io.KnownBytes.{Appends};
@@ -16,23 +17,24 @@ use focus_csv::{CsvFault, RowsBetween, write_rows};
 use group_events::Snapshot;
 use std::alloc::{AllocError, Global};
 
-/// What has the rows of a period's file, and can write it without having all of it at once: a [`Snapshot`].
+/// What has the rows of a period's file, and can write it batch by batch: a [`Snapshot`].
 pub trait ExportRows {
     ghost exported: { Self → model.Snapshot };
 
-    /// The rows of the file, batch by batch, in journal order; `all` of them makes one list.
+    /// The rows of the file, batch by batch, in journal order. An error is an allocation failure.
     fn rows(&self, alloc: Global) -> Result<RowsBetween<'_>, AllocError>
         ensures { IfOk result (λ batches. joined batches
-            ≡ rows (exported self.now).sheet (exported self.now).issuer (exported self.now).batches (exported self.now).period
+            ≡ rows (exported self.now).sheet (exported self.now).issuer (exported self.now).batches
+            (exported self.now).period
             (exported self.now).from (exported self.now).to) };
 
-    /// Writes the file: the header line, and a line for each row, batch by batch. 64 rows at most are in memory, also
-    /// while the sink is waited for, and the text of one batch.
+    /// Writes the file: the header line, and a line for each row.
     ///
-    /// `Write` comes only from a failed call of the sink, and that is the only one: a prefix of the file that is not all
-    /// of it went out. At want of memory no call failed, and a prefix of the file went out.
+    /// `Write` is one failed call of the sink, and a proper prefix of the file was written. At `OutOfMemory` no call
+    /// failed, and a prefix of the file was written, perhaps none or all of it.
     fn write_csv<W: Sink>(&self, alloc: Global, sink: &mut W) -> Result<(), CsvFault>
-        ensures written { OnOk result (Appends (W.contents sink.old) (W.contents sink.new) (file_of (exported self.now))) }
+        ensures written { OnOk result
+            (Appends (W.contents sink.old) (W.contents sink.new) (file_of (exported self.now))) }
         ensures prefix { result ≡ Err CsvFault.Write
             → AppendsPrefix (W.contents sink.old) (W.contents sink.new) (file_of (exported self.now)) }
         ensures fault { result ≡ Err CsvFault.Write

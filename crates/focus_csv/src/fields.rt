@@ -21,7 +21,7 @@ fn put_next(odd: &mut OddFields, text: &mut Vec<u8>, field: &[u8]) -> Result<(),
     text.extend_from_slice(field)
 }
 
-/// Makes a piece that of these fields, each behind a comma.
+/// Makes a piece that of these fields, each after a comma.
 pub(crate) fn make_piece(
     odd: &mut OddFields,
     piece: &mut Vec<u8>,
@@ -36,7 +36,7 @@ pub(crate) fn make_piece(
     Ok(())
 }
 
-/// Appends pieces, one behind the other. At want of memory the text is as before, or has some of them behind it.
+/// Appends pieces, one after the other. At an allocation failure the text is as before, or has some of them after it.
 pub(crate) fn put_pieces(text: &mut Vec<u8>, pieces: &[&[u8]]) -> Result<(), AllocError>
     ensures put { OnOk result (text.new.items ≡ text.old.items ++ flat_map (λ t. t) (map (λ p. p.now) pieces.now)) }
     ensures begins { OnErr result (BeginsWith text.new.items text.old.items) }

@@ -19,15 +19,17 @@ use counted_io::Sink;
 use focus_row::{BatchRows, FocusRow, RowsBetween};
 use std::alloc::{AllocError, Global};
 
-/// Appends the lines of the walk's next rows, which are put where some may stand. At want of memory the text is as before, or has
-/// some of the lines behind it.
+/// Appends the lines of the walk's next rows, which are put where some may stand. At an allocation failure the text is
+/// as before, or has some of the lines after it.
 fn put_part<'a>(
     walk: &mut BatchRows<'_, 'a>,
     pieces: &mut LinePieces,
     rows: &mut Vec<FocusRow<'a>>,
     text: &mut Vec<u8>,
 ) -> Result<(), AllocError>
-    ensures put { OnOk result (text.new.items ++ flat_map row_text walk.new.rows ≡ text.old.items ++ flat_map row_text walk.old.rows) }
+    ensures put { OnOk result
+        (text.new.items ++ flat_map row_text walk.new.rows ≡ text.old.items
+        ++ flat_map row_text walk.old.rows) }
     ensures fewer { OnOk result (0 < walk.old.records → walk.new.records < walk.old.records) }
     ensures begins { BeginsWith text.new.items text.old.items }
 {
@@ -36,8 +38,8 @@ fn put_part<'a>(
     Ok(())
 }
 
-/// Appends the lines of all rows that the walk has left, a part of them at a time. At want of memory the text is as before, or has
-/// some of the lines behind it.
+/// Appends the lines of all rows that the walk has left, a part of them at a time. At an allocation failure the text is
+/// as before, or has some of the lines after it.
 fn put_walk<'a>(
     walk: &mut BatchRows<'_, 'a>,
     pieces: &mut LinePieces,
@@ -53,8 +55,8 @@ fn put_walk<'a>(
     Ok(())
 }
 
-/// Appends the lines of the batch of that number, whose rows are put where some may stand. At want of memory the text is as before,
-/// or has some of the lines behind it.
+/// Appends the lines of the batch of that number, whose rows are put where some may stand. At an allocation failure the
+/// text is as before, or has some of the lines after it.
 fn put_batch<'a>(
     batches: &RowsBetween<'a>,
     k: usize,
@@ -71,8 +73,8 @@ fn put_batch<'a>(
     Ok(())
 }
 
-/// Appends the lines of the batches from one number to before another, in order. At want of memory the text is as before, or
-/// has some of the lines behind it.
+/// Appends the lines of the batches from one number to before another, in order. At an allocation failure the text is
+/// as before, or has some of the lines after it.
 fn put_each(
     alloc: Global,
     batches: &RowsBetween<'_>,
@@ -82,7 +84,9 @@ fn put_each(
 ) -> Result<(), AllocError>
     requires order { from ≤ to }
     requires within { to ≤ length batches.now }
-    ensures put { OnOk result (text.new.items ≡ text.old.items ++ batch_lines (take (to - from) (drop from batches.now))) }
+    ensures put { OnOk result
+        (text.new.items ≡ text.old.items
+        ++ batch_lines (take (to - from) (drop from batches.now))) }
     ensures begins { OnErr result (BeginsWith text.new.items text.old.items) }
 {
     let mut pieces = LinePieces::new(alloc);
@@ -93,10 +97,8 @@ fn put_each(
     Ok(())
 }
 
-/// Appends the lines of the batches from one number to before another, in order, to a text that its caller may use again. Of
-/// the rows, 64 at most are in memory, in a list that is held until the call returns.
-///
-/// At want of memory the text is as before.
+/// Appends the lines of the batches from one number to before another, in order. An error is an allocation failure, and
+/// leaves the text's bytes as they were.
 pub fn put_batches(
     alloc: Global,
     batches: &RowsBetween<'_>,
@@ -106,7 +108,9 @@ pub fn put_batches(
 ) -> Result<(), AllocError>
     requires order { from ≤ to }
     requires within { to ≤ length batches.now }
-    ensures put { OnOk result (text.new.items ≡ text.old.items ++ batch_lines (take (to - from) (drop from batches.now))) }
+    ensures put { OnOk result
+        (text.new.items ≡ text.old.items
+        ++ batch_lines (take (to - from) (drop from batches.now))) }
     ensures kept { OnErr result (text.new.items ≡ text.old.items) }
 {
     let before = text.len();
@@ -119,10 +123,8 @@ pub fn put_batches(
     }
 }
 
-/// Appends the file of rows to a text that its caller may use again: the header line, and a line for each row in order. Of
-/// the rows, 64 at most are in memory, in a list that is held until the call returns.
-///
-/// At want of memory the text is as before.
+/// Appends the file of rows: the header line, and a line for each row in order. An error is an allocation failure, and
+/// leaves the text's bytes as they were.
 pub fn put_file(
     alloc: Global,
     batches: &RowsBetween<'_>,
@@ -142,11 +144,10 @@ pub fn put_file(
     }
 }
 
-/// Writes the file of rows: the header line, and a line for each row in order, batch by batch. Of the rows, 64 at most
-/// are in memory, in a list that is held until the call returns, also while the sink is waited for, and of their text one batch's.
+/// Writes the file of rows: the header line, and a line for each row in order.
 ///
-/// `Write` comes only from a failed call of the sink, and that is the only one: a prefix of the file that is not all of it
-/// went out. At want of memory no call failed, and a prefix of the file went out.
+/// `Write` is one failed call of the sink, and a proper prefix of the file was written. At `OutOfMemory` no call
+/// failed, and a prefix of the file was written, perhaps none or all of it.
 pub fn write_rows<W: Sink>(
     alloc: Global,
     batches: &RowsBetween<'_>,

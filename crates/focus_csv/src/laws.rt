@@ -14,7 +14,7 @@ ghost use Rattle.focus_row.specs.Rows.{FocusRow, model_row};
 ghost use Rattle.focus_csv.specs.Columns.{column_names};
 ghost use Rattle.focus_csv.specs.TagData.{tag_data};
 
-/// The header line, and behind it the texts of parts in order, is the file of the rows of all parts.
+/// The header line, followed by the texts of parts in order, is the file of the rows of all parts.
 pub fn a_file_is_written_in_parts()
     ensures begun { header_line ++ 10 ∷ [] ≡ file [] }
     ensures next { (written part : List Row) →
@@ -32,20 +32,21 @@ pub fn a_file_is_read_back()
         records default_config (file rows) ≡ column_names ∷ map fields_of_row rows }
 {}
 
-/// The header line is what a writer of CSV writes, with its usual settings, as the record of the 38 names, and each line of
-/// a file what it writes as the record of the row's 38 fields.
+/// The header line is what a writer of CSV writes, with its usual settings, as the record of the 38 names, and each
+/// line of a file what it writes as the record of the row's 38 fields.
 pub fn lines_are_records_of_csv()
     ensures header { csv.row_text csv.default_writer column_names ≡ header_line ++ 10 ∷ [] }
     ensures line { (r : Row) → csv.row_text csv.default_writer (fields_of_row r) ≡ row_text r }
     ensures fields { (r : Row) → length (fields_of_row r) ≡ 38 }
 {}
 
-/// Tags whose keys rise are what `serde_json` writes of them as an object, in their order, and what it reads of that are just
-/// these tags. A row's tags are such ones.
+/// Tags whose keys rise are what `serde_json` writes of them as an object, in their order, and what it reads of that
+/// are just these tags. A row's tags are such ones.
 pub fn tags_are_json()
     ensures written { (ts : List Tag) → IsTrue (list_all (λ t. is_text t.key && is_text t.value) ts)
         → compact_text (tag_data ts) ≡ json_object ts }
-    ensures read { (ts : List Tag) → IsTrue (list_all (λ t. is_text t.key && is_text t.value) ts) → IsTrue (keys_rise ts)
+    ensures read { (ts : List Tag) → IsTrue (list_all (λ t. is_text t.key && is_text t.value) ts)
+        → IsTrue (keys_rise ts)
         → read (json_object ts) ≡ Some (tag_data ts) }
     ensures field { (row : FocusRow) → (compact_text (tag_data (model_row row).tags) ≡ json_object (model_row row).tags)
         × (read (json_object (model_row row).tags) ≡ Some (tag_data (model_row row).tags)) }

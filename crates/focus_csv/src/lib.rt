@@ -26,7 +26,7 @@ pub enum CsvFault {
     /// C1: a call of the sink failed.
     #[error("write failed")]
     Write,
-    /// C2: no room could be made for the text.
+    /// C2: out of memory: an allocation for the text failed.
     #[error("out of memory")]
     OutOfMemory,
 }

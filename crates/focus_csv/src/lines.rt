@@ -18,8 +18,8 @@ fn row_at<'a, 'b>(rows: &'a [FocusRow<'b>], i: usize) -> &'a FocusRow<'b>
     &rows[i]
 }
 
-/// Appends the lines of the rows, in order. The pieces of a line are held for the next one. At want of memory the text
-/// is as before, or has some of the lines behind it.
+/// Appends the lines of the rows, in order. The pieces of a line are held for the next one. At an allocation failure
+/// the text is as before, or has some of the lines after it.
 pub(crate) fn put_lines(
     pieces: &mut LinePieces,
     rows: &[FocusRow<'_>],

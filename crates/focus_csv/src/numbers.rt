@@ -11,7 +11,7 @@ use focus_row::FocusRow;
 use fx_money::{Cost, Delta, Price};
 use std::alloc::{AllocError, Global};
 
-/// The numbers of a line, all but the first behind a comma.
+/// The numbers of a line, all but the first after a comma.
 #[derive(Drop)]
 pub(crate) struct NumberPieces {
     pub(crate) billed_cost: String,

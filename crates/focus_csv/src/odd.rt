@@ -13,11 +13,12 @@ use std::marker::Model;
 /// So many bytes of odd fields are kept at most, and one field more.
 const ENOUGH: usize = 65_536;
 
-/// A writer of CSV over a text of its own. Odd fields are written to it, one behind the other, and copied from there.
+/// A writer of CSV over a text of its own. Odd fields are written to it, one after the other, and copied from there.
 #[derive(Drop)]
 pub(crate) struct OddFields {
     alloc: Global,
-    /// There is none before the first odd field, nor behind one that could not be written. One whose text is long is let go.
+    /// There is none before the first odd field, nor after one that could not be written. One whose text is long is let
+    /// go.
     writer: Option<Box<Writer<Vec<u8>>>>,
 }
 
@@ -43,8 +44,8 @@ fn begun(alloc: Global) -> Result<Writer<Vec<u8>>, AllocError>
     Ok(writer)
 }
 
-/// The same in a box. Out of line, so that the writer's 8 KiB are no part of the frame of who writes a field, where they would be
-/// cleared each time.
+/// The same in a box. Out of line, so that the writer's 8 KiB are no part of the frame of who writes a field, where
+/// they would be cleared each time.
 #[inline(never)]
 fn boxed(alloc: Global) -> Result<Box<Writer<Vec<u8>>>, AllocError>
     ensures { IfOk result (λ w. IsReady w.value) }

@@ -30,7 +30,7 @@ pub(crate) struct LinePieces {
     are_held: bool,
 }
 
-/// How many pieces stand behind the first number.
+/// How many pieces stand after the first number.
 const PIECES: usize = 20;
 
 impl LinePieces {
@@ -55,7 +55,8 @@ impl LinePieces {
         self.are_held = false;
     }
 
-    /// Makes the piece of the tags. One that is held is of the tags before, and stays where the text of these is the same.
+    /// Makes the piece of the tags. One that is held is of the tags before, and stays where the text of these is the
+    /// same.
     fn set_tags(
         &mut self,
         is_held: bool,
@@ -75,7 +76,7 @@ impl LinePieces {
     }
 
     /// Makes the pieces those of a row, and only those again that differ from the row before, if they are held from it.
-    /// At want of memory they are forgotten.
+    /// At an allocation failure they are forgotten.
     pub(crate) fn set(
         &mut self,
         before: &FocusRow<'_>,
@@ -122,7 +123,7 @@ impl LinePieces {
         ]
     }
 
-    /// Appends the line. At want of memory the text is as before, or has some of the line behind it.
+    /// Appends the line. At an allocation failure the text is as before, or has some of the line after it.
     fn append(&self, text: &mut Vec<u8>) -> Result<(), AllocError>
         ensures put { OnOk result ((r : Row) → AreOf self.now r → text.new.items ≡ text.old.items ++ row_text r) }
         ensures begins { OnErr result (BeginsWith text.new.items text.old.items) }
@@ -133,7 +134,7 @@ impl LinePieces {
         Ok(())
     }
 
-    /// Appends the line. At want of memory the text is as before.
+    /// Appends the line. At an allocation failure the text is as before.
     pub(crate) fn put(&self, text: &mut Vec<u8>) -> Result<(), AllocError>
         ensures put { OnOk result ((r : Row) → AreOf self.now r → text.new.items ≡ text.old.items ++ row_text r) }
         ensures kept { OnErr result (text.new.items ≡ text.old.items) }

@@ -14,7 +14,8 @@ const LANES: usize = 16;
 /// So many of a short one are.
 const FEW_LANES: usize = 8;
 
-/// How many of the first bytes a reader of CSV would not cut a field at, before one at which it would: all of them tested at once.
+/// How many of the first bytes a reader of CSV would not cut a field at, before one at which it would: all of them
+/// tested at once.
 #[inline(always)]
 fn run_of_many(field: &[u8]) -> usize
     requires { 16 ≤ length field.now }
@@ -38,8 +39,8 @@ fn run_of_few(field: &[u8]) -> usize
     lowest_set((marks | ends).to_bitmask(), FEW_LANES)
 }
 
-/// Whether a reader of CSV would cut a field of sixteen bytes or more: sixteen are looked at in each step, and at last the last
-/// sixteen.
+/// Whether a reader of CSV would cut a field of sixteen bytes or more: sixteen are looked at in each step, and at last
+/// the last sixteen.
 fn is_long_cut(field: &[u8]) -> bool
     requires { 16 ≤ length field.now }
     ensures { result ≡ list_any is_special field.now }

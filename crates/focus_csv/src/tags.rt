@@ -34,7 +34,8 @@ fn put_plain_tag(
     requires key { is_odd key.now ≡ false }
     requires value { is_odd value.now ≡ false }
     ensures { OnOk result ((front : List ℕ) → begin.now ≡ front ++ 34 ∷ 34 ∷ []
-        → piece.new.items ≡ piece.old.items ++ (front ++ doubled (json_member (record { key = key.now; value = value.now })))) }
+        → piece.new.items ≡ piece.old.items
+        ++ (front ++ doubled (json_member (record { key = key.now; value = value.now })))) }
 {
     piece.extend_from_slice(begin)?;
     piece.extend_from_slice(key)?;
@@ -117,8 +118,8 @@ fn put_tag(
 
 // ---- all tags
 
-/// Makes a piece that of tags: one JSON object without blanks, by rising keys. Where their text has no odd byte, none is asked
-/// for in a tag.
+/// Makes a piece that of tags: one JSON object without blanks, by rising keys. Where their text has no odd byte, none
+/// is asked for in a tag.
 pub(crate) fn set_tags(
     odd: &mut OddFields,
     piece: &mut Vec<u8>,

@@ -12,7 +12,8 @@ use crate::odd::OddFields;
 use focus_row::FocusRow;
 use std::alloc::{AllocError, Global};
 
-/// The pieces between the numbers, each with a comma before each of its fields. The columns of a piece mostly change together.
+/// The pieces between the numbers, each with a comma before each of its fields. The columns of a piece mostly change
+/// together.
 #[derive(Drop)]
 pub(crate) struct TextPieces {
     pub(crate) billing: Vec<u8>,

@@ -1,4 +1,4 @@
-//! Rows at hand, and their text made whole: for callers of the library. No program calls what stands here.
+//! Rows in memory, and their text made whole: for callers of the library. No program calls what stands here.
 
 ghost use Rattle.std.specs.Prelude.{◌≡◌, ◌≢◌, ◌++◌, map, Err, IfOk, IfErr, OnOk};
 ghost use Rattle.std.specs.List.{flat_map};
@@ -17,7 +17,7 @@ use counted_io::Sink;
 use focus_row::FocusRow;
 use std::alloc::{AllocError, Global};
 
-/// A head, and behind it the lines of the rows, in order.
+/// A head, and after it the lines of the rows, in order.
 fn lines_behind(alloc: Global, head: &[u8], rows: &[FocusRow<'_>]) -> Result<Vec<u8>, AllocError>
     ensures { IfOk result (λ v. v.items ≡ head.now ++ flat_map row_text (map model_row rows.now)) }
 {
@@ -27,10 +27,8 @@ fn lines_behind(alloc: Global, head: &[u8], rows: &[FocusRow<'_>]) -> Result<Vec
     Ok(text)
 }
 
-/// The text of the rows without a header line: a line for each row, in order.
-///
-/// So a file can be written in parts: `header_text`, and then the texts of its rows, as many at a
-/// time as the caller likes. Its only fault is want of memory.
+/// The text of the rows without a header line: a line for each row, in order. `header_text`, followed by the texts of
+/// some rows after others, is a file of all of them. The only error is `OutOfMemory`.
 pub fn row_texts(alloc: Global, rows: &[FocusRow<'_>]) -> Result<Vec<u8>, CsvFault>
     ensures text { IfOk result (λ v. v.items ≡ flat_map row_text (map model_row rows.now)) }
     ensures fault { IfErr result (λ fault. fault ≢ CsvFault.Write) }
@@ -50,8 +48,8 @@ fn file_bytes(alloc: Global, rows: &[FocusRow<'_>]) -> Result<Vec<u8>, AllocErro
 
 /// Writes the file of the rows: the header line, and a line for each row in order.
 ///
-/// `Write` comes only from a failed call of the sink, and that is the only one: a prefix of the file
-/// that is not all of it went out. At any other fault the sink is as it was.
+/// `Write` is one failed call of the sink, and a proper prefix of the file was written. At `OutOfMemory` the sink is as
+/// it was.
 pub fn write_file<W: Sink>(
     alloc: Global,
     rows: &[FocusRow<'_>],

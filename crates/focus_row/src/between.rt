@@ -65,8 +65,8 @@ impl<'a> Model for BetweenCuts<'a> {
         × AreAmended b.store.now.batches b.from.now b.to.now (map position_of b.amended.items) };
 }
 
-/// The rows between two cuts, batch by batch in journal order. It holds where they are, and makes those of a batch each time
-/// that they are asked for.
+/// The rows between two cuts, batch by batch in journal order. It holds where they are, and makes those of a batch each
+/// time that they are asked for.
 #[derive(Drop)]
 pub struct RowsBetween<'a> {
     cuts: BetweenCuts<'a>,
@@ -94,8 +94,7 @@ impl<'a> RowsBetween<'a> {
         self.places.len()
     }
 
-    /// How many records those batches above the earlier cut have that stand from one number to before another. With few
-    /// amendments that is about how many rows the batches have.
+    /// An estimate of how many rows the batches from the one number to before the other have: at most 1,000 for each.
     pub fn estimated_rows(&self, from: usize, to: usize) -> usize
         requires order { from ≤ to }
         requires within { to ≤ length self.now }
@@ -109,7 +108,7 @@ impl<'a> RowsBetween<'a> {
         count
     }
 
-    /// The rows of the batch of that number, in order. Memory is taken for these alone.
+    /// The rows of the batch of that number, counted from 0, in order. An error is an allocation failure.
     pub fn rows_of_batch(&self, alloc: Global, k: usize) -> Result<Vec<FocusRow<'a>>, AllocError>
         requires { k < length self.now }
         ensures { IfOk result (λ rows. map model_row rows.items ≡ slice_index_or self.now k []) }
@@ -118,7 +117,7 @@ impl<'a> RowsBetween<'a> {
         self.cuts.rows_of_batch(alloc, place.agent, place.seq)
     }
 
-    /// The walk over the rows of the batch of that number, a part of them at a time. No memory is taken.
+    /// The walk over the rows of the batch of that number, a part of them at a time.
     pub fn walk(&self, k: usize) -> BatchRows<'_, 'a>
         requires { k < length self.now }
         ensures { result.rows ≡ slice_index_or self.now k [] }
@@ -127,7 +126,7 @@ impl<'a> RowsBetween<'a> {
         BatchRows::of(&self.cuts, place.agent, place.seq)
     }
 
-    /// All rows, in order.
+    /// All rows, in order. An error is an allocation failure.
     pub fn all(&self, alloc: Global) -> Result<Vec<FocusRow<'a>>, AllocError>
         ensures { IfOk result (λ all. map model_row all.items ≡ joined self.now) }
     {
@@ -146,7 +145,8 @@ impl<'a> RowsBetween<'a> {
 
 /// The rows of a billing period between two cuts of what a store has, batch by batch.
 ///
-/// The readings up to `from` are visited only where an amendment between the cuts names them.
+/// The store has to have each batch up to `to`, and these to meet the rules of the journals. An error is an allocation
+/// failure.
 pub fn rows_between<'a>(
     alloc: Global,
     store: &'a Store,
@@ -160,7 +160,8 @@ pub fn rows_between<'a>(
     requires grows { IsAtLeast to.now from.now }
     requires whole { first_missing store.now.batches to.now ≡ None }
     requires met { MeetsJournalRules sheet.now (up_to to.now store.now.batches) }
-    ensures { IfOk result (λ batches. joined batches ≡ rows sheet.now issuer.now store.now.batches period from.now to.now) }
+    ensures { IfOk result (λ batches. joined batches
+        ≡ rows sheet.now issuer.now store.now.batches period from.now to.now) }
 {
     let amended = store.amended(alloc, from, to)?;
     // For the proof alone: its clause says that the agents are 1 to 64, and their batches a holding.

@@ -31,7 +31,8 @@ use std::alloc::AllocError;
 
 /// The region of the last row, which is near the next one.
 fn last_region<'a>(rows: &[FocusRow<'a>]) -> RegionColumns<'a>
-    ensures named { (sheet : ModelSheet) → AreNamed sheet rows.now → IsNamed sheet (option_copied result.id) (option_copied result.name) }
+    ensures named { (sheet : ModelSheet) → AreNamed sheet rows.now
+        → IsNamed sheet (option_copied result.id) (option_copied result.name) }
 {
     match rows.last() {
         Some(row) => RegionColumns {
@@ -70,7 +71,9 @@ impl<'a> BetweenCuts<'a> {
         requires to { place.agent ≤ self.now.agents }
         requires there { reading_at self.now.batches (position_of place) ≡ Some (model_reading reading.now) }
         requires within { place.seq ≤ last_of self.now.to place.agent }
-        ensures row { model_row result ≡ row self.now.sheet self.now.issuer (model_reading reading.now) self.now.period New (pos 0)
+        ensures row { model_row result
+            ≡ row self.now.sheet self.now.issuer (model_reading reading.now) self.now.period New
+            (pos 0)
             (value_at self.now.batches (position_of place) (last_of self.now.to place.agent)) }
         ensures named { IsNamed self.now.sheet (option_copied result.region_id) (option_copied result.region_name) }
     {
@@ -99,9 +102,12 @@ impl<'a> BetweenCuts<'a> {
         requires to { place.agent ≤ self.now.agents }
         requires there { reading_at self.now.batches (position_of place) ≡ Some (model_reading reading.now) }
         requires within { place.seq ≤ last_of self.now.from place.agent }
-        ensures row { option_map model_row result ≡ row_of_reading self.now.sheet self.now.issuer self.now.batches self.now.period
+        ensures row { option_map model_row result
+            ≡ row_of_reading self.now.sheet self.now.issuer self.now.batches self.now.period
             self.now.from self.now.to (position_of place) (model_reading reading.now) }
-        ensures named { IfSome result (λ row. IsNamed self.now.sheet (option_copied row.region_id) (option_copied row.region_name)) }
+        ensures named { IfSome result
+            (λ row. IsNamed self.now.sheet (option_copied row.region_id)
+            (option_copied row.region_name)) }
     {
         if !is_named(&self.amended, place) {
             return None;
@@ -122,8 +128,8 @@ impl<'a> BetweenCuts<'a> {
         ))
     }
 
-    /// Puts the correction of a reading up to `from` behind the other rows, where it has one. It stands apart, so that the way of
-    /// readings above `from` clears no room for it. At want of memory the rows are as before.
+    /// Puts the correction of a reading up to `from` after the other rows, where it has one. It stands apart, so that
+    /// the way of readings above `from` clears no room for it. At an allocation failure the rows are as before.
     #[inline(never)]
     fn put_correction(
         &self,
@@ -138,8 +144,11 @@ impl<'a> BetweenCuts<'a> {
         requires to { place.agent ≤ self.now.agents }
         requires there { reading_at self.now.batches (position_of place) ≡ Some (model_reading reading.now) }
         requires within { place.seq ≤ last_of self.now.from place.agent }
-        ensures row { OnOk result (map model_row rows.new.items ≡ map model_row rows.old.items ++ cons_option (row_of_reading self.now.sheet
-            self.now.issuer self.now.batches self.now.period self.now.from self.now.to (position_of place) (model_reading reading.now)) []) }
+        ensures row { OnOk result
+            (map model_row rows.new.items ≡ map model_row rows.old.items
+            ++ cons_option (row_of_reading self.now.sheet
+            self.now.issuer self.now.batches self.now.period self.now.from self.now.to
+            (position_of place) (model_reading reading.now)) []) }
         ensures named { OnOk result (AreNamed self.now.sheet rows.new.items) }
         ensures begins { BeginsWith rows.new.items rows.old.items }
         ensures kept { OnErr result (rows.new.items ≡ rows.old.items) }
@@ -153,8 +162,8 @@ impl<'a> BetweenCuts<'a> {
         Ok(())
     }
 
-    /// Puts the row of a record behind the others, where it has one. The region of the row before is near. At want of memory the
-    /// rows are as before.
+    /// Puts the row of a record after the others, where it has one. The region of the row before is near. At an
+    /// allocation failure the rows are as before.
     fn put_row(
         &self,
         rows: &mut Vec<FocusRow<'a>>,
@@ -166,8 +175,11 @@ impl<'a> BetweenCuts<'a> {
         requires to { place.agent ≤ self.now.agents }
         requires there { record_at self.now.batches (position_of place) ≡ Some (record_of what.now) }
         requires within { place.seq ≤ last_of self.now.to place.agent }
-        ensures row { OnOk result (map model_row rows.new.items ≡ map model_row rows.old.items ++ cons_option (row_of self.now.sheet
-            self.now.issuer self.now.batches self.now.period self.now.from self.now.to (position_of place) (record_of what.now)) []) }
+        ensures row { OnOk result
+            (map model_row rows.new.items ≡ map model_row rows.old.items
+            ++ cons_option (row_of self.now.sheet
+            self.now.issuer self.now.batches self.now.period self.now.from self.now.to
+            (position_of place) (record_of what.now)) []) }
         ensures named { OnOk result (AreNamed self.now.sheet rows.new.items) }
         ensures begins { BeginsWith rows.new.items rows.old.items }
         ensures kept { OnErr result (rows.new.items ≡ rows.old.items) }
@@ -185,8 +197,9 @@ impl<'a> BetweenCuts<'a> {
         Ok(())
     }
 
-    /// Puts the rows of a batch's records from an index on behind the other rows, until there are as many as the limit, and answers
-    /// the index of the first record whose row was not asked for. At want of memory some of them may stand there.
+    /// Puts the rows of a batch's records from an index on after the other rows, until there are as many as the limit,
+    /// and returns the index of the first record whose row was not asked for. At an allocation failure some of them may
+    /// stand there.
     pub(crate) fn put_rows(
         &self,
         rows: &mut Vec<FocusRow<'a>>,
@@ -202,11 +215,16 @@ impl<'a> BetweenCuts<'a> {
         requires within { seq ≤ last_of self.now.to agent }
         requires held { held self.now.batches agent seq ≡ Some (batch_of batch.now) }
         requires records { from ≤ length (batch_of batch.now).records }
-        ensures rows { IfOk result (λ to. map model_row rows.new.items ++ rows_behind self.now agent seq to (batch_of batch.now)
+        ensures rows { IfOk result
+            (λ to. map model_row rows.new.items
+            ++ rows_behind self.now agent seq to (batch_of batch.now)
             ≡ map model_row rows.old.items ++ rows_behind self.now agent seq from (batch_of batch.now)) }
         ensures within { IfOk result (λ to. to ≤ length (batch_of batch.now).records) }
-        ensures ends { IfOk result (λ to. (to ≡ length (batch_of batch.now).records) ⊎ (limit ≤ length rows.new.items)) }
-        ensures further { IfOk result (λ to. from < length (batch_of batch.now).records → length rows.old.items < limit → from < to) }
+        ensures ends { IfOk result
+            (λ to. (to ≡ length (batch_of batch.now).records) ⊎ (limit ≤ length rows.new.items)) }
+        ensures further { IfOk result
+            (λ to. from < length (batch_of batch.now).records → length rows.old.items < limit
+            → from < to) }
         ensures most { IfOk result (λ _. length rows.old.items ≤ limit → length rows.new.items ≤ limit) }
         ensures begins { BeginsWith rows.new.items rows.old.items }
     {

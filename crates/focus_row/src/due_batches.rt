@@ -20,8 +20,8 @@ pub(crate) struct BatchPlace {
 }
 
 impl<'a> BetweenCuts<'a> {
-    /// For how many rows of a batch with so many records room is made where all of them are made: above `from` each reading has
-    /// one, up to it few have.
+    /// For how many rows of a batch with so many records room is made where all of them are made: above `from` each
+    /// reading has one, up to it few have.
     fn room_for(&self, agent: u8, seq: u32, count: u16) -> usize
         requires from { 1 ≤ agent }
         requires to { agent ≤ self.now.agents }
@@ -72,7 +72,8 @@ impl<'a> BetweenCuts<'a> {
     fn next_of_agent(&self, agent: u8, seq: u32) -> Option<u32>
         requires from { 1 ≤ agent }
         requires to { agent ≤ self.now.agents }
-        ensures within { IfSome result (λ next. (seq ≤ next) × (next ≤ last_of self.now.to agent) × (next ≤ 1_000_000)) }
+        ensures within { IfSome result
+            (λ next. (seq ≤ next) × (next ≤ last_of self.now.to agent) × (next ≤ 1_000_000)) }
         ensures some { IfSome result (λ next. rows_left self.now agent next ≡ rows_left self.now agent seq) }
         ensures none { IfNone result (rows_left self.now (agent + 1) 1 ≡ rows_left self.now agent seq) }
     {
@@ -93,9 +94,11 @@ impl<'a> BetweenCuts<'a> {
         requires from { 1 ≤ agent }
         requires first { 1 ≤ seq }
         ensures agent { IfSome result (λ stop. (agent ≤ stop.0) × (stop.0 ≤ self.now.agents) × (stop.0 ≤ 64)) }
-        ensures seq { IfSome result (λ stop. (1 ≤ stop.1) × (stop.1 ≤ 1_000_000) × (stop.1 ≤ last_of self.now.to stop.0)) }
+        ensures seq { IfSome result
+            (λ stop. (1 ≤ stop.1) × (stop.1 ≤ 1_000_000) × (stop.1 ≤ last_of self.now.to stop.0)) }
         ensures behind { IfSome result (λ stop. stop.0 ≡ agent → seq ≤ stop.1) }
-        ensures some { IfSome result (λ stop. rows_of_batch self.now stop.0 stop.1 ++ rows_left self.now stop.0 (stop.1 + 1)
+        ensures some { IfSome result
+            (λ stop. rows_of_batch self.now stop.0 stop.1 ++ rows_left self.now stop.0 (stop.1 + 1)
             ≡ rows_left self.now agent seq) }
         ensures none { IfNone result (rows_left self.now agent seq ≡ []) }
     {

@@ -1,4 +1,4 @@
-//! What the rows of all periods come to, passed on under these names. Each law is a function without an effect.
+//! What the rows of all periods come to, passed on under these names. Each law is a function with an empty body.
 
 ghost use Rattle.std.specs.Prelude.{◌≡◌, ℕ, List, Some};
 ghost use Rattle.metering_model.specs.Batch.{Reading};
@@ -15,7 +15,8 @@ ghost use Rattle.row_laws.specs.Charged.{charged_at_once};
 /// Over growing cuts, the rows of a reading add up to what it would be charged once, at its value as of the last cut:
 /// in both quantities and all four costs.
 pub fn totals()
-    ensures { (sheet : Sheet) (issuer : Issuer) (h : Holding) (agents : ℕ) (cuts : List Cut) (at : Position) (r : Reading) →
+    ensures { (sheet : Sheet) (issuer : Issuer) (h : Holding) (agents : ℕ) (cuts : List Cut)
+        (at : Position) (r : Reading) →
         IsHolding h → IsGrowing agents cuts → reading_at h at ≡ Some r →
         model.totals (rows_of_place sheet issuer h agents cuts at)
         ≡ amounts_of (charged_at_once sheet r (value_at h at (last_of (last_cut agents cuts) at.agent))) }
@@ -23,7 +24,7 @@ pub fn totals()
     row_laws::laws::totals();
 }
 
-/// A smaller holding has the rows of a larger one, where it lacks nothing up to the later cut.
+/// A part of a holding has the rows of the whole, where it lacks nothing of it up to the later cut.
 pub fn rows_stay()
     ensures { (sheet : Sheet) (issuer : Issuer) (part whole : Holding) (period : ℕ) (from to : Cut) →
         IsHolding part → IsHolding whole → IsPartOf part whole → LacksNothingUpTo to part whole → IsAtLeast to from →

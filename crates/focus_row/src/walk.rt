@@ -14,7 +14,7 @@ use std::marker::Model;
 /// So many rows are made at a time.
 const MOST: usize = 64;
 
-/// The rows of a batch that are still to come. It holds where they are, and makes some of them each time that it is asked.
+/// The rows of a batch that are still to come, made some at a time.
 #[derive(Drop)]
 pub struct BatchRows<'b, 'a> {
     cuts: &'b BetweenCuts<'a>,
@@ -67,10 +67,9 @@ impl<'b, 'a> BatchRows<'b, 'a> {
         self.index == self.batch.count()
     }
 
-    /// Puts the next rows in place of those that stand there: 64 at most, and fewer only where no record is left. At want of memory
-    /// the walk stands where it stood, and the list is empty.
+    /// Replaces the rows in the list by the next ones: at most 64, and fewer only where no record is left.
     ///
-    /// Room is made for all of them before the first is put, so a list that is used for walks alone has room for 64 at most.
+    /// An error is an allocation failure: the walk stands where it stood, and the list is empty.
     pub fn next_rows(&mut self, rows: &mut Vec<FocusRow<'a>>) -> Result<(), AllocError>
         ensures rows { OnOk result (map model_row rows.new.items ++ self.new.rows ≡ self.old.rows) }
         ensures many { OnOk result ((self.new.records ≡ 0) ⊎ (64 ≤ length rows.new.items)) }

@@ -17,25 +17,24 @@ use price_sheet::{Issuer, Sheet};
 use std::alloc::Global;
 use thiserror::Error;
 
-/// Why no rows are given.
+/// Why no rows are returned.
 #[derive(Clone, Copy, Debug, Drop, Error)]
 pub enum RowFault {
     /// Q1: the store lacks this batch, and perhaps later ones up to the cut.
     #[error("missing agent {agent} seq {seq}")]
     Missing { agent: u8, seq: u32 },
-    /// Q2, Q3: the first bad record up to the cut breaks the rule on targets (G3) or the one on prices (G4).
+    /// Q2, Q3: the first record up to the cut that breaks a rule breaks that on targets (Q2: G3) or on prices (Q3: G4).
     #[error("{0}")]
     Broken(BrokenRule),
-    /// Q4: no room could be made for the rows.
+    /// Q4: out of memory: an allocation for the rows failed.
     #[error("out of memory")]
     OutOfMemory,
 }
 
 /// The rows of a billing period between two cuts of what a store has, in journal order.
 ///
-/// Each reading above `from` is charged whole, and each one up to it the change of its value, where amendments
-/// between the cuts change it. What is missing, and then what breaks a rule of the journals, is told before any
-/// memory is taken.
+/// A reading above `from` has a row of its whole value, and one up to it a row of the difference of its values as of
+/// the two cuts, where these differ. Missing is returned before Broken, and both before OutOfMemory.
 pub fn rows_of<'a>(
     alloc: Global,
     store: &'a Store,
@@ -55,7 +54,8 @@ pub fn rows_of<'a>(
         → first_missing store.now.batches to.now ≡ Some (agent, seq) }
     ensures broken { (rule : BrokenRule) → result ≡ Err (RowFault.Broken rule)
         → (first_missing store.now.batches to.now ≡ None)
-        × (first_broken sheet.now (up_to to.now store.now.batches) (records_in_order (up_to to.now store.now.batches)) ≡ Some rule) }
+        × (first_broken sheet.now (up_to to.now store.now.batches)
+        (records_in_order (up_to to.now store.now.batches)) ≡ Some rule) }
     ensures memory { result ≡ Err RowFault.OutOfMemory → (first_missing store.now.batches to.now ≡ None)
         × MeetsJournalRules sheet.now (up_to to.now store.now.batches) }
 {

@@ -1,4 +1,4 @@
-//! The program focusd: it hands its words and its devices on, and ends with the status that comes back.
+//! The program focusd: it passes its words and its streams on, and ends with the status that is returned.
 #![tactic(auto)]
 
 use command_line::run;

@@ -33,7 +33,7 @@ impl Model for Cost {
 }
 
 impl Cost {
-    /// The cost of so many units of 10^-12, or None beyond the limit.
+    /// The cost of so many units of 10^-12 of the currency; None at a magnitude of 2 * 10^30 or more.
     pub fn new(units: i128) -> Option<Cost>
         ensures within { unsigned_abs units < cost_limit → result ≡ Some units }
         ensures beyond { cost_limit ≤ unsigned_abs units → result ≡ None }
@@ -45,7 +45,7 @@ impl Cost {
         }
     }
 
-    /// The cost in units of 10^-12.
+    /// The cost in units of 10^-12 of the currency.
     pub fn units(self) -> i128
         ensures value { result ≡ self }
         ensures within { unsigned_abs result < cost_limit }
@@ -53,7 +53,8 @@ impl Cost {
         self.0
     }
 
-    /// Appends the one spelling of the cost. Where memory is refused the text stays as it was.
+    /// Appends the one spelling of the cost: units of the currency, with at most twelve places. An error is an
+    /// allocation failure: it comes only where the spare capacity is too small, and leaves the text as it was.
     pub fn write_to(&self, text: &mut String) -> Result<(), AllocError>
         ensures ok { OnOk result (string_bytes text.new ≡ string_bytes text.old ++ spelling 12 self.now) }
         ensures err { OnErr result (string_bytes text.new ≡ string_bytes text.old) }
@@ -67,7 +68,7 @@ impl Cost {
         append(text, self.0.is_negative(), whole, decimals, PLACES)
     }
 
-    /// The one spelling of the cost, in a text of its own.
+    /// The one spelling of the cost. An error is an allocation failure.
     pub fn write(&self, alloc: Global) -> Result<String, AllocError>
         ensures { IfOk result (λ text. string_bytes text ≡ spelling 12 self.now) }
     {

@@ -28,7 +28,7 @@ impl Model for Delta {
 }
 
 impl Delta {
-    /// The difference of so many millionths, or None beyond the limit.
+    /// The difference of so many millionths; None at a magnitude of 2 * 10^18 or more.
     pub fn new(millionths: i64) -> Option<Delta>
         ensures within { unsigned_abs millionths < delta_limit → result ≡ Some millionths }
         ensures beyond { delta_limit ≤ unsigned_abs millionths → result ≡ None }
@@ -48,7 +48,8 @@ impl Delta {
         self.0
     }
 
-    /// Appends the one spelling of the difference. Where memory is refused the text stays as it was.
+    /// Appends the one spelling of the difference, with at most six places. An error is an allocation failure: it comes
+    /// only where the spare capacity is too small, and leaves the text as it was.
     pub fn write_to(&self, text: &mut String) -> Result<(), AllocError>
         ensures ok { OnOk result (string_bytes text.new ≡ string_bytes text.old ++ spelling 6 self.now) }
         ensures err { OnErr result (string_bytes text.new ≡ string_bytes text.old) }
@@ -59,7 +60,7 @@ impl Delta {
         append_millionths(text, self.0.is_negative(), self.0.unsigned_abs())
     }
 
-    /// The one spelling of the difference, in a text of its own.
+    /// The one spelling of the difference. An error is an allocation failure.
     pub fn write(&self, alloc: Global) -> Result<String, AllocError>
         ensures { IfOk result (λ text. string_bytes text ≡ spelling 6 self.now) }
     {

@@ -29,7 +29,7 @@ impl Model for Price {
 }
 
 impl Price {
-    /// The price of so many millionths, or None beyond the limit.
+    /// The price of so many millionths; None at 10^12 or more.
     pub fn new(millionths: u64) -> Option<Price>
         ensures within { millionths < price_limit → result ≡ Some millionths }
         ensures beyond { price_limit ≤ millionths → result ≡ None }
@@ -41,8 +41,8 @@ impl Price {
         }
     }
 
-    /// Reads a decimal of at most six places and without minus: Shape where the text has another
-    /// form, Range where the number is beyond the limit. Takes no memory.
+    /// Reads a decimal of at most six places and without minus. Shape is a text of another form, Range a number of
+    /// 1,000,000 or more.
     pub fn read(text: &[u8]) -> Result<Price, NumberFault>
         ensures { result ≡ price_in text.now }
     {
@@ -60,7 +60,8 @@ impl Price {
         self.0
     }
 
-    /// Appends the one spelling of the price. Where memory is refused the text stays as it was.
+    /// Appends the one spelling of the price, with at most six places. An error is an allocation failure: it comes only
+    /// where the spare capacity is too small, and leaves the text as it was.
     pub fn write_to(&self, text: &mut String) -> Result<(), AllocError>
         ensures ok { OnOk result (string_bytes text.new ≡ string_bytes text.old ++ spelling 6 (pos self.now)) }
         ensures err { OnErr result (string_bytes text.new ≡ string_bytes text.old) }
@@ -71,7 +72,7 @@ impl Price {
         append_millionths(text, false, self.0)
     }
 
-    /// The one spelling of the price, in a text of its own.
+    /// The one spelling of the price. An error is an allocation failure.
     pub fn write(&self, alloc: Global) -> Result<String, AllocError>
         ensures { IfOk result (λ text. string_bytes text ≡ spelling 6 (pos self.now)) }
     {

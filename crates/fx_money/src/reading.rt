@@ -52,7 +52,7 @@ fn first_point(body: &[u8]) -> Option<usize>
     body.iter().position(|byte| *byte == b'.')
 }
 
-/// What stands before the first point and behind it.
+/// What stands before the first point and after it.
 fn parts(body: &[u8]) -> (&[u8], &[u8])
     ensures whole { result.0.now ≡ before_first is_point body.now }
     ensures decimals { result.1.now ≡ after_first is_point body.now }
@@ -79,7 +79,7 @@ fn number(digits: &[u8]) -> Option<u64>
     Some(number)
 }
 
-/// The millionths that the digits behind the point are worth.
+/// The millionths that the digits after the point are worth.
 fn worth(digits: &[u8]) -> u64
     requires { IsTrue (is_decimal_part 6 digits.now) }
     ensures value { result ≡ worth_of 6 digits.now }
@@ -179,8 +179,8 @@ fn usual_decimals(decimals: &[u8]) -> Option<u64>
     Some(part * last_unit(few))
 }
 
-/// The millionths of a number in the usual form: of each that has at most twelve bytes before its first point. None says nothing
-/// of a text that has more.
+/// The millionths of a number in the usual form: of each that has at most twelve bytes before its first point. None
+/// says nothing of a text that has more.
 #[inline(always)]
 fn usual_magnitude(body: &[u8]) -> Option<u64>
     ensures value { IfSome result (λ n. magnitude_in 6 body.now ≡ Some n) }
@@ -212,7 +212,7 @@ pub(crate) fn magnitude(body: &[u8], limit: u64) -> Result<u64, NumberFault>
     }
 }
 
-/// The millionths of a value from the text behind its minus. Zero has no minus.
+/// The millionths of a value from the text after its minus. Zero has no minus.
 fn negative(body: &[u8]) -> Result<i64, NumberFault>
     ensures { result ≡ value_within (negated (magnitude_in 6 body.now)) }
 {

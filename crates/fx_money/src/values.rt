@@ -28,7 +28,7 @@ impl Model for Value {
 }
 
 impl Value {
-    /// The value of so many millionths, or None beyond the limit.
+    /// The value of so many millionths; None at a magnitude of 10^18 or more.
     pub fn new(millionths: i64) -> Option<Value>
         ensures within { unsigned_abs millionths < value_limit → result ≡ Some millionths }
         ensures beyond { value_limit ≤ unsigned_abs millionths → result ≡ None }
@@ -40,8 +40,8 @@ impl Value {
         }
     }
 
-    /// Reads a decimal of at most six places: Shape where the text has another form, Range where
-    /// the number is beyond the limit. Takes no memory.
+    /// Reads a decimal of at most six places. Shape is a text of another form, Range a number of a magnitude of 10^12
+    /// or more.
     pub fn read(text: &[u8]) -> Result<Value, NumberFault>
         ensures { result ≡ value_in text.now }
     {
@@ -59,7 +59,8 @@ impl Value {
         self.0
     }
 
-    /// Appends the one spelling of the value. Where memory is refused the text stays as it was.
+    /// Appends the one spelling of the value, with at most six places. An error is an allocation failure: it comes only
+    /// where the spare capacity is too small, and leaves the text as it was.
     pub fn write_to(&self, text: &mut String) -> Result<(), AllocError>
         ensures ok { OnOk result (string_bytes text.new ≡ string_bytes text.old ++ spelling 6 self.now) }
         ensures err { OnErr result (string_bytes text.new ≡ string_bytes text.old) }
@@ -70,7 +71,7 @@ impl Value {
         append_millionths(text, self.0.is_negative(), self.0.unsigned_abs())
     }
 
-    /// The one spelling of the value, in a text of its own.
+    /// The one spelling of the value. An error is an allocation failure.
     pub fn write(&self, alloc: Global) -> Result<String, AllocError>
         ensures { IfOk result (λ text. string_bytes text ≡ spelling 6 self.now) }
     {

@@ -64,8 +64,8 @@ impl Text {
         self.start = write_digits(number, &mut self.bytes, self.start);
     }
 
-    /// Writes all the places of decimals, the last of which is not 0: they are the digits of the number with a 1 in front,
-    /// which is left out.
+    /// Writes all the places of decimals, the last of which is not 0: they are the digits of the number with a 1 in
+    /// front, which is left out.
     fn prepend_decimals(&mut self, number: u64, places: usize)
         requires few { places ≤ 12 }
         requires below { number < 10 ^ places }
@@ -149,8 +149,8 @@ fn without_zeros(number: u64, places: usize) -> (u64, usize)
     (left, kept)
 }
 
-/// Appends a number by its sign, its whole part and so many places of decimals. Where memory is
-/// refused the text stays as it was.
+/// Appends a number by its sign, its whole part and so many places of decimals. Where an allocation fails the text
+/// stays as it was.
 pub(crate) fn append(
     text: &mut String,
     minus: bool,
@@ -176,8 +176,7 @@ pub(crate) fn append(
     text.push_str(number.as_str())
 }
 
-/// Appends a number of millionths by its sign and its magnitude. Where memory is refused the text
-/// stays as it was.
+/// Appends a number of millionths by its sign and its magnitude. Where an allocation fails the text stays as it was.
 pub(crate) fn append_millionths(
     text: &mut String,
     minus: bool,

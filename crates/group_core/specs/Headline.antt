@@ -10,8 +10,8 @@ use Rattle.metering_model.specs.World.{World, Node, Offer, Event, Journal, Expor
 use Rattle.metering_model.specs.Step.{batch_of}
 use Rattle.group_laws.specs.Headline.{IsPrefixOf, AreTheCuts, IsExport, AreChargedOnce}
 
--- The chosen cuts are one growing list, within the journals and due, of which each node has learned the first ones. There is
--- just one such list.
+-- The chosen cuts are one growing list, within the journals and due, of which each node has learned a prefix. There is just
+-- one such list.
 pub record HasOneList (w : World) : Type 0 where
   pub cuts : List Cut
   pub are_the_cuts : AreTheCuts w cuts
@@ -21,13 +21,14 @@ pub record HasOneList (w : World) : Type 0 where
 pub record LearnsWhatIsChosen (w : World) : Type 0 where
   pub chosen : (n : Node) (period : ℕ) (cut : Cut) → Contains w.nodes n → slice_get n.kept.learned period ≡ Some cut → IsChosen w period cut
 
--- No batch is charged in two periods, and each reading is new in at most one file.
+-- No batch is charged as new in two periods, no reading in two rows, and each reading up to a chosen cut is new in one.
 pub record ChargesOnce (w : World) : Type 0 where
   pub cuts : List Cut
   pub are_the_cuts : AreTheCuts w cuts
   pub charged_once : AreChargedOnce w cuts
 
--- The snapshot is of two neighbouring cuts of the list, with the world's sheet and issuer and just the journals' batches.
+-- The snapshot is of a chosen cut and of the one before it (zero before the first), with the world's sheet and issuer and
+-- just the journals' batches up to the cut.
 pub record IsExportOf (w : World) (s : Snapshot) : Type 0 where
   pub cuts : List Cut
   pub are_the_cuts : AreTheCuts w cuts
@@ -37,7 +38,8 @@ pub record IsExportOf (w : World) (s : Snapshot) : Type 0 where
 abbrev pub AreExportsOf : World → List Reply → Type 0
 AreExportsOf w replies = (s : Snapshot) → Contains replies (Exported s) → IsExportOf w s
 
--- Two exports of one period are the same, be they of one call or of two: an earlier one is still an export of this world.
+-- Two exports of one period among the replies are the same, and each is the same as whatever is an export of this world: so
+-- as one of an earlier call, by `ExportsStay`.
 pub record ExportsAgree (w : World) (replies : List Reply) : Type 0 where
   pub here : (s t : Snapshot) → Contains replies (Exported s) → Contains replies (Exported t) → s.period ≡ t.period → s ≡ t
   pub with_earlier : (s t : Snapshot) → Contains replies (Exported s) → IsExportOf w t → s.period ≡ t.period → s ≡ t
@@ -50,7 +52,7 @@ pub record IsSameGroup (before after : World) : Type 0 where
   pub sheet : after.sheet ≡ before.sheet
   pub issuer : after.issuer ≡ before.issuer
 
--- A cut that was chosen stays, at its period: more are only added behind.
+-- A cut that was chosen stays, at its period: more are only added after it.
 abbrev pub ListGrows : World → World → Type 0
 ListGrows before after = (cuts later : List Cut) → AreTheCuts before cuts → AreTheCuts after later → IsPrefixOf cuts later
 
@@ -63,8 +65,8 @@ abbrev pub IsJournaledBy : List Event → List Reply → Batch → Type 0
 IsJournaledBy events replies b =
     (k : ℕ) × (packet : ℕ) × (offer : Offer) × (slice_get events k ≡ Some (Journal offer)) × (slice_get replies k ≡ Some (Journaled packet)) × (batch_of offer ≡ Ok b)
 
--- Each event has its own answer. An export is of the period that was asked for, and what was answered `Journaled`, and nothing
--- else, came to the journals.
+-- Each event has its own reply. An export is of the period that was asked for, and the batches whose reply was `Journaled`,
+-- and no others, came to the journals, which keep what they had.
 pub record AnswersEach (before : World) (events : List Event) (replies : List Reply) (after : World) : Type 0 where
   pub one_each : length replies ≡ length events
   pub asked : (k : ℕ) (s : Snapshot) → slice_get replies k ≡ Some (Exported s) → (node : ℕ) × (slice_get events k ≡ Some (Export node s.period))

@@ -8,15 +8,20 @@ ghost use Rattle.metering_model.specs.Step.{play};
 ghost use Rattle.metering_model.specs.History.{Entry, IsLegal};
 ghost use Rattle.group_laws.specs.Headline.{IsPrefixOf, AreTheCuts, HoldsAfter};
 
-/// The headline of every legal history, whoever asked: it holds of each history that one thread could have made, as of each
-/// list of events; and a longer one only lengthens the list of cuts.
+/// The headline holds of each history that one thread could have made, as of each list of events, and the list of cuts
+/// after some events is a prefix of that after more.
 pub fn runs()
-    ensures histories { (voters observers agents : ℕ) (sheet : Sheet) (issuer : Issuer) (history : List Entry) (reached : World) →
+    ensures histories { (voters observers agents : ℕ) (sheet : Sheet) (issuer : Issuer)
+        (history : List Entry) (reached : World) →
         IsLegal (opening voters observers agents sheet issuer) history reached →
-        HoldsAfter voters observers agents sheet issuer (map (λ e. e.event) history) (map (λ e. e.reply) history) reached }
+        HoldsAfter voters observers agents sheet issuer (map (λ e. e.event) history)
+        (map (λ e. e.reply) history) reached }
     ensures holds { (voters observers agents : ℕ) (sheet : Sheet) (issuer : Issuer) (events : List Event) →
-        HoldsAfter voters observers agents sheet issuer events (play (opening voters observers agents sheet issuer) events).0 (play (opening voters observers agents sheet issuer) events).1 }
-    ensures grows { (voters observers agents : ℕ) (sheet : Sheet) (issuer : Issuer) (events more : List Event) (before after : List Cut) →
+        HoldsAfter voters observers agents sheet issuer events
+        (play (opening voters observers agents sheet issuer) events).0
+        (play (opening voters observers agents sheet issuer) events).1 }
+    ensures grows { (voters observers agents : ℕ) (sheet : Sheet) (issuer : Issuer)
+        (events more : List Event) (before after : List Cut) →
         AreTheCuts (play (opening voters observers agents sheet issuer) events).1 before →
         AreTheCuts (play (opening voters observers agents sheet issuer) (events ++ more)).1 after →
         IsPrefixOf before after }

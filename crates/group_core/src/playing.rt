@@ -11,30 +11,35 @@ use crate::World;
 use group_state::{Event, Reply};
 use std::alloc::{AllocError, Global};
 
-/// Memory was refused, after these replies. The world stands after exactly their events.
+/// An allocation failed, after these replies. The world stands after exactly their events.
 #[derive(Drop)]
 pub struct Stopped {
+    /// The replies to the events that were done.
     pub replies: Vec<Reply>,
 }
 
 impl World {
-    /// Does the events in turn, and gives a reply for each. Where memory is refused it stops: the replies so far are those of
-    /// the first events, and the world is as these left it, so that the rest can be played from there.
-    ///
-    /// With Ok or [`Stopped`], after any calls before: at most one cut is chosen for a period; each export that was answered is
-    /// of two neighbouring cuts of the one growing list; two exports of one period are the same, whichever nodes gave them;
-    /// and each reading is charged as new in one period. What an earlier call was answered stays true.
+    /// Does the events in turn, and returns a reply for each. [`Stopped`] is an allocation failure: it has the replies
+    /// to the first events, fewer than all, and the world is as these left it. With either, and after any calls before,
+    /// the headline holds: one chosen cut a period at most, exports of neighbouring cuts, equal for one period, and no
+    /// reading charged as new twice.
     pub fn play(&mut self, alloc: Global, events: &[Event]) -> Result<Vec<Reply>, Stopped>
-        ensures run { IfOk result (λ replies. (map reply_of replies.items, self.new) ≡ play self.old (map event_of events.now)) }
+        ensures run { IfOk result
+            (λ replies. (map reply_of replies.items, self.new)
+            ≡ play self.old (map event_of events.now)) }
         ensures short { IfErr result (λ why. length why.replies.items < length events.now) }
-        ensures stopped { IfErr result (λ why. (map reply_of why.replies.items, self.new) ≡ play self.old (map event_of (take (length why.replies.items) events.now))) }
+        ensures stopped { IfErr result
+            (λ why. (map reply_of why.replies.items, self.new)
+            ≡ play self.old (map event_of (take (length why.replies.items) events.now))) }
         ensures one_cut { AtMostOneIsChosen self.new }
         ensures learned { LearnsWhatIsChosen self.new }
         ensures cuts { HasOneList self.new }
         ensures exports { AreExportsOf self.new (replies_in result) }
         ensures agree { ExportsAgree self.new (replies_in result) }
         ensures charged_once { ChargesOnce self.new }
-        ensures answers { AnswersEach self.old (map event_of (take (length (replies_in result)) events.now)) (replies_in result) self.new }
+        ensures answers { AnswersEach self.old
+            (map event_of (take (length (replies_in result)) events.now))
+            (replies_in result) self.new }
         ensures group { IsSameGroup self.old self.new }
         ensures grows { ListGrows self.old self.new }
         ensures stay { ExportsStay self.old self.new }
@@ -55,7 +60,8 @@ impl World {
         replies: &mut Vec<Reply>,
     ) -> Result<(), AllocError>
         requires begun { replies.old.items ≡ [] }
-        ensures run { (map reply_of replies.new.items, self.new) ≡ play self.old (map event_of (take (length replies.new.items) events.now)) }
+        ensures run { (map reply_of replies.new.items, self.new)
+            ≡ play self.old (map event_of (take (length replies.new.items) events.now)) }
         ensures all { OnOk result (length replies.new.items ≡ length events.now) }
         ensures short { OnErr result (length replies.new.items < length events.now) }
     {

@@ -1,6 +1,7 @@
 //! A group, whose type keeps that some run leads to it.
 
 ghost use Rattle.std.specs.Prelude.{◌≡◌, ◌≢◌, ℕ, ◌+◌, ◌≤◌, true, Some, slice_get, IfOk, OnErr, [], ◌∷◌};
+ghost use Rattle.std.specs.Option.{option_map};
 ghost use Rattle.std.specs.Arc.{arc_value};
 ghost use Rattle.metering_model.specs.World.{Node, KeptOffer, KeptGood, Refused, Revive, opening, voter_count};
 ghost use Rattle.metering_model.specs.KeptText.{kept_text};
@@ -10,6 +11,7 @@ ghost use Rattle.group_laws.specs.EveryRun.{KeepsLimits};
 ghost use Rattle.group_laws.specs.Revivals.{refusal_of_other};
 ghost use Rattle.group_state.specs.Words.{event_of, is_exported, is_kept_text, is_refused, reply_of};
 ghost use Rattle.group_state.specs.Reached.{IsReached};
+ghost use Rattle.group_state.specs.BadRecords.{bad_record};
 ghost use Rattle.group_core.specs.Headline.{AreExportsOf, ChargesOnce, ExportsStay, HasOneList, IsExportOf, IsSameGroup, LearnsWhatIsChosen, ListGrows};
 
 use group_state::{Event, GroupState, Reply, Snapshot};
@@ -19,8 +21,8 @@ use std::alloc::{AllocError, Global};
 use std::marker::Model;
 use std::sync::Arc;
 
-/// A group: sheet, issuer, journals, the packets that were ever sent, and the nodes, voters and then observers. It only comes
-/// from an opening world, by events: so what every run keeps is true of each world, without a look at its parts.
+/// A group: sheet, issuer, journals, the packets that were ever sent, and the nodes, voters and then observers. Some
+/// run leads to each world, so the headline holds of it.
 #[derive(Drop)]
 pub struct World {
     state: GroupState,
@@ -38,7 +40,8 @@ impl Model for World {
 }
 
 impl World {
-    /// A group of so many voters, observers and agents before any event: nothing is journaled, sent, held or learned.
+    /// A group of so many voters, at least 1, and observers, at most 99 with the voters, and 1 to 64 agents, before any
+    /// event. An error is an allocation failure.
     pub fn new(
         alloc: Global,
         voters: u8,
@@ -74,8 +77,8 @@ impl World {
         self.reached();
     }
 
-    /// What is agreed in every world: no period has two chosen cuts, the chosen ones are one growing list of which each node
-    /// has learned the first ones, and each reading is charged as new once. The call does nothing.
+    /// No period has two chosen cuts, the chosen ones are one growing list of which each node has learned a prefix, and
+    /// each reading is charged as new at most once. The call does nothing.
     pub fn agreed(&self)
         ensures one_cut { AtMostOneIsChosen self.now }
         ensures learned { LearnsWhatIsChosen self.now }
@@ -85,16 +88,17 @@ impl World {
         self.reached();
     }
 
-    /// Does one event, and answers it. A refused event, an export that is answered, a kept text, and an error, which says that
-    /// there was no memory, leave the world as it was. An export that is answered is of two neighbouring chosen cuts. A node is
-    /// revived from no text but that of what it keeps now.
+    /// Does one event, and returns the reply. A refused event, an answered export and a kept text leave the world as it
+    /// was. So does an error, which is an allocation failure. An answered export is of one of the chosen cuts and of
+    /// the one before it. A node is revived from no text but that of what it keeps now.
     pub fn step(&mut self, alloc: Global, event: &Event) -> Result<Reply, AllocError>
         ensures ok { IfOk result (λ reply. (reply_of reply, self.new) ≡ step self.old (event_of event.now)) }
         ensures err { OnErr result (self.new ≡ self.old) }
         ensures refused { IfOk result (λ reply. is_refused (reply_of reply) ≡ true → self.new ≡ self.old) }
         ensures exported { IfOk result (λ reply. is_exported (reply_of reply) ≡ true → self.new ≡ self.old) }
         ensures kept { IfOk result (λ reply. is_kept_text (reply_of reply) ≡ true → self.new ≡ self.old) }
-        ensures others { (node : ℕ) (n : Node) (offer : KeptOffer) → event_of event.now ≡ Revive node offer → slice_get self.old.nodes node ≡ Some n →
+        ensures others { (node : ℕ) (n : Node) (offer : KeptOffer)
+            → event_of event.now ≡ Revive node offer → slice_get self.old.nodes node ≡ Some n →
             offer ≢ KeptGood (kept_text (kept_now self.old n)) →
             IfOk result (λ reply. (reply_of reply ≡ Refused (refusal_of_other offer)) × (self.new ≡ self.old)) }
         ensures exports { IfOk result (λ reply. AreExportsOf self.new (reply_of reply ∷ [])) }
@@ -105,8 +109,24 @@ impl World {
         self.state.step(alloc, event)
     }
 
-    /// What an export of a period at a node is answered with; or why it is refused, which is told first for a node that is
-    /// not there, then for a period that the node has not learned, then for a batch that it lacks. Nothing changes.
+    /// The sheet by which the group's usage is priced.
+    pub fn sheet(&self) -> &Sheet
+        ensures { result.now ≡ self.now.sheet }
+    {
+        self.state.sheet()
+    }
+
+    /// The index of the record for which an event's batch is refused where it comes next in its agent's journal: the first that
+    /// breaks a rule beside the journals. Nothing changes, and no memory is taken.
+    pub fn bad_record(&self, event: &Event) -> Option<u16>
+        ensures { result ≡ option_map (λ p. p.index) (bad_record self.now (event_of event.now)) }
+    {
+        self.state.bad_record(event)
+    }
+
+    /// The reply to an export of a period at a node, or why it is refused: first for a node that is not there, then for
+    /// a period that the node has not learned, then for a batch that it lacks. An error is an allocation failure.
+    /// Nothing changes.
     pub fn snapshot(
         &self,
         alloc: Global,

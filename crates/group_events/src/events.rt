@@ -53,8 +53,8 @@ fn is_same_offer(one: &Offer, two: &Offer) -> bool
 }
 
 impl Event {
-    /// An equal event, which shares the batch, or what was read of a text. An error comes only where these cannot be shared once
-    /// more.
+    /// An equal event, which shares the batch, or what was read of a text. An error is an allocation failure, and comes
+    /// only of an event with one of these.
     pub fn copy(&self) -> Result<Event, AllocError>
         ensures copy { IfOk result (λ copy. event_of copy ≡ event_of self.now) }
         ensures want { IfErr result (λ _. shares (event_of self.now) ≡ true) }
@@ -82,7 +82,7 @@ impl Event {
         }
     }
 
-    /// Whether both are the same event: the same numbers, the same bytes, or the same fault. No memory is taken.
+    /// Whether both are the same event: the same numbers, the same bytes, or the same fault.
     pub fn same(&self, other: &Event) -> bool
         ensures { IsTrue result ↔ (event_of self.now ≡ event_of other.now) }
     {

@@ -1,4 +1,4 @@
-//! What happens to a group of nodes, what it answers, and what its exports are made of.
+//! What happens to a group of nodes, what it replies, and what its exports are made of.
 #![tactic(auto)]
 
 mod events;

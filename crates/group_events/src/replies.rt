@@ -1,4 +1,4 @@
-//! Replies: what a group answers to events.
+//! Replies: the output of a group for its events.
 
 ghost use Rattle.std.specs.Prelude.{◌≡◌, ◌↔◌, true, IfOk, IfErr, IsTrue};
 ghost use Rattle.group_events.specs.Replies.{grows, reply_of};
@@ -9,10 +9,10 @@ use node_kept::Ballot;
 use period_cut::Period;
 use std::alloc::{AllocError, Global};
 
-/// What a group answers to an event.
+/// What a group replies to an event.
 #[derive(Drop)]
 pub enum Reply {
-    /// The batch stands in the journals, and the packet of this number carries it.
+    /// The batch is in the journals, and the packet of this number carries it.
     Journaled {
         packet: u32,
     },
@@ -37,7 +37,7 @@ pub enum Reply {
 }
 
 impl Reply {
-    /// An equal reply. Memory is taken for a snapshot alone, which shares its batches, and for a text, which is copied.
+    /// An equal reply. An error is an allocation failure, and comes only of an export and of a kept text.
     pub fn copy(&self, alloc: Global) -> Result<Reply, AllocError>
         ensures copy { IfOk result (λ copy. reply_of copy ≡ reply_of self.now) }
         ensures want { IfErr result (λ _. grows (reply_of self.now) ≡ true) }
@@ -65,8 +65,8 @@ impl Reply {
         }
     }
 
-    /// Whether both are the same reply; snapshots are the same where all of their parts are equal, texts where they are the same
-    /// bytes. No memory is taken.
+    /// Whether both are the same reply; snapshots are the same where all of their parts are equal, texts where they are
+    /// the same bytes.
     pub fn same(&self, other: &Reply) -> bool
         ensures { IsTrue result ↔ (reply_of self.now ≡ reply_of other.now) }
     {

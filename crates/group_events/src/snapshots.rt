@@ -15,9 +15,10 @@ use std::alloc::{AllocError, Global};
 use std::marker::Model;
 use std::sync::Arc;
 
-/// What the file of a period is made of: the cut before the period, the period's own, and the batches up to it, shared.
+/// What the file of a period is made of: the cut before the period, the period's own, and the batches up to it.
 ///
-/// Nothing is missing of these batches and they meet the rules of the journals: so who makes the file has nothing to refuse.
+/// None of these batches is missing and they meet the rules of the journals: so rendering the file has nothing to
+/// refuse.
 #[derive(Drop)]
 pub struct Snapshot {
     period: Period,
@@ -58,7 +59,8 @@ impl Model for Snapshot {
 }
 
 impl Snapshot {
-    /// The snapshot of a period between two cuts: the batches up to the later one are shared, and never copied.
+    /// The snapshot of a period between two cuts: the batches up to the later one are shared. The store has to have
+    /// each of them, and they to meet the rules of the journals. An error is an allocation failure.
     pub fn of(
         alloc: Global,
         period: Period,
@@ -135,7 +137,7 @@ impl Snapshot {
         &self.issuer
     }
 
-    /// An equal snapshot, which shares its cuts, its batches, its sheet and its issuer.
+    /// An equal snapshot. An error is an allocation failure.
     pub fn copy(&self, alloc: Global) -> Result<Snapshot, AllocError>
         ensures { IfOk result (λ copy. copy ≡ self.now) }
     {
@@ -149,8 +151,7 @@ impl Snapshot {
         })
     }
 
-    /// Whether both have the same period, the same cuts, the same batches, and equal sheets and issuers. No memory is
-    /// taken.
+    /// Whether both have the same period, the same cuts, the same batches, and equal sheets and issuers.
     pub fn same(&self, other: &Snapshot) -> bool
         ensures { IsTrue result ↔ (self.now ≡ other.now) }
     {

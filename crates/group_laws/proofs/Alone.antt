@@ -169,7 +169,11 @@ module _ (N : ℕ) (u : World) (i : ℕ) (n : Node) (votes : voter_count u ≡ N
       → step (at t) (Deliver k i) ≡ cond (has_majority N (accepting_at N b (with_accepted N j b t))) (Delivered None (Some (current_period n)), taught) (Delivered None None, at (with_accepted N j b t))
   counted t j k is =
       delivered (at t) k i (Accepted j (current_period n) b c) (record n { tally = t }) is (set_same u.nodes i (record n { tally = t }) ∙ ap (option_map (λ _. record n { tally = t })) found)
-      ∙ ap (λ x. or_refused (at t) (after_delivery (at t) i (cond x (cond (has_majority (voter_count u) (accepting_at (voter_count u) b (with_accepted (voter_count u) j b t))) (learning c (record n { tally = t })) (silent (record n { tally = with_accepted (voter_count u) j b t }))) (silent (record n { tally = t }))))) (eq-eqb (current_period n) (current_period n) refl)
+      ∙ ap (λ x. or_refused (at t)
+      (after_delivery (at t) i (cond x
+      (cond (has_majority (voter_count u) (accepting_at (voter_count u) b (with_accepted (voter_count u) j b t))) (learning c (record n { tally = t }))
+      (silent (record n { tally = with_accepted (voter_count u) j b t }))) (silent (record n { tally = t })))))
+      (eq-eqb (current_period n) (current_period n) refl)
       ∙ ap (λ V. or_refused (at t) (after_delivery (at t) i (cond (has_majority V (accepting_at V b (with_accepted V j b t))) (learning c (record n { tally = t })) (silent (record n { tally = with_accepted V j b t }))))) votes
       ∙ by_many (has_majority N (accepting_at N b (with_accepted N j b t)))
     where

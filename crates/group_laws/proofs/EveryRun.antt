@@ -141,7 +141,9 @@ module _ (voters observers agents : ℕ) (sheet : Sheet) (issuer : Issuer) (even
       same_entries before after (λ p c e. (later.chosen p c).1 (still_chosen more p c ((h.chosen p c).0 e)))
 
 -- a legal history is a run, with its replies and its world
-pub legal_holds_after : (voters observers agents : ℕ) (sheet : Sheet) (issuer : Issuer) (history : List Entry) (reached : World) → IsLegal (opening voters observers agents sheet issuer) history reached → HoldsAfter voters observers agents sheet issuer (map (λ e. e.event) history) (map (λ e. e.reply) history) reached
+pub legal_holds_after : (voters observers agents : ℕ) (sheet : Sheet) (issuer : Issuer) (history : List Entry) (reached : World)
+    → IsLegal (opening voters observers agents sheet issuer) history reached
+    → HoldsAfter voters observers agents sheet issuer (map (λ e. e.event) history) (map (λ e. e.reply) history) reached
 legal_holds_after voters observers agents sheet issuer history reached legal =
     subst (λ replies. HoldsAfter voters observers agents sheet issuer (map (λ e. e.event) history) replies reached) legal.replies
     (subst (HoldsAfter voters observers agents sheet issuer _ _) legal.world (holds_after voters observers agents sheet issuer (map (λ e. e.event) history)))

@@ -114,12 +114,17 @@ module _ (voters observers agents : ℕ) (sheet : Sheet) (issuer : Issuer) (even
       limits = keeps_limits voters observers agents sheet issuer events
 
       is : IsNode (voter_count (play (opening voters observers agents sheet issuer) events).1) (play (opening voters observers agents sheet issuer) events).1.agents (play (opening voters observers agents sheet issuer) events).1.journals n
-      is = at_entry (IsNode (voter_count (play (opening voters observers agents sheet issuer) events).1) (play (opening voters observers agents sheet issuer) events).1.agents (play (opening voters observers agents sheet issuer) events).1.journals) (play (opening voters observers agents sheet issuer) events).1.nodes i n limits.each_node found
+      is = at_entry (IsNode (voter_count (play (opening voters observers agents sheet issuer) events).1)
+          (play (opening voters observers agents sheet issuer) events).1.agents (play (opening voters observers agents sheet issuer) events).1.journals)
+          (play (opening voters observers agents sheet issuer) events).1.nodes i n limits.each_node found
 
       form : IsWritable (kept_now (play (opening voters observers agents sheet issuer) events).1 n)
       form = writable (play (opening voters observers agents sheet issuer) events).1 n ((forms voters observers agents sheet issuer events).nodes i n found)
 
-      ballot_of_vote : (o : Option Vote) (v : Vote) → MayBeVote (voter_count (play (opening voters observers agents sheet issuer) events).1) (play (opening voters observers agents sheet issuer) events).1.agents (play (opening voters observers agents sheet issuer) events).1.journals o → o ≡ Some v → IsBallot (voter_count (play (opening voters observers agents sheet issuer) events).1) v.ballot
+      ballot_of_vote : (o : Option Vote) (v : Vote)
+          → MayBeVote (voter_count (play (opening voters observers agents sheet issuer) events).1)
+          (play (opening voters observers agents sheet issuer) events).1.agents (play (opening voters observers agents sheet issuer) events).1.journals o
+          → o ≡ Some v → IsBallot (voter_count (play (opening voters observers agents sheet issuer) events).1) v.ballot
       ballot_of_vote None v may e = absurd (cc)
       ballot_of_vote (Some u) v may e = subst (λ (x : Vote). IsBallot (voter_count (play (opening voters observers agents sheet issuer) events).1) x.ballot) (same_Some u v e) may.ballot
 

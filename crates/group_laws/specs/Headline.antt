@@ -1,5 +1,6 @@
 -- What holds after every run of a group, whatever is lost, repeated, reordered or restarted: the chosen cuts are one growing
--- list, each export is of two neighbouring cuts of it, and each reading is charged as new in one row of one period.
+-- list, each export is of one of them and the one before it (zero before the first), and a reading is charged as new in one row
+-- of one period: in just one, where a chosen cut reaches it.
 use Rattle.std.specs.Prelude.{◌≡◌, ◌↔◌, ℕ, ◌+◌, ◌<◌, ◌≤◌, List, ◌++◌, length, Some, None, Ok, slice_get}
 use Rattle.std.specs.List.{Contains}
 use Rattle.metering_model.specs.Batch.{Batch, Reading}
@@ -19,8 +20,8 @@ use Rattle.metering_model.specs.Transcript.{file_of}
 abbrev pub IsPrefixOf : {A : Type 0} → List A → List A → Type 0
 IsPrefixOf {A} xs ys = (rest : List A) × (xs ++ rest ≡ ys)
 
--- There are as many answers as events. An export is of the period that was asked for, and the journals have just the batches
--- that were answered `Journaled`. What else an event is answered, `step` alone says.
+-- There are as many replies as events. An export is of the period that was asked for, and the journals have just the batches
+-- whose reply was `Journaled`. What other replies there are, `step` alone says.
 pub record AreAnswers (events : List Event) (replies : List Reply) (w : World) : Type 0 where
   pub one_each : length replies ≡ length events
   pub asked : (k : ℕ) (s : Snapshot) → slice_get replies k ≡ Some (Exported s) → (node : ℕ) × (slice_get events k ≡ Some (Export node s.period))
@@ -29,12 +30,13 @@ pub record AreAnswers (events : List Event) (replies : List Reply) (w : World) :
   pub only : (agent seq : ℕ) (b : Batch) → held w.journals agent seq ≡ Some b →
       (k : ℕ) × (packet : ℕ) × (offer : Offer) × (slice_get events k ≡ Some (Journal offer)) × (slice_get replies k ≡ Some (Journaled packet)) × (batch_of offer ≡ Ok b)
 
--- what Paxos promises: no period has two chosen cuts
+-- what Paxos promises: two cuts that are chosen for one period are the same
 abbrev pub AtMostOneIsChosen : World → Type 0
 AtMostOneIsChosen w = (period : ℕ) (c d : Cut) → IsChosen w period c → IsChosen w period d → c ≡ d
 
--- The list's entry at a period is the cut that a majority chose for it, whether or not a node has learned it yet; and a
--- period past the list's end has none.
+-- The list's entry at a period is the cut that a majority chose for it, whether or not a node has learned it yet, and a period
+-- past the list's end has none. What each node has learned is a prefix of the list. The journals reach up to each cut, and
+-- their batches between it and the one before are due for its period.
 pub record AreTheCuts (w : World) (cuts : List Cut) : Type 0 where
   pub chosen : (period : ℕ) (cut : Cut) → (slice_get cuts period ≡ Some cut) ↔ IsChosen w period cut
   pub learned : (n : Node) → Contains w.nodes n → IsPrefixOf n.kept.learned cuts
@@ -43,7 +45,8 @@ pub record AreTheCuts (w : World) (cuts : List Cut) : Type 0 where
   pub journaled : (period : ℕ) (cut : Cut) → slice_get cuts period ≡ Some cut → (agent : ℕ) → last_of cut agent < next_seq w.journals agent
   pub due : (period : ℕ) (cut : Cut) → slice_get cuts period ≡ Some cut → AreDueBetween w.sheet.base period w.journals (cut_before w.agents cuts period) cut
 
--- The snapshot is of its period's cut and the one before it, and its file has the rows that the journals have between them.
+-- The snapshot is of its period's cut and the one before it, with the world's sheet and issuer and just the journals' batches
+-- up to its cut, which meet the rules; and its file has the rows that the journals have between the two.
 pub record IsExport (w : World) (cuts : List Cut) (s : Snapshot) : Type 0 where
   pub from : s.from ≡ cut_before w.agents cuts s.period
   pub to : slice_get cuts s.period ≡ Some s.to
@@ -60,8 +63,9 @@ pub record IsNewIn (w : World) (cuts : List Cut) (period index : ℕ) (x : Place
   pub row : slice_get (placed_rows w.sheet w.issuer w.journals period (cut_before w.agents cuts period) to) index ≡ Some x
   pub new : x.row.charge_class ≡ None
 
--- No batch is charged in two periods: it lies between the two cuts of at most one. No reading is new in two rows, be they of
--- one period or of two, and each reading up to a cut is new in one.
+-- No batch is charged as new in two periods: it lies between the two cuts of at most one. No reading is new in two rows, be
+-- they of one period or of two, and each reading up to a cut of the list is new in one, of that cut's period or an earlier
+-- one.
 pub record AreChargedOnce (w : World) (cuts : List Cut) : Type 0 where
   pub apart : (p q : ℕ) (c d : Cut) (agent seq : ℕ) → slice_get cuts p ≡ Some c → slice_get cuts q ≡ Some d →
       last_of (cut_before w.agents cuts p) agent < seq → seq ≤ last_of c agent →

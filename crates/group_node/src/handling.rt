@@ -37,7 +37,9 @@ impl Node {
     /// Takes a batch that was journaled; one that is there already stays.
     fn on_batch(&mut self, batch: &Arc<OwnedBatch>) -> Result<(), AllocError>
         requires { (batch_of (arc_value batch.now)).agent ≤ self.old.agents }
-        ensures does { OnOk result ((base i : ℕ) → Does base i (CarriesBatch (batch_of (arc_value batch.now))) self.old self.new None None) }
+        ensures does { OnOk result
+            ((base i : ℕ) → Does base i
+            (CarriesBatch (batch_of (arc_value batch.now))) self.old self.new None None) }
         ensures unchanged { OnErr result (self.new ≡ self.old) }
     {
         let batch = Arc::try_clone(batch)?;
@@ -46,7 +48,7 @@ impl Node {
         Ok(())
     }
 
-    /// Whether node i would send something, if the packet came now. No memory is taken.
+    /// Whether node i would send something, if it got the packet now.
     pub fn sends(&self, i: u8, packet: &Packet) -> bool
         requires { IsPacketAmong self.now.voters self.now.agents (packet_of packet.now) }
         ensures { Answers i (packet_of packet.now) self.now result }
@@ -70,8 +72,8 @@ impl Node {
         }
     }
 
-    /// Node i handles a packet, in a group of this base month. An error says that there was no memory, and leaves the node
-    /// as it was.
+    /// Node i handles a packet, in a group of this base month. Returns the packet that it sends, and the period that it
+    /// learns. An error is an allocation failure, and leaves the node as it was.
     pub fn handle(
         &mut self,
         alloc: Global,
@@ -81,7 +83,9 @@ impl Node {
     ) -> Result<Handled, AllocError>
         requires base { IsBaseMonth base }
         requires packet { IsPacketAmong self.old.voters self.old.agents (packet_of packet.now) }
-        ensures does { IfOk result (λ handled. Does base i (packet_of packet.now) self.old self.new (option_map packet_of handled.sends) handled.learns) }
+        ensures does { IfOk result
+            (λ handled. Does base i (packet_of packet.now) self.old self.new
+            (option_map packet_of handled.sends) handled.learns) }
         ensures unchanged { OnErr result (self.new ≡ self.old) }
     {
         match packet {

@@ -20,7 +20,9 @@ impl Node {
         cut: &Arc<Cut>,
     ) -> Result<Option<Period>, AllocError>
         requires { length (arc_value cut.now) ≡ self.old.agents }
-        ensures does { IfOk result (λ learns. (base i : ℕ) → Does base i (Decided period (arc_value cut.now)) self.old self.new None learns) }
+        ensures does { IfOk result
+            (λ learns. (base i : ℕ) → Does base i
+            (Decided period (arc_value cut.now)) self.old self.new None learns) }
         ensures unchanged { OnErr result (self.new ≡ self.old) }
     {
         if period.number() != self.current_period() {
@@ -46,7 +48,9 @@ impl Node {
     ) -> Result<Option<Period>, AllocError>
         requires from { from < self.old.voters }
         requires cut { length (arc_value cut.now) ≡ self.old.agents }
-        ensures does { IfOk result (λ learns. (base i : ℕ) → Does base i (Accepted from period ballot (arc_value cut.now)) self.old self.new None learns) }
+        ensures does { IfOk result
+            (λ learns. (base i : ℕ) → Does base i
+            (Accepted from period ballot (arc_value cut.now)) self.old self.new None learns) }
         ensures unchanged { OnErr result (self.new ≡ self.old) }
     {
         if period.number() != self.current_period() {

@@ -43,7 +43,8 @@ impl Model for Node {
 }
 
 impl Node {
-    /// A node of a group with so many voters and agents, which has begun nothing and holds nothing.
+    /// A node of a group with so many voters, at most 99, and agents, 1 to 64, which has begun nothing and holds
+    /// nothing. An error is an allocation failure.
     pub fn new(alloc: Global, voters: u8, agents: u8) -> Result<Node, AllocError>
         requires voters { voters ≤ 99 }
         requires from { 1 ≤ agents }
@@ -60,7 +61,7 @@ impl Node {
         Ok(Node::wake(alloc, voters, Kept::of(kept)))
     }
 
-    /// The node that wakes with what was kept: it makes no attempt, and its tally is empty. It takes no memory.
+    /// The node that wakes with what was kept: it makes no attempt, and its tally is empty.
     pub fn wake(alloc: Global, voters: u8, kept: Kept) -> Node
         requires { voters ≤ 99 }
         ensures { result ≡ record { voters = voters; agents = kept.agents; node = wake kept.kept } }
@@ -80,7 +81,7 @@ impl Node {
         Kept::of(self.kept)
     }
 
-    /// Forgets the attempt and the tally, as a node does that wakes. It takes no memory.
+    /// Drops the attempt and the tally, as a node does that wakes. What it keeps stays.
     pub fn restart(&mut self, alloc: Global)
         ensures { self.new ≡ record { voters = self.old.voters; agents = self.old.agents; node = wake self.old.node.kept } }
     {
@@ -88,14 +89,15 @@ impl Node {
         self.tally = Tally::new(alloc, self.voters);
     }
 
-    /// The text of what the node keeps over a restart.
+    /// The text of what the node keeps over a restart. An error is an allocation failure.
     pub fn write_kept(&self, alloc: Global) -> Result<Vec<u8>, AllocError>
-        ensures { IfOk result (λ text. text.items ≡ kept_text (record { agents = self.now.agents; kept = self.now.node.kept })) }
+        ensures { IfOk result (λ text. text.items
+            ≡ kept_text (record { agents = self.now.agents; kept = self.now.node.kept })) }
     {
         self.kept.write(alloc)
     }
 
-    /// Whether this, which has a text, is what the node keeps over a restart. No memory is taken.
+    /// Whether this is what the node keeps over a restart.
     pub fn keeps(&self, kept: &Kept) -> bool
         ensures same { IsTrue result ↔ (kept.now ≡ record { agents = self.now.agents; kept = self.now.node.kept }) }
         ensures text { HasText kept.now }
@@ -103,7 +105,8 @@ impl Node {
         kept.parts().same(&self.kept)
     }
 
-    /// Begins the next round of node i, and answers its ballot. It takes no memory.
+    /// Begins the next round of node i, which has to vote, and returns its ballot. It has begun at most 9,999 rounds
+    /// before.
     pub fn start(&mut self, i: u8) -> Ballot
         requires votes { i < self.old.voters }
         requires round { self.old.node.kept.round < 10_000 }
@@ -147,7 +150,7 @@ impl Node {
         kept.learned.len() as u16
     }
 
-    /// The cut that the node has learned for a period.
+    /// The cut that the node has learned for a period; None where it has learned none.
     pub fn learned(&self, period: u16) -> Option<&Arc<Cut>>
         ensures { option_map arc_value (option_copied result) ≡ slice_get self.now.node.kept.learned period }
     {

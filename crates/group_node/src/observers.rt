@@ -1,4 +1,5 @@
-//! Which nodes vote. An observer promises, accepts and proposes nothing; of a period that it has learned it tells the cut.
+//! Which nodes vote. An observer promises, accepts and proposes nothing; of a period that it has learned it tells the
+//! cut.
 
 ghost use Rattle.std.specs.Prelude.{◌≡◌, ◌<◌, nat_lt};
 

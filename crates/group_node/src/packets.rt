@@ -5,7 +5,7 @@ use node_kept::{Ballot, Vote};
 use period_cut::{Cut, Period};
 use std::sync::Arc;
 
-/// What nodes send one another. Batches and cuts are shared, and never copied.
+/// What nodes send one another. Batches and cuts are shared.
 #[derive(Drop)]
 pub enum Packet {
     /// A batch that was journaled.
@@ -15,7 +15,7 @@ pub enum Packet {
         period: Period,
         ballot: Ballot,
     },
-    /// A node promises, and tells its vote.
+    /// A node promises, and reports its vote.
     Promise {
         from: u8,
         period: Period,
@@ -35,7 +35,7 @@ pub enum Packet {
         ballot: Ballot,
         cut: Arc<Cut>,
     },
-    /// A node that has learned the period tells its cut.
+    /// A node that has learned the period sends its cut.
     Decided {
         period: Period,
         cut: Arc<Cut>,

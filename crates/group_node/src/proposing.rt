@@ -63,7 +63,8 @@ impl Node {
     ) -> Result<Arc<Cut>, AllocError>
         requires base { IsBaseMonth base }
         requires period { period ≡ current_period self.now.node }
-        ensures { IfOk result (λ cut. arc_value cut ≡ proposal_at base self.now.agents self.now.node (option_copied told.entry)) }
+        ensures { IfOk result (λ cut. arc_value cut
+            ≡ proposal_at base self.now.agents self.now.node (option_copied told.entry)) }
     {
         match told {
             Some(vote) => Arc::try_clone(&vote.cut),
@@ -88,7 +89,9 @@ impl Node {
         requires from { from < self.now.voters }
         requires period { period ≡ current_period self.now.node }
         ensures { IfOk result (λ sends. (a : ModelAttempt) → self.now.node.attempt ≡ Some a →
-            option_map packet_of sends ≡ accept_at base self.now.agents self.now.node from period ballot (option_copied vote.entry) a) }
+            option_map packet_of sends
+            ≡ accept_at base self.now.agents self.now.node from period ballot
+            (option_copied vote.entry) a) }
     {
         let Some(attempt) = &self.attempt else {
             return Ok(None);
@@ -141,7 +144,9 @@ impl Node {
     ) -> Result<Option<Packet>, AllocError>
         requires base { IsBaseMonth base }
         requires from { from < self.old.voters }
-        ensures does { IfOk result (λ sends. Does base i (Promise from period ballot vote.now) self.old self.new (option_map packet_of sends) None) }
+        ensures does { IfOk result
+            (λ sends. Does base i (Promise from period ballot vote.now) self.old self.new
+            (option_map packet_of sends) None) }
         ensures unchanged { OnErr result (self.new ≡ self.old) }
     {
         if !self.votes(i) || !self.awaits(period, ballot) {

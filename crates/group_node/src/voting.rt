@@ -30,7 +30,9 @@ pub(crate) fn share_vote(vote: Option<&Vote>) -> Result<Option<Vote>, AllocError
 impl Node {
     /// A packet that tells the period's cut, where the node has learned it.
     fn decided(&self, period: Period) -> Result<Option<Packet>, AllocError>
-        ensures { IfOk result (λ packet. option_map packet_of packet ≡ option_map (λ cut. Decided period cut) (slice_get self.now.node.kept.learned period)) }
+        ensures { IfOk result (λ packet. option_map packet_of packet
+            ≡ option_map (λ cut. Decided period cut)
+            (slice_get self.now.node.kept.learned period)) }
     {
         match self.learned(period.number()) {
             Some(cut) => Ok(Some(Packet::Decided {
@@ -49,7 +51,9 @@ impl Node {
         ballot: Ballot,
     ) -> Result<Option<Packet>, AllocError>
         requires { IsBallotNumber ballot }
-        ensures does { IfOk result (λ sends. (base : ℕ) → Does base i (Prepare period ballot) self.old self.new (option_map packet_of sends) None) }
+        ensures does { IfOk result
+            (λ sends. (base : ℕ) → Does base i (Prepare period ballot) self.old self.new
+            (option_map packet_of sends) None) }
         ensures unchanged { OnErr result (self.new ≡ self.old) }
     {
         if !self.votes(i) || !self.promises(period, ballot) {
@@ -76,7 +80,10 @@ impl Node {
     ) -> Result<Option<Packet>, AllocError>
         requires ballot { IsBallotNumber ballot }
         requires cut { length (arc_value cut.now) ≡ self.old.agents }
-        ensures does { IfOk result (λ sends. (base : ℕ) → Does base i (Accept period ballot (arc_value cut.now)) self.old self.new (option_map packet_of sends) None) }
+        ensures does { IfOk result
+            (λ sends. (base : ℕ) → Does base i
+            (Accept period ballot (arc_value cut.now)) self.old self.new
+            (option_map packet_of sends) None) }
         ensures unchanged { OnErr result (self.new ≡ self.old) }
     {
         if !self.votes(i) || !self.accepts(period, ballot) {

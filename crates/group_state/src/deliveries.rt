@@ -4,6 +4,7 @@ ghost use Rattle.std.specs.Prelude.{◌≡◌, ◌<◌, ◌≤◌, Some, Err, le
 ghost use Rattle.metering_model.specs.Dates.{IsBaseMonth};
 ghost use Rattle.metering_model.specs.World.{Deliver, Packet as ModelPacket};
 ghost use Rattle.metering_model.specs.Step.{on_delivery, step};
+ghost use Rattle.metering_model.specs.Limits.{most_packets};
 ghost use Rattle.group_node.specs.Packets.{IsPacketAmong, packet_of};
 ghost use Rattle.group_events.specs.Replies.{reply_of};
 ghost use Rattle.group_state.specs.Reached.{IsReached};
@@ -25,12 +26,14 @@ fn hand_over(
     i: u8,
     base: Month,
 ) -> Result<Reply, AllocError>
-    requires few { length packets.old.items ≤ 1_000_000 }
+    requires few { length packets.old.items ≤ most_packets }
     requires there { k < length packets.old.items }
     requires base { IsBaseMonth base }
-    requires packet { (q : ModelPacket) → slice_get (map packet_of packets.old.items) k ≡ Some q → IsPacketAmong node.old.voters node.old.agents q }
+    requires packet { (q : ModelPacket) → slice_get (map packet_of packets.old.items) k ≡ Some q
+        → IsPacketAmong node.old.voters node.old.agents q }
     ensures ok { IfOk result (λ reply.
-        HandsOver base i k (map packet_of packets.old.items) (map packet_of packets.new.items) node.old node.new (reply_of reply)) }
+        HandsOver base i k (map packet_of packets.old.items)
+        (map packet_of packets.new.items) node.old node.new (reply_of reply)) }
     ensures packets_kept { OnErr result (packets.new.items ≡ packets.old.items) }
     ensures node_kept { OnErr result (node.new ≡ node.old) }
 {
@@ -54,7 +57,8 @@ fn hand_over(
 }
 
 impl GroupState {
-    /// Why a packet is not delivered to a node: there is no such packet, no such node, or no room for what it would send.
+    /// Why a packet is not delivered to a node: there is no such packet, no such node, or no room for what it would
+    /// send.
     fn delivery_refusal(&self, packet: u32, node: u8) -> Option<Refusal>
         requires { IsReached self.now }
         ensures { MatchOption result
@@ -77,7 +81,8 @@ impl GroupState {
         }
     }
 
-    /// Hands a packet to a node, once more where it had it before, and sends what the node answers.
+    /// Delivers a packet to a node, also one that it had before, and sends what the node answers. An error is an
+    /// allocation failure, and leaves the world as it was.
     pub fn deliver(&mut self, alloc: Global, packet: u32, node: u8) -> Result<Reply, AllocError>
         requires reached { IsReached self.old }
         ensures ok { IfOk result (λ reply. (reply_of reply, self.new) ≡ step self.old (Deliver packet node)) }

@@ -5,6 +5,7 @@ ghost use Rattle.std.specs.Arc.{arc_value};
 ghost use Rattle.metering_model.specs.Holding.{up_to};
 ghost use Rattle.metering_model.specs.World.{Export};
 ghost use Rattle.metering_model.specs.Step.{cut_before, snapshot, step};
+ghost use Rattle.metering_model.specs.Limits.{most_agents};
 ghost use Rattle.group_events.specs.Replies.{reply_of};
 ghost use Rattle.group_state.specs.Reached.{IsReached};
 ghost use Rattle.group_state.specs.Inner.Allowed.{MayTake};
@@ -20,7 +21,7 @@ use std::sync::Arc;
 /// The cut that a node has learned for the period before, shared; the zero cut where there is none.
 fn cut_before(alloc: Global, node: &Node, agents: u8, period: u16) -> Result<Arc<Cut>, AllocError>
     requires from { 1 ≤ agents }
-    requires to { agents ≤ 64 }
+    requires to { agents ≤ most_agents }
     ensures { IfOk result (λ cut. arc_value cut ≡ cut_before agents node.now.node.kept.learned period) }
 {
     let before = if period == 0 {
@@ -66,7 +67,8 @@ impl GroupState {
         Snapshot::of(alloc, period, from, to, node.store(), sheet, issuer)
     }
 
-    /// What the file of a period is made of, as a node has learned it; or why the node can't tell. Nothing changes.
+    /// What the file of the period is made of, as the node has learned it, or why that is refused. An error is an
+    /// allocation failure.
     pub fn snapshot(
         &self,
         alloc: Global,
@@ -90,7 +92,7 @@ impl GroupState {
         Ok(Ok(taken))
     }
 
-    /// Answers with what [`GroupState::snapshot`] gives.
+    /// Replies with what [`GroupState::snapshot`] returns. An error is an allocation failure.
     pub fn export(&self, alloc: Global, node: u8, period: u16) -> Result<Reply, AllocError>
         requires reached { IsReached self.now }
         ensures { IfOk result (λ reply. (reply_of reply, self.now) ≡ step self.now (Export node period)) }

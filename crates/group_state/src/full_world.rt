@@ -1,6 +1,7 @@
 //! A full world: one that holds as many packets as it may.
 
 ghost use Rattle.std.specs.Prelude.{◌≡◌, length, nat_lt};
+ghost use Rattle.metering_model.specs.Limits.{most_packets};
 
 use crate::state::GroupState;
 
@@ -10,7 +11,7 @@ const MOST_PACKETS: usize = 1_000_000;
 impl GroupState {
     /// Whether one packet more may be sent.
     pub(crate) fn has_room(&self) -> bool
-        ensures { result ≡ nat_lt (length self.now.packets) 1_000_000 }
+        ensures { result ≡ nat_lt (length self.now.packets) most_packets }
     {
         self.packets.len() < MOST_PACKETS
     }

@@ -1,5 +1,5 @@
-//! The world of a group: its sheet, its issuer, its journals, the packets that were sent, and its nodes; and what one event
-//! does to it.
+//! The world of a group: its sheet, its issuer, its journals, the packets that were sent, and its nodes; and what one
+//! event does to it.
 #![tactic(auto)]
 
 mod deliveries;

@@ -1,4 +1,4 @@
-//! A node tells what it keeps, and is revived from that.
+//! The text of what a node keeps, and its revival from that.
 
 ghost use Rattle.std.specs.Prelude.{◌≡◌, Err, IfOk, MatchOption};
 ghost use Rattle.metering_model.specs.World.{Keep, Restart, Revive};
@@ -13,7 +13,7 @@ use metering_model::{KeptTextFault, Refusal};
 use std::alloc::{AllocError, Global};
 
 impl GroupState {
-    /// The text of what a node keeps over a restart.
+    /// Replies with the text of what a node keeps over a restart. An error is an allocation failure.
     pub fn keep(&self, alloc: Global, node: u8) -> Result<Reply, AllocError>
         ensures { IfOk result (λ reply. (reply_of reply, self.now) ≡ step self.now (Keep node)) }
     {
@@ -47,8 +47,7 @@ impl GroupState {
         }
     }
 
-    /// A node restarts from a text of what it keeps: it has to be that of what it keeps now, else promises and votes would be
-    /// lost. So what was read is what the node has, which stays where it is. No memory is taken.
+    /// Restarts a node from the text of what it keeps now; any other text is refused, and changes nothing.
     pub fn revive(&mut self, alloc: Global, node: u8, offer: &KeptOffer) -> Reply
         requires reached { IsReached self.old }
         ensures { (reply_of result, self.new) ≡ step self.old (Revive node (kept_offer offer.now)) }

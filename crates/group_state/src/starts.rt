@@ -4,6 +4,7 @@ ghost use Rattle.std.specs.Prelude.{◌≡◌, ◌+◌, ◌++◌, ◌∷◌, ◌
 ghost use Rattle.metering_model.specs.Ballot.{ballot_of};
 ghost use Rattle.metering_model.specs.World.{Prepare, Restart, Start, Started, current_period};
 ghost use Rattle.metering_model.specs.Step.{on_start, started_node, step};
+ghost use Rattle.metering_model.specs.Limits.{most_packets, most_rounds};
 ghost use Rattle.group_node.specs.Packets.{packet_of};
 ghost use Rattle.group_events.specs.Replies.{reply_of};
 ghost use Rattle.group_state.specs.Reached.{IsReached};
@@ -19,18 +20,19 @@ use std::alloc::{AllocError, Global};
 /// A node begins no more ballots than this.
 const MOST_ROUNDS: u16 = 10_000;
 
-/// Node i begins its next ballot, of that period, and its first packet stands behind those that were there.
+/// Node i begins its next ballot, of that period, and its first packet stands after those that were there.
 fn begin(
     packets: &mut Vec<Packet>,
     node: &mut Node,
     i: u8,
     period: Period,
 ) -> Result<Reply, AllocError>
-    requires few { length packets.old.items < 1_000_000 }
+    requires few { length packets.old.items < most_packets }
     requires votes { i < node.old.voters }
-    requires round { node.old.node.kept.round < 10_000 }
+    requires round { node.old.node.kept.round < most_rounds }
     ensures ok { IfOk result (λ reply.
-        Begins i period (map packet_of packets.old.items) (map packet_of packets.new.items) node.old node.new (reply_of reply)) }
+        Begins i period (map packet_of packets.old.items)
+        (map packet_of packets.new.items) node.old node.new (reply_of reply)) }
     ensures packets_kept { OnErr result (packets.new.items ≡ packets.old.items) }
     ensures node_kept { OnErr result (node.new ≡ node.old) }
 {
@@ -44,7 +46,8 @@ fn begin(
 impl GroupState {
     /// The period for which a node may begin a ballot, or why it may begin none.
     fn period_to_begin(&self, node: u8) -> Result<Period, Refusal>
-        ensures { MatchResult result (λ period. MayBegin self.now node period) (λ refusal. on_start self.now node ≡ Err refusal) }
+        ensures { MatchResult result (λ period. MayBegin self.now node period)
+            (λ refusal. on_start self.now node ≡ Err refusal) }
     {
         let Some(starter) = self.nodes.get(usize::from(node)) else {
             return Err(Refusal::NoNode);
@@ -64,7 +67,8 @@ impl GroupState {
         Ok(period)
     }
 
-    /// A voter begins a ballot that no node has used before, and asks for promises.
+    /// A voter begins a ballot that no node has used before, and asks for promises. An error is an allocation failure,
+    /// and leaves the world as it was.
     pub fn start(&mut self, node: u8) -> Result<Reply, AllocError>
         ensures ok { IfOk result (λ reply. (reply_of reply, self.new) ≡ step self.old (Start node)) }
         ensures err { OnErr result (self.new ≡ self.old) }
@@ -82,8 +86,7 @@ impl GroupState {
         Ok(reply)
     }
 
-    /// A node forgets its attempt and its tally, and keeps round, learned cuts, promise, vote and batches. No memory is
-    /// taken.
+    /// A node drops its attempt and its tally, and keeps round, learned cuts, promise, vote and batches.
     pub fn restart(&mut self, alloc: Global, node: u8) -> Reply
         ensures { (reply_of result, self.new) ≡ step self.old (Restart node) }
     {

@@ -4,6 +4,7 @@ ghost use Rattle.std.specs.Prelude.{◌≡◌, ◌+◌, ◌≤◌, IfOk, IfSome,
 ghost use Rattle.std.specs.Option.{option_copied, option_map};
 ghost use Rattle.std.specs.Arc.{arc_value};
 ghost use Rattle.metering_model.specs.World.{new_kept, opening, voter_count, wake};
+ghost use Rattle.metering_model.specs.Limits.{most_agents, most_nodes};
 ghost use Rattle.group_node.specs.Packets.{packet_of};
 ghost use Rattle.group_state.specs.Inner.Members.{IsMember};
 
@@ -15,9 +16,8 @@ use std::alloc::{AllocError, Global};
 use std::marker::Model;
 use std::sync::Arc;
 
-/// What a group is at one moment: the sheet and the issuer, the batches that were journaled, the packets that were ever
-/// sent, by number, and the nodes, of which the first vote. Packets, journals and nodes share batches and cuts, and never
-/// copy one.
+/// The state of a group: the sheet and the issuer, the batches that were journaled, the packets that were ever sent, by
+/// number, and the nodes, of which the first vote.
 #[derive(Drop)]
 pub struct GroupState {
     pub(crate) sheet: Arc<Sheet>,
@@ -52,10 +52,11 @@ impl Model for GroupState {
 
 /// So many nodes of a group with so many voters and agents, which have begun nothing and hold nothing.
 fn new_nodes(alloc: Global, nodes: u8, voters: u8, agents: u8) -> Result<Vec<Node>, AllocError>
-    requires voters_to { voters ≤ 99 }
+    requires voters_to { voters ≤ most_nodes }
     requires from { 1 ≤ agents }
-    requires to { agents ≤ 64 }
-    ensures { IfOk result (λ made. made.items ≡ replicate nodes (record { voters = voters; agents = agents; node = wake new_kept })) }
+    requires to { agents ≤ most_agents }
+    ensures { IfOk result (λ made. made.items
+        ≡ replicate nodes (record { voters = voters; agents = agents; node = wake new_kept })) }
 {
     let mut made = Vec::with_capacity(alloc, usize::from(nodes))?;
     for _ in 0..nodes {
@@ -65,7 +66,8 @@ fn new_nodes(alloc: Global, nodes: u8, voters: u8, agents: u8) -> Result<Vec<Nod
 }
 
 impl GroupState {
-    /// A group of so many voters, observers and agents, with empty journals, before any event.
+    /// A group of so many voters, at least 1, and observers, at most 99 with the voters, and 1 to 64 agents, before any
+    /// event. An error is an allocation failure.
     pub fn new(
         alloc: Global,
         voters: u8,
@@ -75,9 +77,9 @@ impl GroupState {
         issuer: Arc<Issuer>,
     ) -> Result<GroupState, AllocError>
         requires voters_from { 1 ≤ voters }
-        requires nodes_to { voters + observers ≤ 99 }
+        requires nodes_to { voters + observers ≤ most_nodes }
         requires agents_from { 1 ≤ agents }
-        requires agents_to { agents ≤ 64 }
+        requires agents_to { agents ≤ most_agents }
         ensures { IfOk result (λ state. state ≡ opening voters observers agents (arc_value sheet) (arc_value issuer)) }
     {
         let journals = Store::new(alloc, agents)?;
@@ -90,6 +92,13 @@ impl GroupState {
             voters,
             nodes: made,
         })
+    }
+
+    /// The sheet by which the group's usage is priced.
+    pub fn sheet(&self) -> &Sheet
+        ensures { result.now ≡ self.now.sheet }
+    {
+        &self.sheet
     }
 
     /// The packet of that number.
@@ -110,7 +119,7 @@ impl GroupState {
     /// The number of agents.
     pub(crate) fn agents(&self) -> u8
         ensures value { result ≡ self.now.agents }
-        ensures range { (1 ≤ result) × (result ≤ 64) }
+        ensures range { (1 ≤ result) × (result ≤ most_agents) }
     {
         self.journals.agents()
     }

@@ -11,7 +11,8 @@ use group_events::{Event, Reply};
 use std::alloc::{AllocError, Global};
 
 impl GroupState {
-    /// Does one event. A refused event, and an error, which says that there was no memory, leave the world as it was.
+    /// Does one event, and returns the reply. A refused event leaves the world as it was. So does an error, which is an
+    /// allocation failure.
     pub fn step(&mut self, alloc: Global, event: &Event) -> Result<Reply, AllocError>
         requires reached { IsReached self.old }
         ensures ok { IfOk result (λ reply. (reply_of reply, self.new) ≡ step self.old (event_of event.now)) }

@@ -85,8 +85,8 @@ fn run_of<R: Threads + Wait + Sync>(
     run_group(rt, alloc, plan, gate)
 }
 
-/// Whether the book agrees with the logs of all workers and the run's own plan, and not without the last log, nor with the
-/// other plan.
+/// Whether the book agrees with the logs of all workers and the run's own plan, and not without the last log, nor with
+/// the other plan.
 fn agrees_with_its_own(run: &Run, other: &Plan) -> bool {
     let logs = run.logs();
     let Some((_, others)) = logs.split_last() else {
@@ -97,7 +97,8 @@ fn agrees_with_its_own(run: &Run, other: &Plan) -> bool {
         && !run.book().agrees(other, logs)
 }
 
-/// Whether a run comes to its end whose first export is held until another node is done with one, and agrees with its own plan.
+/// Whether a run comes to its end whose first export is held until another node is done with one, and agrees with its
+/// own plan.
 fn is_let_pass<R: Threads + Wait + Sync>(rt: &R, alloc: Global, plan: Plan, more: &Plan) -> bool {
     let gate = Held::of(NONE);
     match run_of(rt, alloc, plan, &gate) {
@@ -106,8 +107,8 @@ fn is_let_pass<R: Threads + Wait + Sync>(rt: &R, alloc: Global, plan: Plan, more
     }
 }
 
-/// Of three nodes one is held at its gate until another is done with its export, and is let pass then. The other plan has a
-/// period more.
+/// Of three nodes one is held at its gate until another is done with its export, and is let pass then. The other plan
+/// has a period more.
 #[test]
 fn a_node_exports_while_another_is_held(rt: HostRuntime) {
     let is_so = match (plan_of(rt.alloc(), 3, 0, 1), plan_of(rt.alloc(), 3, 0, 2)) {
@@ -144,8 +145,8 @@ fn is_exported_alike(logs: &[Log], nodes: usize, period: u16) -> bool {
     count == nodes
 }
 
-/// Whether all three nodes of the plan have the same two files, and the run agrees with its own plan. No export has the number
-/// that the gate goes by, so none is held.
+/// Whether all three nodes of the plan have the same two files, and the run agrees with its own plan. No export has the
+/// number that the gate goes by, so none is held.
 fn are_alike<R: Threads + Wait + Sync>(rt: &R, alloc: Global, plan: Plan, other: &Plan) -> bool {
     match run_of(rt, alloc, plan, &Held::of(NONE - 1)) {
         Ok(run) => {
@@ -171,8 +172,8 @@ fn are_always_alike<R: Threads + Wait + Sync>(rt: &R, alloc: Global, other: &Pla
     true
 }
 
-/// Two voters and an observer have the same files, however their threads take turns. The last log is the observer's, and the
-/// other plan has none.
+/// Two voters and an observer have the same files, however their threads take turns. The last log is the observer's,
+/// and the other plan has none.
 #[test]
 fn an_observer_has_the_files_of_the_voters_200_times(rt: HostRuntime) {
     let is_so = match plan_of(rt.alloc(), 2, 0, 2) {
@@ -182,7 +183,7 @@ fn an_observer_has_the_files_of_the_voters_200_times(rt: HostRuntime) {
     assert!(rt; is_so);
 }
 
-/// Whether a run is Ok, with a log of each worker, or tells want of memory.
+/// Whether a run is Ok, with a log of each worker, or reports an allocation failure.
 fn is_ended(run: Result<Run, RunFault>) -> bool {
     match run {
         Ok(run) => run.logs().len() == 3,
@@ -190,8 +191,8 @@ fn is_ended(run: Result<Run, RunFault>) -> bool {
     }
 }
 
-/// A run of threads comes to its end, and is Ok or tells want of memory. No export has the number that the gate goes by, so
-/// none is held.
+/// A run of threads comes to its end, and is Ok or reports an allocation failure. No export has the number that the
+/// gate goes by, so none is held.
 #[test]
 fn a_refused_growth_ends_a_run(rt: HostRuntime) {
     if let Ok(plan) = plan_of(rt.alloc(), 2, 0, 2) {

@@ -21,7 +21,7 @@ fn replies_in(played: Result<Vec<Reply>, Stopped>) -> Vec<Reply> {
     }
 }
 
-/// The rest of the events is played behind those that were answered: the replies of both are those of the whole path.
+/// The rest of the events is played after those that were answered: the replies of both are those of the whole path.
 fn is_played_on(alloc: Global, world: &mut World, events: &[Event], replies: &[Reply]) -> bool {
     let count = replies.len();
     let (Some(rest), Some(sent), Some(wanted)) = (
@@ -37,7 +37,8 @@ fn is_played_on(alloc: Global, world: &mut World, events: &[Event], replies: &[R
     }
 }
 
-/// The whole path is played, and where it stops the rest of the events: the world stood after just those that were answered.
+/// The whole path is played, and where it stops the rest of the events: the world stood after just those that were
+/// answered.
 #[test]
 fn a_refused_growth_stops_between_events(rt: HostRuntime) -> Result<(), Fail> {
     let (Ok(events), Ok(mut world)) = (whole_path(rt.alloc()), world(rt.alloc())) else {
@@ -70,7 +71,8 @@ fn taken_again(alloc: Global, world: &World) -> Option<Snapshot> {
     }
 }
 
-/// Its file, which is put into a text of its own where it is not written for want of memory. The room is wide enough for it.
+/// Its file, which is put into a text of its own where it is not written for an allocation failure. The room is wide
+/// enough for it.
 fn file_again(alloc: Global, snapshot: &Snapshot, room: Vec<u8>) -> Result<Vec<u8>, AllocError> {
     let mut sink = Counted::new(FakeWriter::new(room));
     if snapshot.write_csv(alloc, &mut sink).is_ok() {

@@ -47,8 +47,8 @@ fn is_refused(alloc: Global, text: &[u8], code: KeptCode, line: u64) -> bool {
     }
 }
 
-/// Within each line, so that its last one has no line feed: no schedule can carry such a text. The head line has 15 bytes, the vote's
-/// cut 2, and the batch the others. At the end of a text a byte is one too many.
+/// Within each line, so that its last one has no line feed: no schedule can carry such a text. The head line has 15
+/// bytes, the vote's cut 2, and the batch the others. At the end of a text a byte is one too many.
 #[test]
 fn a_kept_text_is_refused_where_a_line_is_cut(rt: HostRuntime) {
     for length in 0..VOTED.len() {

@@ -140,8 +140,8 @@ const EMPTY: &[u8] = b"K1|1|0|0|0|0|0\n";
 const HOLDS: &[u8] = b"K1|1|0|0|0|0|1\n\
 B1|1|1|1\nU|2025-01-10T00:00:00Z|2025-01-10T02:00:00Z|acc-7|vm-1|cpu|5400||env=prod\n";
 
-/// A node is revived from the text of another where both keep the same, and not else. A node that is not there is told before
-/// a text that cannot be read.
+/// A node is revived from the text of another where both keep the same, and not else. A node that is not there is told
+/// before a text that cannot be read.
 const OF_ANOTHER: &[Act<'static>] = &[
     Act::Keep(1, EMPTY),
     Act::Revive(0, EMPTY),

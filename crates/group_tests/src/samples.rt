@@ -59,7 +59,7 @@ pub(crate) const WHOLE_PATH_SENT: &[Option<u32>] = &[
     None,
 ];
 
-/// The sheet of all groups. It is right, so an error is want of memory, here and below.
+/// The sheet of all groups. It is right, so an error is an allocation failure, here and below.
 pub(crate) fn sheet(alloc: Global) -> Result<Arc<Sheet>, AllocError> {
     match Sheet::read(alloc, SHEET) {
         Ok(sheet) => Ok(Arc::new(alloc, sheet)?),
@@ -148,8 +148,8 @@ fn texts(alloc: Global) -> Result<Vec<Vec<u8>>, AllocError> {
     Ok(texts)
 }
 
-/// A plan of that many voters and observers, with one agent that has two batches of January and as many periods. A gate is
-/// asked 1,000,000 times at most.
+/// A plan of that many voters and observers, with one agent that has two batches of January and as many periods. A gate
+/// is asked 1,000,000 times at most.
 pub(crate) fn plan_of(
     alloc: Global,
     voters: u8,

@@ -14,7 +14,8 @@ const SPLIT: u32 = 4_800;
 /// So many are split in four, where there are as many processors: three parts of two batches, and one of one.
 const FOUR: u32 = 6_400;
 
-/// The text of a batch of so many readings. The first has tags that have to be escaped, and a resource that has to be quoted.
+/// The text of a batch of so many readings. The first has tags that have to be escaped, and a resource that has to be
+/// quoted.
 fn text_of(alloc: Global, agent: u8, seq: u32, readings: u32) -> Result<Vec<u8>, AllocError> {
     let mut text = format!(in alloc; "B1|{agent}|{seq}|{readings}\n")?;
     text.reserve(65_000)?;
@@ -28,7 +29,8 @@ fn text_of(alloc: Global, agent: u8, seq: u32, readings: u32) -> Result<Vec<u8>,
     Ok(text.into_bytes())
 }
 
-/// Does an event, and tells the packet that its reply names. None is to be refused: here and below that is told as want of memory.
+/// Does an event, and tells the packet that its reply names. None is to be refused: here and below that is told as an
+/// allocation failure.
 fn sent(alloc: Global, world: &mut World, event: &Event) -> Result<Option<u32>, AllocError> {
     let reply = world.step(alloc, event)?;
     if matches!(reply, Reply::Refused(_)) {
@@ -104,9 +106,9 @@ fn is_same_of(
     }
 }
 
-/// Of several agents; of no row, one and two; of as many as are split, one fewer and one more; and, told for four processors, of four
-/// parts whose last has one batch, of as many rows as fill four parts of two batches, one fewer, and one more, which leaves the
-/// last part empty.
+/// Of several agents; of no row, one and two; of as many as are split, one fewer and one more; and, told for four
+/// processors, of four parts whose last has one batch, of as many rows as fill four parts of two batches, one fewer,
+/// and one more, which leaves the last part empty.
 #[test]
 fn a_file_that_is_split_is_the_same(rt: HostRuntime) {
     assert!(rt; is_same_of(&rt, rt.alloc(), 3, 1_000, 3_001));
@@ -127,8 +129,8 @@ fn a_file_that_is_split_is_the_same(rt: HostRuntime) {
     }
 }
 
-/// Whether a sink that takes all of a call, or a byte of each, and fails at that call is told as such, and has been given
-/// a front of the file; where it isn't called so often it has all of it.
+/// Whether a sink that takes all of a call, or a byte of each, and fails at that call is told as such, and has been
+/// given a front of the file; where it isn't called so often it has all of it.
 fn is_front(
     rt: &(impl Threads + Sync),
     alloc: Global,
@@ -145,8 +147,8 @@ fn is_front(
         && is_written == (taken.len() == file.len())
 }
 
-/// Whether that is so of each sink that fails at one of twelve calls, or takes nothing from it on, and of one that takes a byte a
-/// call.
+/// Whether that is so of each sink that fails at one of twelve calls, or takes nothing from it on, and of one that
+/// takes a byte a call.
 fn are_fronts(rt: &(impl Threads + Sync), alloc: Global, snapshot: &Snapshot, file: &[u8]) -> bool {
     for call in 1..=12 {
         let failing = FakeWriter::new(Vec::new(alloc)).failing_at(call);
@@ -201,7 +203,7 @@ fn split_again(rt: &(impl Threads + Sync), alloc: Global, snapshot: &Snapshot) -
     }
 }
 
-/// The file is asked for again where a growth was refused, in whichever thread, and has a line for each reading.
+/// The file is asked for again where an allocation failed, in whichever thread, and has a line for each reading.
 #[test]
 fn a_refused_growth_gives_no_split_file(rt: HostRuntime) {
     let is_so = match taken(rt.alloc(), 1, FOUR) {

@@ -14,10 +14,10 @@ pub enum ScheduleCode {
     /// L3: no line with the number of agents.
     #[error("L3")]
     Agents,
-    /// L4: no line that opens a sheet, or no sheet behind it.
+    /// L4: no line that opens a sheet, or no sheet after it.
     #[error("L4")]
     Sheet,
-    /// L5: no line that opens an issuer, or no issuer behind it.
+    /// L5: no line that opens an issuer, or no issuer after it.
     #[error("L5")]
     Issuer,
     /// L6: the line is no event.
@@ -31,13 +31,13 @@ pub enum ScheduleCode {
     TooLong,
 }
 
-/// Why a text of the program is not read: its first fault by line, or want of memory.
+/// Why a text of the program is not read: its first fault by line, or an allocation failure.
 #[derive(Clone, Copy, Debug, PartialEq, Eq, Drop, Error)]
 pub enum ScheduleFault {
     /// The line, counted from 1, and the rule that it breaks.
     #[error("{code} line {line}")]
     Refused { code: ScheduleCode, line: u32 },
-    /// A growth was refused.
+    /// Out of memory: an allocation failed.
     #[error("out of memory")]
     OutOfMemory,
 }

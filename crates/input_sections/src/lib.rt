@@ -1,4 +1,4 @@
-//! The texts that the program is given: what is left of them, line by line, and the sections in them.
+//! The input of the program: what is left of its text, line by line, and the sections in it.
 #![tactic(auto)]
 
 mod faults;

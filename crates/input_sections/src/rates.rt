@@ -15,11 +15,12 @@ use std::alloc::Global;
 
 const BASE_YEAR: u16 = 2025;
 
-/// What a rating is given: by what is charged, and where in the text the batch begins.
+/// The input of a rating: a sheet and an issuer, and where in the text the batch begins, in bytes.
 #[derive(Drop)]
 pub struct RateInput {
     pub sheet: Sheet,
     pub issuer: Issuer,
+    /// Where the batch begins, in bytes from the beginning of the text.
     pub batch_from: usize,
 }
 
@@ -28,7 +29,8 @@ fn sheet_or_default<'a>(
     alloc: Global,
     unread: Unread<'a>,
 ) -> Result<(Sheet, Unread<'a>), ScheduleFault>
-    ensures taken { IfOk result (λ r. if_begun (codes "sheet ") sheet_section default_sheet unread.entry ≡ Ok (r.0, r.1)) }
+    ensures taken { IfOk result
+        (λ r. if_begun (codes "sheet ") sheet_section default_sheet unread.entry ≡ Ok (r.0, r.1)) }
     ensures refused { IfErr result (λ fault. fault ≢ ScheduleFault.OutOfMemory
         → if_begun (codes "sheet ") sheet_section default_sheet unread.entry ≡ Err fault) }
     ensures rules { IfOk result (λ r. IsSheet r.0) }
@@ -48,7 +50,9 @@ fn issuer_or_sample<'a>(
     alloc: Global,
     unread: Unread<'a>,
 ) -> Result<(Issuer, Unread<'a>), ScheduleFault>
-    ensures taken { IfOk result (λ r. if_begun (codes "issuer ") issuer_section sample_issuer unread.entry ≡ Ok (r.0, r.1)) }
+    ensures taken { IfOk result
+        (λ r. if_begun (codes "issuer ") issuer_section sample_issuer unread.entry
+        ≡ Ok (r.0, r.1)) }
     ensures refused { IfErr result (λ fault. fault ≢ ScheduleFault.OutOfMemory
         → if_begun (codes "issuer ") issuer_section sample_issuer unread.entry ≡ Err fault) }
     ensures rules { IfOk result (λ r. IsIssuer r.0) }
@@ -63,10 +67,10 @@ fn issuer_or_sample<'a>(
     }
 }
 
-/// Reads what a rating is given: a text that may begin with the section of a sheet, then with that of an issuer, and
-/// of which all the rest is a batch, which is not read here.
-///
-/// Without their sections the sheet has base month 2025-01 and no rows, and the issuer is the sample.
+/// Reads the input of a rating: a text that may begin with the sections of a sheet, then of an issuer, and whose rest
+/// is a batch, which is not read here. Without a sheet the base month is 2025-01 and there are no rows; without an
+/// issuer it is the sample. Refused is the first fault by line. OutOfMemory comes only of a text of at most 16,777,216
+/// bytes.
 #[tactic(auto, unfolding(crate::specs::RateInput::rate_input_in))]
 pub fn rate_input(alloc: Global, text: &[u8]) -> Result<RateInput, ScheduleFault>
     ensures taken { IfOk result (λ r. rate_input_in text.now

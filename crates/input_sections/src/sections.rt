@@ -16,14 +16,16 @@ use price_sheet::Sheet;
 use sheet_text::{Issuer, IssuerFault, SheetFault};
 use std::alloc::Global;
 
-/// A section: the text of its lines, each with its line feed, and what is left behind it.
+/// A section: the text of its lines, each with its line feed, and what is left after it.
 #[derive(Drop)]
 pub struct Section<'a> {
+    /// The lines of the section.
     pub text: &'a [u8],
+    /// What is left after them.
     pub rest: Unread<'a>,
 }
 
-/// The number that stands in a line behind the word, from 1 to `most`, which is at most 1,000,000. No memory is taken.
+/// The number from 1 to `most` that stands after the word in a line, else None. `most` is at most 1,000,000.
 pub fn number_behind(line: &[u8], word: &[u8], most: u32) -> Option<u32>
     requires { most ≤ 1_000_000 }
     ensures value { result ≡ number_behind word.now most line.now }
@@ -32,14 +34,16 @@ pub fn number_behind(line: &[u8], word: &[u8], most: u32) -> Option<u32>
     read_whole(behind_word(line, word)?, 1, most)
 }
 
-/// The lines that a line opens, so many of those below it. Where fewer follow, that is told of the opening line (L7).
+/// The next `count` lines of what is left, as a section. Where fewer are left, L7 is reported at `line`, the number of
+/// the line that opens them.
 pub fn lines_below<'a>(
     below: &Unread<'a>,
     count: u32,
     line: u32,
 ) -> Result<Section<'a>, ScheduleFault>
     ensures section { MatchResult result
-        (λ s. (count ≤ length (lines_left below.now)) × (section_of count below.now ≡ record { text = s.text.now; rest = s.rest }))
+        (λ s. (count ≤ length (lines_left below.now))
+        × (section_of count below.now ≡ record { text = s.text.now; rest = s.rest }))
         (λ fault. (length (lines_left below.now) < count) × (fault ≡ ScheduleFault.Refused ScheduleCode.Lines line)) }
     ensures text { IfOk result (λ s. s.rest.text ≡ below.now.text) }
 {
@@ -56,9 +60,10 @@ pub fn lines_below<'a>(
     })
 }
 
-/// Reads the section that a line with the word and a number from 1 to `most` opens.
+/// Reads the section that a line with the word and a number from 1 to `most` opens; `most` is at most 1,000,000.
 ///
-/// The code is told where that line is absent or of another form. Each fault is told of that line.
+/// Refused at that line: with L7 where it has no line feed or fewer lines follow, and with `code` where it is absent or
+/// of another form. Never OutOfMemory.
 #[tactic(auto, unfolding(crate::specs::Sections::section_in))]
 pub fn read_section<'a>(
     unread: &Unread<'a>,
@@ -115,7 +120,9 @@ fn told_of_issuer(fault: IssuerFault, line: u32) -> ScheduleFault
 
 /// The sheet of a section that opens at a line.
 fn sheet_of(alloc: Global, text: &[u8], line: u32) -> Result<Sheet, ScheduleFault>
-    ensures taken { IfOk result (λ sheet. read_as sheet_of_text (ScheduleFault.Refused ScheduleCode.Sheet line) text.now ≡ Ok sheet) }
+    ensures taken { IfOk result
+        (λ sheet. read_as sheet_of_text (ScheduleFault.Refused ScheduleCode.Sheet line) text.now
+        ≡ Ok sheet) }
     ensures refused { IfErr result (λ fault. fault ≢ ScheduleFault.OutOfMemory
         → read_as sheet_of_text (ScheduleFault.Refused ScheduleCode.Sheet line) text.now ≡ Err fault) }
     ensures want { IfErr result (λ fault. fault ≡ ScheduleFault.OutOfMemory → IsUtf8 text.now × ¬ IsBlank text.now) }
@@ -135,7 +142,9 @@ fn sheet_of(alloc: Global, text: &[u8], line: u32) -> Result<Sheet, ScheduleFaul
 
 /// The issuer of a section that opens at a line.
 fn issuer_of(alloc: Global, text: &[u8], line: u32) -> Result<Issuer, ScheduleFault>
-    ensures taken { IfOk result (λ issuer. read_as issuer_of_text (ScheduleFault.Refused ScheduleCode.Issuer line) text.now ≡ Ok issuer) }
+    ensures taken { IfOk result
+        (λ issuer. read_as issuer_of_text (ScheduleFault.Refused ScheduleCode.Issuer line) text.now
+        ≡ Ok issuer) }
     ensures refused { IfErr result (λ fault. fault ≢ ScheduleFault.OutOfMemory
         → read_as issuer_of_text (ScheduleFault.Refused ScheduleCode.Issuer line) text.now ≡ Err fault) }
     ensures want { IfErr result (λ fault. fault ≡ ScheduleFault.OutOfMemory → IsUtf8 text.now) }
@@ -153,8 +162,9 @@ fn issuer_of(alloc: Global, text: &[u8], line: u32) -> Result<Issuer, ScheduleFa
     }
 }
 
-/// Reads a section of up to 200,000 lines that is a price sheet. Want of memory is told only of a section that is UTF-8 and not
-/// blank.
+/// Reads a section of up to 200,000 lines that is a price sheet; what is left stands after it. Refused as
+/// `read_section` says, and with L4 where its lines are no sheet. OutOfMemory comes only of a section that is UTF-8 and
+/// not blank.
 #[tactic(auto, unfolding(crate::specs::Sections::sheet_section))]
 pub fn read_sheet<'a>(
     alloc: Global,
@@ -163,7 +173,8 @@ pub fn read_sheet<'a>(
     ensures taken { IfOk result (λ r. sheet_section unread.now ≡ Ok (r.0, r.1)) }
     ensures refused { IfErr result (λ fault. fault ≢ ScheduleFault.OutOfMemory → sheet_section unread.now ≡ Err fault) }
     ensures want { IfErr result (λ fault. fault ≡ ScheduleFault.OutOfMemory
-        → HasText (λ text. IsUtf8 text × ¬ IsBlank text) (section_in ScheduleCode.Sheet (codes "sheet ") 200_000 unread.now)) }
+        → HasText (λ text. IsUtf8 text × ¬ IsBlank text)
+        (section_in ScheduleCode.Sheet (codes "sheet ") 200_000 unread.now)) }
     ensures rules { IfOk result (λ r. IsSheet r.0) }
     ensures text { IfOk result (λ r. r.1.text ≡ unread.now.text) }
 {
@@ -172,14 +183,16 @@ pub fn read_sheet<'a>(
     Ok((sheet, section.rest))
 }
 
-/// Reads a section of up to 100 lines that is an issuer. Want of memory is told only of a section that is UTF-8.
+/// Reads a section of up to 100 lines that is an issuer; what is left stands after it. Refused as `read_section` says,
+/// and with L5 where its lines are no issuer. OutOfMemory comes only of a section that is UTF-8.
 #[tactic(auto, unfolding(crate::specs::Sections::issuer_section))]
 pub fn read_issuer<'a>(
     alloc: Global,
     unread: &Unread<'a>,
 ) -> Result<(Issuer, Unread<'a>), ScheduleFault>
     ensures taken { IfOk result (λ r. issuer_section unread.now ≡ Ok (r.0, r.1)) }
-    ensures refused { IfErr result (λ fault. fault ≢ ScheduleFault.OutOfMemory → issuer_section unread.now ≡ Err fault) }
+    ensures refused { IfErr result
+        (λ fault. fault ≢ ScheduleFault.OutOfMemory → issuer_section unread.now ≡ Err fault) }
     ensures want { IfErr result (λ fault. fault ≡ ScheduleFault.OutOfMemory
         → HasText IsUtf8 (section_in ScheduleCode.Issuer (codes "issuer ") 100 unread.now)) }
     ensures rules { IfOk result (λ r. IsIssuer r.0) }

@@ -10,7 +10,7 @@ use std::marker::Model;
 /// The most bytes that a text may have.
 const MOST_BYTES: usize = 16_777_216;
 
-/// A text of at most 16,777,216 bytes, of which a front was read. Lines are counted from 1.
+/// A text of at most 16,777,216 bytes, of which a prefix was read. Lines are counted from 1.
 #[derive(Drop)]
 pub struct Unread<'a> {
     text: &'a [u8],
@@ -38,7 +38,7 @@ impl<'a> Model for Unread<'a> {
 }
 
 impl<'a> Unread<'a> {
-    /// All of a text. One of more bytes than a text may have is refused at its line 1.
+    /// All of a text. One of more than 16,777,216 bytes is refused with L8 at line 1. Never OutOfMemory.
     pub fn whole(text: &'a [u8]) -> Result<Unread<'a>, ScheduleFault>
         ensures whole { MatchResult result (λ u. whole_of text.now ≡ Ok u) (λ fault. whole_of text.now ≡ Err fault) }
         ensures want { IfErr result (λ fault. fault ≢ ScheduleFault.OutOfMemory) }
@@ -63,7 +63,7 @@ impl<'a> Unread<'a> {
         &self.text[self.from..]
     }
 
-    /// The first byte that is left.
+    /// How many bytes of the text were read: the index of the first that is left.
     pub fn from(&self) -> usize
         ensures value { result ≡ self.now.from }
         ensures within { result ≤ length self.now.text }
@@ -71,7 +71,7 @@ impl<'a> Unread<'a> {
         self.from
     }
 
-    /// The line that comes next: one more than the line feeds that stand before what is left.
+    /// The number of the line that comes next: one more than the line feeds before what is left.
     pub fn line(&self) -> u32
         ensures value { result ≡ self.now.line }
         ensures counted { IsCounted self.now }
@@ -86,11 +86,14 @@ impl<'a> Unread<'a> {
         behind_word(self.left(), word).is_some()
     }
 
-    /// The next line, without its line feed, and what is left behind it.
+    /// The next line, without its line feed, and what is left after it.
     ///
-    /// Where nothing is left, the code says what is absent; a line without a line feed is refused as such.
+    /// Refused at that line: with `code` where nothing is left, and with L7 where it has no line feed. Never
+    /// OutOfMemory.
     pub fn first_line(&self, code: ScheduleCode) -> Result<(&'a [u8], Unread<'a>), ScheduleFault>
-        ensures line { MatchResult result (λ parts. first_line code self.now ≡ Ok (parts.0.now, parts.1)) (λ fault. first_line code self.now ≡ Err fault) }
+        ensures line { MatchResult result
+            (λ parts. first_line code self.now ≡ Ok (parts.0.now, parts.1))
+            (λ fault. first_line code self.now ≡ Err fault) }
         ensures text { IfOk result (λ parts. parts.1.text ≡ self.now.text) }
         ensures want { IfErr result (λ fault. fault ≢ ScheduleFault.OutOfMemory) }
     {
@@ -109,7 +112,7 @@ impl<'a> Unread<'a> {
         Ok((&left[..length], rest))
     }
 
-    /// What is left behind so many lines, or None where fewer follow.
+    /// What is left after so many lines; None where fewer are left.
     pub fn behind_lines(&self, count: u32) -> Option<Unread<'a>>
         ensures { MatchOption result (length (lines_left self.now) < count)
             (λ rest. (count ≤ length (lines_left self.now)) × (rest ≡ (section_of count self.now).rest)) }
@@ -123,7 +126,7 @@ impl<'a> Unread<'a> {
     }
 }
 
-/// What stands behind the word, where the text begins with it. No memory is taken.
+/// What stands after the word, where the text begins with it; else None.
 pub fn behind_word<'a>(text: &'a [u8], word: &[u8]) -> Option<&'a [u8]>
     ensures { MatchOption result (begins_with word.now text.now ≡ false)
         (λ rest. (begins_with word.now text.now ≡ true) × (rest.now ≡ drop (length word.now) text.now)) }

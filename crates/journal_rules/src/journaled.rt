@@ -21,7 +21,8 @@ use std::marker::Model;
 fn kept_at(store: Option<&Store>, agent: u8, seq: u32) -> Option<&OwnedBatch>
     requires from { 1 ≤ agent }
     requires to { agent ≤ (stored_in (option_copied store)).agents }
-    ensures { option_map batch_of (option_copied result) ≡ held (stored_in (option_copied store.entry)).batches agent seq }
+    ensures { option_map batch_of (option_copied result)
+        ≡ held (stored_in (option_copied store.entry)).batches agent seq }
 {
     match store {
         Some(store) => store.get(agent, seq),
@@ -131,7 +132,9 @@ impl<'a> Journaled<'a> {
     /// The index of the first bad record of the batch, and the rule that it breaks.
     pub(crate) fn first_bad(&self, sheet: &Sheet) -> Option<(u16, BrokenRule)>
         ensures rule { option_map (λ r. r.1) result ≡ first_broken sheet.now self.now.batches (placed self.now.batch) }
-        ensures index { option_map (λ r. r.0) result ≡ option_map (λ p. p.index) (first_bad sheet.now self.now.batches (placed self.now.batch)) }
+        ensures index { option_map (λ r. r.0) result
+            ≡ option_map (λ p. p.index)
+            (first_bad sheet.now self.now.batches (placed self.now.batch)) }
     {
         let agent = self.batch.agent();
         let seq = self.batch.seq();

@@ -12,7 +12,8 @@ use rating::{Sheet, commitment_for, is_priced, price_for};
 
 /// Whether the reading names no commitment, or one that fits it: usage its SKU, a purchase the SKU that buys it.
 fn has_fit_commitment(sheet: &Sheet, reading: &AskedReading<'_>) -> bool
-    ensures { result ≡ is_fit_commitment (reading_asked reading.now) (commitment_of sheet.now (reading_asked reading.now)) }
+    ensures { result ≡ is_fit_commitment (reading_asked reading.now)
+        (commitment_of sheet.now (reading_asked reading.now)) }
 {
     let Some(commitment) = commitment_for(sheet, reading.kind, reading.commitment) else {
         return reading.commitment.is_empty();

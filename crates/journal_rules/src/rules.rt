@@ -16,12 +16,14 @@ use batch_store::{BatchView, Cut, Store};
 use metering_model::BrokenRule;
 use rating::Sheet;
 
-/// The rule that the first bad record of a batch breaks, in the journals that have it too: of one that the store has not,
-/// and that is to be put into it. An amendment may name a reading of the batch itself. No memory is taken.
+/// The rule that the first bad record of a batch breaks, in the journals with the batch put into them; None where none
+/// does. The store must not have a batch of that agent and sequence. An amendment may name a reading of the batch
+/// itself.
 pub fn first_broken(store: &Store, sheet: &Sheet, batch: &BatchView<'_>) -> Option<BrokenRule>
     requires agent { (batch_of batch.now).agent ≤ store.now.agents }
     requires new { held store.now.batches (batch_of batch.now).agent (batch_of batch.now).seq ≡ None }
-    ensures { result ≡ first_broken sheet.now (put store.now.batches (batch_of batch.now)) (placed (batch_of batch.now)) }
+    ensures { result ≡ first_broken sheet.now (put store.now.batches (batch_of batch.now))
+        (placed (batch_of batch.now)) }
 {
     // For the proof alone: its clause says that the agents are 1 to 64, and their batches a holding.
     let _agents = store.agents();
@@ -32,8 +34,7 @@ pub fn first_broken(store: &Store, sheet: &Sheet, batch: &BatchView<'_>) -> Opti
     .first_broken(sheet)
 }
 
-/// The rule that the first bad record of a batch breaks in journals that have it and no other. No store is asked for, so
-/// whoever finds no memory for one can still tell.
+/// The rule that the first bad record of a batch breaks, in journals that have this batch alone; None where none does.
 pub fn first_broken_alone(sheet: &Sheet, batch: &BatchView<'_>) -> Option<BrokenRule>
     ensures { result ≡ first_broken sheet.now (put [] (batch_of batch.now)) (placed (batch_of batch.now)) }
 {
@@ -42,11 +43,36 @@ pub fn first_broken_alone(sheet: &Sheet, batch: &BatchView<'_>) -> Option<Broken
     Journaled { store: None, batch }.first_broken(sheet)
 }
 
-/// The index of the first bad record of a batch, in journals that have it and no other, and the rule that it breaks. No memory
-/// is taken.
+/// The index of the first bad record of such a batch, in the journals that have it too, and the rule that it breaks. No memory is
+/// taken.
+pub fn first_bad(store: &Store, sheet: &Sheet, batch: &BatchView<'_>) -> Option<(u16, BrokenRule)>
+    requires agent { (batch_of batch.now).agent ≤ store.now.agents }
+    requires new { held store.now.batches (batch_of batch.now).agent (batch_of batch.now).seq ≡ None }
+    ensures rule { option_map (λ r. r.1) result
+        ≡ first_broken sheet.now (put store.now.batches (batch_of batch.now))
+        (placed (batch_of batch.now)) }
+    ensures index { option_map (λ r. r.0) result
+        ≡ option_map (λ p. p.index)
+        (first_bad sheet.now (put store.now.batches (batch_of batch.now))
+        (placed (batch_of batch.now))) }
+{
+    // For the proof alone: its clause says that the agents are 1 to 64, and their batches a holding.
+    let _agents = store.agents();
+    Journaled {
+        store: Some(store),
+        batch,
+    }
+    .first_bad(sheet)
+}
+
+/// The index of the first bad record of a batch, in journals that have this batch alone, and the rule that it breaks;
+/// None where there is none.
 pub fn first_bad_alone(sheet: &Sheet, batch: &BatchView<'_>) -> Option<(u16, BrokenRule)>
-    ensures rule { option_map (λ r. r.1) result ≡ first_broken sheet.now (put [] (batch_of batch.now)) (placed (batch_of batch.now)) }
-    ensures index { option_map (λ r. r.0) result ≡ option_map (λ p. p.index) (first_bad sheet.now (put [] (batch_of batch.now)) (placed (batch_of batch.now))) }
+    ensures rule { option_map (λ r. r.1) result
+        ≡ first_broken sheet.now (put [] (batch_of batch.now)) (placed (batch_of batch.now)) }
+    ensures index { option_map (λ r. r.0) result
+        ≡ option_map (λ p. p.index)
+        (first_bad sheet.now (put [] (batch_of batch.now)) (placed (batch_of batch.now))) }
 {
     // For the proof alone: its clause says that the agent is one of 64.
     let _agent = batch.agent();
@@ -93,7 +119,8 @@ fn broken_of_agent(store: &Store, sheet: &Sheet, to: &Cut, agent: u8) -> Option<
     None
 }
 
-/// The rule that the first bad record up to a cut breaks, in journal order. No memory is taken.
+/// The rule that the first bad record up to a cut breaks, in journal order; None where there is none. The store has to
+/// have each batch up to the cut.
 pub fn first_broken_up_to(store: &Store, sheet: &Sheet, to: &Cut) -> Option<BrokenRule>
     requires agents { length to.now ≡ store.now.agents }
     requires whole { first_missing store.now.batches to.now ≡ None }

@@ -1,4 +1,5 @@
-//! The rule on targets: an amendment names a reading that stands before it, so no amendment, and gives it a value that it takes.
+//! The rule on targets: an amendment names a reading that stands before it, so no amendment, and gives it a value that
+//! it takes.
 
 ghost use Rattle.std.specs.Prelude.{◌≡◌, false};
 ghost use Rattle.std.specs.List.{slice_get};

@@ -1,4 +1,5 @@
-//! Batches as agents journal them: the same resources in each, with other values, and the readings of an hour beside each other.
+//! Batches as agents journal them: the same resources in each, with other values, and the readings of an hour beside
+//! each other.
 
 use crate::numbers::Numbers;
 use crate::sheets::{PLANS, PRICES, REGIONS};
@@ -24,7 +25,7 @@ pub struct Batch {
 }
 
 impl Batch {
-    /// Its lines.
+    /// How many lines it has.
     pub fn lines(&self) -> u32 {
         1u32.saturating_add(self.readings)
             .saturating_add(self.amended)
@@ -35,7 +36,7 @@ fn put(text: &mut Vec<u8>, part: &[u8]) -> Result<(), AllocError> {
     text.extend_from_slice(part)
 }
 
-/// A word and the number behind it.
+/// Appends a word and the number after it. An error is an allocation failure.
 pub fn put_word(text: &mut Vec<u8>, word: &[u8], number: u32) -> Result<(), AllocError> {
     put(text, word)?;
     put(text, Buffer::new().format(number).as_bytes())
@@ -51,7 +52,7 @@ struct Resource {
     front: Vec<u8>,
     /// Whether the value stands in the front already.
     has_value: bool,
-    /// From behind the value on, with the line feed.
+    /// From after the value on, with the line feed.
     back: Vec<u8>,
 }
 
@@ -208,7 +209,8 @@ fn put_reading(
     put(text, &resource.back)
 }
 
-/// Appends a batch, of as many lines as it tells where the agent has as many resources.
+/// Appends a batch of as many lines as `lines` says, where the agent has as many resources. An error is an allocation
+/// failure.
 pub fn put_batch(
     alloc: Global,
     text: &mut Vec<u8>,

@@ -40,7 +40,9 @@ empty_nil [] h = refl
 empty_nil (c ∷ cs) h = absurd (false≢true h)
 
 -- what each step of reading a batch's lines answered
-batch_apart : (l : List ℕ) (ls : List (List ℕ)) (rest : List ℕ) (b : Batch) → batch_of_lines (l ∷ ls) rest ≡ Ok b → (x : HeadLine) × (rs : List Record) × (◌≡◌ {A = Batch} (record { version = x.version; agent = x.agent; seq = x.seq; records = rs }) b) × (head_in (fields_in l) ≡ Ok x) × (records_in x.version 2 x.count ls ≡ Ok rs) × (((length ls == x.count) && is_empty rest) ≡ true)
+batch_apart : (l : List ℕ) (ls : List (List ℕ)) (rest : List ℕ) (b : Batch) → batch_of_lines (l ∷ ls) rest ≡ Ok b
+    → (x : HeadLine) × (rs : List Record) × (◌≡◌ {A = Batch} (record { version = x.version; agent = x.agent; seq = x.seq; records = rs }) b)
+    × (head_in (fields_in l) ≡ Ok x) × (records_in x.version 2 x.count ls ≡ Ok rs) × (((length ls == x.count) && is_empty rest) ≡ true)
 batch_apart l ls rest b h =
     let a = simp step_iff at h in
     let r = a.2 in

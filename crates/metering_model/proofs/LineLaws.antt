@@ -39,7 +39,9 @@ abbrev IsHead : List (List ℕ) → HeadLine → Type 0
 IsHead fs h = (fs ≡ head_line_fields h) × HeadLimits h
 
 -- what each step of reading the head's fields answered
-head_apart : (version agent seq count : List ℕ) (x : HeadLine) → head_in (version ∷ agent ∷ seq ∷ count ∷ []) ≡ Ok x → (y : HeadLine) × (y ≡ x) × (version_in version ≡ Some y.version) × (whole_in 1 64 agent ≡ Some y.agent) × (whole_in 1 1_000_000 seq ≡ Some y.seq) × (whole_in 0 1_000 count ≡ Some y.count)
+head_apart : (version agent seq count : List ℕ) (x : HeadLine) → head_in (version ∷ agent ∷ seq ∷ count ∷ []) ≡ Ok x
+    → (y : HeadLine) × (y ≡ x) × (version_in version ≡ Some y.version) × (whole_in 1 64 agent ≡ Some y.agent) × (whole_in 1 1_000_000 seq ≡ Some y.seq)
+    × (whole_in 0 1_000 count ≡ Some y.count)
 head_apart version agent seq count x h =
     let v = simp some_iff at h in
     let a = v.2 in

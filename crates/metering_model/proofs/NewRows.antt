@@ -77,7 +77,9 @@ module _ (sheet : Sheet) (issuer : Issuer) (h : Holding) (period : ℕ) (from to
       by_differ false was now f = none-some r f
 
       by_test : (t : Bool) → nat_lt (last_of from at.agent) at.seq ≡ t
-          → (if t then Some (row sheet issuer reading period New (pos 0) (value_at h at (last_of to at.agent))) else (if differ (value_at h at (last_of from at.agent)) (value_at h at (last_of to at.agent)) then Some (row sheet issuer reading period Correction (value_at h at (last_of from at.agent)) (value_at h at (last_of to at.agent))) else None)) ≡ Some r
+          → (if t then Some (row sheet issuer reading period New (pos 0) (value_at h at (last_of to at.agent))) else
+          (if differ (value_at h at (last_of from at.agent)) (value_at h at (last_of to at.agent)) then Some
+          (row sheet issuer reading period Correction (value_at h at (last_of from at.agent)) (value_at h at (last_of to at.agent))) else None)) ≡ Some r
           → last_of from at.agent < at.seq
       by_test true is f = ltb-true (last_of from at.agent) at.seq is
       by_test false is f = absurd (by_differ (differ (value_at h at (last_of from at.agent)) (value_at h at (last_of to at.agent))) (value_at h at (last_of from at.agent)) (value_at h at (last_of to at.agent)) f)

@@ -42,7 +42,11 @@ read_around letter number tag_list r =
 -- ---- the chain of steps, taken apart and put together
 
 -- fields that are read as a record are those around a reading, and each step answered
-pub taken_apart : (letter start end account resource key value commitment tags : List ℕ) (region : Option (List ℕ)) (x : Record) → reading_in letter start end account resource key value commitment tags region ≡ Ok x → (r : Reading) × (Reads r ≡ x) × (letter ∷ start ∷ end ∷ account ∷ resource ∷ key ∷ value ∷ commitment ∷ tags ∷ option_to_list region ≡ fields_around letter value tags r) × (region ≡ r.region) × Steps letter value tags r
+pub taken_apart : (letter start end account resource key value commitment tags : List ℕ) (region : Option (List ℕ)) (x : Record)
+    → reading_in letter start end account resource key value commitment tags region ≡ Ok x
+    → (r : Reading) × (Reads r ≡ x)
+    × (letter ∷ start ∷ end ∷ account ∷ resource ∷ key ∷ value ∷ commitment ∷ tags ∷ option_to_list region ≡ fields_around letter value tags r)
+    × (region ≡ r.region) × Steps letter value tags r
 taken_apart letter start end account resource key value commitment tags region x h =
     let kind = simp (some_iff, test_iff) at h in
     let from = kind.2 in

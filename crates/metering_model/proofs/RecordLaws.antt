@@ -17,7 +17,9 @@ abbrev pub IsRead : Version → List (List ℕ) → Record → Type 0
 IsRead version fs r = (fs ≡ record_fields r) × IsRecord r × (is_of_version version r ≡ true)
 
 -- what each step of reading an amendment's fields answered
-amendment_apart : (version : Version) (letter seq index value : List ℕ) (x : Record) → record_in version (letter ∷ seq ∷ index ∷ value ∷ []) ≡ Ok x → (s : ℕ) × (i : ℕ) × (v : ℤ) × (Amends s i v ≡ x) × (is_same letter (codes "X") ≡ true) × (whole_in 1 1_000_000 seq ≡ Some s) × (whole_in 0 999 index ≡ Some i) × (result_ok (value_in value) ≡ Some v)
+amendment_apart : (version : Version) (letter seq index value : List ℕ) (x : Record) → record_in version (letter ∷ seq ∷ index ∷ value ∷ []) ≡ Ok x
+    → (s : ℕ) × (i : ℕ) × (v : ℤ) × (Amends s i v ≡ x) × (is_same letter (codes "X") ≡ true) × (whole_in 1 1_000_000 seq ≡ Some s)
+    × (whole_in 0 999 index ≡ Some i) × (result_ok (value_in value) ≡ Some v)
 amendment_apart version letter seq index value x h =
     let a = simp (some_iff, test_iff) at h in
     let s = a.1 in
@@ -39,7 +41,10 @@ amendment_read version letter seq index value r h =
     )
 
 -- nine or ten are a reading's
-reading_read : (version : Version) (letter start end account resource key value commitment tags : List ℕ) (region : Option (List ℕ)) (x : Record) → is_region_of version region ≡ true → reading_in letter start end account resource key value commitment tags region ≡ Ok x → list_all (lacks 124) (letter ∷ start ∷ end ∷ account ∷ resource ∷ key ∷ value ∷ commitment ∷ tags ∷ option_to_list region) ≡ true → IsRead version (letter ∷ start ∷ end ∷ account ∷ resource ∷ key ∷ value ∷ commitment ∷ tags ∷ option_to_list region) x
+reading_read : (version : Version) (letter start end account resource key value commitment tags : List ℕ) (region : Option (List ℕ)) (x : Record)
+    → is_region_of version region ≡ true → reading_in letter start end account resource key value commitment tags region ≡ Ok x
+    → list_all (lacks 124) (letter ∷ start ∷ end ∷ account ∷ resource ∷ key ∷ value ∷ commitment ∷ tags ∷ option_to_list region) ≡ true
+    → IsRead version (letter ∷ start ∷ end ∷ account ∷ resource ∷ key ∷ value ∷ commitment ∷ tags ∷ option_to_list region) x
 reading_read version letter start end account resource key value commitment tags region x fits h bars =
     let a = taken_apart letter start end account resource key value commitment tags region x h in
     let same = a.2 in
@@ -56,7 +61,10 @@ record_read B2 (letter ∷ start ∷ end ∷ account ∷ resource ∷ key ∷ va
 record_read version fs r h bars = absurd (cc)
 
 -- a reading's fields are read by its version
-by_version : (version : Version) (letter start end account resource key value commitment tags : List ℕ) (region : Option (List ℕ)) → is_region_of version region ≡ true → record_in version (letter ∷ start ∷ end ∷ account ∷ resource ∷ key ∷ value ∷ commitment ∷ tags ∷ option_to_list region) ≡ reading_in letter start end account resource key value commitment tags region
+by_version : (version : Version) (letter start end account resource key value commitment tags : List ℕ) (region : Option (List ℕ))
+    → is_region_of version region ≡ true
+    → record_in version (letter ∷ start ∷ end ∷ account ∷ resource ∷ key ∷ value ∷ commitment ∷ tags ∷ option_to_list region)
+    ≡ reading_in letter start end account resource key value commitment tags region
 by_version B1 letter start end account resource key value commitment tags None h = refl
 by_version B1 letter start end account resource key value commitment tags (Some t) h = absurd (false≢true h)
 by_version B2 letter start end account resource key value commitment tags None h = absurd (false≢true h)

@@ -9,6 +9,7 @@ pub use Rattle.metering_model.specs.declared.Kind.TheVariants.{Usage, Purchase, 
 pub use Rattle.metering_model.specs.declared.Version.{Version}
 pub use Rattle.metering_model.specs.declared.Version.TheVariants.{B1, B2}
 use Rattle.metering_model.specs.NumberText.{spelling, value_limit}
+use Rattle.metering_model.specs.Limits.{most_batch_bytes, most_records, last_index, most_agents, last_sequence}
 use Rattle.metering_model.specs.Dates.{IsStampText}
 
 pub record Tag : Type 0 where
@@ -129,8 +130,8 @@ pub record IsReading (r : Reading) : Type 0 where
   pub region : IsTrue (list_all is_field (option_to_list r.region))
 
 pub record IsAmendment (seq index : ℕ) (value : ℤ) : Type 0 where
-  pub seq_in : (1 ≤ seq) × (seq ≤ 1_000_000)
-  pub index_in : index ≤ 999
+  pub seq_in : (1 ≤ seq) × (seq ≤ last_sequence)
+  pub index_in : index ≤ last_index
   pub value_in : unsigned_abs value < value_limit
 
 abbrev pub IsRecord : Record → Type 0
@@ -150,10 +151,10 @@ is_of_version version (Amends seq index value) = true
 -- The text is that of the batch, and each of its parts meets its rule.
 pub record IsBatch (text : List ℕ) (b : Batch) : Type 0 where
   pub joined : text ≡ batch_text b
-  pub short : length text ≤ 65_536
-  pub agent : (1 ≤ b.agent) × (b.agent ≤ 64)
-  pub seq : (1 ≤ b.seq) × (b.seq ≤ 1_000_000)
-  pub count : length b.records ≤ 1_000
+  pub short : length text ≤ most_batch_bytes
+  pub agent : (1 ≤ b.agent) × (b.agent ≤ most_agents)
+  pub seq : (1 ≤ b.seq) × (b.seq ≤ last_sequence)
+  pub count : length b.records ≤ most_records
   pub records : All IsRecord b.records
   pub of_version : IsTrue (list_all (is_of_version b.version) b.records)
 

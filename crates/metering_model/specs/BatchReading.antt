@@ -8,6 +8,7 @@ pub use Rattle.metering_model.specs.declared.BatchCode.TheVariants.{Head, Count,
 pub use Rattle.metering_model.specs.declared.BatchFault.{BatchFault}
 use Rattle.metering_model.specs.FirstFailure.{◌>>=◌, holds_or}
 use Rattle.metering_model.specs.NumberText.{is_whole_part, number_of, value_in}
+use Rattle.metering_model.specs.Limits.{most_batch_bytes, most_records, last_index, most_agents, last_sequence}
 use Rattle.metering_model.specs.Dates.{stamp_in}
 use Rattle.metering_model.specs.Batch.{Version, B1, B2, Kind, Usage, Purchase, Credit, Tax, Adjustment, Tag, Record, Reads, Amends, Batch, is_priced, is_text, is_empty, keys_rise}
 
@@ -94,8 +95,8 @@ reading_in letter start end account resource key value commitment tags region = 
 abbrev pub record_in : Version → List (List ℕ) → Result Record BatchCode
 record_in version (letter ∷ seq ∷ index ∷ value ∷ []) = do
   _ ← holds_or (is_same letter (codes "X")) Fields
-  s ← ok_or (whole_in 1 1_000_000 seq) Number
-  i ← ok_or (whole_in 0 999 index) Number
+  s ← ok_or (whole_in 1 last_sequence seq) Number
+  i ← ok_or (whole_in 0 last_index index) Number
   v ← ok_or (result_ok (value_in value)) Number
   Ok (Amends s i v)
 record_in B1 (letter ∷ start ∷ end ∷ account ∷ resource ∷ key ∷ value ∷ commitment ∷ tags ∷ []) =
@@ -117,9 +118,9 @@ version_in t = if is_same t (codes "B1") then Some B1 else (if is_same t (codes 
 abbrev pub head_in : List (List ℕ) → Result HeadLine BatchCode
 head_in (version ∷ agent ∷ seq ∷ count ∷ []) = do
   v ← ok_or (version_in version) Head
-  a ← ok_or (whole_in 1 64 agent) Head
-  s ← ok_or (whole_in 1 1_000_000 seq) Head
-  n ← ok_or (whole_in 0 1_000 count) Head
+  a ← ok_or (whole_in 1 most_agents agent) Head
+  s ← ok_or (whole_in 1 last_sequence seq) Head
+  n ← ok_or (whole_in 0 most_records count) Head
   Ok (record { version = v; agent = a; seq = s; count = n })
 head_in _ = Err Head
 
@@ -165,5 +166,5 @@ batch_of_lines (l ∷ ls) rest = at_line 1 (head_in (fields_in l)) >>= batch_bel
 -- the batch that a text is, or its first fault
 abbrev pub batch_in : List ℕ → Result Batch BatchFault
 batch_in text =
-    if nat_lt 65_536 (length text) then Err (record { code = TooLong; line = 1 })
+    if nat_lt most_batch_bytes (length text) then Err (record { code = TooLong; line = 1 })
     else batch_of_lines (lines_in text).lines (lines_in text).rest

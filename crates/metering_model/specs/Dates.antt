@@ -5,6 +5,7 @@ use Rattle.std.specs.Option.{option_and_then}
 use Rattle.std.specs.Int.{int_div_euclid}
 use Rattle.jiff_core.specs.Calendar.{days_from_civil, days_in_month}
 use Rattle.metering_model.specs.NumberText.{is_digit, number_of}
+use Rattle.metering_model.specs.Limits.{most_periods, last_year, first_base_month, last_base_month}
 
 -- a number below 100 in two digits, and one below 10,000 in four
 abbrev pub two_digits : ℕ → List ℕ
@@ -29,7 +30,7 @@ stamp_text day time = day ++ codes "T" ++ time ++ codes "Z"
 pub record IsMonthText (text : List ℕ) (m : ℕ) : Type 0 where
   pub year : ℕ
   pub month : ℕ
-  pub year_in : (1 ≤ year) × (year ≤ 9999)
+  pub year_in : (1 ≤ year) × (year ≤ last_year)
   pub month_in : (1 ≤ month) × (month ≤ 12)
   pub joined : text ≡ month_text year month
   pub number : m ≡ 12 * year + month - 1
@@ -39,7 +40,7 @@ pub record IsDayText (text : List ℕ) (n : ℤ) : Type 0 where
   pub year : ℕ
   pub month : ℕ
   pub day : ℕ
-  pub year_in : (1 ≤ year) × (year ≤ 9999)
+  pub year_in : (1 ≤ year) × (year ≤ last_year)
   pub month_in : (1 ≤ month) × (month ≤ 12)
   pub day_in : (1 ≤ day) × (day ≤ days_in_month (pos year) month)
   pub joined : text ≡ day_text year month day
@@ -119,10 +120,10 @@ stamp_in t = if has_stamp_form t then stamp_of (day_in (take 10 t)) (second_in (
 
 -- a base month lies from 2000-01 to 2100-12
 abbrev pub IsBaseMonth : ℕ → Type 0
-IsBaseMonth m = (24_000 ≤ m) × (m ≤ 25_211)
+IsBaseMonth m = (first_base_month ≤ m) × (m ≤ last_base_month)
 
 abbrev pub IsPeriod : ℕ → Type 0
-IsPeriod p = p < 1_200
+IsPeriod p = p < most_periods
 
 -- the day of a stamp
 abbrev pub day_of : ℤ → ℤ

@@ -1,6 +1,7 @@
 -- What a node keeps, as bytes: its one text, what a text is read as, and the first fault of one that is of nothing kept.
 use Rattle.std.specs.Prelude.{◌≡◌, ℕ, zero, suc, ◌+◌, ◌≤◌, ◌==◌, ◌&&◌, Bool, nat_le, if◌then◌else◌, List, [], ◌∷◌, ◌++◌, length, map, take, drop, All, Option, Some, None, Result, Ok, Err, ok_or, codes, decimal}
 use Rattle.std.specs.List.{flat_map}
+use Rattle.metering_model.specs.Limits.{most_agents, last_sequence, most_batches, most_periods, most_rounds, last_ballot}
 pub use Rattle.metering_model.specs.declared.KeptCode.{KeptCode}
 pub use Rattle.metering_model.specs.declared.KeptCode.TheVariants.{Head as BadHead, Cut as BadCut, Batch as NoBatch, Order as NotInOrder, Extra as HasExtra}
 use Rattle.metering_model.specs.FirstFailure.{◌>>=◌, holds_or}
@@ -47,21 +48,21 @@ kept_text k =
     ++ flat_map cut_text (k.kept.learned ++ vote_cuts k.kept.acceptor.vote)
     ++ flat_map batch_text k.kept.holding
 
--- one entry for each of so many agents, of at most 1,000,000
+-- one entry for each of so many agents: a sequence, or 0
 pub record IsCutAmong (agents : ℕ) (cut : Cut) : Type 0 where
   pub size : length cut ≡ agents
-  pub low : All (λ seq. seq ≤ 1_000_000) cut
+  pub low : All (λ seq. seq ≤ last_sequence) cut
 
 -- Ballots of 99 nodes in rounds 1 to 10,000 are among these.
 abbrev pub IsBallotNumber : ℕ → Type 0
-IsBallotNumber ballot = (1 ≤ ballot) × (ballot ≤ 990_098)
+IsBallotNumber ballot = (1 ≤ ballot) × (ballot ≤ last_ballot)
 
 -- It may be written: each number is within its limits, and cuts and batches are of the agents that there are. Nothing else
 -- is asked: cuts may go back, and a promise may be below the vote.
 pub record HasText (k : KeptAmong) : Type 0 where
-  pub agents : (1 ≤ k.agents) × (k.agents ≤ 64)
-  pub round : k.kept.round ≤ 10_000
-  pub periods : length k.kept.learned ≤ 1_200
+  pub agents : (1 ≤ k.agents) × (k.agents ≤ most_agents)
+  pub round : k.kept.round ≤ most_rounds
+  pub periods : length k.kept.learned ≤ most_periods
   pub learned : All (IsCutAmong k.agents) k.kept.learned
   pub promised : (ballot : ℕ) → k.kept.acceptor.promised ≡ Some ballot → IsBallotNumber ballot
   pub vote : (v : Vote) → k.kept.acceptor.vote ≡ Some v → IsBallotNumber v.ballot × IsCutAmong k.agents v.cut
@@ -95,17 +96,17 @@ pub record KeptHead : Type 0 where
 abbrev pub kept_head_in : List (List ℕ) → Result KeptHead KeptCode
 kept_head_in (version ∷ agents ∷ round ∷ learned ∷ promised ∷ ballot ∷ batches ∷ []) = do
   _ ← holds_or (is_same version (codes "K1")) BadHead
-  a ← ok_or (whole_in 1 64 agents) BadHead
-  r ← ok_or (whole_in 0 10_000 round) BadHead
-  l ← ok_or (whole_in 0 1_200 learned) BadHead
-  p ← ok_or (whole_in 0 990_098 promised) BadHead
-  v ← ok_or (whole_in 0 990_098 ballot) BadHead
-  n ← ok_or (whole_in 0 64_000_000 batches) BadHead
+  a ← ok_or (whole_in 1 most_agents agents) BadHead
+  r ← ok_or (whole_in 0 most_rounds round) BadHead
+  l ← ok_or (whole_in 0 most_periods learned) BadHead
+  p ← ok_or (whole_in 0 last_ballot promised) BadHead
+  v ← ok_or (whole_in 0 last_ballot ballot) BadHead
+  n ← ok_or (whole_in 0 most_batches batches) BadHead
   Ok (record { agents = a; round = r; learned = l; promised = p; ballot = v; batches = n })
 kept_head_in _ = Err BadHead
 
 abbrev pub cut_in : ℕ → List (List ℕ) → Option Cut
-cut_in agents fields = if length fields == agents then all_some (map (whole_in 0 1_000_000) fields) else None
+cut_in agents fields = if length fields == agents then all_some (map (whole_in 0 last_sequence) fields) else None
 
 -- so many cuts, the first of them on this line, and the lines behind them
 abbrev pub cuts_in : (line agents count : ℕ) → List (List ℕ) → Result (List Cut × List (List ℕ)) KeptTextFault

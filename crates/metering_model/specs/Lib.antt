@@ -1,3 +1,4 @@
+pub mod Limits
 pub mod NumberText
 pub mod Dates
 pub mod FirstFailure

@@ -1,6 +1,7 @@
 -- Schedules as texts: a group, its sheet and its issuer as lines, and events.
 use Rattle.std.specs.Prelude.{◌≡◌, ℕ, zero, suc, ◌+◌, ◌≤◌, List, ◌++◌, length, map, All, codes, IsTrue}
 use Rattle.std.specs.List.{flat_map, list_all}
+use Rattle.metering_model.specs.Limits.{most_agents, last_period, most_nodes, last_node, last_packet, most_sheet_lines, most_issuer_lines, most_journal_lines, most_revival_lines, most_input_bytes}
 use Rattle.metering_model.specs.Batch.{lacks}
 use Rattle.metering_model.specs.Sheet.{Sheet, Issuer}
 use Rattle.metering_model.specs.World.{offer_of, Event, Journal, Deliver, Start, Restart, Export, Keep, Revive, opening}
@@ -63,22 +64,22 @@ pub record AreLines (most : ℕ) (ls : TextLines) : Type 0 where
   pub whole : IsTrue (list_all (lacks 10) ls)
 
 abbrev pub IsPlanned : Planned → Type 0
-IsPlanned (PlansJournal ls) = AreLines 1_001 ls
-IsPlanned (PlansDelivery k i) = (k ≤ 999_999) × (i ≤ 98)
-IsPlanned (PlansStart i) = i ≤ 98
-IsPlanned (PlansRestart i) = i ≤ 98
-IsPlanned (PlansExport i p) = (i ≤ 98) × (p ≤ 1_199)
-IsPlanned (PlansKeep i) = i ≤ 98
-IsPlanned (PlansRevival i ls) = (i ≤ 98) × AreLines 200_000 ls
+IsPlanned (PlansJournal ls) = AreLines most_journal_lines ls
+IsPlanned (PlansDelivery k i) = (k ≤ last_packet) × (i ≤ last_node)
+IsPlanned (PlansStart i) = i ≤ last_node
+IsPlanned (PlansRestart i) = i ≤ last_node
+IsPlanned (PlansExport i p) = (i ≤ last_node) × (p ≤ last_period)
+IsPlanned (PlansKeep i) = i ≤ last_node
+IsPlanned (PlansRevival i ls) = (i ≤ last_node) × AreLines most_revival_lines ls
 
 -- The text joins the parts of the schedule, each within its limits. Whether its sheet and issuer can be read is not said.
 pub record HasScheduleForm (text : List ℕ) (s : Schedule) : Type 0 where
   pub joined : text ≡ schedule_text s
-  pub short : length text ≤ 16_777_216
-  pub nodes : (1 ≤ s.voters) × (s.voters + s.observers ≤ 99)
-  pub agents : (1 ≤ s.agents) × (s.agents ≤ 64)
-  pub sheet : AreLines 200_000 s.sheet
-  pub issuer : AreLines 100 s.issuer
+  pub short : length text ≤ most_input_bytes
+  pub nodes : (1 ≤ s.voters) × (s.voters + s.observers ≤ most_nodes)
+  pub agents : (1 ≤ s.agents) × (s.agents ≤ most_agents)
+  pub sheet : AreLines most_sheet_lines s.sheet
+  pub issuer : AreLines most_issuer_lines s.issuer
   pub events : All IsPlanned s.events
 
 abbrev pub event_of : Planned → Event

@@ -2,6 +2,7 @@
 use Rattle.std.specs.Prelude.{◌≤◌, ◌<◌, ℕ, Bool, true, not, ◌&&◌, ◌==◌, nat_le, List, [], ◌∷◌, length, All, IsTrue, ℤ}
 use Rattle.std.specs.List.{list_all, list_any}
 use Rattle.std.specs.Ordering.{int_eq}
+use Rattle.metering_model.specs.Limits.{most_sheet_rows, most_units}
 use Rattle.metering_model.specs.NumberText.{price_limit}
 use Rattle.metering_model.specs.Dates.{IsDayText, IsBaseMonth}
 use Rattle.metering_model.specs.Batch.{is_empty}
@@ -29,7 +30,7 @@ pub record IsPriceRow (p : PriceRow) : Type 0 where
   pub service : IsTrue (is_label p.service)
   pub consumed_unit : IsTrue (is_label p.consumed_unit)
   pub pricing_unit : IsTrue (is_label p.pricing_unit)
-  pub per : (1 ≤ p.per) × (p.per ≤ 1_000_000_000)
+  pub per : (1 ≤ p.per) × (p.per ≤ most_units)
   pub list : p.list < price_limit
   pub contracted : p.contracted < price_limit
 
@@ -67,14 +68,14 @@ has_price sheet sku = list_any (λ p. is_same p.sku sku) sheet.prices
 pub record IsSheet (sheet : Sheet) : Type 0 where
   pub base : IsBaseMonth sheet.base
   pub prices : All IsPriceRow sheet.prices
-  pub price_count : length sheet.prices ≤ 10_000
+  pub price_count : length sheet.prices ≤ most_sheet_rows
   pub one_price : IsTrue (are_apart has_same_key sheet.prices)
   pub commitments : All IsCommitment sheet.commitments
-  pub commitment_count : length sheet.commitments ≤ 10_000
+  pub commitment_count : length sheet.commitments ≤ most_sheet_rows
   pub one_id : IsTrue (are_apart has_same_id sheet.commitments)
   pub priced : All (λ c. IsTrue (has_price sheet c.sku && has_price sheet c.buy)) sheet.commitments
   pub regions : All IsRegion sheet.regions
-  pub region_count : length sheet.regions ≤ 10_000
+  pub region_count : length sheet.regions ≤ most_sheet_rows
   pub one_region : IsTrue (are_apart has_same_region sheet.regions)
 
 abbrev pub is_capital : ℕ → Bool

@@ -2,6 +2,7 @@
 use Rattle.std.specs.Prelude.{ℕ, zero, suc, ◌+◌, ◌==◌, nat_lt, nat_le, if◌then◌else◌, List, [], ◌∷◌, Option, Some, None, Result, Ok, Err, ok_or, unwrap_or, slice_get}
 use Rattle.std.specs.List.{range_with_len}
 use Rattle.std.specs.Option.{is_some}
+use Rattle.metering_model.specs.Limits.{most_periods, most_rounds}
 use Rattle.metering_model.specs.FirstFailure.{◌>>=◌, holds_or}
 use Rattle.metering_model.specs.Batch.{Batch}
 use Rattle.metering_model.specs.BatchReading.{BatchFault, batch_in, is_same}
@@ -64,8 +65,8 @@ abbrev pub on_start : World → ℕ → Result Outcome Refusal
 on_start w i = do
   n ← node_at w i
   _ ← holds_or (votes w i) Observer
-  _ ← holds_or (nat_lt (current_period n) 1_200) AllClosed
-  _ ← holds_or (nat_lt n.kept.round 10_000) NoBallot
+  _ ← holds_or (nat_lt (current_period n) most_periods) AllClosed
+  _ ← holds_or (nat_lt n.kept.round most_rounds) NoBallot
   k ← next_packet w
   let ballot = ballot_of (n.kept.round + 1) i (voter_count w)
   Ok (Started ballot k, with_packet (Prepare (current_period n) ballot) (with_node_at i (started_node (voter_count w) ballot n) w))

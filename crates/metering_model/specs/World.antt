@@ -1,6 +1,7 @@
 -- The group as plain data: what nodes keep, what was sent, what may happen and what is answered.
 use Rattle.std.specs.Prelude.{ℕ, ◌+◌, Bool, List, [], ◌∷◌, ◌++◌, length, replicate, Option, None, Result, Ok, Err, unwrap_or, nat_lt, if◌then◌else◌, slice_set}
 use Rattle.std.specs.List.{last_or}
+use Rattle.metering_model.specs.Limits.{most_packets}
 pub use Rattle.metering_model.specs.declared.KeptTextFault.{KeptTextFault}
 pub use Rattle.metering_model.specs.declared.Refusal.{Refusal}
 pub use Rattle.metering_model.specs.declared.Refusal.TheVariants.{BadBatch, WrongSeq, BadTarget, Unpriced, NoPacket, NoNode, NotClosed, Missing, AllClosed, NoBallot, WorldFull, NoAgent, Observer, BadKept, NotKept}
@@ -132,4 +133,4 @@ with_packet p w = record w { packets = w.packets ++ p ∷ [] }
 
 -- the number of the next packet, where the world has room for one
 abbrev pub next_packet : World → Result ℕ Refusal
-next_packet w = if nat_lt (length w.packets) 1_000_000 then Ok (length w.packets) else Err WorldFull
+next_packet w = if nat_lt (length w.packets) most_packets then Ok (length w.packets) else Err WorldFull

@@ -3,6 +3,7 @@
 ghost use Rattle.std.specs.Prelude.{◌≡◌, ℕ, ◌+◌, ◌^◌, ◌<◌, ◌≤◌, ◌↔◌, ◌⊎◌, true, false, List, [], ◌∷◌, ◌++◌, length, slice_set, Some, None, Ok, ℤ, unsigned_abs, unwrap_or, slice_get, All, Err, pos, ◌≤ℤ◌, ◌<ℤ◌};
 ghost use Rattle.std.specs.Option.{is_some};
 ghost use Rattle.std.specs.List.{flat_map, filter_map, Contains};
+ghost use Rattle.metering_model.specs.Limits.{most_agents, most_batches};
 ghost use Rattle.metering_model.specs.NumberText.{Spells, number_in, spelling, Range, value_in, value_limit, price_in, price_limit};
 ghost use Rattle.metering_model.specs.Dates.{IsMonthText, IsDayText, IsStampText, month_in, day_in, stamp_in};
 ghost use Rattle.metering_model.specs.Batch.{Batch, Reading, IsBatch, IsWellFormed, is_priced};
@@ -23,13 +24,14 @@ ghost use Rattle.metering_model.specs.Step.{first_missing, step, play};
 ghost use Rattle.metering_model.specs.Row.{charge, priced_kind, price_of, commitment_of};
 ghost use Rattle.metering_model.specs.Totals.{amounts_of, amounts_in, AreWithinLimits};
 
-/// Reading a text as a number answers the number that the text spells, and nothing else.
+/// Reading a text as a number returns the number that the text spells, and no other.
 pub fn numbers_are_read_as_they_are_spelled()
     ensures { (places : ℕ) (text : List ℕ) (n : ℤ) →
         (number_in places text ≡ Some n) ↔ Spells places text n }
 {}
 
-/// Each number has one spelling, which is the computed one. A number is less than 10^64 units.
+/// A number of magnitude below 10^64 units has one spelling, which is the computed one, and a text spells at most one
+/// number.
 pub fn numbers_have_one_spelling()
     ensures spelled { (places : ℕ) (n : ℤ) → unsigned_abs n < 10 ^ 64 → Spells places (spelling places n) n }
     ensures unique { (places : ℕ) (text : List ℕ) (n : ℤ) → unsigned_abs n < 10 ^ 64 →
@@ -37,7 +39,7 @@ pub fn numbers_have_one_spelling()
     ensures one_number { (places : ℕ) (text : List ℕ) (m n : ℤ) → Spells places text m → Spells places text n → m ≡ n }
 {}
 
-/// Reading a month, a day or a stamp answers the number that the calendar gives it.
+/// Reading a month, a day or a stamp returns the number that the calendar gives it.
 pub fn dates_are_read_as_they_are_written()
     ensures months { (text : List ℕ) (m : ℕ) → (month_in text ≡ Some m) ↔ IsMonthText text m }
     ensures days { (text : List ℕ) (n : ℤ) → (day_in text ≡ Some n) ↔ IsDayText text n }
@@ -50,20 +52,23 @@ pub fn a_batch_is_read_where_its_parts_are_joined()
     ensures well_formed { (text : List ℕ) (b : Batch) → batch_in text ≡ Ok b → IsWellFormed b }
 {}
 
-/// What a node keeps has one text, and is read from that text and from no other: so what was written is read back.
+/// A text is read as the kept state of a node exactly where it is the join of that state's parts. A state that has a
+/// text is read back from it, and two such states with the same text are equal. A holding of agents up to 64 has at
+/// most 64,000,000 batches.
 pub fn what_is_kept_is_read_where_its_parts_are_joined()
     ensures joined { (text : List ℕ) (k : KeptAmong) → (kept_in text ≡ Ok k) ↔ IsKeptText text k }
     ensures back { (k : KeptAmong) → HasText k → kept_in (kept_text k) ≡ Ok k }
     ensures one { (k l : KeptAmong) → HasText k → HasText l → kept_text k ≡ kept_text l → k ≡ l }
-    ensures few { (h : Holding) → IsHolding h → All (λ b. b.agent ≤ 64) h → length h ≤ 64_000_000 }
+    ensures few { (h : Holding) → IsHolding h → All (λ b. b.agent ≤ most_agents) h → length h ≤ most_batches }
 {}
 
-/// A pricing quantity is the value divided by `per`, rounded half to even, and no other number is.
+/// For `per` above 0, a pricing quantity is the value divided by `per`, rounded half to even, and no other number is.
 pub fn pricing_quantities_are_rounded_half_to_even()
     ensures { (per : ℕ) (v q : ℤ) → 0 < per → (IsRounded per v q) ↔ (q ≡ pricing_quantity per v) }
 {}
 
-/// A holding that is put into stays a holding, and has what was put, or what it had at that place before.
+/// Putting a well-formed batch into a holding leaves a holding. It has then the batch, or the one that was at that
+/// agent and sequence before, and the same batches elsewhere. What is up to a cut is a holding too.
 pub fn holdings_are_maps()
     ensures stays { (h : Holding) (b : Batch) → IsHolding h → IsWellFormed b → IsHolding (put h b) }
     ensures found { (h : Holding) (b : Batch) → IsHolding h →
@@ -74,8 +79,8 @@ pub fn holdings_are_maps()
     ensures cuts { (h : Holding) (cut : Cut) → IsHolding h → IsHolding (up_to cut h) }
 {}
 
-/// A part of a holding stays one while the whole has what is put into it. Where it lacks nothing up to a cut, the two agree
-/// up to that cut; what a holding has up to a cut is such a part.
+/// A part of a holding stays one while only batches of the whole are put into it. Where the part lacks nothing up to a
+/// cut, the two agree up to that cut. What a holding has up to a cut is such a part.
 pub fn parts_of_holdings_agree_where_they_lack_nothing()
     ensures itself { (h : Holding) → IsPartOf h h }
     ensures onward { (h k l : Holding) → IsPartOf h k → IsPartOf k l → IsPartOf h l }
@@ -87,8 +92,9 @@ pub fn parts_of_holdings_agree_where_they_lack_nothing()
     ensures lacks_nothing { (h : Holding) (cut : Cut) → LacksNothingUpTo cut (up_to cut h) h }
 {}
 
-/// A holding misses nothing up to a cut exactly where it has each batch up to it. What it misses is the absent batch of the
-/// least agent, and of that agent's the one of the least sequence. A part that misses nothing agrees with the whole.
+/// A holding misses nothing up to a cut exactly where it has each batch up to it. What is reported missing is an absent
+/// batch up to the cut, and each batch before it, by agent and then by sequence, is there. A part that misses nothing
+/// agrees with the whole up to the cut.
 pub fn what_is_missing_up_to_a_cut_is_the_least_absent()
     ensures nothing { (h : Holding) (cut : Cut) → (first_missing h cut ≡ None)
         ↔ ((agent seq : ℕ) → 0 < seq → seq ≤ last_of cut agent → is_some (held h agent seq) ≡ true) }
@@ -100,7 +106,8 @@ pub fn what_is_missing_up_to_a_cut_is_the_least_absent()
         first_missing h cut ≡ None → AgreeUpTo cut h k }
 {}
 
-/// Cuts of one length are ordered agent by agent, with zero below all; an entry that is put changes no other.
+/// "At least" holds between a cut and itself, passes on, and holds of any cut over the zero cut of its length. Of cuts
+/// of one length it is "at least" agent by agent. An entry that is set changes no other.
 pub fn cuts_are_ordered()
     ensures itself { (cut : Cut) → IsAtLeast cut cut }
     ensures onward { (a b c : Cut) → IsAtLeast b a → IsAtLeast c b → IsAtLeast c a }
@@ -113,7 +120,7 @@ pub fn cuts_are_ordered()
         last_of (slice_set cut i seq) agent ≡ last_of cut agent }
 {}
 
-/// Holdings that agree up to a cut give the same values and the same rows up to it.
+/// Holdings that agree up to a cut give the same batches, values and rows up to it.
 pub fn what_agrees_up_to_a_cut_is_charged_alike()
     ensures batches { (h k : Holding) (to : Cut) → IsHolding h → IsHolding k → AgreeUpTo to h k →
         up_to to h ≡ up_to to k }
@@ -128,19 +135,20 @@ pub fn what_agrees_up_to_a_cut_is_charged_alike()
         rows sheet issuer h period from to ≡ rows sheet issuer k period from to }
 {}
 
-/// A revival answers a text and the offer that reading it makes alike.
+/// A revival from a text gets the same reply, and leaves the same world, as one from what reading that text gives.
 pub fn texts_and_their_offer_are_revived_alike()
-    ensures { (w : World) (node : ℕ) (text : List ℕ) → step w (Revive node (kept_offer_of text)) ≡ step w (Revive node (KeptGood text)) }
+    ensures { (w : World) (node : ℕ) (text : List ℕ)
+        → step w (Revive node (kept_offer_of text)) ≡ step w (Revive node (KeptGood text)) }
 {}
 
-/// Bytes are answered alike, whether they were read before they were handed in or not.
+/// Journaling a text gets the same reply, and leaves the same world, as journaling what reading that text gives.
 pub fn bytes_and_their_offer_are_journaled_alike()
     ensures { (w : World) (text : List ℕ) →
         step w (Journal (Good text)) ≡ step w (Journal (offer_of text)) }
 {}
 
-/// The journals meet their rules after each batch that they take, an agent's batches are those below its next, and what they
-/// have up to a cut meets the rules too.
+/// The journals meet their rules after each batch that is next of its agent and breaks no rule. An agent's batches are
+/// just those below its next sequence. What the journals have up to a cut meets the rules too.
 pub fn journals_keep_their_rules()
     ensures none { (sheet : Sheet) → MeetsJournalRules sheet [] }
     ensures taken { (sheet : Sheet) (h : Holding) (b : Batch) →
@@ -150,14 +158,16 @@ pub fn journals_keep_their_rules()
         MeetsJournalRules sheet h → held h agent seq ≡ Some b → seq < next_seq h agent }
     ensures all_below_next { (sheet : Sheet) (h : Holding) (agent seq : ℕ) →
         MeetsJournalRules sheet h → 0 < seq → seq < next_seq h agent → is_some (held h agent seq) ≡ true }
-    ensures cuts { (sheet : Sheet) (h : Holding) (cut : Cut) → MeetsJournalRules sheet h → MeetsJournalRules sheet (up_to cut h) }
+    ensures cuts { (sheet : Sheet) (h : Holding) (cut : Cut) → MeetsJournalRules sheet h
+        → MeetsJournalRules sheet (up_to cut h) }
 {}
 
-/// A front is at least the cut that it is taken of, each batch in between is held and due, and no greater cut has that. A
-/// part of a holding has no greater front than the whole.
+/// A front is at least the cut that it is taken of, each batch in between is held and due, and for no agent does this
+/// hold up to a greater sequence. A part of a holding has no greater front than the whole.
 pub fn a_front_goes_on_from_its_cut()
     ensures grows { (base period : ℕ) (h : Holding) (cut : Cut) → IsAtLeast (front base h cut period) cut }
-    ensures due { (base period : ℕ) (h : Holding) (cut : Cut) → AreDueBetween base period h cut (front base h cut period) }
+    ensures due { (base period : ℕ) (h : Holding) (cut : Cut)
+        → AreDueBetween base period h cut (front base h cut period) }
     ensures greatest { (base period : ℕ) (h : Holding) (cut : Cut) (agent seq : ℕ) → 1 ≤ agent → agent ≤ length cut →
         ((s : ℕ) → last_of cut agent < s → s ≤ seq → IsDueAt base period h agent s) →
         seq ≤ last_of (front base h cut period) agent }
@@ -166,16 +176,18 @@ pub fn a_front_goes_on_from_its_cut()
         IsAtLeast (front base k cut period) (front base h cut period) }
 {}
 
-/// Each row between two cuts has a place of its own; those of null class are of the readings between the cuts, one of each.
-/// They are the rows of the batches up to the later cut, one batch after the other.
+/// No two rows between two cuts have the same place. Those of null class are of batches between the cuts, and each
+/// reading between the cuts has one. They are the rows of the batches up to the later cut, one batch after the other.
 pub fn rows_between_two_cuts_have_their_places()
-    ensures apart { (sheet : Sheet) (issuer : Issuer) (h : Holding) (period : ℕ) (from to : Cut) (k l : ℕ) (x y : PlacedRow) →
+    ensures apart { (sheet : Sheet) (issuer : Issuer) (h : Holding) (period : ℕ) (from to : Cut)
+        (k l : ℕ) (x y : PlacedRow) →
         IsHolding h → slice_get (placed_rows sheet issuer h period from to) k ≡ Some x →
         slice_get (placed_rows sheet issuer h period from to) l ≡ Some y → x.place ≡ y.place → k ≡ l }
     ensures new { (sheet : Sheet) (issuer : Issuer) (h : Holding) (period : ℕ) (from to : Cut) (k : ℕ) (x : PlacedRow) →
         slice_get (placed_rows sheet issuer h period from to) k ≡ Some x → x.row.charge_class ≡ None →
         (last_of from x.place.agent < x.place.seq) × (x.place.seq ≤ last_of to x.place.agent) }
-    ensures each { (sheet : Sheet) (issuer : Issuer) (h : Holding) (period : ℕ) (from to : Cut) (at : Position) (r : Reading) →
+    ensures each { (sheet : Sheet) (issuer : Issuer) (h : Holding) (period : ℕ) (from to : Cut)
+        (at : Position) (r : Reading) →
         reading_at h at ≡ Some r → last_of from at.agent < at.seq → at.seq ≤ last_of to at.agent →
         (k : ℕ) × (x : PlacedRow) × (slice_get (placed_rows sheet issuer h period from to) k ≡ Some x)
         × (x.row.charge_class ≡ None) × (x.place ≡ at) }
@@ -184,7 +196,8 @@ pub fn rows_between_two_cuts_have_their_places()
         ≡ flat_map (λ b. filter_map (placed_row sheet issuer h period from to) (placed b)) (up_to to h) }
 {}
 
-/// A run with one more event at the end is the run, and one more step.
+/// Playing one more event at the end is one more step from the world that the run leaves. Playing two lists one after
+/// the other is playing the joined list.
 pub fn one_more_event_is_one_more_step()
     ensures world { (w : World) (events : List Event) (e : Event) →
         (play w (events ++ e ∷ [])).1 ≡ (step (play w events).1 e).1 }
@@ -196,8 +209,8 @@ pub fn one_more_event_is_one_more_step()
         (play w (events ++ more)).0 ≡ (play w events).0 ++ (play (play w events).1 more).0 }
 {}
 
-/// Reading a text as a value or as a price answers the number that the text spells, where it is within its limit.
-/// Where the text spells one beyond the limit, the fault is its range, and where it spells none, its form.
+/// Reading a text as a value or as a price returns the number that the text spells in millionths, where it is within
+/// its limit. Where it spells one beyond the limit, the fault is Range.
 pub fn values_and_prices_are_read_as_they_are_spelled()
     ensures values { (text : List ℕ) (n : ℤ) →
         (value_in text ≡ Ok n) ↔ (Spells 6 text n × (unsigned_abs n < value_limit)) }
@@ -215,9 +228,9 @@ pub fn values_and_prices_are_read_back()
     ensures prices { (n : ℕ) → n < price_limit → price_in (spelling 6 (pos n)) ≡ Ok n }
 {}
 
-/// The price in force on a day is a row of the SKU that has begun, and of those that have begun none is later; on a
-/// sheet that keeps its rules no other begins on the same day. There is none exactly where no row of the SKU has
-/// begun, and a row that begins after the day changes nothing.
+/// The price in force on a day is a price row of the SKU that has begun, and no row that has begun is later. On a sheet
+/// that meets its rules no other row of the SKU begins on the same day. There is none exactly where no row of the SKU
+/// has begun. A row that begins after the day changes nothing.
 pub fn the_price_in_force_is_the_latest_that_has_begun()
     ensures has_begun { (sheet : Sheet) (sku : List ℕ) (day : ℤ) (p : PriceRow) →
         price_in_force sheet sku day ≡ Some p → Contains sheet.prices p × (p.sku ≡ sku) × (p.from ≤ℤ day) }
@@ -235,22 +248,26 @@ pub fn the_price_in_force_is_the_latest_that_has_begun()
         ≡ price_in_force (record sheet { prices = before ++ after }) sku day }
 {}
 
-/// A pricing quantity lies between 0 and its value.
+/// A pricing quantity of a value that is not negative lies between 0 and the value, and no pricing quantity has a
+/// greater magnitude than its value.
 pub fn pricing_quantities_lie_between_0_and_their_values()
     ensures between { (per : ℕ) (v : ℤ) → pos 0 ≤ℤ v →
         (pos 0 ≤ℤ pricing_quantity per v) × (pricing_quantity per v ≤ℤ v) }
     ensures magnitude { (per : ℕ) (v : ℤ) → unsigned_abs (pricing_quantity per v) ≤ unsigned_abs v }
 {}
 
-/// The value of a reading at a sequence is below its limit, and that of a priced reading is not negative.
+/// The value of a reading at a sequence has a magnitude below the limit of values. In journals that meet their rules,
+/// that of usage or a purchase is not negative.
 pub fn values_keep_their_limits()
-    ensures limit { (h : Holding) (at : Position) (upto : ℕ) → IsHolding h → unsigned_abs (value_at h at upto) < value_limit }
+    ensures limit { (h : Holding) (at : Position) (upto : ℕ) → IsHolding h
+        → unsigned_abs (value_at h at upto) < value_limit }
     ensures not_negative { (sheet : Sheet) (h : Holding) (at : Position) (r : Reading) (upto : ℕ) →
         MeetsJournalRules sheet h → reading_at h at ≡ Some r → is_priced r.kind ≡ true →
         pos 0 ≤ℤ value_at h at upto }
 {}
 
-/// Quantities and costs keep their limits: those of a charge between two values, and those of each row.
+/// By a sheet that meets its rules, quantities and costs keep their limits: those of a charge between two values within
+/// theirs, and those of each row.
 pub fn amounts_keep_their_limits()
     ensures charges { (sheet : Sheet) (r : Reading) (was now : ℤ) →
         IsSheet sheet → unsigned_abs was < value_limit → unsigned_abs now < value_limit →

@@ -110,15 +110,16 @@ pub struct BatchFault {
 /// Which rule of the journals a record breaks.
 #[derive(Clone, Copy, Debug, PartialEq, Eq, Drop, Error)]
 pub enum BrokenRule {
-    /// An amendment's target is no earlier reading of its agent, or a priced one and the value negative.
+    /// An amendment names no earlier reading of its agent, or gives one of usage or a purchase a negative value.
     #[error("bad target")]
     BadTarget,
-    /// A priced reading without a price in force, or with a commitment that does not fit it.
+    /// Usage or a purchase has no price in force on the day that it starts, or names a commitment that the sheet does
+    /// not have for its SKU.
     #[error("unpriced")]
     Unpriced,
 }
 
-/// What is wrong with a text of what a node keeps.
+/// What is wrong with the text of a node's kept state.
 #[derive(Clone, Copy, Debug, PartialEq, Eq, Drop, Error)]
 pub enum KeptCode {
     /// H1: no head line within the limits.
@@ -133,12 +134,12 @@ pub enum KeptCode {
     /// H4: the batch is of no agent of the head line, or does not come after the one before it.
     #[error("H4")]
     Order,
-    /// H5: bytes behind the last batch.
+    /// H5: bytes after the last batch.
     #[error("H5")]
     Extra,
 }
 
-/// The first fault of a text of what a node keeps, and its line, counted from 1.
+/// The first fault of a text of a node's kept state, and its line, counted from 1.
 #[derive(Clone, Copy, Debug, PartialEq, Eq, Drop, Error)]
 #[error("{code} line {line}")]
 pub struct KeptTextFault {
@@ -155,10 +156,10 @@ pub enum Refusal {
     /// G2: the agent has to journal sequence `wanted` next.
     #[error("G2 wanted {wanted}")]
     WrongSeq { wanted: u32 },
-    /// G3: an amendment names no reading that stands before it, or gives usage or a purchase a negative value.
+    /// G3: an amendment names no earlier reading of its agent, or gives usage or a purchase a negative value.
     #[error("G3")]
     BadTarget,
-    /// G4: usage or a purchase has no price on the day that it starts, or a commitment that is none of its SKU's.
+    /// G4: usage or a purchase has no price on the day that it starts, or names a commitment that is none of its SKU's.
     #[error("G4")]
     Unpriced,
     /// G5: the packet was never sent.

@@ -1,4 +1,4 @@
-//! Whether what the workers bring back is what stands in the book, and what their plan asks.
+//! Whether the logs of the workers agree with the book, and with what their plan asks.
 
 ghost use Rattle.std.specs.Prelude.{◌≡◌, ◌↔◌, ℕ, ◌+◌, length, map, Some, slice_get, true, IsTrue};
 ghost use Rattle.metering_model.specs.World.{Journal, offer_of, opening};
@@ -39,7 +39,9 @@ fn is_worker_at(who: Worker, agents: usize, place: usize) -> bool
 
 /// Whether the next of what a worker brings back is of that entry.
 fn is_next_done(done: &[Done], next: usize, place: usize, entry: &Entry) -> bool
-    ensures { IsTrue result ↔ (slice_get done.now next ≡ Some (record { index = place; reply = reply_of entry.now.reply })) }
+    ensures { IsTrue result ↔
+        (slice_get done.now next ≡ Some
+        (record { index = place; reply = reply_of entry.now.reply })) }
 {
     next < done.len() && done[next].is_of(place, &entry.reply)
 }
@@ -85,14 +87,18 @@ fn is_journal_of(event: &Event, text: &[u8]) -> bool
 
 /// Whether the next text of an agent is what that event journals.
 fn is_next_text(texts: &[Vec<u8>], next: usize, event: &Event) -> bool
-    ensures { IsTrue result ↔ (slice_get (map (λ text. Journal (offer_of text.items)) texts.now) next ≡ Some (event_of event.now)) }
+    ensures { IsTrue result ↔
+        (slice_get (map (λ text. Journal (offer_of text.items)) texts.now) next
+        ≡ Some (event_of event.now)) }
 {
     next < texts.len() && is_journal_of(event, &texts[next])
 }
 
 /// Whether a worker offered these texts to the journals, in order, and did nothing else.
 fn has_offered(history: &[Entry], who: Worker, texts: &[Vec<u8>]) -> bool
-    ensures { IsTrue result ↔ (events_by who (map entry_of history.now) ≡ map (λ text. Journal (offer_of text.items)) texts.now) }
+    ensures { IsTrue result ↔
+        (events_by who (map entry_of history.now)
+        ≡ map (λ text. Journal (offer_of text.items)) texts.now) }
 {
     let mut next = 0;
     for (place, entry) in history.iter().enumerate() {
@@ -193,11 +199,9 @@ impl Book {
             && self.issuer.same(&plan.issuer)
     }
 
-    /// Whether these logs are just what the history has, and what the plan asks: each worker of the plan, and no other, has a log of
-    /// its own entries, each once and in order; each agent offered its texts to the journals, and each node exported each
-    /// period once. No memory is taken.
-    ///
-    /// Where they agree, all files of one period are the same bytes.
+    /// Whether these logs are just what the history has, and what the plan asks: each worker of the plan, and no other,
+    /// has a log of its own entries, each once and in order; each agent offered its texts to the journals, and each
+    /// node exported each period once. Where it is so, all files of one period are the same bytes.
     pub fn agrees(&self, plan: &Plan, logs: &[Log]) -> bool
         ensures agrees { IsTrue result ↔ Agree self.now (plan_of plan.now) (map log_of logs.now) }
         ensures files { IsTrue result → FilesAgree (map log_of logs.now) }

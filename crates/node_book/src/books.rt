@@ -20,8 +20,8 @@ use std::alloc::{AllocError, Global};
 use std::marker::Model;
 use std::sync::Arc;
 
-/// A group, and what was done to it since it was opened. Its type keeps that the history is legal: one thread could have
-/// made it, and it leads to the world that the book holds.
+/// A group, and what was done to it since it was opened. The history is legal: one thread could have made it, and it
+/// leads to the book's world.
 #[derive(Drop)]
 pub struct Book {
     pub(crate) voters: u8,
@@ -57,7 +57,8 @@ impl Model for Book {
 }
 
 impl Book {
-    /// A book of so many voters, observers and agents, in which nothing was done yet.
+    /// A book of so many voters, at least 1, and observers, at most 99 with the voters, and 1 to 64 agents, in which
+    /// nothing was done yet. An error is an allocation failure.
     pub fn new(
         alloc: Global,
         voters: u8,
@@ -94,14 +95,14 @@ impl Book {
         })
     }
 
-    /// What was done, in the one order in which it was done. No memory is taken.
+    /// What was done, in the one order in which it was done.
     pub fn history(&self) -> &[Entry]
         ensures { map entry_of result.now ≡ self.now.history }
     {
         &self.history
     }
 
-    /// The history is legal, so the headline holds of its replies, whoever was answered. The call does nothing.
+    /// The history is legal, and the headline holds of its replies. The call does nothing.
     pub fn legal(&self)
         ensures history { IsLegal (opened self.now) self.now.history self.now.world }
         ensures headline { HoldsAfter self.now.voters self.now.observers self.now.agents self.now.sheet self.now.issuer
@@ -112,16 +113,28 @@ impl Book {
         laws::runs();
     }
 
-    /// Does one event, in one step, and writes it down at the end of the history. The receipt has its place there, and its
-    /// reply. A refused event, an export that is answered and a kept text leave the world as it was. At an error, which says
-    /// that there was no memory, nothing was done.
+    /// Does one event, and appends it to the history; the receipt has its index there and its reply. A refused event,
+    /// an answered export and a kept text leave the world as it was.
+    ///
+    /// An error is an allocation failure, and leaves world and history as they were.
     pub fn act(&mut self, alloc: Global, who: Worker, event: Event) -> Result<Receipt, AllocError>
         ensures history { IfOk result (λ _. self.new.history
-            ≡ self.old.history ++ record { who = who; event = event_of event; reply = (step self.old.world (event_of event)).0 } ∷ []) }
+            ≡ self.old.history ++ record {
+              who = who;
+              event = event_of event;
+              reply =
+                  (step self.old.world (event_of event)).0;
+            } ∷ []) }
         ensures world { IfOk result (λ _. self.new.world ≡ (step self.old.world (event_of event)).1) }
-        ensures refused { IfOk result (λ receipt. is_refused (told_of receipt).reply ≡ true → self.new.world ≡ self.old.world) }
-        ensures exported { IfOk result (λ receipt. is_exported (told_of receipt).reply ≡ true → self.new.world ≡ self.old.world) }
-        ensures kept { IfOk result (λ receipt. is_kept_text (told_of receipt).reply ≡ true → self.new.world ≡ self.old.world) }
+        ensures refused { IfOk result
+            (λ receipt. is_refused (told_of receipt).reply ≡ true
+            → self.new.world ≡ self.old.world) }
+        ensures exported { IfOk result
+            (λ receipt. is_exported (told_of receipt).reply ≡ true
+            → self.new.world ≡ self.old.world) }
+        ensures kept { IfOk result
+            (λ receipt. is_kept_text (told_of receipt).reply ≡ true
+            → self.new.world ≡ self.old.world) }
         ensures group { opened self.new ≡ opened self.old }
         ensures receipt { IfOk result (λ receipt. told_of receipt
             ≡ record { index = length self.old.history; reply = (step self.old.world (event_of event)).0 }) }

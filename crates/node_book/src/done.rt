@@ -15,8 +15,7 @@ use std::alloc::{AllocError, Global};
 use std::marker::Model;
 use std::thread::Threads;
 
-/// A receipt, and the file where its reply is an export. Its type keeps that the file is that of the snapshot, and that
-/// there is none of any other reply.
+/// A receipt, and the file where its reply is an export: the file of that snapshot. Any other reply has none.
 #[derive(Drop)]
 pub struct Done {
     receipt: Receipt,
@@ -93,7 +92,7 @@ fn rendered_here_if_exported(alloc: Global, reply: &Reply) -> Result<Option<Vec<
 }
 
 impl Done {
-    /// Renders the file, where the reply is an export, and that of many rows in several threads at once.
+    /// Renders the file, where the reply is an export. An error is an allocation failure.
     pub fn new(
         rt: &(impl Threads + Sync),
         alloc: Global,
@@ -105,7 +104,7 @@ impl Done {
         Ok(Done { receipt, file })
     }
 
-    /// The same in this thread alone, for a caller whose threads keep all processors busy.
+    /// The same without further threads. An error is an allocation failure.
     pub fn in_one_thread(alloc: Global, receipt: Receipt) -> Result<Done, AllocError>
         ensures { IfOk result (λ done. done ≡ told_of receipt) }
     {
@@ -120,9 +119,10 @@ impl Done {
         &self.receipt
     }
 
-    /// The file: there is one just where the reply is an export, and it is that of its snapshot.
+    /// The file, where the reply is an export: that of its snapshot. None at any other reply.
     pub fn file(&self) -> Option<&[u8]>
-        ensures { MatchOption result (file_in self.now.reply ≡ None) (λ bytes. file_in self.now.reply ≡ Some bytes.now) }
+        ensures { MatchOption result (file_in self.now.reply ≡ None)
+            (λ bytes. file_in self.now.reply ≡ Some bytes.now) }
     {
         match &self.file {
             Some(bytes) => Some(bytes.as_slice()),
@@ -130,7 +130,7 @@ impl Done {
         }
     }
 
-    /// Whether it is of the entry at that place, with that reply. No memory is taken.
+    /// Whether it is of the entry at that place, with that reply. Nothing is allocated.
     pub(crate) fn is_of(&self, index: usize, reply: &Reply) -> bool
         ensures { IsTrue result ↔ (self.now ≡ record { index = index; reply = reply_of reply.now }) }
     {

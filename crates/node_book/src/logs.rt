@@ -9,7 +9,9 @@ use metering_model::Worker;
 /// What a worker did, in order.
 #[derive(Drop)]
 pub struct Log {
+    /// The worker.
     pub who: Worker,
+    /// Its acts, in order.
     pub done: Vec<Done>,
 }
 
@@ -28,7 +30,9 @@ fn export_count(done: &[Done], period: u16) -> usize
 
 /// Whether no period from that one on was exported.
 fn are_within(done: &[Done], periods: u16) -> bool
-    ensures { IsTrue result ↔ ((period : ℕ) → periods ≤ period → count_by (λ t. is_export_of period t.reply) done.now ≡ 0) }
+    ensures { IsTrue result ↔
+        ((period : ℕ) → periods ≤ period
+        → count_by (λ t. is_export_of period t.reply) done.now ≡ 0) }
 {
     for one in done {
         if !one.is_within(periods) {

@@ -3,13 +3,14 @@
 ghost use Rattle.std.specs.Prelude.{◌≡◌, ◌∷◌, [], Ok, Err, MatchOption};
 ghost use Rattle.metering_model.specs.BatchReading.{fields_in, whole_in};
 ghost use Rattle.metering_model.specs.KeptText.{kept_head_in};
+ghost use Rattle.metering_model.specs.Limits.{most_batches};
 ghost use Rattle.node_kept.specs.Inner.Head.{head_of};
 
 use byte_text::{is_same, read_whole, split_at_bar, whole_up_to};
 use metering_model::KeptCode;
 
-/// The numbers of a head line: how many agents there are, the round, how many cuts were learned, the ballots promised and
-/// voted for, 0 for none, and how many batches there are.
+/// The numbers of a head line: how many agents there are, the round, how many cuts were learned, the ballots promised
+/// and voted for, 0 for none, and how many batches there are.
 #[derive(Clone, Copy)]
 pub(crate) struct Head {
     pub(crate) agents: u8,
@@ -60,7 +61,7 @@ fn head_fields(line: &[u8]) -> Option<HeadFields<'_>>
 
 /// How many batches a text says, at most 64,000,000.
 fn batch_count(text: &[u8]) -> Option<u32>
-    ensures { result ≡ whole_in 0 64_000_000 text.now }
+    ensures { result ≡ whole_in 0 most_batches text.now }
 {
     let number = whole_up_to(text, 64_000_000)?;
     Some(number as u32)

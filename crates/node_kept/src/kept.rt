@@ -10,7 +10,7 @@ use paxos_ballot::Acceptor;
 use std::marker::Model;
 use std::sync::Arc;
 
-/// The parts of what a node keeps. Nothing is asked of them here.
+/// The parts of what a node keeps. No limit holds of them here.
 #[derive(Drop)]
 pub struct Parts {
     /// How many ballots the node has begun.
@@ -60,7 +60,8 @@ fn know_cuts(cuts: &[Arc<Cut>])
     }
 }
 
-/// Learns that what is within the limits of a `Kept` has a text: cuts and store keep those of their types. Nothing is done.
+/// Learns that what is within the limits of a `Kept` has a text: cuts and store keep those of their types. Nothing is
+/// done.
 fn know_text(parts: &Parts)
     requires { IsKept parts.now }
     ensures { HasText parts.now }
@@ -73,7 +74,7 @@ fn know_text(parts: &Parts)
 }
 
 impl Parts {
-    /// Whether both are the same: rounds, cuts, ballots and batches. No memory is taken.
+    /// Whether both are the same: rounds, cuts, ballots and batches.
     pub fn same(&self, other: &Parts) -> bool
         ensures { IsTrue result ↔ (self.now ≡ other.now) }
     {
@@ -84,8 +85,8 @@ impl Parts {
     }
 }
 
-/// What a node keeps: a round up to 10,000, at most 1,200 learned cuts, ballots from 1 to 990,098, and as many agents in
-/// the learned cuts and in the vote's cut as in the store. So it has a text.
+/// What a node keeps: a round up to 10,000, at most 1,200 learned cuts, ballots from 1 to 990,098, and as many agents
+/// in the learned cuts and in the vote's cut as in the store. So it has a text.
 #[derive(Drop)]
 pub struct Kept {
     parts: Parts,
@@ -103,7 +104,7 @@ impl Model for Kept {
 }
 
 impl Kept {
-    /// These parts, which are within the limits. No memory is taken.
+    /// These parts, which have to be within the limits.
     pub fn of(parts: Parts) -> Kept
         requires { IsKept parts }
         ensures { result ≡ parts }
@@ -112,7 +113,7 @@ impl Kept {
         Kept { parts }
     }
 
-    /// The parts, as they were kept. No memory is taken.
+    /// The parts, which are within the limits.
     pub fn into_parts(self) -> Parts
         ensures value { result ≡ self }
         ensures kept { IsKept result }
@@ -128,7 +129,7 @@ impl Kept {
         &self.parts
     }
 
-    /// Whether both are the same: rounds, cuts, ballots and batches. No memory is taken.
+    /// Whether both are the same: rounds, cuts, ballots and batches.
     pub fn same(&self, other: &Kept) -> bool
         ensures same { IsTrue result ↔ (self.now ≡ other.now) }
         ensures texts { HasText self.now × HasText other.now }

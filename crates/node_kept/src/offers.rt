@@ -1,4 +1,4 @@
-//! What is handed in for a node to be revived from.
+//! What is offered for a node to be revived from.
 
 ghost use Rattle.std.specs.Prelude.{◌≡◌, ◌↔◌, true, IfErr, IfOk, IsTrue};
 ghost use Rattle.metering_model.specs.KeptText.{kept_offer_of};
@@ -10,7 +10,7 @@ use metering_model::KeptCode;
 use std::alloc::{AllocError, Global};
 use std::sync::Arc;
 
-/// What comes of a text that is handed in as what a node keeps.
+/// What comes of a text that is offered as what a node keeps.
 #[derive(Drop)]
 pub enum KeptOffer {
     /// It is the text of this.
@@ -20,8 +20,8 @@ pub enum KeptOffer {
 }
 
 impl KeptOffer {
-    /// Reads a text. An error says that there was no memory, and comes only of a text that begins with a head line; the text is
-    /// lost then.
+    /// The offer of a text: what it is read as, or its first fault. An error is an allocation failure, and comes only
+    /// of a text that begins with a head line; the text is lost.
     pub fn read(alloc: Global, text: Vec<u8>) -> Result<KeptOffer, AllocError>
         ensures read { IfOk result (λ offer. kept_offer offer ≡ kept_offer_of text.items) }
         ensures want { IfErr result (λ _. BeginsWithHead text.items) }
@@ -36,8 +36,8 @@ impl KeptOffer {
         }
     }
 
-    /// The same offer once more: what was read is shared, and a fault is copied. An error says that what was read cannot be shared
-    /// once more.
+    /// An equal offer, which shares what was read. An error is an allocation failure, and comes only of an offer of
+    /// something read.
     pub fn copy(&self) -> Result<KeptOffer, AllocError>
         ensures copy { IfOk result (λ copy. kept_offer copy ≡ kept_offer self.now) }
         ensures want { IfErr result (λ _. is_read (kept_offer self.now) ≡ true) }
@@ -54,7 +54,7 @@ impl KeptOffer {
         }
     }
 
-    /// Whether both are of the same text, or have the same fault. No memory is taken.
+    /// Whether both are of the same kept state, or have the same fault.
     pub fn same(&self, other: &KeptOffer) -> bool
         ensures { IsTrue result ↔ (kept_offer self.now ≡ kept_offer other.now) }
     {

@@ -4,6 +4,7 @@ ghost use Rattle.std.specs.Prelude.{◌≡◌, ◌+◌, ◌≤◌, ◌∷◌, []
 ghost use Rattle.std.specs.Arc.{arc_value};
 ghost use Rattle.metering_model.specs.BatchReading.{lines_in};
 ghost use Rattle.metering_model.specs.KeptText.{at_kept_line, batches_in, cuts_in, cuts_of_vote, kept_below, kept_in, kept_of_parts, next_batch};
+ghost use Rattle.metering_model.specs.Limits.{most_agents, most_periods};
 ghost use Rattle.batch_store.specs.Batches.{batch_of};
 ghost use Rattle.node_kept.specs.Offers.{BeginsWithHead, IsFaultOf};
 ghost use Rattle.node_kept.specs.Inner.Head.{head_of};
@@ -22,7 +23,7 @@ use std::sync::Arc;
 /// The line below the head line.
 const SECOND_LINE: u64 = 2;
 
-/// The cut on the first line, which has that number, and what stands behind that line.
+/// The cut on the first line, which has that number, and what stands after that line.
 fn read_cut<'a>(
     alloc: Global,
     text: &'a [u8],
@@ -30,7 +31,7 @@ fn read_cut<'a>(
     agents: u8,
 ) -> Result<(Arc<Cut>, &'a [u8]), KeptFault>
     requires from { 1 ≤ agents }
-    requires to { agents ≤ 64 }
+    requires to { agents ≤ most_agents }
     ensures { MatchResult result
         (λ read. AreCutsOf text.now line agents 1 (arc_value read.0 ∷ []) read.1.now)
         (λ fault. IfTold fault (λ f. cuts_in line agents 1 (lines_in text.now).lines ≡ Err f)) }
@@ -52,7 +53,7 @@ fn read_cut<'a>(
     }
 }
 
-/// So many cuts, the first of them on the second line, and what stands behind them.
+/// So many cuts, the first of them on the second line, and what stands after them.
 fn read_cuts<'a>(
     alloc: Global,
     text: &'a [u8],
@@ -60,7 +61,7 @@ fn read_cuts<'a>(
     count: u16,
 ) -> Result<(Vec<Arc<Cut>>, &'a [u8]), KeptFault>
     requires from { 1 ≤ agents }
-    requires to { agents ≤ 64 }
+    requires to { agents ≤ most_agents }
     ensures { MatchResult result
         (λ read. AreCutsOf text.now 2 agents count (map arc_value read.0.items) read.1.now)
         (λ fault. IfTold fault (λ f. cuts_in 2 agents count (lines_in text.now).lines ≡ Err f)) }
@@ -79,7 +80,7 @@ fn read_cuts<'a>(
     Ok((cuts, rest))
 }
 
-/// The batch that stands first, its head line on that line, and what stands behind it.
+/// The batch that stands first, its head line on that line, and what stands after it.
 fn read_batch<'a>(
     alloc: Global,
     text: &'a [u8],
@@ -114,14 +115,14 @@ struct Place {
     seq: u32,
 }
 
-/// Whether the place comes behind the other, by agent and then by sequence.
+/// Whether the place comes after the other, by agent and then by sequence.
 fn comes_behind(place: Place, other: Place) -> bool
     ensures { result ≡ comes_behind other.agent other.seq place.agent place.seq }
 {
     other.agent < place.agent || (other.agent == place.agent && other.seq < place.seq)
 }
 
-/// So many batches, the first of them from that line on, in a store; the line behind them, and what stands there.
+/// So many batches, the first of them from that line on, in a store; the line after them, and what stands there.
 fn read_batches<'a>(
     alloc: Global,
     text: &'a [u8],
@@ -130,7 +131,7 @@ fn read_batches<'a>(
     count: u32,
 ) -> Result<(Store, u64, &'a [u8]), KeptFault>
     requires from { 1 ≤ agents }
-    requires to { agents ≤ 64 }
+    requires to { agents ≤ most_agents }
     requires first { first ≤ 100_000 }
     ensures { MatchResult result
         (λ read. AreBatchesOf text.now first agents count read.0.batches read.1 read.2.now × (read.0.agents ≡ agents))
@@ -198,11 +199,12 @@ fn parts_of(head: Head, mut cuts: Vec<Arc<Cut>>, store: Store) -> Parts
 /// The parts below a head line.
 fn read_parts(alloc: Global, text: &[u8], head: Head) -> Result<Parts, KeptFault>
     requires from { 1 ≤ head.agents }
-    requires to { head.agents ≤ 64 }
-    requires learned { head.learned ≤ 1_200 }
+    requires to { head.agents ≤ most_agents }
+    requires learned { head.learned ≤ most_periods }
     ensures { MatchResult result
         (λ parts. kept_below (lines_in text.now).lines (lines_in text.now).rest (head_of head) ≡ Ok parts)
-        (λ fault. IfTold fault (λ f. kept_below (lines_in text.now).lines (lines_in text.now).rest (head_of head) ≡ Err f)) }
+        (λ fault. IfTold fault (λ f. kept_below (lines_in text.now).lines (lines_in text.now).rest
+        (head_of head) ≡ Err f)) }
 {
     let count = head.learned + cuts_of_vote(head.ballot);
     let (cuts, rest) = read_cuts(alloc, text, head.agents, count)?;
@@ -218,10 +220,10 @@ fn read_parts(alloc: Global, text: &[u8], head: Head) -> Result<Parts, KeptFault
 }
 
 impl Kept {
-    /// What a node keeps whose text this is, or the text's first fault by line.
+    /// What a node keeps whose text this is. `Refused` is the first fault by line; `OutOfMemory` comes only of a text
+    /// that begins with a head line.
     ///
-    /// Each batch is copied once. Want of memory is told only of a text that begins with a head line. Bytes from which a node may
-    /// be revived are compared with what it keeps where that is done; here only their form is looked at.
+    /// Only the form of the text is looked at, and not whether any node keeps this.
     pub fn read(alloc: Global, text: &[u8]) -> Result<Kept, KeptFault>
         ensures ok { IfOk result (λ kept. kept_in text.now ≡ Ok kept) }
         ensures refused { IfErr result (IsFaultOf text.now) }

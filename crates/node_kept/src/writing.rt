@@ -6,6 +6,7 @@ ghost use Rattle.std.specs.List.{flat_map};
 ghost use Rattle.std.specs.Option.{option_copied};
 ghost use Rattle.metering_model.specs.Batch.{batch_text, line_of_fields};
 ghost use Rattle.metering_model.specs.KeptText.{cut_text, kept_head_fields, kept_text, promised_number, vote_cuts, vote_number};
+ghost use Rattle.metering_model.specs.Limits.{most_batches};
 
 use crate::kept::{Kept, Parts};
 use batch_store::{Batches, Cut};
@@ -36,7 +37,8 @@ fn vote_number(vote: Option<&Vote>) -> u32
 
 /// Appends a head line of these numbers.
 fn put_head(text: &mut Vec<u8>, numbers: &[u64]) -> Result<(), AllocError>
-    ensures { IfOk result (λ _. text.new.items ≡ text.old.items ++ line_of_fields (codes "K1" ∷ map decimal numbers.now)) }
+    ensures { IfOk result (λ _. text.new.items ≡ text.old.items
+        ++ line_of_fields (codes "K1" ∷ map decimal numbers.now)) }
 {
     text.extend_from_slice(b"K1")?;
     for number in numbers {
@@ -67,7 +69,8 @@ fn put_cuts(text: &mut Vec<u8>, cuts: &[Arc<Cut>]) -> Result<(), AllocError>
 
 /// Appends the line of the vote's cut, if there is a vote.
 fn put_vote(text: &mut Vec<u8>, vote: Option<&Vote>) -> Result<(), AllocError>
-    ensures { IfOk result (λ _. text.new.items ≡ text.old.items ++ flat_map cut_text (vote_cuts (option_copied vote.entry))) }
+    ensures { IfOk result (λ _. text.new.items ≡ text.old.items
+        ++ flat_map cut_text (vote_cuts (option_copied vote.entry))) }
 {
     match vote {
         Some(vote) => put_cut(text, &vote.cut),
@@ -77,7 +80,7 @@ fn put_vote(text: &mut Vec<u8>, vote: Option<&Vote>) -> Result<(), AllocError>
 
 /// How many batches there are, and how many bytes they have together.
 fn size_of(mut batches: Batches<'_>) -> (u32, usize)
-    requires { length batches ≤ 64_000_000 }
+    requires { length batches ≤ most_batches }
     ensures { result.0 ≡ length batches.entry }
 {
     let mut count = 0;
@@ -122,7 +125,8 @@ fn put_head_of(
 }
 
 impl Parts {
-    /// The text of what is kept: a line of numbers, one for each cut, and the batches as they are, each copied once.
+    /// The text of what is kept: a line of numbers, one for each cut, and the batches as they are. An error is an
+    /// allocation failure.
     pub fn write(&self, alloc: Global) -> Result<Vec<u8>, AllocError>
         ensures { IfOk result (λ text. text.items ≡ kept_text self.now) }
     {
@@ -139,7 +143,7 @@ impl Parts {
 }
 
 impl Kept {
-    /// Its text, which `Kept::read` takes.
+    /// Its text, which `Kept::read` takes. An error is an allocation failure.
     pub fn write(&self, alloc: Global) -> Result<Vec<u8>, AllocError>
         ensures { IfOk result (λ text. text.items ≡ kept_text self.now) }
     {

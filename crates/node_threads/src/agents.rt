@@ -39,7 +39,7 @@ fn journal_all<R: Wait>(
     })
 }
 
-/// The thread of an agent. Want of memory is told to the main thread at once.
+/// The thread of an agent. An allocation failure is reported to the main thread at once.
 pub(crate) fn run_agent<R: Wait>(
     rt: &R,
     alloc: Global,

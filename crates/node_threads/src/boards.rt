@@ -1,4 +1,5 @@
-//! What node threads are told, in room that is there from the start: so telling them wants no memory, and is never refused.
+//! What node threads are told, in room that is there from the start: so telling them wants no memory, and is never
+//! refused.
 
 use std::sync::{Condvar, Mutex, Wait};
 
@@ -48,7 +49,7 @@ impl Taken {
 }
 
 impl Told {
-    /// What comes behind what a node thread has taken, if anything does.
+    /// What comes after what a node thread has taken, if anything does.
     fn note_behind(&self, taken: &Taken) -> Option<Note> {
         let is_begun = taken.periods < self.periods;
         let packets = if is_begun || self.is_over {

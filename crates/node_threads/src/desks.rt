@@ -28,8 +28,8 @@ pub(crate) struct Desk {
     main: Sender<Report>,
 }
 
-/// The most reports that can wait: of each node a period that nobody waits for any more, that it is stuck, and that it has no
-/// memory; of each agent the last of these.
+/// The most reports that can wait: of each node a period that nobody waits for any more, that it is stuck, and that it
+/// has no memory; of each agent the last of these.
 fn most_reports(nodes: usize, agents: usize) -> usize {
     nodes.saturating_mul(3).saturating_add(agents)
 }

@@ -1,10 +1,10 @@
 //! What node threads pass between an export and its file.
 
-/// Holds node threads back between an export and its file, and is told when the file is there. Node threads call it side by
-/// side, and without the lock.
+/// Holds node threads back between an export and its file, and is called when the file is there. Several node threads
+/// may call it at once.
 pub trait Gate {
-    /// Whether a node whose export of that period was answered may go on. A node asks again, at most so many times as its
-    /// plan has `turns`, and then goes on all the same.
+    /// Whether a node whose export of that period was answered may go on. A node asks again while the answer is no, at
+    /// most as many times as its plan's `turns`, and then goes on.
     fn ask(&self, node: u8, period: u16) -> bool;
 
     /// That node has the file of that period.

@@ -15,10 +15,10 @@ use std::alloc::Global;
 use std::sync::Wait;
 use std::thread::Threads;
 
-/// Runs a group: a thread for each node, voter or observer, and one for each agent, round one book.
-///
-/// With Ok receipts agree: all logs agree with the book's history, each agent offered its texts to the journals, and each node
-/// exported each period once. A fault is `OutOfMemory` where memory or a thread was refused, and `Mismatch` where receipts do not agree.
+/// Runs a group of 1 or more voters, at most 99 nodes, 1 to 64 agents and 1 to 1,200 periods: a thread for each node
+/// and each agent, around one book. With Ok all logs agree with the book's history: each agent offered its texts to the
+/// journals, and each node exported each period once. An error stands for a failed allocation, a thread that could not
+/// be started, or receipts that do not agree; no clause says when it comes.
 pub fn run_group<R: Threads + Wait + Sync, G: Gate + Sync>(
     rt: &R,
     alloc: Global,
@@ -35,7 +35,8 @@ pub fn run_group<R: Threads + Wait + Sync, G: Gate + Sync>(
     ensures agree { IfOk result (λ run. Agree run.book (plan_of plan) run.logs) }
     ensures files { IfOk result (λ run. FilesAgree run.logs) }
     ensures history { IfOk result (λ run. IsLegal (opened run.book) run.book.history run.book.world) }
-    ensures headline { IfOk result (λ run. HoldsAfter run.book.voters run.book.observers run.book.agents run.book.sheet run.book.issuer
+    ensures headline { IfOk result
+        (λ run. HoldsAfter run.book.voters run.book.observers run.book.agents run.book.sheet run.book.issuer
         (map (λ e. e.event) run.book.history) (map (λ e. e.reply) run.book.history) run.book.world) }
 {
     let Ok((desk, reports)) = open(alloc, &plan) else {

@@ -1,4 +1,4 @@
-//! A group that runs in threads: one for each node and each agent, round one book.
+//! A group that runs in threads: one for each node and each agent, around one book.
 #![tactic(auto)]
 
 mod agents;

@@ -80,7 +80,8 @@ impl Progress {
         Ok(())
     }
 
-    /// Asks for the file of a period, and tells whether it was answered. The lock is free again before the gate is asked.
+    /// Asks for the file of a period, and tells whether it was answered. The lock is free again before the gate is
+    /// asked.
     fn export<R: Threads + Wait + Sync, G: Gate>(
         &mut self,
         rt: &R,
@@ -109,8 +110,8 @@ impl Progress {
         Ok(is_answered)
     }
 
-    /// Asks for the periods that are learned and not exported yet, until one is refused: what a period lacks, each later one
-    /// lacks too.
+    /// Asks for the periods that are learned and not exported yet, until one is refused: what a period lacks, each
+    /// later one lacks too.
     fn export_learned<R: Threads + Wait + Sync, G: Gate>(
         &mut self,
         rt: &R,
@@ -194,7 +195,7 @@ fn work<R: Threads + Wait + Sync, G: Gate>(
     })
 }
 
-/// The thread of a node. Want of memory is told to the main thread at once.
+/// The thread of a node. An allocation failure is reported to the main thread at once.
 pub(crate) fn run_node<R: Threads + Wait + Sync, G: Gate>(
     rt: &R,
     alloc: Global,

@@ -1,4 +1,4 @@
-//! What a run of a group's threads leaves behind.
+//! What a run of a group's threads returns.
 
 ghost use Rattle.std.specs.Prelude.{◌≡◌, map};
 ghost use Rattle.node_book.specs.Logs.{log_of, plan_of};
@@ -7,8 +7,8 @@ use node_book::{Book, Log, Plan};
 use std::marker::Model;
 use thiserror::Error;
 
-/// A run in which each worker did what the plan asks: the plan, the book that the workers acted on, and the log that each of
-/// them brought back, the agents' first.
+/// A run in which each worker did what the plan asks: the plan, the book that the workers acted on, and the log that
+/// each of them brought back, the agents' first.
 #[derive(Drop)]
 pub struct Run {
     pub(crate) plan: Plan,
@@ -45,8 +45,8 @@ impl Run {
         &self.book
     }
 
-    /// The logs, which agree with the book's history: first the agents', numbered from 1, then the nodes', numbered from 0: the
-    /// voters and behind them the observers.
+    /// The logs, which agree with the book's history: first the agents', numbered from 1, then the nodes', numbered
+    /// from 0, the voters first.
     pub fn logs(&self) -> &[Log]
         ensures { map log_of result.now ≡ self.now.logs }
     {
@@ -54,10 +54,10 @@ impl Run {
     }
 }
 
-/// Why a run hands nothing back.
+/// Why a run returns nothing.
 #[derive(Clone, Copy, Debug, Drop, Error)]
 pub enum RunFault {
-    /// N1: there was no memory, or a thread could not be started.
+    /// N1: out of memory, or a thread could not be started.
     #[error("out of memory")]
     OutOfMemory,
     /// N2: what the workers brought back is not what stands in the book, or not what the plan asks.

@@ -12,8 +12,8 @@ use std::sync::Wait;
 use std::thread;
 use std::thread::{JoinHandle, Threads};
 
-/// What the threads of a run are to do: how many nodes there are, the texts of each agent, how many periods the nodes are to
-/// export, and how often each asks its gate.
+/// What the threads of a run are to do: how many nodes there are, the texts of each agent, how many periods the nodes
+/// are to export, and how often each asks its gate.
 #[derive(Clone, Copy, Drop)]
 pub(crate) struct Work<'a> {
     pub nodes: u8,
@@ -89,8 +89,8 @@ struct Started {
     are_all: bool,
 }
 
-/// Leads the nodes through the periods, and joins all threads. The agents are joined before the last period, so that it has
-/// all that they journaled. A thread that was not started counts as one that had no memory.
+/// Leads the nodes through the periods, and joins all threads. The agents are joined before the last period, so that it
+/// has all that they journaled. A thread that was not started counts as one that had no memory.
 fn lead_and_join<R: Threads + Wait>(
     rt: &R,
     desk: &Desk,
@@ -127,8 +127,8 @@ fn lead_and_join<R: Threads + Wait>(
     exported
 }
 
-/// Whether files are made in further threads: where there are two processors at least for each node. Nodes export at about the
-/// same time, and with fewer they would only slow each other. Each then counts all processors as its own.
+/// Whether files are made in further threads: where there are two processors at least for each node. Nodes export at
+/// about the same time, and with fewer they would only slow each other. Each then counts all processors as its own.
 fn is_split(rt: &impl Threads, nodes: usize) -> bool {
     match thread::available_parallelism(rt) {
         Ok(processors) => nodes <= processors.get() / 2,
@@ -136,8 +136,8 @@ fn is_split(rt: &impl Threads, nodes: usize) -> bool {
     }
 }
 
-/// Starts a thread for each node and each agent, leads the nodes through the periods, and gives what all threads bring back:
-/// first the agents' logs, then the nodes'.
+/// Starts a thread for each node and each agent, leads the nodes through the periods, and gives what all threads bring
+/// back: first the agents' logs, then the nodes'.
 pub(crate) fn run_threads<R: Threads + Wait + Sync, G: Gate + Sync>(
     rt: &R,
     alloc: Global,

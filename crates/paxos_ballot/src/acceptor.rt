@@ -7,8 +7,6 @@ use crate::ballots::{Ballot, Vote};
 use std::marker::Model;
 
 /// What a node has promised and accepted in one period.
-///
-/// No call takes memory.
 #[derive(Drop)]
 pub struct Acceptor {
     promised: Option<Ballot>,
@@ -23,10 +21,10 @@ impl Model for Acceptor {
     ghost view = { λ a. record { promised = a.promised; vote = a.vote } };
 }
 
-/// What a node answers to a proposer that prepares a ballot.
+/// What a node replies to a proposer that prepares a ballot.
 #[derive(Clone, Copy, Debug, PartialEq, Eq)]
 pub enum PrepareStep {
-    /// A promise, which tells the vote that [`Acceptor::vote`] lends.
+    /// A promise, which reports the vote that [`Acceptor::vote`] lends.
     Promise,
     /// Nothing.
     Silent,
@@ -46,7 +44,7 @@ fn is_same_vote(one: Option<&Vote>, two: Option<&Vote>) -> bool
 impl Acceptor {
     ghost use Rattle.paxos_ballot.specs.declared.acceptor.PrepareStep.TheVariants.{Promise, Silent};
 
-    /// Nothing is promised, and nothing accepted.
+    /// An acceptor that has promised and accepted nothing.
     pub fn new() -> Acceptor
         ensures { result ≡ new_acceptor }
     {
@@ -56,18 +54,19 @@ impl Acceptor {
         }
     }
 
-    /// An acceptor that has promised this ballot and accepted this vote, as one had that was kept. The vote's ballot need not be
-    /// below the one promised, nor be promised at all.
+    /// An acceptor that has promised this ballot and accepted this vote. The vote's ballot need not be below the one
+    /// promised, nor be promised at all.
     pub fn of(promised: Option<Ballot>, vote: Option<Vote>) -> Acceptor
         ensures { result ≡ record { promised = promised; vote = vote } }
     {
         Acceptor { promised, vote }
     }
 
-    /// Promises a ballot above the one promised, and stays silent to any other.
+    /// Promises a ballot above the one promised. To any other the reply is Silent, and nothing changes.
     pub fn on_prepare(&mut self, ballot: Ballot) -> PrepareStep
         ensures answer { result ≡ (if is_above ballot self.old.promised then Promise else Silent) }
-        ensures state { self.new ≡ (if is_above ballot self.old.promised then after_prepare ballot self.old else self.old) }
+        ensures state { self.new ≡
+            (if is_above ballot self.old.promised then after_prepare ballot self.old else self.old) }
     {
         if let Some(promised) = self.promised {
             if ballot.number() <= promised.number() {
@@ -78,11 +77,12 @@ impl Acceptor {
         PrepareStep::Promise
     }
 
-    /// Accepts a vote whose ballot is not below the one promised, and then promises that ballot too.
-    /// True where it accepts; else nothing changes.
+    /// Accepts a vote whose ballot is not below the one promised, and promises that ballot too. Returns true where it
+    /// accepts; else false, and nothing changes.
     pub fn on_accept(&mut self, vote: Vote) -> bool
         ensures answer { result ≡ is_not_below vote.ballot self.old.promised }
-        ensures state { self.new ≡ (if is_not_below vote.ballot self.old.promised then after_accept vote self.old else self.old) }
+        ensures state { self.new ≡
+            (if is_not_below vote.ballot self.old.promised then after_accept vote self.old else self.old) }
     {
         if let Some(promised) = self.promised {
             if vote.ballot.number() < promised.number() {
@@ -101,14 +101,14 @@ impl Acceptor {
         self.promised == other.promised && is_same_vote(self.vote.as_ref(), other.vote.as_ref())
     }
 
-    /// The greatest ballot promised.
+    /// The greatest ballot promised; None where none is.
     pub fn promised(&self) -> Option<Ballot>
         ensures { result ≡ self.now.promised }
     {
         self.promised
     }
 
-    /// The vote accepted last.
+    /// The vote accepted last; None where none is.
     pub fn vote(&self) -> Option<&Vote>
         ensures { option_copied result ≡ self.now.vote }
     {

@@ -2,6 +2,7 @@
 ghost use Rattle.std.specs.Prelude.{◌≡◌, ◌<◌, ◌≤◌, length, if◌then◌else◌, Some, None};
 ghost use Rattle.std.specs.Option.{option_copied};
 ghost use Rattle.metering_model.specs.Ballot.{new_attempt, greater_vote};
+ghost use Rattle.metering_model.specs.Limits.{most_nodes};
 ghost use Rattle.paxos_ballot.specs.Promises.{proposes, after_promise};
 ghost use Rattle.paxos_ballot.specs.Proposals.{proposal_in};
 
@@ -9,10 +10,8 @@ use crate::ballots::{Ballot, Vote};
 use crate::node_set::NodeSet;
 use std::marker::Model;
 
-/// What a proposer knows at one ballot: which nodes promised, the vote of the greatest ballot that they told,
-/// and whether its proposal has gone out.
-///
-/// No call takes memory.
+/// What a proposer knows at one ballot: which nodes promised, the vote of the greatest ballot that they reported, and
+/// whether its proposal was made.
 #[derive(Drop)]
 pub struct Attempt {
     ballot: Ballot,
@@ -32,9 +31,9 @@ impl Model for Attempt {
 /// What a promise leads to.
 #[derive(Clone, Copy)]
 pub enum PromiseStep<'a> {
-    /// Nothing yet, or nothing more.
+    /// No proposal: there is no majority yet, or the proposal was made before.
     Waiting,
-    /// A majority has promised: the proposal is the cut of this vote, or a cut of one's own where no vote was told.
+    /// A majority has promised: the proposal is the cut of this vote, or a cut of one's own where no vote was reported.
     Propose(Option<&'a Vote>),
 }
 
@@ -42,9 +41,9 @@ impl Attempt {
     ghost use Rattle.std.specs.Borrow.{sem};
     ghost use Rattle.paxos_ballot.specs.Lending.{ends_as};
 
-    /// Nobody has promised.
+    /// An attempt in a group of that many nodes, at most 99, in which nobody has promised.
     pub fn new(ballot: Ballot, nodes: u8) -> Attempt
-        requires { nodes ≤ 99 }
+        requires { nodes ≤ most_nodes }
         ensures { result ≡ new_attempt nodes ballot }
     {
         Attempt {
@@ -62,7 +61,7 @@ impl Attempt {
         self.ballot
     }
 
-    /// Whether a promise of that node would be answered by a proposal.
+    /// Whether a promise of that node would make the proposal.
     pub fn proposes(&self, from: u8) -> bool
         requires { from < length self.now.promising }
         ensures { result ≡ proposes from self.now }
@@ -70,8 +69,8 @@ impl Attempt {
         !self.sent && self.promising.with(from).has_majority()
     }
 
-    /// The vote of the greatest ballot among the one told so far and this one. Of two votes of one ballot it is
-    /// the one told before.
+    /// The vote of the greatest ballot among the one reported so far and this one; None where there is neither. Of two
+    /// votes of one ballot it is the one reported before.
     pub fn greatest_told<'a>(&'a self, vote: Option<&'a Vote>) -> Option<&'a Vote>
         ensures { option_copied result ≡ greater_vote self.now.told (option_copied vote.entry) }
     {
@@ -88,15 +87,14 @@ impl Attempt {
         }
     }
 
-    /// Takes the promise of a node for this attempt's ballot, with the vote that it tells. A proposal is answered
-    /// once, as the nodes that promised become a majority; nothing is marked from then on.
-    ///
-    /// The vote is lent. Who is to send its cut takes a share of it before, by [`Attempt::proposes`] and
-    /// [`Attempt::greatest_told`], so that want of memory leaves the attempt as it was.
+    /// Takes the promise of a node for this attempt's ballot, with the vote that it reports. Propose is returned once,
+    /// as the nodes that promised become a majority; nothing changes from then on. Who is to send the lent vote's cut
+    /// shares it before, by [`Attempt::proposes`] and [`Attempt::greatest_told`].
     pub fn on_promise(&mut self, from: u8, vote: Option<Vote>) -> PromiseStep<'_>
         requires { from < length self.old.promising }
         ensures* state { sem 𝓛 (ends_as self.entry (after_promise from vote self.old)) }
-        ensures answer { proposal_in result ≡ (if proposes from self.old then Some (greater_vote self.old.told vote) else None) }
+        ensures answer { proposal_in result
+            ≡ (if proposes from self.old then Some (greater_vote self.old.told vote) else None) }
     {
         if self.sent {
             return PromiseStep::Waiting;

@@ -2,6 +2,7 @@
 ghost use Rattle.std.specs.Prelude.{◌≡◌, ◌<◌, ◌≤◌};
 ghost use Rattle.metering_model.specs.Ballot.{ballot_of, majority};
 ghost use Rattle.metering_model.specs.KeptText.{ballot_numbered};
+ghost use Rattle.metering_model.specs.Limits.{most_nodes, most_rounds};
 
 use period_cut::Cut;
 use std::marker::Model;
@@ -24,12 +25,11 @@ impl Model for Ballot {
 }
 
 impl Ballot {
-    /// The ballot of a node in one of its rounds, of which it has at most 10,000.
-    /// Nodes are numbered from 0, and are at most 99.
+    /// The ballot of a node in one of its rounds, at most 10,000. Nodes are numbered from 0, and are at most 99.
     pub fn of(round: u16, node: u8, nodes: u8) -> Ballot
-        requires round { round ≤ 10_000 }
+        requires round { round ≤ most_rounds }
         requires node { node < nodes }
-        requires nodes { nodes ≤ 99 }
+        requires nodes { nodes ≤ most_nodes }
         ensures { result ≡ ballot_of round node nodes }
     {
         Ballot {
@@ -37,7 +37,7 @@ impl Ballot {
         }
     }
 
-    /// The ballot of that number, as `number` gave it; `None` for 0, which stands for no ballot.
+    /// The ballot of that number, as `number` returns it; `None` for 0, which stands for no ballot.
     pub fn numbered(number: u32) -> Option<Ballot>
         ensures { result ≡ ballot_numbered number }
     {
@@ -48,7 +48,7 @@ impl Ballot {
         }
     }
 
-    /// The number itself.
+    /// The number of the ballot.
     pub fn number(self) -> u32
         ensures { result ≡ self }
     {
@@ -68,7 +68,7 @@ pub fn majority(nodes: u8) -> u8
 pub struct Vote {
     /// The ballot at which it was accepted.
     pub ballot: Ballot,
-    /// The cut, shared and never copied.
+    /// The cut, shared.
     pub cut: Arc<Cut>,
 }
 

@@ -5,7 +5,8 @@ ghost use Rattle.metering_model.specs.Ballot.{Nodes, ballot_of, has_majority};
 
 /// A ballot is of one node and one round, and a later round's is greater than any earlier one's.
 pub fn ballots_differ_and_rise()
-    ensures differ { (nodes r s i j : ℕ) → i < nodes → j < nodes → ballot_of r i nodes ≡ ballot_of s j nodes → (r ≡ s) × (i ≡ j) }
+    ensures differ { (nodes r s i j : ℕ) → i < nodes → j < nodes
+        → ballot_of r i nodes ≡ ballot_of s j nodes → (r ≡ s) × (i ≡ j) }
     ensures rise { (nodes r s i j : ℕ) → i < nodes → r < s → ballot_of r i nodes < ballot_of s j nodes }
 {}
 

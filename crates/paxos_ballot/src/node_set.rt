@@ -1,6 +1,7 @@
 //! Sets of nodes, in 16 bytes.
 ghost use Rattle.std.specs.Prelude.{◌≡◌, ◌<◌, ◌≤◌, length};
 ghost use Rattle.metering_model.specs.Ballot.{nobody, with_node, has_majority};
+ghost use Rattle.metering_model.specs.Limits.{most_nodes};
 
 use crate::ballots::majority;
 use std::marker::Model;
@@ -25,7 +26,7 @@ impl Model for NodeSet {
 
 impl NodeSet {
     pub(crate) fn nobody(nodes: u8) -> NodeSet
-        requires { nodes ≤ 99 }
+        requires { nodes ≤ most_nodes }
         ensures { result ≡ nobody nodes }
     {
         NodeSet { nodes, bits: 0 }

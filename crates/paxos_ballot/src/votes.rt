@@ -2,6 +2,7 @@
 ghost use Rattle.std.specs.Prelude.{◌≡◌, ◌<◌, ◌≤◌, [], OnOk, OnErr, IfOk, if◌then◌else◌, Some, None, option_map};
 ghost use Rattle.std.specs.Arc.{arc_value};
 ghost use Rattle.metering_model.specs.Ballot.{with_node, accepting_at, with_accepted, has_majority};
+ghost use Rattle.metering_model.specs.Limits.{most_nodes};
 
 use crate::ballots::Vote;
 use crate::node_set::NodeSet;
@@ -30,9 +31,9 @@ impl Model for Tally {
 }
 
 impl Tally {
-    /// Nobody has accepted at any ballot. It takes no memory.
+    /// A tally among that many nodes, at most 99, in which nobody has accepted.
     pub fn new(alloc: Global, nodes: u8) -> Tally
-        requires { nodes ≤ 99 }
+        requires { nodes ≤ most_nodes }
         ensures nodes { result.nodes ≡ nodes }
         ensures accepting { result.accepting ≡ [] }
     {
@@ -42,13 +43,17 @@ impl Tally {
         }
     }
 
-    /// Takes the word of a node that it accepted a vote, and answers the vote's cut where a majority has now
-    /// accepted at that ballot. An error says that there was no memory for one more ballot; nothing has changed then.
+    /// Counts that a node accepted a vote, and returns the vote's cut where a majority has now accepted at that ballot.
+    /// An error is an allocation failure, and leaves the tally as it was.
     pub fn on_accepted(&mut self, from: u8, vote: Vote) -> Result<Option<Arc<Cut>>, AllocError>
         requires { from < self.old.nodes }
         ensures nodes { self.new.nodes ≡ self.old.nodes }
-        ensures accepting { OnOk result (self.new.accepting ≡ with_accepted self.old.nodes from vote.ballot self.old.accepting) }
-        ensures cut { IfOk result (λ cut. option_map arc_value cut ≡ (if has_majority self.old.nodes (accepting_at self.old.nodes vote.ballot self.new.accepting) then Some vote.cut else None)) }
+        ensures accepting { OnOk result
+            (self.new.accepting ≡ with_accepted self.old.nodes from vote.ballot self.old.accepting) }
+        ensures cut { IfOk result
+            (λ cut. option_map arc_value cut
+            ≡ (if has_majority self.old.nodes
+            (accepting_at self.old.nodes vote.ballot self.new.accepting) then Some vote.cut else None)) }
         ensures unchanged { OnErr result (self.new ≡ self.old) }
     {
         let ballot = vote.ballot.number();

@@ -4,6 +4,7 @@ ghost use Rattle.std.specs.List.{join_with_byte};
 ghost use Rattle.metering_model.specs.BatchReading.{fields_in};
 ghost use Rattle.metering_model.specs.Cut.{IsAtLeast, last_of, zero_cut};
 ghost use Rattle.metering_model.specs.KeptText.{cut_in};
+ghost use Rattle.metering_model.specs.Limits.{last_sequence, most_agents};
 ghost use Rattle.period_cut.specs.Limits.{IsCut};
 ghost use Rattle.period_cut.specs.Inner.Entries.{HasBehind};
 
@@ -12,9 +13,9 @@ use std::alloc::{AllocError, Global};
 use std::marker::Model;
 
 /// No batch has a sequence above this one.
-const LAST_SEQ: u32 = 1_000_000;
+const LAST_SEQUENCE: u32 = 1_000_000;
 
-/// Appends sequences, joined by `|`. Where memory is refused some of that may stand behind what was there.
+/// Appends sequences, joined by `|`. Where an allocation fails some of that may stand after what was there.
 fn put_entries(text: &mut Vec<u8>, entries: &[u32]) -> Result<(), AllocError>
     ensures put { OnOk result (text.new.items ≡ text.old.items ++ join_with_byte 124 (map decimal entries.now)) }
     ensures behind { OnErr result (HasBehind text.old.items text.new.items) }
@@ -47,10 +48,10 @@ impl Model for Cut {
 }
 
 impl Cut {
-    /// The cut before the first period: nothing is charged.
+    /// The cut before the first period: 0 for each of the agents, 1 to 64. An error is an allocation failure.
     pub fn zero(alloc: Global, agents: u8) -> Result<Cut, AllocError>
         requires from { 1 ≤ agents }
-        requires to { agents ≤ 64 }
+        requires to { agents ≤ most_agents }
         ensures { IfOk result (λ cut. cut ≡ zero_cut agents) }
     {
         Ok(Cut {
@@ -58,7 +59,7 @@ impl Cut {
         })
     }
 
-    /// An equal cut in room of its own.
+    /// An equal cut, copied. An error is an allocation failure.
     pub fn copy(&self, alloc: Global) -> Result<Cut, AllocError>
         ensures { IfOk result (λ cut. cut ≡ self.now) }
     {
@@ -67,11 +68,11 @@ impl Cut {
         })
     }
 
-    /// Reads a cut of so many agents from its line, without a line feed: their last sequences by agent, joined by `|`. `None` for
-    /// a line of another form.
+    /// Reads a cut of 1 to 64 agents from its line, without a line feed: the last sequences by agent, joined by `|`.
+    /// `None` for a line of another form. An error is an allocation failure.
     pub fn read(alloc: Global, line: &[u8], agents: u8) -> Result<Option<Cut>, AllocError>
         requires from { 1 ≤ agents }
-        requires to { agents ≤ 64 }
+        requires to { agents ≤ most_agents }
         ensures { IfOk result (λ cut. cut ≡ cut_in agents (fields_in line.now)) }
     {
         let mut entries = Vec::with_capacity(alloc, usize::from(agents))?;
@@ -80,7 +81,7 @@ impl Cut {
             let Some((field, behind)) = split_at_bar(rest) else {
                 return Ok(None);
             };
-            let Some(seq) = read_whole(field, 0, LAST_SEQ) else {
+            let Some(seq) = read_whole(field, 0, LAST_SEQUENCE) else {
                 return Ok(None);
             };
             entries.push(seq)?;
@@ -89,14 +90,14 @@ impl Cut {
         if split_at_bar(rest).is_some() {
             return Ok(None);
         }
-        let Some(seq) = read_whole(rest, 0, LAST_SEQ) else {
+        let Some(seq) = read_whole(rest, 0, LAST_SEQUENCE) else {
             return Ok(None);
         };
         entries.push(seq)?;
         Ok(Some(Cut { entries }))
     }
 
-    /// Its line, as it is read, without a line feed.
+    /// Its line, as `read` takes it, without a line feed. An error is an allocation failure.
     pub fn write(&self, alloc: Global) -> Result<Vec<u8>, AllocError>
         ensures { IfOk result (λ text. text.items ≡ join_with_byte 124 (map decimal self.now)) }
     {
@@ -105,7 +106,7 @@ impl Cut {
         Ok(text)
     }
 
-    /// Appends its line, without a line feed. Where memory is refused the text is as it was.
+    /// Appends its line, without a line feed. An error is an allocation failure, and leaves the text as it was.
     pub fn put(&self, text: &mut Vec<u8>) -> Result<(), AllocError>
         ensures put { OnOk result (text.new.items ≡ text.old.items ++ join_with_byte 124 (map decimal self.now)) }
         ensures kept { OnErr result (text.new.items ≡ text.old.items) }
@@ -126,27 +127,27 @@ impl Cut {
         self.entries.len() as u8
     }
 
-    /// The last sequence of an agent, at most 1,000,000; 0 where none is charged.
+    /// The last sequence of an agent, at most 1,000,000; 0 where none of its batches is charged.
     pub fn get(&self, agent: u8) -> u32
         requires from { 1 ≤ agent }
         requires to { agent ≤ length self.now }
         ensures value { result ≡ last_of self.now agent }
-        ensures within { result ≤ 1_000_000 }
+        ensures within { result ≤ last_sequence }
     {
         self.entries[usize::from(agent) - 1]
     }
 
-    /// Puts one agent's last sequence, and leaves the others.
+    /// Sets one agent's last sequence, at most 1,000,000; the others stay.
     pub fn set(&mut self, agent: u8, seq: u32)
         requires from { 1 ≤ agent }
         requires to { agent ≤ length self.old }
-        requires seq { seq ≤ 1_000_000 }
+        requires seq { seq ≤ last_sequence }
         ensures { self.new ≡ slice_set self.old (agent - 1) seq }
     {
         self.entries[usize::from(agent) - 1] = seq;
     }
 
-    /// Whether each agent's last sequence is at least that of the other cut.
+    /// Whether each agent's last sequence is at least that of the other cut, which has as many agents.
     pub fn at_least(&self, other: &Cut) -> bool
         requires { length self.now ≡ length other.now }
         ensures { IsTrue result ↔ IsAtLeast self.now other.now }

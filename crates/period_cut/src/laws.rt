@@ -15,7 +15,8 @@ pub fn periods_follow_one_another()
     ensures apart { (base p q : ℕ) → p < q → period_end base p ≤ℤ period_start base q }
 {}
 
-/// What comes later begins and ends later.
+/// A later month begins later, a later period of one base month begins and ends later, and a period begins later after
+/// a later base month.
 pub fn later_periods_begin_later()
     ensures months { (a b : ℕ) → a < b → month_start a <ℤ month_start b }
     ensures starts { (base p q : ℕ) → p < q → period_start base p <ℤ period_start base q }
@@ -37,8 +38,8 @@ pub fn periods_are_compared_by_number(a: Period, b: Period)
     ensures order { ⟦<Period as PartialOrd>⟧.partial_cmp a b ≡ Some (nat_cmp a b) }
 {}
 
-/// Cuts are ordered by all agents at once: a cut is at least itself, what is at least a cut is at
-/// least all that the cut is at least, and cuts that are at least each other are equal.
+/// "At least" on cuts holds between a cut and itself and passes on, and two cuts that are at least each other are
+/// equal.
 pub fn cuts_are_ordered_by_all_agents()
     ensures itself { (cut : ModelCut) → IsAtLeast cut cut }
     ensures onward { (a b c : ModelCut) → IsAtLeast a b → IsAtLeast b c → IsAtLeast a c }

@@ -5,11 +5,11 @@ ghost use Rattle.metering_model.specs.Dates.{period_start, period_end, period_st
 use std::marker::Model;
 use utc_calendar::{Month, Stamp};
 
-const PERIODS: u16 = 1_200;
+const MOST_PERIODS: u16 = 1_200;
 
-/// A billing period; period 0 is the base month.
+/// A billing period, from 0 to 1,199; period 0 is the base month.
 ///
-/// A base month that is handed in is one by [`Month::is_base`]. No call takes memory.
+/// A base month that is passed in has to be one by [`Month::is_base`].
 #[derive(Clone, Copy, Debug, PartialEq, Eq, PartialOrd, Ord)]
 pub struct Period {
     number: u16,
@@ -34,14 +34,14 @@ impl Period {
         ensures valid { IsSome result ↔ IsPeriod number }
         ensures value { IfSome result (λ period. period ≡ number) }
     {
-        if number < PERIODS {
+        if number < MOST_PERIODS {
             Some(Period { number })
         } else {
             None
         }
     }
 
-    /// The months since the base month.
+    /// The months since the base month, from 0 to 1,199.
     pub fn number(self) -> u16
         ensures value { result ≡ self }
         ensures range { IsPeriod result }
@@ -57,7 +57,7 @@ impl Period {
         base.after(self.number).start()
     }
 
-    /// The first moment after the period.
+    /// The first moment after the period, which is the start of the next.
     pub fn end(self, base: Month) -> Stamp
         requires { IsBaseMonth base }
         ensures { result ≡ period_end base self }

@@ -1,4 +1,4 @@
-//! The line above a file, and the number of lines that it tells.
+//! The line above a file, and the number of lines that it says.
 
 ghost use Rattle.std.specs.Prelude.{◌≡◌, ◌≤◌, ℕ, List, Option, Some, None, Ok, IfOk, IfErr};
 ghost use Rattle.counted_io.specs.Counts.{count_after};
@@ -27,7 +27,7 @@ pub(crate) fn words_above(period: Period) -> Line
     words
 }
 
-/// The number that a line tells behind these words, where it begins with them and a number is all that follows.
+/// The number that a line tells after these words, where it begins with them and a number is all that follows.
 pub(crate) fn told_behind(words: &[u8], line: &[u8]) -> Option<u64>
     ensures { IsTold result (told_behind words.now line.now) }
 {
@@ -42,8 +42,8 @@ pub(crate) fn told_behind(words: &[u8], line: &[u8]) -> Option<u64>
     }
 }
 
-/// Takes the next line, for which all of it is read first, and answers what it tells behind these words: None where no line is
-/// left.
+/// Takes the next line, for which all of it is read first, and returns what it tells after these words: None where no
+/// line is left.
 fn take_told<S: Source>(
     words: &[u8],
     unread: &mut Unread,
@@ -72,8 +72,8 @@ fn take_told<S: Source>(
     Ok(Some(told))
 }
 
-/// Takes the next line, and answers what it tells behind these words: None where no line is left that could tell something. Only
-/// a line that begins with them is kept until it ends.
+/// Takes the next line, and returns what it tells after these words: None where no line is left that could tell
+/// something. Only a line that begins with them is kept until it ends.
 pub(crate) fn next_told<S: Source>(
     words: &[u8],
     unread: &mut Unread,

@@ -11,7 +11,7 @@ pub enum FileFault {
     /// One does, but fewer whole lines follow than it says.
     #[error("torn file")]
     Torn,
-    /// The input has more bytes than are read.
+    /// The input has more than 4,294,967,296 bytes.
     #[error("refused L8 line 1")]
     TooLong,
     /// A call of the reader failed.
@@ -20,7 +20,7 @@ pub enum FileFault {
     /// A call of the writer failed.
     #[error("write failed")]
     Write,
-    /// A growth was refused.
+    /// Out of memory: an allocation failed.
     #[error("out of memory")]
     OutOfMemory,
 }

@@ -70,7 +70,7 @@ fn copy_ahead<W: Sink>(unread: &mut Unread, writer: &mut W, most: u64) -> Result
     Ok(count)
 }
 
-/// Writes the lines that follow, so many, and answers how many lack where fewer follow.
+/// Writes the lines that follow, so many, and returns how many lack where fewer follow.
 fn copy_lines<S: Source, W: Sink>(
     unread: &mut Unread,
     source: &mut S,
@@ -127,12 +127,10 @@ fn drop_rest<S: Source>(unread: &mut Unread, source: &mut S) -> Result<(), FileF
     }
 }
 
-/// Writes the first file of the period in the transcript that a reader gives: the lines that stand behind its line above,
-/// and nothing else. The rest of the input is read and dropped, and no file stands in memory.
-///
-/// `NoFile` tells that there is no such line, and then nothing was written; `Torn` that fewer lines follow than it says, and
-/// these were written. An input of more than 4 GiB is `TooLong`. At each other fault a prefix
-/// of the file was written, or all of it; after `Write` never all.
+/// Writes the first file of the period in the transcript that a reader gives, and nothing else. After `NoFile` nothing
+/// was written: no line stands above such a file. After `Torn`, where fewer lines follow than it says, these were.
+/// `TooLong` is an input of more than 4,294,967,296 bytes. After `Write` a prefix of the file was written, and never all
+/// of it; after `TooLong` and each other fault a prefix, perhaps none or all of it.
 pub fn file_text<R: Source, W: Sink>(
     alloc: Global,
     period: Period,

@@ -1,5 +1,4 @@
-//! The file of one period, cut out of a transcript: from a source to a sink, with one line in memory, and of a line that does not
-//! begin like the one above a file no more than a block.
+//! The file of one period, cut out of a transcript: from a source to a sink.
 #![tactic(auto)]
 
 mod counts;

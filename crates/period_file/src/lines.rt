@@ -19,7 +19,7 @@ fn first_feed(text: &[u8]) -> Option<usize>
     find_byte(text, b'\n')
 }
 
-/// Reads until a line feed is ahead, and answers where the first one stands: None where no more comes.
+/// Reads until a line feed is ahead, and returns where the first one stands: None where no more comes.
 pub(crate) fn line_end<S: Source>(
     unread: &mut Unread,
     source: &mut S,
@@ -49,7 +49,7 @@ pub(crate) fn line_end<S: Source>(
     }
 }
 
-/// Reads until so many bytes are ahead, and answers whether they are: where not, no more come.
+/// Reads until so many bytes are ahead, and returns whether they are: where not, no more come.
 pub(crate) fn read_ahead<S: Source>(
     wanted: usize,
     unread: &mut Unread,
@@ -95,8 +95,8 @@ fn take_part(unread: &mut Unread) -> bool
     }
 }
 
-/// Takes a line and its line feed, block by block, so that a long line takes no more room than a short one. It answers whether
-/// the line ended.
+/// Takes a line and its line feed, block by block, so that a long line takes no more room than a short one. It answers
+/// whether the line ended.
 pub(crate) fn pass_line<S: Source>(unread: &mut Unread, source: &mut S) -> Result<bool, FileFault>
     requires { unread.old.read ≤ 4_294_967_296 }
     ensures takes { (taken : List ℕ) × Takes unread.old.bytes unread.new.bytes unread.old.read unread.new.read
@@ -122,8 +122,8 @@ pub(crate) fn pass_line<S: Source>(unread: &mut Unread, source: &mut S) -> Resul
     }
 }
 
-/// How many bytes the lines at the front of a text have, at most so many lines, and how many these are: all of them, where
-/// the text has no more.
+/// How many bytes the lines at the beginning of a text have, at most so many lines, and how many these are: all of
+/// them, where the text has no more.
 pub(crate) fn lines_in_front(text: &[u8], most: u64) -> (usize, u64)
     ensures lines { AreInFront text.now result.1 result.0 }
     ensures few { result.1 ≤ most }

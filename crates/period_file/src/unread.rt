@@ -18,8 +18,8 @@ const MOST_BYTES: u64 = 4_294_967_296;
 /// So many bytes are asked for at a time.
 const BLOCK: usize = 65_536;
 
-/// What was read and not yet taken: a block at most behind the line that stands first. Contracts see the bytes, and how many
-/// were read in all.
+/// What was read and not yet taken: a block at most after the line that stands first. Contracts see the bytes, and how
+/// many were read in all.
 #[derive(Drop)]
 pub(crate) struct Unread {
     bytes: Vec<u8>,
@@ -42,8 +42,8 @@ impl Model for Unread {
     ghost invariant = { λ u. u.from ≤ vec_len u.bytes };
 }
 
-/// Moves the bytes behind the first ones to the front, and drops those. Where there is nothing to drop, nothing moves: a long
-/// line would else be moved onto itself at each block that is read of it.
+/// Moves the bytes after the first ones to the front, and drops those. Where there is nothing to drop, nothing moves: a
+/// long line would else be moved onto itself at each block that is read of it.
 fn drop_front(bytes: &mut Vec<u8>, count: usize)
     requires { count ≤ length bytes.old.items }
     ensures { bytes.new.items ≡ drop count bytes.old.items }
@@ -74,7 +74,7 @@ fn read_some<S: Source>(source: &mut S, room: &mut [u8]) -> Result<usize, FileFa
     }
 }
 
-/// One read behind the first bytes, into the room that follows them.
+/// One read after the first bytes, into the room that follows them.
 fn read_room<S: Source>(
     source: &mut S,
     bytes: &mut Vec<u8>,
@@ -95,7 +95,7 @@ fn read_room<S: Source>(
     read_some(source, &mut bytes[length..])
 }
 
-/// One read behind the first bytes, into the room that follows them. What the source does not fill goes.
+/// One read after the first bytes, into the room that follows them. What the source does not fill goes.
 fn read_behind<S: Source>(
     source: &mut S,
     bytes: &mut Vec<u8>,
@@ -152,7 +152,7 @@ impl Unread {
         self.from += count;
     }
 
-    /// Reads a block more, and answers whether a byte came: none does at the end.
+    /// Reads a block more, and returns whether a byte came: none does at the end.
     pub(crate) fn fill<S: Source>(&mut self, source: &mut S) -> Result<bool, FileFault>
         requires { self.old.read ≤ 4_294_967_296 }
         ensures takes { Takes self.old.bytes self.new.bytes self.old.read self.new.read

@@ -80,6 +80,10 @@ pub begun_with : (day : ℤ) (ss : List Start) (start : Start) → rise ss ≡ t
 begun_with day [] start h = refl
 begun_with day (s ∷ ss) start h = by (begun day ss) refl (begun_with day ss start (and_parts _ _ h).1) (none_yet day ss s.day) (begun_from day ss s.day)
   where
-    by : (rest : Option Start) → begun day ss ≡ rest → begun day (with_start ss start) ≡ (if int_le start.day day then Some (later_start (begun day ss) start) else begun day ss) → (list_all (λ t. int_lt s.day t.day) ss ≡ true → int_le s.day day ≡ false → begun day ss ≡ None) → ((found : Start) → list_all (λ t. int_lt s.day t.day) ss ≡ true → begun day ss ≡ Some found → int_lt s.day found.day ≡ true) → begun day (with_start (s ∷ ss) start) ≡ (if int_le start.day day then Some (later_start (begun day (s ∷ ss)) start) else begun day (s ∷ ss))
+    by : (rest : Option Start) → begun day ss ≡ rest
+        → begun day (with_start ss start) ≡ (if int_le start.day day then Some (later_start (begun day ss) start) else begun day ss)
+        → (list_all (λ t. int_lt s.day t.day) ss ≡ true → int_le s.day day ≡ false → begun day ss ≡ None)
+        → ((found : Start) → list_all (λ t. int_lt s.day t.day) ss ≡ true → begun day ss ≡ Some found → int_lt s.day found.day ≡ true)
+        → begun day (with_start (s ∷ ss) start) ≡ (if int_le start.day day then Some (later_start (begun day (s ∷ ss)) start) else begun day (s ∷ ss))
     by None e step none from = grind (arith, ints, h, e, step, none)
     by (Some later) e step none from = grind (arith, ints, h, e, step, from later)

@@ -30,7 +30,10 @@ push_if : (rows : List PriceRow) (row : PriceRow) (b : Bool) → latest (rows ++
 push_if rows row true = latest_push rows row
 push_if rows row false = ap latest (append-nil rows)
 
-own_latest : (rows : List PriceRow) (row : PriceRow) (sku : List ℕ) (day : ℤ) → is_same row.sku sku ≡ true → latest (filter (λ r. is_same r.sku sku && int_le r.from day) (rows ++ row ∷ [])) ≡ (if int_le row.from day then Some (later_row (latest (filter (λ r. is_same r.sku sku && int_le r.from day) rows)) row) else latest (filter (λ r. is_same r.sku sku && int_le r.from day) rows))
+own_latest : (rows : List PriceRow) (row : PriceRow) (sku : List ℕ) (day : ℤ) → is_same row.sku sku ≡ true
+    → latest (filter (λ r. is_same r.sku sku && int_le r.from day) (rows ++ row ∷ []))
+    ≡ (if int_le row.from day then Some (later_row (latest (filter (λ r. is_same r.sku sku && int_le r.from day) rows)) row) else latest
+    (filter (λ r. is_same r.sku sku && int_le r.from day) rows))
 own_latest rows row sku day same = rw (filter-append (λ r. is_same r.sku sku && int_le r.from day) rows (row ∷ []), same) (push_if (filter (λ r. is_same r.sku sku && int_le r.from day) rows) row (int_le row.from day))
 
 others_latest : (rows : List PriceRow) (row : PriceRow) (sku : List ℕ) (day : ℤ) → is_same row.sku sku ≡ false → latest (filter (λ r. is_same r.sku sku && int_le r.from day) (rows ++ row ∷ [])) ≡ latest (filter (λ r. is_same r.sku sku && int_le r.from day) rows)
@@ -82,7 +85,9 @@ others_starts rows row sku found other are = record {
   in_force = λ day. rw (others_latest rows row sku day other) (still_shows rows row _ _ (are.in_force day));
 }
 
-pub own_starts : (rows : List PriceRow) (row : PriceRow) (sku : List ℕ) (place : ℕ) (found : Option (List Start)) → is_same row.sku sku ≡ true → place ≡ length rows → AreStarts rows sku found → AreStarts (rows ++ row ∷ []) sku (Some (with_start (starts_of found) (record { day = row.from; place = place })))
+pub own_starts : (rows : List PriceRow) (row : PriceRow) (sku : List ℕ) (place : ℕ) (found : Option (List Start)) → is_same row.sku sku ≡ true
+    → place ≡ length rows → AreStarts rows sku found
+    → AreStarts (rows ++ row ∷ []) sku (Some (with_start (starts_of found) (record { day = row.from; place = place })))
 own_starts rows row sku place found same at are = record {
   priced = grind (arith, priced_push rows row sku, same);
   rising = still_rise (starts_of found) (record { day = row.from; place = place }) are.rising;

@@ -2,12 +2,14 @@
 #![tactic(auto)]
 
 mod commitment_table;
+mod id_table;
 mod places;
 mod price_in_force;
 mod price_index;
 mod price_table;
 mod region_table;
+mod rows;
 mod sheets;
 
-pub use sheet_text::{Commitment, Issuer, IssuerFault, Key, Place, PriceRow, SheetFault};
+pub use sheet_text::{Commitment, Issuer, IssuerFault, Key, Place, PriceRow, Region, SheetFault};
 pub use sheets::Sheet;

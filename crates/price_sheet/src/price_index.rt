@@ -25,14 +25,14 @@ impl PriceIndex {
         }
     }
 
-    /// Whether a row prices the SKU. No memory is taken.
+    /// Whether a row prices the SKU. Nothing is allocated.
     pub(crate) fn has_sku(&self, sku: &[u8]) -> bool
         ensures { result ≡ is_some (found_at sku.now self.now.starts.entries) }
     {
         self.starts.contains_key(sku)
     }
 
-    /// Of the SKU's prices that have begun on the day, the start of the last. No memory is taken.
+    /// Of the SKU's prices that have begun on the day, the start of the last. Nothing is allocated.
     pub(crate) fn begun(&self, sku: &[u8], day: Day) -> Option<Start>
         ensures { result ≡ begun day (starts_of (found_at sku.now self.now.starts.entries)) }
     {

@@ -10,8 +10,9 @@ ghost use Rattle.metering_model.specs.PriceInForce.{latest};
 ghost use Rattle.price_sheet.specs.SheetReading.{next_price, placed_price, prices_sku, prices_in};
 ghost use Rattle.price_sheet.specs.Inner.Places.{IndexesPrices};
 
-use crate::places::fault_at;
+use crate::places::at_place;
 use crate::price_index::PriceIndex;
+use crate::rows::same_rows;
 use sheet_text::{Day, KeyFault, Place, PriceRow, SheetFault};
 use std::alloc::Global;
 use std::marker::Model;
@@ -68,19 +69,26 @@ impl PriceTable {
         Ok(PriceTable { rows, index })
     }
 
-    /// Whether some row prices the SKU. No memory is taken.
+    /// Whether some row prices the SKU. Nothing is allocated.
     pub(crate) fn has_sku(&self, sku: &[u8]) -> bool
         ensures { result ≡ prices_sku self.now sku.now }
     {
         self.index.has_sku(sku)
     }
 
-    /// Of the rows of a SKU that have begun on a day, the one that began last. No memory is taken.
+    /// Of the rows of a SKU that have begun on a day, the one that began last. Nothing is allocated.
     pub(crate) fn in_force(&self, sku: &[u8], day: Day) -> Option<&PriceRow>
         ensures { option_copied result
             ≡ latest (filter (λ r. is_same r.sku sku.now && int_le r.from day) self.now) }
     {
         row_in_force(&self.rows, &self.index, sku, day)
+    }
+
+    /// The rows, in the order of the sheet.
+    pub(crate) fn rows(&self) -> &[PriceRow]
+        ensures { result.now ≡ self.now }
+    {
+        &self.rows
     }
 
     /// Whether the rows are the same, in the same order.
@@ -118,7 +126,7 @@ fn is_priced_before(rows: &[PriceRow], index: &PriceIndex, row: &PriceRow) -> bo
     }
 }
 
-/// What was read of one more table, told of its place: the row, or its first fault. No memory is taken, so want of it is told
+/// What was read of one more table, with its place in a fault: the row, or its first fault. OutOfMemory is returned
 /// only where reading met it.
 fn placed_price(
     rows: &[PriceRow],
@@ -130,10 +138,7 @@ fn placed_price(
     ensures { result ≡ placed_price rows.now read }
 {
     let place = Place::Price(rows.len() as u16 + 1);
-    let row = match read {
-        Ok(row) => row,
-        Err(fault) => return Err(fault_at(place, fault)),
-    };
+    let row = at_place(place, read)?;
     if is_priced_before(rows, index, &row) {
         return Err(SheetFault::Duplicate(place));
     }
@@ -154,18 +159,4 @@ fn next_price(
         → next_price rows.now (table_view table.now) ≡ Err fault) }
 {
     placed_price(rows, index, PriceRow::read(alloc, table))
-}
-
-fn same_rows(left: &[PriceRow], right: &[PriceRow]) -> bool
-    ensures { IsTrue result ↔ (left.now ≡ right.now) }
-{
-    if left.len() != right.len() {
-        return false;
-    }
-    for i in 0..left.len() {
-        if !left[i].same(&right[i]) {
-            return false;
-        }
-    }
-    true
 }

@@ -10,12 +10,13 @@ ghost use Rattle.metering_model.specs.PriceInForce.{price_in_force, commitment_w
 ghost use Rattle.sheet_text.specs.Keys.{base_under};
 ghost use Rattle.price_sheet.specs.SheetReading.{prices_in, commitments_in, regions_in, empty_sheet, sheet_of_rows, sheet_in, sheet_of_text};
 
-use crate::commitment_table::CommitmentTable;
-use crate::places::fault_at;
+use crate::commitment_table::read_commitments;
+use crate::id_table::IdTable;
+use crate::places::at_place;
 use crate::price_table::PriceTable;
-use crate::region_table::RegionTable;
+use crate::region_table::read_regions;
 use sheet_text::{
-    Commitment, Day, Key, Month, Place, PriceRow, SheetFault, base_under, rows_under,
+    Commitment, Day, Key, Month, Place, PriceRow, Region, SheetFault, base_under, rows_under,
 };
 use std::alloc::{AllocError, Global};
 use std::marker::Model;
@@ -26,8 +27,8 @@ use toml::Table;
 pub struct Sheet {
     base: Month,
     prices: PriceTable,
-    commitments: CommitmentTable,
-    regions: RegionTable,
+    commitments: IdTable<Commitment>,
+    regions: IdTable<Region>,
 }
 
 impl Model for Sheet {
@@ -47,8 +48,8 @@ impl Model for Sheet {
 }
 
 impl Sheet {
-    /// Reads a sheet from TOML, or tells the text's first fault. The table that `toml` makes of the text and the rows that are
-    /// kept take memory: of a text of nothing but blanks and comments no want of it is told.
+    /// Reads a sheet from TOML. An error is the text's first fault, or OutOfMemory, which never comes of a text of
+    /// nothing but blanks and comments.
     #[tactic(auto, unfolding(crate::specs::SheetReading::sheet_of_text))]
     pub fn read(alloc: Global, text: &str) -> Result<Sheet, SheetFault>
         ensures taken { IfOk result (λ sheet. sheet_of_text text.now ≡ Ok sheet) }
@@ -68,7 +69,7 @@ impl Sheet {
         }
     }
 
-    /// A sheet with this base month and no rows.
+    /// A sheet with this base month, from 2000-01 to 2100-12, and no rows. An error is an allocation failure.
     pub fn empty(alloc: Global, base: Month) -> Result<Sheet, AllocError>
         requires { IsBaseMonth base }
         ensures { IfOk result (λ sheet. sheet ≡ empty_sheet base) }
@@ -76,34 +77,26 @@ impl Sheet {
         Ok(Sheet {
             base,
             prices: PriceTable::new(alloc),
-            commitments: CommitmentTable::new(alloc),
-            regions: RegionTable::new(alloc),
+            commitments: IdTable::new(alloc),
+            regions: IdTable::new(alloc),
         })
     }
 
-    /// Reads a sheet from a table. No memory is taken before the base month is read.
+    /// Reads a sheet from a table. Nothing is allocated before the base month is read.
     #[tactic(auto, using(crate::proofs::Chains::placed_fails), unfolding(crate::specs::SheetReading::sheet_in))]
     fn of_table(alloc: Global, table: &Table) -> Result<Sheet, SheetFault>
         ensures taken { IfOk result (λ sheet. sheet_in (table_view table.now) ≡ Ok sheet) }
-        ensures refused { IfErr result (λ fault. fault ≢ SheetFault.OutOfMemory → sheet_in (table_view table.now) ≡ Err fault) }
-        ensures want { IfErr result (λ fault. fault ≡ SheetFault.OutOfMemory → IsOk (base_under Key.Base (table_view table.now))) }
+        ensures refused { IfErr result
+            (λ fault. fault ≢ SheetFault.OutOfMemory
+            → sheet_in (table_view table.now) ≡ Err fault) }
+        ensures want { IfErr result
+            (λ fault. fault ≡ SheetFault.OutOfMemory
+            → IsOk (base_under Key.Base (table_view table.now))) }
     {
-        let base = match base_under(table, Key::Base) {
-            Ok(base) => base,
-            Err(fault) => return Err(fault_at(Place::Top, fault)),
-        };
-        let price_tables = match rows_under(alloc, table, Key::Price) {
-            Ok(tables) => tables,
-            Err(fault) => return Err(fault_at(Place::Top, fault)),
-        };
-        let commitment_tables = match rows_under(alloc, table, Key::Commitment) {
-            Ok(tables) => tables,
-            Err(fault) => return Err(fault_at(Place::Top, fault)),
-        };
-        let region_tables = match rows_under(alloc, table, Key::Region) {
-            Ok(tables) => tables,
-            Err(fault) => return Err(fault_at(Place::Top, fault)),
-        };
+        let base = at_place(Place::Top, base_under(table, Key::Base))?;
+        let price_tables = at_place(Place::Top, rows_under(alloc, table, Key::Price))?;
+        let commitment_tables = at_place(Place::Top, rows_under(alloc, table, Key::Commitment))?;
+        let region_tables = at_place(Place::Top, rows_under(alloc, table, Key::Region))?;
         Sheet::of_rows(
             alloc,
             base,
@@ -126,14 +119,16 @@ impl Sheet {
         requires few { (length price_tables.now ≤ 10_000) × (length commitment_tables.now ≤ 10_000)
             × (length region_tables.now ≤ 10_000) }
         ensures taken { IfOk result (λ sheet. sheet_of_rows base (map (λ t. table_view t.now) price_tables.now)
-            (map (λ t. table_view t.now) commitment_tables.now) (map (λ t. table_view t.now) region_tables.now) ≡ Ok sheet) }
+            (map (λ t. table_view t.now) commitment_tables.now)
+            (map (λ t. table_view t.now) region_tables.now) ≡ Ok sheet) }
         ensures refused { IfErr result (λ fault. fault ≢ SheetFault.OutOfMemory
             → sheet_of_rows base (map (λ t. table_view t.now) price_tables.now)
-            (map (λ t. table_view t.now) commitment_tables.now) (map (λ t. table_view t.now) region_tables.now) ≡ Err fault) }
+            (map (λ t. table_view t.now) commitment_tables.now)
+            (map (λ t. table_view t.now) region_tables.now) ≡ Err fault) }
     {
         let prices = PriceTable::read(alloc, price_tables)?;
-        let commitments = CommitmentTable::read(alloc, &prices, commitment_tables)?;
-        let regions = RegionTable::read(alloc, region_tables)?;
+        let commitments = read_commitments(alloc, &prices, commitment_tables)?;
+        let regions = read_regions(alloc, region_tables)?;
         Ok(Sheet {
             base,
             prices,
@@ -142,21 +137,43 @@ impl Sheet {
         })
     }
 
-    /// The price of a SKU that is in force on a day: the one that began last. No memory is taken.
+    /// The prices, in the order of the sheet.
+    pub fn prices(&self) -> &[PriceRow]
+        ensures { result.now ≡ self.now.prices }
+    {
+        self.prices.rows()
+    }
+
+    /// The commitments, in the order of the sheet.
+    pub fn commitments(&self) -> &[Commitment]
+        ensures { result.now ≡ self.now.commitments }
+    {
+        self.commitments.rows()
+    }
+
+    /// The regions, in the order of the sheet.
+    pub fn regions(&self) -> &[Region]
+        ensures { result.now ≡ self.now.regions }
+    {
+        self.regions.rows()
+    }
+
+    /// The price of a SKU that is in force on a day: of those that have begun, the one that began last; None where none
+    /// has.
     pub fn price(&self, sku: &[u8], day: Day) -> Option<&PriceRow>
         ensures { option_copied result ≡ price_in_force self.now sku.now day }
     {
         self.prices.in_force(sku, day)
     }
 
-    /// The commitment with an id. No memory is taken.
+    /// The commitment with an id; None where there is none.
     pub fn commitment(&self, id: &[u8]) -> Option<&Commitment>
         ensures { option_copied result ≡ commitment_with self.now id.now }
     {
         self.commitments.with_id(id)
     }
 
-    /// The name of the region with an id. No memory is taken.
+    /// The name of the region with an id; None where the sheet names none.
     pub fn region(&self, id: &[u8]) -> Option<&[u8]>
         ensures { option_copied result ≡ region_named self.now id.now }
     {

@@ -17,7 +17,7 @@ pub enum PlayFault {
     /// P3: a call of the writer failed.
     #[error("write failed")]
     Write,
-    /// P4: a growth was refused.
+    /// P4: out of memory: an allocation failed.
     #[error("out of memory")]
     OutOfMemory,
     /// P5: the batch is refused.
@@ -25,7 +25,7 @@ pub enum PlayFault {
     Refused(Refusal),
 }
 
-/// A refused section is told as it is, and want of memory as such.
+/// A refused section and an allocation failure are passed on as such.
 impl From<ScheduleFault> for PlayFault {
     ghost use Rattle.std.specs.Prelude.{◌≡◌};
     ghost use Rattle.program_input.specs.Faults.{of_sections};
@@ -42,7 +42,7 @@ impl From<ScheduleFault> for PlayFault {
     }
 }
 
-/// A failed call of a reader is told as such, and so is want of memory.
+/// A failed call of a reader and an allocation failure are passed on as such.
 impl From<ReadFault> for PlayFault {
     ghost use Rattle.std.specs.Prelude.{◌≡◌};
     ghost use Rattle.program_input.specs.Faults.{of_reader};

@@ -17,7 +17,7 @@ use std::alloc::Global;
 /// The most bytes that an input may have.
 const MOST_BYTES: u32 = 16_777_216;
 
-/// What comes of reading up to the limit: want of memory and a failed call are told just where they were met.
+/// What comes of reading up to the limit: an allocation failure and a failed call are told just where they were met.
 fn answer_of(read: Result<Input, ReadFault>) -> Result<Vec<u8>, PlayFault>
     ensures { result ≡ whole_input read }
 {
@@ -31,7 +31,8 @@ fn answer_of(read: Result<Input, ReadFault>) -> Result<Vec<u8>, PlayFault>
     }
 }
 
-/// All of the input. One that is too long is refused at line 1, whatever it is for.
+/// All bytes of the input. Schedule is L8 at line 1, of one of more than 16,777,216 bytes; Read is a failed call of the
+/// reader; OutOfMemory an allocation failure. No other fault is returned, and at most 16,777,217 bytes are taken.
 pub fn read_input<R: Source>(alloc: Global, reader: &mut R) -> Result<Vec<u8>, PlayFault>
     ensures whole { IfOk result
         (λ bytes. IfSome (R.remaining reader.old) (λ input. bytes.items ≡ input)) }

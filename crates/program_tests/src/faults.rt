@@ -12,7 +12,7 @@ use program_input::{PlayFault, ScheduleCode, ScheduleFault};
 use std::alloc::{AllocError, Global};
 use std::fmt::Display;
 
-/// Appends what is told of each fault, with a point behind it.
+/// Appends what is told of each fault, with a point after it.
 fn tell<F: Display>(text: &mut String, faults: &[F]) -> Result<(), AllocError> {
     for fault in faults {
         write!(text, "{fault}.")?;

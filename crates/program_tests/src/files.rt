@@ -1,4 +1,4 @@
-//! A file by a call that no word of the program asks for: one that begins behind a cut.
+//! A file by a call that no word of the program asks for: one that begins after a cut.
 
 use batch_player::file_between;
 use batch_store::{Cut, Offer, Period, Store};
@@ -35,7 +35,8 @@ fn cut_of(alloc: Global, seq: u32) -> Result<Cut, AllocError> {
     Ok(cut)
 }
 
-/// The file between two cuts. That there are rows between them shows that no batch is missing and that no rule is broken.
+/// The file between two cuts. That there are rows between them shows that no batch is missing and that no rule is
+/// broken.
 fn between(
     alloc: Global,
     store: &Store,
@@ -63,7 +64,7 @@ fn told(alloc: Global, store: &Store, period: u16, seqs: (u32, u32)) -> Option<V
     }
 }
 
-/// Whether that is these lines behind the header line.
+/// Whether that is these lines after the header line.
 fn has_lines(alloc: Global, store: &Store, period: u16, seqs: (u32, u32), lines: &[u8]) -> bool {
     match told(alloc, store, period, seqs) {
         Some(file) => file.strip_prefix(HEADER) == Some(lines),

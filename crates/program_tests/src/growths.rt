@@ -19,7 +19,7 @@ fn joined(alloc: Global, parts: &[&[u8]]) -> Result<Vec<u8>, AllocError> {
     Ok(text)
 }
 
-/// Whether the file of the input is written, or want of memory is told and no call was made.
+/// Whether the file of the input is written, or an allocation failure is reported and no call was made.
 fn is_all_or_nothing(alloc: Global, january: Period, input: &[u8], room: Vec<u8>) -> bool {
     let mut source = Counted::new(FakeReader::new(input));
     let mut sink = Counted::new(FakeWriter::new(room));
@@ -43,7 +43,7 @@ fn a_refused_growth_leaves_nothing_written(rt: HostRuntime) -> Result<(), Fail> 
     Ok(())
 }
 
-/// The events of a group of one node that agrees on the reading, behind the batch that is journaled.
+/// The events of a group of one node that agrees on the reading, after the batch that is journaled.
 const EVENTS: &[u8] =
     b"deliver 0 0\nstart 0\ndeliver 1 0\ndeliver 2 0\ndeliver 3 0\ndeliver 4 0\nexport 0 0\n";
 
@@ -73,7 +73,7 @@ fn are_all_replies(text: &[u8]) -> bool {
     }
 }
 
-/// Whether all replies are written, or want of memory is told and the first ones were, whole.
+/// Whether all replies are written, or an allocation failure is reported and the first ones were, whole.
 fn are_whole_replies(alloc: Global, input: &[u8], room: Vec<u8>) -> bool {
     let mut source = Counted::new(FakeReader::new(input));
     let mut sink = Counted::new(FakeWriter::new(room));
@@ -113,7 +113,7 @@ fn are_first_lines(text: &[u8], file: &[u8]) -> bool {
     file.starts_with(text) && (text.is_empty() || text.ends_with(b"\n"))
 }
 
-/// Whether the file is written, or want of memory is told and its first lines were.
+/// Whether the file is written, or an allocation failure is reported and its first lines were.
 fn is_front(alloc: Global, january: Period, shown: &(Vec<u8>, Vec<u8>), room: Vec<u8>) -> bool {
     let (input, file) = shown;
     let mut source = Counted::new(FakeReader::new(input));
@@ -127,8 +127,8 @@ fn is_front(alloc: Global, january: Period, shown: &(Vec<u8>, Vec<u8>), room: Ve
         }
 }
 
-/// What is written of a file that is cut out are whole lines, the first ones. The file is longer than what is read at a time, so
-/// that some growths come when a part of it went out.
+/// What is written of a file that is cut out are whole lines, the first ones. The file is longer than what is read at a
+/// time, so that some growths come when a part of it went out.
 #[test]
 fn a_refused_growth_leaves_a_front_of_the_file(rt: HostRuntime) -> Result<(), Fail> {
     let january = Period::new(0).ok_or("no period")?;

@@ -1,4 +1,5 @@
-//! Tests of what stands behind the program, by public calls alone: words, the texts of faults, a file and refused growths.
+//! Tests of what the program calls, by public calls alone: words, the texts of faults, a file and failed
+//! allocations.
 #![tactic(auto)]
 
 #[cfg(test)]

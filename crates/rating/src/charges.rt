@@ -10,10 +10,9 @@ use fx_money::Value;
 use metering_model::PricedKind;
 use price_sheet::{Commitment, PriceRow};
 
-/// What usage or a purchase comes to by a price, from an old value of its reading to a new one.
+/// What usage or a purchase comes to by a price, from an old value of its reading to a new one, neither negative.
 ///
-/// Each of the two values is rounded to its pricing quantity, half to even, and not their difference;
-/// nothing else is rounded. It takes no memory, and never refuses.
+/// Each of the two values is rounded to its pricing quantity, half to even, not their difference, and nothing else.
 pub fn rate(
     row: &PriceRow,
     commitment: Option<&Commitment>,

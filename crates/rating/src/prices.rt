@@ -12,7 +12,7 @@ use metering_model::{Kind, PricedKind};
 use price_sheet::{Commitment, PriceRow, Sheet};
 use record_view::{Reading, Stamp};
 
-/// The kind, where it is one that a price charges.
+/// The kind, where it is charged by a price; else None.
 pub fn priced_kind(kind: Kind) -> Option<PricedKind>
     ensures { result ≡ priced_kind kind }
 {
@@ -30,10 +30,12 @@ pub fn is_priced(kind: Kind) -> bool
     priced_kind(kind).is_some()
 }
 
-/// The price of that key in force on the day of that moment, where the kind is charged by one. No memory is taken.
+/// The price of that key in force on the day of that moment; None where there is none, or the kind is not charged by
+/// one.
 #[inline(always)]
 pub fn price_for<'a>(sheet: &'a Sheet, kind: Kind, key: &[u8], start: Stamp) -> Option<&'a PriceRow>
-    ensures { option_copied result ≡ (if is_priced kind then price_in_force sheet.now key.now (day_of start) else None) }
+    ensures { option_copied result
+        ≡ (if is_priced kind then price_in_force sheet.now key.now (day_of start) else None) }
 {
     if !is_priced(kind) {
         return None;
@@ -41,17 +43,20 @@ pub fn price_for<'a>(sheet: &'a Sheet, kind: Kind, key: &[u8], start: Stamp) -> 
     sheet.price(key, start.day())
 }
 
-/// The price in force on the day that the reading starts, where its kind is charged by one. No memory is taken.
+/// The price in force on the day that the reading starts; None where there is none, or its kind is not charged by one.
 pub fn price_of<'a>(sheet: &'a Sheet, reading: &Reading<'_>) -> Option<&'a PriceRow>
     ensures { option_copied result ≡ price_of sheet.now (model_reading reading.now) }
 {
     price_for(sheet, reading.kind, reading.key.text, reading.start)
 }
 
-/// The commitment of that name, where there is a name and the kind is charged by a price. No memory is taken.
+/// The commitment of that name; None where the sheet has none, the name is empty, or the kind is not charged by a
+/// price.
 #[inline(always)]
 pub fn commitment_for<'a>(sheet: &'a Sheet, kind: Kind, commitment: &[u8]) -> Option<&'a Commitment>
-    ensures { option_copied result ≡ (if is_priced kind then option_and_then (commitment_with sheet.now) (or_null commitment.now) else None) }
+    ensures { option_copied result
+        ≡ (if is_priced kind then option_and_then (commitment_with sheet.now)
+        (or_null commitment.now) else None) }
 {
     if !is_priced(kind) || commitment.is_empty() {
         return None;
@@ -59,7 +64,8 @@ pub fn commitment_for<'a>(sheet: &'a Sheet, kind: Kind, commitment: &[u8]) -> Op
     sheet.commitment(commitment)
 }
 
-/// The commitment that the reading names, where its kind is charged by a price. No memory is taken.
+/// The commitment that the reading names; None where the sheet has none, the name is empty, or its kind is not charged
+/// by a price.
 pub fn commitment_of<'a>(sheet: &'a Sheet, reading: &Reading<'_>) -> Option<&'a Commitment>
     ensures { option_copied result ≡ commitment_of sheet.now (model_reading reading.now) }
 {

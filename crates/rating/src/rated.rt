@@ -16,9 +16,13 @@ pub struct Rated {
     pub consumed: Option<Delta>,
     /// PricingQuantity: priced units.
     pub priced: Option<Delta>,
+    /// ListCost.
     pub list: Cost,
+    /// ContractedCost.
     pub contracted: Cost,
+    /// BilledCost.
     pub billed: Cost,
+    /// EffectiveCost.
     pub effective: Cost,
 }
 
@@ -46,8 +50,8 @@ impl Model for Rated {
     } };
 }
 
-/// What a credit, a tax or an adjustment comes to, from an old amount to a new one: the difference,
-/// under all four costs, and no quantity.
+/// What a credit, a tax or an adjustment comes to, from an old amount to a new one: the difference, under all four
+/// costs, and no quantity.
 pub fn rate_flat(was: Value, now: Value) -> Rated
     ensures flat { result ≡ model.flat was now }
 {

@@ -17,7 +17,7 @@ use crate::fields::{Field, split_at_byte};
 use crate::records::{Reading, Record};
 use metering_model::{BatchCode, Version};
 
-/// The fields of a reading behind its letter.
+/// The fields of a reading after its letter.
 #[derive(Clone, Copy)]
 pub(crate) struct ReadingFields<'a> {
     pub(crate) start: Field<'a>,
@@ -30,7 +30,7 @@ pub(crate) struct ReadingFields<'a> {
     pub(crate) tags: Field<'a>,
 }
 
-/// The fields of an amendment behind its letter.
+/// The fields of an amendment after its letter.
 #[derive(Clone, Copy)]
 struct AmendmentFields<'a> {
     seq: Field<'a>,
@@ -38,7 +38,7 @@ struct AmendmentFields<'a> {
     value: Field<'a>,
 }
 
-/// The first four fields, and what stands behind them, if anything does.
+/// The first four fields, and what stands after them, if anything does.
 #[tactic(auto, using(crate::proofs::PartLaws::some_part))]
 fn first_four<'a>(
     rest: Field<'a>,
@@ -154,7 +154,7 @@ pub(crate) fn is_amendment(letter: &[u8]) -> bool
     matches!(letter, [b'X'])
 }
 
-/// The record of an amendment's line, from what stands behind its letter.
+/// The record of an amendment's line, from what stands after its letter.
 pub(crate) fn amendment_behind<'a>(letter: &[u8], rest: Field<'_>) -> Result<Record<'a>, BatchCode>
     requires placed { IsPlaced (lent rest) }
     requires letter { is_same letter.now (codes "X") ≡ true }
@@ -172,7 +172,7 @@ pub(crate) fn amendment_behind<'a>(letter: &[u8], rest: Field<'_>) -> Result<Rec
     }
 }
 
-/// The record of any reading's line in format B1, from what stands behind its letter.
+/// The record of any reading's line in format B1, from what stands after its letter.
 pub(crate) fn exact_reading<'a>(letter: &[u8], rest: Field<'a>) -> Result<Record<'a>, BatchCode>
     requires placed { IsPlaced (lent rest) }
     requires letter { is_same letter.now (codes "X") ≡ false }

@@ -7,7 +7,7 @@ ghost use Rattle.record_view.specs.Inner.Placed.{IsPlaced, front_of, back_of};
 
 use memchr::memrchr;
 
-/// A place in the bytes of a batch, from `from` (included) to `to` (not included).
+/// A place in the bytes of a batch, from `from` (included) to `to` (not included), in bytes from its beginning.
 #[derive(Clone, Copy, PartialEq, Eq, Debug)]
 pub struct Span {
     pub from: u32,
@@ -17,7 +17,9 @@ pub struct Span {
 /// A text that a batch lends, and its place there.
 #[derive(Clone, Copy)]
 pub struct Field<'a> {
+    /// The bytes.
     pub text: &'a [u8],
+    /// Where they stand in the batch.
     pub span: Span,
 }
 
@@ -42,7 +44,7 @@ fn first_place(text: &[u8], byte: u8) -> Option<usize>
     text.iter().position(|c| *c == byte)
 }
 
-/// What stands before a byte of a text, and what stands behind it.
+/// What stands before a byte of a text, and what stands after it.
 #[inline(always)]
 pub(crate) fn cut<'a>(whole: Field<'a>, at: usize) -> (Field<'a>, Field<'a>)
     requires placed { IsPlaced (lent whole) }
@@ -68,7 +70,7 @@ pub(crate) fn cut<'a>(whole: Field<'a>, at: usize) -> (Field<'a>, Field<'a>)
     (before, after)
 }
 
-/// What stands before and behind the first such byte of a text, if it has one.
+/// What stands before and after the first such byte of a text, if it has one.
 pub(crate) fn split_at_byte<'a>(whole: Field<'a>, byte: u8) -> Option<(Field<'a>, Field<'a>)>
     requires { IsPlaced (lent whole) }
     ensures found { is_some result ≡ list_any (λ c. c == byte) whole.entry.text.now }
@@ -84,7 +86,7 @@ pub(crate) fn split_at_byte<'a>(whole: Field<'a>, byte: u8) -> Option<(Field<'a>
     Some(cut(whole, position))
 }
 
-/// What stands before and behind the last such byte of a text, if it has one.
+/// What stands before and after the last such byte of a text, if it has one.
 pub(crate) fn split_at_last<'a>(whole: Field<'a>, byte: u8) -> Option<(Field<'a>, Field<'a>)>
     requires { IsPlaced (lent whole) }
     ensures parts { MatchOption result (parts_at byte (lent whole.entry) ≡ lent whole.entry ∷ [])

@@ -1,4 +1,4 @@
-//! A reading that was read before, from where its fields stand.
+//! A reading that was read before, made again from where its fields stand.
 
 ghost use Rattle.std.specs.Prelude.{◌≡◌, ◌<◌, ◌≤◌, All, length, take, slice_range, Ok, Some};
 ghost use Rattle.std.specs.List.{slice_get};
@@ -20,6 +20,7 @@ pub struct Numbers {
     pub kind: Kind,
     pub start: Stamp,
     pub end: Stamp,
+    /// In millionths.
     pub value: Value,
 }
 
@@ -75,8 +76,8 @@ fn lend_fields<'a>(
     }
 }
 
-/// The reading of a line of a batch of that format, which was read before: its texts are lent from the spans, and nothing is
-/// looked through.
+/// The reading of a line of a batch of that format, from the spans and numbers that were read of that line before. Its
+/// texts are lent from the spans. It returns no error: that they are those of a line is required.
 #[inline(always)]
 pub fn kept_reading<'a>(
     version: Version,
@@ -85,7 +86,8 @@ pub fn kept_reading<'a>(
     numbers: Numbers,
 ) -> Record<'a>
     requires { (line : Span) × IsReadingOn version source.now spans.now numbers line }
-    ensures { (line : Span) → IsReadingOn version source.now spans.now numbers line → IsRecordAt version source.now line result }
+    ensures { (line : Span) → IsReadingOn version source.now spans.now numbers line
+        → IsRecordAt version source.now line result }
 {
     Record::Reading(lend_fields(version, source, spans, numbers))
 }

@@ -1,4 +1,4 @@
-//! One usage record, read where its line lies: no text is copied, and reading takes no memory.
+//! One usage record, read where its line lies: its texts are lent, and not copied.
 #![tactic(auto)]
 
 pub use byte_text::{find_byte, lines_length, read_whole, split_at_bar};

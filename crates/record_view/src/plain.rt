@@ -38,8 +38,8 @@ fn first_special_by_bytes(text: &[u8]) -> Option<usize>
     text.iter().position(|c| *c < 0x20 || *c >= 0x7C)
 }
 
-/// Where the first byte stands that is not plain, in a text of which the first sixteen were passed: sixteen more in each step,
-/// and at last the last sixteen.
+/// Where the first byte stands that is not plain, in a text of which the first sixteen were passed: sixteen more in
+/// each step, and at last the last sixteen.
 #[inline(never)]
 fn later_special(text: &[u8]) -> Option<usize>
     requires from { 16 ≤ length text.now }
@@ -207,8 +207,9 @@ fn key_end_by_bytes(text: &[u8]) -> usize
     }
 }
 
-/// Where the first `=` stands among the bytes before a place; that place or a later one, if none stands there. One that is near is
-/// found in one step, whatever follows. A later one is looked for among these bytes alone: much more may stand behind them.
+/// Where the first `=` stands among the bytes before a place; that place or a later one, if none stands there. One that
+/// is near is found in one step, whatever follows. A later one is looked for among these bytes alone: much more may
+/// stand after them.
 #[inline(always)]
 pub(crate) fn key_end(text: &[u8], end: usize) -> usize
     requires { end ≤ length text.now }
@@ -228,7 +229,7 @@ pub(crate) fn key_end(text: &[u8], end: usize) -> usize
     key_end_by_bytes(&text[..end])
 }
 
-/// What stands before and behind the first bar of a text, where all that stands before it is plain.
+/// What stands before and after the first bar of a text, where all that stands before it is plain.
 #[inline(always)]
 pub(crate) fn split_plain<'a>(whole: Field<'a>) -> Option<(Field<'a>, Field<'a>)>
     requires { IsPlaced (lent whole) }
@@ -245,7 +246,7 @@ pub(crate) fn split_plain<'a>(whole: Field<'a>) -> Option<(Field<'a>, Field<'a>)
     Some(cut(whole, at))
 }
 
-/// The one byte before the first bar, which is the letter of a record, and what stands behind it.
+/// The one byte before the first bar, which is the letter of a record, and what stands after it.
 #[inline(always)]
 pub(crate) fn split_letter<'a>(whole: Field<'a>) -> Option<(Field<'a>, Field<'a>)>
     requires { IsPlaced (lent whole) }
@@ -260,7 +261,7 @@ pub(crate) fn split_letter<'a>(whole: Field<'a>) -> Option<(Field<'a>, Field<'a>
     Some(cut(whole, 1))
 }
 
-/// The 20 bytes before a bar, and what stands behind it. If they are a stamp, the bar is the first.
+/// The 20 bytes before a bar, and what stands after it. If they are a stamp, the bar is the first.
 pub(crate) fn split_stamp<'a>(whole: Field<'a>) -> Option<(Field<'a>, Field<'a>)>
     requires { IsPlaced (lent whole) }
     ensures parts { IfSome result (λ p. IsTrue (is_some (stamp_in p.0.text.now))

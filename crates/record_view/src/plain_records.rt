@@ -55,7 +55,8 @@ fn plain_fields<'a>(rest: Field<'a>) -> Option<ReadingFields<'a>>
     }
 }
 
-/// The reading of plain fields. An error says that they are no reading's, and not which rule is the first that they break.
+/// The reading of plain fields. An error says that they are no reading's, and not which rule is the first that they
+/// break.
 #[inline(always)]
 fn plain_reading<'a>(
     letter: &[u8],
@@ -92,7 +93,7 @@ fn plain_reading<'a>(
     }))
 }
 
-/// The record of a reading's line of plain bytes in format B1, from what stands behind its letter.
+/// The record of a reading's line of plain bytes in format B1, from what stands after its letter.
 #[inline(always)]
 pub(crate) fn plain_record<'a>(
     letter: &[u8],
@@ -116,7 +117,7 @@ pub(crate) fn plain_record<'a>(
     }
 }
 
-/// The record of a reading's line in either format, plain but for its region, from what stands behind its letter.
+/// The record of a reading's line in either format, plain but for its region, from what stands after its letter.
 #[inline(always)]
 pub(crate) fn plain_behind<'a>(
     version: Version,

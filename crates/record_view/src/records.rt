@@ -3,6 +3,7 @@
 ghost use Rattle.std.specs.Prelude.{◌≡◌, ◌<◌, ◌≤◌, length, slice_range, IfOk, IfErr, IfSome, IfNone, Ok, Err};
 ghost use Rattle.metering_model.specs.declared.Version.TheVariants.{B1, B2};
 ghost use Rattle.metering_model.specs.BatchReading.{record_in, fields_in};
+ghost use Rattle.metering_model.specs.Limits.{most_batch_bytes};
 ghost use Rattle.record_view.specs.Parts.{lent};
 ghost use Rattle.record_view.specs.Plain.{IsPlainReading};
 ghost use Rattle.record_view.specs.Lent.{lent_tags, reading_tags, reading_region, record_of, IsLentRecord};
@@ -21,15 +22,25 @@ use utc_calendar::Stamp;
 /// What an agent metered. The value is in millionths.
 #[derive(Clone, Copy)]
 pub struct Reading<'a> {
+    /// What it charges for.
     pub kind: Kind,
+    /// The first moment of its time.
     pub start: Stamp,
+    /// The moment after its time, later than the start.
     pub end: Stamp,
+    /// The start as it stands in the batch.
     pub start_text: Field<'a>,
+    /// The end as it stands in the batch.
     pub end_text: Field<'a>,
+    /// Of whom it is metered, which may be the empty text.
     pub account: Field<'a>,
+    /// What it is metered of, which may be the empty text.
     pub resource: Field<'a>,
+    /// The SKU of usage and purchases; of other kinds the description of the charge. Not empty.
     pub key: Field<'a>,
+    /// In millionths: metered units of usage and purchases, of other kinds the amount in the currency.
     pub value: Value,
+    /// The commitment that usage or a purchase names; the empty text where there is none.
     pub commitment: Field<'a>,
     pub(crate) tags: Tags<'a>,
     pub(crate) region: Option<Field<'a>>,
@@ -43,7 +54,7 @@ impl<'a> Reading<'a> {
         self.tags
     }
 
-    /// Where the usage was, which may be the empty text. None in a batch of format B1.
+    /// Where the usage was, which may be the empty text; None in a batch of format B1.
     pub fn region(&self) -> Option<Field<'a>>
         ensures { result ≡ reading_region self.now }
     {
@@ -59,9 +70,8 @@ pub enum Record<'a> {
     Amend { seq: u32, index: u16, value: Value },
 }
 
-/// The record that the line at this span is in a batch of that format, where it is a reading, plain but for its region: read in
-/// one pass. So each reading is given whose line has only plain bytes (0x20 to 0x7B) and bars; of other lines None says nothing.
-/// The stamps may be any reader's. It is inlined, so that a caller who takes only parts of the record has no whole one in memory.
+/// The record that the line at this span is in a batch of that format, where it is a reading, plain but for its region.
+/// Each reading is returned whose line has only plain bytes (0x20 to 0x7B) and bars; of other lines None says nothing.
 #[inline(always)]
 pub fn read_plain<'a>(
     version: Version,
@@ -83,8 +93,8 @@ pub fn read_plain<'a>(
     plain_behind(version, letter.text, rest, stamps)
 }
 
-/// The record that the line at this span is in a batch of that format, or the rule that its first bad field breaks.
-/// Each field is looked at by itself, but for what stands before a region that is no text.
+/// The record that the line at this span is in a batch of that format, at most 65,536 bytes long. An error is the rule
+/// that the first bad field breaks, from the left.
 #[inline(always)]
 pub fn read_exact<'a>(
     version: Version,
@@ -93,7 +103,7 @@ pub fn read_exact<'a>(
 ) -> Result<Record<'a>, BatchCode>
     requires ordered { span.from ≤ span.to }
     requires within { span.to ≤ length source.now }
-    requires short { length source.now ≤ 65536 }
+    requires short { length source.now ≤ most_batch_bytes }
     ensures ok { IfOk result (λ r.
         record_in version (fields_in (slice_range source.now span.from span.to)) ≡ Ok (record_of r)) }
     ensures err { IfErr result (λ e.
@@ -115,8 +125,8 @@ pub fn read_exact<'a>(
     }
 }
 
-/// The record that the line at this span is in a batch of that format, or the rule that its first bad field breaks. A plain
-/// reading is read in one pass, and only what is none is read field by field.
+/// The record that the line at this span is in a batch of that format, at most 65,536 bytes long. An error is the rule
+/// that the first bad field breaks, from the left.
 #[inline(never)]
 pub fn read_record<'a>(
     version: Version,
@@ -125,7 +135,7 @@ pub fn read_record<'a>(
 ) -> Result<Record<'a>, BatchCode>
     requires ordered { span.from ≤ span.to }
     requires within { span.to ≤ length source.now }
-    requires short { length source.now ≤ 65536 }
+    requires short { length source.now ≤ most_batch_bytes }
     ensures ok { IfOk result (λ r.
         record_in version (fields_in (slice_range source.now span.from span.to)) ≡ Ok (record_of r)) }
     ensures err { IfErr result (λ e.

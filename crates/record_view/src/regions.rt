@@ -36,8 +36,8 @@ pub(crate) fn in_region<'a>(what: &Record<'a>, region: Field<'a>) -> Record<'a>
     }
 }
 
-/// What stands of a line behind its letter and before its region, which is all of it in format B1, and the region of format B2.
-/// Nothing where a line of format B2 has no bar, or a region that is no text: that is asked before anything in front of it.
+/// What stands of a line after its letter and before its region, which is all of it in format B1, and the region of
+/// format B2. Nothing where a line of format B2 has no bar, or a region that is no text: that is asked first.
 #[inline(always)]
 pub(crate) fn before_region<'a>(
     version: Version,
@@ -49,7 +49,8 @@ pub(crate) fn before_region<'a>(
     ensures text { IfSome result (λ p. IfSome p.1 (λ region. IsTrue (is_text region.text.now))) }
     ensures none { IfNone result (IsTrue (is_plain_line rest.entry.text.now)
         → (version ≡ B2) × (parts_at 124 (lent rest.entry) ≡ lent rest.entry ∷ [])) }
-    ensures plain { IfSome result (λ p. IsTrue (is_plain_line rest.entry.text.now) → IsTrue (is_plain_line p.0.text.now)) }
+    ensures plain { IfSome result
+        (λ p. IsTrue (is_plain_line rest.entry.text.now) → IsTrue (is_plain_line p.0.text.now)) }
 {
     match version {
         Version::B1 => Some((rest, None)),
@@ -64,8 +65,8 @@ pub(crate) fn before_region<'a>(
     }
 }
 
-/// The rule that a reading's line breaks whose region breaks this one, from what stands before the region. A plain reading is
-/// known for one in one pass: then the region's fault is the first.
+/// The rule that a reading's line breaks whose region breaks this one, from what stands before the region. A plain
+/// reading is known for one in one pass: then the region's fault is the first.
 #[inline(never)]
 fn fault_before(letter: &[u8], front: Field<'_>, region: BatchCode) -> BatchCode
     requires placed { IsPlaced (lent front) }
@@ -81,8 +82,8 @@ fn fault_before(letter: &[u8], front: Field<'_>, region: BatchCode) -> BatchCode
     }
 }
 
-/// The record of a reading's line in format B2, from what stands behind its letter: what stands before the last bar is
-/// read as in format B1, and behind it stands the region.
+/// The record of a reading's line in format B2, from what stands after its letter: what stands before the last bar is
+/// read as in format B1, and after it stands the region.
 #[inline(never)]
 pub(crate) fn reading_in_region<'a>(letter: &[u8], rest: Field<'a>) -> Result<Record<'a>, BatchCode>
     requires placed { IsPlaced (lent rest) }

@@ -2,6 +2,7 @@
 
 ghost use Rattle.std.specs.Prelude.{◌≡◌, ◌≢◌, ◌≤◌, length, take, slice_range, Ok, MatchOption, IfSome, ◌<◌, ◌-◌};
 ghost use Rattle.metering_model.specs.BatchReading.{record_in, fields_in};
+ghost use Rattle.metering_model.specs.Limits.{most_batch_bytes};
 ghost use Rattle.record_view.specs.Lent.{record_of, fields_at, IsLentRecord};
 ghost use Rattle.record_view.specs.Spans.{field_count, spans_at};
 
@@ -11,7 +12,7 @@ use metering_model::Version;
 
 const BAR: u8 = b'|';
 
-/// Stands behind the last field of an amendment, and of a reading without a region.
+/// Stands after the last field of an amendment, and of a reading without a region.
 const NOWHERE: Span = Span { from: 0, to: 0 };
 
 /// The spans of the fields of a line that has four.
@@ -56,14 +57,13 @@ fn last_spans(line: Span, region: Option<Field<'_>>) -> (u32, Span)
     }
 }
 
-/// The spans of the fields of a record that was read from that line in a batch of that format, from left to right: nine of a
-/// reading, or ten with its region, and four of an amendment, with nothing meant by those behind them. A reading isn't
-/// looked through again.
+/// The spans of the fields of a record that was read from that line in a batch of that format, from left to right: nine
+/// of a reading, or ten with its region, and four of an amendment. What stands after these in the array means nothing.
 #[inline(always)]
 pub fn field_spans(version: Version, source: &[u8], line: Span, what: &Record<'_>) -> [Span; 10]
     requires ordered { line.from ≤ line.to }
     requires within { line.to ≤ length source.now }
-    requires short { length source.now ≤ 65536 }
+    requires short { length source.now ≤ most_batch_bytes }
     requires read { record_in version (fields_in (slice_range source.now line.from line.to)) ≡ Ok (record_of what.now) }
     requires lent { IsLentRecord source.now line what.now }
     ensures { take (field_count version what.now) result ≡ spans_at source.now line }

@@ -32,20 +32,19 @@ impl<'a> KnownStamps<'a> {
     }
 }
 
-/// Reads the stamps of readings by twos. Texts that are those of the last two stamps are not read anew: in a batch many readings of
-/// one hour follow one another.
+/// Reads the stamps of readings, two at a time. It remembers the texts of the last two and their stamps.
 #[derive(Drop)]
 pub struct StampReader<'a> {
     last: Option<KnownStamps<'a>>,
 }
 
 impl<'a> StampReader<'a> {
-    /// One that has read none.
+    /// A reader that has read no stamps.
     pub fn new() -> StampReader<'a> {
         StampReader { last: None }
     }
 
-    /// Both stamps, each as `Stamp::read` does; None where either is none.
+    /// Both stamps, each as `Stamp::read` does; None where either text is no stamp.
     #[inline(always)]
     pub fn read_both(&mut self, first: &'a [u8], second: &'a [u8]) -> Option<(Stamp, Stamp)>
         ensures { result ≡ option_zip (stamp_in first.now) (stamp_in second.now) }
@@ -58,7 +57,8 @@ impl<'a> StampReader<'a> {
         self.read_anew(first, second)
     }
 
-    /// Both stamps, which are known from then on, where both are stamps. Apart, so that the path of known ones stays short.
+    /// Both stamps, which are known from then on, where both are stamps. Apart, so that the path of known ones stays
+    /// short.
     #[inline(never)]
     fn read_anew(&mut self, first: &'a [u8], second: &'a [u8]) -> Option<(Stamp, Stamp)>
         ensures { result ≡ option_zip (stamp_in first.now) (stamp_in second.now) }

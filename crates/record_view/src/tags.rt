@@ -185,7 +185,7 @@ fn end_of<'a>(text: Field<'a>) -> Field<'a>
     }
 }
 
-/// The first of the parts between `;`, and what stands behind it.
+/// The first of the parts between `;`, and what stands after it.
 fn first_part<'a>(text: Field<'a>) -> (Field<'a>, Field<'a>)
     requires placed { IsPlaced (lent text) }
     requires some { 0 < length text.text.now }
@@ -225,8 +225,7 @@ impl<'a> Tags<'a> {
         Tags { rest: text }
     }
 
-    /// The tags as they stand in the batch, `key=value` between semicolons, or the empty text. So where two texts are the same, the
-    /// tags are.
+    /// The tags as they stand in the batch: `key=value` joined by semicolons, or the empty text.
     pub fn text(&self) -> &'a [u8]
         ensures { tags_in result.now ≡ Some (map tag_of (lent_tags self.now)) }
     {

@@ -17,7 +17,7 @@ fn is_text_in_step<const LANES: usize>(text: &[u8]) -> bool
     odd.to_bitmask() == 0
 }
 
-/// What is left behind the last step of so many bytes, and None where a step has a byte that is not printable ASCII.
+/// What is left after the last step of so many bytes, and None where a step has a byte that is not printable ASCII.
 #[inline(always)]
 fn behind_steps<const LANES: usize>(text: &[u8]) -> Option<&[u8]>
     requires { (0 < LANES) × (LANES ≤ 64) }

@@ -115,5 +115,7 @@ module _ (sheet : Sheet) (issuer : Issuer) (h : Holding) (ok : IsHolding h) (per
 
   pub at_most_one_row : length (at_place at (placed_rows sheet issuer h period from to)) ≤ 1
   at_most_one_row =
-      let many : length (at_place at (placed_rows sheet issuer h period from to)) ≡ length (filter (λ y. is_same_place y.place at) (placed_rows sheet issuer h period from to)) = length-map (filter (λ y. is_same_place y.place at) (placed_rows sheet issuer h period from to)) (λ (y : PlacedRow). y.row) in
+      let many : length (at_place at (placed_rows sheet issuer h period from to))
+      ≡ length (filter (λ y. is_same_place y.place at) (placed_rows sheet issuer h period from to)) = length-map
+      (filter (λ y. is_same_place y.place at) (placed_rows sheet issuer h period from to)) (λ (y : PlacedRow). y.row) in
       subst (λ n. n ≤ 1) (sym many) one_row_at_most

@@ -28,7 +28,8 @@ fn kept_offer_of(alloc: Global, text: &[u8]) -> Result<KeptOffer, AllocError>
     KeptOffer::read(alloc, bytes)
 }
 
-/// The event that a schedule tells. What is journaled is copied once, and read.
+/// The event that a line or a section of a schedule describes; what is journaled is read as a batch. An error is an
+/// allocation failure.
 pub fn event_of(alloc: Global, planned: &Planned<'_>) -> Result<Event, AllocError>
     requires { HasWholeLines planned.now }
     ensures { IfOk result (λ event. event_of event ≡ model.event_of (planned_of planned.now)) }

@@ -1,4 +1,4 @@
-//! What the program plays: texts in, texts out, between a source and a sink.
+//! What `focusd play` does: the transcript of a schedule, from a source to a sink.
 #![tactic(auto)]
 
 mod events;

@@ -24,7 +24,8 @@ use schedule_reader::Schedule;
 use std::alloc::{AllocError, Global};
 use std::sync::Arc;
 
-/// A group before any event, by a sheet and an issuer that all its nodes share.
+/// A group of 1 to 99 nodes, of which at least 1 votes, and 1 to 64 agents before any event, by a sheet and an issuer.
+/// An error is an allocation failure.
 pub fn opening_world(
     alloc: Global,
     voters: u8,
@@ -115,14 +116,10 @@ fn play_input<W: Sink>(alloc: Global, input: &[u8], writer: &mut W) -> Result<()
     }
 }
 
-/// Plays the schedule that a reader gives, and writes its transcript: a line for each event's reply, and behind the line of
-/// an export its file.
-///
-/// At most 16,777,217 bytes are read, and all of them before the first event. Where memory is refused, the transcript of some
-/// first events was written. As far as the clause goes these may be none at all: the error tells no number of them, and memory
-/// may be wanted before the first. That they are those whose replies were had is said where their number is known, of the loop
-/// (`play_on`: `world`, `told`). After `Write` a prefix of the transcript was written, and after any other fault nothing.
-/// `Refused` is never answered.
+/// Plays the schedule that a reader gives, and writes its transcript. At most 16,777,217 bytes are read. After
+/// `OutOfMemory` nothing was written, or the transcript of some first events, fewer than all; the error does not say
+/// how many. After `Write`, one failed call, a proper prefix of the transcript was written, and after any other fault
+/// nothing. `Refused` is never returned.
 pub fn play_text<R: Source, W: Sink>(
     alloc: Global,
     reader: &mut R,
@@ -148,7 +145,9 @@ pub fn play_text<R: Source, W: Sink>(
         → Rises (R.failed_calls reader.old) (R.failed_calls reader.new) }
     ensures write_fault { result ≡ Err PlayFault.Write
         → Rises (W.failed_calls writer.old) (W.failed_calls writer.new) }
-    ensures untouched { IfErr result (λ fault. fault ≢ PlayFault.Write → fault ≢ PlayFault.OutOfMemory → writer.new ≡ writer.old) }
+    ensures untouched { IfErr result
+        (λ fault. fault ≢ PlayFault.Write → fault ≢ PlayFault.OutOfMemory
+        → writer.new ≡ writer.old) }
     ensures read { ConsumesAtMost 16_777_217 (R.remaining reader.old) (R.remaining reader.new) }
 
     // With Ok nothing is left to read.

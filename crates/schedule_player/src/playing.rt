@@ -18,7 +18,7 @@ use group_core::World;
 use schedule_reader::Planned;
 use std::alloc::{AllocError, Global};
 
-/// Does one event, and puts the text of its reply behind what waits. Where memory is refused, nothing of it waits.
+/// Does one event, and puts the text of its reply after what waits. Where an allocation fails, nothing of it waits.
 fn play_event(
     alloc: Global,
     world: &mut World,
@@ -27,23 +27,30 @@ fn play_event(
 ) -> Result<(), AllocError>
     requires whole { HasWholeLines planned.now }
     requires held { IsHeldOf world.old lines.old.held }
-    ensures text { OnOk result (lines.new.text ≡ lines.old.text ++ reply_text (step world.old (event_of (planned_of planned.now))).0) }
+    ensures text { OnOk result
+        (lines.new.text ≡ lines.old.text
+        ++ reply_text (step world.old (event_of (planned_of planned.now))).0) }
     ensures world { OnOk result (world.new ≡ (step world.old (event_of (planned_of planned.now))).1) }
     ensures kept { OnErr result (lines.new.text ≡ lines.old.text) }
     ensures held { OnOk result (IsHeldOf world.new lines.new.held) }
 
     // The event is done or not.
-    ensures left { OnErr result ((world.new ≡ world.old) ⊎ (world.new ≡ (step world.old (event_of (planned_of planned.now))).1)) }
+    ensures left { OnErr result
+        ((world.new ≡ world.old) ⊎
+        (world.new ≡ (step world.old (event_of (planned_of planned.now))).1)) }
 {
     let event = event_of(alloc, planned)?;
     let reply = world.step(alloc, &event)?;
     lines.add(alloc, &reply)
 }
 
-/// Writes what waits, if it is much. So what waits has a bound, however long a transcript is: before an event it is little, and
-/// behind it one reply's text more. (Of memory no clause speaks, and the file of the last export stays at hand.)
+/// Writes what waits, if it is much. So what waits has a bound, however long a transcript is: before an event it is
+/// little, and after it one reply's text more. (Of memory no clause speaks, and the file of the last export stays at
+/// hand.)
 fn write_many<W: Sink>(lines: &mut ReplyLines, writer: &mut W) -> Result<(), Failed>
-    ensures written { OnOk result ((written : List ℕ) × (written ++ lines.new.text ≡ lines.old.text) × Appends (W.contents writer.old) (W.contents writer.new) written) }
+    ensures written { OnOk result
+        ((written : List ℕ) × (written ++ lines.new.text ≡ lines.old.text)
+        × Appends (W.contents writer.old) (W.contents writer.new) written) }
     ensures prefix { OnErr result (AppendsPrefix (W.contents writer.old) (W.contents writer.new) lines.old.text) }
     ensures held { lines.new.held ≡ lines.old.held }
 
@@ -59,8 +66,8 @@ fn write_many<W: Sink>(lines: &mut ReplyLines, writer: &mut W) -> Result<(), Fai
     }
 }
 
-/// Does the events in turn, as long as memory is found, and answers how many were done. What a transcript says of their replies
-/// was written, or waits, and little of it waits.
+/// Does the events in turn, as long as memory is found, and returns how many were done. What a transcript says of their
+/// replies was written, or waits, and little of it waits.
 fn play_on<W: Sink>(
     alloc: Global,
     world: &mut World,
@@ -73,9 +80,13 @@ fn play_on<W: Sink>(
     requires held { IsHeldOf world.old lines.old.held }
     ensures within { IfOk result (λ done. done ≤ length events.now) }
     ensures world { IfOk result (λ done. IsWorldAfter world.old events.now done world.new) }
-    ensures told { IfOk result (λ done. IsTold (W.contents writer.old) (W.contents writer.new) lines.new.text world.old events.now done) }
+    ensures told { IfOk result
+        (λ done. IsTold (W.contents writer.old)
+        (W.contents writer.new) lines.new.text world.old events.now done) }
     ensures few { OnOk result (length lines.new.text < 65_536) }
-    ensures prefix { OnErr result (AppendsPrefix (W.contents writer.old) (W.contents writer.new) (text_of world.old (events_of events.now))) }
+    ensures prefix { OnErr result
+        (AppendsPrefix (W.contents writer.old) (W.contents writer.new)
+        (text_of world.old (events_of events.now))) }
     ensures fault { OnErr result (Rises (W.failed_calls writer.old) (W.failed_calls writer.new)) }
     ensures count { W.failed_calls writer.new ≡ count_after (is_err result) (W.failed_calls writer.old) }
 {
@@ -88,8 +99,8 @@ fn play_on<W: Sink>(
     Ok(events.len())
 }
 
-/// Does the events in turn, as long as memory is found, and writes just what a transcript says of the replies of those that were
-/// done. It answers how many these are.
+/// Does the events in turn, as long as memory is found, and writes just what a transcript says of the replies of those
+/// that were done. It answers how many these are.
 pub(crate) fn play_events<W: Sink>(
     alloc: Global,
     world: World,
@@ -98,8 +109,12 @@ pub(crate) fn play_events<W: Sink>(
 ) -> Result<usize, Failed>
     requires { All HasWholeLines events.now }
     ensures within { IfOk result (λ done. done ≤ length events.now) }
-    ensures played { IfOk result (λ done. Appends (W.contents writer.old) (W.contents writer.new) (text_of world (events_of (take done events.now)))) }
-    ensures prefix { OnErr result (AppendsPrefix (W.contents writer.old) (W.contents writer.new) (text_of world (events_of events.now))) }
+    ensures played { IfOk result
+        (λ done. Appends (W.contents writer.old) (W.contents writer.new)
+        (text_of world (events_of (take done events.now)))) }
+    ensures prefix { OnErr result
+        (AppendsPrefix (W.contents writer.old) (W.contents writer.new)
+        (text_of world (events_of events.now))) }
     ensures fault { OnErr result (Rises (W.failed_calls writer.old) (W.failed_calls writer.new)) }
     ensures count { W.failed_calls writer.new ≡ count_after (is_err result) (W.failed_calls writer.old) }
 {

@@ -1,4 +1,5 @@
-//! The lines of replies that wait to be written. An export that comes next after one of the same period is not rendered again.
+//! The lines of replies that wait to be written. An export that comes next after one of the same period is not rendered
+//! again.
 
 ghost use Rattle.std.specs.Prelude.{◌≡◌, ◌↔◌, ◌≤◌, ◌++◌, [], false, length, None, IsTrue, OnOk, OnErr, is_err};
 ghost use Rattle.std.specs.Io.KnownBytes.{Appends};
@@ -17,17 +18,17 @@ use std::marker::Model;
 /// From so many bytes on, what waits should be written.
 const MANY_BYTES: usize = 65_536;
 
-/// What a transcript says of some replies, one behind the other, which waits to be written.
+/// What a transcript says of some replies, one after the other, which waits to be written.
 ///
-/// The buffers are used again. The file of the last reply stands by itself, so that its lines are counted before the line
-/// above it is made, and none of them is copied. It stays when it was written: the next export of its period is the same,
-/// at whatever node, so that its text is at hand.
+/// The buffers are used again. The file of the last reply stands by itself, so that its lines are counted before the
+/// line above it is made, and none of them is copied. It stays when it was written: the next export of its period is
+/// the same, at whatever node, so that its text is at hand.
 #[derive(Drop)]
 pub(crate) struct ReplyLines {
     lines: Vec<u8>,
     line: Vec<u8>,
     file: Vec<u8>,
-    /// Whether the file waits behind the lines.
+    /// Whether the file waits after the lines.
     waits: bool,
     /// The period of the export that `line` and `file` tell of, where they tell of one.
     held: Option<Period>,
@@ -52,9 +53,10 @@ fn waiting(waits: bool, file: &[u8]) -> &[u8]
     if waits { file } else { &[] }
 }
 
-/// Puts a file that waits behind the lines before it. It stays at hand.
+/// Puts a file that waits after the lines before it. It stays at hand.
 fn join_file(lines: &mut Vec<u8>, waits: &mut bool, file: &[u8]) -> Result<(), AllocError>
-    ensures joined { OnOk result ((lines.new.items ≡ lines.old.items ++ waiting waits.old file.now) × (waits.new ≡ false)) }
+    ensures joined { OnOk result
+        ((lines.new.items ≡ lines.old.items ++ waiting waits.old file.now) × (waits.new ≡ false)) }
     ensures kept { OnErr result ((lines.new.items ≡ lines.old.items) × (waits.new ≡ waits.old)) }
 {
     lines.extend_from_slice(waiting(*waits, file))?;
@@ -118,7 +120,7 @@ impl ReplyLines {
         }
     }
 
-    /// Puts the text of one more reply behind those that wait. Where memory is refused, nothing of it waits.
+    /// Puts the text of one more reply after those that wait. Where an allocation fails, nothing of it waits.
     pub(crate) fn add(&mut self, alloc: Global, reply: &Reply) -> Result<(), AllocError>
         requires fits { FitsReply self.old.held (reply_of reply.now) }
         ensures added { OnOk result (self.new.text ≡ self.old.text ++ reply_text (reply_of reply.now)) }

@@ -1,4 +1,4 @@
-//! The line of one reply, and the file or the kept text behind it.
+//! The line of one reply, and the file or the kept text after it.
 
 ghost use Rattle.std.specs.Prelude.{◌≡◌, ◌++◌, ◌∷◌, [], codes, OnOk};
 ghost use Rattle.metering_model.specs.Transcript.{file_of, line_count, reply_text, with_number};
@@ -10,7 +10,8 @@ use export_file::ExportFile;
 use group_events::{Reply, Snapshot};
 use std::alloc::{AllocError, Global};
 
-/// Appends an export's file to one text, and to the other what stands above it: the period, and how many lines the file has.
+/// Appends an export's file to one text, and to the other what stands above it: the period, and how many lines the file
+/// has.
 fn put_exported(
     alloc: Global,
     snapshot: &Snapshot,
@@ -20,7 +21,8 @@ fn put_exported(
     requires { file.old.items ≡ [] }
     ensures file { OnOk result (file.new.items ≡ file_of snapshot.now) }
     ensures line { OnOk result (line.new.items ≡ line.old.items
-        ++ (with_number (codes "exported period ") snapshot.now.period ++ with_number (codes " lines ") (line_count (file_of snapshot.now)))) }
+        ++ (with_number (codes "exported period ") snapshot.now.period
+        ++ with_number (codes " lines ") (line_count (file_of snapshot.now)))) }
 {
     snapshot.put_csv(alloc, file)?;
     replies::put_exported(line, snapshot.period(), line_count(file))
@@ -30,14 +32,16 @@ fn put_exported(
 fn put_kept(kept: &[u8], line: &mut Vec<u8>, file: &mut Vec<u8>) -> Result<(), AllocError>
     requires { file.old.items ≡ [] }
     ensures file { OnOk result (file.new.items ≡ kept.now) }
-    ensures line { OnOk result (line.new.items ≡ line.old.items ++ with_number (codes "kept lines ") (line_count kept.now)) }
+    ensures line { OnOk result
+        (line.new.items ≡ line.old.items
+        ++ with_number (codes "kept lines ") (line_count kept.now)) }
 {
     file.extend_from_slice(kept)?;
     replies::put_kept(line, line_count(kept))
 }
 
-/// Puts what is told of a reply into one text, and the file or the kept text behind its line, where there is one, into the
-/// other.
+/// Puts what is told of a reply into one text, and the file or the kept text after its line, where there is one, into
+/// the other.
 fn put_words(
     alloc: Global,
     reply: &Reply,
@@ -59,7 +63,8 @@ fn put_words(
     }
 }
 
-/// Makes one text the line of a reply, and the other the file or the kept text behind it, which is empty where there is none.
+/// Makes one text the line of a reply, and the other the file or the kept text after it, which is empty where there is
+/// none.
 pub(crate) fn set_words(
     alloc: Global,
     reply: &Reply,

@@ -18,7 +18,7 @@ const LAST_PERIOD: u32 = 1_199;
 /// A revival has no more lines than this.
 const MOST_LINES: u32 = 200_000;
 
-/// An event as it stands in a schedule. What is journaled is lent from the text, and not read.
+/// An event as it stands in a schedule. What is journaled is lent from the text, and not read as a batch.
 #[derive(Clone, Copy, Drop)]
 pub enum Planned<'a> {
     /// These lines, each with its line feed, are offered as a batch.
@@ -38,7 +38,9 @@ pub enum Planned<'a> {
 }
 
 fn delivery<'a>(line: &'a [u8]) -> Option<Planned<'a>>
-    ensures event { option_map planned_of result ≡ option_map (λ n. PlansDelivery n.0 n.1) (two_behind (codes "deliver ") 999_999 98 line.now) }
+    ensures event { option_map planned_of result
+        ≡ option_map (λ n. PlansDelivery n.0 n.1)
+        (two_behind (codes "deliver ") 999_999 98 line.now) }
     ensures lines { IfSome result HasWholeLines }
 {
     let (packet, node) = two_behind(line, b"deliver ", LAST_PACKET, LAST_NODE)?;
@@ -65,7 +67,8 @@ fn restart<'a>(line: &'a [u8]) -> Option<Planned<'a>>
 }
 
 fn export<'a>(line: &'a [u8]) -> Option<Planned<'a>>
-    ensures event { option_map planned_of result ≡ option_map (λ n. PlansExport n.0 n.1) (two_behind (codes "export ") 98 1_199 line.now) }
+    ensures event { option_map planned_of result
+        ≡ option_map (λ n. PlansExport n.0 n.1) (two_behind (codes "export ") 98 1_199 line.now) }
     ensures lines { IfSome result HasWholeLines }
 {
     let (node, period) = two_behind(line, b"export ", LAST_NODE, LAST_PERIOD)?;
@@ -103,10 +106,11 @@ fn event_of_line<'a>(line: &'a [u8]) -> Option<Planned<'a>>
     keep(line)
 }
 
-/// The event of the next line, and what is left behind it.
+/// The event of the next line, and what is left after it.
 #[tactic(auto, unfolding(crate::specs::Schedules::line_event))]
 fn line_event<'a>(unread: &Unread<'a>) -> Result<(Planned<'a>, Unread<'a>), ScheduleFault>
-    ensures event { MatchResult result (λ r. line_event unread.now ≡ Ok (planned_of r.0, r.1)) (λ fault. line_event unread.now ≡ Err fault) }
+    ensures event { MatchResult result (λ r. line_event unread.now ≡ Ok (planned_of r.0, r.1))
+        (λ fault. line_event unread.now ≡ Err fault) }
     ensures want { IfErr result (λ fault. fault ≢ ScheduleFault.OutOfMemory) }
     ensures lines { IfOk result (λ r. HasWholeLines r.0) }
 {
@@ -120,10 +124,11 @@ fn line_event<'a>(unread: &Unread<'a>) -> Result<(Planned<'a>, Unread<'a>), Sche
     }
 }
 
-/// The journal that the next line opens, and what is left behind its lines.
+/// The journal that the next line opens, and what is left after its lines.
 #[tactic(auto, unfolding(crate::specs::Schedules::journal_event))]
 fn journal_event<'a>(unread: &Unread<'a>) -> Result<(Planned<'a>, Unread<'a>), ScheduleFault>
-    ensures event { MatchResult result (λ r. journal_event unread.now ≡ Ok (planned_of r.0, r.1)) (λ fault. journal_event unread.now ≡ Err fault) }
+    ensures event { MatchResult result (λ r. journal_event unread.now ≡ Ok (planned_of r.0, r.1))
+        (λ fault. journal_event unread.now ≡ Err fault) }
     ensures want { IfErr result (λ fault. fault ≢ ScheduleFault.OutOfMemory) }
     ensures lines { IfOk result (λ r. HasWholeLines r.0) }
 {
@@ -144,10 +149,11 @@ fn revival_of_line(line: &[u8]) -> Option<(u32, u32)>
     }
 }
 
-/// The revival that the next line opens, and what is left behind its lines.
+/// The revival that the next line opens, and what is left after its lines.
 #[tactic(auto, unfolding(crate::specs::Schedules::revival_event))]
 fn revival_event<'a>(unread: &Unread<'a>) -> Result<(Planned<'a>, Unread<'a>), ScheduleFault>
-    ensures event { MatchResult result (λ r. revival_event unread.now ≡ Ok (planned_of r.0, r.1)) (λ fault. revival_event unread.now ≡ Err fault) }
+    ensures event { MatchResult result (λ r. revival_event unread.now ≡ Ok (planned_of r.0, r.1))
+        (λ fault. revival_event unread.now ≡ Err fault) }
     ensures want { IfErr result (λ fault. fault ≢ ScheduleFault.OutOfMemory) }
     ensures lines { IfOk result (λ r. HasWholeLines r.0) }
 {
@@ -169,10 +175,11 @@ fn revival_event<'a>(unread: &Unread<'a>) -> Result<(Planned<'a>, Unread<'a>), S
     ))
 }
 
-/// The next event, and what is left behind it. No memory is taken.
+/// The next event, and what is left after it. Refused is the first fault by line. Never OutOfMemory.
 #[tactic(auto, unfolding(crate::specs::Schedules::event_in))]
 pub fn event_in<'a>(unread: &Unread<'a>) -> Result<(Planned<'a>, Unread<'a>), ScheduleFault>
-    ensures event { MatchResult result (λ r. event_in unread.now ≡ Ok (planned_of r.0, r.1)) (λ fault. event_in unread.now ≡ Err fault) }
+    ensures event { MatchResult result (λ r. event_in unread.now ≡ Ok (planned_of r.0, r.1))
+        (λ fault. event_in unread.now ≡ Err fault) }
     ensures want { IfErr result (λ fault. fault ≢ ScheduleFault.OutOfMemory) }
     ensures lines { IfOk result (λ r. HasWholeLines r.0) }
 {
@@ -193,7 +200,8 @@ pub(crate) fn events_in<'a>(
 ) -> Result<Vec<Planned<'a>>, ScheduleFault>
     ensures taken { IfOk result (λ events. events_in most unread.entry ≡ Ok (map planned_of events.items)) }
     ensures lines { IfOk result (λ events. All HasWholeLines events.items) }
-    ensures refused { IfErr result (λ fault. fault ≢ ScheduleFault.OutOfMemory → events_in most unread.entry ≡ Err fault) }
+    ensures refused { IfErr result
+        (λ fault. fault ≢ ScheduleFault.OutOfMemory → events_in most unread.entry ≡ Err fault) }
 {
     let mut events = Vec::new(alloc);
     let mut here = unread;

@@ -1,4 +1,4 @@
-//! Numbers in a line, behind a word.
+//! Numbers in a line, after a word.
 
 ghost use Rattle.std.specs.Prelude.{◌≡◌, ◌+◌, ◌<◌, ◌≤◌, Some, IfSome, length};
 ghost use Rattle.schedule_reader.specs.Schedules.{counts_at, counts_in, nodes_behind, one_behind, two_behind, two_in};
@@ -9,7 +9,7 @@ use input_sections::{behind_word, number_behind};
 /// A group has no more nodes than this.
 const MOST_NODES: u32 = 99;
 
-/// The number behind the word, from 0 to `most`.
+/// The number after the word, from 0 to `most`.
 pub(crate) fn one_behind(line: &[u8], word: &[u8], most: u32) -> Option<u32>
     requires { most ≤ 1_000_000 }
     ensures value { result ≡ one_behind word.now most line.now }
@@ -30,7 +30,7 @@ fn read_two(text: &[u8], first: u32, second: u32) -> Option<(u32, u32)>
     Some((one, other))
 }
 
-/// The two numbers behind the word, each from 0 to its most.
+/// The two numbers after the word, each from 0 to its most.
 pub(crate) fn two_behind(line: &[u8], word: &[u8], first: u32, second: u32) -> Option<(u32, u32)>
     requires { (first ≤ 1_000_000) × (second ≤ 1_000_000) }
     ensures value { result ≡ two_behind word.now first second line.now }
@@ -39,7 +39,7 @@ pub(crate) fn two_behind(line: &[u8], word: &[u8], first: u32, second: u32) -> O
     read_two(behind_word(line, word)?, first, second)
 }
 
-/// The voters before the space, and the observers behind it and its word.
+/// The voters before the space, and the observers after it and its word.
 fn read_both(text: &[u8], space: usize) -> Option<(u32, u32)>
     requires { space < length text.now }
     ensures value { result ≡ counts_at text.now (Some space) }

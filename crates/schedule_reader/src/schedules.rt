@@ -20,18 +20,21 @@ use std::alloc::Global;
 pub struct Schedule<'a> {
     /// At least 1, and with the observers at most 99.
     pub voters: u8,
+    /// With the voters at most 99.
     pub observers: u8,
     /// From 1 to 64.
     pub agents: u8,
     pub sheet: Sheet,
     pub issuer: Issuer,
+    /// What happens to the group, in order.
     pub events: Vec<Planned<'a>>,
 }
 
-/// What is left behind the first line of a schedule.
+/// What is left after the first line of a schedule.
 #[tactic(auto, unfolding(crate::specs::Schedules::head_line))]
 fn head_line<'a>(unread: &Unread<'a>) -> Result<Unread<'a>, ScheduleFault>
-    ensures head { MatchResult result (λ rest. head_line unread.now ≡ Ok rest) (λ fault. head_line unread.now ≡ Err fault) }
+    ensures head { MatchResult result (λ rest. head_line unread.now ≡ Ok rest)
+        (λ fault. head_line unread.now ≡ Err fault) }
     ensures want { IfErr result (λ fault. fault ≢ ScheduleFault.OutOfMemory) }
 {
     let (line, rest) = unread.first_line(ScheduleCode::Head)?;
@@ -45,7 +48,7 @@ fn head_line<'a>(unread: &Unread<'a>) -> Result<Unread<'a>, ScheduleFault>
     }
 }
 
-/// The number, from 1 to `most`, that the next line tells behind the word, and what is left behind it.
+/// The number, from 1 to `most`, that the next line tells after the word, and what is left after it.
 #[tactic(auto, unfolding(crate::specs::Schedules::number_line))]
 fn number_line<'a>(
     unread: &Unread<'a>,
@@ -54,7 +57,9 @@ fn number_line<'a>(
     most: u32,
 ) -> Result<(u32, Unread<'a>), ScheduleFault>
     requires { most ≤ 1_000_000 }
-    ensures number { MatchResult result (λ r. number_line code word.now most unread.now ≡ Ok (r.0, r.1)) (λ fault. number_line code word.now most unread.now ≡ Err fault) }
+    ensures number { MatchResult result
+        (λ r. number_line code word.now most unread.now ≡ Ok (r.0, r.1))
+        (λ fault. number_line code word.now most unread.now ≡ Err fault) }
     ensures within { IfOk result (λ r. r.0 ≤ most) }
     ensures want { IfErr result (λ fault. fault ≢ ScheduleFault.OutOfMemory) }
 {
@@ -68,10 +73,11 @@ fn number_line<'a>(
     }
 }
 
-/// The voters and the observers that the next line tells, and what is left behind it.
+/// The voters and the observers that the next line tells, and what is left after it.
 #[tactic(auto, unfolding(crate::specs::Schedules::nodes_line))]
 fn nodes_line<'a>(unread: &Unread<'a>) -> Result<(u32, u32, Unread<'a>), ScheduleFault>
-    ensures nodes { MatchResult result (λ r. nodes_line unread.now ≡ Ok (r.0, r.1, r.2)) (λ fault. nodes_line unread.now ≡ Err fault) }
+    ensures nodes { MatchResult result (λ r. nodes_line unread.now ≡ Ok (r.0, r.1, r.2))
+        (λ fault. nodes_line unread.now ≡ Err fault) }
     ensures within { IfOk result (λ r. r.0 + r.1 ≤ 99) }
     ensures want { IfErr result (λ fault. fault ≢ ScheduleFault.OutOfMemory) }
 {
@@ -85,10 +91,11 @@ fn nodes_line<'a>(unread: &Unread<'a>) -> Result<(u32, u32, Unread<'a>), Schedul
     }
 }
 
-/// How many voters, observers and agents a text tells, and what is left behind the lines that say so.
+/// How many voters, observers and agents a text tells, and what is left after the lines that say so.
 #[tactic(auto, unfolding(crate::specs::Schedules::group_in))]
 fn group_in<'a>(text: &'a [u8]) -> Result<(u8, u8, u8, Unread<'a>), ScheduleFault>
-    ensures group { MatchResult result (λ r. group_in text.now ≡ Ok (r.0, r.1, r.2, r.3)) (λ fault. group_in text.now ≡ Err fault) }
+    ensures group { MatchResult result (λ r. group_in text.now ≡ Ok (r.0, r.1, r.2, r.3))
+        (λ fault. group_in text.now ≡ Err fault) }
     ensures want { IfErr result (λ fault. fault ≢ ScheduleFault.OutOfMemory) }
 {
     let whole = Unread::whole(text)?;
@@ -98,29 +105,33 @@ fn group_in<'a>(text: &'a [u8]) -> Result<(u8, u8, u8, Unread<'a>), ScheduleFaul
     Ok((voters as u8, observers as u8, agents as u8, rest))
 }
 
-/// What stands above the events of a schedule, and what is left behind it: the events, of which none was read.
+/// What stands above the events of a schedule, and what is left after it: the events, of which none was read.
 #[derive(Drop)]
 pub struct Preamble<'a> {
     /// At least 1, and with the observers at most 99.
     pub voters: u8,
+    /// With the voters at most 99.
     pub observers: u8,
     /// From 1 to 64.
     pub agents: u8,
     pub sheet: Sheet,
     pub issuer: Issuer,
+    /// The events, which were not read.
     pub rest: Unread<'a>,
 }
 
 impl<'a> Preamble<'a> {
-    /// Reads what stands above the events of a schedule. A text that has no such is refused at its first fault by line, or with
-    /// want of memory.
+    /// Reads what stands above the events of a schedule. Refused is the text's first fault by line. OutOfMemory comes
+    /// only of a text whose numbers of nodes and agents are read.
     #[tactic(auto, unfolding(crate::specs::Schedules::preamble_in))]
     pub fn read(alloc: Global, text: &'a [u8]) -> Result<Preamble<'a>, ScheduleFault>
         ensures taken { IfOk result (λ p. preamble_in text.now
             ≡ Ok (record { voters = p.voters; observers = p.observers; agents = p.agents; sheet = p.sheet; issuer = p.issuer; rest = p.rest })) }
         ensures refused { IfErr result (λ fault. fault ≢ ScheduleFault.OutOfMemory → preamble_in text.now ≡ Err fault) }
         ensures want { IfErr result (λ fault. fault ≡ ScheduleFault.OutOfMemory → IsOk (group_in text.now)) }
-        ensures group { IfOk result (λ p. (1 ≤ p.voters) × (p.voters + p.observers ≤ 99) × (1 ≤ p.agents) × (p.agents ≤ 64)) }
+        ensures group { IfOk result
+            (λ p. (1 ≤ p.voters) × (p.voters + p.observers ≤ 99) × (1 ≤ p.agents)
+            × (p.agents ≤ 64)) }
         ensures rules { IfOk result (λ p. IsSheet p.sheet × IsIssuer p.issuer) }
     {
         let (voters, observers, agents, unread) = group_in(text)?;
@@ -138,9 +149,9 @@ impl<'a> Preamble<'a> {
 }
 
 impl<'a> Schedule<'a> {
-    /// Reads the text of a schedule, once and from the top; journals are lent from it and not read.
+    /// Reads the text of a schedule; journals are lent from it, and not read as batches.
     ///
-    /// A text that is none is refused at its first fault by line, or with want of memory.
+    /// Refused is the first fault by line. OutOfMemory comes only of a text whose numbers of nodes and agents are read.
     pub fn read(alloc: Global, text: &'a [u8]) -> Result<Schedule<'a>, ScheduleFault>
         ensures taken { IfOk result (λ s. schedule_in text.now
             ≡ Ok (record { voters = s.voters; observers = s.observers; agents = s.agents; sheet = s.sheet; issuer = s.issuer; events = map planned_of s.events.items })) }

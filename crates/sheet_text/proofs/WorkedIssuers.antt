@@ -58,7 +58,9 @@ unfolding parse_document lines line expression skip_bom skip_from skip_ws key_eq
 each_value_that_is_no_text = refl
 
 each_empty_text :
-    issuer_with 0 (codes "provider = \"\"") ∷ issuer_with 1 (codes "publisher = \"\"") ∷ issuer_with 2 (codes "issuer = \"\"") ∷ issuer_with 3 (codes "account_id = \"\"") ∷ issuer_with 4 (codes "account_name = \"\"") ∷ issuer_with 5 (codes "currency = \"\"") ∷ issuer_with 6 (codes "other_service = \"\"") ∷ []
+    issuer_with 0 (codes "provider = \"\"") ∷ issuer_with 1 (codes "publisher = \"\"") ∷ issuer_with 2 (codes "issuer = \"\"") ∷ issuer_with 3
+    (codes "account_id = \"\"") ∷ issuer_with 4 (codes "account_name = \"\"") ∷ issuer_with 5 (codes "currency = \"\"") ∷ issuer_with 6
+    (codes "other_service = \"\"") ∷ []
     ≡ map (λ key. Err (BadValue key)) (keys.Provider ∷ keys.Publisher ∷ keys.Issuer ∷ keys.AccountId ∷ keys.AccountName ∷ keys.Currency ∷ keys.OtherService ∷ [])
 unfolding parse_document lines line expression skip_bom skip_from skip_ws key_equals key_after simple_key val atom quoted one_line body special define along_header along_dots at_key unquoted word_len word_value number underscore_fits plain_number decimal_number scan_numeral key_name value_under text_under label_under currency_under issuer_in issuer_of_text
 each_empty_text = refl

@@ -29,13 +29,19 @@ column view (Some (Err fault)) = Some (Err fault)
 -- ---- each key with a value of another type, and with an empty text
 
 each_value_of_another_type :
-    price_with 0 (codes "sku = 7") ∷ price_with 1 (codes "price_id = 7") ∷ price_with 2 (codes "from = 7") ∷ price_with 3 (codes "description = 7") ∷ price_with 4 (codes "service = 7") ∷ price_with 5 (codes "category = 7") ∷ price_with 6 (codes "consumed_unit = 7") ∷ price_with 7 (codes "pricing_unit = 7") ∷ price_with 8 (codes "per = \"3600\"") ∷ price_with 9 (codes "list = 7") ∷ price_with 10 (codes "contracted = 7") ∷ []
+    price_with 0 (codes "sku = 7") ∷ price_with 1 (codes "price_id = 7") ∷ price_with 2 (codes "from = 7") ∷ price_with 3
+    (codes "description = 7") ∷ price_with 4 (codes "service = 7") ∷ price_with 5 (codes "category = 7") ∷ price_with 6
+    (codes "consumed_unit = 7") ∷ price_with 7 (codes "pricing_unit = 7") ∷ price_with 8 (codes "per = \"3600\"") ∷ price_with 9
+    (codes "list = 7") ∷ price_with 10 (codes "contracted = 7") ∷ []
     ≡ map tells_bad (keys.Sku ∷ keys.PriceId ∷ keys.From ∷ keys.Description ∷ keys.Service ∷ keys.Category ∷ keys.ConsumedUnit ∷ keys.PricingUnit ∷ keys.Per ∷ keys.List ∷ keys.Contracted ∷ [])
 unfolding parse_document lines line expression skip_bom skip_from skip_ws key_equals key_after simple_key val atom quoted one_line body special define along_header along_dots at_key unquoted word_len word_value number underscore_fits plain_number decimal_number scan_numeral key_name value_under text_under label_under day_under price_under per_under service_category_under price_row_in days_from_civil day_count days_of_years days_of_months worth_of
 each_value_of_another_type = refl
 
 each_empty_text :
-    price_with 0 (codes "sku = \"\"") ∷ price_with 1 (codes "price_id = \"\"") ∷ price_with 2 (codes "from = \"\"") ∷ price_with 3 (codes "description = \"\"") ∷ price_with 4 (codes "service = \"\"") ∷ price_with 5 (codes "category = \"\"") ∷ price_with 6 (codes "consumed_unit = \"\"") ∷ price_with 7 (codes "pricing_unit = \"\"") ∷ price_with 9 (codes "list = \"\"") ∷ price_with 10 (codes "contracted = \"\"") ∷ []
+    price_with 0 (codes "sku = \"\"") ∷ price_with 1 (codes "price_id = \"\"") ∷ price_with 2 (codes "from = \"\"") ∷ price_with 3
+    (codes "description = \"\"") ∷ price_with 4 (codes "service = \"\"") ∷ price_with 5 (codes "category = \"\"") ∷ price_with 6
+    (codes "consumed_unit = \"\"") ∷ price_with 7 (codes "pricing_unit = \"\"") ∷ price_with 9 (codes "list = \"\"") ∷ price_with 10
+    (codes "contracted = \"\"") ∷ []
     ≡ map tells_bad (keys.Sku ∷ keys.PriceId ∷ keys.From ∷ keys.Description ∷ keys.Service ∷ keys.Category ∷ keys.ConsumedUnit ∷ keys.PricingUnit ∷ keys.List ∷ keys.Contracted ∷ [])
 unfolding parse_document lines line expression skip_bom skip_from skip_ws key_equals key_after simple_key val atom quoted one_line body special define along_header along_dots at_key unquoted word_len word_value number underscore_fits plain_number decimal_number scan_numeral key_name value_under text_under label_under day_under price_under per_under service_category_under price_row_in days_from_civil day_count days_of_years days_of_months worth_of
 each_empty_text = refl

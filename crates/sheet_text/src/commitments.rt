@@ -41,7 +41,8 @@ impl Model for Commitment {
 }
 
 impl Commitment {
-    /// Reads a row of commitments, key by key.
+    /// Reads a row of commitments. An error is the first key's fault, in the order of the keys, or an allocation
+    /// failure.
     #[tactic(auto, unfolding(crate::specs::RowReading::commitment_in))]
     pub fn read(alloc: Global, table: &Table) -> Result<Commitment, KeyFault>
         ensures { Gives (λ row. row) result (commitment_in (table_view table.now)) }
@@ -62,7 +63,7 @@ impl Commitment {
         })
     }
 
-    /// What readings name it by.
+    /// The id, by which readings name it.
     pub fn id(&self) -> &str
         ensures { result.now ≡ self.now.id }
     {
@@ -97,7 +98,7 @@ impl Commitment {
         self.kind.as_str()
     }
 
-    /// The price of a priced unit under it.
+    /// The price of a priced unit under it, in millionths of the currency.
     pub fn rate(&self) -> Price
         ensures { result ≡ self.now.rate }
     {

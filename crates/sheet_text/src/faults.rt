@@ -34,7 +34,7 @@ pub enum SheetFault {
     /// S5: no price has the SKU that a commitment is on, or the one that it is bought as.
     #[error("S5 {0} {1}")]
     UnknownSku(Place, Key),
-    /// S6: no room could be made for what is read.
+    /// S6: out of memory: an allocation for what is read failed.
     #[error("S6")]
     OutOfMemory,
 }
@@ -51,7 +51,7 @@ pub enum IssuerFault {
     /// I3: a value is no string, or has another form than its key wants.
     #[error("I3 {0}")]
     BadValue(Key),
-    /// I4: no room could be made for what is read.
+    /// I4: out of memory: an allocation for what is read failed.
     #[error("I4")]
     OutOfMemory,
 }

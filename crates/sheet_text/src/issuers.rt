@@ -45,12 +45,12 @@ impl Model for Issuer {
 }
 
 impl Issuer {
-    /// Reads an issuer from TOML, or tells the text's first fault. The table that `toml` makes of the
-    /// text and the texts that are kept take memory.
+    /// Reads an issuer from TOML. An error is the text's first fault, or OutOfMemory.
     #[tactic(auto, unfolding(crate::specs::IssuerReading::issuer_of_text))]
     pub fn read(alloc: Global, text: &str) -> Result<Issuer, IssuerFault>
         ensures taken { IfOk result (λ issuer. issuer_of_text text.now ≡ Ok issuer) }
-        ensures refused { IfErr result (λ fault. fault ≢ IssuerFault.OutOfMemory → issuer_of_text text.now ≡ Err fault) }
+        ensures refused { IfErr result
+            (λ fault. fault ≢ IssuerFault.OutOfMemory → issuer_of_text text.now ≡ Err fault) }
         ensures rules { IfOk result IsIssuer }
     {
         let table = match toml::table_from_str(alloc, text) {
@@ -91,7 +91,7 @@ impl Issuer {
         })
     }
 
-    /// A sample: the issuer of the worked examples.
+    /// The issuer of the worked examples. An error is an allocation failure.
     pub fn sample(alloc: Global) -> Result<Issuer, AllocError>
         ensures { IfOk result (λ issuer. issuer ≡ sample_issuer) }
     {

@@ -60,10 +60,7 @@ pub(crate) fn text_under<'a>(table: &'a Table, key: Key) -> Result<&'a str, KeyF
     ensures want { IfErr result (λ fault. fault ≢ KeyFault.OutOfMemory) }
 {
     let value = value_under(table, key)?;
-    match value.as_str() {
-        Some(text) => Ok(text),
-        None => Err(KeyFault::BadValue(key)),
-    }
+    value.as_str().ok_or(KeyFault::BadValue(key))
 }
 
 /// Whether no byte of it is a control character of ASCII.
@@ -104,13 +101,10 @@ pub(crate) fn day_under(table: &Table, key: Key) -> Result<Day, KeyFault>
     ensures { Gives (λ d. d) result (day_under key (table_view table.now)) }
 {
     let text = text_under(table, key)?;
-    match Day::read(text.as_bytes()) {
-        Some(day) => Ok(day),
-        None => Err(KeyFault::BadValue(key)),
-    }
+    Day::read(text.as_bytes()).ok_or(KeyFault::BadValue(key))
 }
 
-/// The base month under a key. No memory is taken, and want of it is never told.
+/// The base month under a key, from 2000-01 to 2100-12, or what is wrong there. Never OutOfMemory.
 #[tactic(auto, unfolding(crate::specs::Keys::base_under))]
 pub fn base_under(table: &Table, key: Key) -> Result<Month, KeyFault>
     ensures gives { Gives (λ m. m) result (base_under key (table_view table.now)) }
@@ -177,10 +171,7 @@ pub(crate) fn service_category_under(table: &Table, key: Key) -> Result<ServiceC
     ensures { Gives (λ c. c) result (service_category_under key (table_view table.now)) }
 {
     let text = text_under(table, key)?;
-    match service_category_in(text.as_bytes()) {
-        Some(category) => Ok(category),
-        None => Err(KeyFault::BadValue(key)),
-    }
+    service_category_in(text.as_bytes()).ok_or(KeyFault::BadValue(key))
 }
 
 /// The category of which it is the text.
@@ -205,10 +196,7 @@ pub(crate) fn commitment_category_under(
     ensures { Gives (λ c. c) result (commitment_category_under key (table_view table.now)) }
 {
     let text = text_under(table, key)?;
-    match commitment_category_in(text.as_bytes()) {
-        Some(category) => Ok(category),
-        None => Err(KeyFault::BadValue(key)),
-    }
+    commitment_category_in(text.as_bytes()).ok_or(KeyFault::BadValue(key))
 }
 
 /// The tables of an array that has nothing but tables.
@@ -245,7 +233,8 @@ fn rows_in<'a>(alloc: Global, key: Key, value: &'a Value) -> Result<Vec<&'a Tabl
     Ok(tables)
 }
 
-/// The rows under a key, in order; none where the key is not there.
+/// The rows under a key, in order, at most 10,000; none where the key is absent. An error is what is wrong under the
+/// key, or OutOfMemory.
 #[tactic(auto, unfolding(crate::specs::Keys::rows_under))]
 pub fn rows_under<'a>(alloc: Global, table: &'a Table, key: Key) -> Result<Vec<&'a Table>, KeyFault>
     ensures gives { Gives (λ rows. map (λ t. table_view t.now) rows.items) result

@@ -57,7 +57,7 @@ impl Model for PriceRow {
 }
 
 impl PriceRow {
-    /// Reads a row of prices, key by key.
+    /// Reads a row of prices. An error is the first key's fault, in the order of the keys, or an allocation failure.
     #[tactic(auto, unfolding(crate::specs::RowReading::price_row_in))]
     pub fn read(alloc: Global, table: &Table) -> Result<PriceRow, KeyFault>
         ensures { Gives (λ row. row) result (price_row_in (table_view table.now)) }
@@ -152,14 +152,14 @@ impl PriceRow {
         self.per
     }
 
-    /// The price of a priced unit on the list.
+    /// The price of a priced unit on the list, in millionths of the currency.
     pub fn list(&self) -> Price
         ensures { result ≡ self.now.list }
     {
         self.list
     }
 
-    /// The price of a priced unit by contract.
+    /// The price of a priced unit by contract, in millionths of the currency.
     pub fn contracted(&self) -> Price
         ensures { result ≡ self.now.contracted }
     {

@@ -31,7 +31,7 @@ impl Model for Region {
 }
 
 impl Region {
-    /// Reads a row of regions, key by key.
+    /// Reads a row of regions. An error is the first key's fault, in the order of the keys, or an allocation failure.
     #[tactic(auto, unfolding(crate::specs::RowReading::region_in))]
     pub fn read(alloc: Global, table: &Table) -> Result<Region, KeyFault>
         ensures { Gives (λ row. row) result (region_in (table_view table.now)) }
@@ -41,7 +41,7 @@ impl Region {
         Ok(Region { id, name })
     }
 
-    /// What readings name it by.
+    /// The id, by which readings name it.
     pub fn id(&self) -> &str
         ensures { result.now ≡ self.now.id }
     {

@@ -6,10 +6,10 @@ use thiserror::Error;
 /// Why no report of a run was written.
 #[derive(Clone, Copy, Debug, Drop, Error)]
 pub enum ThreadsFault {
-    /// There was no memory or no thread, in the run (N1) or beside it.
+    /// An allocation failed or a thread could not be started, in the run (N1) or beside it.
     #[error("out of memory")]
     OutOfMemory,
-    /// The run came to a mismatch (N2).
+    /// The receipts of the run do not agree (N2).
     #[error("mismatch")]
     Mismatch,
     /// A call of the writer failed.
@@ -20,7 +20,7 @@ pub enum ThreadsFault {
     Refused,
 }
 
-/// A run that hands nothing back is told as such.
+/// A fault of a run is passed on as such.
 impl From<RunFault> for ThreadsFault {
     ghost use Rattle.std.specs.Prelude.{◌≡◌};
     ghost use Rattle.threads_player.specs.Faults.{of_run};

@@ -71,7 +71,9 @@ fn journal(alloc: Global, size: Size, agent: u8) -> Result<Vec<Vec<u8>>, AllocEr
 
 /// The texts of each agent's batches.
 pub(crate) fn journals(alloc: Global, size: Size) -> Result<Vec<Vec<Vec<u8>>>, AllocError>
-    ensures texts { IfOk result (λ journals. map (λ texts. map (λ text. text.items) texts.items) journals.items ≡ journals_of size) }
+    ensures texts { IfOk result
+        (λ journals. map (λ texts. map (λ text. text.items) texts.items) journals.items
+        ≡ journals_of size) }
     ensures count { IfOk result (λ journals. vec_len journals ≡ size.agents) }
 {
     let mut journals = Vec::with_capacity(alloc, usize::from(size.agents))?;

@@ -99,7 +99,8 @@ fn put_periods(text: &mut Vec<u8>, logs: &[Log], periods: u16) -> Result<(), All
 /// Appends how many entries and receipts there are.
 fn put_totals(text: &mut Vec<u8>, entries: u128, receipts: u128) -> Result<(), AllocError>
     ensures { OnOk result (text.new.items
-        ≡ text.old.items ++ line (with_number (codes "entries ") entries ++ with_number (codes " receipts ") receipts)) }
+        ≡ text.old.items ++ line (with_number (codes "entries ") entries
+        ++ with_number (codes " receipts ") receipts)) }
 {
     put_numbered(text, b"entries ", entries)?;
     put_numbered(text, b" receipts ", receipts)?;

@@ -34,10 +34,10 @@ fn run_of<R: Threads + Wait + Sync>(rt: &R, alloc: Global, size: Size) -> Result
     }
 }
 
-/// Runs a group of that size, with the sample sheet and the sample issuer, and writes what came of each period: how many lines
-/// its file has, and how many nodes wrote one; and last how many entries the history has, and how many receipts the workers.
-///
-/// The report is rendered whole before the first byte of it goes out, so after any fault but `Write` nothing was written.
+/// Runs a group of that size, with the sample sheet and the sample issuer, and writes its report: for each period how
+/// many lines its file has and how many nodes wrote one, and last how many entries the history has and how many
+/// receipts the workers. After `Write`, one failed call, a proper prefix of it was written, and after any other fault
+/// nothing.
 pub fn threads_text<R: Threads + Wait + Sync, W: Sink>(
     rt: &R,
     alloc: Global,

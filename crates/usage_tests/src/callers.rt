@@ -1,4 +1,5 @@
-//! What a caller writes: the functions that stand word for word in the READMEs of `price_sheet`, `batch_store` and `focus_csv`.
+//! What a caller writes: the functions that stand word for word in the READMEs of `price_sheet`, `batch_store` and
+//! `focus_csv`.
 
 use crate::files::{Charged, worked_store};
 use batch_store::{Cut, Period, Store};
@@ -154,7 +155,7 @@ fn what_is_missing_and_what_is_due_is_asked_for(rt: HostRuntime) {
     assert!(rt; are_due(alloc, &[READ, b"B1|3|1|0\n"], 0, None));
 }
 
-/// Whether the file has the worked line alone behind its header line.
+/// Whether the file has the worked line alone after its header line.
 fn is_worked(file: Result<Option<Vec<u8>>, CsvFault>) -> bool {
     match file {
         Ok(Some(file)) => file.strip_prefix(HEADER) == Some(LINE),

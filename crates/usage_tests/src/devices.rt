@@ -31,7 +31,7 @@ fn a_device_is_called_no_more_often_than_it_takes(rt: HostRuntime) -> Result<(),
     Ok(())
 }
 
-/// What a device gives behind its end, or behind a failed call, is the next input.
+/// What a device gives after its end, or after a failed call, is the next input.
 #[test]
 fn an_input_is_read_up_to_its_end_or_the_limit(rt: HostRuntime) -> Result<(), Fail> {
     for (device, first, second, calls, failed) in [

@@ -59,8 +59,8 @@ fn cuts_of(alloc: Global, from: u32, to: u32) -> Option<(Cut, Cut)> {
 }
 
 impl Charged {
-    /// What the sample's issuer charges in a period by the prices of this text, from one cut of one agent to another. None
-    /// where memory runs out, or there is no such sheet or period.
+    /// What the sample's issuer charges in a period by the prices of this text, from one cut of one agent to another.
+    /// None where memory runs out, or there is no such sheet or period.
     pub(crate) fn new(
         alloc: Global,
         store: Store,
@@ -115,7 +115,7 @@ fn texts_again(alloc: Global, rows: &[FocusRow<'_>]) -> Result<Vec<u8>, CsvFault
     }
 }
 
-/// Whether a sink that takes nothing is told as such, or want of memory before any call of it.
+/// Whether a sink that takes nothing is told as such, or an allocation failure before any call of it.
 fn is_told(alloc: Global, rows: &[FocusRow<'_>]) -> bool {
     let mut sink = Counted::new(FakeWriter::new(Vec::new(alloc)).full_from(1));
     match write_file(alloc, rows, &mut sink) {
@@ -125,7 +125,7 @@ fn is_told(alloc: Global, rows: &[FocusRow<'_>]) -> bool {
     }
 }
 
-/// Whether a sink that takes a byte a call, and fails behind these bytes of the file, is given just them; behind all of
+/// Whether a sink that takes a byte a call, and fails after these bytes of the file, is given just them; after all of
 /// them it is not called again.
 fn is_prefix(alloc: Global, rows: &[FocusRow<'_>], prefix: &[u8], is_whole: bool) -> bool {
     let device = FakeWriter::new(Vec::new(alloc)).byte_by_byte();
@@ -138,7 +138,7 @@ fn is_prefix(alloc: Global, rows: &[FocusRow<'_>], prefix: &[u8], is_whole: bool
         && failed == if is_whole { 0 } else { 1 }
 }
 
-/// The first count of bytes such that a sink which fails behind them has been given others.
+/// The first count of bytes such that a sink which fails after them has been given others.
 fn first_other_prefix(alloc: Global, rows: &[FocusRow<'_>]) -> Result<Option<usize>, AllocError> {
     let mut file = HEADER.to_vec(alloc)?;
     file.extend_from_slice(CORRECTION)?;

@@ -19,7 +19,7 @@ const AMENDS_B1: &[u8] = b"B2|1|3|1\nX|1|0|7200\n";
 
 const AMENDS_EU: &[u8] = b"B1|1|4|1\nX|2|0|7200\n";
 
-/// What stands behind the worked sheet.
+/// What stands after the worked sheet.
 const REGION: &str = "[[region]]\nid = \"eu-1\"\nname = \"Europe 1\"\n";
 
 /// What January is charged: the usage of format B1, and that of the three regions.
@@ -62,13 +62,13 @@ fn store_of(alloc: Global, batches: &[&[u8]]) -> Option<Store> {
     Some(store)
 }
 
-/// What is charged in a period, between two cuts, of usage in both formats and amendments behind it, by this sheet.
+/// What is charged in a period, between two cuts, of usage in both formats and amendments after it, by this sheet.
 fn charged_by(alloc: Global, sheet: &str, period: u16, cuts: (u32, u32)) -> Option<Charged> {
     let store = store_of(alloc, &[READ, IN_THREE, AMENDS_B1, AMENDS_EU])?;
     Charged::new(alloc, store, sheet, period, cuts)
 }
 
-/// Whether the file of the rows is these lines behind the header line.
+/// Whether the file of the rows is these lines after the header line.
 fn has_lines(alloc: Global, rows: &[FocusRow<'_>], lines: &[u8]) -> bool {
     let mut sink = Counted::new(Vec::new(alloc));
     match write_file(alloc, rows, &mut sink) {

@@ -5,8 +5,8 @@ use std::alloc::Global;
 use std::test::Fail;
 use worked_texts::ISSUER;
 
-/// Prices of two units, one of them from two days, what a plan commits to, and the name of a region. A row's keys stand in any
-/// order.
+/// Prices of two units, one of them from two days, what a plan commits to, and the name of a region. A row's keys stand
+/// in any order.
 const PLANS: &str = r#"base = "2025-01"
 [[price]]
 service = "Sample Storage"
@@ -56,7 +56,7 @@ name = "Europe 1"
 id = "eu-1"
 "#;
 
-/// Whether the sheet is read, or want of memory is told.
+/// Whether the sheet is read, or an allocation failure is reported.
 fn is_sheet(alloc: Global) -> bool {
     match Sheet::read(alloc, PLANS) {
         Ok(sheet) => {
@@ -67,7 +67,7 @@ fn is_sheet(alloc: Global) -> bool {
     }
 }
 
-/// Whether the sample issuer is read, or want of memory is told.
+/// Whether the sample issuer is read, or an allocation failure is reported.
 fn is_sample(alloc: Global, sample: &Issuer) -> bool {
     match Issuer::read(alloc, ISSUER) {
         Ok(issuer) => issuer.same(sample),

@@ -11,7 +11,7 @@ use worked_texts::{AMENDED, READ};
 /// Two amendments in turn, of which the last gives back the value that was read.
 const AMENDED_TWICE: &[u8] = b"B1|1|3|2\nX|1|0|3600\nX|1|0|5400\n";
 
-/// Amendments behind a gap, so many that the list of what they and the others name grows twice.
+/// Amendments after a gap, so many that the list of what they and the others name grows twice.
 const AHEAD: &[u8] = b"B1|1|5|3\nX|1|0|7200\nX|1|0|3600\nX|1|0|5400\n";
 
 /// What comes of these bytes.
@@ -142,8 +142,8 @@ fn cuts_again(alloc: Global) -> Option<Cuts> {
     })
 }
 
-/// Whether a part is shared up to a cut that has the batch of one sequence and lacks that of another first, asked for again where
-/// the first call finds no memory.
+/// Whether a part is shared up to a cut that has the batch of one sequence and lacks that of another first, asked for
+/// again where the first call finds no memory.
 fn shares_again(store: &Store, alloc: Global, cut: &Cut, there: u32, absent: u32) -> bool {
     if store.agents() != 1 || cut.agents() != 1 {
         return false;
@@ -258,8 +258,8 @@ fn shares_up_to_again(store: &Store, alloc: Global, last: u32) -> bool {
     }
 }
 
-/// Batches are held in parts of 64, so that the last of a part asks for more memory than the others, and a share may end
-/// before, at and behind the end of one.
+/// Batches are held in parts of 64, so that the last of a part asks for more memory than the others, and a share may
+/// end before, at and after the end of one.
 #[test]
 fn a_refused_growth_of_a_long_store_changes_nothing(rt: HostRuntime) -> Result<(), Fail> {
     let alloc = rt.alloc();

@@ -5,6 +5,7 @@ ghost use Rattle.std.specs.Option.{option_zip};
 ghost use Rattle.jiff_core.specs.Calendar.{days_from_civil};
 ghost use Rattle.jiff_core.specs.Date.{epoch_day};
 ghost use Rattle.metering_model.specs.Dates.{month_in, day_of_month, day_in, second_in, has_stamp_form, stamp_of, stamp_in, day_of};
+ghost use Rattle.metering_model.specs.Limits.{last_year};
 ghost use Rattle.utc_calendar.specs.Years.{IsMonthNumber, IsDayNumber, IsStampNumber};
 
 use crate::digits;
@@ -14,7 +15,7 @@ use std::marker::Model;
 // UTC is counted without leap seconds.
 const SECONDS_PER_DAY: i64 = 86_400;
 
-/// A day of UTC.
+/// A day of UTC, in the years 0001 to 9999.
 #[derive(Clone, Copy, Debug, PartialEq, Eq, PartialOrd, Ord)]
 pub struct Day {
     number: i32,
@@ -56,10 +57,10 @@ impl Day {
         }
     }
 
-    /// The first day of a month, which is numbered from 1.
+    /// The first day of a month: the year from 1 to 9999, the month from 1 to 12.
     pub fn first_of_month(year: u16, month: u8) -> Day
         requires year_from { 1 ≤ year }
-        requires year_to { year ≤ 9999 }
+        requires year_to { year ≤ last_year }
         requires month_from { 1 ≤ month }
         requires month_to { month ≤ 12 }
         ensures { result ≡ days_from_civil (pos year) month 1 }
@@ -96,7 +97,7 @@ impl Day {
         self.number
     }
 
-    /// The day's first moment.
+    /// The first moment of the day.
     pub fn start(self) -> Stamp
         ensures { result ≡ self *ℤ pos 86_400 }
     {
@@ -106,7 +107,7 @@ impl Day {
     }
 }
 
-/// A moment of UTC, to the second.
+/// A moment of UTC, to the second, in the years 0001 to 9999.
 #[derive(Clone, Copy, Debug, PartialEq, Eq, PartialOrd, Ord)]
 pub struct Stamp {
     seconds: i64,
@@ -132,8 +133,7 @@ impl Stamp {
         Stamp::on_day(Day::read(date)?, time)
     }
 
-    /// Reads two stamps, each as `read` does; `None` where either is none. The day of both is found once, where it is
-    /// the same.
+    /// Reads two stamps, each as `read` does; `None` where either is none.
     pub fn read_both(first: &[u8], second: &[u8]) -> Option<(Stamp, Stamp)>
         ensures { result ≡ option_zip (stamp_in first.now) (stamp_in second.now) }
     {
@@ -196,7 +196,8 @@ pub fn month_number(text: &[u8]) -> Option<u32>
 #[inline(always)]
 fn date_and_time(text: &[u8]) -> Option<(&[u8], &[u8])>
     ensures { MatchOption result (has_stamp_form text.now ≡ false) (λ parts.
-        (has_stamp_form text.now ≡ true) × (parts.0.now ≡ take 10 text.now) × (parts.1.now ≡ slice_range text.now 11 19)) }
+        (has_stamp_form text.now ≡ true) × (parts.0.now ≡ take 10 text.now)
+        × (parts.1.now ≡ slice_range text.now 11 19)) }
 {
     if text.len() != 20 || text[10] != b'T' || text[19] != b'Z' {
         return None;

@@ -4,8 +4,8 @@ ghost use Rattle.std.specs.Prelude.{◌≡◌, ◌^◌, ◌<◌, ◌≤◌, ◌�
 ghost use Rattle.std.specs.List.{list_all};
 ghost use Rattle.metering_model.specs.NumberText.{is_digit, number_of};
 
-/// The number that up to four digits write, leading zeros among them; `None` where a byte is no
-/// digit. No digits write 0.
+/// The number that up to four digits write, leading zeros among them; `None` where a byte is no digit. An empty text is
+/// 0.
 pub fn number(digits: &[u8]) -> Option<u16>
     requires { length digits.now ≤ 4 }
     ensures valid { IsSome result ↔ IsTrue (list_all is_digit digits.now) }

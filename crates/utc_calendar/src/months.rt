@@ -1,6 +1,7 @@
 //! Calendar months.
 ghost use Rattle.std.specs.Prelude.{◌≡◌, ℕ, ◌+◌, ◌-◌, ◌*◌, ◌<◌, ◌≤◌, ◌↔◌, IsTrue};
 ghost use Rattle.metering_model.specs.Dates.{month_in, month_start, month_start_text, two_digits, IsBaseMonth};
+ghost use Rattle.metering_model.specs.Limits.{last_year};
 ghost use Rattle.utc_calendar.specs.Years.{IsMonthNumber};
 
 use crate::dates::{Day, Stamp, month_number};
@@ -30,10 +31,10 @@ impl Model for Month {
 }
 
 impl Month {
-    /// A month of a year; both are numbered from 1.
+    /// A month of a year: the year from 1 to 9999, the month from 1 to 12.
     pub fn of(year: u16, month: u8) -> Month
         requires year_from { 1 ≤ year }
-        requires year_to { year ≤ 9999 }
+        requires year_to { year ≤ last_year }
         requires month_from { 1 ≤ month }
         requires month_to { month ≤ 12 }
         ensures { result ≡ 12 * year + month - 1 }
@@ -51,7 +52,7 @@ impl Month {
         Some(Month { number })
     }
 
-    /// Whether a sheet may have it as its base month: it lies from 2000-01 to 2100-12.
+    /// Whether it may be a sheet's base month: it lies from 2000-01 to 2100-12.
     pub fn is_base(self) -> bool
         ensures { IsTrue result ↔ IsBaseMonth self }
     {
@@ -66,7 +67,7 @@ impl Month {
         self.number
     }
 
-    /// The month so many months later, at most the last of the year 9999.
+    /// The month that many months later, which has to be one of the years up to 9999.
     pub fn after(self, months: u16) -> Month
         requires { self + months < 120_000 }
         ensures { result ≡ self + months }

@@ -30,7 +30,7 @@ currency = "USD"
 other_service = "Billing"
 "#;
 
-/// Both as sections, as they stand behind the head of a schedule, or where an input of `rate` begins.
+/// Both as sections, as they stand after the head of a schedule, or where an input of `rate` begins.
 pub const SECTIONS: &[u8] =
     b"sheet 13\nbase = \"2025-01\"\n[[price]]\nsku = \"cpu\"\nprice_id = \"cpu-od\"\n\
 from = \"2025-01-01\"\ndescription = \"Virtual CPU time\"\nservice = \"Sample Compute\"\n\

@@ -2,6 +2,7 @@
 use Rattle.std.specs.Prelude.{◌≡◌, ℕ, ◌+◌, ◌≤◌, ◌==◌, List, length, take, Some, Ok}
 use Rattle.std.specs.List.{position}
 use Rattle.metering_model.specs.BatchReading.{fields_in, head_in}
+use Rattle.metering_model.specs.Limits.{most_batch_bytes}
 use Rattle.batch_view.specs.Extents.{extent_in}
 use Rattle.batch_view.specs.Inner.Lines.{head_line, BeginsWithHead}
 use Rattle.batch_view.specs.declared.head.Head.{Head}
@@ -17,5 +18,5 @@ pub record IsHeadFirst (text : List ℕ) (h : Head) : Type 0 where
 pub record IsFirstBatch (text : List ℕ) (h : Head) (n : ℕ) : Type 0 where
   pub extent : extent_in text ≡ Some n
   pub within : n ≤ length text
-  pub short : n ≤ 65_536
+  pub short : n ≤ most_batch_bytes
   pub head : BeginsWithHead (take n text) h

@@ -5,6 +5,7 @@ use Rattle.metering_model.specs.declared.Version.{Version}
 use Rattle.metering_model.specs.declared.BatchCode.{BatchCode}
 use Rattle.metering_model.specs.declared.BatchCode.TheVariants.{Count}
 use Rattle.metering_model.specs.BatchReading.{HeadLine, Lines, lines_in, with_line, fields_in, record_in, head_in, batch_in}
+use Rattle.metering_model.specs.Limits.{most_batch_bytes}
 use Rattle.record_view.specs.Lent.{record_of, IsLentRecord}
 use Rattle.batch_view.specs.Batches.{batch_of, line_spans}
 use Rattle.record_view.specs.declared.fields.Span.{Span}
@@ -58,7 +59,7 @@ pub record BeginsWithHead (text : List ℕ) (h : Head) : Type 0 where
 
 -- The bytes are a batch, and these are the format and the numbers of its head.
 pub record IsHeadOf (bytes : List ℕ) (h : Head) : Type 0 where
-  pub short : length bytes ≤ 65_536
+  pub short : length bytes ≤ most_batch_bytes
   pub batch : batch_in bytes ≡ Ok (batch_of bytes)
   pub version : h.version ≡ (batch_of bytes).version
   pub agent : h.agent ≡ (batch_of bytes).agent

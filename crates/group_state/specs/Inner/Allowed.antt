@@ -10,13 +10,14 @@ use Rattle.metering_model.specs.Sheet.{Sheet}
 use Rattle.metering_model.specs.World.{World, Node, Packet, CarriesBatch, Reply, Journaled, Delivered, current_period, voter_count, with_packet}
 use Rattle.metering_model.specs.Deliveries.{handled}
 use Rattle.metering_model.specs.Step.{cut_before, first_missing, on_batch}
+use Rattle.metering_model.specs.Limits.{most_packets, most_periods, most_rounds}
 use Rattle.group_node.specs.Nodes.{NodeAmong}
 use Rattle.group_node.specs.Handling.{Does}
 
 -- The batch is of an agent of the world, and is journaled.
 pub record MayJournal (w : World) (b : Batch) : Type 0 where
   pub agent : b.agent ≤ w.agents
-  pub room : length w.packets < 1_000_000
+  pub room : length w.packets < most_packets
   pub outcome : on_batch w b ≡ Ok (Journaled (length w.packets), with_packet (CarriesBatch b) (record w { journals = put w.journals b }))
 
 -- Packet and node are there, and where the node sends something there is room for it.
@@ -24,7 +25,7 @@ pub record MayDeliver (w : World) (k i : ℕ) : Type 0 where
   pub packet : k < length w.packets
   pub node : i < length w.nodes
   pub room : (n : Node) (q : Packet) → slice_get w.nodes i ≡ Some n → slice_get w.packets k ≡ Some q →
-      is_some (handled w i n q).sends ≡ true → length w.packets < 1_000_000
+      is_some (handled w i n q).sends ≡ true → length w.packets < most_packets
 
 -- A node took packet k, and what it sends stands behind the packets that were there.
 pub record HandsOver (base i k : ℕ) (before after : List Packet) (old new : NodeAmong) (reply : Reply) : Type 0 where
@@ -40,8 +41,8 @@ pub record HandsOver (base i k : ℕ) (before after : List Packet) (old new : No
 pub record MayBegin (w : World) (i period : ℕ) : Type 0 where
   pub node : i < length w.nodes
   pub votes : i < voter_count w
-  pub works : (n : Node) → slice_get w.nodes i ≡ Some n → (current_period n ≡ period) × (period < 1_200) × (n.kept.round < 10_000)
-  pub room : length w.packets < 1_000_000
+  pub works : (n : Node) → slice_get w.nodes i ≡ Some n → (current_period n ≡ period) × (period < most_periods) × (n.kept.round < most_rounds)
+  pub room : length w.packets < most_packets
 
 -- The node has the journals' batches up to the cut that it learned for the period, and none of them is missing.
 pub record MayTake (sheet : Sheet) (agents period : ℕ) (to : Cut) (n : NodeAmong) : Type 0 where

@@ -3,6 +3,7 @@ use Rattle.std.specs.Prelude.{◌≡◌, ℕ, ◌+◌, ◌≤◌, List, [], ◌�
 use Rattle.metering_model.specs.Ballot.{ballot_of}
 use Rattle.metering_model.specs.World.{Packet, Prepare, Reply, Started}
 use Rattle.metering_model.specs.Step.{started_node}
+use Rattle.metering_model.specs.Limits.{most_nodes}
 use Rattle.group_node.specs.Nodes.{NodeAmong}
 
 -- a node of a group with so many voters and agents
@@ -12,7 +13,7 @@ pub record IsMember (voters agents : ℕ) (n : NodeAmong) : Type 0 where
 
 -- The nodes are at most 99, one at least votes, and each knows how many do, and has room for the batches of just these agents.
 pub record AreMembers (voters agents : ℕ) (nodes : List NodeAmong) : Type 0 where
-  pub few : length nodes ≤ 99
+  pub few : length nodes ≤ most_nodes
   pub one_votes : 1 ≤ voters
   pub are_nodes : voters ≤ length nodes
   pub each : All (IsMember voters agents) nodes

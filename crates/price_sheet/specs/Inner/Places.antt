@@ -3,7 +3,7 @@ use Rattle.std.specs.Prelude.{◌≡◌, ⊤, ℕ, true, ◌&&◌, if◌then◌e
 use Rattle.std.specs.Map.{lookup}
 use Rattle.std.specs.Str.{bytes_eq}
 use Rattle.metering_model.specs.BatchReading.{is_same}
-use Rattle.metering_model.specs.Sheet.{PriceRow, Commitment, Region}
+use Rattle.metering_model.specs.Sheet.{PriceRow}
 use Rattle.metering_model.specs.PriceInForce.{latest}
 use Rattle.price_sheet.specs.SheetReading.{prices_sku}
 use Rattle.price_sheet.specs.declared.price_in_force.Start.{Start}
@@ -49,10 +49,3 @@ StandsAt rows (Some place) (Some row) = slice_get rows place ≡ Some row
 -- the entries have the place of each row's id
 abbrev pub IndexesBy : {A Z : Type 0} → (A → List ℕ) → List A → List (Vec ℕ Z × ℕ) → Type 0
 IndexesBy id rows entries = (text : List ℕ) → StandsAt rows (found_at text entries) (find (λ x. is_same (id x) text) rows)
-
--- the entries have the place of each id
-abbrev pub IndexesIds : {Z : Type 0} → List Commitment → List (Vec ℕ Z × ℕ) → Type 0
-IndexesIds rows entries = IndexesBy (λ c. c.id) rows entries
-
-abbrev pub IndexesRegions : {Z : Type 0} → List Region → List (Vec ℕ Z × ℕ) → Type 0
-IndexesRegions rows entries = IndexesBy (λ x. x.id) rows entries

@@ -9,6 +9,7 @@ use Rattle.metering_model.specs.declared.BatchCode.{BatchCode}
 use Rattle.metering_model.specs.declared.BatchCode.TheVariants.{Fields, Time, Number, Text, Tags}
 use Rattle.metering_model.specs.Batch.{Tag, Record, Reads, Amends, is_priced, is_text, is_empty}
 use Rattle.metering_model.specs.BatchReading.{kind_in, whole_in, tags_in}
+use Rattle.metering_model.specs.Limits.{last_index, last_sequence}
 
 unfoldable pub kind_step : List ℕ → Result Kind BatchCode
 kind_step t = ok_or (kind_in t) Fields
@@ -72,7 +73,7 @@ reading_in letter start end account resource key value commitment tags = do
 -- the record of an amendment's fields behind its letter
 unfoldable pub amendment_in : (seq index value : List ℕ) → Result Record BatchCode
 amendment_in seq index value = do
-  s ← whole_step 1 1_000_000 seq
-  i ← whole_step 0 999 index
+  s ← whole_step 1 last_sequence seq
+  i ← whole_step 0 last_index index
   v ← value_step value
   Ok (Amends s i v)

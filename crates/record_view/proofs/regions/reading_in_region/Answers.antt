@@ -18,11 +18,15 @@ returns-in-Ok-clause-ok c =
 
 pub returns-in-Ok-clause-places : goal.returns-in-Ok-clause-places
 returns-in-Ok-clause-places c =
-    region_places c.args.letter.now (lent c.in-Some.front) (lent c.args.rest) c.in-Some.region c.in-Ok.record (Ok c.in_region.result) c.requires.letter c.in-Some.ensures.parts c.in-Ok.ensures.ok c.in-Ok.ensures.places (text_met c.in-Some.region.text.now (sym c.is_text.ensures ∙ c.if-not-is_text.false), c.in_region.ensures)
+    region_places c.args.letter.now (lent c.in-Some.front) (lent c.args.rest) c.in-Some.region c.in-Ok.record
+    (Ok c.in_region.result) c.requires.letter c.in-Some.ensures.parts c.in-Ok.ensures.ok c.in-Ok.ensures.places
+    (text_met c.in-Some.region.text.now (sym c.is_text.ensures ∙ c.if-not-is_text.false), c.in_region.ensures)
 
 pub returns-in-Ok-clause-lent : goal.returns-in-Ok-clause-lent
 returns-in-Ok-clause-lent c =
-    region_lends c.args.letter.now (lent c.in-Some.front) (lent c.args.rest) c.in-Some.region c.in-Ok.record (Ok c.in_region.result) c.requires.letter c.in-Some.ensures.parts c.in-Some.ensures.adjoin c.in-Ok.ensures.ok c.in-Ok.ensures.lent (text_met c.in-Some.region.text.now (sym c.is_text.ensures ∙ c.if-not-is_text.false), c.in_region.ensures)
+    region_lends c.args.letter.now (lent c.in-Some.front) (lent c.args.rest) c.in-Some.region c.in-Ok.record
+    (Ok c.in_region.result) c.requires.letter c.in-Some.ensures.parts c.in-Some.ensures.adjoin c.in-Ok.ensures.ok c.in-Ok.ensures.lent
+    (text_met c.in-Some.region.text.now (sym c.is_text.ensures ∙ c.if-not-is_text.false), c.in_region.ensures)
 
 pub returns-in-Err-clause-err : goal.returns-in-Err-clause-err
 returns-in-Err-clause-err c =

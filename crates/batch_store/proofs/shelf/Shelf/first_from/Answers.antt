@@ -9,14 +9,16 @@ use Rattle.batch_store.proofs.shelf.Shelf.first_from.Goals as goal
 pub returns-then-first-len : goal.returns-then-first-len
 returns-then-first-len c =
     let first = first_whole c.self.inside.whole c.self.inside.ahead.entries c.args.self.now c.max-first.result c.self.view_is c.self.invariant c.at.result.now (omega arith) (omega arith) c.at.ensures in
-    subst (λ b. from_seq c.args.seq c.args.self.now ≡ batch_of b ∷ from_seq ((batch_of b).seq + 1) c.args.self.now) (sym c.deref.ensures) (sym (from_least c.self.inside.whole c.self.inside.ahead.entries c.args.self.now c.args.seq c.max-first.result c.self.view_is c.self.invariant c.max-first.ensures) ∙ first)
+    subst (λ b. from_seq c.args.seq c.args.self.now ≡ batch_of b ∷ from_seq ((batch_of b).seq + 1) c.args.self.now) (sym c.deref.ensures)
+    (sym (from_least c.self.inside.whole c.self.inside.ahead.entries c.args.self.now c.args.seq c.max-first.result c.self.view_is c.self.invariant c.max-first.ensures) ∙ first)
 
 pub returns-in-Some : goal.returns-in-Some
 returns-in-Some c =
     let between : c.range-later.result ≡ filed_from c.max-first.result c.self.inside.ahead.entries = search rules in
     let first = rest_more deref_pair c.range-later.result c.next.new.self c.next.result (c.in-Some.field-0-0, c.in-Some.batch) c.in-Some.is c.next.ensures.steps in
     let later = first_later c.self.inside.whole c.self.inside.ahead.entries c.args.self.now c.max-first.result c.self.view_is c.self.invariant (c.in-Some.field-0-0.now, c.in-Some.batch.now) c.next.new.self (omega arith) (sym between ∙ first) in
-    subst (λ b. from_seq c.args.seq c.args.self.now ≡ batch_of b ∷ from_seq ((batch_of b).seq + 1) c.args.self.now) (sym c.deref-in-Some.ensures) (sym (from_least c.self.inside.whole c.self.inside.ahead.entries c.args.self.now c.args.seq c.max-first.result c.self.view_is c.self.invariant c.max-first.ensures) ∙ later)
+    subst (λ b. from_seq c.args.seq c.args.self.now ≡ batch_of b ∷ from_seq ((batch_of b).seq + 1) c.args.self.now) (sym c.deref-in-Some.ensures)
+    (sym (from_least c.self.inside.whole c.self.inside.ahead.entries c.args.self.now c.args.seq c.max-first.result c.self.view_is c.self.invariant c.max-first.ensures) ∙ later)
 
 pub returns-in-None : goal.returns-in-None
 returns-in-None c =

@@ -11,7 +11,9 @@ loop-seq-init c = Adds-first c.args.self.now.batches c.args.agent c.args.from c.
 
 pub loop-seq-preserved : goal.loop-seq-preserved
 loop-seq-preserved c = elim c.match-get.branch [
-  | in-Some+in_ok-add_named w ↦ Adds-held c.args.self.now.batches c.args.agent c.args.from c.loop-seq.seq (batch_of w.in-Some.batch.now) w.amendments.result.now c.args.places.now.items c.loop-seq.places.items c.match-get.places.items (omega arith) w.in-Some.ensures w.amendments.ensures c.loop-seq.invariant
+  | in-Some+in_ok-add_named w ↦ Adds-held c.args.self.now.batches c.args.agent c.args.from c.loop-seq.seq
+      (batch_of w.in-Some.batch.now) w.amendments.result.now c.args.places.now.items c.loop-seq.places.items c.match-get.places.items
+      (omega arith) w.in-Some.ensures w.amendments.ensures c.loop-seq.invariant
       (ap (λ v. v.items) w.places-is ∙ w.in_ok-add_named.ensures)
   | in_default w ↦
       let kept = Adds-absent c.args.self.now.batches c.args.agent c.args.from c.loop-seq.seq c.args.places.now.items c.loop-seq.places.items w.in_default.ensures c.loop-seq.invariant in

@@ -14,7 +14,8 @@ pub invariant_of-self : goal.invariant_of-self
 invariant_of-self c =
     let at : c.from.result ≡ (batch_of (arc_value c.args.batch)).agent = search rules in
     let low : 1 ≤ (batch_of (arc_value c.args.batch)).agent = omega (arith, at, c.agent-agent.ensures.range.0) in
-    is_store_after c.self.inside.shelves.items c.args.self.now (batch_of (arc_value c.args.batch)) c.from.result c.index_mut.result.now c.put.new.self c.self.view_is c.self.invariant low c.requires at c.index_mut.ensures.value c.put.result (well_read (arc_value c.args.batch) low) c.put.ensures.batches c.put.ensures.kept
+    is_store_after c.self.inside.shelves.items c.args.self.now
+    (batch_of (arc_value c.args.batch)) c.from.result c.index_mut.result.now c.put.new.self c.self.view_is c.self.invariant low c.requires at c.index_mut.ensures.value c.put.result (well_read (arc_value c.args.batch) low) c.put.ensures.batches c.put.ensures.kept
 
 pub returns-clause-added : goal.returns-clause-added
 returns-clause-added c =

@@ -39,4 +39,6 @@ returns-clause-there c =
 pub returns-clause-value : goal.returns-clause-value
 returns-clause-value c =
     value-where c.args.self.now.batches (position_of c.args.place) c.args.upto c.value_given.result None (omega arith)
-    (own-last c.args.self.now.batches (position_of c.args.place) c.args.upto (batch_of c.in_ok-own.own.now) c.last_amended-later.result c.value_given.result None c.agents-agents.ensures.stored.is_holding c.in_ok-own.ensures (sym c.is_reading.ensures ∙ c.if-not-is_reading.false) c.last_amended-later.ensures (sym c.is_some.ensures ∙ c.if-is_some.false) c.value_given.ensures)
+    (own-last c.args.self.now.batches (position_of c.args.place) c.args.upto
+    (batch_of c.in_ok-own.own.now) c.last_amended-later.result c.value_given.result None c.agents-agents.ensures.stored.is_holding c.in_ok-own.ensures
+    (sym c.is_reading.ensures ∙ c.if-not-is_reading.false) c.last_amended-later.ensures (sym c.is_some.ensures ∙ c.if-is_some.false) c.value_given.ensures)

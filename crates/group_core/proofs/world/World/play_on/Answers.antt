@@ -9,6 +9,8 @@ loop-event-preserved c =
     let n = c.loop-event.invariant.count in
     record {
       run = rw (c.push_reserved.ensures.items, c.in_ok-reserve.ensures.items, map-append)
-          (play_next event_of c.args.events.now c.loop-event.event-index c.event-item.result c.args.self.now c.loop-event.self c.step.new.self (map reply_of c.loop-event.replies.items) (reply_of c.in_ok-reply.reply) c.loop-event-test.true c.event-item.is c.loop-event.invariant.run c.in_ok-reply.ensures.ok);
+          (play_next event_of c.args.events.now c.loop-event.event-index c.event-item.result c.args.self.now c.loop-event.self c.step.new.self
+          (map reply_of c.loop-event.replies.items)
+          (reply_of c.in_ok-reply.reply) c.loop-event-test.true c.event-item.is c.loop-event.invariant.run c.in_ok-reply.ensures.ok);
       count = rw (c.push_reserved.ensures.items, c.in_ok-reserve.ensures.items, length-append) (omega (arith, n));
     }

@@ -26,4 +26,6 @@ returns-clause-ok c =
     let member = member_at _ _ c.args.node c.self.inside.nodes.items c.index_mut.result.now c.self.invariant.each low (rw (← c.from.ensures) c.index_mut.ensures.value) in
     let here = subst (λ (w : World). MayBegin w c.args.node c.in-Ok.period) (sym c.self.view_is) may in
     rw (← c.self.view_is)
-    (begun _ c.args.node c.from.result c.in-Ok.period c.self.inside.nodes.items (map packet_of c.begin.new.packets.items) c.index_mut.result.now c.begin.new.node (reply_of c.in_ok-reply.reply) refl member.votes c.from.ensures low (rw (← c.from.ensures) c.index_mut.ensures.value) here c.in_ok-reply.ensures.ok)
+    (begun _ c.args.node c.from.result c.in-Ok.period c.self.inside.nodes.items
+    (map packet_of c.begin.new.packets.items) c.index_mut.result.now c.begin.new.node (reply_of c.in_ok-reply.reply) refl member.votes c.from.ensures low
+    (rw (← c.from.ensures) c.index_mut.ensures.value) here c.in_ok-reply.ensures.ok)
