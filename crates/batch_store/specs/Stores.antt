@@ -4,6 +4,7 @@ use Rattle.std.specs.List.{filter_map, Contains}
 use Rattle.metering_model.specs.Batch.{Record, Reads, Amends}
 use Rattle.metering_model.specs.Cut.{Cut, last_of}
 use Rattle.metering_model.specs.Holding.{Holding, IsHolding, Position, records_in_order}
+use Rattle.metering_model.specs.Limits.{most_agents}
 use Rattle.batch_store.specs.declared.RecordPlace.{RecordPlace}
 
 -- the number of agents, and their batches
@@ -14,7 +15,7 @@ pub record Stored : Type 0 where
 -- 1 to 64 agents, and a holding of batches of theirs alone
 pub record IsStored (s : Stored) : Type 0 where
   pub agents_from : 1 ≤ s.agents
-  pub agents_to : s.agents ≤ 64
+  pub agents_to : s.agents ≤ most_agents
   pub is_holding : IsHolding s.batches
   pub of_agents : All (λ b. b.agent ≤ s.agents) s.batches
 

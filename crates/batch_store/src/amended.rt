@@ -3,6 +3,7 @@
 ghost use Rattle.std.specs.Prelude.{◌≡◌, ◌≤◌, ◌++◌, length, map, IfOk};
 ghost use Rattle.std.specs.List.{filter_map};
 ghost use Rattle.metering_model.specs.Cut.{IsAtLeast};
+ghost use Rattle.metering_model.specs.Limits.{last_sequence};
 ghost use Rattle.batch_store.specs.Stores.{AreAmended, position_of};
 ghost use Rattle.batch_store.specs.Inner.Amended.{Adds, IsNamedOf, named_place};
 
@@ -66,7 +67,7 @@ impl Store {
         requires agent_from { 1 ≤ agent }
         requires agent_to { agent ≤ self.now.agents }
         requires grows { from ≤ to }
-        requires to { to ≤ 1_000_000 }
+        requires to { to ≤ last_sequence }
         ensures { IfOk result (λ _.
             Adds (IsNamedOf self.now.batches agent from to) places.old.items places.new.items) }
     {

@@ -3,6 +3,7 @@
 ghost use Rattle.std.specs.Prelude.{◌≡◌, ◌≤◌, length, IfOk};
 ghost use Rattle.metering_model.specs.Dates.{IsBaseMonth};
 ghost use Rattle.metering_model.specs.Front.{front};
+ghost use Rattle.metering_model.specs.Limits.{last_sequence};
 ghost use Rattle.batch_store.specs.Stores.{IsStored};
 ghost use Rattle.batch_store.specs.Inner.Fronts.{is_due_by, IsLastDue};
 
@@ -11,7 +12,7 @@ use period_cut::{Cut, Month, Period, Stamp};
 use std::alloc::{AllocError, Global};
 
 /// No batch has a sequence above this one.
-const LAST_SEQ: u32 = 1_000_000;
+const LAST_SEQUENCE: u32 = 1_000_000;
 
 impl Store {
     /// For each agent the greatest sequence such that all batches above the cut and up to it are there and due for the
@@ -40,17 +41,17 @@ impl Store {
     fn last_due(&self, agent: u8, after: u32, moment: Stamp) -> u32
         requires from { 1 ≤ agent }
         requires to { agent ≤ self.now.agents }
-        requires after { after ≤ 1_000_000 }
+        requires after { after ≤ last_sequence }
         requires stored { IsStored self.now }
         ensures last { IsLastDue moment self.now.batches agent after result }
-        ensures range { result ≤ 1_000_000 }
+        ensures range { result ≤ last_sequence }
     {
-        for seq in after..LAST_SEQ {
+        for seq in after..LAST_SEQUENCE {
             if !self.is_due_by(agent, seq + 1, moment) {
                 return seq;
             }
         }
-        LAST_SEQ
+        LAST_SEQUENCE
     }
 
     /// Whether an agent's batch is there, and each reading in it starts before that moment.

@@ -1,6 +1,7 @@
 //! A row of batches, most of which others may share.
 
 ghost use Rattle.std.specs.Prelude.{◌≡◌, ◌<◌, ◌≤◌, ◌∷◌, ◌++◌, [], length, take, slice_index_or, IfOk, OnOk, OnErr};
+ghost use Rattle.metering_model.specs.Limits.{last_sequence};
 ghost use Rattle.batch_store.specs.Inner.Rows.{AreClones, part_at};
 
 use batch_view::OwnedBatch;
@@ -96,7 +97,7 @@ impl Row {
 
     /// Adds a batch after the others. At an error all is as it was.
     pub(crate) fn push(&mut self, batch: Arc<OwnedBatch>) -> Result<(), AllocError>
-        requires { length self.old < 1_000_000 }
+        requires { length self.old < last_sequence }
         ensures added { OnOk result (AreClones (self.old ++ batch ∷ []) self.new) }
         ensures kept { OnErr result (self.new ≡ self.old) }
     {

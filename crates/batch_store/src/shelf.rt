@@ -4,6 +4,7 @@ ghost use Rattle.std.specs.Prelude.{◌+◌, ◌∷◌, MatchOption, ◌≡◌, 
 ghost use Rattle.std.specs.Option.{option_copied, option_map, is_some};
 ghost use Rattle.std.specs.Arc.{arc_value};
 ghost use Rattle.metering_model.specs.Holding.{put};
+ghost use Rattle.metering_model.specs.Limits.{last_sequence};
 ghost use Rattle.batch_view.specs.Batches.{batch_of};
 ghost use Rattle.batch_store.specs.Inner.Shelves.{AreFiled, AreOf, Rises, at_seq, from_seq, up_to_seq, contents, filed_up_to};
 
@@ -15,7 +16,7 @@ use std::marker::Model;
 use std::sync::Arc;
 
 /// An agent has no sequence above this.
-const MOST_BATCHES: u32 = 1_000_000;
+const LAST_SEQUENCE: u32 = 1_000_000;
 
 /// The batches of one agent, at most one for each sequence. Those from sequence 1 on without a gap are found by their
 /// number, and those ahead of a gap in a map.
@@ -103,12 +104,12 @@ impl Shelf {
         ensures range { (1 ≤ result) × (result ≤ 1_000_001) }
     {
         let next = self.whole.len() as u32 + 1;
-        for seq in next..MOST_BATCHES + 1 {
+        for seq in next..LAST_SEQUENCE + 1 {
             if !self.ahead.contains_key(&seq) {
                 return seq;
             }
         }
-        MOST_BATCHES + 1
+        LAST_SEQUENCE + 1
     }
 
     /// Moves the first batch of the map after those without a gap, if it comes next and there is room for it.
@@ -145,7 +146,7 @@ impl Shelf {
     /// Adds a batch whose sequence has none, after those without a gap where it comes next, and else in the map.
     fn add(&mut self, seq: u32, batch: Arc<OwnedBatch>) -> Result<(), AllocError>
         requires seq { seq ≡ (batch_of (arc_value batch)).seq }
-        requires range { (1 ≤ seq) × (seq ≤ 1_000_000) }
+        requires range { (1 ≤ seq) × (seq ≤ last_sequence) }
         requires of_agent { AreOf (batch_of (arc_value batch)).agent self.old }
         requires absent { at_seq self.old seq ≡ None }
         ensures ok { OnOk result (self.new ≡ put self.old (batch_of (arc_value batch))) }

@@ -4,6 +4,7 @@ ghost use Rattle.std.specs.Prelude.{◌≡◌, ℕ, true, ◌≤◌, ◌<◌, �
 ghost use Rattle.std.specs.Option.{option_copied, option_map, is_some};
 ghost use Rattle.std.specs.Arc.{arc_value};
 ghost use Rattle.metering_model.specs.Holding.{held, put, up_to};
+ghost use Rattle.metering_model.specs.Limits.{most_agents};
 ghost use Rattle.batch_view.specs.Batches.{batch_of};
 ghost use Rattle.batch_store.specs.Stores.{IsStored};
 ghost use Rattle.batch_store.specs.Inner.Amenders.{IsLastAmender, NoneAmends};
@@ -37,7 +38,7 @@ impl Store {
     /// A store of so many agents, from 1 to 64, without batches. An error is an allocation failure.
     pub fn new(alloc: Global, agents: u8) -> Result<Store, AllocError>
         requires from { 1 ≤ agents }
-        requires to { agents ≤ 64 }
+        requires to { agents ≤ most_agents }
         ensures { IfOk result (λ store. store ≡ record { agents = agents; batches = [] }) }
     {
         let mut shelves = Vec::with_capacity(alloc, usize::from(agents))?;

@@ -1,5 +1,5 @@
 -- What the status of a fault tells of the fault, and what a run leaves.
-use Rattle.std.proofs.Common.{◌≡◌, ◌≢◌, ◌⊎◌, ◌≤◌, ◌++◌, length, ◌∙◌, sym, ap, subst, ℕ, List, [], String, Option, Some, None, Result, Ok, Err, IfErr, inl, inr, refl, arith}
+use Rattle.std.proofs.Common.{◌≡◌, ◌≢◌, ◌⊎◌, ◌≤◌, ◌++◌, length, ◌∙◌, sym, ap, subst, ℕ, List, [], String, Option, Some, None, Result, Ok, Err, IfErr, true, false, inl, inr, refl, arith}
 use Rattle.std.specs.Io.KnownBytes.{Appends, IsAtEnd}
 use Rattle.std.specs.IoError.{error_kind}
 use Rattle.std.specs.declared.io.Error.{Error}
@@ -29,13 +29,14 @@ use Rattle.threads_player.specs.declared.sizes.Size.{Size}
 use Rattle.command_line.specs.declared.words.LineFault.{LineFault}
 use Rattle.command_line.specs.declared.words.LineFault.TheVariants as on_line
 use Rattle.command_line.specs.declared.commands.Command.{Command}
-use Rattle.command_line.specs.declared.commands.Command.TheVariants.{Rate, Play as PlaySchedule, Check, File as CutFile, Threads as RunThreads}
+use Rattle.command_line.specs.declared.commands.Command.TheVariants.{Rate, Play as PlaySchedule, Check, File as CutFile, Threads as RunThreads, Help as ShowHelp, Version as ShowVersion}
 use Rattle.command_line.specs.declared.statuses.Fault.{Fault}
 use Rattle.command_line.specs.declared.statuses.Fault.TheVariants.{Line, Play, Faults, File, Threads}
 use Rattle.command_line.specs.Endings.{Tells, ending_line, status_of}
 use Rattle.command_line.specs.Runs.{AsksFor, Ends, IsDone, IsDoneInPart, IsLeftBy, IsPlayedInPart, IsUnwritten, Refuses, SaysOf, words_behind_name}
 use Rattle.command_line.specs.Inner.Outcomes.{ComesTo, IsEnding, IsKept, Leaves}
-use Rattle.command_line.proofs.WordLaws.{asks_for_threads}
+use Rattle.command_line.specs.CommandLine.{takes_input}
+use Rattle.command_line.proofs.WordLaws.{asks_for_threads, takes_or_not}
 
 abbrev pub failed : PlayFault → Result (Unit {0}) PlayFault
 failed fault = Err fault
@@ -271,6 +272,20 @@ threads_come_to sink size fault known reads writer writer' wrote same sheet cut 
   part = λ four. inl (inl (same (not_write fault (not_3_at (status_of (Threads fault)) 4 four (λ is. omega (arith, is))))));
 }
 
+-- ---- help and the version
+
+pub not_shown : {W : Type 0} (sink : SinkOf W) (command : Command) (known : Option (List ℕ)) (reads : ℕ) (writer writer' : W)
+    → sink.failed_calls writer' ≡ next_count (sink.failed_calls writer) → IsDoneInPart command known (sink.contents writer) (sink.contents writer')
+    → ComesTo sink command (Play play.Write) known reads reads writer writer'
+not_shown sink command known reads writer writer' wrote cut = record {
+  understood = is_no_line play.Write;
+  refused = λ one. absurd (omega (arith, one));
+  device = λ three. inr (refl, wrote, refl, cut);
+  calm = λ other. absurd (other refl);
+  unwritten = λ not_3 not_4. absurd (not_3 refl);
+  part = λ four. absurd (omega (arith, four));
+}
+
 -- ---- the whole run
 
 -- at 4 it is want of memory that is told
@@ -319,14 +334,16 @@ device_of : (Kept Unwritten Part : Type 0) (line : List ℕ) (reads reads' write
 device_of Kept Unwritten Part line reads reads' writes writes' kept (inl is) = inl (is.0, is.1, is.2, kept is.3)
 device_of Kept Unwritten Part line reads reads' writes writes' kept (inr is) = inr is
 
--- what is done reads all, but where a group was asked for
+-- what is done reads all, but where it is done without the input
 at_end_of : (Asked : Command → Type 0) (command : Command) (known left old new : Option (List ℕ)) → Asked command → IsDone command known left old new
-    → ((size : Size) → Asked (RunThreads size) → ⊥) → IsAtEnd left
-at_end_of Asked (Rate period) known left old new asked done other = done.1
-at_end_of Asked PlaySchedule known left old new asked done other = done.1
-at_end_of Asked Check known left old new asked done other = done.1
-at_end_of Asked (CutFile period) known left old new asked done other = done.1
-at_end_of Asked (RunThreads size) known left old new asked done other = absurd (other size asked)
+    → ((command : Command) → Asked command → takes_input command ≡ true) → IsAtEnd left
+at_end_of Asked (Rate period) known left old new asked done takes = done.1
+at_end_of Asked PlaySchedule known left old new asked done takes = done.1
+at_end_of Asked Check known left old new asked done takes = done.1
+at_end_of Asked (CutFile period) known left old new asked done takes = done.1
+at_end_of Asked (RunThreads size) known left old new asked done takes = let yes_it_does = takes (RunThreads size) asked in absurd (cc)
+at_end_of Asked ShowHelp known left old new asked done takes = let yes_it_does = takes ShowHelp asked in absurd (cc)
+at_end_of Asked ShowVersion known left old new asked done takes = let yes_it_does = takes ShowVersion asked in absurd (cc)
 
 -- every fault ends with a status from 1 to 4
 in_range : (fault : Fault) → (1 ≤ status_of fault) × (status_of fault ≤ 4)
@@ -370,6 +387,12 @@ asks_for_no_threads (Ok given) command other asked size threads =
     let is = asks_for_threads (words_behind_name given) command size asked threads in other is.0 is.1
 asks_for_no_threads (Err error) command other asked size threads = absurd asked
 
+-- Words that ask for what is done with the input ask for nothing that is done without.
+pub asks_without : {A B : Type 0} (args : Result (IntoIter (String A) B) Error) (command : Command) → takes_input command ≡ true
+    → AsksFor args command → (other : Command) → AsksFor args other → takes_input other ≡ false → ⊥
+asks_without (Ok given) command takes asked other others without = takes_or_not (words_behind_name given) command other asked others takes without
+asks_without (Err error) command takes asked other others without = absurd asked
+
 -- what asks for something was given
 given_of : {A B : Type 0} (args : Result (IntoIter (String A) B) Error) (command : Command) (P : Error → Type 0) → AsksFor args command → IfErr args P
 given_of (Ok given) command P asked = tt
@@ -386,7 +409,7 @@ pub ends : {R W E A B : Type 0} (source : SourceOf R) (sink : SinkOf W) (telling
     → IsEnding telling outcome status errors errors'
     → (((period : ℕ) → command ≢ CutFile period) → ConsumesAtMost 16_777_217 (source.remaining reader) (source.remaining reader'))
     → ConsumesAtMost 4_294_967_297 (source.remaining reader) (source.remaining reader')
-    → ((size : Size) → AsksFor args (RunThreads size) → reader' ≡ reader)
+    → ((other : Command) → AsksFor args other → takes_input other ≡ false → reader' ≡ reader)
     → Ends source sink telling args status reader reader' writer writer' errors errors'
 ends source sink telling args command (Ok x) status reader reader' writer writer' errors errors' asked leaves ending read read_by_file unread =
     let zero = ending.0 in
@@ -440,31 +463,31 @@ ends source sink telling args command (Err fault) status reader reader' writer w
       not_given = given_of args command _ asked;
     }
 
-abbrev pub not_asked : LineFault → Result Command LineFault
-not_asked fault = Err fault
+abbrev pub not_asked : (A : Type 0) → LineFault → Result A LineFault
+not_asked A fault = Err fault
 
-same_fault : (one other : LineFault) → not_asked one ≡ not_asked other → one ≡ other
+same_fault : {A : Type 0} (one other : LineFault) → not_asked A one ≡ not_asked A other → one ≡ other
 same_fault one other same = cc
 
 -- what the words are said to be where none were given
-abbrev pub IsMissing : {A B : Type 0} → Result (IntoIter (String A) B) Error → LineFault → Type 0
-IsMissing args fault = IfErr args (λ error. (error_kind error ≡ NoMemory → not_asked fault ≡ not_asked on_line.OutOfMemory) × (error_kind error ≢ NoMemory → not_asked fault ≡ not_asked on_line.Line))
+abbrev pub IsMissing : {A B : Type 0} (C : Type 0) → Result (IntoIter (String A) B) Error → LineFault → Type 0
+IsMissing C args fault = IfErr args (λ error. (error_kind error ≡ NoMemory → not_asked C fault ≡ not_asked C on_line.OutOfMemory) × (error_kind error ≢ NoMemory → not_asked C fault ≡ not_asked C on_line.Line))
 
-missing_of : {A B : Type 0} (args : Result (IntoIter (String A) B) Error) (fault : LineFault) (status : ℕ) → status ≡ status_of (Line fault) → IsMissing args fault
+missing_of : {A B : Type 0} (C : Type 0) (args : Result (IntoIter (String A) B) Error) (fault : LineFault) (status : ℕ) → status ≡ status_of (Line fault) → IsMissing C args fault
     → IfErr args (λ error. (error_kind error ≡ NoMemory → status ≡ 4) × (error_kind error ≢ NoMemory → status ≡ 2))
-missing_of (Ok given) fault status same missing = tt
-missing_of (Err error) fault status same missing = (
-  (λ no_memory. same ∙ ap (λ (f : LineFault). status_of (Line f)) (same_fault fault on_line.OutOfMemory (missing.0 no_memory))),
-  (λ other. same ∙ ap (λ (f : LineFault). status_of (Line f)) (same_fault fault on_line.Line (missing.1 other))),
+missing_of C (Ok given) fault status same missing = tt
+missing_of C (Err error) fault status same missing = (
+  (λ no_memory. same ∙ ap (λ (f : LineFault). status_of (Line f)) (same_fault {A = C} fault on_line.OutOfMemory (missing.0 no_memory))),
+  (λ other. same ∙ ap (λ (f : LineFault). status_of (Line f)) (same_fault {A = C} fault on_line.Line (missing.1 other))),
 )
 
 -- A run whose words ask for nothing, or could not be had, tells that alone.
-pub ends_at_words : {R W E A B : Type 0} (source : SourceOf R) (sink : SinkOf W) (telling : SinkOf E) (args : Result (IntoIter (String A) B) Error) (fault : LineFault) (status : ℕ) (reader : R) (writer : W) (errors errors' : E)
+pub ends_at_words : {R W E A B : Type 0} (C : Type 0) (source : SourceOf R) (sink : SinkOf W) (telling : SinkOf E) (args : Result (IntoIter (String A) B) Error) (fault : LineFault) (status : ℕ) (reader : R) (writer : W) (errors errors' : E)
     → status ≡ status_of (Line fault) → Tells telling (Line fault) errors errors'
     → (fault ≡ on_line.Line → (command : Command) → ¬ AsksFor args command)
-    → IsMissing args fault
+    → IsMissing C args fault
     → Ends source sink telling args status reader reader writer writer errors errors'
-ends_at_words source sink telling args on_line.Line status reader writer errors errors' same told unasked missing = record {
+ends_at_words C source sink telling args on_line.Line status reader writer errors errors' same told unasked missing = record {
   range = omega (arith, same);
   done = λ is. absurd (omega (arith, same, is));
   end = λ is. absurd (omega (arith, same, is));
@@ -479,10 +502,10 @@ ends_at_words source sink telling args on_line.Line status reader writer errors 
   unwritten = λ not_0 not_3 not_4. inl (inl refl);
   read = λ none. nothing_read 16_777_217 (source.remaining reader);
   read_by_file = nothing_read 4_294_967_297 (source.remaining reader);
-  unread = λ size asked. refl;
-  not_given = missing_of args on_line.Line status same missing;
+  unread = λ command asked without. refl;
+  not_given = missing_of C args on_line.Line status same missing;
 }
-ends_at_words source sink telling args on_line.OutOfMemory status reader writer errors errors' same told unasked missing = record {
+ends_at_words C source sink telling args on_line.OutOfMemory status reader writer errors errors' same told unasked missing = record {
   range = omega (arith, same);
   done = λ is. absurd (omega (arith, same, is));
   end = λ is. absurd (omega (arith, same, is));
@@ -497,8 +520,8 @@ ends_at_words source sink telling args on_line.OutOfMemory status reader writer 
   unwritten = λ not_0 not_3 not_4. inl (inl refl);
   read = λ none. nothing_read 16_777_217 (source.remaining reader);
   read_by_file = nothing_read 4_294_967_297 (source.remaining reader);
-  unread = λ size asked. refl;
-  not_given = missing_of args on_line.OutOfMemory status same missing;
+  unread = λ command asked without. refl;
+  not_given = missing_of C args on_line.OutOfMemory status same missing;
 }
 
 -- What was lent may have another name where nothing was done to it before.

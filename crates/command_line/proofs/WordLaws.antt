@@ -1,23 +1,27 @@
 -- What a parse that succeeds, or fails, says of what the words ask for.
-use Rattle.std.proofs.Common.{◌≡◌, ◌≢◌, ◌∙◌, sym, ap, ℕ, ◌<◌, ◌^◌, List, [], ◌∷◌, codes, slice_index, Option, Some, None, IfSome, is_some, option_map, true, false, refl, inl, inr, arith}
+use Rattle.std.proofs.Common.{◌≡◌, ◌≢◌, ◌⊎◌, ◌∙◌, sym, ap, subst, Result, Ok, Err, IfOk, ℕ, ◌<◌, ◌^◌, List, [], ◌∷◌, codes, slice_index, Option, Some, None, IfSome, is_some, option_map, true, false, refl, inl, inr, arith}
 use Rattle.std.specs.Str.Parse.{ParsesUnsigned, ExplainsUnsignedError, HasUnsignedDigitsIfOk}
 use Rattle.clap.specs.Words.{ReadsOne, Row, Text, found_of, is_simple, kind_of, one_text, rows_of, subcommand_of, subcommand_rows_of}
 use Rattle.clap.specs.Matches.{subcommand_name_of}
-use Rattle.clap.specs.Kinds.{Kinds, HasKind}
+use Rattle.clap.specs.Kinds.{Kinds, HasKind, IsAmong}
 use Rattle.clap.specs.Faults.{fault_of, is_simple_and_free}
 use Rattle.clap.specs.declared.parser.matches.ArgMatches.{ArgMatches}
 use Rattle.clap.specs.declared.parser.matches.ArgMatches.TheViews.{out-ArgMatches, out-SubCommand}
 use Rattle.clap.specs.declared.parser.matches.Found.{Found}
 use Rattle.clap.specs.declared.error.Error.{Error}
-use Rattle.clap.specs.declared.error.kind.ErrorKind.TheVariants.{OutOfMemory}
+use Rattle.clap.specs.declared.error.kind.ErrorKind.TheVariants.{DisplayHelp, DisplayVersion, OutOfMemory}
+use Rattle.clap.specs.declared.error.kind.ErrorKind.{ErrorKind}
 use Rattle.clap.proofs.WalkLemmas.{one_text-rows}
 use Rattle.clap.proofs.OnLiterals.{clap_on_literals}
 use Rattle.std.specs.Box.{box_value}
 use Rattle.std.specs.Borrow.{Bor}
 use Rattle.command_line.specs.declared.commands.Command.{Command}
-use Rattle.command_line.specs.declared.commands.Command.TheVariants.{Rate, Play, Check, File, Threads}
+use Rattle.command_line.specs.declared.commands.Command.TheVariants.{Rate, Play, Check, File, Threads, Help, Version}
+use Rattle.command_line.specs.declared.words.LineFault.{LineFault}
+use Rattle.command_line.specs.Inner.Requests.{IsRequestFor}
+use Rattle.command_line.proofs.RequestLaws.{IsRequest, request_alone_in}
 use Rattle.threads_player.specs.declared.sizes.Size.{Size}
-use Rattle.command_line.specs.CommandLine.{grammar_of_focusd, Asks, AsksForCheck, AsksForPlay, GivesNumber, GivesPeriod, GivesSize}
+use Rattle.command_line.specs.CommandLine.{grammar_of_focusd, takes_input, Asks, AsksForCheck, AsksForHelp, AsksForPlay, GivesNumber, GivesPeriod, GivesSize}
 
 pub grammar_is_simple : is_simple grammar_of_focusd ≡ true
 unfolding clap_on_literals
@@ -33,12 +37,56 @@ only_memory [] e none (inl memory) = memory
 only_memory [] e none (inr among) = absurd among
 only_memory (k ∷ ks) e none fault = absurd (cc)
 
-pub taken_of : (words : List Text) (command : Command) → Asks words command → fault_of grammar_of_focusd words ≡ []
-taken_of words (Rate period) asked = asked.taken
-taken_of words Play asked = asked.taken
-taken_of words Check asked = asked.taken
-taken_of words (File period) asked = asked.taken
-taken_of words (Threads size) asked = asked.taken
+-- what has one kind of fault fails for that, or for want of memory
+only_kind : (k : ErrorKind) (kinds : Kinds) (e : Error) → kinds ≡ k ∷ [] → HasKind kinds e → (kind_of e ≡ OutOfMemory) ⊎ (kind_of e ≡ k)
+only_kind k kinds e is has = either_of (subst (λ ks. HasKind ks e) is has)
+  where
+    either_of : HasKind (k ∷ []) e → (kind_of e ≡ OutOfMemory) ⊎ (kind_of e ≡ k)
+    either_of (inl memory) = inl memory
+    either_of (inr (inl same)) = inr same
+    either_of (inr (inr among)) = absurd among
+
+neither : {A B : Type 0} → (A → ⊥) → (B → ⊥) → A ⊎ B → ⊥
+neither no_a no_b (inl a) = no_a a
+neither no_a no_b (inr b) = no_b b
+
+-- a request is the only kind of its fault
+alone : (k : ErrorKind) → IsRequest k → k ≢ OutOfMemory → (words : List Text) (e : Error) → HasKind (fault_of grammar_of_focusd words) e → kind_of e ≡ k
+    → fault_of grammar_of_focusd words ≡ k ∷ []
+unfolding clap_on_literals
+alone k request no_memory words e (inl memory) is = absurd (no_memory (sym is ∙ memory))
+alone k request no_memory words e (inr among) is = request_alone_in k request grammar_of_focusd words refl refl (subst (λ kind. IsAmong kind (fault_of grammar_of_focusd words)) is among)
+
+-- an error that is neither want of memory nor a request is of words that ask for nothing
+pub asks_for_nothing : (words : List Text) (e : Error) → HasKind (fault_of grammar_of_focusd words) e → kind_of e ≢ OutOfMemory → kind_of e ≢ DisplayHelp → kind_of e ≢ DisplayVersion
+    → (command : Command) → Asks words command → ⊥
+asks_for_nothing words e has no_memory no_help no_version (Rate period) asked = no_memory (only_memory _ e asked.taken has)
+asks_for_nothing words e has no_memory no_help no_version Play asked = no_memory (only_memory _ e asked.taken has)
+asks_for_nothing words e has no_memory no_help no_version Check asked = no_memory (only_memory _ e asked.taken has)
+asks_for_nothing words e has no_memory no_help no_version (File period) asked = no_memory (only_memory _ e asked.taken has)
+asks_for_nothing words e has no_memory no_help no_version (Threads size) asked = no_memory (only_memory _ e asked.taken has)
+asks_for_nothing words e has no_memory no_help no_version Help asked = neither no_memory no_help (only_kind DisplayHelp _ e asked has)
+asks_for_nothing words e has no_memory no_help no_version Version asked = neither no_memory no_version (only_kind DisplayVersion _ e asked has)
+
+-- a request that is answered is what the words ask for
+pub request_asks : (words : List Text) (e : Error) (r : Result Command LineFault) → HasKind (fault_of grammar_of_focusd words) e → IfOk r (λ command. IsRequestFor command (kind_of e))
+    → IfOk r (Asks words)
+request_asks words e (Ok Help) has is = alone DisplayHelp (record { known = λ same. absurd (cc); named = λ same. absurd (cc) }) (λ same. absurd (cc)) words e has is
+request_asks words e (Ok Version) has is = alone DisplayVersion (record { known = λ same. absurd (cc); named = λ same. absurd (cc) }) (λ same. absurd (cc)) words e has is
+request_asks words e (Ok (Rate period)) has is = absurd is
+request_asks words e (Ok Play) has is = absurd is
+request_asks words e (Ok Check) has is = absurd is
+request_asks words e (Ok (File period)) has is = absurd is
+request_asks words e (Ok (Threads size)) has is = absurd is
+request_asks words e (Err fault) has is = tt
+
+-- words that are taken ask for no help
+pub no_help_asked : (words : List Text) → fault_of grammar_of_focusd words ≡ [] → AsksForHelp words → ⊥
+no_help_asked words taken asked = absurd (cc)
+
+-- nor do those that are refused for anything else
+pub other_asked : (words : List Text) (e : Error) → HasKind (fault_of grammar_of_focusd words) e → kind_of e ≢ OutOfMemory → kind_of e ≢ DisplayHelp → AsksForHelp words → ⊥
+other_asked words e has no_memory no_help asked = neither no_memory no_help (only_kind DisplayHelp _ e asked has)
 
 abbrev entered_of : {A : Type 0} → Option A → (A → Text) → (A → List Row) → Option (Text × List Row)
 entered_of {A} o name_of rows = let both : A → Text × List Row = λ a. (name_of a, rows a) in option_map both o
@@ -65,14 +113,17 @@ pub name_met : (m : ArgMatches) (name : Text) (rs : List Row) → subcommand_row
 name_met m name rs entered =
     named_of (out-ArgMatches m).subcommand (λ b. (out-SubCommand (box_value b)).name.now) (λ b. rows_of (found_of (out-SubCommand (box_value b)).matches)) name rs entered
 
--- Words that ask for something meet one of the subcommands.
-pub meets_one : (words : List Text) (m : ArgMatches) (command : Command) → Asks words command → subcommand_rows_of m ≡ subcommand_of grammar_of_focusd words
+-- Words that ask for a command meet its subcommand.
+pub meets_one : (words : List Text) (m : ArgMatches) (command : Command) → Asks words command → fault_of grammar_of_focusd words ≡ []
+    → subcommand_rows_of m ≡ subcommand_of grammar_of_focusd words
     → (subcommand_name_of m ≢ Some (codes "play")) → (subcommand_name_of m ≢ Some (codes "check")) → (subcommand_name_of m ≢ Some (codes "threads")) → (subcommand_name_of m ≢ Some (codes "file")) → (subcommand_name_of m ≢ Some (codes "rate")) → ⊥
-meets_one words m (Rate period) asked same no_play no_check no_threads no_file no_rate = no_rate (name_met m (codes "rate") asked.rows (same ∙ asked.named))
-meets_one words m Play asked same no_play no_check no_threads no_file no_rate = no_play (name_met m (codes "play") asked.rows (same ∙ asked.named))
-meets_one words m Check asked same no_play no_check no_threads no_file no_rate = no_check (name_met m (codes "check") asked.rows (same ∙ asked.named))
-meets_one words m (File period) asked same no_play no_check no_threads no_file no_rate = no_file (name_met m (codes "file") asked.rows (same ∙ asked.named))
-meets_one words m (Threads size) asked same no_play no_check no_threads no_file no_rate = no_threads (name_met m (codes "threads") asked.rows (same ∙ asked.named))
+meets_one words m (Rate period) asked taken same no_play no_check no_threads no_file no_rate = no_rate (name_met m (codes "rate") asked.rows (same ∙ asked.named))
+meets_one words m Play asked taken same no_play no_check no_threads no_file no_rate = no_play (name_met m (codes "play") asked.rows (same ∙ asked.named))
+meets_one words m Check asked taken same no_play no_check no_threads no_file no_rate = no_check (name_met m (codes "check") asked.rows (same ∙ asked.named))
+meets_one words m (File period) asked taken same no_play no_check no_threads no_file no_rate = no_file (name_met m (codes "file") asked.rows (same ∙ asked.named))
+meets_one words m (Threads size) asked taken same no_play no_check no_threads no_file no_rate = no_threads (name_met m (codes "threads") asked.rows (same ∙ asked.named))
+meets_one words m Help asked taken same no_play no_check no_threads no_file no_rate = absurd (cc)
+meets_one words m Version asked taken same no_play no_check no_threads no_file no_rate = absurd (cc)
 
 -- What is met under the name `play` is asked for.
 pub asks_for_play : (words : List Text) (m : ArgMatches) (r : Option (Bor ArgMatches)) → is_some r ≡ true → (is_some r ≡ true → subcommand_name_of m ≡ Some (codes "play"))
@@ -122,40 +173,33 @@ no_number bits option f (Some m) n gives small value =
     let read = value gives.text (one_text-rows f option ∙ gives.given) in
     ap Some (read.0.1 ∙ gives.spelled.1)
 
-abbrev name_of : Option (Text × List Row) → Text
-name_of None = []
-name_of (Some p) = p.0
+-- the first letter of the subcommand's name, as a number
+abbrev letter : Option (Text × List Row) → ℕ
+letter None = 0
+letter (Some p) = slice_index p.0 0
 
--- no subcommand has two names
-other_names : (o : Option (Text × List Row)) (one two : Text) (rows others : List Row) → slice_index one 0 ≢ slice_index two 0 → o ≡ Some (one, rows) → o ≡ Some (two, others) → ⊥
-other_names o one two rows others differ is too = differ (ap (λ (t : Text). slice_index t 0) (ap name_of (sym is ∙ too)))
+abbrev letter_of : Command → ℕ
+letter_of (Rate period) = 114
+letter_of Play = 112
+letter_of Check = 99
+letter_of (File period) = 102
+letter_of (Threads size) = 116
+letter_of Help = 0
+letter_of Version = 0
 
-rate_or_play : slice_index (codes "rate") 0 ≢ slice_index (codes "play") 0
-rate_or_play same = let numbers : ◌≡◌ {A = ℕ} 114 112 = same in absurd (omega (arith, numbers))
+letter_asked : (words : List Text) (command : Command) → Asks words command → fault_of grammar_of_focusd words ≡ [] → ◌≡◌ {A = ℕ} (letter (subcommand_of grammar_of_focusd words)) (letter_of command)
+letter_asked words (Rate period) asked taken = ap letter asked.named
+letter_asked words Play asked taken = ap letter asked.named
+letter_asked words Check asked taken = ap letter asked.named
+letter_asked words (File period) asked taken = ap letter asked.named
+letter_asked words (Threads size) asked taken = ap letter asked.named
+letter_asked words Help asked taken = absurd (cc)
+letter_asked words Version asked taken = absurd (cc)
 
-threads_or_play : slice_index (codes "threads") 0 ≢ slice_index (codes "play") 0
-threads_or_play same = let numbers : ◌≡◌ {A = ℕ} 116 112 = same in absurd (omega (arith, numbers))
-
-threads_or_rate : slice_index (codes "threads") 0 ≢ slice_index (codes "rate") 0
-threads_or_rate same = let numbers : ◌≡◌ {A = ℕ} 116 114 = same in absurd (omega (arith, numbers))
-
-file_or_rate : slice_index (codes "file") 0 ≢ slice_index (codes "rate") 0
-file_or_rate same = let numbers : ◌≡◌ {A = ℕ} 102 114 = same in absurd (omega (arith, numbers))
-
-file_or_play : slice_index (codes "file") 0 ≢ slice_index (codes "play") 0
-file_or_play same = let numbers : ◌≡◌ {A = ℕ} 102 112 = same in absurd (omega (arith, numbers))
-
-threads_or_file : slice_index (codes "threads") 0 ≢ slice_index (codes "file") 0
-threads_or_file same = let numbers : ◌≡◌ {A = ℕ} 116 102 = same in absurd (omega (arith, numbers))
-
-check_or_rate : slice_index (codes "check") 0 ≢ slice_index (codes "rate") 0
-check_or_rate same = let numbers : ◌≡◌ {A = ℕ} 99 114 = same in absurd (omega (arith, numbers))
-
-check_or_file : slice_index (codes "check") 0 ≢ slice_index (codes "file") 0
-check_or_file same = let numbers : ◌≡◌ {A = ℕ} 99 102 = same in absurd (omega (arith, numbers))
-
-check_or_threads : slice_index (codes "check") 0 ≢ slice_index (codes "threads") 0
-check_or_threads same = let numbers : ◌≡◌ {A = ℕ} 99 116 = same in absurd (omega (arith, numbers))
+-- Words that name one subcommand ask for no other.
+another : (words : List Text) (name : Text) (rows : List Row) (command : Command) → Asks words command → fault_of grammar_of_focusd words ≡ []
+    → subcommand_of grammar_of_focusd words ≡ Some (name, rows) → ◌≡◌ {A = ℕ} (letter_of command) (slice_index name 0)
+another words name rows command asked taken named = sym (letter_asked words command asked taken) ∙ ap letter named
 
 -- Where a text of the option spells a period, it is the one that is read.
 pub period_read : (f : Found) (r : Option ℕ) (period : ℕ) → GivesPeriod (rows_of f) period → ((u : Text) → one_text f (codes "period") ≡ Some u → Reads 16 u r) → r ≡ Some period
@@ -163,40 +207,45 @@ period_read f r period gives value =
     let small : period < 2 ^ 16 = omega (arith, gives.within) in
     no_number 16 (codes "period") f r period gives.number small value
 
--- Words that ask for the subcommand whose rows were found ask for a period that these give.
-pub rate_gives : (words : List Text) (rows : List Row) (command : Command) → Asks words command
+-- Words that ask for the subcommand whose rows were found ask for a period, or a size, that these give.
+pub rate_gives : (words : List Text) (rows : List Row) (command : Command) → Asks words command → fault_of grammar_of_focusd words ≡ []
     → subcommand_of grammar_of_focusd words ≡ Some (codes "rate", rows) → (period : ℕ) × GivesPeriod rows period
-rate_gives words rows (Rate period) asked named =
+rate_gives words rows (Rate period) asked taken named =
     let both = ap (option_map (λ (p : Text × List Row). p.1)) (sym asked.named ∙ named) in
     let same : asked.rows ≡ rows = cc in
     (period, rw same at asked.given)
-rate_gives words rows Play asked named = absurd (other_names _ _ _ _ _ rate_or_play named asked.named)
-rate_gives words rows Check asked named = absurd (other_names _ _ _ _ _ check_or_rate asked.named named)
-rate_gives words rows (File period) asked named = absurd (other_names _ _ _ _ _ file_or_rate asked.named named)
-rate_gives words rows (Threads size) asked named = absurd (other_names _ _ _ _ _ threads_or_rate asked.named named)
+rate_gives words rows Play asked taken named = let is : ◌≡◌ {A = ℕ} 112 114 = another words (codes "rate") rows Play asked taken named in absurd (omega (arith, is))
+rate_gives words rows Check asked taken named = let is : ◌≡◌ {A = ℕ} 99 114 = another words (codes "rate") rows Check asked taken named in absurd (omega (arith, is))
+rate_gives words rows (File period) asked taken named = let is : ◌≡◌ {A = ℕ} 102 114 = another words (codes "rate") rows (File period) asked taken named in absurd (omega (arith, is))
+rate_gives words rows (Threads size) asked taken named = let is : ◌≡◌ {A = ℕ} 116 114 = another words (codes "rate") rows (Threads size) asked taken named in absurd (omega (arith, is))
+rate_gives words rows Help asked taken named = let is : ◌≡◌ {A = ℕ} 0 114 = another words (codes "rate") rows Help asked taken named in absurd (omega (arith, is))
+rate_gives words rows Version asked taken named = let is : ◌≡◌ {A = ℕ} 0 114 = another words (codes "rate") rows Version asked taken named in absurd (omega (arith, is))
 
-pub file_gives : (words : List Text) (rows : List Row) (command : Command) → Asks words command
+pub file_gives : (words : List Text) (rows : List Row) (command : Command) → Asks words command → fault_of grammar_of_focusd words ≡ []
     → subcommand_of grammar_of_focusd words ≡ Some (codes "file", rows) → (period : ℕ) × GivesPeriod rows period
-file_gives words rows (File period) asked named =
+file_gives words rows (Rate period) asked taken named = let is : ◌≡◌ {A = ℕ} 114 102 = another words (codes "file") rows (Rate period) asked taken named in absurd (omega (arith, is))
+file_gives words rows Play asked taken named = let is : ◌≡◌ {A = ℕ} 112 102 = another words (codes "file") rows Play asked taken named in absurd (omega (arith, is))
+file_gives words rows Check asked taken named = let is : ◌≡◌ {A = ℕ} 99 102 = another words (codes "file") rows Check asked taken named in absurd (omega (arith, is))
+file_gives words rows (File period) asked taken named =
     let both = ap (option_map (λ (p : Text × List Row). p.1)) (sym asked.named ∙ named) in
     let same : asked.rows ≡ rows = cc in
     (period, rw same at asked.given)
-file_gives words rows (Rate period) asked named = absurd (other_names _ _ _ _ _ file_or_rate named asked.named)
-file_gives words rows Play asked named = absurd (other_names _ _ _ _ _ file_or_play named asked.named)
-file_gives words rows Check asked named = absurd (other_names _ _ _ _ _ check_or_file asked.named named)
-file_gives words rows (Threads size) asked named = absurd (other_names _ _ _ _ _ threads_or_file asked.named named)
+file_gives words rows (Threads size) asked taken named = let is : ◌≡◌ {A = ℕ} 116 102 = another words (codes "file") rows (Threads size) asked taken named in absurd (omega (arith, is))
+file_gives words rows Help asked taken named = let is : ◌≡◌ {A = ℕ} 0 102 = another words (codes "file") rows Help asked taken named in absurd (omega (arith, is))
+file_gives words rows Version asked taken named = let is : ◌≡◌ {A = ℕ} 0 102 = another words (codes "file") rows Version asked taken named in absurd (omega (arith, is))
 
--- Words that ask for the subcommand whose rows were found ask for a size that these give.
-pub is_given : (words : List Text) (rows : List Row) (command : Command) → Asks words command
+pub is_given : (words : List Text) (rows : List Row) (command : Command) → Asks words command → fault_of grammar_of_focusd words ≡ []
     → subcommand_of grammar_of_focusd words ≡ Some (codes "threads", rows) → (size : Size) × GivesSize rows size
-is_given words rows (Rate period) asked named = absurd (other_names _ _ _ _ _ threads_or_rate named asked.named)
-is_given words rows Play asked named = absurd (other_names _ _ _ _ _ threads_or_play named asked.named)
-is_given words rows Check asked named = absurd (other_names _ _ _ _ _ check_or_threads asked.named named)
-is_given words rows (File period) asked named = absurd (other_names _ _ _ _ _ threads_or_file named asked.named)
-is_given words rows (Threads size) asked named =
+is_given words rows (Rate period) asked taken named = let is : ◌≡◌ {A = ℕ} 114 116 = another words (codes "threads") rows (Rate period) asked taken named in absurd (omega (arith, is))
+is_given words rows Play asked taken named = let is : ◌≡◌ {A = ℕ} 112 116 = another words (codes "threads") rows Play asked taken named in absurd (omega (arith, is))
+is_given words rows Check asked taken named = let is : ◌≡◌ {A = ℕ} 99 116 = another words (codes "threads") rows Check asked taken named in absurd (omega (arith, is))
+is_given words rows (File period) asked taken named = let is : ◌≡◌ {A = ℕ} 102 116 = another words (codes "threads") rows (File period) asked taken named in absurd (omega (arith, is))
+is_given words rows (Threads size) asked taken named =
     let both = ap (option_map (λ (p : Text × List Row). p.1)) (sym asked.named ∙ named) in
     let same : asked.rows ≡ rows = cc in
     (size, rw same at asked.given)
+is_given words rows Help asked taken named = let is : ◌≡◌ {A = ℕ} 0 116 = another words (codes "threads") rows Help asked taken named in absurd (omega (arith, is))
+is_given words rows Version asked taken named = let is : ◌≡◌ {A = ℕ} 0 116 = another words (codes "threads") rows Version asked taken named in absurd (omega (arith, is))
 
 pub some_is_not_none : (n : ℕ) → None ≡ Some n → ⊥
 some_is_not_none n same = absurd (cc)
@@ -210,11 +259,36 @@ is_none (Some a) none = absurd (none a refl)
 
 -- Words that ask for a group ask for nothing else.
 pub asks_for_threads : (words : List Text) (command : Command) (size : Size) → Asks words command → Asks words (Threads size) → (other : Size) × (command ≡ Threads other)
-asks_for_threads words (Rate period) size asked threads = absurd (other_names _ _ _ _ _ threads_or_rate threads.named asked.named)
-asks_for_threads words Play size asked threads = absurd (other_names _ _ _ _ _ threads_or_play threads.named asked.named)
-asks_for_threads words Check size asked threads = absurd (other_names _ _ _ _ _ check_or_threads asked.named threads.named)
-asks_for_threads words (File period) size asked threads = absurd (other_names _ _ _ _ _ threads_or_file threads.named asked.named)
+asks_for_threads words (Rate period) size asked threads = let is : ◌≡◌ {A = ℕ} 114 116 = another words (codes "threads") threads.rows (Rate period) asked threads.taken threads.named in absurd (omega (arith, is))
+asks_for_threads words Play size asked threads = let is : ◌≡◌ {A = ℕ} 112 116 = another words (codes "threads") threads.rows Play asked threads.taken threads.named in absurd (omega (arith, is))
+asks_for_threads words Check size asked threads = let is : ◌≡◌ {A = ℕ} 99 116 = another words (codes "threads") threads.rows Check asked threads.taken threads.named in absurd (omega (arith, is))
+asks_for_threads words (File period) size asked threads = let is : ◌≡◌ {A = ℕ} 102 116 = another words (codes "threads") threads.rows (File period) asked threads.taken threads.named in absurd (omega (arith, is))
 asks_for_threads words (Threads other) size asked threads = (other, refl)
+asks_for_threads words Help size asked threads = let is : ◌≡◌ {A = ℕ} 0 116 = another words (codes "threads") threads.rows Help asked threads.taken threads.named in absurd (omega (arith, is))
+asks_for_threads words Version size asked threads = let is : ◌≡◌ {A = ℕ} 0 116 = another words (codes "threads") threads.rows Version asked threads.taken threads.named in absurd (omega (arith, is))
+
+-- What is done with the input is asked for by words that the grammar takes.
+taken_of : (words : List Text) (command : Command) → Asks words command → takes_input command ≡ true → fault_of grammar_of_focusd words ≡ []
+taken_of words (Rate period) asked takes = asked.taken
+taken_of words Play asked takes = asked.taken
+taken_of words Check asked takes = asked.taken
+taken_of words (File period) asked takes = asked.taken
+taken_of words (Threads size) asked takes = absurd (cc)
+taken_of words Help asked takes = absurd (cc)
+taken_of words Version asked takes = absurd (cc)
+
+-- Words that ask for what is done with the input ask for nothing that is done without.
+pub takes_or_not : (words : List Text) (command other : Command) → Asks words command → Asks words other → takes_input command ≡ true → takes_input other ≡ false → ⊥
+takes_or_not words command (Threads size) asked others takes takes_none =
+    let is = (asks_for_threads words command size asked others).1 in
+    let bad : true ≡ false = sym takes ∙ ap takes_input is in
+    absurd (cc)
+takes_or_not words command Help asked others takes takes_none = let taken = taken_of words command asked takes in absurd (cc)
+takes_or_not words command Version asked others takes takes_none = let taken = taken_of words command asked takes in absurd (cc)
+takes_or_not words command (Rate period) asked others takes takes_none = absurd (cc)
+takes_or_not words command Play asked others takes takes_none = absurd (cc)
+takes_or_not words command Check asked others takes takes_none = absurd (cc)
+takes_or_not words command (File period) asked others takes takes_none = absurd (cc)
 
 -- what is there is not absent
 pub not_there : {A : Type 0} (o : Option A) → is_some o ≡ true → is_some o ≡ false → ⊥

@@ -1,15 +1,16 @@
 -- The command line of the program, by the words of `clap`.
-use Rattle.std.specs.Prelude.{◌≡◌, ℕ, List, [], codes, Some, true, pos}
+use Rattle.std.specs.Prelude.{◌≡◌, ℕ, Bool, List, [], ◌∷◌, codes, Some, true, false, pos}
 use Rattle.std.specs.Str.Parse.{IsNumeral, digits_value, without_leading_plus}
 use Rattle.clap.specs.Words.{App, Rule, Text, Row, new_app, new_rule, one_of, subcommand_of, with_rule, with_subcommand}
 use Rattle.clap.specs.Faults.{fault_of}
 use Rattle.clap.specs.declared.builder.action.ArgAction.TheVariants.{Set}
 use Rattle.clap.specs.declared.builder.value_parser.ValueParser.TheVariants as parser
+use Rattle.clap.specs.declared.error.kind.ErrorKind.TheVariants as kind
 use Rattle.metering_model.specs.Dates.{IsPeriod}
 use Rattle.threads_player.specs.declared.sizes.Size.{Size}
 use Rattle.threads_player.specs.Groups.{IsSize}
 use Rattle.command_line.specs.declared.commands.Command.{Command}
-use Rattle.command_line.specs.declared.commands.Command.TheVariants.{Rate, Play, Check, File, Threads}
+use Rattle.command_line.specs.declared.commands.Command.TheVariants.{Rate, Play, Check, File, Threads, Help, Version}
 
 -- `--NAME N`, which may not be left out: a number from the one to the other
 abbrev pub number_option : Text → (least most : ℕ) → Rule
@@ -30,9 +31,11 @@ group_grammar = with_rule (with_rule (new_app (codes "threads")) (number_option 
 abbrev pub threads_grammar : App
 threads_grammar = with_rule (with_rule group_grammar (number_option (codes "batches") 1 99)) (number_option (codes "periods") 1 12)
 
--- without a subcommand: the program's name is not among the words
+-- without a subcommand: the program's name is not among the words; it has a version, and `help` is no subcommand
 abbrev pub bare_grammar : App
-bare_grammar = let a = new_app (codes "focusd") in record a { top = record a.top { no_binary_name = true; subcommand_required = true } }
+bare_grammar = let a = new_app (codes "focusd") in record a {
+  top = record a.top { no_binary_name = true; has_version = true; disable_help_subcommand = true; subcommand_required = true };
+}
 
 -- `play` and `check` have no option at all.
 abbrev pub grammar_of_focusd : App
@@ -96,6 +99,14 @@ pub record AsksForThreads (words : List Text) (size : Size) : Type 0 where
   pub named : subcommand_of grammar_of_focusd words ≡ Some (codes "threads", rows)
   pub given : GivesSize rows size
 
+-- The grammar refuses the words as a request for help, as `--help` is, also behind a subcommand.
+abbrev pub AsksForHelp : List Text → Type 0
+AsksForHelp words = fault_of grammar_of_focusd words ≡ kind.DisplayHelp ∷ []
+
+-- The grammar refuses the words as a request for the version, as `--version` is.
+abbrev pub AsksForVersion : List Text → Type 0
+AsksForVersion words = fault_of grammar_of_focusd words ≡ kind.DisplayVersion ∷ []
+
 -- what the words ask for
 abbrev pub Asks : List Text → Command → Type 0
 Asks words (Rate period) = AsksForRate words period
@@ -103,3 +114,15 @@ Asks words Play = AsksForPlay words
 Asks words Check = AsksForCheck words
 Asks words (File period) = AsksForFile words period
 Asks words (Threads size) = AsksForThreads words size
+Asks words Help = AsksForHelp words
+Asks words Version = AsksForVersion words
+
+-- whether what is asked for is done with the input
+abbrev pub takes_input : Command → Bool
+takes_input (Rate period) = true
+takes_input Play = true
+takes_input Check = true
+takes_input (File period) = true
+takes_input (Threads size) = false
+takes_input Help = false
+takes_input Version = false

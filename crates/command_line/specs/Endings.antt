@@ -38,7 +38,7 @@ status_of (Threads threads.Write) = 3
 status_of (Threads threads.Refused) = 1
 
 abbrev pub message_of : Fault → List ℕ
-message_of (Line on_line.Line) = codes "bad command line"
+message_of (Line on_line.Line) = codes "bad command line (see focusd --help)"
 message_of (Line on_line.OutOfMemory) = codes "out of memory"
 message_of (Play (play.Refused refusal)) = codes "refused " ++ refusal_text refusal
 message_of (Play (play.Schedule (section.Refused code line))) = codes "refused " ++ section_text code line

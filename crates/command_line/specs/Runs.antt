@@ -1,12 +1,12 @@
 -- What a run of the program takes and leaves.
-use Rattle.std.specs.Prelude.{◌≡◌, ◌≢◌, ◌≤◌, ◌⊎◌, ℕ, List, [], String, Option, Result, Ok, Err, IfSome, IfErr, map, drop, string_bytes}
+use Rattle.std.specs.Prelude.{◌≡◌, ◌≢◌, ◌≤◌, ◌⊎◌, ℕ, List, [], codes, true, false, String, Option, Result, Ok, Err, IfSome, IfErr, map, drop, string_bytes}
 use Rattle.std.specs.Io.KnownBytes.{Appends, IsAtEnd}
 use Rattle.std.specs.IoError.{error_kind}
 use Rattle.std.specs.declared.io.ErrorKind.TheVariants.{OutOfMemory as NoMemory}
 use Rattle.std.specs.Vec.Iter.{into_iter_items}
 use Rattle.std.specs.declared.vec.IntoIter.{IntoIter}
 use Rattle.std.specs.declared.io.Error.{Error}
-use Rattle.metering_model.specs.Transcript.{line_count}
+use Rattle.metering_model.specs.Transcript.{line, line_count}
 use Rattle.clap.specs.Words.{Text}
 use Rattle.counted_io.specs.Counts.{next_count}
 use Rattle.counted_io.specs.Reading.{ConsumesAtMost}
@@ -26,16 +26,15 @@ use Rattle.period_file.specs.declared.faults.FileFault.{FileFault}
 use Rattle.period_file.specs.declared.faults.FileFault.TheVariants as file
 use Rattle.threads_player.specs.Runs.{Run}
 use Rattle.threads_player.specs.declared.faults.ThreadsFault.TheVariants as threads
-use Rattle.threads_player.specs.declared.sizes.Size.{Size}
 use Rattle.threads_player.specs.Reports.{report_text}
 use Rattle.threads_player.specs.Runs.{IsRunOf, IsSheetRefused}
-use Rattle.command_line.specs.CommandLine.{Asks}
+use Rattle.command_line.specs.CommandLine.{Asks, takes_input}
 use Rattle.command_line.specs.Endings.{Tells, status_of}
 use Rattle.command_line.specs.declared.words.LineFault.TheVariants as on_line
 use Rattle.command_line.specs.declared.statuses.Fault.{Fault}
 use Rattle.command_line.specs.declared.statuses.Fault.TheVariants as of_fault
 use Rattle.command_line.specs.declared.commands.Command.{Command}
-use Rattle.command_line.specs.declared.commands.Command.TheVariants.{Rate, Play, Check, File, Threads}
+use Rattle.command_line.specs.declared.commands.Command.TheVariants.{Rate, Play, Check, File, Threads, Help, Version}
 
 -- the words behind the program's name, which is the first
 abbrev pub words_behind_name : {A B : Type 0} → IntoIter (String A) B → List Text
@@ -46,24 +45,33 @@ abbrev pub AsksFor : {A B : Type 0} → Result (IntoIter (String A) B) Error →
 AsksFor (Ok args) command = Asks (words_behind_name args) command
 AsksFor (Err error) command = ⊥
 
+-- the line of the version
+abbrev pub version_line : List ℕ
+version_line = line (codes "focusd 0.3.0")
+
 -- What was asked for was done, and nothing else: the file of the input was written, or the transcript of the schedule that
 -- the input is, or nothing is said of the input and nothing was written, or the first file of the period in the input, and
--- nothing remains to be read; or the report of a run of such a group was written.
+-- nothing remains to be read; or the report of a run of such a group was written, or some text for help, or the version.
 abbrev pub IsDone : Command → (known left old new : Option (List ℕ)) → Type 0
 IsDone (Rate period) known left old new = ((input text : List ℕ) × IsFileOf known period input text × Appends old new text) × IsAtEnd left
 IsDone Play known left old new = ((input text : List ℕ) × IsTranscriptOf known input text × Appends old new text) × IsAtEnd left
 IsDone Check known left old new = ((input : List ℕ) × IsSaidOf known input [] × Appends old new []) × IsAtEnd left
 IsDone (File period) known left old new = ((input file : List ℕ) × IsFirstFileOf known period input file × Appends old new file) × IsAtEnd left
 IsDone (Threads size) known left old new = (run : Run) × IsRunOf size run × Appends old new (report_text run)
+IsDone Help known left old new = (text : List ℕ) × (text ≢ []) × Appends old new text
+IsDone Version known left old new = Appends old new version_line
 
 -- The command refuses so. Of an input whose bytes are known: by its sections or by its batch, or as no schedule, or it has no
--- whole file of the period. Of a group: what its workers brought back, or the sheet that is built in.
+-- whole file of the period. Of a group: what its workers brought back, or the sheet that is built in. Help and the version are
+-- never refused.
 abbrev pub Refuses : Command → Option (List ℕ) → Fault → Type 0
 Refuses (Rate period) known fault = (told : PlayFault) × (fault ≡ of_fault.Play told) × IfSome known (λ input. rated_file period input ≡ Err told)
 Refuses Play known fault = (told : ScheduleFault) × (fault ≡ of_fault.Play (play.Schedule told)) × IfSome known (λ input. schedule_in input ≡ Err told)
 Refuses Check known fault = (input text : List ℕ) × IsSaidOf known input text × (text ≢ []) × (fault ≡ of_fault.Faults (line_count text))
 Refuses (File period) known fault = (told : FileFault) × (fault ≡ of_fault.File told) × IfSome known (λ input. file_in period input ≡ Err told)
 Refuses (Threads size) known fault = (fault ≡ of_fault.Threads threads.Mismatch) ⊎ ((fault ≡ of_fault.Threads threads.Refused) × IsSheetRefused)
+Refuses Help known fault = ⊥
+Refuses Version known fault = ⊥
 
 -- Known contents grew by what is said of the input.
 abbrev pub SaysOf : (known old new : Option (List ℕ)) → Type 0
@@ -95,6 +103,8 @@ IsDoneInPart Play known old new = (input text : List ℕ) × IsTranscriptOf know
 IsDoneInPart Check known old new = (input text : List ℕ) × IsSaidOf known input text × AppendsPrefix old new text
 IsDoneInPart (File period) known old new = AppendsFront known period old new
 IsDoneInPart (Threads size) known old new = (run : Run) × IsRunOf size run × AppendsPrefix old new (report_text run)
+IsDoneInPart Help known old new = (text : List ℕ) × AppendsPrefix old new text
+IsDoneInPart Version known old new = AppendsPrefix old new version_line
 
 -- One call of the reader failed, and none of the writer.
 abbrev pub ReaderFailed : {R W : Type 0} → SourceOf R → SinkOf W → (reader reader' : R) (writer writer' : W) → Type 0
@@ -107,9 +117,9 @@ WriterFailed source sink reader reader' writer writer' = (sink.failed_calls writ
 -- What a run leaves of the reader, the writer and the sink of its errors, by the status that it ends with.
 pub record Ends {R W E A B : Type 0} (source : SourceOf R) (sink : SinkOf W) (telling : SinkOf E) (args : Result (IntoIter (String A) B) Error) (status : ℕ) (reader reader' : R) (writer writer' : W) (errors errors' : E) : Type 0 where
   pub range : status ≤ 4
-  -- 0: what was asked for was written whole, and nothing else; only a group in threads leaves the input where it is.
+  -- 0: what was asked for was written whole, and nothing else; only what is done without the input leaves it where it is.
   pub done : status ≡ 0 → (command : Command) × AsksFor args command × IsDone command (source.remaining reader) (source.remaining reader') (sink.contents writer) (sink.contents writer')
-  pub end : status ≡ 0 → ((size : Size) → ¬ AsksFor args (Threads size)) → IsAtEnd (source.remaining reader')
+  pub end : status ≡ 0 → ((command : Command) → AsksFor args command → takes_input command ≡ true) → IsAtEnd (source.remaining reader')
   pub silent : status ≡ 0 → errors' ≡ errors
   -- 1: what was asked for is refused so.
   pub refused : status ≡ 1 → (command : Command) × (fault : Fault) × AsksFor args command × (status_of fault ≡ 1) × Refuses command (source.remaining reader) fault
@@ -130,9 +140,9 @@ pub record Ends {R W E A B : Type 0} (source : SourceOf R) (sink : SinkOf W) (te
   -- But at these nothing was written, save by `file` and `check`.
   pub unwritten : status ≢ 0 → status ≢ 3 → status ≢ 4 → IsUnwritten sink args (source.remaining reader) writer writer'
       ⊎ (AsksFor args Check × SaysOf (source.remaining reader) (sink.contents writer) (sink.contents writer'))
-  -- At most so much is read, by `file` and by all others. A group in threads takes nothing of the input, however it ends.
+  -- At most so much is read, by `file` and by all others. What is done without the input takes nothing of it, however it ends.
   pub read : ((period : ℕ) → ¬ AsksFor args (File period)) → ConsumesAtMost 16_777_217 (source.remaining reader) (source.remaining reader')
   pub read_by_file : ConsumesAtMost 4_294_967_297 (source.remaining reader) (source.remaining reader')
-  pub unread : (size : Size) → AsksFor args (Threads size) → reader' ≡ reader
+  pub unread : (command : Command) → AsksFor args command → takes_input command ≡ false → reader' ≡ reader
   -- where the process gave no words
   pub not_given : IfErr args (λ error. (error_kind error ≡ NoMemory → status ≡ 4) × (error_kind error ≢ NoMemory → status ≡ 2))

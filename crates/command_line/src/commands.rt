@@ -17,4 +17,8 @@ pub enum Command {
     /// `threads --nodes N --agents A --batches K --periods P`: the report of a group of that size,
     /// run in threads.
     Threads { size: Size },
+    /// `--help`, also behind a command: how the program, or that command, is called.
+    Help,
+    /// `--version`: which version of the program it is.
+    Version,
 }

@@ -12,4 +12,4 @@ pub use period_file::{FileFault, file_text};
 pub use runs::{run, run_alone};
 pub use statuses::{Fault, ending};
 pub use threads_player::{Size, ThreadsFault};
-pub use words::{LineFault, command};
+pub use words::{LineFault, command, help};

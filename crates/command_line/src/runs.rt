@@ -1,21 +1,23 @@
 //! A run of the program, from what the process gave to the status that it ends with.
 
-ghost use Rattle.std.specs.Prelude.{◌≡◌, ◌≢◌, ℕ, List, Option, Err, IfOk, IfErr, IsErr, map, string_bytes};
+ghost use Rattle.std.specs.Prelude.{◌≡◌, ◌≢◌, ℕ, List, [], Option, Err, IfOk, IfErr, IsErr, map, string_bytes};
 ghost use Rattle.std.specs.IoError.{error_kind};
 ghost use Rattle.std.specs.declared.io.ErrorKind.TheVariants.{OutOfMemory as NoMemory};
 ghost use Rattle.counted_io.specs.Reading.{ConsumesAtMost};
 ghost use Rattle.threads_player.specs.declared.sizes.Size.{Size};
 ghost use Rattle.threads_player.specs.Groups.{IsSize};
 ghost use Rattle.command_line.specs.declared.commands.Command.{Command};
+ghost use Rattle.command_line.specs.CommandLine.{Asks};
 ghost use Rattle.command_line.specs.Runs.{AsksFor, Ends, words_behind_name};
 ghost use Rattle.command_line.specs.Inner.Outcomes.{IsEnding, Leaves};
 
 use crate::commands::Command;
 use crate::statuses::{Fault, ending};
-use crate::words::{LineFault, command};
-use counted_io::{Sink, Source};
+use crate::words::{LineFault, command, help};
+use counted_io::{Sink, Source, write_all};
 use input_check::{check_text, play_text, rate_text};
 use period_file::{Period, file_text};
+use program_input::PlayFault;
 use std::alloc::Global;
 use std::env::Args;
 use std::io;
@@ -44,9 +46,32 @@ fn words(alloc: Global, args: io::Result<Args>) -> Result<Vec<String>, LineFault
     }
 }
 
+// What is asked for, and the text to show where that is help
+#[derive(Drop)]
+struct Request {
+    command: Command,
+    help: String,
+}
+
+// What the words ask for
+fn understood(alloc: Global, words: &[String]) -> Result<Request, LineFault>
+    ensures asked { IfOk result (λ it. Asks (map string_bytes words.now) it.command) }
+    ensures help { IfOk result (λ it. it.command ≡ Command.Help → string_bytes it.help ≢ []) }
+    ensures not_asked { result ≡ Err LineFault.Line
+        → (command : Command) → ¬ Asks (map string_bytes words.now) command }
+{
+    let command = command(alloc, words)?;
+    let help = match command {
+        Command::Help => help(alloc, words)?,
+        _ => String::new(alloc),
+    };
+    Ok(Request { command, help })
+}
+
 // What the words behind the program's name ask for
-fn asked(alloc: Global, args: io::Result<Args>) -> Result<Command, LineFault>
-    ensures asked { IfOk result (AsksFor args) }
+fn asked(alloc: Global, args: io::Result<Args>) -> Result<Request, LineFault>
+    ensures asked { IfOk result (λ it. AsksFor args it.command) }
+    ensures help { IfOk result (λ it. it.command ≡ Command.Help → string_bytes it.help ≢ []) }
     ensures not_asked { result ≡ Err LineFault.Line
         → (command : Command) → ¬ AsksFor args command }
     ensures not_given { IfErr args (λ error.
@@ -54,7 +79,7 @@ fn asked(alloc: Global, args: io::Result<Args>) -> Result<Command, LineFault>
         × (error_kind error ≢ NoMemory → result ≡ Err LineFault.Line)) }
 {
     match words(alloc, args) {
-        Ok(words) => command(alloc, &words),
+        Ok(words) => understood(alloc, &words),
         Err(fault) => Err(fault),
     }
 }
@@ -136,6 +161,29 @@ fn threads<T: Threads + Wait + Sync, W: Sink>(
     }
 }
 
+// Shows the text of help, and takes nothing of the input, whatever that is.
+fn show_help<W: Sink>(text: &str, writer: &mut W) -> Result<(), Fault>
+    requires { text.now ≢ [] }
+    ensures outcome { (known : Option (List ℕ)) (reads : ℕ)
+        → Leaves W.Sink Command.Help result known known reads reads writer.old writer.new }
+{
+    match write_all(writer, text.as_bytes()) {
+        Ok(()) => Ok(()),
+        Err(_) => Err(Fault::Play(PlayFault::Write)),
+    }
+}
+
+// Shows the version, and takes nothing of the input.
+fn show_version<W: Sink>(writer: &mut W) -> Result<(), Fault>
+    ensures outcome { (known : Option (List ℕ)) (reads : ℕ)
+        → Leaves W.Sink Command.Version result known known reads reads writer.old writer.new }
+{
+    match write_all(writer, b"focusd 0.3.0\n") {
+        Ok(()) => Ok(()),
+        Err(_) => Err(Fault::Play(PlayFault::Write)),
+    }
+}
+
 // The status of what came of a command, which is told where it is a fault
 fn ended<E: Sink>(outcome: Result<(), Fault>, errors: &mut E) -> u8
     ensures ending { IsEnding E.Sink outcome result errors.old errors.new }
@@ -169,28 +217,32 @@ pub fn run_alone<R: Source, W: Sink, E: Sink>(
     ensures only_memory { IfOk result (λ status. (size : Size) → AsksFor args (Command.Threads size)
         → status ≡ 4) }
 {
-    let command = match asked(alloc, args) {
-        Ok(command) => command,
+    let request = match asked(alloc, args) {
+        Ok(request) => request,
         Err(fault) => return Ok(ending(&Fault::Line(fault), errors)),
     };
+    let command = request.command;
     match command {
         Command::Rate { period } => Ok(ended(rate(alloc, period, reader, writer), errors)),
         Command::Play => Ok(ended(play(alloc, reader, writer), errors)),
         Command::Check => Ok(ended(check(alloc, reader, writer), errors)),
         Command::File { period } => Ok(ended(file(alloc, period, reader, writer), errors)),
         Command::Threads { size } => Err(size),
+        Command::Help => Ok(ended(show_help(request.help.as_str(), writer), errors)),
+        Command::Version => Ok(ended(show_version(writer), errors)),
     }
 }
 
 /// Does what the arguments ask for, of which the first is the program's name, and answers the status
 /// to end with.
 ///
-/// 0 says that it was done; 1 that the input is refused, that `check` wrote what is wrong with it, that
-/// it has no whole file of the period, or that a run in threads came to a mismatch; 2 that the words ask for nothing, or are no text; 3 that a
-/// read or a write failed; 4 that memory was wanting. In each case but 0 a line tells of it on
-/// `errors`, as far as that takes it. At most 16,777,217 bytes are read, by `file` at most
-/// 4,294,967,297, and none at 2 or by `threads`. What is no group in threads is done by [`run_alone`],
-/// which no thread can keep from returning.
+/// 0 says that it was done; 1 that the input is refused, that `check` wrote what is wrong with it,
+/// that it has no whole file of the period, or that a run in threads came to a mismatch; 2 that the
+/// words ask for nothing, or are no text; 3 that a read or a write failed; 4 that memory was wanting.
+/// In each case but 0 a line tells of it on `errors`, as far as that takes it. At most 16,777,217
+/// bytes are read, by `file` at most 4,294,967,297, and none at 2, by `threads`, or for help or the
+/// version. What is no group in threads is done by [`run_alone`], which no thread can keep from
+/// returning.
 pub fn run<T: Threads + Wait + Sync, R: Source, W: Sink, E: Sink>(
     rt: &T,
     alloc: Global,

@@ -15,7 +15,7 @@ use threads_player::ThreadsFault;
 pub enum Fault {
     /// The command line.
     Line(LineFault),
-    /// `rate` or `play`, or a device of `check`.
+    /// `rate` or `play`, or a device of `check`, of help or of the version.
     Play(PlayFault),
     /// `check` wrote so many lines of what is wrong.
     Faults(u64),
@@ -53,7 +53,7 @@ fn put_message(line: &mut Line, fault: &Fault)
     ensures room { length line.new ≤ length line.old + 52 }
 {
     match fault {
-        Fault::Line(LineFault::Line) => line.put(b"bad command line"),
+        Fault::Line(LineFault::Line) => line.put(b"bad command line (see focusd --help)"),
         Fault::Faults(count) => {
             line.put(b"faults ");
             line.put_long_number(*count);

@@ -1,10 +1,11 @@
 //! The words of the command line.
 
-ghost use Rattle.std.specs.Prelude.{◌≡◌, ◌≢◌, ◌≤◌, ℕ, Err, IfOk, IfSome, None, Some, false, map, pos, string_bytes};
-ghost use Rattle.clap.specs.Words.{app_of, found_of, kind_of, rows_of, rule_of};
+ghost use Rattle.std.specs.Prelude.{◌≡◌, ◌≢◌, ◌≤◌, ℕ, Err, IfOk, IfSome, None, Some, false, map, pos, string_bytes, []};
+ghost use Rattle.clap.specs.Words.{app_of, found_of, kind_of, new_app, rows_of, rule_of, with_subcommand};
 ghost use Rattle.clap.specs.declared.builder.command.Command.TheViews.{out-Command};
 ghost use Rattle.command_line.specs.declared.commands.Command.{Command};
-ghost use Rattle.command_line.specs.CommandLine.{grammar_of_focusd, group_grammar, number_option, period_grammar, threads_grammar, Asks, GivesNumber, GivesPeriod, GivesSize};
+ghost use Rattle.command_line.specs.CommandLine.{bare_grammar, grammar_of_focusd, group_grammar, number_option, period_grammar, threads_grammar, Asks, AsksForHelp, GivesNumber, GivesPeriod, GivesSize};
+ghost use Rattle.command_line.specs.Inner.Requests.{IsRequestFor};
 ghost use Rattle.clap.specs.declared.builder.value_parser.ValueParser.TheVariants.{Signed};
 
 use crate::commands::Command;
@@ -16,10 +17,23 @@ use std::alloc::Global;
 use thiserror::Error;
 use threads_player::Size;
 
+const FOCUSD: &str =
+    "Turns usage records into FOCUS 1.0 cost rows. Input comes on standard input alone";
+
+const RATE: &str = "Writes the file of a period of one batch, from an input of at most 16 MiB";
+
+const PLAY: &str = "Plays a schedule of at most 16 MiB, and writes its transcript";
+
+const CHECK: &str = "Writes what rate or play refuses of an input of at most 16 MiB, by lines";
+
+const FILE: &str = "Copies the file of a period out of a transcript of at most 4 GiB";
+
+const THREADS: &str = "Runs a group in threads, without an input, and writes a report";
+
 /// Why the program is not asked for anything.
 #[derive(Clone, Copy, Debug, PartialEq, Drop, Error)]
 pub enum LineFault {
-    /// The words are no command of the program. A request for help is none.
+    /// The words are no command of the program, nor a request for help or its version.
     #[error("bad command line")]
     Line,
     /// A growth was refused.
@@ -27,37 +41,58 @@ pub enum LineFault {
     OutOfMemory,
 }
 
-fn fault_of(error: &clap::Error) -> LineFault
-    ensures memory { result ≡ LineFault.OutOfMemory → kind_of error.now ≡ ErrorKind.OutOfMemory }
-    ensures line { result ≡ LineFault.Line → kind_of error.now ≢ ErrorKind.OutOfMemory }
+// What is asked for where the grammar refuses the words: `clap` refuses a request for help, or for
+// the version, so that its caller shows it.
+fn request_of(error: &clap::Error) -> Result<Command, LineFault>
+    ensures request { IfOk result (λ command. IsRequestFor command (kind_of error.now)) }
+    ensures line { result ≡ Err LineFault.Line → (kind_of error.now ≢ ErrorKind.OutOfMemory)
+        × (kind_of error.now ≢ ErrorKind.DisplayHelp)
+        × (kind_of error.now ≢ ErrorKind.DisplayVersion) }
 {
     match error.kind() {
-        ErrorKind::OutOfMemory => LineFault::OutOfMemory,
-        _ => LineFault::Line,
+        ErrorKind::DisplayHelp => Ok(Command::Help),
+        ErrorKind::DisplayVersion => Ok(Command::Version),
+        ErrorKind::OutOfMemory => Err(LineFault::OutOfMemory),
+        _ => Err(LineFault::Line),
     }
 }
 
 // `--NAME N`, which may not be left out
-fn number_option<'a>(alloc: Global, name: &'a str, parser: ValueParser<'a>) -> Arg<'a>
+fn number_option<'a>(
+    alloc: Global,
+    name: &'a str,
+    help: &'a str,
+    parser: ValueParser<'a>,
+) -> Arg<'a>
     ensures rule { (least most : ℕ) → parser.entry ≡ Signed (pos least) (pos most)
         → rule_of result ≡ number_option name.entry.now least most }
     ensures local { result.global ≡ false }
 {
     Arg::new(alloc, name)
         .long(name)
+        .help(help)
         .required(true)
         .action(ArgAction::Set)
         .value_parser(parser)
 }
 
 // `rate --period P` or `file --period P`
-fn period_grammar<'a>(alloc: Global, name: &'a str) -> Result<clap::Command<'a>, LineFault>
+fn period_grammar<'a>(
+    alloc: Global,
+    name: &'a str,
+    about: &'a str,
+) -> Result<clap::Command<'a>, LineFault>
     ensures app { IfOk result (λ c. app_of c ≡ period_grammar name.entry.now) }
     ensures local { IfOk result (λ c. (out-Command c).has_globals ≡ false) }
     ensures memory { result ≢ Err LineFault.Line }
 {
-    let period = number_option(alloc, "period", clap::value_parser!(u16).range(0..1200));
-    match clap::Command::new(alloc, name).arg(period) {
+    let period = number_option(
+        alloc,
+        "period",
+        "The billing period, in months from the base of the price sheet: 0 to 1199",
+        clap::value_parser!(u16).range(0..1200),
+    );
+    match clap::Command::new(alloc, name).about(about).arg(period) {
         Ok(command) => Ok(command),
         Err(_) => Err(LineFault::OutOfMemory),
     }
@@ -69,9 +104,20 @@ fn group_grammar<'a>(alloc: Global) -> Result<clap::Command<'a>, LineFault>
     ensures local { IfOk result (λ c. (out-Command c).has_globals ≡ false) }
     ensures memory { result ≢ Err LineFault.Line }
 {
-    let nodes = number_option(alloc, "nodes", clap::value_parser!(u8).range(1..10));
-    let agents = number_option(alloc, "agents", clap::value_parser!(u8).range(1..10));
-    let Ok(threads) = clap::Command::new(alloc, "threads").arg(nodes) else {
+    let nodes = number_option(
+        alloc,
+        "nodes",
+        "How many nodes: 1 to 9",
+        clap::value_parser!(u8).range(1..10),
+    );
+    let agents = number_option(
+        alloc,
+        "agents",
+        "How many agents: 1 to 9",
+        clap::value_parser!(u8).range(1..10),
+    );
+    let threads = clap::Command::new(alloc, "threads").about(THREADS);
+    let Ok(threads) = threads.arg(nodes) else {
         return Err(LineFault::OutOfMemory);
     };
     match threads.arg(agents) {
@@ -86,8 +132,18 @@ fn threads_grammar<'a>(alloc: Global) -> Result<clap::Command<'a>, LineFault>
     ensures local { IfOk result (λ c. (out-Command c).has_globals ≡ false) }
     ensures memory { result ≢ Err LineFault.Line }
 {
-    let batches = number_option(alloc, "batches", clap::value_parser!(u8).range(1..100));
-    let periods = number_option(alloc, "periods", clap::value_parser!(u8).range(1..13));
+    let batches = number_option(
+        alloc,
+        "batches",
+        "How many batches of each agent: 1 to 99",
+        clap::value_parser!(u8).range(1..100),
+    );
+    let periods = number_option(
+        alloc,
+        "periods",
+        "How many months: 1 to 12",
+        clap::value_parser!(u8).range(1..13),
+    );
     let Ok(group) = group_grammar(alloc)?.arg(batches) else {
         return Err(LineFault::OutOfMemory);
     };
@@ -97,33 +153,57 @@ fn threads_grammar<'a>(alloc: Global) -> Result<clap::Command<'a>, LineFault>
     }
 }
 
+// Without its commands: `help` is none of them, since `--help` asks for it.
+fn bare_grammar<'a>(alloc: Global) -> Result<clap::Command<'a>, LineFault>
+    ensures app { IfOk result (λ c. app_of c ≡ bare_grammar) }
+    ensures memory { result ≢ Err LineFault.Line }
+{
+    let Ok(focusd) = clap::Command::new(alloc, "focusd").bin_name("focusd") else {
+        return Err(LineFault::OutOfMemory);
+    };
+    Ok(
+        focusd
+            .about(FOCUSD)
+            .version("0.3.0")
+            .no_binary_name(true)
+            .disable_help_subcommand(true)
+            .subcommand_required(true),
+    )
+}
+
+// A command without options
+fn plain_grammar<'a>(alloc: Global, name: &'a str, about: &'a str) -> clap::Command<'a>
+    ensures app { app_of result ≡ new_app name.entry.now }
+    ensures local { (out-Command result).has_globals ≡ false }
+{
+    clap::Command::new(alloc, name).about(about)
+}
+
+fn with<'a>(
+    grammar: clap::Command<'a>,
+    command: clap::Command<'a>,
+) -> Result<clap::Command<'a>, LineFault>
+    requires local { (out-Command command).has_globals ≡ false }
+    ensures app { IfOk result
+        (λ c. app_of c ≡ with_subcommand (app_of grammar.entry) (app_of command.entry).top) }
+    ensures memory { result ≢ Err LineFault.Line }
+{
+    match grammar.subcommand(command) {
+        Ok(grammar) => Ok(grammar),
+        Err(_) => Err(LineFault::OutOfMemory),
+    }
+}
+
 // The words of all commands, without the program's name
 fn grammar<'a>(alloc: Global) -> Result<clap::Command<'a>, LineFault>
     ensures app { IfOk result (λ c. app_of c ≡ grammar_of_focusd) }
     ensures memory { result ≢ Err LineFault.Line }
 {
-    let rate = period_grammar(alloc, "rate")?;
-    let file = period_grammar(alloc, "file")?;
-    let threads = threads_grammar(alloc)?;
-    let focusd = clap::Command::new(alloc, "focusd")
-        .no_binary_name(true)
-        .subcommand_required(true);
-    let Ok(rating) = focusd.subcommand(rate) else {
-        return Err(LineFault::OutOfMemory);
-    };
-    let Ok(playing) = rating.subcommand(clap::Command::new(alloc, "play")) else {
-        return Err(LineFault::OutOfMemory);
-    };
-    let Ok(checking) = playing.subcommand(clap::Command::new(alloc, "check")) else {
-        return Err(LineFault::OutOfMemory);
-    };
-    let Ok(filing) = checking.subcommand(file) else {
-        return Err(LineFault::OutOfMemory);
-    };
-    match filing.subcommand(threads) {
-        Ok(grammar) => Ok(grammar),
-        Err(_) => Err(LineFault::OutOfMemory),
-    }
+    let rating = with(bare_grammar(alloc)?, period_grammar(alloc, "rate", RATE)?)?;
+    let playing = with(rating, plain_grammar(alloc, "play", PLAY))?;
+    let checking = with(playing, plain_grammar(alloc, "check", CHECK))?;
+    let filing = with(checking, period_grammar(alloc, "file", FILE)?)?;
+    with(filing, threads_grammar(alloc)?)
 }
 
 // The period that the option gives, where it is one
@@ -175,7 +255,7 @@ pub fn command(alloc: Global, words: &[String]) -> Result<Command, LineFault>
 {
     let matches = match grammar(alloc)?.try_get_matches_from(words) {
         Ok(matches) => matches,
-        Err(error) => return Err(fault_of(&error)),
+        Err(error) => return request_of(&error),
     };
     if matches.subcommand_matches("play").is_some() {
         return Ok(Command::Play);
@@ -202,4 +282,44 @@ pub fn command(alloc: Global, words: &[String]) -> Result<Command, LineFault>
         return Err(LineFault::Line);
     };
     Ok(Command::Rate { period })
+}
+
+// The error's text, which is never empty: of one that is, some part found no memory.
+fn shown(alloc: Global, error: &clap::Error) -> Result<String, LineFault>
+    ensures text { IfOk result (λ text. string_bytes text ≢ []) }
+    ensures memory { result ≢ Err LineFault.Line }
+{
+    let Ok(text) = format!(in alloc; "{error}") else {
+        return Err(LineFault::OutOfMemory);
+    };
+    if text.as_str().is_empty() {
+        return Err(LineFault::OutOfMemory);
+    }
+    Ok(text)
+}
+
+// The text of a request for help
+fn text_of(alloc: Global, error: &clap::Error) -> Result<String, LineFault>
+    ensures text { IfOk result (λ text. string_bytes text ≢ []) }
+    ensures line { result ≡ Err LineFault.Line → (kind_of error.now ≢ ErrorKind.OutOfMemory)
+        × (kind_of error.now ≢ ErrorKind.DisplayHelp) }
+{
+    match error.kind() {
+        ErrorKind::DisplayHelp => shown(alloc, error),
+        ErrorKind::OutOfMemory => Err(LineFault::OutOfMemory),
+        _ => Err(LineFault::Line),
+    }
+}
+
+/// The help that the words behind the program's name ask for, which is `clap`'s text and not empty.
+///
+/// `Line` says that they ask for none, and `OutOfMemory` nothing of them.
+pub fn help(alloc: Global, words: &[String]) -> Result<String, LineFault>
+    ensures text { IfOk result (λ text. string_bytes text ≢ []) }
+    ensures not_asked { result ≡ Err LineFault.Line → ¬ AsksForHelp (map string_bytes words.now) }
+{
+    match grammar(alloc)?.try_get_matches_from(words) {
+        Ok(_) => Err(LineFault::Line),
+        Err(error) => text_of(alloc, &error),
+    }
 }

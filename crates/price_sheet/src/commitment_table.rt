@@ -35,8 +35,8 @@ pub(crate) fn read_commitments(
     Ok(rows)
 }
 
-/// What was read of one more table, told of its place: the commitment, or its first fault. Nothing is allocated, so
-/// want of it is told only where reading met it.
+/// What was read of one more table, with its place in a fault: the commitment, or its first fault. OutOfMemory is
+/// returned only where reading met it.
 fn placed_commitment(
     prices: &PriceTable,
     rows: &IdTable<Commitment>,

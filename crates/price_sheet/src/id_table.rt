@@ -70,7 +70,7 @@ impl<R: Named> IdTable<R> {
 }
 
 impl<R: Named + Drop> IdTable<R> {
-    /// Puts a row after the others, whose id is new. Where an allocation fails the table stays as it was.
+    /// Puts a row behind the others, whose id is new.
     pub(crate) fn put(&mut self, alloc: Global, row: R) -> Result<(), AllocError>
         requires few { length self.old < 10_000 }
         requires new { list_any (λ x. is_same (R.id row) (R.id x)) self.old ≡ false }
@@ -82,6 +82,7 @@ impl<R: Named + Drop> IdTable<R> {
         match self.places.insert(id, place) {
             Ok(_) => Ok(()),
             Err(_) => {
+                // The rows are again those whose places are kept.
                 self.rows.pop();
                 Err(AllocError)
             }

@@ -126,8 +126,8 @@ fn is_priced_before(rows: &[PriceRow], index: &PriceIndex, row: &PriceRow) -> bo
     }
 }
 
-/// What was read of one more table, told of its place: the row, or its first fault. Nothing is allocated, so want of it
-/// is told only where reading met it.
+/// What was read of one more table, with its place in a fault: the row, or its first fault. OutOfMemory is returned
+/// only where reading met it.
 fn placed_price(
     rows: &[PriceRow],
     index: &PriceIndex,

@@ -29,8 +29,8 @@ pub(crate) fn read_regions(alloc: Global, tables: &[&Table]) -> Result<IdTable<R
     Ok(rows)
 }
 
-/// What was read of one more table, told of its place: the region, or its first fault. Nothing is allocated, so want of
-/// it is told only where reading met it.
+/// What was read of one more table, with its place in a fault: the region, or its first fault. OutOfMemory is returned
+/// only where reading met it.
 fn placed_region(
     rows: &IdTable<Region>,
     read: Result<Region, KeyFault>,

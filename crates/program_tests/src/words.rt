@@ -78,7 +78,7 @@ fn a_group_in_threads_is_asked_for(rt: HostRuntime) -> Result<(), Fail> {
 const NOTHING: &str = "rate --period -1
 rate --period 65536
 rate --period 0 --period 0
-rate --help
+rate --version
 file
 file --period 1200
 file --period 0 --period 0
@@ -86,7 +86,9 @@ file rate --period 0
 check --period 0
 check play
 rate --period 0 file
---version
+rate 0 --help
+rate --period 1200 --help
+--versions
 help
 focusd rate --period 0
 threads --nodes 0 --agents 1 --batches 1 --periods 1
@@ -95,6 +97,16 @@ threads --nodes 1 --agents 1 --batches 100 --periods 1
 threads --nodes 257 --agents 1 --batches 1 --periods 1
 threads
 ";
+
+#[test]
+fn help_and_the_version_are_asked_for(rt: HostRuntime) -> Result<(), Fail> {
+    let requests = "--help\n-h\nrate --help\nrate --period 0 -h\nthreads --nodes 1 --help file";
+    let other = first_other(rt.alloc(), requests, Ok(Command::Help))?;
+    assert_eq!(rt; other, None);
+    let other = first_other(rt.alloc(), "--version\n-V", Ok(Command::Version))?;
+    assert_eq!(rt; other, None);
+    Ok(())
+}
 
 #[test]
 fn check_has_no_words_and_others_ask_for_nothing(rt: HostRuntime) -> Result<(), Fail> {

@@ -5,6 +5,7 @@ use Rattle.std.specs.declared.sync.Arc.{Arc}
 use Rattle.std.specs.declared.alloc.Global.{Global}
 use Rattle.std.specs.declared.vec.Vec.{Vec}
 use Rattle.std.specs.Arc.{arc_value}
+use Rattle.metering_model.specs.Limits.{last_sequence}
 use Rattle.batch_store.specs.Inner.Shelves.{Shared}
 
 -- a part of batches, which is shared
@@ -26,7 +27,7 @@ pub record IsRow (parts : List Part) (last : List Shared) (many : ℕ) : Type 0 
   pub full : AreFull parts
   pub few : length last < 64
   pub count : many ≡ length (in_parts parts last)
-  pub short : length (in_parts parts last) ≤ 1_000_000
+  pub short : length (in_parts parts last) ≤ last_sequence
 
 -- the batches of the part with that number, or those behind the parts
 abbrev pub part_at : List Part → List Shared → ℕ → List Shared

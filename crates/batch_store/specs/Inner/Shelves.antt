@@ -6,6 +6,7 @@ use Rattle.std.specs.declared.alloc.Global.{Global}
 use Rattle.std.specs.Arc.{arc_value}
 use Rattle.metering_model.specs.Batch.{Batch}
 use Rattle.metering_model.specs.Holding.{Holding}
+use Rattle.metering_model.specs.Limits.{last_sequence}
 use Rattle.batch_view.specs.Batches.{batch_of}
 use Rattle.batch_store.specs.Stores.{Stored, IsStored}
 
@@ -59,7 +60,7 @@ Rises n (b ∷ h) = (n ≤ b.seq) × Rises (b.seq + 1) h
 -- each is filed under its sequence, and these rise from n on, up to 1,000,000
 abbrev pub AreFiled : ℕ → List Filed → Type 0
 AreFiled n [] = Unit {0}
-AreFiled n (e ∷ es) = (n ≤ e.0) × (e.0 ≤ 1_000_000) × ((batch_shared e.1).seq ≡ e.0) × AreFiled (e.0 + 1) es
+AreFiled n (e ∷ es) = (n ≤ e.0) × (e.0 ≤ last_sequence) × ((batch_shared e.1).seq ≡ e.0) × AreFiled (e.0 + 1) es
 
 -- those without a gap, and then those ahead of it
 abbrev pub on_shelf : List Shared → List Filed → Holding
@@ -68,7 +69,7 @@ on_shelf whole ahead = batches_shared whole ++ batches_filed ahead
 -- first the batches from sequence 1 on without a gap, and then later ones under their sequences
 pub record IsShelf (whole : List Shared) (ahead : List Filed) : Type 0 where
   pub counted : AreCounted 1 (batches_shared whole)
-  pub short : length whole ≤ 1_000_000
+  pub short : length whole ≤ last_sequence
   pub filed : AreFiled (length whole + 1) ahead
 
 -- all batches are of one agent

@@ -1,0 +1,10 @@
+mod DayNumbers
+mod FirstDays
+mod KeptLatest
+mod PriceDays
+mod CommitmentLaws
+mod RegionLaws
+mod LikenessLaws
+mod SaidLaws
+mod TwoSheets
+mod WorkedChanges

@@ -1,0 +1,218 @@
+//! `focusd sheets`: what a new price sheet does to closed months.
+
+ghost use Rattle.std.specs.Prelude.{◌≡◌, ◌≢◌, ◌↔◌, [], ℕ, List, Ok, Err, IfOk, IfErr, IfSome, IsTrue, OnOk};
+ghost use Rattle.std.specs.Io.KnownBytes.{Appends, IsAtEnd};
+ghost use Rattle.counted_io.specs.Counts.{Rises, count_after};
+ghost use Rattle.counted_io.specs.Reading.{ConsumesAtMost};
+ghost use Rattle.counted_io.specs.Writing.{AppendsPrefix};
+ghost use Rattle.metering_model.specs.Sheet as model;
+ghost use Rattle.metering_model.specs.SheetRules.{IsSheet};
+ghost use Rattle.metering_model.specs.declared.Refusal.{Refusal};
+ghost use Rattle.input_sections.specs.declared.faults.ScheduleFault.{ScheduleFault};
+ghost use Rattle.program_input.specs.Faults.{tells_of_reader, tells_of_writer};
+ghost use Rattle.sheet_changes.specs.Changes.{GoesOnBy, IsSaidOf, SaysChanges, StaysBefore, two_sheets_in};
+ghost use Rattle.sheet_changes.specs.Faults.{of_input};
+ghost use Rattle.sheet_changes.specs.Inner.Compared.{StaysBy, likeness_of, nothing_behind};
+
+use crate::comparisons::{Likeness, likeness_between, put_likeness};
+use crate::faults::SheetsFault;
+use crate::regions::put_regions;
+use counted_io::{Sink, Source, write_all};
+use input_sections::{ScheduleCode, ScheduleFault, Unread, read_sheet};
+use price_sheet::Sheet;
+use program_input::{PlayFault, read_input};
+use std::alloc::{AllocError, Global};
+use utc_calendar::Day;
+
+/// Refuses what stands behind the last section.
+fn nothing_behind(unread: &Unread<'_>) -> Result<(), ScheduleFault>
+    ensures taken { IfOk result (λ none. nothing_behind unread.now ≡ Ok none) }
+    ensures refused { IfErr result
+        (λ fault. (fault ≢ ScheduleFault.OutOfMemory) × (nothing_behind unread.now ≡ Err fault)) }
+{
+    if unread.left().is_empty() {
+        Ok(())
+    } else {
+        Err(ScheduleFault::Refused {
+            code: ScheduleCode::Sheet,
+            line: unread.line(),
+        })
+    }
+}
+
+/// The old sheet and the new one of an input, each in a section of its own.
+#[tactic(auto, unfolding(crate::specs::Changes::two_sheets_in))]
+fn two_sheets(alloc: Global, text: &[u8]) -> Result<(Sheet, Sheet), ScheduleFault>
+    ensures taken { IfOk result (λ both. two_sheets_in text.now ≡ Ok (both.0, both.1)) }
+    ensures refused { IfErr result (λ fault. fault ≢ ScheduleFault.OutOfMemory → two_sheets_in text.now ≡ Err fault) }
+    ensures rules { IfOk result (λ both. IsSheet both.0 × IsSheet both.1) }
+{
+    let unread = Unread::whole(text)?;
+    let (old, unread) = read_sheet(alloc, &unread)?;
+    let (new, unread) = read_sheet(alloc, &unread)?;
+    match nothing_behind(&unread) {
+        Ok(()) => Ok((old, new)),
+        Err(fault) => Err(fault),
+    }
+}
+
+/// Whether a new sheet goes on from a day, as its likeness tells.
+fn goes_on(likeness: &Likeness<'_>, day: Day) -> bool
+    ensures { IsTrue result ↔ GoesOnBy (likeness_of likeness.now) day }
+{
+    match likeness {
+        Likeness::Alike => true,
+        Likeness::AlikeBefore(last) => day <= *last,
+        Likeness::UnlikeBase | Likeness::UnlikeCommitment(_) => false,
+    }
+}
+
+/// Whether all stays that is asked for, by a likeness and by whether no region is listed.
+fn stays(before: Option<Day>, likeness: &Likeness<'_>, none_listed: bool) -> bool
+    ensures { IsTrue result ↔ StaysBy before (likeness_of likeness.now) none_listed }
+{
+    match before {
+        Some(day) => none_listed && goes_on(likeness, day),
+        None => true,
+    }
+}
+
+/// Puts what is said of two sheets into an empty text. It answers whether all stays that is asked for.
+fn put_changes(
+    text: &mut Vec<u8>,
+    before: Option<Day>,
+    old: &Sheet,
+    new: &Sheet,
+) -> Result<bool, AllocError>
+    requires empty { text.old.items ≡ [] }
+    requires rules { IsSheet old.now × IsSheet new.now }
+    ensures says { OnOk result (SaysChanges old.now new.now text.new.items) }
+    ensures stays { IfOk result (λ stays. IsTrue stays ↔ StaysBefore before old.now new.now) }
+{
+    let likeness = likeness_between(old, new);
+    put_likeness(text, &likeness)?;
+    let first = text.len();
+    put_regions(text, old, new)?;
+    Ok(stays(before, &likeness, text.len() == first))
+}
+
+/// Writes what is said of two sheets, all at once: at want of memory nothing.
+fn write_changes<W: Sink>(
+    alloc: Global,
+    before: Option<Day>,
+    old: &Sheet,
+    new: &Sheet,
+    writer: &mut W,
+) -> Result<bool, PlayFault>
+    requires { IsSheet old.now × IsSheet new.now }
+    ensures said { IfOk result (λ stays. (IsTrue stays ↔ StaysBefore before old.now new.now)
+        × (text : List ℕ) × SaysChanges old.now new.now text
+        × Appends (W.contents writer.old) (W.contents writer.new) text) }
+    ensures prefix { result ≡ Err PlayFault.Write → (text : List ℕ) × SaysChanges old.now new.now text
+        × AppendsPrefix (W.contents writer.old) (W.contents writer.new) text }
+    ensures untouched { IfErr result (λ fault. fault ≢ PlayFault.Write → writer.new ≡ writer.old) }
+    ensures others { (result ≢ Err PlayFault.Read) × ((fault : ScheduleFault) → result ≢ Err (PlayFault.Schedule fault))
+        × ((refusal : Refusal) → result ≢ Err (PlayFault.Refused refusal)) }
+    ensures write_fault { result ≡ Err PlayFault.Write
+        → Rises (W.failed_calls writer.old) (W.failed_calls writer.new) }
+    ensures writes { W.failed_calls writer.new
+        ≡ count_after (tells_of_writer result) (W.failed_calls writer.old) }
+{
+    let mut text = Vec::new(alloc);
+    let Ok(stays) = put_changes(&mut text, before, old, new) else {
+        return Err(PlayFault::OutOfMemory);
+    };
+    match write_all(writer, &text) {
+        Ok(()) => Ok(stays),
+        Err(_) => Err(PlayFault::Write),
+    }
+}
+
+/// Writes what is said of the two sheets of an input that was read.
+fn compare_input<W: Sink>(
+    alloc: Global,
+    before: Option<Day>,
+    input: &[u8],
+    writer: &mut W,
+) -> Result<bool, PlayFault>
+    ensures said { IfOk result
+        (λ stays. (old new : model.Sheet) × (text : List ℕ)
+        × (IsTrue stays ↔ StaysBefore before old new)
+        × (two_sheets_in input.now ≡ Ok (old, new)) × SaysChanges old new text
+        × Appends (W.contents writer.old) (W.contents writer.new) text) }
+    ensures prefix { result ≡ Err PlayFault.Write → (old new : model.Sheet) × (text : List ℕ)
+        × (two_sheets_in input.now ≡ Ok (old, new)) × SaysChanges old new text
+        × AppendsPrefix (W.contents writer.old) (W.contents writer.new) text }
+    ensures section { (fault : ScheduleFault) → result ≡ Err (PlayFault.Schedule fault)
+        → (fault ≢ ScheduleFault.OutOfMemory) × (two_sheets_in input.now ≡ Err fault) }
+    ensures untouched { IfErr result (λ fault. fault ≢ PlayFault.Write → writer.new ≡ writer.old) }
+    ensures others { (result ≢ Err PlayFault.Read) × ((refusal : Refusal) → result ≢ Err (PlayFault.Refused refusal)) }
+    ensures write_fault { result ≡ Err PlayFault.Write
+        → Rises (W.failed_calls writer.old) (W.failed_calls writer.new) }
+    ensures writes { W.failed_calls writer.new
+        ≡ count_after (tells_of_writer result) (W.failed_calls writer.old) }
+{
+    match two_sheets(alloc, input) {
+        Ok((old, new)) => write_changes(alloc, before, &old, &new, writer),
+        Err(fault) => Err(PlayFault::from(fault)),
+    }
+}
+
+/// Reads the sections of an old sheet and a new one, and writes what the new one does to closed months: a line that says from
+/// which days it goes on, and a line for each region that the two do not name alike.
+///
+/// Where a day is given, files of months that end before it are to stay, and where they do not, that is told once all lines
+/// were written (`Unlike`). At most 16,777,217 bytes are read. After `Write` a prefix of the lines was written, and after any
+/// fault but that and `Unlike` nothing. `Refused` is never answered.
+pub fn sheets_text<R: Source, W: Sink>(
+    alloc: Global,
+    before: Option<Day>,
+    reader: &mut R,
+    writer: &mut W,
+) -> Result<(), SheetsFault>
+    // With Ok just what is said of the two sheets was written, and all stays that was asked for.
+    ensures said { OnOk result
+        ((old new : model.Sheet) × (text : List ℕ) × IsSaidOf (R.remaining reader.old) old new text
+        × StaysBefore before old new × Appends (W.contents writer.old) (W.contents writer.new) text) }
+
+    // With `Unlike` it was written too, and not all stays.
+    ensures unlike { result ≡ Err SheetsFault.Unlike
+        → (old new : model.Sheet) × (text : List ℕ) × IsSaidOf (R.remaining reader.old) old new text
+        × (¬ StaysBefore before old new) × Appends (W.contents writer.old) (W.contents writer.new) text }
+
+    // After `Write` a prefix of it was, and never all of it.
+    ensures prefix { result ≡ Err (SheetsFault.Input PlayFault.Write)
+        → (old new : model.Sheet) × (text : List ℕ) × IsSaidOf (R.remaining reader.old) old new text
+        × AppendsPrefix (W.contents writer.old) (W.contents writer.new) text }
+    ensures section { (fault : ScheduleFault) → result ≡ Err (SheetsFault.Input (PlayFault.Schedule fault))
+        → IfSome (R.remaining reader.old) (λ input. two_sheets_in input ≡ Err fault) }
+    ensures plain_memory { result ≢ Err (SheetsFault.Input (PlayFault.Schedule ScheduleFault.OutOfMemory)) }
+    ensures unrefused { (refusal : Refusal) → result ≢ Err (SheetsFault.Input (PlayFault.Refused refusal)) }
+    ensures untouched { IfErr result (λ fault. fault ≢ SheetsFault.Unlike → fault ≢ SheetsFault.Input PlayFault.Write
+        → writer.new ≡ writer.old) }
+    ensures read { ConsumesAtMost 16_777_217 (R.remaining reader.old) (R.remaining reader.new) }
+
+    // With Ok and with `Unlike` nothing is left to read.
+    ensures end { OnOk result (IsAtEnd (R.remaining reader.new)) }
+    ensures end_unlike { result ≡ Err SheetsFault.Unlike → IsAtEnd (R.remaining reader.new) }
+
+    // `Read` and `Write` come of one failed call each, and no other call fails.
+    ensures read_fault { result ≡ Err (SheetsFault.Input PlayFault.Read)
+        → Rises (R.failed_calls reader.old) (R.failed_calls reader.new) }
+    ensures write_fault { result ≡ Err (SheetsFault.Input PlayFault.Write)
+        → Rises (W.failed_calls writer.old) (W.failed_calls writer.new) }
+    ensures reads { R.failed_calls reader.new
+        ≡ count_after (tells_of_reader (of_input tt result)) (R.failed_calls reader.old) }
+    ensures writes { W.failed_calls writer.new
+        ≡ count_after (tells_of_writer (of_input tt result)) (W.failed_calls writer.old) }
+{
+    let input = match read_input(alloc, reader) {
+        Ok(input) => input,
+        Err(fault) => return Err(SheetsFault::Input(fault)),
+    };
+    match compare_input(alloc, before, &input, writer) {
+        Ok(true) => Ok(()),
+        Ok(false) => Err(SheetsFault::Unlike),
+        Err(fault) => Err(SheetsFault::Input(fault)),
+    }
+}

@@ -1,0 +1,76 @@
+//! The regions that two sheets name otherwise, and a line for each.
+
+ghost use Rattle.std.specs.Prelude.{◌≡◌, ◌++◌, ◌∷◌, [], List, ℕ, filter, OnOk};
+ghost use Rattle.std.specs.Option.{option_map};
+ghost use Rattle.metering_model.specs.Transcript.{line};
+ghost use Rattle.sheet_changes.specs.Changes.{region_lines};
+ghost use Rattle.sheet_changes.specs.Inner.Compared.{ids_of, is_added, is_named_otherwise, unlike_regions};
+
+use price_sheet::{Region, Sheet};
+use std::alloc::AllocError;
+
+fn is_named_otherwise(old: &Sheet, new: &Sheet, region: &Region) -> bool
+    ensures { result ≡ is_named_otherwise old.now new.now region.now }
+{
+    let id = region.id().as_bytes();
+    match old.region(id) {
+        Some(name) => new.region(id).is_none_or(|other| other != name),
+        None => new.region(id).is_some(),
+    }
+}
+
+fn is_added(old: &Sheet, region: &Region) -> bool
+    ensures { result ≡ is_added old.now region.now }
+{
+    old.region(region.id().as_bytes()).is_none()
+}
+
+/// Appends the line of a region.
+fn put_region(text: &mut Vec<u8>, region: &Region) -> Result<(), AllocError>
+    ensures { OnOk result (text.new.items ≡ text.old.items ++ region_lines (region.now.id ∷ [])) }
+{
+    text.extend_from_slice(b"region ")?;
+    text.extend_from_slice(region.id().as_bytes())?;
+    text.push(b'\n')?;
+    Ok(())
+}
+
+/// Appends the lines of those regions that the two sheets name otherwise.
+fn put_renamed(
+    text: &mut Vec<u8>,
+    regions: &[Region],
+    old: &Sheet,
+    new: &Sheet,
+) -> Result<(), AllocError>
+    ensures { OnOk result (text.new.items ≡ text.old.items
+        ++ region_lines (ids_of (filter (is_named_otherwise old.now new.now) regions.now))) }
+{
+    for region in regions {
+        if is_named_otherwise(old, new, region) {
+            put_region(text, region)?;
+        }
+    }
+    Ok(())
+}
+
+/// Appends the lines of those regions that the old sheet lacks.
+fn put_added(text: &mut Vec<u8>, regions: &[Region], old: &Sheet) -> Result<(), AllocError>
+    ensures { OnOk result (text.new.items ≡ text.old.items
+        ++ region_lines (ids_of (filter (is_added old.now) regions.now))) }
+{
+    for region in regions {
+        if is_added(old, region) {
+            put_region(text, region)?;
+        }
+    }
+    Ok(())
+}
+
+/// Appends a line for each region that the two sheets do not name alike: those of the old sheet in its order, then those that
+/// the new one alone has.
+pub(crate) fn put_regions(text: &mut Vec<u8>, old: &Sheet, new: &Sheet) -> Result<(), AllocError>
+    ensures { OnOk result (text.new.items ≡ text.old.items ++ region_lines (unlike_regions old.now new.now)) }
+{
+    put_renamed(text, old.regions(), old, new)?;
+    put_added(text, new.regions(), old)
+}
