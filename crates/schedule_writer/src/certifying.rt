@@ -28,7 +28,10 @@ fn do_event(
     requires nodes { plan.now.nodes ≤ 99 }
     requires last { plan.now.last ≤ 1_199 }
     requires whole { HasWholeLines planned.now }
-    ensures seen { IfOk result (λ next. behind (plan_of plan.now) seen (step world.old (event_of (planned_of planned.now))).0 (planned_of planned.now) ≡ Some next) }
+    ensures seen { IfOk result
+        (λ next. behind (plan_of plan.now) seen
+        (step world.old (event_of (planned_of planned.now))).0 (planned_of planned.now)
+        ≡ Some next) }
     ensures world { OnOk result (world.new ≡ (step world.old (event_of (planned_of planned.now))).1) }
 {
     let Ok(event) = event_of(alloc, planned) else {
@@ -53,7 +56,8 @@ fn do_events(
     requires nodes { plan.now.nodes ≤ 99 }
     requires last { plan.now.last ≤ 1_199 }
     requires whole { All HasWholeLines events.now }
-    ensures { IfOk result (λ seen. behind_all (plan_of plan.now) nothing_seen world.old (map planned_of events.now) ≡ Some seen) }
+    ensures { IfOk result (λ seen. behind_all (plan_of plan.now) nothing_seen world.old
+        (map planned_of events.now) ≡ Some seen) }
 {
     let mut seen = Seen {
         journaled: 0,
@@ -78,7 +82,9 @@ fn read_back<'a>(
     ensures taken { IfOk result (λ s. schedule_in text.now
         ≡ Ok (record { voters = s.voters; observers = s.observers; agents = s.agents; sheet = s.sheet; issuer = s.issuer; events = map planned_of s.events.items })) }
     ensures lines { IfOk result (λ s. All HasWholeLines s.events.items) }
-    ensures group { IfOk result (λ s. (s.voters ≡ plan.now.voters) × (s.observers ≡ plan.now.observers) × (s.agents ≡ agents)) }
+    ensures group { IfOk result
+        (λ s. (s.voters ≡ plan.now.voters) × (s.observers ≡ plan.now.observers)
+        × (s.agents ≡ agents)) }
     ensures sheet { IfOk result (λ s. s.sheet ≡ sheet.now) }
     ensures issuer { IfOk result (λ s. s.issuer ≡ issuer.now) }
 {
@@ -110,7 +116,8 @@ pub(crate) fn certify(
     requires nodes { (plan.now.nodes ≡ plan.now.voters + plan.now.observers) × (plan.now.nodes ≤ 99) }
     requires last { plan.now.last ≤ 1_199 }
     requires agents { (1 ≤ agents) × (agents ≤ 64) }
-    ensures { OnOk result (IsCertified (plan_of plan.now) plan.now.voters plan.now.observers agents sheet.now issuer.now text.now) }
+    ensures { OnOk result (IsCertified
+        (plan_of plan.now) plan.now.voters plan.now.observers agents sheet.now issuer.now text.now) }
 {
     let schedule = read_back(alloc, plan, agents, sheet, issuer, text)?;
     let Schedule {

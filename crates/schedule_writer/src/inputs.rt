@@ -96,8 +96,11 @@ pub(crate) fn read_items<'a>(
     from: usize,
 ) -> Result<Items<'a>, AllocError>
     requires { from ≤ length input.now }
-    ensures batches { IfOk result (λ items. map offered_of items.batches.items ≡ batches_of (items_in (length input.now) input.now from)) }
-    ensures closes { IfOk result (λ items. items.closes.items ≡ closes_from 0 (items_in (length input.now) input.now from)) }
+    ensures batches { IfOk result
+        (λ items. map offered_of items.batches.items
+        ≡ batches_of (items_in (length input.now) input.now from)) }
+    ensures closes { IfOk result
+        (λ items. items.closes.items ≡ closes_from 0 (items_in (length input.now) input.now from)) }
 {
     let mut items = Items {
         batches: Vec::new(alloc),

@@ -185,7 +185,8 @@ fn judge(
     ensures last { IfOk result (λ r. IsLaterStart sheet.now.base (batch_of offered.now.text.now) asked.last r.last) }
     ensures within { IfOk result (λ r. (r.last ≤ 1_199) × (1 ≤ r.agents) × (r.agents ≤ 64)) }
     ensures refused { (line : ℕ) (why : Refusal) → result ≡ Err (WriteFault.Refused line why)
-        → (answer_to world.old offered.now.text.now ≡ Refused why) × IsLineOf input.now world.old (offered_of offered.now) why line }
+        → (answer_to world.old offered.now.text.now ≡ Refused why)
+        × IsLineOf input.now world.old (offered_of offered.now) why line }
     ensures others { IfErr result IsOfBatches }
 {
     let Ok(offer) = read_offer(alloc, offered.text) else {

@@ -73,7 +73,8 @@ fn certified_text(
     requires nodes { (plan.now.nodes ≡ plan.now.voters + plan.now.observers) × (plan.now.nodes ≤ 99) }
     requires last { plan.now.last ≤ 1_199 }
     requires agents { (1 ≤ agents) × (agents ≤ 64) }
-    ensures { IfOk result (λ text. IsCertified (plan_of plan.now) plan.now.voters plan.now.observers agents sheet.now issuer.now text.items) }
+    ensures { IfOk result (λ text. IsCertified
+        (plan_of plan.now) plan.now.voters plan.now.observers agents sheet.now issuer.now text.items) }
 {
     let text = schedule_for(alloc, plan, agents, input, batch_from)?;
     certify(alloc, plan, agents, sheet, issuer, &text)?;
@@ -92,9 +93,11 @@ fn schedule_with(
     closes: &[usize],
 ) -> Result<Vec<u8>, WriteFault>
     requires request { IsRequest request }
-    requires read { IsReadInput input.now (arc_value sheet.now) (arc_value issuer.now) (map offered_of batches.now) closes.now }
+    requires read { IsReadInput input.now (arc_value sheet.now) (arc_value issuer.now)
+        (map offered_of batches.now) closes.now }
     ensures schedule { IfOk result (λ text. IsScheduleOf request (Some input.now) input.now text.items) }
-    ensures refused { (line : ℕ) (why : Refusal) → result ≡ Err (WriteFault.Refused line why) → IsRefusedAt input.now line why }
+    ensures refused { (line : ℕ) (why : Refusal) → result ≡ Err (WriteFault.Refused line why)
+        → IsRefusedAt input.now line why }
     ensures others { IfErr result IsOfBatches }
 {
     let asked = judge_all(alloc, sheet, issuer, input, batches)?;
@@ -124,10 +127,12 @@ fn schedule_of(
     given: RateInput,
 ) -> Result<Vec<u8>, WriteFault>
     requires request { IsRequest request }
-    requires given { rate_input_in input.now ≡ Ok (record { sheet = given.sheet; issuer = given.issuer; batch = drop given.batch_from input.now }) }
+    requires given { rate_input_in input.now
+        ≡ Ok (record { sheet = given.sheet; issuer = given.issuer; batch = drop given.batch_from input.now }) }
     requires within { given.batch_from ≤ length input.now }
     ensures schedule { IfOk result (λ text. IsScheduleOf request (Some input.now) input.now text.items) }
-    ensures refused { (line : ℕ) (why : Refusal) → result ≡ Err (WriteFault.Refused line why) → IsRefusedAt input.now line why }
+    ensures refused { (line : ℕ) (why : Refusal) → result ≡ Err (WriteFault.Refused line why)
+        → IsRefusedAt input.now line why }
     ensures others { IfErr result IsOfBatches }
 {
     let RateInput {
@@ -162,7 +167,8 @@ fn schedule_for_input(alloc: Global, request: Request, input: &[u8]) -> Result<V
     ensures schedule { IfOk result (λ text. IsScheduleOf request (Some input.now) input.now text.items) }
     ensures section { (fault : ScheduleFault) → result ≡ Err (WriteFault.Section fault)
         → (fault ≢ ScheduleFault.OutOfMemory) × (rate_input_in input.now ≡ Err fault) }
-    ensures refused { (line : ℕ) (why : Refusal) → result ≡ Err (WriteFault.Refused line why) → IsRefusedAt input.now line why }
+    ensures refused { (line : ℕ) (why : Refusal) → result ≡ Err (WriteFault.Refused line why)
+        → IsRefusedAt input.now line why }
     ensures no_read { result ≢ Err WriteFault.Read }
     ensures no_write { result ≢ Err WriteFault.Write }
 {
