@@ -2,7 +2,8 @@
 
 ghost use Rattle.std.specs.Prelude.{◌≡◌, ◌++◌, ◌∷◌, [], OnOk};
 ghost use Rattle.sheet_changes.specs.Changes.{region_lines};
-ghost use Rattle.sheet_changes.specs.Inner.Compared.{is_added, is_named_otherwise, lines_of, unlike_regions};
+ghost use Rattle.sheet_changes.specs.Inner.Compared.{lines_of};
+ghost use Rattle.sheet_changes.specs.Regions.{is_added, is_named_otherwise, unlike_regions};
 
 use price_sheet::{Region, Sheet};
 use std::alloc::AllocError;
