@@ -137,7 +137,8 @@ fn compare_input<W: Sink>(
     writer: &mut W,
 ) -> Result<bool, PlayFault>
     ensures said { IfOk result (λ stays. (old new : model.Sheet) × (text : List ℕ)
-        × (IsTrue stays ↔ StaysBefore before old new) × (two_sheets_in input.now ≡ Ok (old, new)) × SaysChanges old new text
+        × (IsTrue stays ↔ StaysBefore before old new)
+        × (two_sheets_in input.now ≡ Ok (old, new)) × SaysChanges old new text
         × Appends (W.contents writer.old) (W.contents writer.new) text) }
     ensures prefix { result ≡ Err PlayFault.Write → (old new : model.Sheet) × (text : List ℕ)
         × (two_sheets_in input.now ≡ Ok (old, new)) × SaysChanges old new text
@@ -171,7 +172,8 @@ pub fn sheets_text<R: Source, W: Sink>(
 ) -> Result<(), SheetsFault>
     // With Ok just what is said of the two sheets was written, and all stays that was asked for.
     ensures said { OnOk result ((old new : model.Sheet) × (text : List ℕ)
-        × IsSaidOf (R.remaining reader.old) old new text × StaysBefore before old new × Appends (W.contents writer.old) (W.contents writer.new) text) }
+        × IsSaidOf (R.remaining reader.old) old new text × StaysBefore before old new
+        × Appends (W.contents writer.old) (W.contents writer.new) text) }
 
     // With `Unlike` it was written too, and not all stays.
     ensures unlike { result ≡ Err SheetsFault.Unlike

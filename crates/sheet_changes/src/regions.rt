@@ -41,7 +41,8 @@ fn put_renamed(
     old: &Sheet,
     new: &Sheet,
 ) -> Result<(), AllocError>
-    ensures { OnOk result (text.new.items ≡ text.old.items ++ lines_of (is_named_otherwise old.now new.now) regions.now) }
+    ensures { OnOk result (text.new.items
+        ≡ text.old.items ++ lines_of (is_named_otherwise old.now new.now) regions.now) }
 {
     for region in regions {
         if is_named_otherwise(old, new, region) {
