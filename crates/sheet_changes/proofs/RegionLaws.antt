@@ -13,7 +13,7 @@ use Rattle.metering_model.specs.PriceInForce.{region_named, region_with}
 use Rattle.metering_model.proofs.FieldLaws.{same_read}
 use Rattle.sheet_laws.specs.Longer.{NamesAlike}
 use Rattle.sheet_changes.specs.Changes.{AreUnlikeRegions}
-use Rattle.sheet_changes.specs.Inner.Compared.{ids_of, is_added, is_named_otherwise, is_same_name, unlike_regions}
+use Rattle.sheet_changes.specs.Regions.{ids_of, is_added, is_named_otherwise, is_same_name, unlike_regions}
 use Rattle.sheet_changes.proofs.CommitmentLaws.{find_some, found, same_text}
 
 -- ---- names
@@ -154,8 +154,8 @@ module _ (old new : Sheet) where
       (all_ids (is_added old) (λ id. ¬ NamesAlike old new id) new.regions
       (All-weaker (Contains new.regions) (λ (x : Region). is_added old x ≡ true → ¬ NamesAlike old new x.id) added new.regions (All-contains_itself new.regions)))
 
-  pub all : (id : List ℕ) → ¬ NamesAlike old new id → Contains (unlike_regions old new) id
-  all id other = by_old (region_named old id) refl
+  pub each_listed : (id : List ℕ) → ¬ NamesAlike old new id → Contains (unlike_regions old new) id
+  each_listed id other = by_old (region_named old id) refl
     where
       ones : List (List ℕ)
       ones = ids_of (filter (is_named_otherwise old new) old.regions)
@@ -205,7 +205,7 @@ module _ (old new : Sheet) where
       ]
 
   pub are_unlike : IsSheet old → IsSheet new → AreUnlikeRegions old new (unlike_regions old new)
-  are_unlike old_ok new_ok = record { unlike = unlike; all = all; once = once old_ok new_ok }
+  are_unlike old_ok new_ok = record { unlike = unlike; all = each_listed; once = once old_ok new_ok }
 
   -- none is listed where all are named alike
   pub none_listed : (ids : List (List ℕ)) → AreUnlikeRegions old new ids → (ids ≡ []) ↔ ((id : List ℕ) → NamesAlike old new id)

@@ -13,7 +13,8 @@ use Rattle.input_sections.specs.declared.faults.ScheduleFault.TheVariants.{Refus
 use Rattle.input_sections.specs.Sections.{Unread, sheet_section, whole_of}
 use Rattle.program_input.proofs.FaultLaws.{first_fails, is_longer}
 use Rattle.sheet_changes.specs.Changes.{Likeness, IsLikeness, IsLikenessText, SaysChanges, StaysBefore, region_lines, two_sheets_in}
-use Rattle.sheet_changes.specs.Inner.Compared.{StaysBy, nothing_behind, unlike_regions}
+use Rattle.sheet_changes.specs.Inner.Compared.{StaysBy, nothing_behind}
+use Rattle.sheet_changes.specs.Regions.{unlike_regions}
 use Rattle.sheet_changes.proofs.LikenessLaws.{goes_on_by}
 use Rattle.sheet_changes.proofs.RegionLaws.{are_unlike, none_listed}
 
@@ -39,6 +40,7 @@ module _ (old new : Sheet) (old_ok : IsSheet old) (new_ok : IsSheet new) (l : Li
     is_first = is_text;
     regions = unlike_regions old new;
     are_unlike = are_unlike old new old_ok new_ok;
+    in_order = refl;
     joined = is ∙ ap (λ t. t ++ region_lines (unlike_regions old new)) (is_first ∙ ap (λ t. t ++ line words) none);
   }
 

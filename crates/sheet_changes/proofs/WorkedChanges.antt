@@ -9,9 +9,11 @@ use Rattle.metering_model.specs.Sheet.{PriceRow, Commitment, Sheet}
 use Rattle.metering_model.specs.PriceInForce.{commitment_with}
 use Rattle.metering_model.proofs.Samples.{cpu, ops, cpu_plan, cm_1}
 use Rattle.sheet_laws.specs.Longer.{NamesAlike}
-use Rattle.sheet_changes.specs.Changes.{Alike, AlikeBefore, UnlikeBase, UnlikeCommitment, AreUnlikeRegions, IsLikeness, IsLikenessText}
-use Rattle.sheet_changes.specs.Inner.Compared.{HasSame, StaysOn, unlike_regions}
+use Rattle.sheet_changes.specs.Changes.{Alike, AlikeBefore, UnlikeBase, UnlikeCommitment, AreUnlikeRegions, IsLikeness, IsLikenessText, SaysChanges}
+use Rattle.sheet_changes.specs.Inner.Compared.{HasSame, StaysOn}
+use Rattle.sheet_changes.specs.Regions.{unlike_regions}
 use Rattle.sheet_changes.proofs.LikenessLaws.{alike, alike_before}
+use Rattle.sheet_changes.proofs.RegionLaws.{each_listed}
 use Rattle.sheet_changes.proofs.TwoSheets.{february_1, january_31, february_2, old_sheet, cpu_later, with_later_price, with_split_price, with_another_contract, with_another_rate, with_another_name, with_asia_alone, of_another_base}
 
 abbrev contracted_of : Option PriceRow → Option ℕ
@@ -103,6 +105,19 @@ both_are_listed = refl
 
 pub none_is_listed : unlike_regions old_sheet with_later_price ≡ []
 none_is_listed = refl
+
+-- all of it, where no region is named otherwise
+pub all_is_said : SaysChanges old_sheet with_later_price (codes "alike before 2025-02-01" ++ 10 ∷ [])
+all_is_said = record {
+  likeness = AlikeBefore february_1;
+  is_so = is_alike_before_february;
+  first = codes "alike before 2025-02-01";
+  is_first = february_is_said;
+  regions = [];
+  are_unlike = record { unlike = All-nil (λ id. ¬ NamesAlike old_sheet with_later_price id); all = each_listed old_sheet with_later_price; once = refl };
+  in_order = refl;
+  joined = refl;
+}
 
 -- ---- false worlds
 

@@ -10,6 +10,7 @@ use Rattle.metering_model.specs.Sheet.{Commitment, Sheet}
 use Rattle.metering_model.specs.SheetRules.{are_apart}
 use Rattle.metering_model.specs.Transcript.{line}
 use Rattle.sheet_laws.specs.Longer.{GoesOnFrom, NamesAlike}
+use Rattle.sheet_changes.specs.Regions.{unlike_regions}
 use Rattle.input_sections.specs.declared.faults.ScheduleCode.TheVariants as code
 use Rattle.input_sections.specs.declared.faults.ScheduleFault.{ScheduleFault}
 use Rattle.input_sections.specs.declared.faults.ScheduleFault.TheVariants.{Refused}
@@ -63,7 +64,8 @@ pub record AreUnlikeRegions (old new : Sheet) (ids : List (List ℕ)) : Type 0 w
 abbrev pub region_lines : List (List ℕ) → List ℕ
 region_lines ids = flat_map (λ id. line (codes "region " ++ id)) ids
 
--- a line for how alike the two are, and one for each region that they name otherwise
+-- A line for how alike the two are, and one for each region that they name otherwise: of the old sheet in its order, then those
+-- that the new one alone names.
 pub record SaysChanges (old new : Sheet) (text : List ℕ) : Type 0 where
   pub likeness : Likeness
   pub is_so : IsLikeness old new likeness
@@ -71,6 +73,7 @@ pub record SaysChanges (old new : Sheet) (text : List ℕ) : Type 0 where
   pub is_first : IsLikenessText likeness first
   pub regions : List (List ℕ)
   pub are_unlike : AreUnlikeRegions old new regions
+  pub in_order : regions ≡ unlike_regions old new
   pub joined : text ≡ line first ++ region_lines regions
 
 -- what a run is asked for: that the files of months that end before a day stay, whatever their regions

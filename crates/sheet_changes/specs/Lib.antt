@@ -2,3 +2,4 @@ pub mod Changes
 pub mod Faults
 pub mod Likenesses
 pub mod Inner
+pub mod Regions

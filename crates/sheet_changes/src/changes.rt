@@ -137,8 +137,8 @@ fn compare_input<W: Sink>(
     writer: &mut W,
 ) -> Result<bool, PlayFault>
     ensures said { IfOk result (λ stays. (old new : model.Sheet) × (text : List ℕ)
-        × (IsTrue stays ↔ StaysBefore before old new) × (two_sheets_in input.now ≡ Ok (old, new))
-        × SaysChanges old new text
+        × (IsTrue stays ↔ StaysBefore before old new)
+        × (two_sheets_in input.now ≡ Ok (old, new)) × SaysChanges old new text
         × Appends (W.contents writer.old) (W.contents writer.new) text) }
     ensures prefix { result ≡ Err PlayFault.Write → (old new : model.Sheet) × (text : List ℕ)
         × (two_sheets_in input.now ≡ Ok (old, new)) × SaysChanges old new text

@@ -2,7 +2,8 @@
 
 ghost use Rattle.std.specs.Prelude.{◌≡◌, ◌++◌, ◌∷◌, [], OnOk};
 ghost use Rattle.sheet_changes.specs.Changes.{region_lines};
-ghost use Rattle.sheet_changes.specs.Inner.Compared.{is_added, is_named_otherwise, lines_of, unlike_regions};
+ghost use Rattle.sheet_changes.specs.Inner.Compared.{lines_of};
+ghost use Rattle.sheet_changes.specs.Regions.{is_added, is_named_otherwise, unlike_regions};
 
 use price_sheet::{Region, Sheet};
 use std::alloc::AllocError;
@@ -40,8 +41,8 @@ fn put_renamed(
     old: &Sheet,
     new: &Sheet,
 ) -> Result<(), AllocError>
-    ensures { OnOk result (text.new.items ≡ text.old.items
-        ++ lines_of (is_named_otherwise old.now new.now) regions.now) }
+    ensures { OnOk result (text.new.items
+        ≡ text.old.items ++ lines_of (is_named_otherwise old.now new.now) regions.now) }
 {
     for region in regions {
         if is_named_otherwise(old, new, region) {

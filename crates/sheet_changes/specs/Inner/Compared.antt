@@ -1,10 +1,8 @@
 -- What the comparison of two sheets finds.
-use Rattle.std.specs.Prelude.{◌≡◌, ⊤, ℕ, Bool, true, false, not, if◌then◌else◌, int_lt, List, ◌++◌, map, filter, All, IsTrue, Option, Some, None, Result, ℤ, ◌<ℤ◌, option_map}
+use Rattle.std.specs.Prelude.{◌≡◌, ⊤, ℕ, Bool, if◌then◌else◌, int_lt, List, ◌++◌, filter, All, IsTrue, Option, Some, None, Result, ℤ, ◌<ℤ◌, option_map}
 use Rattle.std.specs.List.{Contains}
-use Rattle.std.specs.Option.{is_some}
-use Rattle.metering_model.specs.BatchReading.{is_same}
 use Rattle.metering_model.specs.Sheet.{PriceRow, Commitment, Region, Sheet}
-use Rattle.metering_model.specs.PriceInForce.{price_in_force, commitment_with, region_named}
+use Rattle.metering_model.specs.PriceInForce.{price_in_force, commitment_with}
 use Rattle.sheet_laws.specs.Longer.{without_from}
 use Rattle.metering_model.specs.Batch.{is_empty}
 use Rattle.metering_model.specs.FirstFailure.{holds_or}
@@ -13,6 +11,7 @@ use Rattle.input_sections.specs.declared.faults.ScheduleFault.{ScheduleFault}
 use Rattle.input_sections.specs.declared.faults.ScheduleFault.TheVariants.{Refused}
 use Rattle.input_sections.specs.Sections.{Unread, left}
 use Rattle.sheet_changes.specs.Changes as model
+use Rattle.sheet_changes.specs.Regions.{ids_of}
 
 -- ---- prices
 
@@ -47,28 +46,9 @@ HasSame old new c = commitment_with new c.id ≡ commitment_with old c.id
 
 -- ---- regions
 
-abbrev pub is_same_name : Option (List ℕ) → Option (List ℕ) → Bool
-is_same_name (Some x) (Some y) = is_same x y
-is_same_name (Some x) None = false
-is_same_name None (Some y) = false
-is_same_name None None = true
-
-abbrev pub is_named_otherwise : Sheet → Sheet → Region → Bool
-is_named_otherwise old new x = not (is_same_name (region_named new x.id) (region_named old x.id))
-
-abbrev pub is_added : Sheet → Region → Bool
-is_added old x = not (is_some (region_named old x.id))
-
-abbrev pub ids_of : List Region → List (List ℕ)
-ids_of rows = map (λ x. x.id) rows
-
 -- the lines of those that pass a test
 abbrev pub lines_of : (Region → Bool) → List Region → List ℕ
 lines_of test rows = model.region_lines (ids_of (filter test rows))
-
--- those of the old sheet that the new one names otherwise, then those that the new one alone has
-abbrev pub unlike_regions : Sheet → Sheet → List (List ℕ)
-unlike_regions old new = ids_of (filter (is_named_otherwise old new) old.regions) ++ ids_of (filter (is_added old) new.regions)
 
 -- ---- what is asked for
 

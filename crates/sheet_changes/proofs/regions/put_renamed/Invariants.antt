@@ -1,5 +1,6 @@
 use Rattle.std.proofs.Common.{◌≡◌, ◌++◌, take}
-use Rattle.sheet_changes.specs.Inner.Compared.{is_named_otherwise, lines_of}
+use Rattle.sheet_changes.specs.Inner.Compared.{lines_of}
+use Rattle.sheet_changes.specs.Regions.{is_named_otherwise}
 use Rattle.sheet_changes.proofs.regions.put_renamed.Given as goal
 
 abbrev pub invariant-loop-region : goal.invariant-loop-region
