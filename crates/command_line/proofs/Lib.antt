@@ -1,3 +1,4 @@
+pub mod PartLaws
 pub mod RequestLaws
 pub mod WordLaws
 pub mod RunLaws

@@ -1,5 +1,5 @@
 -- What the status of a fault tells of the fault, and what a run leaves.
-use Rattle.std.proofs.Common.{◌≡◌, ◌≢◌, ◌⊎◌, ◌≤◌, ◌++◌, length, ◌∙◌, sym, ap, subst, ℕ, List, [], String, Option, Some, None, Result, Ok, Err, IfErr, true, false, inl, inr, refl, arith}
+use Rattle.std.proofs.Common.{◌≡◌, ◌≢◌, ◌⊎◌, ◌≤◌, ◌++◌, length, ◌∙◌, sym, ap, subst, ℕ, ℤ, List, [], String, Option, Some, None, Result, Ok, Err, IfErr, IfSome, true, false, inl, inr, refl, arith}
 use Rattle.std.specs.Io.KnownBytes.{Appends, IsAtEnd}
 use Rattle.std.specs.IoError.{error_kind}
 use Rattle.std.specs.declared.io.Error.{Error}
@@ -21,6 +21,20 @@ use Rattle.period_file.specs.declared.faults.FileFault.{FileFault}
 use Rattle.period_file.specs.declared.faults.FileFault.TheVariants as file
 use Rattle.period_file.specs.Faults.{tells_of_reader as file_read, tells_of_writer as file_wrote}
 use Rattle.period_file.specs.Files.{AppendsFront, AppendsPart}
+use Rattle.input_sections.specs.RateInput.{rate_input_in}
+use Rattle.metering_model.specs.declared.Refusal.{Refusal}
+use Rattle.program_input.specs.declared.ScheduleFault.{ScheduleFault}
+use Rattle.metering_model.specs.Sheet.{Sheet}
+use Rattle.sheet_changes.specs.Changes.{IsSaidOf as AreSheetsOf, StaysBefore, two_sheets_in}
+use Rattle.sheet_changes.specs.Faults.{of_input}
+use Rattle.sheet_changes.specs.declared.faults.SheetsFault.{SheetsFault}
+use Rattle.sheet_changes.specs.declared.faults.SheetsFault.TheVariants as compared
+use Rattle.schedule_writer.specs.Faults.{tells_of_reader as schedule_read, tells_of_writer as schedule_wrote}
+use Rattle.schedule_writer.specs.Refusals.{IsRefusedAt}
+use Rattle.schedule_writer.specs.declared.asked.Request.{Request}
+use Rattle.schedule_writer.specs.declared.faults.WriteFault.{WriteFault}
+use Rattle.schedule_writer.specs.declared.faults.WriteFault.TheVariants as written
+use Rattle.command_line.specs.Inner.Faults.{fault_of_schedule, fault_of_sheets}
 use Rattle.threads_player.specs.declared.faults.ThreadsFault.{ThreadsFault}
 use Rattle.threads_player.specs.declared.faults.ThreadsFault.TheVariants as threads
 use Rattle.threads_player.specs.Faults.{tells_of_writer as threads_wrote}
@@ -29,11 +43,11 @@ use Rattle.threads_player.specs.declared.sizes.Size.{Size}
 use Rattle.command_line.specs.declared.words.LineFault.{LineFault}
 use Rattle.command_line.specs.declared.words.LineFault.TheVariants as on_line
 use Rattle.command_line.specs.declared.commands.Command.{Command}
-use Rattle.command_line.specs.declared.commands.Command.TheVariants.{Rate, Play as PlaySchedule, Check, File as CutFile, Threads as RunThreads, Help as ShowHelp, Version as ShowVersion}
+use Rattle.command_line.specs.declared.commands.Command.TheVariants.{Rate, Play as PlaySchedule, Check, File as CutFile, Threads as RunThreads, Help as ShowHelp, Version as ShowVersion, Sheets as CompareSheets, Schedule as WriteSchedule}
 use Rattle.command_line.specs.declared.statuses.Fault.{Fault}
-use Rattle.command_line.specs.declared.statuses.Fault.TheVariants.{Line, Play, Faults, File, Threads}
+use Rattle.command_line.specs.declared.statuses.Fault.TheVariants.{Line, Play, Faults, File, Threads, Unlike, Batch, TooLong, NotClosed}
 use Rattle.command_line.specs.Endings.{Tells, ending_line, status_of}
-use Rattle.command_line.specs.Runs.{AsksFor, Ends, IsDone, IsDoneInPart, IsLeftBy, IsPlayedInPart, IsUnwritten, Refuses, SaysOf, words_behind_name}
+use Rattle.command_line.specs.Runs.{AsksFor, Ends, IsDone, IsDoneInPart, IsLeftBy, IsPlayedInPart, IsUnwritten, Refuses, Says, words_behind_name}
 use Rattle.command_line.specs.Inner.Outcomes.{ComesTo, IsEnding, IsKept, Leaves}
 use Rattle.command_line.specs.CommandLine.{takes_input}
 use Rattle.command_line.proofs.WordLaws.{asks_for_threads, takes_or_not}
@@ -154,7 +168,7 @@ says sink count known reads reads' writer writer' some read wrote said = record 
   refused = λ one. ((said.0, said.1, said.2, (λ none. some (said.4 ∙ ap line_count none)), ap Faults said.4), (said.0, said.1, said.2, said.3));
   device = λ three. absurd (omega (arith, three));
   calm = λ other. (read, wrote);
-  unwritten = λ not_3 not_4. inr (refl, (said.0, said.1, said.2, said.3));
+  unwritten = λ not_3 not_4. inr (said.0, said.1, said.2, said.3);
   part = λ four. absurd (omega (arith, four));
 }
 
@@ -272,6 +286,105 @@ threads_come_to sink size fault known reads writer writer' wrote same sheet cut 
   part = λ four. inl (inl (same (not_write fault (not_3_at (status_of (Threads fault)) 4 four (λ is. omega (arith, is))))));
 }
 
+-- ---- `sheets` and `schedule`
+
+-- not all stays, and what is said of the sheets was written
+pub unlike_comes_to : {W : Type 0} (sink : SinkOf W) (before : Option ℤ) (known : Option (List ℕ)) (reads reads' : ℕ) (writer writer' : W)
+    → reads' ≡ reads → sink.failed_calls writer' ≡ sink.failed_calls writer
+    → Refuses (CompareSheets before) known Unlike → Says (CompareSheets before) known (sink.contents writer) (sink.contents writer')
+    → ComesTo sink (CompareSheets before) Unlike known reads reads' writer writer'
+unlike_comes_to sink before known reads reads' writer writer' read wrote refused said = record {
+  understood = λ two. absurd (omega (arith, two));
+  refused = λ one. (refused, said);
+  device = λ three. absurd (omega (arith, three));
+  calm = λ other. (read, wrote);
+  unwritten = λ not_3 not_4. inr said;
+  part = λ four. absurd (omega (arith, four));
+}
+
+abbrev pub not_compared : SheetsFault → Result (Unit {0}) SheetsFault
+not_compared fault = Err fault
+
+-- the sections are refused, and no batch is
+sheets_refused : (before : Option ℤ) (known : Option (List ℕ)) (fault : PlayFault) → status_of (Play fault) ≡ 1 → ((refusal : Refusal) → fault ≢ play.Refused refusal)
+    → ((bad : ScheduleFault) → fault ≡ play.Schedule bad → IfSome known (λ input. two_sheets_in input ≡ Err bad)) → Refuses (CompareSheets before) known (Play fault)
+sheets_refused before known play.Read one batch bad = absurd (cc)
+sheets_refused before known play.Write one batch bad = absurd (cc)
+sheets_refused before known play.OutOfMemory one batch bad = absurd (cc)
+sheets_refused before known (play.Refused refusal) one batch bad = absurd (batch refusal refl)
+sheets_refused before known (play.Schedule fault) one batch bad = inl (fault, refl, bad fault refl)
+
+pub sheets_come_to : {W : Type 0} (sink : SinkOf W) (before : Option ℤ) (fault : SheetsFault) (known : Option (List ℕ)) (reads reads' : ℕ) (writer writer' : W)
+    → reads' ≡ count_after (tells_of_reader (of_input tt (not_compared fault))) reads
+    → sink.failed_calls writer' ≡ count_after (tells_of_writer (of_input tt (not_compared fault))) (sink.failed_calls writer)
+    → (fault ≢ compared.Unlike → fault ≢ compared.Input play.Write → writer' ≡ writer)
+    → (fault ≡ compared.Unlike → (old new : Sheet) × (text : List ℕ) × AreSheetsOf known old new text × (¬ StaysBefore before old new) × Appends (sink.contents writer) (sink.contents writer') text)
+    → ((bad : ScheduleFault) → fault ≡ compared.Input (play.Schedule bad) → IfSome known (λ input. two_sheets_in input ≡ Err bad))
+    → ((refusal : Refusal) → fault ≢ compared.Input (play.Refused refusal))
+    → fault ≢ compared.Input (play.Schedule section.OutOfMemory)
+    → (fault ≡ compared.Input play.Write → IsDoneInPart (CompareSheets before) known (sink.contents writer) (sink.contents writer'))
+    → ComesTo sink (CompareSheets before) (fault_of_sheets fault) known reads reads' writer writer'
+sheets_come_to sink before compared.Unlike known reads reads' writer writer' read wrote same unlike bad batch plain cut =
+    let said = unlike refl in
+    unlike_comes_to sink before known reads reads' writer writer' read wrote (inr (refl, (said.0, said.1, said.2, said.3, said.4))) (said.0, said.1, said.2, said.3, said.5)
+sheets_come_to sink before (compared.Input fault) known reads reads' writer writer' read wrote same unlike bad batch plain cut =
+    comes_to sink (CompareSheets before) fault known reads reads' writer writer' read wrote
+    (λ no_write no_memory. same (λ is. absurd (cc)) (λ is. no_write (same_input fault play.Write is)))
+    (λ one. sheets_refused before known fault one (λ refusal is. batch refusal (ap compared.Input is)) (λ it is. bad it (ap compared.Input is)))
+    (λ one kept. kept) (λ is. plain (ap compared.Input is)) (λ is. inl (same (λ unlike. absurd (cc)) (λ input. absurd (other_input fault is input))))
+    (λ is. cut (ap compared.Input is))
+  where
+    same_input : (one other : PlayFault) → compared.Input one ≡ compared.Input other → one ≡ other
+    same_input one other is = cc
+
+    other_input : (one : PlayFault) → one ≡ play.OutOfMemory → compared.Input one ≡ compared.Input play.Write → ⊥
+    other_input one is input = let bad : play.OutOfMemory ≡ play.Write = sym is ∙ same_input one play.Write input in absurd (cc)
+
+-- a schedule is refused, and nothing was written
+pub unscheduled : {W : Type 0} (sink : SinkOf W) (request : Request) (fault : Fault) (known : Option (List ℕ)) (reads reads' : ℕ) (writer writer' : W)
+    → status_of fault ≡ 1 → reads' ≡ reads → sink.failed_calls writer' ≡ sink.failed_calls writer → writer' ≡ writer
+    → Refuses (WriteSchedule request) known fault → ComesTo sink (WriteSchedule request) fault known reads reads' writer writer'
+unscheduled sink request fault known reads reads' writer writer' one read wrote same refused = record {
+  understood = λ two. absurd (omega (arith, one, two));
+  refused = λ is. (refused, same);
+  device = λ three. absurd (omega (arith, one, three));
+  calm = λ other. (read, wrote);
+  unwritten = λ not_3 not_4. inl (inl same);
+  part = λ four. absurd (omega (arith, one, four));
+}
+
+abbrev pub not_written : WriteFault → Result (Unit {0}) WriteFault
+not_written fault = Err fault
+
+pub schedule_comes_to : {W : Type 0} (sink : SinkOf W) (request : Request) (fault : WriteFault) (known : Option (List ℕ)) (reads reads' : ℕ) (writer writer' : W)
+    → reads' ≡ count_after (schedule_read (not_written fault)) reads
+    → sink.failed_calls writer' ≡ count_after (schedule_wrote (not_written fault)) (sink.failed_calls writer)
+    → (fault ≢ written.Write → writer' ≡ writer)
+    → ((bad : ScheduleFault) → fault ≡ written.Section bad → IfSome known (λ input. rate_input_in input ≡ Err bad))
+    → ((line : ℕ) (refusal : Refusal) → fault ≡ written.Refused line refusal → IfSome known (λ input. IsRefusedAt input line refusal))
+    → fault ≢ written.Section section.OutOfMemory
+    → (fault ≡ written.Write → IsDoneInPart (WriteSchedule request) known (sink.contents writer) (sink.contents writer'))
+    → ComesTo sink (WriteSchedule request) (fault_of_schedule fault) known reads reads' writer writer'
+schedule_comes_to sink request written.Read known reads reads' writer writer' read wrote same bad batch plain cut =
+    comes_to sink (WriteSchedule request) play.Read known reads reads' writer writer' read wrote (λ no_write no_memory. same (λ is. absurd (cc)))
+    (λ one. absurd (cc)) (λ one kept. kept) (λ is. absurd (cc)) (λ is. absurd (cc)) (λ is. absurd (cc))
+schedule_comes_to sink request (written.Section fault) known reads reads' writer writer' read wrote same bad batch plain cut =
+    comes_to sink (WriteSchedule request) (play.Schedule fault) known reads reads' writer writer' read wrote (λ no_write no_memory. same (λ is. absurd (cc)))
+    (λ one. inl (fault, refl, bad fault refl)) (λ one kept. kept) (λ is. plain (cc)) (λ is. absurd (cc)) (λ is. absurd (cc))
+schedule_comes_to sink request (written.Refused line refusal) known reads reads' writer writer' read wrote same bad batch plain cut =
+    unscheduled sink request (Batch line refusal) known reads reads' writer writer' refl read wrote (same (λ is. absurd (cc)))
+    (inr (inl (line, refusal, refl, batch line refusal refl)))
+schedule_comes_to sink request written.TooLong known reads reads' writer writer' read wrote same bad batch plain cut =
+    unscheduled sink request TooLong known reads reads' writer writer' refl read wrote (same (λ is. absurd (cc))) (inr (inr (inl refl)))
+schedule_comes_to sink request written.NotClosed known reads reads' writer writer' read wrote same bad batch plain cut =
+    unscheduled sink request NotClosed known reads reads' writer writer' refl read wrote (same (λ is. absurd (cc))) (inr (inr (inr refl)))
+schedule_comes_to sink request written.Write known reads reads' writer writer' read wrote same bad batch plain cut =
+    comes_to sink (WriteSchedule request) play.Write known reads reads' writer writer' read wrote (λ no_write no_memory. absurd (no_write refl))
+    (λ one. absurd (cc)) (λ one kept. kept) (λ is. absurd (cc)) (λ is. absurd (cc)) (λ is. cut refl)
+schedule_comes_to sink request written.OutOfMemory known reads reads' writer writer' read wrote same bad batch plain cut =
+    comes_to sink (WriteSchedule request) play.OutOfMemory known reads reads' writer writer' read wrote (λ no_write no_memory. absurd (no_memory refl))
+    (λ one. absurd (cc)) (λ one kept. kept) (λ is. absurd (cc)) (λ is. inl (same (λ write. absurd (cc)))) (λ is. absurd (cc))
+
 -- ---- help and the version
 
 pub not_shown : {W : Type 0} (sink : SinkOf W) (command : Command) (known : Option (List ℕ)) (reads : ℕ) (writer writer' : W)
@@ -309,6 +422,10 @@ tells_memory Told (Threads threads.Write) four told = absurd (cc)
 tells_memory Told (Threads threads.Refused) four told = absurd (cc)
 tells_memory Told (Threads threads.OutOfMemory) four told = told
 tells_memory Told (Threads threads.Mismatch) four told = absurd (cc)
+tells_memory Told Unlike four told = absurd (omega (arith, four))
+tells_memory Told (Batch at refusal) four told = absurd (omega (arith, four))
+tells_memory Told TooLong four told = absurd (omega (arith, four))
+tells_memory Told NotClosed four told = absurd (omega (arith, four))
 
 -- which of the two failed is told
 tells_device : (Told : List ℕ → Type 0) (Same Part : Type 0) (line : List ℕ) (reads reads' writes writes' : ℕ)
@@ -329,6 +446,11 @@ part_of : (Kept Unwritten Part : Type 0) (Asked : Command → Type 0) (one comma
 part_of Kept Unwritten Part Asked one command asked kept (inl same) = inl (kept same)
 part_of Kept Unwritten Part Asked one command asked kept (inr both) = inr (subst Asked both.0 asked, both.1)
 
+-- what is said was asked for
+said_of : (Kept Unwritten : Type 0) (Said Asked : Command → Type 0) (command : Command) → Asked command → (Kept → Unwritten) → Kept ⊎ Said command → Unwritten ⊎ ((other : Command) × Asked other × Said other)
+said_of Kept Unwritten Said Asked command asked kept (inl same) = inl (kept same)
+said_of Kept Unwritten Said Asked command asked kept (inr said) = inr (command, asked, said)
+
 device_of : (Kept Unwritten Part : Type 0) (line : List ℕ) (reads reads' writes writes' : ℕ) → (Kept → Unwritten)
     → IsDevice Kept Part line reads reads' writes writes' → IsDevice Unwritten Part line reads reads' writes writes'
 device_of Kept Unwritten Part line reads reads' writes writes' kept (inl is) = inl (is.0, is.1, is.2, kept is.3)
@@ -342,6 +464,8 @@ at_end_of Asked PlaySchedule known left old new asked done takes = done.1
 at_end_of Asked Check known left old new asked done takes = done.1
 at_end_of Asked (CutFile period) known left old new asked done takes = done.1
 at_end_of Asked (RunThreads size) known left old new asked done takes = let yes_it_does = takes (RunThreads size) asked in absurd (cc)
+at_end_of Asked (CompareSheets before) known left old new asked done takes = done.1
+at_end_of Asked (WriteSchedule request) known left old new asked done takes = done.1
 at_end_of Asked ShowHelp known left old new asked done takes = let yes_it_does = takes ShowHelp asked in absurd (cc)
 at_end_of Asked ShowVersion known left old new asked done takes = let yes_it_does = takes ShowVersion asked in absurd (cc)
 
@@ -366,6 +490,10 @@ in_range (Threads threads.Write) = (omega arith, omega arith)
 in_range (Threads threads.Refused) = (omega arith, omega arith)
 in_range (Threads threads.OutOfMemory) = (omega arith, omega arith)
 in_range (Threads threads.Mismatch) = (omega arith, omega arith)
+in_range Unlike = (omega arith, omega arith)
+in_range (Batch at refusal) = (omega arith, omega arith)
+in_range TooLong = (omega arith, omega arith)
+in_range NotClosed = (omega arith, omega arith)
 
 -- reading nothing takes no byte
 pub nothing_read : (most : ℕ) (known : Option (List ℕ)) → ConsumesAtMost most known known
@@ -455,7 +583,7 @@ ends source sink telling args command (Err fault) status reader reader' writer w
       calm = λ other. leaves.calm (λ is. other (same ∙ is));
       memory = λ is. tells_memory told fault (sym same ∙ is) ending.1;
       part = λ is. part_of (IsKept sink command known writer writer') _ _ (AsksFor args) PlaySchedule command asked kept (leaves.part (sym same ∙ is));
-      unwritten = λ not_0 not_3 not_4. part_of (IsKept sink command known writer writer') _ (SaysOf known (sink.contents writer) (sink.contents writer')) (AsksFor args) Check command asked kept
+      unwritten = λ not_0 not_3 not_4. said_of (IsKept sink command known writer writer') (IsUnwritten sink args known writer writer') (λ c. Says c known (sink.contents writer) (sink.contents writer')) (AsksFor args) command asked kept
           (leaves.unwritten (λ is. not_3 (same ∙ is)) (λ is. not_4 (same ∙ is)));
       read = λ none. read (other_than (AsksFor args) command asked none);
       read_by_file = read_by_file;

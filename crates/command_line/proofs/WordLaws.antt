@@ -1,7 +1,7 @@
 -- What a parse that succeeds, or fails, says of what the words ask for.
-use Rattle.std.proofs.Common.{◌≡◌, ◌≢◌, ◌⊎◌, ◌∙◌, sym, ap, subst, Result, Ok, Err, IfOk, ℕ, ◌<◌, ◌^◌, List, [], ◌∷◌, codes, slice_index, Option, Some, None, IfSome, is_some, option_map, true, false, refl, inl, inr, arith}
+use Rattle.std.proofs.Common.{◌≡◌, ◌≢◌, ◌⊎◌, ◌∙◌, sym, ap, subst, Result, Ok, Err, IfOk, ℕ, ℤ, ◌+◌, ◌*◌, ◌<◌, ◌^◌, List, [], ◌∷◌, codes, slice_index, Option, Some, None, IfSome, is_none as is_nothing, is_some, option_map, true, false, refl, inl, inr, arith}
 use Rattle.std.specs.Str.Parse.{ParsesUnsigned, ExplainsUnsignedError, HasUnsignedDigitsIfOk}
-use Rattle.clap.specs.Words.{ReadsOne, Row, Text, found_of, is_simple, kind_of, one_text, rows_of, subcommand_of, subcommand_rows_of}
+use Rattle.clap.specs.Words.{ReadsOne, Row, Text, first_of, first_value, found_of, is_simple, kind_of, one_text, rows_of, subcommand_of, subcommand_rows_of}
 use Rattle.clap.specs.Matches.{subcommand_name_of}
 use Rattle.clap.specs.Kinds.{Kinds, HasKind, IsAmong}
 use Rattle.clap.specs.Faults.{fault_of, is_simple_and_free}
@@ -11,17 +11,19 @@ use Rattle.clap.specs.declared.parser.matches.Found.{Found}
 use Rattle.clap.specs.declared.error.Error.{Error}
 use Rattle.clap.specs.declared.error.kind.ErrorKind.TheVariants.{DisplayHelp, DisplayVersion, OutOfMemory}
 use Rattle.clap.specs.declared.error.kind.ErrorKind.{ErrorKind}
-use Rattle.clap.proofs.WalkLemmas.{one_text-rows}
+use Rattle.clap.proofs.WalkLemmas.{first_value-rows, one_text-rows}
 use Rattle.clap.proofs.OnLiterals.{clap_on_literals}
 use Rattle.std.specs.Box.{box_value}
 use Rattle.std.specs.Borrow.{Bor}
 use Rattle.command_line.specs.declared.commands.Command.{Command}
-use Rattle.command_line.specs.declared.commands.Command.TheVariants.{Rate, Play, Check, File, Threads, Help, Version}
+use Rattle.command_line.specs.declared.commands.Command.TheVariants.{Rate, Play, Check, File, Threads, Sheets, Schedule, Help, Version}
 use Rattle.command_line.specs.declared.words.LineFault.{LineFault}
 use Rattle.command_line.specs.Inner.Requests.{IsRequestFor}
 use Rattle.command_line.proofs.RequestLaws.{IsRequest, request_alone_in}
+use Rattle.metering_model.specs.Dates.{day_in}
+use Rattle.schedule_writer.specs.declared.asked.Request.{Request}
 use Rattle.threads_player.specs.declared.sizes.Size.{Size}
-use Rattle.command_line.specs.CommandLine.{grammar_of_focusd, takes_input, Asks, AsksForCheck, AsksForHelp, AsksForPlay, GivesNumber, GivesPeriod, GivesSize}
+use Rattle.command_line.specs.CommandLine.{grammar_of_focusd, takes_input, Asks, AsksForCheck, AsksForHelp, AsksForPlay, GivesDay, GivesNumber, GivesPeriod, GivesRequest, GivesSize, GivesThrough}
 
 pub grammar_is_simple : is_simple grammar_of_focusd ≡ true
 unfolding clap_on_literals
@@ -65,6 +67,8 @@ asks_for_nothing words e has no_memory no_help no_version Play asked = no_memory
 asks_for_nothing words e has no_memory no_help no_version Check asked = no_memory (only_memory _ e asked.taken has)
 asks_for_nothing words e has no_memory no_help no_version (File period) asked = no_memory (only_memory _ e asked.taken has)
 asks_for_nothing words e has no_memory no_help no_version (Threads size) asked = no_memory (only_memory _ e asked.taken has)
+asks_for_nothing words e has no_memory no_help no_version (Sheets before) asked = no_memory (only_memory _ e asked.taken has)
+asks_for_nothing words e has no_memory no_help no_version (Schedule request) asked = no_memory (only_memory _ e asked.taken has)
 asks_for_nothing words e has no_memory no_help no_version Help asked = neither no_memory no_help (only_kind DisplayHelp _ e asked has)
 asks_for_nothing words e has no_memory no_help no_version Version asked = neither no_memory no_version (only_kind DisplayVersion _ e asked has)
 
@@ -78,6 +82,8 @@ request_asks words e (Ok Play) has is = absurd is
 request_asks words e (Ok Check) has is = absurd is
 request_asks words e (Ok (File period)) has is = absurd is
 request_asks words e (Ok (Threads size)) has is = absurd is
+request_asks words e (Ok (Sheets before)) has is = absurd is
+request_asks words e (Ok (Schedule request)) has is = absurd is
 request_asks words e (Err fault) has is = tt
 
 -- words that are taken ask for no help
@@ -116,14 +122,16 @@ name_met m name rs entered =
 -- Words that ask for a command meet its subcommand.
 pub meets_one : (words : List Text) (m : ArgMatches) (command : Command) → Asks words command → fault_of grammar_of_focusd words ≡ []
     → subcommand_rows_of m ≡ subcommand_of grammar_of_focusd words
-    → (subcommand_name_of m ≢ Some (codes "play")) → (subcommand_name_of m ≢ Some (codes "check")) → (subcommand_name_of m ≢ Some (codes "threads")) → (subcommand_name_of m ≢ Some (codes "file")) → (subcommand_name_of m ≢ Some (codes "rate")) → ⊥
-meets_one words m (Rate period) asked taken same no_play no_check no_threads no_file no_rate = no_rate (name_met m (codes "rate") asked.rows (same ∙ asked.named))
-meets_one words m Play asked taken same no_play no_check no_threads no_file no_rate = no_play (name_met m (codes "play") asked.rows (same ∙ asked.named))
-meets_one words m Check asked taken same no_play no_check no_threads no_file no_rate = no_check (name_met m (codes "check") asked.rows (same ∙ asked.named))
-meets_one words m (File period) asked taken same no_play no_check no_threads no_file no_rate = no_file (name_met m (codes "file") asked.rows (same ∙ asked.named))
-meets_one words m (Threads size) asked taken same no_play no_check no_threads no_file no_rate = no_threads (name_met m (codes "threads") asked.rows (same ∙ asked.named))
-meets_one words m Help asked taken same no_play no_check no_threads no_file no_rate = absurd (cc)
-meets_one words m Version asked taken same no_play no_check no_threads no_file no_rate = absurd (cc)
+    → (subcommand_name_of m ≢ Some (codes "play")) → (subcommand_name_of m ≢ Some (codes "check")) → (subcommand_name_of m ≢ Some (codes "threads")) → (subcommand_name_of m ≢ Some (codes "file")) → (subcommand_name_of m ≢ Some (codes "sheets")) → (subcommand_name_of m ≢ Some (codes "schedule")) → (subcommand_name_of m ≢ Some (codes "rate")) → ⊥
+meets_one words m (Rate period) asked taken same no_play no_check no_threads no_file no_sheets no_schedule no_rate = no_rate (name_met m (codes "rate") asked.rows (same ∙ asked.named))
+meets_one words m Play asked taken same no_play no_check no_threads no_file no_sheets no_schedule no_rate = no_play (name_met m (codes "play") asked.rows (same ∙ asked.named))
+meets_one words m Check asked taken same no_play no_check no_threads no_file no_sheets no_schedule no_rate = no_check (name_met m (codes "check") asked.rows (same ∙ asked.named))
+meets_one words m (File period) asked taken same no_play no_check no_threads no_file no_sheets no_schedule no_rate = no_file (name_met m (codes "file") asked.rows (same ∙ asked.named))
+meets_one words m (Threads size) asked taken same no_play no_check no_threads no_file no_sheets no_schedule no_rate = no_threads (name_met m (codes "threads") asked.rows (same ∙ asked.named))
+meets_one words m (Sheets before) asked taken same no_play no_check no_threads no_file no_sheets no_schedule no_rate = no_sheets (name_met m (codes "sheets") asked.rows (same ∙ asked.named))
+meets_one words m (Schedule request) asked taken same no_play no_check no_threads no_file no_sheets no_schedule no_rate = no_schedule (name_met m (codes "schedule") asked.rows (same ∙ asked.named))
+meets_one words m Help asked taken same no_play no_check no_threads no_file no_sheets no_schedule no_rate = absurd (cc)
+meets_one words m Version asked taken same no_play no_check no_threads no_file no_sheets no_schedule no_rate = absurd (cc)
 
 -- What is met under the name `play` is asked for.
 pub asks_for_play : (words : List Text) (m : ArgMatches) (r : Option (Bor ArgMatches)) → is_some r ≡ true → (is_some r ≡ true → subcommand_name_of m ≡ Some (codes "play"))
@@ -173,33 +181,69 @@ no_number bits option f (Some m) n gives small value =
     let read = value gives.text (one_text-rows f option ∙ gives.given) in
     ap Some (read.0.1 ∙ gives.spelled.1)
 
--- the first letter of the subcommand's name, as a number
-abbrev letter : Option (Text × List Row) → ℕ
-letter None = 0
-letter (Some p) = slice_index p.0 0
+-- where no text is read, the option has none
+pub absent : (f : Found) (id : Text) (r : Option (Bor Text)) → option_map (λ (s : Bor Text). s.now) r ≡ first_value f id → is_nothing r ≡ true → first_of id (rows_of f) ≡ None
+absent f id None read none = sym (first_value-rows f id) ∙ sym read
+absent f id (Some s) read none = absurd (cc)
 
-abbrev letter_of : Command → ℕ
-letter_of (Rate period) = 114
-letter_of Play = 112
-letter_of Check = 99
-letter_of (File period) = 102
-letter_of (Threads size) = 116
-letter_of Help = 0
-letter_of Version = 0
+-- and where one is, it has
+pub is_there : (f : Found) (id : Text) (r : Option (Bor Text)) → option_map (λ (s : Bor Text). s.now) r ≡ first_value f id → is_nothing r ≡ false → first_of id (rows_of f) ≡ None → ⊥
+is_there f id None read some none = absurd (cc)
+is_there f id (Some s) read some none = let bad = read ∙ (first_value-rows f id ∙ none) in absurd (cc)
 
-letter_asked : (words : List Text) (command : Command) → Asks words command → fault_of grammar_of_focusd words ≡ [] → ◌≡◌ {A = ℕ} (letter (subcommand_of grammar_of_focusd words)) (letter_of command)
-letter_asked words (Rate period) asked taken = ap letter asked.named
-letter_asked words Play asked taken = ap letter asked.named
-letter_asked words Check asked taken = ap letter asked.named
-letter_asked words (File period) asked taken = ap letter asked.named
-letter_asked words (Threads size) asked taken = ap letter asked.named
-letter_asked words Help asked taken = absurd (cc)
-letter_asked words Version asked taken = absurd (cc)
+-- the text that is read is the option's first
+pub first_read : (f : Found) (id : Text) (r : Option (Bor Text)) (text : Bor Text) → option_map (λ (s : Bor Text). s.now) r ≡ first_value f id → r ≡ Some text → first_of id (rows_of f) ≡ Some text.now
+first_read f id r text read is = sym (first_value-rows f id) ∙ (sym read ∙ ap (option_map (λ (s : Bor Text). s.now)) is)
+
+-- a text that is no day gives none
+pub no_day : (f : Found) (r : Option (Bor Text)) (text : Bor Text) → option_map (λ (s : Bor Text). s.now) r ≡ first_value f (codes "before") → r ≡ Some text → day_in text.now ≡ None
+    → (before : Option ℤ) → GivesDay (rows_of f) before → ⊥
+no_day f r text read is none None gives = let bad = sym (first_read f (codes "before") r text read is) ∙ gives in absurd (cc)
+no_day f r text read is none (Some day) gives =
+    let both = sym (first_read f (codes "before") r text read is) ∙ gives.1 in
+    let same : text.now ≡ gives.0 = cc in
+    let bad = sym none ∙ (ap day_in same ∙ gives.2) in
+    absurd (cc)
+
+-- a period that is not read is not given
+pub no_through : (f : Found) (r : Option ℕ) → (first_of (codes "through") (rows_of f) ≡ None → ⊥) → ((p : ℕ) → r ≡ Some p → p < 1_200 → ⊥)
+    → ((u : Text) → one_text f (codes "through") ≡ Some u → Reads 16 u r) → (through : Option ℕ) → GivesThrough (rows_of f) through → ⊥
+no_through f r there other value None gives = there gives
+no_through f r there other value (Some p) gives =
+    let small : p < 2 ^ 16 = omega (arith, gives.1) in
+    other p (no_number 16 (codes "through") f r p gives.0 small value) gives.1
+
+-- the first two letters of the subcommand's name, as a number
+abbrev letters : Option (Text × List Row) → ℕ
+letters None = 0
+letters (Some p) = 256 * slice_index p.0 0 + slice_index p.0 1
+
+abbrev letters_of : Command → ℕ
+letters_of (Rate period) = 29281
+letters_of Play = 28780
+letters_of Check = 25448
+letters_of (File period) = 26217
+letters_of (Threads size) = 29800
+letters_of (Sheets before) = 29544
+letters_of (Schedule request) = 29539
+letters_of Help = 0
+letters_of Version = 0
+
+letters_asked : (words : List Text) (command : Command) → Asks words command → fault_of grammar_of_focusd words ≡ [] → ◌≡◌ {A = ℕ} (letters (subcommand_of grammar_of_focusd words)) (letters_of command)
+letters_asked words (Rate period) asked taken = ap letters asked.named
+letters_asked words Play asked taken = ap letters asked.named
+letters_asked words Check asked taken = ap letters asked.named
+letters_asked words (File period) asked taken = ap letters asked.named
+letters_asked words (Threads size) asked taken = ap letters asked.named
+letters_asked words (Sheets before) asked taken = ap letters asked.named
+letters_asked words (Schedule request) asked taken = ap letters asked.named
+letters_asked words Help asked taken = absurd (cc)
+letters_asked words Version asked taken = absurd (cc)
 
 -- Words that name one subcommand ask for no other.
 another : (words : List Text) (name : Text) (rows : List Row) (command : Command) → Asks words command → fault_of grammar_of_focusd words ≡ []
-    → subcommand_of grammar_of_focusd words ≡ Some (name, rows) → ◌≡◌ {A = ℕ} (letter_of command) (slice_index name 0)
-another words name rows command asked taken named = sym (letter_asked words command asked taken) ∙ ap letter named
+    → subcommand_of grammar_of_focusd words ≡ Some (name, rows) → ◌≡◌ {A = ℕ} (letters_of command) (256 * slice_index name 0 + slice_index name 1)
+another words name rows command asked taken named = sym (letters_asked words command asked taken) ∙ ap letters named
 
 -- Where a text of the option spells a period, it is the one that is read.
 pub period_read : (f : Found) (r : Option ℕ) (period : ℕ) → GivesPeriod (rows_of f) period → ((u : Text) → one_text f (codes "period") ≡ Some u → Reads 16 u r) → r ≡ Some period
@@ -207,45 +251,81 @@ period_read f r period gives value =
     let small : period < 2 ^ 16 = omega (arith, gives.within) in
     no_number 16 (codes "period") f r period gives.number small value
 
--- Words that ask for the subcommand whose rows were found ask for a period, or a size, that these give.
+-- Words that ask for the subcommand whose rows were found ask for what these give.
 pub rate_gives : (words : List Text) (rows : List Row) (command : Command) → Asks words command → fault_of grammar_of_focusd words ≡ []
     → subcommand_of grammar_of_focusd words ≡ Some (codes "rate", rows) → (period : ℕ) × GivesPeriod rows period
 rate_gives words rows (Rate period) asked taken named =
     let both = ap (option_map (λ (p : Text × List Row). p.1)) (sym asked.named ∙ named) in
     let same : asked.rows ≡ rows = cc in
     (period, rw same at asked.given)
-rate_gives words rows Play asked taken named = let is : ◌≡◌ {A = ℕ} 112 114 = another words (codes "rate") rows Play asked taken named in absurd (omega (arith, is))
-rate_gives words rows Check asked taken named = let is : ◌≡◌ {A = ℕ} 99 114 = another words (codes "rate") rows Check asked taken named in absurd (omega (arith, is))
-rate_gives words rows (File period) asked taken named = let is : ◌≡◌ {A = ℕ} 102 114 = another words (codes "rate") rows (File period) asked taken named in absurd (omega (arith, is))
-rate_gives words rows (Threads size) asked taken named = let is : ◌≡◌ {A = ℕ} 116 114 = another words (codes "rate") rows (Threads size) asked taken named in absurd (omega (arith, is))
-rate_gives words rows Help asked taken named = let is : ◌≡◌ {A = ℕ} 0 114 = another words (codes "rate") rows Help asked taken named in absurd (omega (arith, is))
-rate_gives words rows Version asked taken named = let is : ◌≡◌ {A = ℕ} 0 114 = another words (codes "rate") rows Version asked taken named in absurd (omega (arith, is))
+rate_gives words rows Play asked taken named = let is : ◌≡◌ {A = ℕ} 28780 29281 = another words (codes "rate") rows Play asked taken named in absurd (omega (arith, is))
+rate_gives words rows Check asked taken named = let is : ◌≡◌ {A = ℕ} 25448 29281 = another words (codes "rate") rows Check asked taken named in absurd (omega (arith, is))
+rate_gives words rows (File period) asked taken named = let is : ◌≡◌ {A = ℕ} 26217 29281 = another words (codes "rate") rows (File period) asked taken named in absurd (omega (arith, is))
+rate_gives words rows (Threads size) asked taken named = let is : ◌≡◌ {A = ℕ} 29800 29281 = another words (codes "rate") rows (Threads size) asked taken named in absurd (omega (arith, is))
+rate_gives words rows (Sheets before) asked taken named = let is : ◌≡◌ {A = ℕ} 29544 29281 = another words (codes "rate") rows (Sheets before) asked taken named in absurd (omega (arith, is))
+rate_gives words rows (Schedule request) asked taken named = let is : ◌≡◌ {A = ℕ} 29539 29281 = another words (codes "rate") rows (Schedule request) asked taken named in absurd (omega (arith, is))
+rate_gives words rows Help asked taken named = let is : ◌≡◌ {A = ℕ} 0 29281 = another words (codes "rate") rows Help asked taken named in absurd (omega (arith, is))
+rate_gives words rows Version asked taken named = let is : ◌≡◌ {A = ℕ} 0 29281 = another words (codes "rate") rows Version asked taken named in absurd (omega (arith, is))
 
 pub file_gives : (words : List Text) (rows : List Row) (command : Command) → Asks words command → fault_of grammar_of_focusd words ≡ []
     → subcommand_of grammar_of_focusd words ≡ Some (codes "file", rows) → (period : ℕ) × GivesPeriod rows period
-file_gives words rows (Rate period) asked taken named = let is : ◌≡◌ {A = ℕ} 114 102 = another words (codes "file") rows (Rate period) asked taken named in absurd (omega (arith, is))
-file_gives words rows Play asked taken named = let is : ◌≡◌ {A = ℕ} 112 102 = another words (codes "file") rows Play asked taken named in absurd (omega (arith, is))
-file_gives words rows Check asked taken named = let is : ◌≡◌ {A = ℕ} 99 102 = another words (codes "file") rows Check asked taken named in absurd (omega (arith, is))
+file_gives words rows (Rate period) asked taken named = let is : ◌≡◌ {A = ℕ} 29281 26217 = another words (codes "file") rows (Rate period) asked taken named in absurd (omega (arith, is))
+file_gives words rows Play asked taken named = let is : ◌≡◌ {A = ℕ} 28780 26217 = another words (codes "file") rows Play asked taken named in absurd (omega (arith, is))
+file_gives words rows Check asked taken named = let is : ◌≡◌ {A = ℕ} 25448 26217 = another words (codes "file") rows Check asked taken named in absurd (omega (arith, is))
 file_gives words rows (File period) asked taken named =
     let both = ap (option_map (λ (p : Text × List Row). p.1)) (sym asked.named ∙ named) in
     let same : asked.rows ≡ rows = cc in
     (period, rw same at asked.given)
-file_gives words rows (Threads size) asked taken named = let is : ◌≡◌ {A = ℕ} 116 102 = another words (codes "file") rows (Threads size) asked taken named in absurd (omega (arith, is))
-file_gives words rows Help asked taken named = let is : ◌≡◌ {A = ℕ} 0 102 = another words (codes "file") rows Help asked taken named in absurd (omega (arith, is))
-file_gives words rows Version asked taken named = let is : ◌≡◌ {A = ℕ} 0 102 = another words (codes "file") rows Version asked taken named in absurd (omega (arith, is))
+file_gives words rows (Threads size) asked taken named = let is : ◌≡◌ {A = ℕ} 29800 26217 = another words (codes "file") rows (Threads size) asked taken named in absurd (omega (arith, is))
+file_gives words rows (Sheets before) asked taken named = let is : ◌≡◌ {A = ℕ} 29544 26217 = another words (codes "file") rows (Sheets before) asked taken named in absurd (omega (arith, is))
+file_gives words rows (Schedule request) asked taken named = let is : ◌≡◌ {A = ℕ} 29539 26217 = another words (codes "file") rows (Schedule request) asked taken named in absurd (omega (arith, is))
+file_gives words rows Help asked taken named = let is : ◌≡◌ {A = ℕ} 0 26217 = another words (codes "file") rows Help asked taken named in absurd (omega (arith, is))
+file_gives words rows Version asked taken named = let is : ◌≡◌ {A = ℕ} 0 26217 = another words (codes "file") rows Version asked taken named in absurd (omega (arith, is))
 
 pub is_given : (words : List Text) (rows : List Row) (command : Command) → Asks words command → fault_of grammar_of_focusd words ≡ []
     → subcommand_of grammar_of_focusd words ≡ Some (codes "threads", rows) → (size : Size) × GivesSize rows size
-is_given words rows (Rate period) asked taken named = let is : ◌≡◌ {A = ℕ} 114 116 = another words (codes "threads") rows (Rate period) asked taken named in absurd (omega (arith, is))
-is_given words rows Play asked taken named = let is : ◌≡◌ {A = ℕ} 112 116 = another words (codes "threads") rows Play asked taken named in absurd (omega (arith, is))
-is_given words rows Check asked taken named = let is : ◌≡◌ {A = ℕ} 99 116 = another words (codes "threads") rows Check asked taken named in absurd (omega (arith, is))
-is_given words rows (File period) asked taken named = let is : ◌≡◌ {A = ℕ} 102 116 = another words (codes "threads") rows (File period) asked taken named in absurd (omega (arith, is))
+is_given words rows (Rate period) asked taken named = let is : ◌≡◌ {A = ℕ} 29281 29800 = another words (codes "threads") rows (Rate period) asked taken named in absurd (omega (arith, is))
+is_given words rows Play asked taken named = let is : ◌≡◌ {A = ℕ} 28780 29800 = another words (codes "threads") rows Play asked taken named in absurd (omega (arith, is))
+is_given words rows Check asked taken named = let is : ◌≡◌ {A = ℕ} 25448 29800 = another words (codes "threads") rows Check asked taken named in absurd (omega (arith, is))
+is_given words rows (File period) asked taken named = let is : ◌≡◌ {A = ℕ} 26217 29800 = another words (codes "threads") rows (File period) asked taken named in absurd (omega (arith, is))
 is_given words rows (Threads size) asked taken named =
     let both = ap (option_map (λ (p : Text × List Row). p.1)) (sym asked.named ∙ named) in
     let same : asked.rows ≡ rows = cc in
     (size, rw same at asked.given)
-is_given words rows Help asked taken named = let is : ◌≡◌ {A = ℕ} 0 116 = another words (codes "threads") rows Help asked taken named in absurd (omega (arith, is))
-is_given words rows Version asked taken named = let is : ◌≡◌ {A = ℕ} 0 116 = another words (codes "threads") rows Version asked taken named in absurd (omega (arith, is))
+is_given words rows (Sheets before) asked taken named = let is : ◌≡◌ {A = ℕ} 29544 29800 = another words (codes "threads") rows (Sheets before) asked taken named in absurd (omega (arith, is))
+is_given words rows (Schedule request) asked taken named = let is : ◌≡◌ {A = ℕ} 29539 29800 = another words (codes "threads") rows (Schedule request) asked taken named in absurd (omega (arith, is))
+is_given words rows Help asked taken named = let is : ◌≡◌ {A = ℕ} 0 29800 = another words (codes "threads") rows Help asked taken named in absurd (omega (arith, is))
+is_given words rows Version asked taken named = let is : ◌≡◌ {A = ℕ} 0 29800 = another words (codes "threads") rows Version asked taken named in absurd (omega (arith, is))
+
+pub sheets_give : (words : List Text) (rows : List Row) (command : Command) → Asks words command → fault_of grammar_of_focusd words ≡ []
+    → subcommand_of grammar_of_focusd words ≡ Some (codes "sheets", rows) → (before : Option ℤ) × GivesDay rows before
+sheets_give words rows (Rate period) asked taken named = let is : ◌≡◌ {A = ℕ} 29281 29544 = another words (codes "sheets") rows (Rate period) asked taken named in absurd (omega (arith, is))
+sheets_give words rows Play asked taken named = let is : ◌≡◌ {A = ℕ} 28780 29544 = another words (codes "sheets") rows Play asked taken named in absurd (omega (arith, is))
+sheets_give words rows Check asked taken named = let is : ◌≡◌ {A = ℕ} 25448 29544 = another words (codes "sheets") rows Check asked taken named in absurd (omega (arith, is))
+sheets_give words rows (File period) asked taken named = let is : ◌≡◌ {A = ℕ} 26217 29544 = another words (codes "sheets") rows (File period) asked taken named in absurd (omega (arith, is))
+sheets_give words rows (Threads size) asked taken named = let is : ◌≡◌ {A = ℕ} 29800 29544 = another words (codes "sheets") rows (Threads size) asked taken named in absurd (omega (arith, is))
+sheets_give words rows (Sheets before) asked taken named =
+    let both = ap (option_map (λ (p : Text × List Row). p.1)) (sym asked.named ∙ named) in
+    let same : asked.rows ≡ rows = cc in
+    (before, rw same at asked.given)
+sheets_give words rows (Schedule request) asked taken named = let is : ◌≡◌ {A = ℕ} 29539 29544 = another words (codes "sheets") rows (Schedule request) asked taken named in absurd (omega (arith, is))
+sheets_give words rows Help asked taken named = let is : ◌≡◌ {A = ℕ} 0 29544 = another words (codes "sheets") rows Help asked taken named in absurd (omega (arith, is))
+sheets_give words rows Version asked taken named = let is : ◌≡◌ {A = ℕ} 0 29544 = another words (codes "sheets") rows Version asked taken named in absurd (omega (arith, is))
+
+pub schedule_gives : (words : List Text) (rows : List Row) (command : Command) → Asks words command → fault_of grammar_of_focusd words ≡ []
+    → subcommand_of grammar_of_focusd words ≡ Some (codes "schedule", rows) → (request : Request) × GivesRequest rows request
+schedule_gives words rows (Rate period) asked taken named = let is : ◌≡◌ {A = ℕ} 29281 29539 = another words (codes "schedule") rows (Rate period) asked taken named in absurd (omega (arith, is))
+schedule_gives words rows Play asked taken named = let is : ◌≡◌ {A = ℕ} 28780 29539 = another words (codes "schedule") rows Play asked taken named in absurd (omega (arith, is))
+schedule_gives words rows Check asked taken named = let is : ◌≡◌ {A = ℕ} 25448 29539 = another words (codes "schedule") rows Check asked taken named in absurd (omega (arith, is))
+schedule_gives words rows (File period) asked taken named = let is : ◌≡◌ {A = ℕ} 26217 29539 = another words (codes "schedule") rows (File period) asked taken named in absurd (omega (arith, is))
+schedule_gives words rows (Threads size) asked taken named = let is : ◌≡◌ {A = ℕ} 29800 29539 = another words (codes "schedule") rows (Threads size) asked taken named in absurd (omega (arith, is))
+schedule_gives words rows (Sheets before) asked taken named = let is : ◌≡◌ {A = ℕ} 29544 29539 = another words (codes "schedule") rows (Sheets before) asked taken named in absurd (omega (arith, is))
+schedule_gives words rows (Schedule request) asked taken named =
+    let both = ap (option_map (λ (p : Text × List Row). p.1)) (sym asked.named ∙ named) in
+    let same : asked.rows ≡ rows = cc in
+    (request, rw same at asked.given)
+schedule_gives words rows Help asked taken named = let is : ◌≡◌ {A = ℕ} 0 29539 = another words (codes "schedule") rows Help asked taken named in absurd (omega (arith, is))
+schedule_gives words rows Version asked taken named = let is : ◌≡◌ {A = ℕ} 0 29539 = another words (codes "schedule") rows Version asked taken named in absurd (omega (arith, is))
 
 pub some_is_not_none : (n : ℕ) → None ≡ Some n → ⊥
 some_is_not_none n same = absurd (cc)
@@ -259,13 +339,15 @@ is_none (Some a) none = absurd (none a refl)
 
 -- Words that ask for a group ask for nothing else.
 pub asks_for_threads : (words : List Text) (command : Command) (size : Size) → Asks words command → Asks words (Threads size) → (other : Size) × (command ≡ Threads other)
-asks_for_threads words (Rate period) size asked threads = let is : ◌≡◌ {A = ℕ} 114 116 = another words (codes "threads") threads.rows (Rate period) asked threads.taken threads.named in absurd (omega (arith, is))
-asks_for_threads words Play size asked threads = let is : ◌≡◌ {A = ℕ} 112 116 = another words (codes "threads") threads.rows Play asked threads.taken threads.named in absurd (omega (arith, is))
-asks_for_threads words Check size asked threads = let is : ◌≡◌ {A = ℕ} 99 116 = another words (codes "threads") threads.rows Check asked threads.taken threads.named in absurd (omega (arith, is))
-asks_for_threads words (File period) size asked threads = let is : ◌≡◌ {A = ℕ} 102 116 = another words (codes "threads") threads.rows (File period) asked threads.taken threads.named in absurd (omega (arith, is))
+asks_for_threads words (Rate period) size asked threads = let is : ◌≡◌ {A = ℕ} 29281 29800 = another words (codes "threads") threads.rows (Rate period) asked threads.taken threads.named in absurd (omega (arith, is))
+asks_for_threads words Play size asked threads = let is : ◌≡◌ {A = ℕ} 28780 29800 = another words (codes "threads") threads.rows Play asked threads.taken threads.named in absurd (omega (arith, is))
+asks_for_threads words Check size asked threads = let is : ◌≡◌ {A = ℕ} 25448 29800 = another words (codes "threads") threads.rows Check asked threads.taken threads.named in absurd (omega (arith, is))
+asks_for_threads words (File period) size asked threads = let is : ◌≡◌ {A = ℕ} 26217 29800 = another words (codes "threads") threads.rows (File period) asked threads.taken threads.named in absurd (omega (arith, is))
 asks_for_threads words (Threads other) size asked threads = (other, refl)
-asks_for_threads words Help size asked threads = let is : ◌≡◌ {A = ℕ} 0 116 = another words (codes "threads") threads.rows Help asked threads.taken threads.named in absurd (omega (arith, is))
-asks_for_threads words Version size asked threads = let is : ◌≡◌ {A = ℕ} 0 116 = another words (codes "threads") threads.rows Version asked threads.taken threads.named in absurd (omega (arith, is))
+asks_for_threads words (Sheets before) size asked threads = let is : ◌≡◌ {A = ℕ} 29544 29800 = another words (codes "threads") threads.rows (Sheets before) asked threads.taken threads.named in absurd (omega (arith, is))
+asks_for_threads words (Schedule request) size asked threads = let is : ◌≡◌ {A = ℕ} 29539 29800 = another words (codes "threads") threads.rows (Schedule request) asked threads.taken threads.named in absurd (omega (arith, is))
+asks_for_threads words Help size asked threads = let is : ◌≡◌ {A = ℕ} 0 29800 = another words (codes "threads") threads.rows Help asked threads.taken threads.named in absurd (omega (arith, is))
+asks_for_threads words Version size asked threads = let is : ◌≡◌ {A = ℕ} 0 29800 = another words (codes "threads") threads.rows Version asked threads.taken threads.named in absurd (omega (arith, is))
 
 -- What is done with the input is asked for by words that the grammar takes.
 taken_of : (words : List Text) (command : Command) → Asks words command → takes_input command ≡ true → fault_of grammar_of_focusd words ≡ []
@@ -273,6 +355,8 @@ taken_of words (Rate period) asked takes = asked.taken
 taken_of words Play asked takes = asked.taken
 taken_of words Check asked takes = asked.taken
 taken_of words (File period) asked takes = asked.taken
+taken_of words (Sheets before) asked takes = asked.taken
+taken_of words (Schedule request) asked takes = asked.taken
 taken_of words (Threads size) asked takes = absurd (cc)
 taken_of words Help asked takes = absurd (cc)
 taken_of words Version asked takes = absurd (cc)
@@ -289,6 +373,8 @@ takes_or_not words command (Rate period) asked others takes takes_none = absurd 
 takes_or_not words command Play asked others takes takes_none = absurd (cc)
 takes_or_not words command Check asked others takes takes_none = absurd (cc)
 takes_or_not words command (File period) asked others takes takes_none = absurd (cc)
+takes_or_not words command (Sheets before) asked others takes takes_none = absurd (cc)
+takes_or_not words command (Schedule request) asked others takes takes_none = absurd (cc)
 
 -- what is there is not absent
 pub not_there : {A : Type 0} (o : Option A) → is_some o ≡ true → is_some o ≡ false → ⊥

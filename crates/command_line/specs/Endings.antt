@@ -13,9 +13,9 @@ use Rattle.period_file.specs.declared.faults.FileFault.TheVariants as file
 use Rattle.threads_player.specs.declared.faults.ThreadsFault.TheVariants as threads
 use Rattle.answer_words.specs.Words.{section_text}
 use Rattle.command_line.specs.declared.statuses.Fault.{Fault}
-use Rattle.command_line.specs.declared.statuses.Fault.TheVariants.{Line, Play, Faults, File, Threads}
+use Rattle.command_line.specs.declared.statuses.Fault.TheVariants.{Line, Play, Faults, File, Threads, Unlike, Batch, TooLong, NotClosed}
 
--- 1 refused input, no whole file or a mismatch, 2 the command line, 3 a failed read or write, 4 want of memory
+-- 1 refused input, no whole file, a mismatch or sheets that are unlike, 2 the command line, 3 a failed read or write, 4 want of memory
 abbrev pub status_of : Fault → ℕ
 status_of (Line on_line.Line) = 2
 status_of (Line on_line.OutOfMemory) = 4
@@ -36,6 +36,10 @@ status_of (Threads threads.OutOfMemory) = 4
 status_of (Threads threads.Mismatch) = 1
 status_of (Threads threads.Write) = 3
 status_of (Threads threads.Refused) = 1
+status_of Unlike = 1
+status_of (Batch at refusal) = 1
+status_of TooLong = 1
+status_of NotClosed = 1
 
 abbrev pub message_of : Fault → List ℕ
 message_of (Line on_line.Line) = codes "bad command line (see focusd --help)"
@@ -57,6 +61,10 @@ message_of (Threads threads.OutOfMemory) = codes "out of memory"
 message_of (Threads threads.Mismatch) = codes "mismatch"
 message_of (Threads threads.Write) = codes "write failed"
 message_of (Threads threads.Refused) = codes "refused"
+message_of Unlike = codes "unlike"
+message_of (Batch at refusal) = with_number (codes "line ") at ++ codes ": " ++ refusal_text refusal
+message_of TooLong = codes "too long"
+message_of NotClosed = codes "not closed"
 
 -- the line on standard error
 abbrev pub ending_line : Fault → List ℕ

@@ -1,2 +1,4 @@
+pub mod Faults
 pub mod Outcomes
+pub mod Parts
 pub mod Requests

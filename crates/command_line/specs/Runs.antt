@@ -24,6 +24,12 @@ use Rattle.input_check.specs.Checks.{IsSaidOf}
 use Rattle.period_file.specs.Files.{AppendsFront, AppendsPart, IsFileOf as IsFirstFileOf, file_in}
 use Rattle.period_file.specs.declared.faults.FileFault.{FileFault}
 use Rattle.period_file.specs.declared.faults.FileFault.TheVariants as file
+use Rattle.input_sections.specs.RateInput.{rate_input_in}
+use Rattle.metering_model.specs.Sheet.{Sheet}
+use Rattle.metering_model.specs.declared.Refusal.{Refusal}
+use Rattle.sheet_changes.specs.Changes.{IsSaidOf as AreSheetsOf, StaysBefore, two_sheets_in}
+use Rattle.schedule_writer.specs.Refusals.{IsRefusedAt}
+use Rattle.schedule_writer.specs.Schedules.{IsScheduleOf}
 use Rattle.threads_player.specs.Runs.{Run}
 use Rattle.threads_player.specs.declared.faults.ThreadsFault.TheVariants as threads
 use Rattle.threads_player.specs.Reports.{report_text}
@@ -34,7 +40,7 @@ use Rattle.command_line.specs.declared.words.LineFault.TheVariants as on_line
 use Rattle.command_line.specs.declared.statuses.Fault.{Fault}
 use Rattle.command_line.specs.declared.statuses.Fault.TheVariants as of_fault
 use Rattle.command_line.specs.declared.commands.Command.{Command}
-use Rattle.command_line.specs.declared.commands.Command.TheVariants.{Rate, Play, Check, File, Threads, Help, Version}
+use Rattle.command_line.specs.declared.commands.Command.TheVariants.{Rate, Play, Check, File, Threads, Sheets, Schedule, Help, Version}
 
 -- the words behind the program's name, which is the first
 abbrev pub words_behind_name : {A B : Type 0} → IntoIter (String A) B → List Text
@@ -50,14 +56,17 @@ abbrev pub version_line : List ℕ
 version_line = line (codes "focusd 0.3.0")
 
 -- What was asked for was done, and nothing else: the file of the input was written, or the transcript of the schedule that
--- the input is, or nothing is said of the input and nothing was written, or the first file of the period in the input, and
--- nothing remains to be read; or the report of a run of such a group was written, or some text for help, or the version.
+-- the input is, or nothing is said of the input and nothing was written, or the first file of the period in the input, or what
+-- is said of the two sheets in it, of which all stays that is to stay, or a schedule for it, and nothing remains to be read; or the report of a run of such a group was written, or some text for help, or the version.
 abbrev pub IsDone : Command → (known left old new : Option (List ℕ)) → Type 0
 IsDone (Rate period) known left old new = ((input text : List ℕ) × IsFileOf known period input text × Appends old new text) × IsAtEnd left
 IsDone Play known left old new = ((input text : List ℕ) × IsTranscriptOf known input text × Appends old new text) × IsAtEnd left
 IsDone Check known left old new = ((input : List ℕ) × IsSaidOf known input [] × Appends old new []) × IsAtEnd left
 IsDone (File period) known left old new = ((input file : List ℕ) × IsFirstFileOf known period input file × Appends old new file) × IsAtEnd left
 IsDone (Threads size) known left old new = (run : Run) × IsRunOf size run × Appends old new (report_text run)
+IsDone (Sheets before) known left old new =
+    ((before_it after_it : Sheet) × (text : List ℕ) × AreSheetsOf known before_it after_it text × StaysBefore before before_it after_it × Appends old new text) × IsAtEnd left
+IsDone (Schedule request) known left old new = ((input text : List ℕ) × IsScheduleOf request known input text × Appends old new text) × IsAtEnd left
 IsDone Help known left old new = (text : List ℕ) × (text ≢ []) × Appends old new text
 IsDone Version known left old new = Appends old new version_line
 
@@ -70,6 +79,13 @@ Refuses Play known fault = (told : ScheduleFault) × (fault ≡ of_fault.Play (p
 Refuses Check known fault = (input text : List ℕ) × IsSaidOf known input text × (text ≢ []) × (fault ≡ of_fault.Faults (line_count text))
 Refuses (File period) known fault = (told : FileFault) × (fault ≡ of_fault.File told) × IfSome known (λ input. file_in period input ≡ Err told)
 Refuses (Threads size) known fault = (fault ≡ of_fault.Threads threads.Mismatch) ⊎ ((fault ≡ of_fault.Threads threads.Refused) × IsSheetRefused)
+Refuses (Sheets before) known fault =
+    ((told : ScheduleFault) × (fault ≡ of_fault.Play (play.Schedule told)) × IfSome known (λ input. two_sheets_in input ≡ Err told))
+    ⊎ ((fault ≡ of_fault.Unlike) × ((before_it after_it : Sheet) × (text : List ℕ) × AreSheetsOf known before_it after_it text × (¬ StaysBefore before before_it after_it)))
+Refuses (Schedule request) known fault =
+    ((told : ScheduleFault) × (fault ≡ of_fault.Play (play.Schedule told)) × IfSome known (λ input. rate_input_in input ≡ Err told))
+    ⊎ (((line : ℕ) × (refusal : Refusal) × (fault ≡ of_fault.Batch line refusal) × IfSome known (λ input. IsRefusedAt input line refusal))
+    ⊎ ((fault ≡ of_fault.TooLong) ⊎ (fault ≡ of_fault.NotClosed)))
 Refuses Help known fault = ⊥
 Refuses Version known fault = ⊥
 
@@ -77,10 +93,23 @@ Refuses Version known fault = ⊥
 abbrev pub SaysOf : (known old new : Option (List ℕ)) → Type 0
 SaysOf known old new = (input text : List ℕ) × IsSaidOf known input text × Appends old new text
 
--- What `check` and `file` leave where they refuse. `check` leaves what it says; without a file nothing, of a torn one all that
+-- What a command says of the input, though something is wrong with it: `check` what that is, `sheets` what the new one changes.
+abbrev pub Says : Command → (known old new : Option (List ℕ)) → Type 0
+Says Check known old new = SaysOf known old new
+Says (Sheets before) known old new = (before_it after_it : Sheet) × (text : List ℕ) × AreSheetsOf known before_it after_it text × Appends old new text
+Says (Rate period) known old new = ⊥
+Says Play known old new = ⊥
+Says (File period) known old new = ⊥
+Says (Threads size) known old new = ⊥
+Says (Schedule request) known old new = ⊥
+Says Help known old new = ⊥
+Says Version known old new = ⊥
+
+-- What `check`, `sheets` and `file` leave where they refuse. The first two leave what they say; without a file nothing, of a torn one all that
 -- the input has, and of an input that is too long a front of the file. The others leave nothing at all.
 abbrev pub IsLeftBy : {W : Type 0} → SinkOf W → Command → Fault → (known : Option (List ℕ)) (writer writer' : W) → Type 0
 IsLeftBy sink Check fault known writer writer' = SaysOf known (sink.contents writer) (sink.contents writer')
+IsLeftBy sink (Sheets before) of_fault.Unlike known writer writer' = Says (Sheets before) known (sink.contents writer) (sink.contents writer')
 IsLeftBy sink (File period) (of_fault.File file.NoFile) known writer writer' = writer' ≡ writer
 IsLeftBy sink (File period) (of_fault.File file.Torn) known writer writer' = AppendsPart known period (sink.contents writer) (sink.contents writer')
 IsLeftBy sink (File period) (of_fault.File told) known writer writer' = AppendsFront known period (sink.contents writer) (sink.contents writer')
@@ -103,6 +132,8 @@ IsDoneInPart Play known old new = (input text : List ℕ) × IsTranscriptOf know
 IsDoneInPart Check known old new = (input text : List ℕ) × IsSaidOf known input text × AppendsPrefix old new text
 IsDoneInPart (File period) known old new = AppendsFront known period old new
 IsDoneInPart (Threads size) known old new = (run : Run) × IsRunOf size run × AppendsPrefix old new (report_text run)
+IsDoneInPart (Sheets before) known old new = (before_it after_it : Sheet) × (text : List ℕ) × AreSheetsOf known before_it after_it text × AppendsPrefix old new text
+IsDoneInPart (Schedule request) known old new = (input text : List ℕ) × IsScheduleOf request known input text × AppendsPrefix old new text
 IsDoneInPart Help known old new = (text : List ℕ) × AppendsPrefix old new text
 IsDoneInPart Version known old new = AppendsPrefix old new version_line
 
@@ -137,9 +168,9 @@ pub record Ends {R W E A B : Type 0} (source : SourceOf R) (sink : SinkOf W) (te
   pub memory : status ≡ 4 → Tells telling (of_fault.Play play.OutOfMemory) errors errors'
   pub part : status ≡ 4 → IsUnwritten sink args (source.remaining reader) writer writer'
       ⊎ (AsksFor args Play × IsPlayedInPart (source.remaining reader) (sink.contents writer) (sink.contents writer'))
-  -- But at these nothing was written, save by `file` and `check`.
+  -- But at these nothing was written, save by `file`, and what is said.
   pub unwritten : status ≢ 0 → status ≢ 3 → status ≢ 4 → IsUnwritten sink args (source.remaining reader) writer writer'
-      ⊎ (AsksFor args Check × SaysOf (source.remaining reader) (sink.contents writer) (sink.contents writer'))
+      ⊎ ((command : Command) × AsksFor args command × Says command (source.remaining reader) (sink.contents writer) (sink.contents writer'))
   -- At most so much is read, by `file` and by all others. What is done without the input takes nothing of it, however it ends.
   pub read : ((period : ℕ) → ¬ AsksFor args (File period)) → ConsumesAtMost 16_777_217 (source.remaining reader) (source.remaining reader')
   pub read_by_file : ConsumesAtMost 4_294_967_297 (source.remaining reader) (source.remaining reader')

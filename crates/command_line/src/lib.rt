@@ -10,6 +10,7 @@ mod words;
 pub use commands::Command;
 pub use period_file::{FileFault, file_text};
 pub use runs::{run, run_alone};
+pub use schedule_writer::Request;
 pub use statuses::{Fault, ending};
 pub use threads_player::{Size, ThreadsFault};
 pub use words::{LineFault, command, help};

@@ -10,6 +10,9 @@ ghost use Rattle.command_line.specs.declared.commands.Command.{Command};
 ghost use Rattle.command_line.specs.CommandLine.{Asks};
 ghost use Rattle.command_line.specs.Runs.{AsksFor, Ends, words_behind_name};
 ghost use Rattle.command_line.specs.Inner.Outcomes.{IsEnding, Leaves};
+ghost use Rattle.command_line.specs.Inner.Faults.{fault_of_schedule, fault_of_sheets};
+ghost use Rattle.schedule_writer.specs.Requests.{IsRequest};
+ghost use Rattle.schedule_writer.specs.declared.asked.Request.{Request};
 
 use crate::commands::Command;
 use crate::statuses::{Fault, ending};
@@ -18,6 +21,8 @@ use counted_io::{Sink, Source, write_all};
 use input_check::{check_text, play_text, rate_text};
 use period_file::{Period, file_text};
 use program_input::PlayFault;
+use schedule_writer::{Request, WriteFault, schedule_text};
+use sheet_changes::{Day, SheetsFault, sheets_text};
 use std::alloc::Global;
 use std::env::Args;
 use std::io;
@@ -48,13 +53,13 @@ fn words(alloc: Global, args: io::Result<Args>) -> Result<Vec<String>, LineFault
 
 // What is asked for, and the text to show where that is help
 #[derive(Drop)]
-struct Request {
+struct Wanted {
     command: Command,
     help: String,
 }
 
 // What the words ask for
-fn understood(alloc: Global, words: &[String]) -> Result<Request, LineFault>
+fn understood(alloc: Global, words: &[String]) -> Result<Wanted, LineFault>
     ensures asked { IfOk result (λ it. Asks (map string_bytes words.now) it.command) }
     ensures help { IfOk result (λ it. it.command ≡ Command.Help → string_bytes it.help ≢ []) }
     ensures not_asked { result ≡ Err LineFault.Line
@@ -65,11 +70,11 @@ fn understood(alloc: Global, words: &[String]) -> Result<Request, LineFault>
         Command::Help => help(alloc, words)?,
         _ => String::new(alloc),
     };
-    Ok(Request { command, help })
+    Ok(Wanted { command, help })
 }
 
 // What the words behind the program's name ask for
-fn asked(alloc: Global, args: io::Result<Args>) -> Result<Request, LineFault>
+fn asked(alloc: Global, args: io::Result<Args>) -> Result<Wanted, LineFault>
     ensures asked { IfOk result (λ it. AsksFor args it.command) }
     ensures help { IfOk result (λ it. it.command ≡ Command.Help → string_bytes it.help ≢ []) }
     ensures not_asked { result ≡ Err LineFault.Line
@@ -141,6 +146,65 @@ fn file<R: Source, W: Sink>(
     match file_text(alloc, period, reader, writer) {
         Ok(()) => Ok(()),
         Err(fault) => Err(Fault::File(fault)),
+    }
+}
+
+fn fault_of_sheets(fault: SheetsFault) -> Fault
+    ensures { result ≡ fault_of_sheets fault }
+{
+    match fault {
+        SheetsFault::Input(fault) => Fault::Play(fault),
+        SheetsFault::Unlike => Fault::Unlike,
+    }
+}
+
+// Where not all stays that is to stay, all was written that is said of the sheets.
+fn sheets<R: Source, W: Sink>(
+    alloc: Global,
+    before: Option<Day>,
+    reader: &mut R,
+    writer: &mut W,
+) -> Result<(), Fault>
+    ensures outcome { Leaves W.Sink (Command.Sheets before) result
+        (R.remaining reader.old) (R.remaining reader.new)
+        (R.failed_calls reader.old) (R.failed_calls reader.new) writer.old writer.new }
+    ensures read { ConsumesAtMost 16_777_217 (R.remaining reader.old) (R.remaining reader.new) }
+{
+    match sheets_text(alloc, before, reader, writer) {
+        Ok(()) => Ok(()),
+        Err(fault) => Err(fault_of_sheets(fault)),
+    }
+}
+
+fn fault_of_schedule(fault: WriteFault) -> Fault
+    ensures { result ≡ fault_of_schedule fault }
+{
+    match fault {
+        WriteFault::Read => Fault::Play(PlayFault::Read),
+        WriteFault::Section(fault) => Fault::Play(PlayFault::Schedule(fault)),
+        WriteFault::Refused { line, refusal } => Fault::Batch { line, refusal },
+        WriteFault::TooLong => Fault::TooLong,
+        WriteFault::NotClosed => Fault::NotClosed,
+        WriteFault::Write => Fault::Play(PlayFault::Write),
+        WriteFault::OutOfMemory => Fault::Play(PlayFault::OutOfMemory),
+    }
+}
+
+fn schedule<R: Source, W: Sink>(
+    alloc: Global,
+    request: Request,
+    reader: &mut R,
+    writer: &mut W,
+) -> Result<(), Fault>
+    requires { IsRequest request }
+    ensures outcome { Leaves W.Sink (Command.Schedule request) result
+        (R.remaining reader.old) (R.remaining reader.new)
+        (R.failed_calls reader.old) (R.failed_calls reader.new) writer.old writer.new }
+    ensures read { ConsumesAtMost 16_777_217 (R.remaining reader.old) (R.remaining reader.new) }
+{
+    match schedule_text(alloc, request, reader, writer) {
+        Ok(()) => Ok(()),
+        Err(fault) => Err(fault_of_schedule(fault)),
     }
 }
 
@@ -217,18 +281,23 @@ pub fn run_alone<R: Source, W: Sink, E: Sink>(
     ensures only_memory { IfOk result (λ status. (size : Size) → AsksFor args (Command.Threads size)
         → status ≡ 4) }
 {
-    let request = match asked(alloc, args) {
-        Ok(request) => request,
+    let wanted = match asked(alloc, args) {
+        Ok(wanted) => wanted,
         Err(fault) => return Ok(ending(&Fault::Line(fault), errors)),
     };
-    let command = request.command;
+    let command = wanted.command;
     match command {
         Command::Rate { period } => Ok(ended(rate(alloc, period, reader, writer), errors)),
         Command::Play => Ok(ended(play(alloc, reader, writer), errors)),
         Command::Check => Ok(ended(check(alloc, reader, writer), errors)),
         Command::File { period } => Ok(ended(file(alloc, period, reader, writer), errors)),
         Command::Threads { size } => Err(size),
-        Command::Help => Ok(ended(show_help(request.help.as_str(), writer), errors)),
+        Command::Sheets { before } => Ok(ended(sheets(alloc, before, reader, writer), errors)),
+        Command::Schedule { request } => Ok(ended(
+            schedule(alloc, request, reader, writer),
+            errors,
+        )),
+        Command::Help => Ok(ended(show_help(wanted.help.as_str(), writer), errors)),
         Command::Version => Ok(ended(show_version(writer), errors)),
     }
 }
@@ -237,7 +306,8 @@ pub fn run_alone<R: Source, W: Sink, E: Sink>(
 /// to end with.
 ///
 /// 0 says that it was done; 1 that the input is refused, that `check` wrote what is wrong with it,
-/// that it has no whole file of the period, or that a run in threads came to a mismatch; 2 that the
+/// that it has no whole file of the period, that not all stays of two sheets that is to stay, that no
+/// schedule was found, or that a run in threads came to a mismatch; 2 that the
 /// words ask for nothing, or are no text; 3 that a read or a write failed; 4 that memory was wanting.
 /// In each case but 0 a line tells of it on `errors`, as far as that takes it. At most 16,777,217
 /// bytes are read, by `file` at most 4,294,967,297, and none at 2, by `threads`, or for help or the

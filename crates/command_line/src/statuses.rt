@@ -1,11 +1,13 @@
 //! How the program ends at a fault: its exit status, and its line on standard error.
 
 ghost use Rattle.std.specs.Prelude.{◌≡◌, ◌+◌, ◌≤◌, ◌++◌, length};
-ghost use Rattle.command_line.specs.Endings.{Tells, ending_line, message_of, status_of};
+ghost use Rattle.command_line.specs.Endings.{Tells, status_of};
+ghost use Rattle.command_line.specs.Inner.Parts.{first_part, first_words, last_part};
 
 use crate::words::LineFault;
 use answer_words::{Line, put_section, refusal_line};
-use counted_io::{Sink, write_all};
+use counted_io::{Failed, Sink, write_all};
+use metering_model::Refusal;
 use period_file::FileFault;
 use program_input::{PlayFault, ScheduleCode, ScheduleFault};
 use threads_player::ThreadsFault;
@@ -23,6 +25,14 @@ pub enum Fault {
     File(FileFault),
     /// `threads`.
     Threads(ThreadsFault),
+    /// `sheets` wrote all, and not all stays that is to stay.
+    Unlike,
+    /// `schedule`: the journals refuse a batch, at this line of the input.
+    Batch { line: u32, refusal: Refusal },
+    /// `schedule`: it would be longer than a schedule may be.
+    TooLong,
+    /// `schedule`: what was to be written does not close the months.
+    NotClosed,
 }
 
 fn status(fault: &Fault) -> u8
@@ -33,7 +43,11 @@ fn status(fault: &Fault) -> u8
         | Fault::Play(PlayFault::Schedule(ScheduleFault::Refused { .. }))
         | Fault::Faults(_)
         | Fault::File(FileFault::NoFile | FileFault::Torn | FileFault::TooLong)
-        | Fault::Threads(ThreadsFault::Mismatch | ThreadsFault::Refused) => 1,
+        | Fault::Threads(ThreadsFault::Mismatch | ThreadsFault::Refused)
+        | Fault::Unlike
+        | Fault::Batch { .. }
+        | Fault::TooLong
+        | Fault::NotClosed => 1,
         Fault::Line(LineFault::Line) => 2,
         Fault::Play(PlayFault::Read | PlayFault::Write)
         | Fault::File(FileFault::Read | FileFault::Write)
@@ -46,10 +60,11 @@ fn status(fault: &Fault) -> u8
     }
 }
 
-// Appends what is told of the fault: at most "refused " and the 44 bytes of a refusal.
+// Appends what is told of the fault, but of a batch its refusal, for which a line may be too short:
+// at most "refused " and the 44 bytes of a refusal.
 fn put_message(line: &mut Line, fault: &Fault)
     requires room { length line.old + 52 ≤ 64 }
-    ensures put { line.new ≡ line.old ++ message_of fault.now }
+    ensures put { line.new ≡ line.old ++ first_words fault.now }
     ensures room { length line.new ≤ length line.old + 52 }
 {
     match fault {
@@ -85,27 +100,61 @@ fn put_message(line: &mut Line, fault: &Fault)
         }
         Fault::Threads(ThreadsFault::Mismatch) => line.put(b"mismatch"),
         Fault::Threads(ThreadsFault::Refused) => line.put(b"refused"),
+        Fault::Unlike => line.put(b"unlike"),
+        Fault::Batch { line: at, .. } => {
+            line.put(b"line ");
+            line.put_number(*at);
+            line.put(b": ");
+        }
+        Fault::TooLong => line.put(b"too long"),
+        Fault::NotClosed => line.put(b"not closed"),
     }
 }
 
+// The line of the fault, but of a refused batch what stands before its refusal
 fn line_of(fault: &Fault) -> Line
-    ensures { result ≡ ending_line fault.now }
+    ensures { result ≡ first_part fault.now }
 {
     let mut line = Line::new();
     line.put(b"focusd: ");
     put_message(&mut line, fault);
+    if matches!(fault, Fault::Batch { .. }) {
+        return line;
+    }
     line.put(b"\n");
     line
 }
 
-/// Writes the line of the fault in one write, and gives the status to end with: 1 for refused input or a mismatch,
-/// 2 for the command line, 3 for a failed read or write, 4 for want of memory.
+// What stands behind it: nothing, but of a refused batch
+fn rest_of(fault: &Fault) -> Line
+    ensures { result ≡ last_part fault.now }
+{
+    match fault {
+        Fault::Batch { refusal, .. } => {
+            let mut rest = refusal_line(*refusal);
+            rest.put(b"\n");
+            rest
+        }
+        _ => Line::new(),
+    }
+}
+
+fn tell<W: Sink>(fault: &Fault, writer: &mut W) -> Result<(), Failed>
+    ensures told { Tells W.Sink fault.now writer.old writer.new }
+{
+    write_all(writer, line_of(fault).as_slice())?;
+    write_all(writer, rest_of(fault).as_slice())
+}
+
+/// Writes the line of the fault in one write, or in two where a batch is refused, and gives the status
+/// to end with: 1 for refused input, a mismatch or sheets that are unlike, 2 for the command line, 3 for
+/// a failed read or write, 4 for want of memory.
 ///
 /// The status is the same where the writer fails. It takes no memory.
 pub fn ending<W: Sink>(fault: &Fault, writer: &mut W) -> u8
     ensures status { result ≡ status_of fault.now }
     ensures told { Tells W.Sink fault.now writer.old writer.new }
 {
-    let _ = write_all(writer, line_of(fault).as_slice());
+    let _ = tell(fault, writer);
     status(fault)
 }

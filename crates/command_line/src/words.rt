@@ -1,10 +1,11 @@
 //! The words of the command line.
 
-ghost use Rattle.std.specs.Prelude.{◌≡◌, ◌≢◌, ◌≤◌, ℕ, Err, IfOk, IfSome, None, Some, false, map, pos, string_bytes, []};
+ghost use Rattle.std.specs.Prelude.{◌≡◌, ◌≢◌, ◌≤◌, ℕ, ℤ, Err, IfOk, IfSome, None, Option, Some, codes, false, map, pos, string_bytes, []};
 ghost use Rattle.clap.specs.Words.{app_of, found_of, kind_of, new_app, rows_of, rule_of, with_subcommand};
+ghost use Rattle.schedule_writer.specs.declared.asked.Request.{Request};
 ghost use Rattle.clap.specs.declared.builder.command.Command.TheViews.{out-Command};
 ghost use Rattle.command_line.specs.declared.commands.Command.{Command};
-ghost use Rattle.command_line.specs.CommandLine.{bare_grammar, grammar_of_focusd, group_grammar, number_option, period_grammar, threads_grammar, Asks, AsksForHelp, GivesNumber, GivesPeriod, GivesSize};
+ghost use Rattle.command_line.specs.CommandLine.{bare_grammar, grammar_of_focusd, group_grammar, number_option, period_grammar, threads_grammar, Asks, AsksForHelp, GivesNumber, GivesPeriod, GivesSize, GivesDay, GivesRequest, GivesThrough, nodes_grammar, number_or, optional_number, optional_text, schedule_grammar, sheets_grammar};
 ghost use Rattle.command_line.specs.Inner.Requests.{IsRequestFor};
 ghost use Rattle.clap.specs.declared.builder.value_parser.ValueParser.TheVariants.{Signed};
 
@@ -13,6 +14,8 @@ use clap::builder::ValueParser;
 use clap::error::ErrorKind;
 use clap::{Arg, ArgAction, ArgMatches};
 use period_file::Period;
+use schedule_writer::Request;
+use sheet_changes::Day;
 use std::alloc::Global;
 use thiserror::Error;
 use threads_player::Size;
@@ -27,6 +30,12 @@ const PLAY: &str = "Plays a schedule of at most 16 MiB, and writes its transcrip
 const CHECK: &str = "Writes what rate or play refuses of an input of at most 16 MiB, by lines";
 
 const FILE: &str = "Copies the file of a period out of a transcript of at most 4 GiB";
+
+const SCHEDULE: &str =
+    "Writes a schedule that closes the months of batches, from an input of at most 16 MiB";
+
+const SHEETS: &str =
+    "Writes what a new price sheet changes of an old one, from an input of at most 16 MiB";
 
 const THREADS: &str = "Runs a group in threads, without an input, and writes a report";
 
@@ -74,6 +83,55 @@ fn number_option<'a>(
         .required(true)
         .action(ArgAction::Set)
         .value_parser(parser)
+}
+
+// `--NAME N`, which may be left out
+fn optional_number<'a>(
+    alloc: Global,
+    name: &'a str,
+    help: &'a str,
+    parser: ValueParser<'a>,
+) -> Arg<'a>
+    ensures rule { (least most : ℕ) → parser.entry ≡ Signed (pos least) (pos most)
+        → rule_of result ≡ optional_number name.entry.now least most }
+    ensures local { result.global ≡ false }
+{
+    Arg::new(alloc, name)
+        .long(name)
+        .help(help)
+        .action(ArgAction::Set)
+        .value_parser(parser)
+}
+
+// The same with a number for where it is left out
+fn number_or<'a>(
+    alloc: Global,
+    default: &'a str,
+    name: &'a str,
+    help: &'a str,
+    parser: ValueParser<'a>,
+) -> Arg<'a>
+    ensures rule { (least most : ℕ) → parser.entry ≡ Signed (pos least) (pos most)
+        → rule_of result ≡ number_or default.entry.now name.entry.now least most }
+    ensures local { result.global ≡ false }
+{
+    Arg::new(alloc, name)
+        .long(name)
+        .help(help)
+        .action(ArgAction::Set)
+        .value_parser(parser)
+        .default_value(default)
+}
+
+// `--NAME TEXT`, which may be left out
+fn optional_text<'a>(alloc: Global, name: &'a str, help: &'a str) -> Arg<'a>
+    ensures rule { rule_of result ≡ optional_text name.entry.now }
+    ensures local { result.global ≡ false }
+{
+    Arg::new(alloc, name)
+        .long(name)
+        .help(help)
+        .action(ArgAction::Set)
 }
 
 // `rate --period P` or `file --period P`
@@ -153,6 +211,74 @@ fn threads_grammar<'a>(alloc: Global) -> Result<clap::Command<'a>, LineFault>
     }
 }
 
+// `sheets --before DAY`
+fn sheets_grammar<'a>(alloc: Global) -> Result<clap::Command<'a>, LineFault>
+    ensures app { IfOk result (λ c. app_of c ≡ sheets_grammar) }
+    ensures local { IfOk result (λ c. (out-Command c).has_globals ≡ false) }
+    ensures memory { result ≢ Err LineFault.Line }
+{
+    let before = optional_text(
+        alloc,
+        "before",
+        "A day, as 2025-04-01: files of months that end before it have to stay",
+    );
+    match clap::Command::new(alloc, "sheets")
+        .about(SHEETS)
+        .arg(before)
+    {
+        Ok(command) => Ok(command),
+        Err(_) => Err(LineFault::OutOfMemory),
+    }
+}
+
+// `schedule --nodes N --observers M`
+fn nodes_grammar<'a>(alloc: Global) -> Result<clap::Command<'a>, LineFault>
+    ensures app { IfOk result (λ c. app_of c ≡ nodes_grammar) }
+    ensures local { IfOk result (λ c. (out-Command c).has_globals ≡ false) }
+    ensures memory { result ≢ Err LineFault.Line }
+{
+    let nodes = number_or(
+        alloc,
+        "3",
+        "nodes",
+        "How many nodes vote: 1 to 99",
+        clap::value_parser!(u8).range(1..100),
+    );
+    let observers = number_or(
+        alloc,
+        "0",
+        "observers",
+        "How many more observe: 0 to 98, at most 99 with those that vote",
+        clap::value_parser!(u8).range(0..99),
+    );
+    let schedule = clap::Command::new(alloc, "schedule").about(SCHEDULE);
+    let Ok(schedule) = schedule.arg(nodes) else {
+        return Err(LineFault::OutOfMemory);
+    };
+    match schedule.arg(observers) {
+        Ok(group) => Ok(group),
+        Err(_) => Err(LineFault::OutOfMemory),
+    }
+}
+
+// `schedule --nodes N --observers M --through P`
+fn schedule_grammar<'a>(alloc: Global) -> Result<clap::Command<'a>, LineFault>
+    ensures app { IfOk result (λ c. app_of c ≡ schedule_grammar) }
+    ensures local { IfOk result (λ c. (out-Command c).has_globals ≡ false) }
+    ensures memory { result ≢ Err LineFault.Line }
+{
+    let through = optional_number(
+        alloc,
+        "through",
+        "The last period to close: 0 to 1199; left out, the last in which a reading starts",
+        clap::value_parser!(u16).range(0..=1199),
+    );
+    match nodes_grammar(alloc)?.arg(through) {
+        Ok(schedule) => Ok(schedule),
+        Err(_) => Err(LineFault::OutOfMemory),
+    }
+}
+
 // Without its commands: `help` is none of them, since `--help` asks for it.
 fn bare_grammar<'a>(alloc: Global) -> Result<clap::Command<'a>, LineFault>
     ensures app { IfOk result (λ c. app_of c ≡ bare_grammar) }
@@ -203,7 +329,9 @@ fn grammar<'a>(alloc: Global) -> Result<clap::Command<'a>, LineFault>
     let playing = with(rating, plain_grammar(alloc, "play", PLAY))?;
     let checking = with(playing, plain_grammar(alloc, "check", CHECK))?;
     let filing = with(checking, period_grammar(alloc, "file", FILE)?)?;
-    with(filing, threads_grammar(alloc)?)
+    let scheduling = with(filing, schedule_grammar(alloc)?)?;
+    let comparing = with(scheduling, sheets_grammar(alloc)?)?;
+    with(comparing, threads_grammar(alloc)?)
 }
 
 // The period that the option gives, where it is one
@@ -229,6 +357,66 @@ fn number(matches: &ArgMatches<'_>, option: &str, most: u8) -> Option<u8>
     } else {
         None
     }
+}
+
+// How many observers the option gives, where they may be so many
+fn observers(matches: &ArgMatches<'_>) -> Option<u8>
+    ensures given { IfSome result (λ n. (n ≤ 98)
+        × GivesNumber (rows_of (found_of matches.now)) (codes "observers") n) }
+    ensures not_given { result ≡ None → (n : ℕ) → n ≤ 98
+        → ¬ GivesNumber (rows_of (found_of matches.now)) (codes "observers") n }
+{
+    let number = matches.get_one::<u8>("observers")?;
+    if number <= 98 { Some(number) } else { None }
+}
+
+// The period that the option gives, if it gives one; `None` where its text is no period
+fn through(matches: &ArgMatches<'_>) -> Option<Option<u16>>
+    ensures given { IfSome result (GivesThrough (rows_of (found_of matches.now))) }
+    ensures not_given { result ≡ None → (through : Option ℕ)
+        → ¬ GivesThrough (rows_of (found_of matches.now)) through }
+{
+    if matches.get_str("through").is_none() {
+        return Some(None);
+    }
+    let number = matches.get_one::<u16>("through")?;
+    if number < 1200 {
+        Some(Some(number))
+    } else {
+        None
+    }
+}
+
+// What the options ask of a schedule, where that may be asked
+fn request(matches: &ArgMatches<'_>) -> Option<Request>
+    ensures given { IfSome result (GivesRequest (rows_of (found_of matches.now))) }
+    ensures not_given { result ≡ None → (request : Request)
+        → ¬ GivesRequest (rows_of (found_of matches.now)) request }
+{
+    let nodes = number(matches, "nodes", 99)?;
+    let observers = observers(matches)?;
+    let through = through(matches)?;
+    if u16::from(nodes) + u16::from(observers) > 99 {
+        return None;
+    }
+    Some(Request {
+        nodes,
+        observers,
+        through,
+    })
+}
+
+// The day that the option gives, if it gives one; `None` where its text is no day
+fn day(matches: &ArgMatches<'_>) -> Option<Option<Day>>
+    ensures given { IfSome result (GivesDay (rows_of (found_of matches.now))) }
+    ensures not_given { result ≡ None → (before : Option ℤ)
+        → ¬ GivesDay (rows_of (found_of matches.now)) before }
+{
+    let Some(text) = matches.get_str("before") else {
+        return Some(None);
+    };
+    let day = Day::read(text.as_bytes())?;
+    Some(Some(day))
 }
 
 // The size that the options give, where it is one that is run
@@ -274,6 +462,18 @@ pub fn command(alloc: Global, words: &[String]) -> Result<Command, LineFault>
             return Err(LineFault::Line);
         };
         return Ok(Command::File { period });
+    }
+    if let Some(sheets) = matches.subcommand_matches("sheets") {
+        let Some(before) = day(sheets) else {
+            return Err(LineFault::Line);
+        };
+        return Ok(Command::Sheets { before });
+    }
+    if let Some(schedule) = matches.subcommand_matches("schedule") {
+        let Some(request) = request(schedule) else {
+            return Err(LineFault::Line);
+        };
+        return Ok(Command::Schedule { request });
     }
     let Some(rate) = matches.subcommand_matches("rate") else {
         return Err(LineFault::Line);

@@ -1,9 +1,10 @@
 //! The words that the program is given.
 
 use batch_store::Period;
-use command_line::{Command, LineFault, Size, command};
+use command_line::{Command, LineFault, Request, Size, command};
 use std::alloc::{AllocError, Global};
 use std::test::Fail;
+use utc_calendar::Day;
 
 fn words_of(alloc: Global, line: &str) -> Result<Vec<String>, AllocError> {
     let mut words = Vec::new(alloc);
@@ -90,6 +91,15 @@ rate 0 --help
 rate --period 1200 --help
 --versions
 help
+sheets --before 2025-02-29
+sheets --before 2025-4-1
+sheets 2025-04-01
+sheets --before 2025-04-01 --before 2025-04-01
+schedule --nodes 0
+schedule --nodes 100
+schedule --observers 97
+schedule --through 1200
+schedule --period 0
 focusd rate --period 0
 threads --nodes 0 --agents 1 --batches 1 --periods 1
 threads --nodes 1 --agents 10 --batches 1 --periods 1
@@ -97,6 +107,30 @@ threads --nodes 1 --agents 1 --batches 100 --periods 1
 threads --nodes 257 --agents 1 --batches 1 --periods 1
 threads
 ";
+
+#[test]
+fn sheets_and_a_schedule_are_asked_for(rt: HostRuntime) -> Result<(), Fail> {
+    let other = first_other(rt.alloc(), "sheets", Ok(Command::Sheets { before: None }))?;
+    assert_eq!(rt; other, None);
+    let before = Some(Day::read(b"2024-02-29").ok_or("no day")?);
+    let lines = "sheets --before 2024-02-29\nsheets --before=2024-02-29";
+    let other = first_other(rt.alloc(), lines, Ok(Command::Sheets { before }))?;
+    assert_eq!(rt; other, None);
+    for (lines, nodes, observers, through) in [
+        ("schedule\nschedule --nodes 3 --observers 0", 3, 0, None),
+        ("schedule --observers 98 --nodes 1 --through 0", 1, 98, Some(0)),
+        ("schedule --nodes=99 --through=1199", 99, 0, Some(1_199)),
+    ] {
+        let request = Request {
+            nodes,
+            observers,
+            through,
+        };
+        let other = first_other(rt.alloc(), lines, Ok(Command::Schedule { request }))?;
+        assert_eq!(rt; other, None);
+    }
+    Ok(())
+}
 
 #[test]
 fn help_and_the_version_are_asked_for(rt: HostRuntime) -> Result<(), Fail> {

@@ -5,9 +5,9 @@ use Rattle.counted_io.specs.declared.writing.Sink.{Ghosts as SinkOf}
 use Rattle.program_input.specs.declared.faults.PlayFault.TheVariants as play
 use Rattle.period_file.specs.Files.{AppendsFront}
 use Rattle.command_line.specs.Endings.{Tells, ending_line, status_of}
-use Rattle.command_line.specs.Runs.{IsDone, IsDoneInPart, IsLeftBy, IsPlayedInPart, Refuses, SaysOf}
+use Rattle.command_line.specs.Runs.{IsDone, IsDoneInPart, IsLeftBy, IsPlayedInPart, Refuses, Says}
 use Rattle.command_line.specs.declared.commands.Command.{Command}
-use Rattle.command_line.specs.declared.commands.Command.TheVariants.{Play, Check, File}
+use Rattle.command_line.specs.declared.commands.Command.TheVariants.{Play, File}
 use Rattle.command_line.specs.declared.statuses.Fault.{Fault}
 use Rattle.command_line.specs.declared.statuses.Fault.TheVariants as of_fault
 
@@ -31,7 +31,7 @@ pub record ComesTo {W : Type 0} (sink : SinkOf W) (command : Command) (fault : F
       × IsDoneInPart command known (sink.contents writer) (sink.contents writer'))
   pub calm : status_of fault ≢ 3 → (reads' ≡ reads) × (sink.failed_calls writer' ≡ sink.failed_calls writer)
   pub unwritten : status_of fault ≢ 3 → status_of fault ≢ 4
-      → IsKept sink command known writer writer' ⊎ ((command ≡ Check) × SaysOf known (sink.contents writer) (sink.contents writer'))
+      → IsKept sink command known writer writer' ⊎ Says command known (sink.contents writer) (sink.contents writer')
   pub part : status_of fault ≡ 4 → IsKept sink command known writer writer' ⊎ ((command ≡ Play) × IsPlayedInPart known (sink.contents writer) (sink.contents writer'))
 
 abbrev pub Leaves : {W : Type 0} → SinkOf W → Command → Result (Unit {0}) Fault → (known left : Option (List ℕ)) (reads reads' : ℕ) (writer writer' : W) → Type 0

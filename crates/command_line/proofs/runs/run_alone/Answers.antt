@@ -1,5 +1,5 @@
 use Rattle.std.proofs.Common.{Err, ap, refl, subst}
-use Rattle.command_line.specs.declared.commands.Command.TheVariants.{Rate, Play, Check, File, Help, Version}
+use Rattle.command_line.specs.declared.commands.Command.TheVariants.{Rate, Play, Check, File, Sheets, Schedule, Help, Version}
 use Rattle.command_line.specs.Runs.{AsksFor}
 use Rattle.command_line.proofs.RunLaws.{asks_without, ends, ends_at_words, no_more_read, nothing_read}
 use Rattle.command_line.proofs.runs.run_alone.Goals as goal
@@ -52,3 +52,17 @@ returns-clause-ended g c =
     ends g.R.Source g.W.Sink g.E.Sink c.args.args Version c.show_version.result c.ended-in-Version.result _ _ _ _ _ _
     asked (c.show_version.ensures.outcome known (g.R.Source.failed_calls c.args.reader.now)) c.ended-in-Version.ensures.ending (λ other. nothing_read 16_777_217 known) (nothing_read 4_294_967_297 known)
     (λ other others without. refl)
+
+pub returns-in-Sheets-clause-ended : goal.returns-in-Sheets-clause-ended
+returns-in-Sheets-clause-ended g c =
+    let asked : AsksFor c.args.args (Sheets c.in-Sheets.before) = subst (AsksFor c.args.args) c.in-Sheets.is c.in-Ok.ensures.asked in
+    ends g.R.Source g.W.Sink g.E.Sink c.args.args (Sheets c.in-Sheets.before) c.sheets.result c.ended-in-Sheets.result _ _ _ _ _ _
+    asked c.sheets.ensures.outcome c.ended-in-Sheets.ensures.ending (λ other. c.sheets.ensures.read) (no_more_read _ _ c.sheets.ensures.read)
+    (λ other others without. absurd (asks_without c.args.args (Sheets c.in-Sheets.before) refl asked other others without))
+
+pub returns-in-Schedule-clause-ended : goal.returns-in-Schedule-clause-ended
+returns-in-Schedule-clause-ended g c =
+    let asked : AsksFor c.args.args (Schedule c.in-Schedule.request) = subst (AsksFor c.args.args) c.in-Schedule.is c.in-Ok.ensures.asked in
+    ends g.R.Source g.W.Sink g.E.Sink c.args.args (Schedule c.in-Schedule.request) c.schedule.result c.ended-in-Schedule.result _ _ _ _ _ _
+    asked c.schedule.ensures.outcome c.ended-in-Schedule.ensures.ending (λ other. c.schedule.ensures.read) (no_more_read _ _ c.schedule.ensures.read)
+    (λ other others without. absurd (asks_without c.args.args (Schedule c.in-Schedule.request) refl asked other others without))

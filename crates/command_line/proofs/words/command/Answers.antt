@@ -2,7 +2,7 @@ use Rattle.std.proofs.Common.{◌≡◌, ◌∙◌, sym, ap, subst, map, string_
 use Rattle.clap.specs.Words.{found_of, is_simple, rows_of, subcommand_of}
 use Rattle.clap.specs.Faults.{fault_of, is_simple_and_free}
 use Rattle.clap.specs.Kinds.{HasKind}
-use Rattle.command_line.proofs.WordLaws.{asks_for_check, asks_for_play, grammar_is_simple, grammar_is_free, asks_for_nothing, request_asks, meets_one, met, file_gives, rate_gives, is_given, is_none, not_some, not_there}
+use Rattle.command_line.proofs.WordLaws.{asks_for_check, asks_for_play, grammar_is_simple, grammar_is_free, asks_for_nothing, request_asks, meets_one, met, file_gives, rate_gives, sheets_give, schedule_gives, is_given, is_none, not_some, not_there}
 use Rattle.command_line.proofs.words.command.Goals as goal
 
 pub returns-in-Err-clause-asked : goal.returns-in-Err-clause-asked
@@ -52,8 +52,8 @@ returns-in_default-period-2-clause-not_asked c is command asked =
     let app = c.in_ok-grammar.ensures.app in
     let words = map string_bytes c.args.words.now in
     let matches = c.in-Ok.ensures.matches (ap is_simple app ∙ grammar_is_simple) in
-    let found = found_of c.in-Some-subcommand_matches-2.rate.now in
-    let inside = met c.in-Ok.matches (codes "rate") (rows_of found) (c.in-Some-subcommand_matches-2.ensures.found.0 refl) c.in-Some-subcommand_matches-2.ensures.rows in
+    let found = found_of c.in-Some-subcommand_matches-4.rate.now in
+    let inside = met c.in-Ok.matches (codes "rate") (rows_of found) (c.in-Some-subcommand_matches-4.ensures.found.0 refl) c.in-Some-subcommand_matches-4.ensures.rows in
     let named = ap (λ a. subcommand_of a words) (sym app) ∙ (sym matches.1 ∙ inside) in
     let taken = ap (λ a. fault_of a words) (sym app) ∙ c.in-Ok.ensures.kinds (ap is_simple_and_free app ∙ grammar_is_free) in
     let given = rate_gives words (rows_of found) command asked taken named in
@@ -65,8 +65,8 @@ returns-clause-asked c =
     let words = map string_bytes c.args.words.now in
     let matches = c.in-Ok.ensures.matches (ap is_simple app ∙ grammar_is_simple) in
     let kinds = c.in-Ok.ensures.kinds (ap is_simple_and_free app ∙ grammar_is_free) in
-    let found = found_of c.in-Some-subcommand_matches-2.rate.now in
-    let inside = met c.in-Ok.matches (codes "rate") (rows_of found) (c.in-Some-subcommand_matches-2.ensures.found.0 refl) c.in-Some-subcommand_matches-2.ensures.rows in
+    let found = found_of c.in-Some-subcommand_matches-4.rate.now in
+    let inside = met c.in-Ok.matches (codes "rate") (rows_of found) (c.in-Some-subcommand_matches-4.ensures.found.0 refl) c.in-Some-subcommand_matches-4.ensures.rows in
     record {
       taken = ap (λ a. fault_of a words) (sym app) ∙ kinds;
       rows = rows_of found;
@@ -121,8 +121,8 @@ returns-then-is_some-2-clause-asked c =
     asks_for_check words c.in-Ok.matches c.subcommand_matches-2.result yes c.subcommand_matches-2.ensures.found.0 c.subcommand_matches-2.ensures.rows
     (ap (λ a. fault_of a words) (sym app) ∙ kinds) (matches.1 ∙ ap (λ a. subcommand_of a words) app)
 
-pub returns-in_default-subcommand_matches-2-clause-not_asked : goal.returns-in_default-subcommand_matches-2-clause-not_asked
-returns-in_default-subcommand_matches-2-clause-not_asked c is command asked =
+pub returns-in_default-subcommand_matches-4-clause-not_asked : goal.returns-in_default-subcommand_matches-4-clause-not_asked
+returns-in_default-subcommand_matches-4-clause-not_asked c is command asked =
     let app = c.in_ok-grammar.ensures.app in
     let words = map string_bytes c.args.words.now in
     let matches = c.in-Ok.ensures.matches (ap is_simple app ∙ grammar_is_simple) in
@@ -132,3 +132,59 @@ returns-in_default-subcommand_matches-2-clause-not_asked c is command asked =
     (λ named. not_some c.subcommand_matches-3.result (c.subcommand_matches-3.ensures.found.1 named) (is_none c.subcommand_matches-3.result c.in_default.not-Some))
     (λ named. not_some c.subcommand_matches-4.result (c.subcommand_matches-4.ensures.found.1 named) (is_none c.subcommand_matches-4.result c.in_default-subcommand_matches.not-Some))
     (λ named. not_some c.subcommand_matches-5.result (c.subcommand_matches-5.ensures.found.1 named) (is_none c.subcommand_matches-5.result c.in_default-subcommand_matches-2.not-Some))
+    (λ named. not_some c.subcommand_matches-6.result (c.subcommand_matches-6.ensures.found.1 named) (is_none c.subcommand_matches-6.result c.in_default-subcommand_matches-3.not-Some))
+    (λ named. not_some c.subcommand_matches-7.result (c.subcommand_matches-7.ensures.found.1 named) (is_none c.subcommand_matches-7.result c.in_default-subcommand_matches-4.not-Some))
+
+pub returns-in_default-day-clause-not_asked : goal.returns-in_default-day-clause-not_asked
+returns-in_default-day-clause-not_asked c is command asked =
+    let app = c.in_ok-grammar.ensures.app in
+    let words = map string_bytes c.args.words.now in
+    let matches = c.in-Ok.ensures.matches (ap is_simple app ∙ grammar_is_simple) in
+    let found = found_of c.in-Some-subcommand_matches-2.sheets.now in
+    let inside = met c.in-Ok.matches (codes "sheets") (rows_of found) (c.in-Some-subcommand_matches-2.ensures.found.0 refl) c.in-Some-subcommand_matches-2.ensures.rows in
+    let named = ap (λ a. subcommand_of a words) (sym app) ∙ (sym matches.1 ∙ inside) in
+    let taken = ap (λ a. fault_of a words) (sym app) ∙ c.in-Ok.ensures.kinds (ap is_simple_and_free app ∙ grammar_is_free) in
+    let given = sheets_give words (rows_of found) command asked taken named in
+    c.day.ensures.not_given (is_none c.day.result c.in_default-day.not-Some) given.0 given.1
+
+pub returns-in-Some-subcommand_matches-2-clause-asked : goal.returns-in-Some-subcommand_matches-2-clause-asked
+returns-in-Some-subcommand_matches-2-clause-asked c =
+    let app = c.in_ok-grammar.ensures.app in
+    let words = map string_bytes c.args.words.now in
+    let matches = c.in-Ok.ensures.matches (ap is_simple app ∙ grammar_is_simple) in
+    let kinds = c.in-Ok.ensures.kinds (ap is_simple_and_free app ∙ grammar_is_free) in
+    let found = found_of c.in-Some-subcommand_matches-2.sheets.now in
+    let inside = met c.in-Ok.matches (codes "sheets") (rows_of found) (c.in-Some-subcommand_matches-2.ensures.found.0 refl) c.in-Some-subcommand_matches-2.ensures.rows in
+    record {
+      taken = ap (λ a. fault_of a words) (sym app) ∙ kinds;
+      rows = rows_of found;
+      named = ap (λ a. subcommand_of a words) (sym app) ∙ (sym matches.1 ∙ inside);
+      given = c.in-Some-day.ensures.given;
+    }
+
+pub returns-in_default-request-clause-not_asked : goal.returns-in_default-request-clause-not_asked
+returns-in_default-request-clause-not_asked c is command asked =
+    let app = c.in_ok-grammar.ensures.app in
+    let words = map string_bytes c.args.words.now in
+    let matches = c.in-Ok.ensures.matches (ap is_simple app ∙ grammar_is_simple) in
+    let found = found_of c.in-Some-subcommand_matches-3.schedule.now in
+    let inside = met c.in-Ok.matches (codes "schedule") (rows_of found) (c.in-Some-subcommand_matches-3.ensures.found.0 refl) c.in-Some-subcommand_matches-3.ensures.rows in
+    let named = ap (λ a. subcommand_of a words) (sym app) ∙ (sym matches.1 ∙ inside) in
+    let taken = ap (λ a. fault_of a words) (sym app) ∙ c.in-Ok.ensures.kinds (ap is_simple_and_free app ∙ grammar_is_free) in
+    let given = schedule_gives words (rows_of found) command asked taken named in
+    c.request.ensures.not_given (is_none c.request.result c.in_default-request.not-Some) given.0 given.1
+
+pub returns-in-Some-subcommand_matches-3-clause-asked : goal.returns-in-Some-subcommand_matches-3-clause-asked
+returns-in-Some-subcommand_matches-3-clause-asked c =
+    let app = c.in_ok-grammar.ensures.app in
+    let words = map string_bytes c.args.words.now in
+    let matches = c.in-Ok.ensures.matches (ap is_simple app ∙ grammar_is_simple) in
+    let kinds = c.in-Ok.ensures.kinds (ap is_simple_and_free app ∙ grammar_is_free) in
+    let found = found_of c.in-Some-subcommand_matches-3.schedule.now in
+    let inside = met c.in-Ok.matches (codes "schedule") (rows_of found) (c.in-Some-subcommand_matches-3.ensures.found.0 refl) c.in-Some-subcommand_matches-3.ensures.rows in
+    record {
+      taken = ap (λ a. fault_of a words) (sym app) ∙ kinds;
+      rows = rows_of found;
+      named = ap (λ a. subcommand_of a words) (sym app) ∙ (sym matches.1 ∙ inside);
+      given = c.in-Some-request.ensures.given;
+    }

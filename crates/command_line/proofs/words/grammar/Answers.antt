@@ -9,4 +9,6 @@ returns-clause-app c =
     let playing = c.in_ok-playing.ensures.app ∙ ap₂ with_subcommand rating (ap (λ (a : App). a.top) c.plain_grammar.ensures.app) in
     let checking = c.in_ok-checking.ensures.app ∙ ap₂ with_subcommand playing (ap (λ (a : App). a.top) c.plain_grammar-2.ensures.app) in
     let filing = c.in_ok-filing.ensures.app ∙ ap₂ with_subcommand checking (ap (λ (a : App). a.top) c.in_ok-period_grammar-2.ensures.app) in
-    subst (λ (a : App). IfOk c.with-5.result (λ g. app_of g ≡ a)) (ap₂ with_subcommand filing (ap (λ (a : App). a.top) c.in_ok-threads_grammar.ensures.app)) c.with-5.ensures.app
+    let scheduling = c.in_ok-scheduling.ensures.app ∙ ap₂ with_subcommand filing (ap (λ (a : App). a.top) c.in_ok-schedule_grammar.ensures.app) in
+    let comparing = c.in_ok-comparing.ensures.app ∙ ap₂ with_subcommand scheduling (ap (λ (a : App). a.top) c.in_ok-sheets_grammar.ensures.app) in
+    subst (λ (a : App). IfOk c.with-7.result (λ g. app_of g ≡ a)) (ap₂ with_subcommand comparing (ap (λ (a : App). a.top) c.in_ok-threads_grammar.ensures.app)) c.with-7.ensures.app

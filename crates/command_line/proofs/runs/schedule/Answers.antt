@@ -1,0 +1,10 @@
+use Rattle.std.proofs.Common.{Err, ap}
+use Rattle.command_line.proofs.RunLaws.{schedule_comes_to}
+use Rattle.command_line.proofs.runs.schedule.Goals as goal
+
+pub returns-in-Err-clause-outcome : goal.returns-in-Err-clause-outcome
+returns-in-Err-clause-outcome g c =
+    let told = c.in-Err.ensures in
+    rw c.fault_of_schedule.ensures
+    (schedule_comes_to g.W.Sink c.args.request c.in-Err.fault (g.R.Source.remaining c.args.reader.now) _ _ _ _ told.reads told.writes told.untouched
+    (λ bad is. told.section bad (ap Err is)) (λ line refusal is. told.refused line refusal (ap Err is)) (λ is. told.plain_memory (ap Err is)) (λ is. told.prefix (ap Err is)))
