@@ -1,6 +1,5 @@
 -- One more event has no fault, or has one.
-use Rattle.std.proofs.Common.{◌≡◌, ℕ, suc, ◌<◌, ◌≤◌, cond, List, [], ◌∷◌, length, Result, Ok, Err, Some, None, refl, sym, ap, ◌∙◌}
-use Rattle.metering_model.specs.Batch.{is_empty}
+use Rattle.std.proofs.Common.{◌≡◌, ℕ, suc, ◌<◌, ◌≤◌, List, ◌∷◌, length, Result, Ok, Err, Some, None, refl, sym, ap, ◌∙◌}
 use Rattle.metering_model.specs.FirstFailure.{◌>>=◌}
 use Rattle.metering_model.specs.Schedule.{Planned}
 use Rattle.input_sections.specs.declared.faults.ScheduleFault.{ScheduleFault}

@@ -2,6 +2,7 @@
 use Rattle.std.proofs.Common.{◌≡◌, ℕ, ◌+◌, Bool, true, false, List, [], length, Option, Some, None, Result, Ok, Err, refl, sym, ap, ◌∙◌, arith, eq-eqb}
 use Rattle.std.specs.Prelude.{◌==◌}
 use Rattle.std.specs.List.{list_all}
+use Rattle.std.specs.Option.{option_map}
 use Rattle.std.proofs.lemmas.Bool.{and_from, eqb-true}
 use Rattle.std.proofs.lemmas.List.{length-map, length-take-le}
 use Rattle.metering_model.specs.Batch.{Batch, IsBatch, batch_text, lacks}
@@ -22,7 +23,7 @@ use Rattle.journal_rules.specs.FirstBad.{first_bad}
 use Rattle.input_sections.proofs.CountedLines.{lines_count}
 use Rattle.metering_model.specs.RatedAlone.{journaled_in}
 use Rattle.batch_player.proofs.JournaledLaws.{bad_target, later_batch, no_batch, taken, unpriced}
-use Rattle.input_check.specs.Checks.{IsFirstRefused, first_records, line_of, line_within, refused_by}
+use Rattle.input_check.specs.Checks.{IsFirstRefused, bad_index, first_records, line_of, line_within, refused_by}
 use Rattle.input_check.proofs.FirstBadRecords.{fewer_are_batch, first_of_batch}
 
 -- ---- the lines of a batch
@@ -82,12 +83,12 @@ module _ (sheet : model.Sheet) (issuer : model.Issuer) where
       by_batch (Err fault) bad = absurd (no_bad_batch rule fault (sym (no_batch sheet issuer text fault bad) ∙ so))
 
   line_is : (text : List ℕ) (b : Batch) (rule : BrokenRule) → batch_in text ≡ Ok b
-      → line_within sheet text (refused_by rule) ≡ line_of (first_bad sheet (put [] b) (placed b))
-  line_is text b rules.BadTarget read = ap (λ (x : Batch). line_of (first_bad sheet (put [] x) (placed x))) (batch_of_is text b read)
-  line_is text b rules.Unpriced read = ap (λ (x : Batch). line_of (first_bad sheet (put [] x) (placed x))) (batch_of_is text b read)
+      → line_within (bad_index sheet [] text) (refused_by rule) ≡ line_of (option_map (λ p. p.index) (first_bad sheet (put [] b) (placed b)))
+  line_is text b rules.BadTarget read = ap (λ (x : Batch). line_of (option_map (λ p. p.index) (first_bad sheet (put [] x) (placed x)))) (batch_of_is text b read)
+  line_is text b rules.Unpriced read = ap (λ (x : Batch). line_of (option_map (λ p. p.index) (first_bad sheet (put [] x) (placed x)))) (batch_of_is text b read)
 
   pub refused_for_first : (text : List ℕ) (rule : BrokenRule) → journaled_in sheet issuer text ≡ Err (refused_by rule)
-      → (b : Batch) × IsBatch text b × IsFirstRefused sheet issuer b (refused_by rule) (line_within sheet text (refused_by rule))
+      → (b : Batch) × IsBatch text b × IsFirstRefused sheet issuer b (refused_by rule) (line_within (bad_index sheet [] text) (refused_by rule))
   refused_for_first text rule so =
       let is = breaks text rule so in
       let b = is.batch in
@@ -103,7 +104,7 @@ module _ (sheet : model.Sheet) (issuer : model.Issuer) where
         record {
           index = i;
           within = first.within;
-          counted = line_is text b rule is.is_batch ∙ ap line_of first.bad
+          counted = line_is text b rule is.is_batch ∙ ap (λ o. line_of (option_map (λ p. p.index) o)) first.bad
               ∙ omega (arith, batch_counts (batch_text (first_records i b)) (first_records i b) above, long);
           taken = taken sheet issuer (batch_text (first_records i b)) (first_records i b) (batch_written _ _ above) is.first first.above;
           refused = refused_so (batch_text (first_records (i + 1) b)) (first_records (i + 1) b) rule (batch_written _ _ with_it) is.first first.with_it;

@@ -1,12 +1,12 @@
 -- What is said of an input is nothing, or has a line feed at least.
-use Rattle.std.proofs.Common.{◌≡◌, ◌⊎◌, ℕ, zero, suc, ◌+◌, ◌-◌, ◌≤◌, ◌==◌, Bool, true, false, cond, List, [], ◌∷◌, ◌++◌, length, take, Option, Result, Ok, Err, codes, refl, sym, subst, inl, inr, arith}
+use Rattle.std.proofs.Common.{◌≡◌, ◌⊎◌, ℕ, zero, suc, ◌+◌, ◌-◌, ◌≤◌, ◌==◌, Bool, true, false, cond, List, [], ◌∷◌, ◌++◌, length, take, Result, Ok, Err, codes, refl, sym, subst, inl, inr, arith}
 use Rattle.std.proofs.lemmas.List.Sums.{sum_by-append}
 use Rattle.metering_model.specs.Batch.{Batch, is_empty}
-use Rattle.metering_model.specs.Schedule.{Planned, event_of}
+use Rattle.metering_model.specs.Schedule.{Planned, PlansDelivery, PlansExport, PlansJournal, PlansKeep, PlansRestart, PlansRevival, PlansStart, event_of, lines_text}
 use Rattle.metering_model.specs.Sheet as model
 use Rattle.metering_model.specs.Step.{step}
-use Rattle.metering_model.specs.Transcript.{line, line_count, refusal_text, reply_text, with_number}
-use Rattle.metering_model.specs.World.{World, Reply, Journaled, Delivered, Started, Restarted, Exported, KeptText, Refused, opening}
+use Rattle.metering_model.specs.Transcript.{line, line_count, with_number}
+use Rattle.metering_model.specs.World.{World, Reply, Journaled, Delivered, Started, Restarted, Exported, KeptText, Refused as IsRefused, opening}
 use Rattle.metering_model.specs.declared.Refusal.{Refusal}
 use Rattle.input_sections.specs.declared.faults.ScheduleFault.{ScheduleFault}
 use Rattle.input_sections.specs.declared.faults.ScheduleFault.TheVariants as section
@@ -14,8 +14,8 @@ use Rattle.input_sections.specs.RateInput.{RateInput, rate_input_in}
 use Rattle.input_sections.specs.Sections.{Unread, begins_with, left}
 use Rattle.schedule_reader.specs.Schedules.{Preamble, event_in, events_in, preamble_in}
 use Rattle.metering_model.specs.RatedAlone.{journaled_in}
-use Rattle.answer_words.specs.Words.{section_text}
-use Rattle.input_check.specs.Checks.{line_within, reason, said_behind, said_below, said_of_batch, said_of_events, said_of_fault, said_of_input, said_of_journaled, said_of_rating, said_of_reply, said_of_schedule}
+use Rattle.answer_words.specs.Words.{section_code_text}
+use Rattle.input_check.specs.Checks.{bad_index, line_of_kept, line_within, more_words, reason, said_behind, said_below, said_of_batch, said_of_events, said_of_fault, said_of_input, said_of_journaled, said_of_rating, said_of_refused, said_of_reply, said_of_schedule, told_at, words_of}
 
 abbrev IsNoneOrLines : List ℕ → Type 0
 IsNoneOrLines t = (t ≡ []) ⊎ (1 ≤ line_count t)
@@ -31,17 +31,31 @@ one_line : (t : List ℕ) → 1 ≤ line_count (line t)
 one_line t = behind t (10 ∷ []) (omega arith)
 
 of_fault : (text : List ℕ) (fault : ScheduleFault) → IsNoneOrLines (said_of_fault text fault)
-of_fault text (section.Refused code n) = inr (one_line (section_text code n ++ reason text code n))
+of_fault text (section.Refused code n) = inr (one_line (with_number (codes "line ") n ++ codes ": " ++ (section_code_text code ++ reason text code n)))
 of_fault text section.OutOfMemory = inl refl
 
-of_reply : (n : ℕ) (reply : Reply) → IsNoneOrLines (said_of_reply n reply)
-of_reply n (Journaled k) = inl refl
-of_reply n (Delivered sent learned) = inl refl
-of_reply n (Started b k) = inl refl
-of_reply n Restarted = inl refl
-of_reply n (Exported s) = inl refl
-of_reply n (KeptText text) = inl refl
-of_reply n (Refused why) = inr (behind (with_number (codes "line ") n ++ codes ": ") (reply_text (Refused why)) (one_line (codes "refused " ++ refusal_text why)))
+of_told : (n : ℕ) (words : List ℕ) → IsNoneOrLines (told_at n words)
+of_told n words = inr (one_line (with_number (codes "line ") n ++ codes ": " ++ words))
+
+of_refused : (n : ℕ) (w : World) (e : Planned) (why : Refusal) → IsNoneOrLines (said_of_refused n w e why)
+of_refused n w (PlansJournal ls) why =
+    let bad = bad_index w.sheet w.journals (lines_text ls) in
+    of_told (n + line_within bad why) (words_of why ++ more_words w.sheet (lines_text ls) bad why)
+of_refused n w (PlansRevival i ls) why = of_told (n + line_of_kept why) (words_of why)
+of_refused n w (PlansDelivery k i) why = of_told n (words_of why)
+of_refused n w (PlansStart i) why = of_told n (words_of why)
+of_refused n w (PlansRestart i) why = of_told n (words_of why)
+of_refused n w (PlansExport i p) why = of_told n (words_of why)
+of_refused n w (PlansKeep i) why = of_told n (words_of why)
+
+of_reply : (n : ℕ) (w : World) (e : Planned) (reply : Reply) → IsNoneOrLines (said_of_reply n w e reply)
+of_reply n w e (Journaled k) = inl refl
+of_reply n w e (Delivered sent learned) = inl refl
+of_reply n w e (Started b k) = inl refl
+of_reply n w e Restarted = inl refl
+of_reply n w e (Exported s) = inl refl
+of_reply n w e (KeptText text) = inl refl
+of_reply n w e (IsRefused why) = of_refused n w e why
 
 of_events : (most : ℕ) (w : World) (u : Unread) → IsNoneOrLines (said_of_events most w u)
 unfolding said_of_events
@@ -49,11 +63,11 @@ of_events zero w u = inl refl
 of_events (suc most) w u = by_test (λ v x. of_events most v x) (is_empty (left u))
   where
     by_event : ((v : World) (x : Unread) → IsNoneOrLines (said_of_events most v x)) → (r : Result (Planned × Unread) ScheduleFault)
-        → IsNoneOrLines (elim r [ Ok e ↦ said_of_reply u.line (step w (event_of e.0)).0 ++ said_of_events most (step w (event_of e.0)).1 e.1 | Err fault ↦ [] ])
-    by_event rest (Ok e) = joined (said_of_reply u.line (step w (event_of e.0)).0) (said_of_events most (step w (event_of e.0)).1 e.1) (of_reply u.line (step w (event_of e.0)).0) (rest (step w (event_of e.0)).1 e.1)
+        → IsNoneOrLines (elim r [ Ok e ↦ said_of_reply u.line w e.0 (step w (event_of e.0)).0 ++ said_of_events most (step w (event_of e.0)).1 e.1 | Err fault ↦ [] ])
+    by_event rest (Ok e) = joined (said_of_reply u.line w e.0 (step w (event_of e.0)).0) (said_of_events most (step w (event_of e.0)).1 e.1) (of_reply u.line w e.0 (step w (event_of e.0)).0) (rest (step w (event_of e.0)).1 e.1)
     by_event rest (Err fault) = inl refl
 
-    by_test : ((v : World) (x : Unread) → IsNoneOrLines (said_of_events most v x)) → (b : Bool) → IsNoneOrLines (cond b [] (elim (event_in u) [ Ok e ↦ said_of_reply u.line (step w (event_of e.0)).0 ++ said_of_events most (step w (event_of e.0)).1 e.1 | Err fault ↦ [] ]))
+    by_test : ((v : World) (x : Unread) → IsNoneOrLines (said_of_events most v x)) → (b : Bool) → IsNoneOrLines (cond b [] (elim (event_in u) [ Ok e ↦ said_of_reply u.line w e.0 (step w (event_of e.0)).0 ++ said_of_events most (step w (event_of e.0)).1 e.1 | Err fault ↦ [] ]))
     by_test rest true = inl refl
     by_test rest false = by_event rest (event_in u)
 
@@ -75,7 +89,9 @@ of_batch sheet issuer lines text = by_answer (journaled_in sheet issuer text)
   where
     by_answer : (r : Result Batch Refusal) → IsNoneOrLines (said_of_journaled sheet lines text r)
     by_answer (Ok b) = inl refl
-    by_answer (Err why) = inr (one_line (with_number (codes "line ") (lines + line_within sheet text why) ++ codes ": " ++ refusal_text why))
+    by_answer (Err why) =
+        let bad = bad_index sheet [] text in
+        of_told (lines + line_within bad why) (words_of why ++ more_words sheet text bad why)
 
 of_rating : (text : List ℕ) → IsNoneOrLines (said_of_rating text)
 unfolding said_of_rating

@@ -1,5 +1,5 @@
 -- The definitions by which an input is read never tell of want of memory.
-use Rattle.std.proofs.Common.{ℕ, zero, suc, Bool, true, false, cond, List, [], ◌∷◌, ◌≡◌, Option, Some, None, Result, Ok, Err, ok_or, codes, subst}
+use Rattle.std.proofs.Common.{ℕ, zero, suc, Bool, true, false, cond, List, [], ◌∷◌, Option, Some, None, Result, Ok, Err, ok_or, codes}
 use Rattle.std.specs.Prelude.{nat_le, length}
 use Rattle.std.specs.Str.{is_utf8}
 use Rattle.metering_model.specs.Batch.{is_empty}
@@ -14,9 +14,9 @@ use Rattle.input_sections.specs.declared.faults.ScheduleCode.{ScheduleCode}
 use Rattle.input_sections.specs.declared.faults.ScheduleCode.TheVariants.{Head, Nodes, Agents, Sheet, Issuer, Event, Lines, TooLong}
 use Rattle.input_sections.specs.declared.faults.ScheduleFault.{ScheduleFault}
 use Rattle.input_sections.specs.declared.faults.ScheduleFault.TheVariants.{Refused, OutOfMemory}
-use Rattle.input_sections.specs.RateInput.{RateInput, default_sheet, if_begun, rate_input_in}
-use Rattle.input_sections.specs.Sections.{Section, Unread, begins_with, first_line, first_of, issuer_section, left, lines_left, number_behind, read_as, section_in, section_of, sheet_section, told, whole_of}
-use Rattle.schedule_reader.specs.Schedules.{Preamble, event_in, event_of_line, events_in, group_in, head_line, journal_event, line_event, nodes_behind, nodes_line, number_line, preamble_in, revival_event, revival_of_line}
+use Rattle.input_sections.specs.RateInput.{default_sheet, if_begun, rate_input_in}
+use Rattle.input_sections.specs.Sections.{Section, Unread, begins_with, first_line, first_of, issuer_section, left, lines_left, number_behind, read_as, section_in, sheet_section, told, whole_of}
+use Rattle.schedule_reader.specs.Schedules.{event_in, event_of_line, events_in, group_in, head_line, journal_event, line_event, nodes_behind, nodes_line, number_line, preamble_in, revival_event, revival_of_line}
 
 abbrev pub NeverWants : {A : Type 0} → Result A ScheduleFault → Type 0
 NeverWants (Ok x) = Unit {0}

@@ -1,5 +1,5 @@
 -- What is said, case by case.
-use Rattle.std.proofs.Common.{◌≡◌, ◌≢◌, ℕ, zero, suc, ◌+◌, ◌-◌, ◌<◌, ◌≤◌, Bool, true, false, cond, List, [], ◌∷◌, ◌++◌, length, take, drop, Option, Some, None, IfSome, Result, Ok, Err, OnOk, codes, refl, sym, ap, ◌∙◌, subst, arith, le-leb, append-nil, append_assoc}
+use Rattle.std.proofs.Common.{◌≡◌, ℕ, zero, suc, ◌-◌, ◌<◌, ◌≤◌, Bool, true, false, cond, List, [], ◌∷◌, ◌++◌, length, take, drop, Option, Some, None, IfSome, Result, Ok, Err, OnOk, codes, refl, sym, ap, ◌∙◌, subst, arith, le-leb, append-nil, append_assoc}
 use Rattle.std.specs.Prelude.{nat_le}
 use Rattle.std.specs.Str.{IsUtf8, is_utf8}
 use Rattle.std.specs.Fmt.{digits}
@@ -21,12 +21,12 @@ use Rattle.input_sections.specs.declared.faults.ScheduleCode.TheVariants as code
 use Rattle.input_sections.specs.declared.faults.ScheduleFault.{ScheduleFault}
 use Rattle.input_sections.specs.declared.faults.ScheduleFault.TheVariants as section
 use Rattle.input_sections.specs.Sections.{Section, Unread, begins_with, left, lines_left, section_in, section_of, whole_of}
-use Rattle.input_sections.specs.RateInput.{RateInput, rate_input_in}
+use Rattle.input_sections.specs.RateInput.{rate_input_in}
 use Rattle.schedule_reader.specs.Schedules.{Preamble, event_in, events_in, group_in, preamble_in}
 use Rattle.schedule_reader.proofs.EventLoop.{nonempty, empty}
 use Rattle.metering_model.specs.RatedAlone.{journaled_in}
 use Rattle.input_check.specs.Inner.Faults.{fault_of}
-use Rattle.input_check.specs.Checks.{IsSaidOf, from_line, line_within, said_at, said_behind, said_below, said_by, said_of_batch, said_of_events, said_of_fault, said_of_input, said_of_journaled, said_of_rating, said_of_reply, said_of_schedule, said_of_text, section_on, text_of}
+use Rattle.input_check.specs.Checks.{IsSaidOf, bad_index, from_line, said_behind, said_below, said_by, said_of_batch, said_of_events, said_of_fault, said_of_input, said_of_journaled, said_of_rating, said_of_reply, said_of_schedule, said_of_text, section_on, text_of, told_of_text}
 
 step_err : {A B E : Type 0} (r : Result A E) (f : A → Result B E) (e : E) → r ≡ Err e → (r >>= f) ≡ Err e
 step_err r f e is = ap (λ s. s >>= f) is
@@ -68,13 +68,13 @@ module _ (code : ScheduleCode) (n : ℕ) (text : List ℕ) where
 
 pub said_of_utf8 : {A E : Type 0} (words : E → List ℕ) (reader : List ℕ → Result A E) (text : List ℕ) → IsUtf8 text → said_of_text words reader text ≡ said_by words (reader text)
 unfolding said_of_text
-said_of_utf8 words reader text utf8 = ap (λ b. cond b (said_by words (reader text)) (codes ": not UTF-8")) (is_utf8-from_IsUtf8 text utf8)
+said_of_utf8 words reader text utf8 = ap (λ b. cond b (said_by words (reader text)) (codes " not UTF-8")) (is_utf8-from_IsUtf8 text utf8)
 
-pub said_of_other : {A E : Type 0} (words : E → List ℕ) (reader : List ℕ → Result A E) (text : List ℕ) → ¬ IsUtf8 text → said_of_text words reader text ≡ codes ": not UTF-8"
+pub said_of_other : {A E : Type 0} (words : E → List ℕ) (reader : List ℕ → Result A E) (text : List ℕ) → ¬ IsUtf8 text → said_of_text words reader text ≡ codes " not UTF-8"
 unfolding said_of_text
 said_of_other words reader text other = by_test (is_utf8 text) refl
   where
-    by_test : (b : Bool) → is_utf8 text ≡ b → cond b (said_by words (reader text)) (codes ": not UTF-8") ≡ codes ": not UTF-8"
+    by_test : (b : Bool) → is_utf8 text ≡ b → cond b (said_by words (reader text)) (codes " not UTF-8") ≡ codes " not UTF-8"
     by_test true e = absurd (other (IsUtf8-from_is_utf8 text e))
     by_test false e = refl
 
@@ -88,14 +88,14 @@ pub said_no_more : (most : ℕ) (w : World) (u : Unread) (fault : ScheduleFault)
 unfolding said_of_events
 said_no_more most w u fault some is =
     nonempty (left u) _ _ some
-    ∙ ap (λ r. elim r [ Ok e ↦ said_of_reply u.line (step w (event_of e.0)).0 ++ said_of_events most (step w (event_of e.0)).1 e.1 | Err fault ↦ [] ]) is
+    ∙ ap (λ r. elim r [ Ok e ↦ said_of_reply u.line w e.0 (step w (event_of e.0)).0 ++ said_of_events most (step w (event_of e.0)).1 e.1 | Err fault ↦ [] ]) is
 
 pub said_next : (most : ℕ) (w : World) (u v : Unread) (e : Planned) → 0 < length (left u) → event_in u ≡ Ok (e, v)
-    → said_of_events (suc most) w u ≡ said_of_reply u.line (step w (event_of e)).0 ++ said_of_events most (step w (event_of e)).1 v
+    → said_of_events (suc most) w u ≡ said_of_reply u.line w e (step w (event_of e)).0 ++ said_of_events most (step w (event_of e)).1 v
 unfolding said_of_events
 said_next most w u v e some is =
     nonempty (left u) _ _ some
-    ∙ ap (λ r. elim r [ Ok e ↦ said_of_reply u.line (step w (event_of e.0)).0 ++ said_of_events most (step w (event_of e.0)).1 e.1 | Err fault ↦ [] ]) is
+    ∙ ap (λ r. elim r [ Ok e ↦ said_of_reply u.line w e.0 (step w (event_of e.0)).0 ++ said_of_events most (step w (event_of e.0)).1 e.1 | Err fault ↦ [] ]) is
 
 pub said_end : (w : World) (u : Unread) → said_of_events 0 w u ≡ []
 unfolding said_of_events
@@ -109,11 +109,11 @@ module _ (told : List ℕ) (k : ℕ) (w : World) (u : Unread) where
   said_whole n before fault more some bad is = sym (is ∙ (ap (λ m. told ++ said_of_events m w u) more ∙ (ap (λ t. told ++ t) (said_no_more k w u fault some bad) ∙ append-nil told)))
 
   pub said_more : (n : ℕ) (before told' : List ℕ) (v : Unread) (w' : World) (e : Planned) → n ≡ suc k → 0 < length (left u) → event_in u ≡ Ok (e, v)
-      → told' ≡ told ++ said_of_reply u.line (step w (event_of e)).0 → w' ≡ (step w (event_of e)).1
+      → told' ≡ told ++ said_of_reply u.line w e (step w (event_of e)).0 → w' ≡ (step w (event_of e)).1
       → before ≡ told ++ said_of_events n w u → before ≡ told' ++ said_of_events k w' v
   said_more n before told' v w' e more some is told_is world_is so =
       so ∙ (ap (λ m. told ++ said_of_events m w u) more ∙ (ap (λ t. told ++ t) (said_next k w u v e some is)
-      ∙ (sym (append_assoc told (said_of_reply u.line (step w (event_of e)).0) (said_of_events k (step w (event_of e)).1 v))
+      ∙ (sym (append_assoc told (said_of_reply u.line w e (step w (event_of e)).0) (said_of_events k (step w (event_of e)).1 v))
       ∙ (ap (λ t. t ++ said_of_events k (step w (event_of e)).1 v) (sym told_is) ∙ ap (λ x. told' ++ said_of_events k x v) (sym world_is)))))
 
 pub said_at_end : (told : List ℕ) (w : World) (u : Unread) (n : ℕ) (before : List ℕ) → n ≡ 0 → before ≡ told ++ said_of_events n w u → told ≡ before
@@ -153,7 +153,7 @@ put_instead told more both cut said after n long is cut_is after_is =
 -- ---- a batch
 
 pub refused_batch : (sheet : model.Sheet) (issuer : model.Issuer) (lines : ℕ) (text : List ℕ) (why : Refusal) → journaled_in sheet issuer text ≡ Err why
-    → said_of_batch sheet issuer lines text ≡ said_at (lines + line_within sheet text why) why
+    → said_of_batch sheet issuer lines text ≡ told_of_text lines sheet text (bad_index sheet [] text) why
 unfolding said_of_batch
 refused_batch sheet issuer lines text why is = ap (said_of_journaled sheet lines text) is
 
@@ -199,17 +199,17 @@ too_long : (text : List ℕ) → 16_777_216 < length text → whole_of text ≡ 
 too_long text long = ap (λ b. holds_or b (section.Refused codes_of.TooLong 1) >>= λ _. let u : Unread = record { text = text; from = 0; line = 1 } in Ok u) (too_few (length text) 16_777_216 long)
 
 -- of an input that is too long nothing else is said
-pub said_of_long : (text : List ℕ) → 16_777_216 < length text → said_of_input text ≡ codes "L8 line 1" ++ 10 ∷ []
+pub said_of_long : (text : List ℕ) → 16_777_216 < length text → said_of_input text ≡ codes "line 1: L8" ++ 10 ∷ []
 unfolding said_of_input said_of_schedule said_of_rating preamble_in group_in rate_input_in digits
 said_of_long text long = by_word (begins_with (codes "SCHEDULE") text)
   where
     preamble_too_long : whole_of text ≡ Err (section.Refused codes_of.TooLong 1) → preamble_in text ≡ Err (section.Refused codes_of.TooLong 1)
     preamble_too_long is = step_err _ _ _ (step_err (whole_of text) _ _ is)
 
-    rating_too_long : whole_of text ≡ Err (section.Refused codes_of.TooLong 1) → said_of_rating text ≡ codes "L8 line 1" ++ 10 ∷ []
+    rating_too_long : whole_of text ≡ Err (section.Refused codes_of.TooLong 1) → said_of_rating text ≡ codes "line 1: L8" ++ 10 ∷ []
     rating_too_long is = rated_badly text (section.Refused codes_of.TooLong 1) (step_err (whole_of text) _ _ is)
 
-    by_word : (b : Bool) → cond b (said_of_schedule text) (said_of_rating text) ≡ codes "L8 line 1" ++ 10 ∷ []
+    by_word : (b : Bool) → cond b (said_of_schedule text) (said_of_rating text) ≡ codes "line 1: L8" ++ 10 ∷ []
     by_word true = ap (said_below text) (preamble_too_long (too_long text long))
     by_word false = rating_too_long (too_long text long)
 
@@ -224,7 +224,7 @@ length-zeros (suc n) = ap suc (length-zeros n)
 
 -- whatever was read, where it is known at all
 pub said_where_long : (known : Option (List ℕ)) → IfSome known (λ input. 16_777_216 < length input)
-    → (input : List ℕ) × IsSaidOf known input (codes "L8 line 1" ++ 10 ∷ [])
+    → (input : List ℕ) × IsSaidOf known input (codes "line 1: L8" ++ 10 ∷ [])
 said_where_long (Some input) long = (input, record { is_input = refl; is_said = sym (said_of_long input long) })
 said_where_long None long =
     let input = zeros 16_777_217 in

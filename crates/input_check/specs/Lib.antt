@@ -1,3 +1,4 @@
+pub mod Fields
 pub mod Checks
 pub mod RateForms
 pub mod Inner

@@ -105,7 +105,7 @@ pub fn check_text<R: Source, W: Sink>(
 {
     match read_input(alloc, reader) {
         Ok(input) => write_faults(alloc, &input, writer),
-        Err(PlayFault::Schedule(_)) => write_said(b"L8 line 1\n", writer),
+        Err(PlayFault::Schedule(_)) => write_said(b"line 1: L8\n", writer),
         Err(fault) => Err(fault),
     }
 }

@@ -7,38 +7,75 @@ ghost use Rattle.metering_model.specs.World as model;
 ghost use Rattle.schedule_player.specs.Replies.{reply_of};
 ghost use Rattle.schedule_reader.specs.Events.{HasWholeLines, planned_of};
 ghost use Rattle.schedule_reader.specs.Schedules.{events_in};
-ghost use Rattle.input_check.specs.Checks.{said_of_events, said_of_reply, said_of_schedule};
+ghost use Rattle.input_check.specs.Checks.{line_of_kept, said_of_events, said_of_refused, said_of_reply, said_of_schedule};
 ghost use Rattle.input_check.specs.Inner.Faults.{fault_of};
+ghost use Rattle.input_check.specs.Inner.Replies.{IsBadIn, breaks_rule};
 
+use crate::batches::{put_at, put_refused_text};
 use crate::sections::put_fault;
-use answer_words::refusal_line;
-use byte_text::Line;
 use input_sections::{ScheduleFault, Unread};
 use metering_model::Refusal;
 use schedule_player::{Reply, World, event_of, opening_world};
 use schedule_reader::{Planned, Preamble, event_in};
 use std::alloc::{AllocError, Global};
 
-/// Appends that the event which begins on a line is refused.
-fn put_refused(told: &mut Vec<u8>, line: u32, refusal: Refusal) -> Result<(), AllocError>
-    ensures { OnOk result (told.new.items ≡ told.old.items ++ said_of_reply line (model.Refused refusal)) }
+/// The line of a revival's text that a refusal tells, or 0 where it tells none.
+fn line_of_kept(refusal: Refusal) -> u64
+    ensures { result ≡ line_of_kept refusal }
 {
-    let mut words = Line::new();
-    words.put(b"line ");
-    words.put_number(line);
-    words.put(b": refused ");
-    told.extend_from_slice(words.as_slice())?;
-    told.extend_from_slice(refusal_line(refusal).as_slice())?;
-    told.push(b'\n')?;
-    Ok(())
+    match refusal {
+        Refusal::BadKept(fault) => fault.line,
+        _ => 0,
+    }
 }
 
-/// Appends it where the reply says so.
-fn put_reply(told: &mut Vec<u8>, line: u32, reply: &Reply) -> Result<(), AllocError>
-    ensures { OnOk result (told.new.items ≡ told.old.items ++ said_of_reply line (reply_of reply.now)) }
+/// Appends that an event of a world is refused, which begins on a line. Where its batch breaks a rule of the journals, this is
+/// the first record that does.
+fn put_refused(
+    told: &mut Vec<u8>,
+    world: &World,
+    line: u32,
+    planned: &Planned<'_>,
+    bad: Option<u16>,
+    refusal: Refusal,
+) -> Result<(), AllocError>
+    requires lines { HasWholeLines planned.now }
+    requires refused { (step world.now (event_of (planned_of planned.now))).0 ≡ model.Refused refusal }
+    requires bad { IsBadIn world.now (planned_of planned.now) refusal bad }
+    ensures { OnOk result (told.new.items ≡ told.old.items ++ said_of_refused line world.now (planned_of planned.now) refusal) }
+{
+    match planned {
+        Planned::Journal(text) => {
+            put_refused_text(told, line as usize, world.sheet(), text, bad, refusal)
+        }
+        Planned::Revive { .. } => {
+            let below = line_of_kept(refusal);
+            put_at(told, u128::from(line) + u128::from(below), refusal)
+        }
+        Planned::Deliver { .. }
+        | Planned::Start { .. }
+        | Planned::Restart { .. }
+        | Planned::Export { .. }
+        | Planned::Keep { .. } => put_at(told, u128::from(line), refusal),
+    }
+}
+
+/// Appends it where the reply to the event says so.
+fn put_reply(
+    told: &mut Vec<u8>,
+    world: &World,
+    line: u32,
+    planned: &Planned<'_>,
+    bad: Option<u16>,
+    reply: &Reply,
+) -> Result<(), AllocError>
+    requires lines { HasWholeLines planned.now }
+    requires refused { (why : Refusal) → reply_of reply.now ≡ model.Refused why → (step world.now (event_of (planned_of planned.now))).0 ≡ model.Refused why }
+    requires bad { (why : Refusal) → reply_of reply.now ≡ model.Refused why → IsBadIn world.now (planned_of planned.now) why bad }
+    ensures { OnOk result (told.new.items ≡ told.old.items ++ said_of_reply line world.now (planned_of planned.now) (reply_of reply.now)) }
 {
     match reply {
-        Reply::Refused(refusal) => put_refused(told, line, *refusal),
+        Reply::Refused(refusal) => put_refused(told, world, line, planned, bad, *refusal),
         Reply::Journaled { .. }
         | Reply::Delivered { .. }
         | Reply::Started { .. }
@@ -46,6 +83,16 @@ fn put_reply(told: &mut Vec<u8>, line: u32, reply: &Reply) -> Result<(), AllocEr
         | Reply::Exported(_)
         | Reply::KeptText(_) => Ok(()),
     }
+}
+
+/// Whether a reply refuses a batch for a rule of the journals.
+fn breaks_rule(reply: &Reply) -> bool
+    ensures { result ≡ breaks_rule (reply_of reply.now) }
+{
+    matches!(
+        reply,
+        Reply::Refused(Refusal::BadTarget) | Reply::Refused(Refusal::Unpriced)
+    )
 }
 
 /// Does one event, which begins on a line.
@@ -57,12 +104,17 @@ fn check_event(
     told: &mut Vec<u8>,
 ) -> Result<(), AllocError>
     requires { HasWholeLines planned.now }
-    ensures said { OnOk result (told.new.items ≡ told.old.items ++ said_of_reply line (step world.old (event_of (planned_of planned.now))).0) }
+    ensures said { OnOk result (told.new.items ≡ told.old.items ++ said_of_reply line world.old (planned_of planned.now) (step world.old (event_of (planned_of planned.now))).0) }
     ensures world { OnOk result (world.new ≡ (step world.old (event_of (planned_of planned.now))).1) }
 {
     let event = event_of(alloc, planned)?;
     let reply = world.step(alloc, &event)?;
-    put_reply(told, line, &reply)
+    let bad = if breaks_rule(&reply) {
+        world.bad_record(&event)
+    } else {
+        None
+    };
+    put_reply(told, world, line, planned, bad, &reply)
 }
 
 /// Does the events that are left in turn, no more than `most`, and answers the fault of the first that is none, or of what

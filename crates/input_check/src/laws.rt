@@ -1,10 +1,12 @@
 //! What is said beside what `rate` and `play` refuse, and of which parts what is rated is joined. Each law is a function with an
 //! empty body.
 
-ghost use Rattle.std.specs.Prelude.{◌≡◌, ℕ, List, Ok, Err, true, false, codes};
+ghost use Rattle.std.specs.Prelude.{◌≡◌, ℕ, List, [], Some, Ok, Err, true, false, codes};
 ghost use Rattle.metering_model.specs.Batch.{Batch, IsBatch};
+ghost use Rattle.metering_model.specs.BatchReading.{batch_in};
 ghost use Rattle.metering_model.specs.Schedule.{Schedule};
 ghost use Rattle.metering_model.specs.Sheet.{Issuer, Sheet};
+ghost use Rattle.metering_model.specs.declared.BatchFault.{BatchFault};
 ghost use Rattle.metering_model.specs.declared.BrokenRule.{BrokenRule};
 ghost use Rattle.input_sections.specs.RateInput.{RateInput, rate_input_in};
 ghost use Rattle.input_sections.specs.Sections.{begins_with};
@@ -12,8 +14,10 @@ ghost use Rattle.schedule_reader.specs.Forms.{IsReadOf};
 ghost use Rattle.schedule_reader.specs.Schedules.{ReadSchedule, schedule_in};
 ghost use Rattle.metering_model.specs.RatedAlone.{journaled_in};
 ghost use Rattle.batch_player.specs.RateInput.{rated_file};
-ghost use Rattle.input_check.specs.Checks.{BeginsWhereCounted, IsFirstRefused, SaysWhatIsPlayed, SaysWhatIsRated, event_lines, line_within, refused_by, said_of_input};
+ghost use Rattle.input_check.specs.Checks.{BeginsWhereCounted, IsFirstRefused, SaysWhatIsPlayed, SaysWhatIsRated, bad_index, event_lines, line_within, refused_by, said_of_input};
+ghost use Rattle.input_check.specs.Fields.{IsFaultOf, field_of, is_of_field, line_at};
 ghost use Rattle.input_check.specs.RateForms.{IsRateForm, RateForm};
+ghost use Rattle.input_check.specs.declared.fields.RecordField.{RecordField};
 
 /// Of what is to be rated, in whichever period, nothing is said where `rate` gives a file, and else just why it refuses, with its
 /// line. Of what is to be played the first fault of the schedule is said, or just which events are answered as refused, each by
@@ -27,7 +31,7 @@ pub fn what_is_said_is_what_is_refused()
     ensures lines { (text : List ℕ) (read : ReadSchedule) (schedule : Schedule) → IsReadOf text read schedule
         → BeginsWhereCounted schedule (event_lines text) }
     ensures journaled { (sheet : Sheet) (issuer : Issuer) (text : List ℕ) (rule : BrokenRule) → journaled_in sheet issuer text ≡ Err (refused_by rule)
-        → (b : Batch) × IsBatch text b × IsFirstRefused sheet issuer b (refused_by rule) (line_within sheet text (refused_by rule)) }
+        → (b : Batch) × IsBatch text b × IsFirstRefused sheet issuer b (refused_by rule) (line_within (bad_index sheet [] text) (refused_by rule)) }
 {}
 
 /// An input that is to be rated is read as a sheet, an issuer and a batch exactly where it joins the sections of these, each where
@@ -35,4 +39,10 @@ pub fn what_is_said_is_what_is_refused()
 pub fn each_rating_is_read()
     ensures form { (text : List ℕ) (given : RateInput) → rate_input_in text ≡ Ok given → (f : RateForm) × IsRateForm text given f }
     ensures taken { (text : List ℕ) (given : RateInput) (f : RateForm) → IsRateForm text given f → rate_input_in text ≡ Ok given }
+{}
+
+/// The field that is told of a batch's fault is the first in its line that breaks its rule, and the code is that field's.
+pub fn each_fault_is_of_its_field()
+    ensures field { (text : List ℕ) (fault : BatchFault) → batch_in text ≡ Err fault → is_of_field fault.code ≡ true
+        → (line : List ℕ) × (f : RecordField) × (line_at text fault.line ≡ Some line) × (field_of text fault ≡ Some f) × IsFaultOf line fault.code f }
 {}

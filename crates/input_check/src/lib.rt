@@ -5,9 +5,11 @@
 mod batches;
 mod checks;
 mod events;
+mod fields;
 pub mod laws;
 mod sections;
 
 pub use batch_player::rate_text;
 pub use checks::check_text;
+pub use fields::RecordField;
 pub use schedule_player::play_text;

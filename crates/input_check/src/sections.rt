@@ -6,8 +6,8 @@ ghost use Rattle.sheet_text.specs.IssuerReading.{issuer_of_text};
 ghost use Rattle.answer_words.specs.Words.{issuer_fault_text, sheet_fault_text};
 ghost use Rattle.input_check.specs.Checks.{reason, said_by, said_of_fault, said_of_text, section_on};
 
-use answer_words::{put_issuer_fault, put_section, put_sheet_fault};
-use byte_text::Line;
+use crate::batches::put_place;
+use answer_words::{put_issuer_fault, put_sheet_fault, section_code_word};
 use input_sections::{ScheduleCode, ScheduleFault, Unread, read_section};
 use price_sheet::Sheet;
 use sheet_text::{Issuer, IssuerFault, SheetFault};
@@ -39,16 +39,16 @@ fn section_on<'a>(
 
 /// Appends that a section is no text.
 fn put_not_text(told: &mut Vec<u8>) -> Result<(), AllocError>
-    ensures { OnOk result (told.new.items ≡ told.old.items ++ codes ": not UTF-8") }
+    ensures { OnOk result (told.new.items ≡ told.old.items ++ codes " not UTF-8") }
 {
-    told.extend_from_slice(b": not UTF-8")
+    told.extend_from_slice(b" not UTF-8")
 }
 
-/// Appends why a text is no sheet, behind a colon.
+/// Appends why a text is no sheet, behind a space.
 fn put_sheet_words(told: &mut Vec<u8>, fault: SheetFault) -> Result<(), AllocError>
-    ensures { OnOk result (told.new.items ≡ told.old.items ++ (codes ": " ++ sheet_fault_text fault)) }
+    ensures { OnOk result (told.new.items ≡ told.old.items ++ (codes " " ++ sheet_fault_text fault)) }
 {
-    told.extend_from_slice(b": ")?;
+    told.extend_from_slice(b" ")?;
     put_sheet_fault(told, fault)
 }
 
@@ -73,11 +73,11 @@ fn put_sheet_reason(alloc: Global, told: &mut Vec<u8>, section: &[u8]) -> Result
     }
 }
 
-/// Appends why a text is no issuer, behind a colon.
+/// Appends why a text is no issuer, behind a space.
 fn put_issuer_words(told: &mut Vec<u8>, fault: IssuerFault) -> Result<(), AllocError>
-    ensures { OnOk result (told.new.items ≡ told.old.items ++ (codes ": " ++ issuer_fault_text fault)) }
+    ensures { OnOk result (told.new.items ≡ told.old.items ++ (codes " " ++ issuer_fault_text fault)) }
 {
-    told.extend_from_slice(b": ")?;
+    told.extend_from_slice(b" ")?;
     put_issuer_fault(told, fault)
 }
 
@@ -135,9 +135,8 @@ fn put_refused(
 ) -> Result<(), AllocError>
     ensures { OnOk result (told.new.items ≡ told.old.items ++ said_of_fault text.now (ScheduleFault.Refused code line)) }
 {
-    let mut words = Line::new();
-    put_section(&mut words, code, line);
-    told.extend_from_slice(words.as_slice())?;
+    put_place(told, u128::from(line))?;
+    told.extend_from_slice(section_code_word(code))?;
     put_reason(alloc, told, text, code, line)?;
     told.push(b'\n')?;
     Ok(())

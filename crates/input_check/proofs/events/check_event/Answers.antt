@@ -1,0 +1,19 @@
+use Rattle.std.proofs.Common.{refl, sym, ap, ◌∙◌}
+use Rattle.metering_model.specs.Schedule.{PlansJournal, event_of, lines_text}
+use Rattle.metering_model.specs.Step.{step}
+use Rattle.metering_model.specs.World.{Reply, World}
+use Rattle.input_check.specs.Inner.Replies.{breaks_rule}
+use Rattle.input_check.proofs.EventWords.{bad_index_there}
+use Rattle.input_check.proofs.events.check_event.Goals.{then-breaks_rule, else-breaks_rule}
+use Rattle.input_check.proofs.events.check_event.Goals as goal
+
+pub put_reply-requires-clause-bad : goal.put_reply-requires-clause-bad
+put_reply-requires-clause-bad c = λ why told ls plans rule.
+    let event = c.in_ok-event.ensures ∙ ap event_of plans in
+    let same = c.in_ok-reply.ensures.refused (rw told refl) in
+    let answer = ap (λ (o : Reply × World). o.0) (rw event at c.in_ok-reply.ensures.ok) in
+    let refused = ap (λ (v : World). (step v (event_of (PlansJournal ls))).0) same ∙ (sym answer ∙ told) in
+    elim c.if-breaks_rule.branch [
+      | then-breaks_rule w ↦ w.bad-is ∙ ((rw event at w.bad_record-bad.ensures) ∙ bad_index_there c.step.new.self (lines_text ls) why refused rule)
+      | else-breaks_rule w ↦ absurd (let yes = c.breaks_rule.ensures ∙ (ap breaks_rule told ∙ rule) in let no = w.if-breaks_rule.false in cc)
+    ]
