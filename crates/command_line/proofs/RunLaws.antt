@@ -564,7 +564,10 @@ ends source sink telling args command (Err fault) status reader reader' writer w
     let known = source.remaining reader in
     let kept : IsKept sink command known writer writer' → IsUnwritten sink args known writer writer' =
     λ it. kept_of (writer' ≡ writer) (λ period. AppendsFront known period (sink.contents writer) (sink.contents writer')) (AsksFor args) command asked it in
-    let told : List ℕ → Type 0 = λ line. (Appends (telling.contents errors) (telling.contents errors') line × (telling.failed_calls errors' ≡ telling.failed_calls errors)) ⊎ (AppendsPrefix (telling.contents errors) (telling.contents errors') line × (telling.failed_calls errors' ≡ next_count (telling.failed_calls errors))) in
+    let told : List ℕ → Type 0 = λ line.
+    (Appends (telling.contents errors) (telling.contents errors') line × (telling.failed_calls errors' ≡ telling.failed_calls errors))
+    ⊎ (AppendsPrefix (telling.contents errors) (telling.contents errors') line
+    × (telling.failed_calls errors' ≡ next_count (telling.failed_calls errors))) in
     let part : Type 0 = IsDoneInPart command known (sink.contents writer) (sink.contents writer') in
     record {
       range = let to = (in_range fault).1 in omega (arith, same, to);

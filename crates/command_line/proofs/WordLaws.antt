@@ -122,7 +122,9 @@ name_met m name rs entered =
 -- Words that ask for a command meet its subcommand.
 pub meets_one : (words : List Text) (m : ArgMatches) (command : Command) → Asks words command → fault_of grammar_of_focusd words ≡ []
     → subcommand_rows_of m ≡ subcommand_of grammar_of_focusd words
-    → (subcommand_name_of m ≢ Some (codes "play")) → (subcommand_name_of m ≢ Some (codes "check")) → (subcommand_name_of m ≢ Some (codes "threads")) → (subcommand_name_of m ≢ Some (codes "file")) → (subcommand_name_of m ≢ Some (codes "sheets")) → (subcommand_name_of m ≢ Some (codes "schedule")) → (subcommand_name_of m ≢ Some (codes "rate")) → ⊥
+    → (subcommand_name_of m ≢ Some (codes "play")) → (subcommand_name_of m ≢ Some (codes "check")) → (subcommand_name_of m ≢ Some (codes "threads"))
+    → (subcommand_name_of m ≢ Some (codes "file")) → (subcommand_name_of m ≢ Some (codes "sheets")) → (subcommand_name_of m ≢ Some (codes "schedule"))
+    → (subcommand_name_of m ≢ Some (codes "rate")) → ⊥
 meets_one words m (Rate period) asked taken same no_play no_check no_threads no_file no_sheets no_schedule no_rate = no_rate (name_met m (codes "rate") asked.rows (same ∙ asked.named))
 meets_one words m Play asked taken same no_play no_check no_threads no_file no_sheets no_schedule no_rate = no_play (name_met m (codes "play") asked.rows (same ∙ asked.named))
 meets_one words m Check asked taken same no_play no_check no_threads no_file no_sheets no_schedule no_rate = no_check (name_met m (codes "check") asked.rows (same ∙ asked.named))

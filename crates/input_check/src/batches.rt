@@ -71,7 +71,8 @@ fn put_field(told: &mut Vec<u8>, field: Option<RecordField>) -> Result<(), Alloc
 
 /// Appends what a bad reading lacks: a price on its day, or else the commitment that it names.
 fn put_lacking(told: &mut Vec<u8>, sheet: &Sheet, reading: &Reading<'_>) -> Result<(), AllocError>
-    ensures { OnOk result (told.new.items ≡ told.old.items ++ record_words sheet.now (Some (Reads (model_reading reading.now)))) }
+    ensures { OnOk result (told.new.items ≡ told.old.items
+        ++ record_words sheet.now (Some (Reads (model_reading reading.now)))) }
 {
     if sheet.price(reading.key.text, reading.start.day()).is_some() {
         told.extend_from_slice(b" commitment ")?;
@@ -102,7 +103,8 @@ fn put_record_at(
     text: &[u8],
     index: u16,
 ) -> Result<(), AllocError>
-    ensures { OnOk result (told.new.items ≡ told.old.items ++ record_words sheet.now (record_at text.now (Some index))) }
+    ensures { OnOk result (told.new.items ≡ told.old.items
+        ++ record_words sheet.now (record_at text.now (Some index))) }
 {
     let Ok(view) = BatchView::parse(text) else {
         return Ok(());
@@ -186,7 +188,9 @@ fn check_batch(
     lines: usize,
     text: &[u8],
 ) -> Result<(), AllocError>
-    ensures { (issuer : model.Issuer) → OnOk result (told.new.items ≡ told.old.items ++ said_of_batch sheet.now issuer lines text.now) }
+    ensures { (issuer : model.Issuer)
+        → OnOk result (told.new.items ≡ told.old.items
+        ++ said_of_batch sheet.now issuer lines text.now) }
 {
     let view = match BatchView::parse(text) {
         Ok(view) => view,

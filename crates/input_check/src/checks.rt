@@ -32,8 +32,11 @@ fn put_faults(alloc: Global, text: &[u8], told: &mut Vec<u8>) -> Result<(), Allo
 
 /// Writes what is said, and answers how many lines it has.
 fn write_said<W: Sink>(said: &[u8], writer: &mut W) -> Result<u64, PlayFault>
-    ensures said { IfOk result (λ count. Appends (W.contents writer.old) (W.contents writer.new) said.now × (count ≡ line_count said.now)) }
-    ensures prefix { result ≡ Err PlayFault.Write → AppendsPrefix (W.contents writer.old) (W.contents writer.new) said.now }
+    ensures said { IfOk result
+        (λ count. Appends (W.contents writer.old) (W.contents writer.new) said.now
+        × (count ≡ line_count said.now)) }
+    ensures prefix { result ≡ Err PlayFault.Write
+        → AppendsPrefix (W.contents writer.old) (W.contents writer.new) said.now }
     ensures fault { IfErr result (λ fault. fault ≡ PlayFault.Write) }
     ensures write_fault { result ≡ Err PlayFault.Write
         → Rises (W.failed_calls writer.old) (W.failed_calls writer.new) }
@@ -48,9 +51,11 @@ fn write_said<W: Sink>(said: &[u8], writer: &mut W) -> Result<u64, PlayFault>
 
 /// Writes what is said of an input, all at once: at want of memory nothing.
 fn write_faults<W: Sink>(alloc: Global, input: &[u8], writer: &mut W) -> Result<u64, PlayFault>
-    ensures said { IfOk result (λ count. Appends (W.contents writer.old) (W.contents writer.new) (said_of_input input.now)
+    ensures said { IfOk result
+        (λ count. Appends (W.contents writer.old) (W.contents writer.new) (said_of_input input.now)
         × (count ≡ line_count (said_of_input input.now))) }
-    ensures prefix { result ≡ Err PlayFault.Write → AppendsPrefix (W.contents writer.old) (W.contents writer.new) (said_of_input input.now) }
+    ensures prefix { result ≡ Err PlayFault.Write
+        → AppendsPrefix (W.contents writer.old) (W.contents writer.new) (said_of_input input.now) }
     ensures fault { IfErr result (λ fault. (fault ≡ PlayFault.Write) ⊎ (fault ≡ PlayFault.OutOfMemory)) }
     ensures memory { result ≡ Err PlayFault.OutOfMemory → writer.new ≡ writer.old }
     ensures write_fault { result ≡ Err PlayFault.Write

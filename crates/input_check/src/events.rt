@@ -42,7 +42,8 @@ fn put_refused(
     requires lines { HasWholeLines planned.now }
     requires refused { (step world.now (event_of (planned_of planned.now))).0 ≡ model.Refused refusal }
     requires bad { IsBadIn world.now (planned_of planned.now) refusal bad }
-    ensures { OnOk result (told.new.items ≡ told.old.items ++ said_of_refused line world.now (planned_of planned.now) refusal) }
+    ensures { OnOk result (told.new.items ≡ told.old.items
+        ++ said_of_refused line world.now (planned_of planned.now) refusal) }
 {
     match planned {
         Planned::Journal(text) => {
@@ -70,9 +71,12 @@ fn put_reply(
     reply: &Reply,
 ) -> Result<(), AllocError>
     requires lines { HasWholeLines planned.now }
-    requires refused { (why : Refusal) → reply_of reply.now ≡ model.Refused why → (step world.now (event_of (planned_of planned.now))).0 ≡ model.Refused why }
-    requires bad { (why : Refusal) → reply_of reply.now ≡ model.Refused why → IsBadIn world.now (planned_of planned.now) why bad }
-    ensures { OnOk result (told.new.items ≡ told.old.items ++ said_of_reply line world.now (planned_of planned.now) (reply_of reply.now)) }
+    requires refused { (why : Refusal) → reply_of reply.now ≡ model.Refused why
+        → (step world.now (event_of (planned_of planned.now))).0 ≡ model.Refused why }
+    requires bad { (why : Refusal) → reply_of reply.now ≡ model.Refused why
+        → IsBadIn world.now (planned_of planned.now) why bad }
+    ensures { OnOk result (told.new.items ≡ told.old.items
+        ++ said_of_reply line world.now (planned_of planned.now) (reply_of reply.now)) }
 {
     match reply {
         Reply::Refused(refusal) => put_refused(told, world, line, planned, bad, *refusal),
@@ -104,7 +108,10 @@ fn check_event(
     told: &mut Vec<u8>,
 ) -> Result<(), AllocError>
     requires { HasWholeLines planned.now }
-    ensures said { OnOk result (told.new.items ≡ told.old.items ++ said_of_reply line world.old (planned_of planned.now) (step world.old (event_of (planned_of planned.now))).0) }
+    ensures said { OnOk result
+        (told.new.items ≡ told.old.items
+        ++ said_of_reply line world.old (planned_of planned.now)
+        (step world.old (event_of (planned_of planned.now))).0) }
     ensures world { OnOk result (world.new ≡ (step world.old (event_of (planned_of planned.now))).1) }
 {
     let event = event_of(alloc, planned)?;

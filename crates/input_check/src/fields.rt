@@ -163,7 +163,8 @@ fn number_field(seq: &[u8], index: &[u8]) -> RecordField
 /// The number that is at fault in an amendment's line.
 fn amendment_field(line: &[u8]) -> Option<RecordField>
     requires few { length (fields_in line.now) < 9 }
-    ensures { (version : Version) → record_in version (fields_in line.now) ≡ Err BatchCode.Number → result ≡ fault_field line.now }
+    ensures { (version : Version) → record_in version (fields_in line.now) ≡ Err BatchCode.Number
+        → result ≡ fault_field line.now }
 {
     let (_, rest) = split_at_bar(line)?;
     let (seq, rest) = split_at_bar(rest)?;

@@ -30,19 +30,25 @@ pub fn what_is_said_is_what_is_refused()
         → SaysWhatIsPlayed text (schedule_in text) (said_of_input text) }
     ensures lines { (text : List ℕ) (read : ReadSchedule) (schedule : Schedule) → IsReadOf text read schedule
         → BeginsWhereCounted schedule (event_lines text) }
-    ensures journaled { (sheet : Sheet) (issuer : Issuer) (text : List ℕ) (rule : BrokenRule) → journaled_in sheet issuer text ≡ Err (refused_by rule)
-        → (b : Batch) × IsBatch text b × IsFirstRefused sheet issuer b (refused_by rule) (line_within (bad_index sheet [] text) (refused_by rule)) }
+    ensures journaled { (sheet : Sheet) (issuer : Issuer) (text : List ℕ) (rule : BrokenRule)
+        → journaled_in sheet issuer text ≡ Err (refused_by rule)
+        → (b : Batch) × IsBatch text b
+        × IsFirstRefused sheet issuer b (refused_by rule)
+        (line_within (bad_index sheet [] text) (refused_by rule)) }
 {}
 
 /// An input that is to be rated is read as a sheet, an issuer and a batch exactly where it joins the sections of these, each where
 /// it is there, and the batch behind them.
 pub fn each_rating_is_read()
-    ensures form { (text : List ℕ) (given : RateInput) → rate_input_in text ≡ Ok given → (f : RateForm) × IsRateForm text given f }
-    ensures taken { (text : List ℕ) (given : RateInput) (f : RateForm) → IsRateForm text given f → rate_input_in text ≡ Ok given }
+    ensures form { (text : List ℕ) (given : RateInput) → rate_input_in text ≡ Ok given
+        → (f : RateForm) × IsRateForm text given f }
+    ensures taken { (text : List ℕ) (given : RateInput) (f : RateForm) → IsRateForm text given f
+        → rate_input_in text ≡ Ok given }
 {}
 
 /// The field that is told of a batch's fault is the first in its line that breaks its rule, and the code is that field's.
 pub fn each_fault_is_of_its_field()
     ensures field { (text : List ℕ) (fault : BatchFault) → batch_in text ≡ Err fault → is_of_field fault.code ≡ true
-        → (line : List ℕ) × (f : RecordField) × (line_at text fault.line ≡ Some line) × (field_of text fault ≡ Some f) × IsFaultOf line fault.code f }
+        → (line : List ℕ) × (f : RecordField) × (line_at text fault.line ≡ Some line)
+        × (field_of text fault ≡ Some f) × IsFaultOf line fault.code f }
 {}

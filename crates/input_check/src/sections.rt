@@ -94,7 +94,8 @@ fn put_issuer_answer(alloc: Global, told: &mut Vec<u8>, text: &str) -> Result<()
 
 /// Appends what is wrong with the text of an issuer.
 fn put_issuer_reason(alloc: Global, told: &mut Vec<u8>, section: &[u8]) -> Result<(), AllocError>
-    ensures { OnOk result (told.new.items ≡ told.old.items ++ said_of_text issuer_fault_text issuer_of_text section.now) }
+    ensures { OnOk result (told.new.items ≡ told.old.items
+        ++ said_of_text issuer_fault_text issuer_of_text section.now) }
 {
     match str::from_utf8(section) {
         Ok(text) => put_issuer_answer(alloc, told, text),
@@ -133,7 +134,8 @@ fn put_refused(
     code: ScheduleCode,
     line: u32,
 ) -> Result<(), AllocError>
-    ensures { OnOk result (told.new.items ≡ told.old.items ++ said_of_fault text.now (ScheduleFault.Refused code line)) }
+    ensures { OnOk result (told.new.items ≡ told.old.items
+        ++ said_of_fault text.now (ScheduleFault.Refused code line)) }
 {
     put_place(told, u128::from(line))?;
     told.extend_from_slice(section_code_word(code))?;
