@@ -118,7 +118,12 @@ fn sheets_and_a_schedule_are_asked_for(rt: HostRuntime) -> Result<(), Fail> {
     assert_eq!(rt; other, None);
     for (lines, nodes, observers, through) in [
         ("schedule\nschedule --nodes 3 --observers 0", 3, 0, None),
-        ("schedule --observers 98 --nodes 1 --through 0", 1, 98, Some(0)),
+        (
+            "schedule --observers 98 --nodes 1 --through 0",
+            1,
+            98,
+            Some(0),
+        ),
         ("schedule --nodes=99 --through=1199", 99, 0, Some(1_199)),
     ] {
         let request = Request {
