@@ -270,7 +270,7 @@ fn schedule_grammar<'a>(alloc: Global) -> Result<clap::Command<'a>, LineFault>
     let through = optional_number(
         alloc,
         "through",
-        "The last period to close: 0 to 1199; left out, the last in which a reading starts",
+        "The last period to close: 0 to 1199; left out, at least the last in which a reading starts",
         clap::value_parser!(u16).range(0..=1199),
     );
     match nodes_grammar(alloc)?.arg(through) {

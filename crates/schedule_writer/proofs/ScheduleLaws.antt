@@ -12,7 +12,7 @@ use Rattle.input_sections.specs.RateInput.{RateInput, rate_input_in}
 use Rattle.schedule_reader.specs.Schedules.{ReadSchedule}
 use Rattle.schedule_writer.specs.declared.asked.Request.{Request}
 use Rattle.schedule_writer.specs.declared.plans.Plan.{Plan as LentPlan}
-use Rattle.schedule_writer.specs.Inputs.{IsAskedFor, IsLastStart, Item, Offered, agents_of, batches_of, closes_of, due_before, items_in, items_of}
+use Rattle.schedule_writer.specs.Inputs.{IsAskedFor, IsLastStart, Item, Offered, agents_of, batches_of, closes_of, due_before, items_in, items_of, least_last}
 use Rattle.schedule_writer.specs.Refusals.{IsRefusedAt}
 use Rattle.schedule_writer.specs.Schedules.{ClosesEach, IsExported, IsScheduleOf, journals_of}
 use Rattle.schedule_writer.specs.Inner.Certified.{IsCertified}
@@ -62,7 +62,8 @@ pub scheduled : (request : Request) (input text : List ℕ) (given : RateInput) 
     → map offered_of plan.batches.now ≡ batches_of (items_of input given) → plan.closes.now ≡ closes_of (items_of input given)
     → plan.voters ≡ request.nodes → plan.observers ≡ request.observers → plan.nodes ≡ request.nodes + request.observers
     → agents ≡ agents_of (map offered_of plan.batches.now) → IsAskedFor request.through given.sheet.base (map offered_of plan.batches.now) asked
-    → plan.last ≡ max asked (length plan.closes.now - 1) → IsCertified (plan_of plan) plan.voters plan.observers agents given.sheet given.issuer text
+    → plan.last ≡ max asked (least_last request.through (length plan.batches.now) plan.closes.now)
+    → IsCertified (plan_of plan) plan.voters plan.observers agents given.sheet given.issuer text
     → IsScheduleOf request (Some input) input text
 scheduled request input text given plan agents asked is_given batches closes voters observers nodes are_agents is_asked is_last certified =
     let is = items_of input given in
@@ -81,7 +82,9 @@ scheduled request input text given plan agents asked is_given batches closes vot
       through = record {
         asked = asked;
         is_asked = subst (λ bs. IsAskedFor request.through given.sheet.base bs asked) batches is_asked;
-        is_last = is_last ∙ ap (λ cs. max asked (length cs - 1)) closes;
+        is_last =
+            is_last ∙ ap (λ cs. max asked (least_last request.through (length plan.batches.now) cs)) closes
+            ∙ ap (λ n. max asked (least_last request.through n (closes_of is))) (sym (length-map plan.batches.now offered_of) ∙ ap length batches);
       };
       closes = closes_each (plan_of plan) certified.schedule is plan.last
           (nodes ∙ (ap (λ n. n + request.observers) (sym (certified.has_voters ∙ voters)) ∙ ap (λ n. certified.schedule.voters + n) (sym (certified.has_observers ∙ observers))))
@@ -115,7 +118,8 @@ pub read_schedule : (request : Request) (input text : List ℕ) (sheet : Sheet) 
     → IsReadInput input sheet issuer (map offered_of plan.batches.now) plan.closes.now → plan.voters ≡ request.nodes → plan.observers ≡ request.observers
     → plan.nodes ≡ request.nodes + request.observers → agents ≡ agents_of (map offered_of plan.batches.now)
     → IsLastStart sheet.base (map offered_of plan.batches.now) last → (asked : ℕ) → asked ≡ unwrap_or request.through last
-    → plan.last ≡ max asked (length plan.closes.now - 1) → IsCertified (plan_of plan) plan.voters plan.observers agents sheet issuer text
+    → plan.last ≡ max asked (least_last request.through (length plan.batches.now) plan.closes.now)
+    → IsCertified (plan_of plan) plan.voters plan.observers agents sheet issuer text
     → IsScheduleOf request (Some input) input text
 read_schedule request input text sheet issuer plan agents last read voters observers nodes are_agents is_last asked is_asked is certified =
     scheduled request input text read.given plan agents asked read.is_given read.batches read.are_closes voters observers nodes are_agents

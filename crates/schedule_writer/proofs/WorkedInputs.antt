@@ -1,11 +1,11 @@
 -- Inputs, item by item.
-use Rattle.std.proofs.Common.{◌≡◌, ℕ, List, [], ◌∷◌, refl, codes}
+use Rattle.std.proofs.Common.{◌≡◌, ℕ, List, [], ◌∷◌, Some, None, refl, codes}
 use Rattle.std.specs.Fmt.{digits}
 use Rattle.metering_model.specs.NumberText.{decimals_of, worth_of}
 use Rattle.metering_model.specs.Schedule.{lines_text}
 use Rattle.metering_model.specs.Transcript.{line}
 use Rattle.batch_view.specs.Batches.{batch_of}
-use Rattle.schedule_writer.specs.Inputs.{Item, Offers, Closes, agents_of, batches_of, closes_of, due_before, items_in, line_of, offered_length}
+use Rattle.schedule_writer.specs.Inputs.{Item, Offers, Closes, agents_of, batches_of, closes_of, due_before, least_last, items_in, line_of, offered_length}
 
 abbrev items : List (List ℕ) → List Item
 items ls = items_in 60 (lines_text ls) 0
@@ -38,6 +38,13 @@ three_agents = refl
 two_closes : closes_of (items (codes "close" ∷ codes "B1|1|1|0" ∷ codes "close" ∷ codes "close" ∷ [])) ≡ 0 ∷ 1 ∷ 1 ∷ []
 unfolding items_in offered_length worth_of decimals_of digits
 two_closes = refl
+
+-- of two batches, of which one stands below a line that closes a period, the period after is closed too, unless one is asked for
+below_a_close : (least_last None 2 (1 ∷ []) ≡ 1) × (least_last (Some 0) 2 (1 ∷ []) ≡ 0) × (least_last None 1 (1 ∷ []) ≡ 0)
+below_a_close = (refl, refl, refl)
+
+without_a_close : (least_last None 2 [] ≡ 0) × (least_last None 0 [] ≡ 0)
+without_a_close = (refl, refl)
 
 -- ---- what is no batch
 

@@ -1,5 +1,5 @@
 -- What an input asks to be journaled and to be closed, in its order.
-use Rattle.std.specs.Prelude.{◌≡◌, ◌≤◌, ◌⊎◌, ℕ, zero, suc, ◌+◌, ◌-◌, ◌==◌, Bool, true, false, IsTrue, if◌then◌else◌, max, fold, map, List, [], ◌∷◌, ◌++◌, length, take, drop, Option, Some, None, Result, Ok, Err, unwrap_or, slice_get, codes}
+use Rattle.std.specs.Prelude.{◌≡◌, ◌≤◌, ◌⊎◌, ℕ, zero, suc, ◌+◌, ◌-◌, ◌==◌, Bool, true, false, IsTrue, if◌then◌else◌, max, fold, map, List, [], ◌∷◌, ◌++◌, length, take, drop, Option, Some, None, Result, Ok, Err, unwrap_or, slice_get, nat_lt, codes}
 use Rattle.std.specs.List.{filter_map, list_all, position}
 use Rattle.metering_model.specs.Batch.{is_empty}
 use Rattle.metering_model.specs.declared.BatchCode.{BatchCode}
@@ -117,8 +117,18 @@ abbrev pub IsAskedFor : Option ℕ → ℕ → List Offered → ℕ → Type 0
 IsAskedFor (Some through) base bs p = p ≡ through
 IsAskedFor None base bs p = IsLastStart base bs p
 
--- The last period that is closed: the one that is asked for, or that of the last line which closes one, where that is later.
+-- how many batches stand above the last of the lines that close a period; 0 where there is none
+abbrev pub above_last : List ℕ → ℕ
+above_last closes = unwrap_or (slice_get closes (length closes - 1)) 0
+
+-- The period that is closed last for the sake of these lines, of which each tells how many of the batches stand above it: that of
+-- the last line; or the one after, where none is asked for and a batch stands below that line.
+abbrev pub least_last : Option ℕ → ℕ → List ℕ → ℕ
+least_last (Some through) count closes = length closes - 1
+least_last None count closes = if nat_lt (above_last closes) count then length closes else length closes - 1
+
+-- The last period that is closed: the one that is asked for, or the one that the lines ask for, where that is later.
 pub record IsLastClosed (through : Option ℕ) (base : ℕ) (is : List Item) (last : ℕ) : Type 0 where
   pub asked : ℕ
   pub is_asked : IsAskedFor through base (batches_of is) asked
-  pub is_last : last ≡ max asked (length (closes_of is) - 1)
+  pub is_last : last ≡ max asked (least_last through (length (batches_of is)) (closes_of is))

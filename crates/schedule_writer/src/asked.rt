@@ -7,6 +7,7 @@ pub struct Request {
     pub nodes: u8,
     /// How many more only observe.
     pub observers: u8,
-    /// The last period that is closed, at most 1,199. Where none is said, the last one in which a reading starts.
+    /// The last period that is closed, at most 1,199. Where none is said, the last one in which a reading starts, and the one after the last
+    /// `close`, where a batch stands below it.
     pub through: Option<u16>,
 }

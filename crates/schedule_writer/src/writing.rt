@@ -10,6 +10,7 @@ ghost use Rattle.metering_model.specs.declared.Refusal.{Refusal};
 ghost use Rattle.input_sections.specs.declared.faults.ScheduleFault.{ScheduleFault};
 ghost use Rattle.input_sections.specs.RateInput.{rate_input_in};
 ghost use Rattle.schedule_writer.specs.Faults.{tells_of_reader, tells_of_writer};
+ghost use Rattle.schedule_writer.specs.Inputs.{above_last, least_last};
 ghost use Rattle.schedule_writer.specs.Refusals.{IsRefusedAt};
 ghost use Rattle.schedule_writer.specs.Requests.{IsRequest};
 ghost use Rattle.schedule_writer.specs.Schedules.{IsScheduleOf};
@@ -32,18 +33,40 @@ use schedule_player::{PlayFault, read_input};
 use std::alloc::Global;
 use std::sync::Arc;
 
-/// The last period that is closed: the one that is asked for, or that of the last line which closes one, where that is later. None
-/// where that is no period.
-fn last_closed(asked: u16, closes: &[usize]) -> Option<u16>
-    requires { asked ≤ 1_199 }
-    ensures { IfSome result (λ last. (last ≡ max asked (length closes.now - 1)) × (last ≤ 1_199)) }
+/// How many batches stand above the last line that closes a period; 0 where there is none.
+fn above_last(closes: &[usize]) -> usize
+    ensures { result ≡ above_last closes.now }
 {
-    let closed = closes.len().saturating_sub(1);
-    if closed <= usize::from(asked) {
+    closes.last().copied().unwrap_or(0)
+}
+
+/// The period that is closed last for the sake of the lines that close one: that of the last of them; or the one after, where none
+/// is asked for and a batch stands below it.
+fn least_last(through: Option<u16>, count: usize, closes: &[usize]) -> usize
+    ensures { result ≡ least_last through count closes.now }
+{
+    match through {
+        Some(_) => closes.len().saturating_sub(1),
+        None => {
+            if above_last(closes) < count {
+                closes.len()
+            } else {
+                closes.len().saturating_sub(1)
+            }
+        }
+    }
+}
+
+/// The last period that is closed: the one that is asked for, or the other, where that is later. None where that is no period.
+fn last_closed(asked: u16, least: usize) -> Option<u16>
+    requires { asked ≤ 1_199 }
+    ensures { IfSome result (λ last. (last ≡ max asked least) × (last ≤ 1_199)) }
+{
+    if least <= usize::from(asked) {
         return Some(asked);
     }
-    if closed <= 1_199 {
-        Some(closed as u16)
+    if least <= 1_199 {
+        Some(least as u16)
     } else {
         None
     }
@@ -102,7 +125,8 @@ fn schedule_with(
 {
     let asked = judge_all(alloc, sheet, issuer, input, batches)?;
     let through = asked_for(request.through, asked.last);
-    let Some(last) = last_closed(through, closes) else {
+    let least = least_last(request.through, batches.len(), closes);
+    let Some(last) = last_closed(through, least) else {
         return Err(WriteFault::TooLong);
     };
     let plan = Plan {

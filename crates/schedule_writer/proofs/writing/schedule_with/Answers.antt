@@ -23,4 +23,4 @@ returns-in-Ok-clause-schedule c =
     } in
     read_schedule c.args.request c.args.input.now c.in-Ok.text.items (arc_value c.args.sheet.now) (arc_value c.args.issuer.now) plan c.in_ok-asked.asked.agents
     c.in_ok-asked.asked.last c.requires.read refl refl refl c.in_ok-asked.ensures.agents c.in_ok-asked.ensures.last c.asked_for-through.result
-    c.asked_for-through.ensures c.in-Some.ensures.0 (rw (c.deref.ensures, c.deref-2.ensures) at c.in-Ok.ensures)
+    c.asked_for-through.ensures (rw c.least_last-least.ensures at c.in-Some.ensures.0) (rw (c.deref.ensures, c.deref-2.ensures) at c.in-Ok.ensures)
