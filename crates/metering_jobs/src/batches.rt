@@ -1,5 +1,4 @@
-//! Batches as agents journal them: the same resources in each, with other values, and the readings of an hour beside
-//! each other.
+//! Batches as agents journal them: the same resources in each, with other values, and the readings of an hour beside each other.
 
 use crate::numbers::Numbers;
 use crate::sheets::{PLANS, PRICES, REGIONS};
@@ -25,7 +24,7 @@ pub struct Batch {
 }
 
 impl Batch {
-    /// How many lines it has.
+    /// Its lines.
     pub fn lines(&self) -> u32 {
         1u32.saturating_add(self.readings)
             .saturating_add(self.amended)
@@ -36,7 +35,7 @@ fn put(text: &mut Vec<u8>, part: &[u8]) -> Result<(), AllocError> {
     text.extend_from_slice(part)
 }
 
-/// Appends a word and the number after it. An error is an allocation failure.
+/// A word and the number behind it.
 pub fn put_word(text: &mut Vec<u8>, word: &[u8], number: u32) -> Result<(), AllocError> {
     put(text, word)?;
     put(text, Buffer::new().format(number).as_bytes())
@@ -52,7 +51,7 @@ struct Resource {
     front: Vec<u8>,
     /// Whether the value stands in the front already.
     has_value: bool,
-    /// From after the value on, with the line feed.
+    /// From behind the value on, with the line feed.
     back: Vec<u8>,
 }
 
@@ -209,8 +208,7 @@ fn put_reading(
     put(text, &resource.back)
 }
 
-/// Appends a batch of as many lines as `lines` says, where the agent has as many resources. An error is an allocation
-/// failure.
+/// Appends a batch, of as many lines as it tells where the agent has as many resources.
 pub fn put_batch(
     alloc: Global,
     text: &mut Vec<u8>,

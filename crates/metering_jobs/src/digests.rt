@@ -3,14 +3,14 @@
 use std::io;
 use std::io::Write;
 
-/// What was written, as a number: the same however the bytes came in pieces. Each eight bytes are a word, and the words
-/// are taken by four sums in turn, so that the processor works at several at once.
+/// What was written, as a number: the same however the bytes came in pieces. Each eight bytes are a word, and the words are
+/// taken by four sums in turn, so that the processor works at several at once.
 #[derive(Drop)]
 pub struct Digest {
     sums: [u64; 4],
     /// How many words they have taken.
     words: u64,
-    /// The bytes after them, fewer than eight.
+    /// The bytes behind them, fewer than eight.
     tail: u64,
     tail_length: u32,
 }

@@ -55,7 +55,7 @@ impl Inputs {
         })
     }
 
-    /// The input at a place, counted from 0. An error is an allocation failure.
+    /// The input at a place, counted from 0.
     pub fn at(&mut self, place: u32) -> Result<Vec<u8>, AllocError> {
         let alloc = self.alloc;
         let seed = seed_at(self.seed, place);
@@ -109,7 +109,7 @@ impl Inputs {
         }
     }
 
-    /// The sections of a sheet and of an issuer, and a batch of that group after them.
+    /// The sections of a sheet and of an issuer, and a batch of that group behind them.
     fn batch(&mut self, seed: u64, group: u32) -> Result<Vec<u8>, AllocError> {
         if group != self.group {
             self.resources = resources_of(self.alloc, self.seed, group)?;

@@ -47,8 +47,8 @@ impl Job {
         }
     }
 
-    /// What is timed: of `rate` how many batches, of the others how many batches an agent journals in each period, and
-    /// of `close` how many periods there are.
+    /// What is timed: of `rate` how many batches, of the others how many batches an agent journals in each period, and of `close`
+    /// how many periods there are.
     pub fn size(self) -> u32 {
         match self {
             Job::Rate | Job::Close => 1_000,
@@ -86,7 +86,7 @@ fn ending(told: &Result<(), PlayFault>) -> u8 {
     }
 }
 
-/// Does a job, and returns what its results come to. An error is a failed call, or a failed allocation.
+/// Does a job, and tells what its results come to.
 pub fn done(alloc: Global, job: Job, seed: u32, size: u32) -> io::Result<Sums> {
     let mut sink = Counted::new(Digest::new());
     let mut inputs = Inputs::new(alloc, job, seed, size)?;

@@ -1,8 +1,7 @@
-//! Whole jobs of a metering system on inputs that this program makes, for timing them: each prints what its results
-//! come to.
+//! Whole jobs of a metering system on inputs that this program makes, for timing them: each prints what its results come to.
 //!
-//! Words: `JOB SEED [SIZE]`, or `text JOB SEED SIZE PLACE` for one of its inputs. Each seed gives another input of the
-//! same kind and size. Without words each job is done once, small.
+//! Words: `JOB SEED [SIZE]`, or `text JOB SEED SIZE PLACE` for one of its inputs. Each seed gives another
+//! input of the same kind and size. Without words each job is done once, small.
 #![tactic(auto)]
 
 mod batches;

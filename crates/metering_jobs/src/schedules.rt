@@ -1,5 +1,4 @@
-//! Schedules of whole groups: batches gathered with repeats and out of order, and each period closed and exported by
-//! all nodes.
+//! Schedules of whole groups: batches gathered with repeats and out of order, and each period closed and exported by all nodes.
 
 use crate::batches::{Batch, Resources, put_batch, put_word};
 use crate::numbers::Numbers;
@@ -35,7 +34,7 @@ struct Draft {
 }
 
 impl Draft {
-    /// A word, and a number after it, as a line.
+    /// A word, and a number behind it, as a line.
     fn line(&mut self, word: &[u8], number: u32) -> Result<(), AllocError> {
         put_word(&mut self.text, word, number)?;
         self.text.extend_from_slice(b"\n")
@@ -57,7 +56,7 @@ impl Draft {
         Ok(())
     }
 
-    /// To each node now, or, one time in six, later than others after it.
+    /// To each node now, or, one time in six, later than others behind it.
     fn spread(&mut self, packet: u32, nodes: u32) -> Result<(), AllocError> {
         for node in 0..nodes {
             if self.numbers.is_one_in(6) {
@@ -200,7 +199,7 @@ fn head_of(alloc: Global, plan: &Plan) -> Result<String, AllocError> {
     Ok(head)
 }
 
-/// The text of a schedule. An error is an allocation failure.
+/// The text of a schedule.
 pub fn schedule(alloc: Global, seed: u64, plan: &Plan) -> Result<Vec<u8>, AllocError> {
     let nodes = plan.voters.saturating_add(plan.observers);
     let head = head_of(alloc, plan)?;

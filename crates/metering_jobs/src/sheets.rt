@@ -38,7 +38,7 @@ fn put_price(text: &mut String, sku: &str, number: u32, year: u32) -> Result<(),
     )
 }
 
-/// Appends a sheet whose prices begin with a year, its base month's. An error is an allocation failure.
+/// Appends a sheet whose prices begin with a year, its base month's.
 pub fn put_sheet(text: &mut String, year: u32) -> Result<(), AllocError> {
     write!(
         text,
