@@ -3,6 +3,7 @@
 ghost use Rattle.std.specs.Prelude.{◌≡◌, ◌≢◌, ◌≤◌, List, ℕ, [], Ok, Err, Some, None, IfOk, IfErr, IfSome, OnOk, drop, vec_len};
 ghost use Rattle.std.specs.Arc.{arc_value};
 ghost use Rattle.std.specs.Io.KnownBytes.{Appends, Keeps, IsAtEnd};
+ghost use Rattle.metering_model.specs.Limits.{most_agents};
 ghost use Rattle.counted_io.specs.Counts.{Rises, count_after};
 ghost use Rattle.counted_io.specs.Reading.{ConsumesAtMost};
 ghost use Rattle.counted_io.specs.Writing.{AppendsPrefix};
@@ -260,10 +261,10 @@ fn file_to_front(
     issuer: &Issuer,
     period: Period,
 ) -> Result<Vec<u8>, AllocError>
-    requires agents { store.now.agents ≡ 64 }
+    requires agents { store.now.agents ≡ most_agents }
     requires met { MeetsJournalRules sheet.now store.now.batches }
     ensures { IfOk result (λ text. text.items ≡ file (rows sheet.now issuer.now store.now.batches period
-        (zero_cut 64) (front sheet.now.base store.now.batches (zero_cut 64) period))) }
+        (zero_cut most_agents) (front sheet.now.base store.now.batches (zero_cut most_agents) period))) }
 {
     let from = Cut::zero(alloc, AGENTS)?;
     let to = store.due_front(alloc, &from, period, sheet.base_month())?;

@@ -1,6 +1,7 @@
 //! The rows between two cuts, batch by batch.
 
 ghost use Rattle.std.specs.Prelude.{◌≡◌, ◌≤◌, ◌-◌, ◌*◌, ◌<◌, [], length, map, slice_index_or, All, None, IfOk};
+ghost use Rattle.metering_model.specs.Limits.{most_records};
 ghost use Rattle.metering_model.specs.Cut.{IsAtLeast};
 ghost use Rattle.metering_model.specs.Holding.{up_to};
 ghost use Rattle.metering_model.specs.Rows.{rows};
@@ -98,7 +99,7 @@ impl<'a> RowsBetween<'a> {
     pub fn estimated_rows(&self, from: usize, to: usize) -> usize
         requires order { from ≤ to }
         requires within { to ≤ length self.now }
-        ensures { result ≤ 1_000 * (to - from) }
+        ensures { result ≤ most_records * (to - from) }
     {
         let mut count: usize = 0;
         for k in from..to {

@@ -2,6 +2,7 @@
 
 ghost use Rattle.std.specs.Prelude.{◌≡◌, ◌≤◌, ◌+◌, ◌-◌, ◌<◌, ◌++◌, [], map, All, Some, None, IfOk, IfSome, IfNone};
 ghost use Rattle.std.specs.List.{flat_map};
+ghost use Rattle.metering_model.specs.Limits.{most_records, most_agents, last_sequence};
 ghost use Rattle.metering_model.specs.Cut.{last_of};
 ghost use Rattle.metering_model.specs.Rows.{rows};
 ghost use Rattle.charge_row.specs.FocusRows.{model_row};
@@ -40,7 +41,7 @@ impl<'a> BetweenCuts<'a> {
         requires to { agent ≤ self.now.agents }
         requires first { 1 ≤ seq }
         requires within { seq ≤ last_of self.now.to agent }
-        ensures { result ≤ 1_000 }
+        ensures { result ≤ most_records }
     {
         let batch = self.store.batch_at(agent, seq);
         self.room_for(agent, seq, batch.count())
@@ -73,7 +74,7 @@ impl<'a> BetweenCuts<'a> {
         requires from { 1 ≤ agent }
         requires to { agent ≤ self.now.agents }
         ensures within { IfSome result
-            (λ next. (seq ≤ next) × (next ≤ last_of self.now.to agent) × (next ≤ 1_000_000)) }
+            (λ next. (seq ≤ next) × (next ≤ last_of self.now.to agent) × (next ≤ last_sequence)) }
         ensures some { IfSome result (λ next. rows_left self.now agent next ≡ rows_left self.now agent seq) }
         ensures none { IfNone result (rows_left self.now (agent + 1) 1 ≡ rows_left self.now agent seq) }
     {
@@ -93,9 +94,9 @@ impl<'a> BetweenCuts<'a> {
     fn next_stop(&self, agent: u8, seq: u32) -> Option<(u8, u32)>
         requires from { 1 ≤ agent }
         requires first { 1 ≤ seq }
-        ensures agent { IfSome result (λ stop. (agent ≤ stop.0) × (stop.0 ≤ self.now.agents) × (stop.0 ≤ 64)) }
+        ensures agent { IfSome result (λ stop. (agent ≤ stop.0) × (stop.0 ≤ self.now.agents) × (stop.0 ≤ most_agents)) }
         ensures seq { IfSome result
-            (λ stop. (1 ≤ stop.1) × (stop.1 ≤ 1_000_000) × (stop.1 ≤ last_of self.now.to stop.0)) }
+            (λ stop. (1 ≤ stop.1) × (stop.1 ≤ last_sequence) × (stop.1 ≤ last_of self.now.to stop.0)) }
         ensures behind { IfSome result (λ stop. stop.0 ≡ agent → seq ≤ stop.1) }
         ensures some { IfSome result
             (λ stop. rows_of_batch self.now stop.0 stop.1 ++ rows_left self.now stop.0 (stop.1 + 1)

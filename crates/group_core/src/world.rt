@@ -3,6 +3,7 @@
 ghost use Rattle.std.specs.Prelude.{◌≡◌, ◌≢◌, ℕ, ◌+◌, ◌≤◌, true, Some, slice_get, IfOk, OnErr, [], ◌∷◌};
 ghost use Rattle.std.specs.Option.{option_map};
 ghost use Rattle.std.specs.Arc.{arc_value};
+ghost use Rattle.metering_model.specs.Limits.{most_agents, most_nodes};
 ghost use Rattle.metering_model.specs.World.{Node, KeptOffer, KeptGood, Refused, Revive, opening, voter_count};
 ghost use Rattle.metering_model.specs.KeptText.{kept_text};
 ghost use Rattle.metering_model.specs.Step.{kept_now, snapshot, step};
@@ -51,9 +52,9 @@ impl World {
         issuer: Arc<Issuer>,
     ) -> Result<World, AllocError>
         requires voters_from { 1 ≤ voters }
-        requires nodes_to { voters + observers ≤ 99 }
+        requires nodes_to { voters + observers ≤ most_nodes }
         requires agents_from { 1 ≤ agents }
-        requires agents_to { agents ≤ 64 }
+        requires agents_to { agents ≤ most_agents }
         ensures { IfOk result (λ world. world ≡ opening voters observers agents (arc_value sheet) (arc_value issuer)) }
     {
         // For the proof alone: its clause says that the month may be a base month.

@@ -1,6 +1,7 @@
 -- What every run keeps, which the bodies of a group rest on: lengths, limits, and batches that are the journals'.
 use Rattle.std.specs.Prelude.{◌≡◌, ℕ, ◌+◌, ◌*◌, ◌<◌, ◌≤◌, true, length, All, Some, None, Option, slice_get}
 use Rattle.std.specs.Option.{is_some}
+use Rattle.metering_model.specs.Limits.{last_sequence, most_periods, most_rounds, most_packets}
 use Rattle.metering_model.specs.Batch.{Batch, IsWellFormed}
 use Rattle.metering_model.specs.Cut.{Cut, IsGrowing, last_of}
 use Rattle.metering_model.specs.Holding.{Holding, IsHolding, IsPartOf, AgreeUpTo, held}
@@ -13,7 +14,7 @@ use Rattle.metering_model.specs.Step.{first_missing}
 pub record IsBallot (voters ballot : ℕ) : Type 0 where
   pub round : ℕ
   pub node : ℕ
-  pub round_in : (1 ≤ round) × (round ≤ 10_000)
+  pub round_in : (1 ≤ round) × (round ≤ most_rounds)
   pub votes : node < voters
   pub is : ballot ≡ ballot_of round node voters
   pub low : ballot < 10_001 * voters
@@ -22,7 +23,7 @@ pub record IsBallot (voters ballot : ℕ) : Type 0 where
 pub record IsJournaledCut (agents : ℕ) (journals : Holding) (cut : Cut) : Type 0 where
   pub size : length cut ≡ agents
   pub journaled : (agent seq : ℕ) → 0 < seq → seq ≤ last_of cut agent → is_some (held journals agent seq) ≡ true
-  pub low : (agent : ℕ) → last_of cut agent ≤ 1_000_000
+  pub low : (agent : ℕ) → last_of cut agent ≤ last_sequence
 
 pub record IsVote (voters agents : ℕ) (journals : Holding) (v : Vote) : Type 0 where
   pub ballot : IsBallot voters v.ballot
@@ -36,13 +37,13 @@ MayBeVote voters agents journals (Some v) = IsVote voters agents journals v
 -- A packet carries a batch of the journals, or speaks of a period, and where they stand in it of a voter, a ballot and a cut.
 abbrev pub IsPacket : ℕ → ℕ → Holding → Packet → Type 0
 IsPacket voters agents journals (CarriesBatch b) = IsWellFormed b × (held journals b.agent b.seq ≡ Some b)
-IsPacket voters agents journals (Prepare period ballot) = (period < 1_200) × IsBallot voters ballot
+IsPacket voters agents journals (Prepare period ballot) = (period < most_periods) × IsBallot voters ballot
 IsPacket voters agents journals (Promise from period ballot vote) =
-    (from < voters) × (period < 1_200) × IsBallot voters ballot × MayBeVote voters agents journals vote
-IsPacket voters agents journals (Accept period ballot cut) = (period < 1_200) × IsBallot voters ballot × IsJournaledCut agents journals cut
+    (from < voters) × (period < most_periods) × IsBallot voters ballot × MayBeVote voters agents journals vote
+IsPacket voters agents journals (Accept period ballot cut) = (period < most_periods) × IsBallot voters ballot × IsJournaledCut agents journals cut
 IsPacket voters agents journals (Accepted from period ballot cut) =
-    (from < voters) × (period < 1_200) × IsBallot voters ballot × IsJournaledCut agents journals cut
-IsPacket voters agents journals (Decided period cut) = (period < 1_200) × IsJournaledCut agents journals cut
+    (from < voters) × (period < most_periods) × IsBallot voters ballot × IsJournaledCut agents journals cut
+IsPacket voters agents journals (Decided period cut) = (period < most_periods) × IsJournaledCut agents journals cut
 
 -- a mark for each voter
 abbrev pub IsSet : ℕ → Nodes → Type 0
@@ -59,8 +60,8 @@ pub record IsAttempt (voters agents : ℕ) (journals : Holding) (a : Attempt) : 
 
 -- What a node has. Where no batch up to a learned cut is missing, it has the journals' batches up to that cut.
 pub record IsNode (voters agents : ℕ) (journals : Holding) (n : Node) : Type 0 where
-  pub round : n.kept.round ≤ 10_000
-  pub periods : length n.kept.learned ≤ 1_200
+  pub round : n.kept.round ≤ most_rounds
+  pub periods : length n.kept.learned ≤ most_periods
   pub learned : All (IsJournaledCut agents journals) n.kept.learned
   pub growing : IsGrowing agents n.kept.learned
   pub promised : (ballot : ℕ) → n.kept.acceptor.promised ≡ Some ballot → IsBallot voters ballot
@@ -84,7 +85,7 @@ pub record KeepsLimits (voters observers agents : ℕ) (w : World) : Type 0 wher
   pub agents_kept : w.agents ≡ agents
   pub rules : MeetsJournalRules w.sheet w.journals
   pub in_range : (agent seq : ℕ) (b : Batch) → held w.journals agent seq ≡ Some b → agent ≤ w.agents
-  pub room : length w.packets ≤ 1_000_000
+  pub room : length w.packets ≤ most_packets
   pub each_packet : All (IsPacket (voter_count w) w.agents w.journals) w.packets
   pub each_node : All (IsNode (voter_count w) w.agents w.journals) w.nodes
   pub each_observer : (node : ℕ) (n : Node) → voter_count w ≤ node → slice_get w.nodes node ≡ Some n → IsObserver n

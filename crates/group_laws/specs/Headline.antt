@@ -3,6 +3,7 @@
 -- of one period: in just one, where a chosen cut reaches it.
 use Rattle.std.specs.Prelude.{◌≡◌, ◌↔◌, ℕ, ◌+◌, ◌<◌, ◌≤◌, List, ◌++◌, length, Some, None, Ok, slice_get}
 use Rattle.std.specs.List.{Contains}
+use Rattle.metering_model.specs.Limits.{most_periods}
 use Rattle.metering_model.specs.Batch.{Batch, Reading}
 use Rattle.metering_model.specs.Sheet.{Sheet, Issuer}
 use Rattle.metering_model.specs.Cut.{Cut, IsGrowing, last_of}
@@ -40,7 +41,7 @@ AtMostOneIsChosen w = (period : ℕ) (c d : Cut) → IsChosen w period c → IsC
 pub record AreTheCuts (w : World) (cuts : List Cut) : Type 0 where
   pub chosen : (period : ℕ) (cut : Cut) → (slice_get cuts period ≡ Some cut) ↔ IsChosen w period cut
   pub learned : (n : Node) → Contains w.nodes n → IsPrefixOf n.kept.learned cuts
-  pub in_range : length cuts ≤ 1_200
+  pub in_range : length cuts ≤ most_periods
   pub growing : IsGrowing w.agents cuts
   pub journaled : (period : ℕ) (cut : Cut) → slice_get cuts period ≡ Some cut → (agent : ℕ) → last_of cut agent < next_seq w.journals agent
   pub due : (period : ℕ) (cut : Cut) → slice_get cuts period ≡ Some cut → AreDueBetween w.sheet.base period w.journals (cut_before w.agents cuts period) cut

@@ -1,6 +1,7 @@
 //! The headline over every list of events, and what the bodies of a group rest on.
 
 ghost use Rattle.std.specs.Prelude.{◌≡◌, ◌≢◌, ℕ, ◌≤◌, List, [], ◌++◌, map, Some, All, slice_get};
+ghost use Rattle.metering_model.specs.Limits.{most_agents, most_nodes};
 ghost use Rattle.metering_model.specs.Sheet.{Sheet, Issuer};
 ghost use Rattle.metering_model.specs.Cut.{Cut};
 ghost use Rattle.metering_model.specs.declared.Refusal.TheVariants.{WorldFull};
@@ -66,12 +67,12 @@ pub fn a_revival_is_a_restart()
         step (play (opening voters observers agents sheet issuer) events).1 (Revive node offer)
         ≡ step (play (opening voters observers agents sheet issuer) events).1 (Restart node) }
     ensures has_text { (voters observers agents : ℕ) (sheet : Sheet) (issuer : Issuer)
-        (events : List Event) → voters ≤ 99 → 1 ≤ agents → agents ≤ 64 →
+        (events : List Event) → voters ≤ most_nodes → 1 ≤ agents → agents ≤ most_agents →
         (node : ℕ) (n : Node) → slice_get
         (play (opening voters observers agents sheet issuer) events).1.nodes node ≡ Some n →
         HasText (kept_now (play (opening voters observers agents sheet issuer) events).1 n) }
     ensures taken { (voters observers agents : ℕ) (sheet : Sheet) (issuer : Issuer)
-        (events : List Event) → voters ≤ 99 → 1 ≤ agents → agents ≤ 64 →
+        (events : List Event) → voters ≤ most_nodes → 1 ≤ agents → agents ≤ most_agents →
         (node : ℕ) (n : Node) → slice_get
         (play (opening voters observers agents sheet issuer) events).1.nodes node ≡ Some n →
         step (play (opening voters observers agents sheet issuer) events).1

@@ -2,6 +2,7 @@
 ghost use Rattle.std.specs.Prelude.{◌≡◌, ◌↔◌, IsTrue, ◌+◌, ◌<◌, ◌≤◌, length, slice_get, IfOk, None};
 ghost use Rattle.std.specs.Option.{option_copied, option_map};
 ghost use Rattle.std.specs.Arc.{arc_value};
+ghost use Rattle.metering_model.specs.Limits.{most_agents, most_periods, most_nodes, most_rounds};
 ghost use Rattle.metering_model.specs.Ballot.{ballot_of};
 ghost use Rattle.metering_model.specs.KeptText.{HasText, kept_text};
 ghost use Rattle.metering_model.specs.World.{current_period, new_kept, wake};
@@ -46,9 +47,9 @@ impl Node {
     /// A node of a group with so many voters, at most 99, and agents, 1 to 64, which has begun nothing and holds
     /// nothing. An error is an allocation failure.
     pub fn new(alloc: Global, voters: u8, agents: u8) -> Result<Node, AllocError>
-        requires voters { voters ≤ 99 }
+        requires voters { voters ≤ most_nodes }
         requires from { 1 ≤ agents }
-        requires to { agents ≤ 64 }
+        requires to { agents ≤ most_agents }
         ensures { IfOk result (λ node. node ≡ record { voters = voters; agents = agents; node = wake new_kept }) }
     {
         let store = Store::new(alloc, agents)?;
@@ -63,7 +64,7 @@ impl Node {
 
     /// The node that wakes with what was kept: it makes no attempt, and its tally is empty.
     pub fn wake(alloc: Global, voters: u8, kept: Kept) -> Node
-        requires { voters ≤ 99 }
+        requires { voters ≤ most_nodes }
         ensures { result ≡ record { voters = voters; agents = kept.agents; node = wake kept.kept } }
     {
         Node {
@@ -109,7 +110,7 @@ impl Node {
     /// before.
     pub fn start(&mut self, i: u8) -> Ballot
         requires votes { i < self.old.voters }
-        requires round { self.old.node.kept.round < 10_000 }
+        requires round { self.old.node.kept.round < most_rounds }
         ensures ballot { result ≡ ballot_of (self.old.node.kept.round + 1) i self.old.voters }
         ensures state { self.new ≡ record {
           voters = self.old.voters;
@@ -135,7 +136,7 @@ impl Node {
     /// How many ballots the node has begun, at most 10,000.
     pub fn round(&self) -> u16
         ensures value { result ≡ self.now.node.kept.round }
-        ensures within { result ≤ 10_000 }
+        ensures within { result ≤ most_rounds }
     {
         let kept = &self.kept;
         kept.round
@@ -144,7 +145,7 @@ impl Node {
     /// The first period that the node has not learned: how many cuts it has learned, at most 1,200.
     pub fn current_period(&self) -> u16
         ensures value { result ≡ current_period self.now.node }
-        ensures within { result ≤ 1_200 }
+        ensures within { result ≤ most_periods }
     {
         let kept = &self.kept;
         kept.learned.len() as u16

@@ -1,6 +1,7 @@
 -- Reading a text line by line, and the sections in it: what stands there, or the first fault.
 use Rattle.std.specs.Prelude.{◌≡◌, ℕ, ◌+◌, Bool, nat_le, if◌then◌else◌, List, [], ◌∷◌, length, take, drop, Option, None, Result, Ok, Err, ok_or, codes}
 use Rattle.std.specs.Str.{is_utf8}
+use Rattle.metering_model.specs.Limits.{most_sheet_lines, most_issuer_lines, most_input_bytes}
 use Rattle.metering_model.specs.FirstFailure.{◌>>=◌, holds_or}
 use Rattle.metering_model.specs.BatchReading.{is_same, lines_in, whole_in}
 use Rattle.metering_model.specs.Schedule.{lines_text}
@@ -33,7 +34,7 @@ lines_left u = (lines_in (left u)).lines
 -- all of a text, if it is not too long
 abbrev pub whole_of : List ℕ → Result Unread ScheduleFault
 whole_of text = do
-  _ ← holds_or (nat_le (length text) 16_777_216) (Refused TooLong 1)
+  _ ← holds_or (nat_le (length text) most_input_bytes) (Refused TooLong 1)
   Ok (record { text = text; from = 0; line = 1 })
 
 abbrev pub begins_with : List ℕ → List ℕ → Bool
@@ -94,12 +95,12 @@ HasText fits (Err fault) = ⊥
 -- a sheet, and an issuer, in a section of its own
 unfoldable pub sheet_section : Unread → Result (model.Sheet × Unread) ScheduleFault
 sheet_section u = do
-  s ← section_in Sheet (codes "sheet ") 200_000 u
+  s ← section_in Sheet (codes "sheet ") most_sheet_lines u
   sheet ← read_as sheet_of_text (Refused Sheet u.line) s.text
   Ok (sheet, s.rest)
 
 unfoldable pub issuer_section : Unread → Result (model.Issuer × Unread) ScheduleFault
 issuer_section u = do
-  s ← section_in Issuer (codes "issuer ") 100 u
+  s ← section_in Issuer (codes "issuer ") most_issuer_lines u
   issuer ← read_as issuer_of_text (Refused Issuer u.line) s.text
   Ok (issuer, s.rest)

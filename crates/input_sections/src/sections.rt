@@ -2,6 +2,7 @@
 
 ghost use Rattle.std.specs.Prelude.{◌≡◌, ◌≢◌, ◌<◌, ◌≤◌, Ok, Err, IfOk, IfErr, IfSome, MatchResult, codes, length};
 ghost use Rattle.std.specs.Str.{IsUtf8};
+ghost use Rattle.metering_model.specs.Limits.{most_sheet_lines, most_issuer_lines};
 ghost use Rattle.toml.specs.Errors.{IsBlank};
 ghost use Rattle.metering_model.specs.SheetRules.{IsSheet, IsIssuer};
 ghost use Rattle.input_sections.specs.Sections.{HasText, lines_left, number_behind, section_in, section_of, read_as, sheet_section, issuer_section};
@@ -174,7 +175,7 @@ pub fn read_sheet<'a>(
     ensures refused { IfErr result (λ fault. fault ≢ ScheduleFault.OutOfMemory → sheet_section unread.now ≡ Err fault) }
     ensures want { IfErr result (λ fault. fault ≡ ScheduleFault.OutOfMemory
         → HasText (λ text. IsUtf8 text × ¬ IsBlank text)
-        (section_in ScheduleCode.Sheet (codes "sheet ") 200_000 unread.now)) }
+        (section_in ScheduleCode.Sheet (codes "sheet ") most_sheet_lines unread.now)) }
     ensures rules { IfOk result (λ r. IsSheet r.0) }
     ensures text { IfOk result (λ r. r.1.text ≡ unread.now.text) }
 {
@@ -194,7 +195,7 @@ pub fn read_issuer<'a>(
     ensures refused { IfErr result
         (λ fault. fault ≢ ScheduleFault.OutOfMemory → issuer_section unread.now ≡ Err fault) }
     ensures want { IfErr result (λ fault. fault ≡ ScheduleFault.OutOfMemory
-        → HasText IsUtf8 (section_in ScheduleCode.Issuer (codes "issuer ") 100 unread.now)) }
+        → HasText IsUtf8 (section_in ScheduleCode.Issuer (codes "issuer ") most_issuer_lines unread.now)) }
     ensures rules { IfOk result (λ r. IsIssuer r.0) }
     ensures text { IfOk result (λ r. r.1.text ≡ unread.now.text) }
 {

@@ -22,6 +22,7 @@ pub struct Unread<'a> {
 
 impl<'a> Model for Unread<'a> {
     ghost use Rattle.std.specs.Prelude.{◌≡◌, ◌+◌, ◌≤◌, length, take};
+    ghost use Rattle.metering_model.specs.Limits.{most_input_bytes};
     ghost use Rattle.metering_model.specs.Transcript.{line_count};
     ghost use Rattle.input_sections.specs.Sections as model;
 
@@ -33,7 +34,7 @@ impl<'a> Model for Unread<'a> {
       line = u.line;
     } };
 
-    ghost invariant = { λ u. (length u.text.now ≤ 16_777_216) × (u.from ≤ length u.text.now) × (u.line ≤ u.from + 1)
+    ghost invariant = { λ u. (length u.text.now ≤ most_input_bytes) × (u.from ≤ length u.text.now) × (u.line ≤ u.from + 1)
         × (u.line ≡ 1 + line_count (take u.from u.text.now)) };
 }
 

@@ -2,6 +2,7 @@
 
 ghost use Rattle.std.specs.Prelude.{◌≡◌, ◌+◌, ◌≤◌, ◌++◌, ◌∷◌, [], length, map, true, IfOk, OnErr};
 ghost use Rattle.std.specs.Arc.{arc_value};
+ghost use Rattle.metering_model.specs.Limits.{most_agents, most_nodes};
 ghost use Rattle.metering_model.specs.World.{opening};
 ghost use Rattle.metering_model.specs.Step.{step};
 ghost use Rattle.metering_model.specs.History.{IsLegal};
@@ -68,9 +69,9 @@ impl Book {
         issuer: Arc<Issuer>,
     ) -> Result<Book, AllocError>
         requires voters_from { 1 ≤ voters }
-        requires nodes_to { voters + observers ≤ 99 }
+        requires nodes_to { voters + observers ≤ most_nodes }
         requires agents_from { 1 ≤ agents }
-        requires agents_to { agents ≤ 64 }
+        requires agents_to { agents ≤ most_agents }
         ensures { IfOk result (λ book. book ≡ record {
           voters = voters;
           observers = observers;

@@ -1,6 +1,7 @@
 //! What the threads of a run share, and what they tell each other.
 
 ghost use Rattle.std.specs.Prelude.{◌≡◌, ◌+◌, ◌≤◌, vec_len};
+ghost use Rattle.metering_model.specs.Limits.{most_agents, most_nodes};
 
 use crate::boards::Board;
 use crossbeam_channel::{Receiver, Sender, bounded};
@@ -37,9 +38,9 @@ fn most_reports(nodes: usize, agents: usize) -> usize {
 /// A book for the plan's group.
 fn open_book(alloc: Global, plan: &Plan) -> Result<Book, AllocError>
     requires voters_from { 1 ≤ plan.now.voters }
-    requires nodes_to { plan.now.voters + plan.now.observers ≤ 99 }
+    requires nodes_to { plan.now.voters + plan.now.observers ≤ most_nodes }
     requires agents_from { 1 ≤ vec_len plan.now.journals }
-    requires agents_to { vec_len plan.now.journals ≤ 64 }
+    requires agents_to { vec_len plan.now.journals ≤ most_agents }
 {
     let sheet = Arc::try_clone(&plan.sheet)?;
     let issuer = Arc::try_clone(&plan.issuer)?;
@@ -50,9 +51,9 @@ fn open_book(alloc: Global, plan: &Plan) -> Result<Book, AllocError>
 /// A desk with a book, and where the main thread takes reports.
 pub(crate) fn open(alloc: Global, plan: &Plan) -> Result<(Desk, Receiver<Report>), AllocError>
     requires voters_from { 1 ≤ plan.now.voters }
-    requires nodes_to { plan.now.voters + plan.now.observers ≤ 99 }
+    requires nodes_to { plan.now.voters + plan.now.observers ≤ most_nodes }
     requires agents_from { 1 ≤ vec_len plan.now.journals }
-    requires agents_to { vec_len plan.now.journals ≤ 64 }
+    requires agents_to { vec_len plan.now.journals ≤ most_agents }
 {
     let book = open_book(alloc, plan)?;
     // All reports have room from the start, so that a report of want of memory wants none.

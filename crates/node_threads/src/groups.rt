@@ -1,6 +1,7 @@
 //! A run from its plan to its logs.
 
 ghost use Rattle.std.specs.Prelude.{◌≡◌, ◌+◌, ◌≤◌, length, map, vec_len, IfOk};
+ghost use Rattle.metering_model.specs.Limits.{most_agents, most_periods, most_nodes};
 ghost use Rattle.metering_model.specs.History.{IsLegal};
 ghost use Rattle.group_laws.specs.Headline.{HoldsAfter};
 ghost use Rattle.node_book.specs.Books.{opened};
@@ -26,11 +27,11 @@ pub fn run_group<R: Threads + Wait + Sync, G: Gate + Sync>(
     gate: &G,
 ) -> Result<Run, RunFault>
     requires voters_from { 1 ≤ plan.voters }
-    requires nodes_to { plan.voters + plan.observers ≤ 99 }
+    requires nodes_to { plan.voters + plan.observers ≤ most_nodes }
     requires agents_from { 1 ≤ vec_len plan.journals }
-    requires agents_to { vec_len plan.journals ≤ 64 }
+    requires agents_to { vec_len plan.journals ≤ most_agents }
     requires periods_from { 1 ≤ plan.periods }
-    requires periods_to { plan.periods ≤ 1200 }
+    requires periods_to { plan.periods ≤ most_periods }
     ensures plan { IfOk result (λ run. run.plan ≡ plan_of plan) }
     ensures agree { IfOk result (λ run. Agree run.book (plan_of plan) run.logs) }
     ensures files { IfOk result (λ run. FilesAgree run.logs) }

@@ -1,6 +1,7 @@
 -- What is answered of an input that is asked for a period's file.
 use Rattle.std.specs.Prelude.{◌≡◌, ℕ, nat_le, if◌then◌else◌, List, length, Option, IfSome, Result, Ok, Err}
 use Rattle.std.specs.Io.KnownBytes.{Appends}
+use Rattle.metering_model.specs.Limits.{most_transcript_bytes}
 use Rattle.counted_io.specs.Writing.{AppendsPrefix, AppendsSome}
 use Rattle.transcript_laws.specs.FirstFiles.{FirstFile, NoFile, TornFile, WholeFile, first_file, part_of}
 use Rattle.period_file.specs.declared.faults.FileFault.{FileFault}
@@ -13,7 +14,7 @@ answer_of (WholeFile file) = Ok file
 
 -- the first file of the period in an input of at most 4 GiB, or why there is none
 unfoldable pub file_in : ℕ → List ℕ → Result (List ℕ) FileFault
-file_in period input = if nat_le (length input) 4_294_967_296 then answer_of (first_file period input) else Err fault.TooLong
+file_in period input = if nat_le (length input) most_transcript_bytes then answer_of (first_file period input) else Err fault.TooLong
 
 -- the faults that an input has, and no device
 abbrev pub IsRefusal : FileFault → Type 0

@@ -1,6 +1,7 @@
 //! The line above a file, and the number of lines that it says.
 
 ghost use Rattle.std.specs.Prelude.{◌≡◌, ◌≤◌, ℕ, List, Option, Some, None, Ok, IfOk, IfErr};
+ghost use Rattle.metering_model.specs.Limits.{most_transcript_bytes};
 ghost use Rattle.counted_io.specs.Counts.{count_after};
 ghost use Rattle.transcript_laws.specs.FirstFiles.{told_behind, words_above};
 ghost use Rattle.period_file.specs.Faults.{tells_of_reader};
@@ -49,7 +50,7 @@ fn take_told<S: Source>(
     unread: &mut Unread,
     source: &mut S,
 ) -> Result<Option<Option<u64>>, FileFault>
-    requires { unread.old.read ≤ 4_294_967_296 }
+    requires { unread.old.read ≤ most_transcript_bytes }
     ensures takes { (taken : List ℕ) × Takes unread.old.bytes unread.new.bytes unread.old.read unread.new.read
         (S.remaining source.old) (S.remaining source.new) taken }
     ensures told { (told : Option ℕ) → result ≡ Ok (Some told) → TakesTold words.now told
@@ -58,7 +59,7 @@ fn take_told<S: Source>(
     ensures none { (period : ℕ) → result ≡ Ok None
         → EndsUntold period unread.old.bytes unread.old.read unread.new.read
         (S.remaining source.old) (S.remaining source.new) }
-    ensures within { IfOk result (λ told. unread.new.read ≤ 4_294_967_296) }
+    ensures within { IfOk result (λ told. unread.new.read ≤ most_transcript_bytes) }
     ensures most { unread.new.read ≤ 4_294_967_297 }
     ensures reading { IfErr result (λ fault. IsOfReading fault × IsBeyond fault unread.new.read) }
     ensures count { S.failed_calls source.new
@@ -79,7 +80,7 @@ pub(crate) fn next_told<S: Source>(
     unread: &mut Unread,
     source: &mut S,
 ) -> Result<Option<Option<u64>>, FileFault>
-    requires { unread.old.read ≤ 4_294_967_296 }
+    requires { unread.old.read ≤ most_transcript_bytes }
     ensures takes { (taken : List ℕ) × Takes unread.old.bytes unread.new.bytes unread.old.read unread.new.read
         (S.remaining source.old) (S.remaining source.new) taken }
     ensures told { (told : Option ℕ) → result ≡ Ok (Some told) → TakesTold words.now told
@@ -88,7 +89,7 @@ pub(crate) fn next_told<S: Source>(
     ensures none { (period : ℕ) → words.now ≡ words_above period → result ≡ Ok None
         → EndsUntold period unread.old.bytes unread.old.read unread.new.read
         (S.remaining source.old) (S.remaining source.new) }
-    ensures within { IfOk result (λ told. unread.new.read ≤ 4_294_967_296) }
+    ensures within { IfOk result (λ told. unread.new.read ≤ most_transcript_bytes) }
     ensures most { unread.new.read ≤ 4_294_967_297 }
     ensures reading { IfErr result (λ fault. IsOfReading fault × IsBeyond fault unread.new.read) }
     ensures count { S.failed_calls source.new

@@ -2,6 +2,7 @@
 
 ghost use Rattle.std.specs.Prelude.{◌≡◌, ◌<◌, ◌≤◌, ℕ, List, [], Some, None, Ok, Err, IfOk, IfErr, IfSome, OnOk, OnErr};
 ghost use Rattle.std.specs.Io.KnownBytes.{Appends, IsAtEnd};
+ghost use Rattle.metering_model.specs.Limits.{most_transcript_bytes};
 ghost use Rattle.counted_io.specs.Counts.{Rises, count_after};
 ghost use Rattle.counted_io.specs.Reading.{ConsumesAtMost};
 ghost use Rattle.period_file.specs.Faults.{tells_of_reader, tells_of_writer};
@@ -23,7 +24,7 @@ fn find_line_above<S: Source>(
     unread: &mut Unread,
     source: &mut S,
 ) -> Result<Option<u64>, FileFault>
-    requires { unread.old.read ≤ 4_294_967_296 }
+    requires { unread.old.read ≤ most_transcript_bytes }
     ensures found { (count : ℕ) → result ≡ Ok (Some count)
         → Finds period count unread.old.bytes unread.new.bytes unread.old.read unread.new.read
         (S.remaining source.old) (S.remaining source.new) }
@@ -32,7 +33,7 @@ fn find_line_above<S: Source>(
         (S.remaining source.old) (S.remaining source.new) }
     ensures takes { (taken : List ℕ) × Takes unread.old.bytes unread.new.bytes unread.old.read unread.new.read
         (S.remaining source.old) (S.remaining source.new) taken }
-    ensures within { IfOk result (λ found. unread.new.read ≤ 4_294_967_296) }
+    ensures within { IfOk result (λ found. unread.new.read ≤ most_transcript_bytes) }
     ensures most { unread.new.read ≤ 4_294_967_297 }
     ensures reading { IfErr result (λ fault. IsOfReading fault × IsBeyond fault unread.new.read) }
     ensures count { S.failed_calls source.new
@@ -77,7 +78,7 @@ fn copy_lines<S: Source, W: Sink>(
     writer: &mut W,
     count: u64,
 ) -> Result<u64, FileFault>
-    requires { unread.old.read ≤ 4_294_967_296 }
+    requires { unread.old.read ≤ most_transcript_bytes }
     ensures copied { IfOk result (λ lacking. Copies count lacking unread.old.bytes unread.new.bytes
         unread.old.read unread.new.read (S.remaining source.old) (S.remaining source.new)
         (W.contents writer.old) (W.contents writer.new)) }
@@ -86,7 +87,7 @@ fn copy_lines<S: Source, W: Sink>(
         (S.remaining source.old) (S.remaining source.new) (W.contents writer.old) (W.contents writer.new)) }
     ensures short { result ≡ Err FileFault.Write → StopsShort count unread.old.bytes unread.old.read unread.new.read
         (S.remaining source.old) (S.remaining source.new) (W.contents writer.old) (W.contents writer.new) }
-    ensures within { IfOk result (λ lacking. unread.new.read ≤ 4_294_967_296) }
+    ensures within { IfOk result (λ lacking. unread.new.read ≤ most_transcript_bytes) }
     ensures most { unread.new.read ≤ 4_294_967_297 }
     ensures copying { IfErr result (λ fault. IsOfCopying fault × IsBeyond fault unread.new.read) }
     ensures write_fault { result ≡ Err FileFault.Write → Rises (W.failed_calls writer.old) (W.failed_calls writer.new) }
@@ -107,11 +108,11 @@ fn copy_lines<S: Source, W: Sink>(
 
 /// Reads all that follows, and drops it.
 fn drop_rest<S: Source>(unread: &mut Unread, source: &mut S) -> Result<(), FileFault>
-    requires { unread.old.read ≤ 4_294_967_296 }
+    requires { unread.old.read ≤ most_transcript_bytes }
     ensures taken { (dropped : List ℕ) × Takes unread.old.bytes [] unread.old.read unread.new.read
         (S.remaining source.old) (S.remaining source.new) dropped }
     ensures end { OnOk result (IsAtEnd (S.remaining source.new)) }
-    ensures within { OnOk result (unread.new.read ≤ 4_294_967_296) }
+    ensures within { OnOk result (unread.new.read ≤ most_transcript_bytes) }
     ensures most { unread.new.read ≤ 4_294_967_297 }
     ensures reading { IfErr result (λ fault. IsOfReading fault × IsBeyond fault unread.new.read) }
     ensures count { S.failed_calls source.new

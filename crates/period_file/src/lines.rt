@@ -2,6 +2,7 @@
 
 ghost use Rattle.std.specs.Prelude.{◌≡◌, ◌+◌, ◌<◌, ◌≤◌, ℕ, List, [], length, drop, true, false, Ok, IfOk, IfErr, MatchOption};
 ghost use Rattle.std.specs.Io.KnownBytes.{IsAtEnd};
+ghost use Rattle.metering_model.specs.Limits.{most_transcript_bytes};
 ghost use Rattle.counted_io.specs.Counts.{count_after};
 ghost use Rattle.metering_model.specs.Batch.{lacks};
 ghost use Rattle.period_file.specs.Faults.{tells_of_reader};
@@ -24,12 +25,12 @@ pub(crate) fn line_end<S: Source>(
     unread: &mut Unread,
     source: &mut S,
 ) -> Result<Option<usize>, FileFault>
-    requires { unread.old.read ≤ 4_294_967_296 }
+    requires { unread.old.read ≤ most_transcript_bytes }
     ensures takes { Takes unread.old.bytes unread.new.bytes unread.old.read unread.new.read
         (S.remaining source.old) (S.remaining source.new) [] }
     ensures found { IfOk result (λ found. MatchOption found
         (IsEnded unread.new.bytes (S.remaining source.new)) (IsLineAt unread.new.bytes)) }
-    ensures within { IfOk result (λ end. unread.new.read ≤ 4_294_967_296) }
+    ensures within { IfOk result (λ end. unread.new.read ≤ most_transcript_bytes) }
     ensures most { unread.new.read ≤ 4_294_967_297 }
     ensures reading { IfErr result (λ fault. IsOfReading fault × IsBeyond fault unread.new.read) }
     ensures count { S.failed_calls source.new
@@ -55,12 +56,12 @@ pub(crate) fn read_ahead<S: Source>(
     unread: &mut Unread,
     source: &mut S,
 ) -> Result<bool, FileFault>
-    requires { unread.old.read ≤ 4_294_967_296 }
+    requires { unread.old.read ≤ most_transcript_bytes }
     ensures takes { Takes unread.old.bytes unread.new.bytes unread.old.read unread.new.read
         (S.remaining source.old) (S.remaining source.new) [] }
     ensures enough { result ≡ Ok true → wanted ≤ length unread.new.bytes }
     ensures ended { result ≡ Ok false → (length unread.new.bytes < wanted) × IsAtEnd (S.remaining source.new) }
-    ensures within { IfOk result (λ enough. unread.new.read ≤ 4_294_967_296) }
+    ensures within { IfOk result (λ enough. unread.new.read ≤ most_transcript_bytes) }
     ensures most { unread.new.read ≤ 4_294_967_297 }
     ensures reading { IfErr result (λ fault. IsOfReading fault × IsBeyond fault unread.new.read) }
     ensures count { S.failed_calls source.new
@@ -98,14 +99,14 @@ fn take_part(unread: &mut Unread) -> bool
 /// Takes a line and its line feed, block by block, so that a long line takes no more room than a short one. It answers
 /// whether the line ended.
 pub(crate) fn pass_line<S: Source>(unread: &mut Unread, source: &mut S) -> Result<bool, FileFault>
-    requires { unread.old.read ≤ 4_294_967_296 }
+    requires { unread.old.read ≤ most_transcript_bytes }
     ensures takes { (taken : List ℕ) × Takes unread.old.bytes unread.new.bytes unread.old.read unread.new.read
         (S.remaining source.old) (S.remaining source.new) taken }
     ensures line { result ≡ Ok true → TakesLine unread.old.bytes unread.new.bytes unread.old.read unread.new.read
         (S.remaining source.old) (S.remaining source.new) }
     ensures ended { result ≡ Ok false → TakesPart unread.old.bytes [] unread.old.read unread.new.read
         (S.remaining source.old) (S.remaining source.new) × IsAtEnd (S.remaining source.new) }
-    ensures within { IfOk result (λ passed. unread.new.read ≤ 4_294_967_296) }
+    ensures within { IfOk result (λ passed. unread.new.read ≤ most_transcript_bytes) }
     ensures most { unread.new.read ≤ 4_294_967_297 }
     ensures reading { IfErr result (λ fault. IsOfReading fault × IsBeyond fault unread.new.read) }
     ensures count { S.failed_calls source.new

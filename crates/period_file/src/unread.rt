@@ -3,6 +3,7 @@
 ghost use Rattle.std.specs.Prelude.{◌≡◌, ◌+◌, ◌<◌, ◌≤◌, [], length, take, drop, vec_len, true, false, Ok, IfOk, IfErr, OnErr, unwrap_or};
 ghost use Rattle.std.specs.Io.KnownBytes.{Consumes, IsAtEnd, Keeps};
 ghost use Rattle.std.specs.Result.{result_ok};
+ghost use Rattle.metering_model.specs.Limits.{most_transcript_bytes};
 ghost use Rattle.counted_io.specs.Counts.{count_after};
 ghost use Rattle.period_file.specs.Faults.{tells_of_reader};
 ghost use Rattle.period_file.specs.Inner.Reading.{Takes, IsOfReading, IsBeyond};
@@ -154,12 +155,12 @@ impl Unread {
 
     /// Reads a block more, and returns whether a byte came: none does at the end.
     pub(crate) fn fill<S: Source>(&mut self, source: &mut S) -> Result<bool, FileFault>
-        requires { self.old.read ≤ 4_294_967_296 }
+        requires { self.old.read ≤ most_transcript_bytes }
         ensures takes { Takes self.old.bytes self.new.bytes self.old.read self.new.read
             (S.remaining source.old) (S.remaining source.new) [] }
         ensures more { result ≡ Ok true → length self.old.bytes < length self.new.bytes }
         ensures end { result ≡ Ok false → (self.new ≡ self.old) × IsAtEnd (S.remaining source.new) }
-        ensures within { IfOk result (λ more. self.new.read ≤ 4_294_967_296) }
+        ensures within { IfOk result (λ more. self.new.read ≤ most_transcript_bytes) }
         ensures most { self.new.read ≤ 4_294_967_297 }
         ensures reading { IfErr result (λ fault. IsOfReading fault × IsBeyond fault self.new.read) }
         ensures count { S.failed_calls source.new

@@ -2,6 +2,7 @@
 
 ghost use Rattle.std.specs.Prelude.{◌≡◌, ◌≢◌, ◌<◌, ◌≤◌, false, Ok, Err, IfOk, IfErr, [], length, map};
 ghost use Rattle.std.specs.List.{list_any};
+ghost use Rattle.metering_model.specs.Limits.{most_sheet_rows};
 ghost use Rattle.toml.specs.View.{table_view};
 ghost use Rattle.metering_model.specs.SheetRules.{has_same_id};
 ghost use Rattle.price_sheet.specs.SheetReading.{next_commitment, placed_commitment, commitments_in};
@@ -19,7 +20,7 @@ pub(crate) fn read_commitments(
     prices: &PriceTable,
     tables: &[&Table],
 ) -> Result<IdTable<Commitment>, SheetFault>
-    requires { length tables.now ≤ 10_000 }
+    requires { length tables.now ≤ most_sheet_rows }
     ensures taken { IfOk result
         (λ rows. commitments_in prices.now [] (map (λ t. table_view t.now) tables.now) ≡ Ok rows) }
     ensures refused { IfErr result (λ fault. fault ≢ SheetFault.OutOfMemory
@@ -42,7 +43,7 @@ fn placed_commitment(
     rows: &IdTable<Commitment>,
     read: Result<Commitment, KeyFault>,
 ) -> Result<Commitment, SheetFault>
-    requires few { length rows.now < 10_000 }
+    requires few { length rows.now < most_sheet_rows }
     ensures answer { result ≡ placed_commitment prices.now rows.now read }
     ensures new { IfOk result (λ row. list_any (has_same_id row) rows.now ≡ false) }
 {
@@ -67,7 +68,7 @@ fn next_commitment(
     rows: &IdTable<Commitment>,
     table: &Table,
 ) -> Result<Commitment, SheetFault>
-    requires few { length rows.now < 10_000 }
+    requires few { length rows.now < most_sheet_rows }
     ensures taken { IfOk result (λ row. next_commitment prices.now rows.now (table_view table.now) ≡ Ok row) }
     ensures new { IfOk result (λ row. list_any (has_same_id row) rows.now ≡ false) }
     ensures refused { IfErr result (λ fault. fault ≢ SheetFault.OutOfMemory

@@ -3,6 +3,7 @@
 ghost use Rattle.std.specs.Prelude.{◌≡◌, ◌↔◌, ◌<◌, false, IsTrue, OnOk, [], ◌∷◌, ◌++◌, length, find, slice_get};
 ghost use Rattle.std.specs.Option.{option_copied, option_and_then};
 ghost use Rattle.std.specs.List.{list_any};
+ghost use Rattle.metering_model.specs.Limits.{most_sheet_rows};
 ghost use Rattle.metering_model.specs.BatchReading.{is_same};
 ghost use Rattle.price_sheet.specs.Inner.Places.{found_at};
 
@@ -72,7 +73,7 @@ impl<R: Named> IdTable<R> {
 impl<R: Named + Drop> IdTable<R> {
     /// Puts a row behind the others, whose id is new.
     pub(crate) fn put(&mut self, alloc: Global, row: R) -> Result<(), AllocError>
-        requires few { length self.old < 10_000 }
+        requires few { length self.old < most_sheet_rows }
         requires new { list_any (λ x. is_same (R.id row) (R.id x)) self.old ≡ false }
         ensures { OnOk result (self.new ≡ self.old ++ row ∷ []) }
     {

@@ -1,6 +1,7 @@
 //! The places of prices, by SKU and day.
 
 ghost use Rattle.std.specs.Prelude.{◌≡◌, ◌<◌, [], ◌∷◌, ◌++◌, length, is_some, OnOk};
+ghost use Rattle.metering_model.specs.Limits.{most_sheet_rows};
 ghost use Rattle.price_sheet.specs.Inner.Days.{begun, with_start};
 ghost use Rattle.price_sheet.specs.Inner.Places.{found_at, starts_of, Puts, IndexesPrices};
 
@@ -70,7 +71,7 @@ impl PriceIndex {
         rows: &[PriceRow],
         row: &PriceRow,
     ) -> Result<(), AllocError>
-        requires few { length rows.now < 10_000 }
+        requires few { length rows.now < most_sheet_rows }
         requires indexed { IndexesPrices rows.now self.old.starts.entries }
         ensures { OnOk result (IndexesPrices (rows.now ++ row.now ∷ []) self.new.starts.entries) }
     {

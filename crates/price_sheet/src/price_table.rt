@@ -3,6 +3,7 @@
 ghost use Rattle.std.specs.Prelude.{◌≡◌, ◌≢◌, ◌↔◌, ◌<◌, ◌≤◌, ◌&&◌, Ok, Err, IfOk, IfErr, IsTrue, [], length, map, filter, int_le};
 ghost use Rattle.std.specs.Option.{option_copied};
 ghost use Rattle.std.specs.List.{list_any};
+ghost use Rattle.metering_model.specs.Limits.{most_sheet_rows};
 ghost use Rattle.toml.specs.View.{table_view};
 ghost use Rattle.metering_model.specs.BatchReading.{is_same};
 ghost use Rattle.metering_model.specs.SheetRules.{has_same_key};
@@ -50,7 +51,7 @@ impl PriceTable {
 
     /// The rows of the tables, in order.
     pub(crate) fn read(alloc: Global, tables: &[&Table]) -> Result<PriceTable, SheetFault>
-        requires { length tables.now ≤ 10_000 }
+        requires { length tables.now ≤ most_sheet_rows }
         ensures taken { IfOk result (λ rows. prices_in [] (map (λ t. table_view t.now) tables.now) ≡ Ok rows) }
         ensures refused { IfErr result (λ fault. fault ≢ SheetFault.OutOfMemory
             → prices_in [] (map (λ t. table_view t.now) tables.now) ≡ Err fault) }
@@ -133,7 +134,7 @@ fn placed_price(
     index: &PriceIndex,
     read: Result<PriceRow, KeyFault>,
 ) -> Result<PriceRow, SheetFault>
-    requires few { length rows.now < 10_000 }
+    requires few { length rows.now < most_sheet_rows }
     requires indexed { IndexesPrices rows.now index.now.starts.entries }
     ensures { result ≡ placed_price rows.now read }
 {
@@ -152,7 +153,7 @@ fn next_price(
     index: &PriceIndex,
     table: &Table,
 ) -> Result<PriceRow, SheetFault>
-    requires few { length rows.now < 10_000 }
+    requires few { length rows.now < most_sheet_rows }
     requires indexed { IndexesPrices rows.now index.now.starts.entries }
     ensures taken { IfOk result (λ row. next_price rows.now (table_view table.now) ≡ Ok row) }
     ensures refused { IfErr result (λ fault. fault ≢ SheetFault.OutOfMemory

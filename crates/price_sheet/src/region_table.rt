@@ -2,6 +2,7 @@
 
 ghost use Rattle.std.specs.Prelude.{◌≡◌, ◌≢◌, ◌<◌, ◌≤◌, false, Ok, Err, IfOk, IfErr, [], length, map};
 ghost use Rattle.std.specs.List.{list_any};
+ghost use Rattle.metering_model.specs.Limits.{most_sheet_rows};
 ghost use Rattle.toml.specs.View.{table_view};
 ghost use Rattle.metering_model.specs.SheetRules.{has_same_region};
 ghost use Rattle.price_sheet.specs.SheetReading.{next_region, placed_region, regions_in};
@@ -14,7 +15,7 @@ use toml::Table;
 
 /// The regions of the tables, in order.
 pub(crate) fn read_regions(alloc: Global, tables: &[&Table]) -> Result<IdTable<Region>, SheetFault>
-    requires { length tables.now ≤ 10_000 }
+    requires { length tables.now ≤ most_sheet_rows }
     ensures taken { IfOk result (λ rows. regions_in [] (map (λ t. table_view t.now) tables.now) ≡ Ok rows) }
     ensures refused { IfErr result (λ fault. fault ≢ SheetFault.OutOfMemory
         → regions_in [] (map (λ t. table_view t.now) tables.now) ≡ Err fault) }
@@ -35,7 +36,7 @@ fn placed_region(
     rows: &IdTable<Region>,
     read: Result<Region, KeyFault>,
 ) -> Result<Region, SheetFault>
-    requires few { length rows.now < 10_000 }
+    requires few { length rows.now < most_sheet_rows }
     ensures answer { result ≡ placed_region rows.now read }
     ensures new { IfOk result (λ row. list_any (has_same_region row) rows.now ≡ false) }
 {
@@ -49,7 +50,7 @@ fn placed_region(
 
 /// The region of one more table.
 fn next_region(alloc: Global, rows: &IdTable<Region>, table: &Table) -> Result<Region, SheetFault>
-    requires few { length rows.now < 10_000 }
+    requires few { length rows.now < most_sheet_rows }
     ensures taken { IfOk result (λ row. next_region rows.now (table_view table.now) ≡ Ok row) }
     ensures new { IfOk result (λ row. list_any (has_same_region row) rows.now ≡ false) }
     ensures refused { IfErr result (λ fault. fault ≢ SheetFault.OutOfMemory

@@ -2,6 +2,7 @@
 
 ghost use Rattle.std.specs.Prelude.{◌≡◌, ◌≢◌, ◌↔◌, ◌≤◌, Ok, Err, IfOk, IfErr, IsOk, IsTrue, [], length, map};
 ghost use Rattle.std.specs.Option.{option_copied};
+ghost use Rattle.metering_model.specs.Limits.{most_sheet_rows};
 ghost use Rattle.toml.specs.View.{table_view};
 ghost use Rattle.toml.specs.Errors.{IsBlank};
 ghost use Rattle.metering_model.specs.Dates.{IsBaseMonth};
@@ -116,8 +117,8 @@ impl Sheet {
         region_tables: &[&Table],
     ) -> Result<Sheet, SheetFault>
         requires base { IsBaseMonth base }
-        requires few { (length price_tables.now ≤ 10_000) × (length commitment_tables.now ≤ 10_000)
-            × (length region_tables.now ≤ 10_000) }
+        requires few { (length price_tables.now ≤ most_sheet_rows) × (length commitment_tables.now ≤ most_sheet_rows)
+            × (length region_tables.now ≤ most_sheet_rows) }
         ensures taken { IfOk result (λ sheet. sheet_of_rows base (map (λ t. table_view t.now) price_tables.now)
             (map (λ t. table_view t.now) commitment_tables.now)
             (map (λ t. table_view t.now) region_tables.now) ≡ Ok sheet) }

@@ -3,6 +3,7 @@
 
 ghost use Rattle.std.specs.Prelude.{◌≡◌, ℕ, ◌≤◌, ◌&&◌, ◌||◌, true, nat_le, nat_lt, if◌then◌else◌, List, [], ◌∷◌, length, map, filter, All, Some, None, ℤ, pos, ◌*ℤ◌, option_map, slice_get};
 ghost use Rattle.std.specs.Option.{is_some, option_to_list};
+ghost use Rattle.metering_model.specs.Limits.{most_periods};
 ghost use Rattle.metering_model.specs.Dates.{IsBaseMonth, IsPeriod};
 ghost use Rattle.metering_model.specs.Batch.{Reading};
 ghost use Rattle.metering_model.specs.BatchReading.{lines_in};
@@ -110,7 +111,7 @@ pub fn charges_start_before_their_periods_end()
         AreDueBetween sheet.base period h from to → WereDueBefore sheet.base period h from →
         All StartsBeforeItsPeriodEnds (rows sheet issuer h period from to) }
     ensures periods { (sheet : Sheet) (issuer : Issuer) (h : Holding) (agents : ℕ) (cuts : List Cut) →
-        IsHolding h → IsBaseMonth sheet.base → length cuts ≤ 1_200 → AreDueOver sheet.base h agents cuts →
+        IsHolding h → IsBaseMonth sheet.base → length cuts ≤ most_periods → AreDueOver sheet.base h agents cuts →
         All StartsBeforeItsPeriodEnds (all_rows (files sheet issuer h agents cuts)) }
 {}
 

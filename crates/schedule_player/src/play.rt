@@ -2,6 +2,7 @@
 
 ghost use Rattle.std.specs.Prelude.{◌≡◌, ◌≢◌, ◌+◌, ◌≤◌, ◌⊎◌, List, ℕ, All, Ok, Err, Some, IfOk, IfErr, IfSome, IsOk, OnOk};
 ghost use Rattle.std.specs.Io.KnownBytes.{Appends, IsAtEnd, Keeps};
+ghost use Rattle.metering_model.specs.Limits.{most_agents, most_nodes};
 ghost use Rattle.counted_io.specs.Counts.{Rises, count_after};
 ghost use Rattle.counted_io.specs.Reading.{ConsumesAtMost};
 ghost use Rattle.counted_io.specs.Writing.{AppendsPrefix};
@@ -34,8 +35,8 @@ pub fn opening_world(
     sheet: Sheet,
     issuer: Issuer,
 ) -> Result<World, AllocError>
-    requires nodes { (1 ≤ voters) × (voters + observers ≤ 99) }
-    requires agents { (1 ≤ agents) × (agents ≤ 64) }
+    requires nodes { (1 ≤ voters) × (voters + observers ≤ most_nodes) }
+    requires agents { (1 ≤ agents) × (agents ≤ most_agents) }
     ensures { IfOk result (λ world. world ≡ opening voters observers agents sheet issuer) }
 {
     let Ok(sheet) = Arc::new(alloc, sheet) else {
@@ -53,8 +54,8 @@ fn play_schedule<W: Sink>(
     schedule: Schedule<'_>,
     writer: &mut W,
 ) -> Result<(), PlayFault>
-    requires nodes { (1 ≤ schedule.voters) × (schedule.voters + schedule.observers ≤ 99) }
-    requires agents { (1 ≤ schedule.agents) × (schedule.agents ≤ 64) }
+    requires nodes { (1 ≤ schedule.voters) × (schedule.voters + schedule.observers ≤ most_nodes) }
+    requires agents { (1 ≤ schedule.agents) × (schedule.agents ≤ most_agents) }
     requires lines { All HasWholeLines schedule.events.items }
     ensures played { OnOk result (Appends (W.contents writer.old) (W.contents writer.new)
         (transcript (replies_to (read_of schedule.entry) (read_of schedule.entry).events))) }

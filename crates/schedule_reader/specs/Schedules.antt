@@ -2,6 +2,7 @@
 use Rattle.std.specs.Prelude.{ℕ, zero, suc, ◌+◌, ◌==◌, nat_le, if◌then◌else◌, List, [], ◌∷◌, length, take, drop, Option, Some, None, Result, Ok, ok_or, codes}
 use Rattle.std.specs.List.{position}
 use Rattle.std.specs.Option.{option_map}
+use Rattle.metering_model.specs.Limits.{most_agents, last_period, most_nodes, last_node, last_packet, most_journal_lines, most_revival_lines}
 use Rattle.metering_model.specs.FirstFailure.{◌>>=◌, holds_or}
 use Rattle.metering_model.specs.Batch.{is_empty}
 use Rattle.metering_model.specs.BatchReading.{is_same, lines_in, whole_in}
@@ -41,13 +42,14 @@ two_behind word first second line = if begins_with word line then two_in first s
 
 -- no more than 99 together
 abbrev pub if_few : Option (ℕ × ℕ) → Option (ℕ × ℕ)
-if_few (Some n) = if nat_le (n.0 + n.1) 99 then Some n else None
+if_few (Some n) = if nat_le (n.0 + n.1) most_nodes then Some n else None
 if_few None = None
 
 -- The voters and the observers: behind a space stands how many observe, and where there is none nobody does.
 abbrev pub counts_at : List ℕ → Option ℕ → Option (ℕ × ℕ)
-counts_at t (Some i) = if_few (both (whole_in 1 98 (take i t)) (number_behind (codes "observers ") 98 (drop (i + 1) t)))
-counts_at t None = option_map (λ n. (n, 0)) (whole_in 1 99 t)
+counts_at t (Some i) =
+    if_few (both (whole_in 1 last_node (take i t)) (number_behind (codes "observers ") last_node (drop (i + 1) t)))
+counts_at t None = option_map (λ n. (n, 0)) (whole_in 1 most_nodes t)
 
 abbrev pub counts_in : List ℕ → Option (ℕ × ℕ)
 counts_in t = counts_at t (position (λ c. c == 32) t)
@@ -65,11 +67,11 @@ or_else None o = o
 -- the event that one line is
 abbrev pub event_of_line : List ℕ → Option Planned
 event_of_line line =
-    or_else (option_map (λ n. PlansDelivery n.0 n.1) (two_behind (codes "deliver ") 999_999 98 line))
-    (or_else (option_map PlansStart (one_behind (codes "start ") 98 line))
-    (or_else (option_map PlansRestart (one_behind (codes "restart ") 98 line))
-    (or_else (option_map (λ n. PlansExport n.0 n.1) (two_behind (codes "export ") 98 1_199 line))
-    (option_map PlansKeep (one_behind (codes "keep ") 98 line)))))
+    or_else (option_map (λ n. PlansDelivery n.0 n.1) (two_behind (codes "deliver ") last_packet last_node line))
+    (or_else (option_map PlansStart (one_behind (codes "start ") last_node line))
+    (or_else (option_map PlansRestart (one_behind (codes "restart ") last_node line))
+    (or_else (option_map (λ n. PlansExport n.0 n.1) (two_behind (codes "export ") last_node last_period line))
+    (option_map PlansKeep (one_behind (codes "keep ") last_node line)))))
 
 -- an event of one line, and what is left behind it
 unfoldable pub line_event : Unread → Result (Planned × Unread) ScheduleFault
@@ -81,7 +83,7 @@ line_event u = do
 -- a journal, with its lines
 unfoldable pub journal_event : Unread → Result (Planned × Unread) ScheduleFault
 journal_event u = do
-  s ← section_in Event (codes "journal ") 1_001 u
+  s ← section_in Event (codes "journal ") most_journal_lines u
   Ok (PlansJournal (lines_in s.text).lines, s.rest)
 
 -- the node and the number of lines, of which there is one at least
@@ -90,7 +92,7 @@ if_lines (Some n) = if nat_le 1 n.1 then Some n else None
 if_lines None = None
 
 abbrev pub revival_of_line : List ℕ → Option (ℕ × ℕ)
-revival_of_line line = if_lines (two_behind (codes "revive ") 98 200_000 line)
+revival_of_line line = if_lines (two_behind (codes "revive ") last_node most_revival_lines line)
 
 -- a revival, with its lines
 unfoldable pub revival_event : Unread → Result (Planned × Unread) ScheduleFault
@@ -150,7 +152,7 @@ group_in text = do
   u ← whole_of text
   head ← head_line u
   nodes ← nodes_line head
-  agents ← number_line Agents (codes "agents ") 64 nodes.2
+  agents ← number_line Agents (codes "agents ") most_agents nodes.2
   Ok (nodes.0, nodes.1, agents.0, agents.1)
 
 -- What stands above the events, and what is left behind it.

@@ -1,6 +1,7 @@
 //! The events of a schedule, one line or one journal at a time.
 
 ghost use Rattle.std.specs.Prelude.{◌≡◌, ◌≢◌, ◌≤◌, All, Ok, Err, Some, map, codes, option_map, IfOk, IfErr, IfSome, MatchResult};
+ghost use Rattle.metering_model.specs.Limits.{last_period, last_node, last_packet, most_revival_lines};
 ghost use Rattle.metering_model.specs.Schedule.{PlansDelivery, PlansStart, PlansRestart, PlansExport, PlansKeep};
 ghost use Rattle.schedule_reader.specs.Events.{HasWholeLines, planned_of};
 ghost use Rattle.schedule_reader.specs.Schedules.{one_behind, two_behind, event_of_line, line_event, journal_event, revival_of_line, revival_event, event_in, events_in};
@@ -40,7 +41,7 @@ pub enum Planned<'a> {
 fn delivery<'a>(line: &'a [u8]) -> Option<Planned<'a>>
     ensures event { option_map planned_of result
         ≡ option_map (λ n. PlansDelivery n.0 n.1)
-        (two_behind (codes "deliver ") 999_999 98 line.now) }
+        (two_behind (codes "deliver ") last_packet last_node line.now) }
     ensures lines { IfSome result HasWholeLines }
 {
     let (packet, node) = two_behind(line, b"deliver ", LAST_PACKET, LAST_NODE)?;
@@ -51,7 +52,7 @@ fn delivery<'a>(line: &'a [u8]) -> Option<Planned<'a>>
 }
 
 fn start<'a>(line: &'a [u8]) -> Option<Planned<'a>>
-    ensures event { option_map planned_of result ≡ option_map PlansStart (one_behind (codes "start ") 98 line.now) }
+    ensures event { option_map planned_of result ≡ option_map PlansStart (one_behind (codes "start ") last_node line.now) }
     ensures lines { IfSome result HasWholeLines }
 {
     let node = one_behind(line, b"start ", LAST_NODE)?;
@@ -59,7 +60,7 @@ fn start<'a>(line: &'a [u8]) -> Option<Planned<'a>>
 }
 
 fn restart<'a>(line: &'a [u8]) -> Option<Planned<'a>>
-    ensures event { option_map planned_of result ≡ option_map PlansRestart (one_behind (codes "restart ") 98 line.now) }
+    ensures event { option_map planned_of result ≡ option_map PlansRestart (one_behind (codes "restart ") last_node line.now) }
     ensures lines { IfSome result HasWholeLines }
 {
     let node = one_behind(line, b"restart ", LAST_NODE)?;
@@ -68,7 +69,7 @@ fn restart<'a>(line: &'a [u8]) -> Option<Planned<'a>>
 
 fn export<'a>(line: &'a [u8]) -> Option<Planned<'a>>
     ensures event { option_map planned_of result
-        ≡ option_map (λ n. PlansExport n.0 n.1) (two_behind (codes "export ") 98 1_199 line.now) }
+        ≡ option_map (λ n. PlansExport n.0 n.1) (two_behind (codes "export ") last_node last_period line.now) }
     ensures lines { IfSome result HasWholeLines }
 {
     let (node, period) = two_behind(line, b"export ", LAST_NODE, LAST_PERIOD)?;
@@ -79,7 +80,7 @@ fn export<'a>(line: &'a [u8]) -> Option<Planned<'a>>
 }
 
 fn keep<'a>(line: &'a [u8]) -> Option<Planned<'a>>
-    ensures event { option_map planned_of result ≡ option_map PlansKeep (one_behind (codes "keep ") 98 line.now) }
+    ensures event { option_map planned_of result ≡ option_map PlansKeep (one_behind (codes "keep ") last_node line.now) }
     ensures lines { IfSome result HasWholeLines }
 {
     let node = one_behind(line, b"keep ", LAST_NODE)?;
@@ -139,7 +140,7 @@ fn journal_event<'a>(unread: &Unread<'a>) -> Result<(Planned<'a>, Unread<'a>), S
 /// The node and the number of lines that a line tells which opens a revival: one line at least.
 fn revival_of_line(line: &[u8]) -> Option<(u32, u32)>
     ensures value { result ≡ revival_of_line line.now }
-    ensures within { IfSome result (λ n. (n.0 ≤ 98) × (n.1 ≤ 200_000)) }
+    ensures within { IfSome result (λ n. (n.0 ≤ last_node) × (n.1 ≤ most_revival_lines)) }
 {
     let (node, count) = two_behind(line, b"revive ", LAST_NODE, MOST_LINES)?;
     if count == 0 {

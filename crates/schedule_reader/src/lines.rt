@@ -1,6 +1,7 @@
 //! Numbers in a line, after a word.
 
 ghost use Rattle.std.specs.Prelude.{◌≡◌, ◌+◌, ◌<◌, ◌≤◌, Some, IfSome, length};
+ghost use Rattle.metering_model.specs.Limits.{most_nodes};
 ghost use Rattle.schedule_reader.specs.Schedules.{counts_at, counts_in, nodes_behind, one_behind, two_behind, two_in};
 
 use byte_text::{find_byte, read_whole};
@@ -43,7 +44,7 @@ pub(crate) fn two_behind(line: &[u8], word: &[u8], first: u32, second: u32) -> O
 fn read_both(text: &[u8], space: usize) -> Option<(u32, u32)>
     requires { space < length text.now }
     ensures value { result ≡ counts_at text.now (Some space) }
-    ensures within { IfSome result (λ n. n.0 + n.1 ≤ 99) }
+    ensures within { IfSome result (λ n. n.0 + n.1 ≤ most_nodes) }
 {
     let voters = read_whole(&text[..space], 1, MOST_NODES - 1)?;
     let observers = number_behind(&text[space + 1..], b"observers ", MOST_NODES - 1)?;
@@ -57,7 +58,7 @@ fn read_both(text: &[u8], space: usize) -> Option<(u32, u32)>
 /// The voters, and the observers where the text tells of some.
 fn read_counts(text: &[u8]) -> Option<(u32, u32)>
     ensures value { result ≡ counts_in text.now }
-    ensures within { IfSome result (λ n. n.0 + n.1 ≤ 99) }
+    ensures within { IfSome result (λ n. n.0 + n.1 ≤ most_nodes) }
 {
     match find_byte(text, b' ') {
         Some(space) => read_both(text, space),
@@ -71,7 +72,7 @@ fn read_counts(text: &[u8]) -> Option<(u32, u32)>
 /// How many nodes vote and how many observe, as the line of the nodes tells: at most 99 in all.
 pub(crate) fn nodes_behind(line: &[u8]) -> Option<(u32, u32)>
     ensures value { result ≡ nodes_behind line.now }
-    ensures within { IfSome result (λ n. n.0 + n.1 ≤ 99) }
+    ensures within { IfSome result (λ n. n.0 + n.1 ≤ most_nodes) }
 {
     read_counts(behind_word(line, b"nodes ")?)
 }

@@ -1,6 +1,7 @@
 //! A whole schedule.
 
 ghost use Rattle.std.specs.Prelude.{◌≡◌, ◌≢◌, ◌+◌, ◌≤◌, All, Ok, Err, IfOk, IfErr, IsOk, MatchResult, length, map, codes};
+ghost use Rattle.metering_model.specs.Limits.{most_agents, most_nodes};
 ghost use Rattle.metering_model.specs.SheetRules.{IsSheet, IsIssuer};
 ghost use Rattle.schedule_reader.specs.Events.{HasWholeLines, planned_of};
 ghost use Rattle.schedule_reader.specs.Schedules.{head_line, nodes_line, number_line, group_in, preamble_in, schedule_in};
@@ -78,7 +79,7 @@ fn number_line<'a>(
 fn nodes_line<'a>(unread: &Unread<'a>) -> Result<(u32, u32, Unread<'a>), ScheduleFault>
     ensures nodes { MatchResult result (λ r. nodes_line unread.now ≡ Ok (r.0, r.1, r.2))
         (λ fault. nodes_line unread.now ≡ Err fault) }
-    ensures within { IfOk result (λ r. r.0 + r.1 ≤ 99) }
+    ensures within { IfOk result (λ r. r.0 + r.1 ≤ most_nodes) }
     ensures want { IfErr result (λ fault. fault ≢ ScheduleFault.OutOfMemory) }
 {
     let (line, rest) = unread.first_line(ScheduleCode::Nodes)?;
@@ -130,8 +131,8 @@ impl<'a> Preamble<'a> {
         ensures refused { IfErr result (λ fault. fault ≢ ScheduleFault.OutOfMemory → preamble_in text.now ≡ Err fault) }
         ensures want { IfErr result (λ fault. fault ≡ ScheduleFault.OutOfMemory → IsOk (group_in text.now)) }
         ensures group { IfOk result
-            (λ p. (1 ≤ p.voters) × (p.voters + p.observers ≤ 99) × (1 ≤ p.agents)
-            × (p.agents ≤ 64)) }
+            (λ p. (1 ≤ p.voters) × (p.voters + p.observers ≤ most_nodes) × (1 ≤ p.agents)
+            × (p.agents ≤ most_agents)) }
         ensures rules { IfOk result (λ p. IsSheet p.sheet × IsIssuer p.issuer) }
     {
         let (voters, observers, agents, unread) = group_in(text)?;

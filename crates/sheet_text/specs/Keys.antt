@@ -1,6 +1,7 @@
 -- What stands under the keys of a TOML table, each in the form that it must have.
 use Rattle.std.specs.Prelude.{ℕ, Bool, ◌&&◌, nat_le, List, [], ◌∷◌, length, Option, Some, None, Result, Ok, ok_or, ℤ, pos, int_le, unsigned_abs, find}
 use Rattle.std.specs.Result.{result_ok}
+use Rattle.metering_model.specs.Limits.{first_base_month, last_base_month, most_sheet_rows, most_units}
 use Rattle.toml.specs.Data.{Data, Items, no_items, item, Members, as_str, as_integer, as_array, as_table, get_member}
 pub use Rattle.sheet_text.specs.declared.keys.KeyFault.{KeyFault}
 use Rattle.sheet_text.specs.declared.keys.KeyFault.TheVariants.{Missing, BadValue}
@@ -39,7 +40,7 @@ day_under key table = do
   ok_or (day_in text) (BadValue key)
 
 abbrev pub is_base_month : ℕ → Bool
-is_base_month m = nat_le 24_000 m && nat_le m 25_211
+is_base_month m = nat_le first_base_month m && nat_le m last_base_month
 
 -- the month that a string YYYY-MM names, from 2000-01 to 2100-12
 unfoldable pub base_under : Key → Members → Result ℕ KeyFault
@@ -60,7 +61,7 @@ unfoldable pub per_under : Key → Members → Result ℕ KeyFault
 per_under key table = do
   value ← value_under key table
   number ← ok_or (as_integer value) (BadValue key)
-  _ ← holds_or (int_le (pos 1) number && int_le number (pos 1_000_000_000)) (BadValue key)
+  _ ← holds_or (int_le (pos 1) number && int_le number (pos most_units)) (BadValue key)
   Ok (unsigned_abs number)
 
 abbrev pub service_categories : List ServiceCategory
@@ -96,7 +97,7 @@ unfoldable pub rows_in : Key → Data → Result (List Members) KeyFault
 rows_in key value = do
   items ← ok_or (as_array value) (BadValue key)
   tables ← ok_or (tables_in items) (BadValue key)
-  _ ← holds_or (nat_le (length tables) 10_000) (BadValue key)
+  _ ← holds_or (nat_le (length tables) most_sheet_rows) (BadValue key)
   Ok tables
 
 -- the rows under the key; a key that is not there has none

@@ -2,6 +2,7 @@
 
 ghost use Rattle.std.specs.Prelude.{◌≡◌, ◌≢◌, ◌≤◌, IsTrue, IfOk, IfErr, string_bytes, map, length, ok_or};
 ghost use Rattle.std.specs.List.{list_all};
+ghost use Rattle.metering_model.specs.Limits.{most_sheet_rows, most_units};
 ghost use Rattle.toml.specs.View.{view, table_view, array_view};
 ghost use Rattle.metering_model.specs.Dates.{IsBaseMonth};
 ghost use Rattle.metering_model.specs.SheetRules.{is_printable, is_label};
@@ -134,7 +135,7 @@ pub(crate) fn price_under(table: &Table, key: Key) -> Result<Price, KeyFault>
 #[tactic(auto, unfolding(crate::specs::Keys::per_under))]
 pub(crate) fn per_under(table: &Table, key: Key) -> Result<u32, KeyFault>
     ensures gives { Gives (λ n. n) result (per_under key (table_view table.now)) }
-    ensures range { IfOk result (λ n. (1 ≤ n) × (n ≤ 1_000_000_000)) }
+    ensures range { IfOk result (λ n. (1 ≤ n) × (n ≤ most_units)) }
 {
     let value = value_under(table, key)?;
     let Some(number) = value.as_integer() else {
@@ -221,7 +222,7 @@ fn tables_in<'a>(alloc: Global, key: Key, values: &'a Array) -> Result<Vec<&'a T
 #[tactic(auto, unfolding(crate::specs::Keys::rows_in))]
 fn rows_in<'a>(alloc: Global, key: Key, value: &'a Value) -> Result<Vec<&'a Table>, KeyFault>
     ensures gives { Gives (λ rows. map (λ t. table_view t.now) rows.items) result (rows_in key (view value.now)) }
-    ensures few { IfOk result (λ rows. length rows.items ≤ 10_000) }
+    ensures few { IfOk result (λ rows. length rows.items ≤ most_sheet_rows) }
 {
     let Some(values) = value.as_array() else {
         return Err(KeyFault::BadValue(key));
@@ -239,7 +240,7 @@ fn rows_in<'a>(alloc: Global, key: Key, value: &'a Value) -> Result<Vec<&'a Tabl
 pub fn rows_under<'a>(alloc: Global, table: &'a Table, key: Key) -> Result<Vec<&'a Table>, KeyFault>
     ensures gives { Gives (λ rows. map (λ t. table_view t.now) rows.items) result
         (rows_under key (table_view table.now)) }
-    ensures few { IfOk result (λ rows. length rows.items ≤ 10_000) }
+    ensures few { IfOk result (λ rows. length rows.items ≤ most_sheet_rows) }
 {
     match table.get(key.name()) {
         Some(value) => rows_in(alloc, key, value),

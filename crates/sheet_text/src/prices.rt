@@ -1,6 +1,7 @@
 //! The rows of prices.
 
 ghost use Rattle.std.specs.Prelude.{◌≡◌, ◌≤◌, ◌↔◌, IsTrue, map};
+ghost use Rattle.metering_model.specs.Limits.{most_units};
 ghost use Rattle.toml.specs.View.{table_view};
 ghost use Rattle.metering_model.specs.SheetRules.{IsPriceRow};
 ghost use Rattle.sheet_text.specs.RowReading.{price_row_in};
@@ -35,6 +36,7 @@ pub struct PriceRow {
 
 impl Model for PriceRow {
     ghost use Rattle.std.specs.Prelude.{string_bytes, ◌≤◌};
+    ghost use Rattle.metering_model.specs.Limits.{most_units};
     ghost use Rattle.metering_model.specs.Sheet as model;
 
     ghost Value = { model.PriceRow };
@@ -53,7 +55,7 @@ impl Model for PriceRow {
       contracted = r.contracted;
     } };
 
-    ghost invariant = { λ r. (1 ≤ r.per) × (r.per ≤ 1_000_000_000) };
+    ghost invariant = { λ r. (1 ≤ r.per) × (r.per ≤ most_units) };
 }
 
 impl PriceRow {
@@ -147,7 +149,7 @@ impl PriceRow {
     /// How many metered units make one priced unit, from 1 to 1,000,000,000.
     pub fn per(&self) -> u32
         ensures value { result ≡ self.now.per }
-        ensures range { (1 ≤ result) × (result ≤ 1_000_000_000) }
+        ensures range { (1 ≤ result) × (result ≤ most_units) }
     {
         self.per
     }

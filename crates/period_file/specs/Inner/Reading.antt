@@ -2,6 +2,7 @@
 use Rattle.std.specs.Prelude.{◌≡◌, ℕ, ◌+◌, ◌<◌, ◌≤◌, min, true, List, ◌++◌, length, take, drop, Option, Some, None}
 use Rattle.std.specs.List.{list_all}
 use Rattle.std.specs.Io.KnownBytes.{Appends, Consumes, IsAtEnd}
+use Rattle.metering_model.specs.Limits.{most_transcript_bytes}
 use Rattle.counted_io.specs.Writing.{AppendsPrefix, AppendsSome}
 use Rattle.metering_model.specs.Batch.{lacks}
 use Rattle.metering_model.specs.Transcript.{line}
@@ -58,7 +59,7 @@ IsOfCopying fault.OutOfMemory = Unit {0}
 
 -- where too long an input is told, so much of it was read
 abbrev pub IsBeyond : FileFault → ℕ → Type 0
-IsBeyond told read = told ≡ fault.TooLong → 4_294_967_296 < read
+IsBeyond told read = told ≡ fault.TooLong → most_transcript_bytes < read
 
 -- ---- lines
 
