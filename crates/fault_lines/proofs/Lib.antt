@@ -6,3 +6,4 @@ pub mod FieldLines
 pub mod Latest
 pub mod LatestKept
 pub mod AheadWalks
+pub mod UnknownLaws

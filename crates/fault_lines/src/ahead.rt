@@ -45,11 +45,7 @@ fn later(day: i32, above: Option<i32>) -> i32
 fn day_part(text: &[u8]) -> &[u8]
     ensures { result.now ≡ take 10 text.now }
 {
-    if text.len() < 10 {
-        text
-    } else {
-        &text[..10]
-    }
+    if text.len() < 10 { text } else { &text[..10] }
 }
 
 /// Appends that the reading at an index of a batch starts long after those above it. So many lines stand above the batch.

@@ -77,9 +77,7 @@ impl<'a> Model for UnknownKey<'a> {
 fn is_taken(taken: &[Key], name: &[u8]) -> bool
     ensures { result ≡ is_taken taken.now name.now }
 {
-    taken
-        .iter()
-        .any(|key| is_same(name, key.name().as_bytes()))
+    taken.iter().any(|key| is_same(name, key.name().as_bytes()))
 }
 
 /// Whether it is the key of that table and name.
@@ -113,6 +111,7 @@ fn add_key<'a>(
 }
 
 /// Adds those of the keys of a table.
+#[tactic(auto, unfolding(crate::specs::UnknownKeys::with_table))]
 fn add_table<'a>(
     taken: &[Key],
     table: &'a [u8],
@@ -128,6 +127,7 @@ fn add_table<'a>(
 }
 
 /// Adds those of the keys of some rows.
+#[tactic(auto, unfolding(crate::specs::UnknownKeys::with_rows))]
 fn add_rows<'a>(
     taken: &[Key],
     table: &'a [u8],
@@ -144,6 +144,7 @@ fn add_rows<'a>(
 }
 
 /// Adds those of the keys of the rows under a key.
+#[tactic(auto, unfolding(crate::specs::UnknownKeys::with_rows))]
 fn add_rows_under<'a>(
     alloc: Global,
     key: Key,
@@ -161,6 +162,7 @@ fn add_rows_under<'a>(
 }
 
 /// The keys of a sheet that no reader takes, at the top and then in the rows.
+#[tactic(auto, unfolding(crate::specs::UnknownKeys::unknown_in_sheet))]
 fn unknown_in_sheet<'a>(
     alloc: Global,
     members: &'a Table,
@@ -182,6 +184,7 @@ fn unknown_in_sheet<'a>(
 }
 
 /// The keys of an issuer that no reader takes.
+#[tactic(auto, unfolding(crate::specs::UnknownKeys::unknown_in_issuer))]
 fn unknown_in_issuer<'a>(
     alloc: Global,
     members: &'a Table,
@@ -346,6 +349,13 @@ fn put_those(
     Ok(())
 }
 
+/// Leaves those keys that are not of that table and name.
+fn drop_those(keys: &mut Vec<UnknownKey<'_>>, table: &[u8], name: &[u8])
+    ensures { keys.new.items ≡ filter (λ k. not (is_key table.now name.now k)) keys.old.items }
+{
+    keys.retain(|key| !is_key(table, name, key));
+}
+
 /// Appends each of the keys at the first line that has it, and leaves those that no line has. The section opens on that line.
 fn put_along(
     told: &mut Vec<u8>,
@@ -365,8 +375,14 @@ fn put_along(
         };
         let (here, below) = tables_at(table, line);
         let word = first_word(line);
-        put_those(told, u128::from(opening) + 1 + index as u128, here, word, keys)?;
-        keys.retain(|key| !is_key(here, word, key));
+        put_those(
+            told,
+            u128::from(opening) + 1 + index as u128,
+            here,
+            word,
+            keys,
+        )?;
+        drop_those(keys, here, word);
         table = below;
         rest = behind;
     }
@@ -383,7 +399,7 @@ fn put_keys(
 ) -> Result<(), AllocError>
     ensures { OnOk result (told.new.items ≡ told.old.items ++ told_of_keys opening (lines_in text.now).lines keys.entry.items) }
 {
-    if keys.is_empty() {
+    if keys.as_slice().is_empty() {
         return Ok(());
     }
     let mut left = keys;
@@ -411,6 +427,7 @@ fn document(alloc: Global, text: &str) -> Result<Option<Table>, AllocError>
 }
 
 /// Appends the unknown keys of the text of a sheet, whose section opens on a line.
+#[tactic(auto, unfolding(crate::specs::UnknownKeys::told_of_section))]
 fn put_of_sheet(
     alloc: Global,
     told: &mut Vec<u8>,
@@ -432,6 +449,7 @@ fn put_of_sheet(
 }
 
 /// Appends the unknown keys of the text of an issuer, whose section opens on a line.
+#[tactic(auto, unfolding(crate::specs::UnknownKeys::told_of_section))]
 fn put_of_issuer(
     alloc: Global,
     told: &mut Vec<u8>,
@@ -453,11 +471,8 @@ fn put_of_issuer(
 }
 
 /// Appends the unknown keys of the section of an issuer, where what is left begins with one.
-fn put_from_issuer(
-    alloc: Global,
-    told: &mut Vec<u8>,
-    unread: &Unread<'_>,
-) -> Result<(), AllocError>
+#[tactic(auto, unfolding(crate::specs::UnknownKeys::unknown_from_issuer))]
+fn put_from_issuer(alloc: Global, told: &mut Vec<u8>, unread: &Unread<'_>) -> Result<(), AllocError>
     ensures { OnOk result (told.new.items ≡ told.old.items ++ unknown_from_issuer unread.now) }
 {
     match read_section(unread, ScheduleCode::Issuer, b"issuer ", 100) {
@@ -470,6 +485,7 @@ fn put_from_issuer(
 /// what is left begins with, each where it is there: `line 12: unknown regions`. The line is that of the whole text.
 ///
 /// It is for sections that their readers have taken. The text of each is parsed once more. An error is an allocation failure.
+#[tactic(auto, unfolding(crate::specs::UnknownKeys::unknown_from))]
 pub fn put_unknown_keys(
     alloc: Global,
     told: &mut Vec<u8>,
