@@ -6,6 +6,7 @@ pub mod RefusedLaws
 pub mod EventLines
 pub mod FirstBadRecords
 pub mod FirstBadLines
+pub mod FirstInJournals
 pub mod RatingForms
 pub mod FieldLaws
 pub mod FieldPlaces

@@ -15,7 +15,7 @@ use Rattle.metering_model.specs.Schedule.{Planned, PlansDelivery, PlansExport, P
 use Rattle.metering_model.specs.Sheet as model
 use Rattle.metering_model.specs.Step.{step}
 use Rattle.metering_model.specs.Transcript.{code_text, kept_code_text, line, line_count, refusal_text, with_number}
-use Rattle.metering_model.specs.World.{World, Reply, Refused as IsRefused, opening}
+use Rattle.metering_model.specs.World.{World, Journal, Reply, Journaled, Refused as IsRefused, next_packet, offer_of, opening}
 use Rattle.batch_view.specs.Batches.{batch_of}
 use Rattle.journal_rules.specs.FirstBad.{first_bad}
 use Rattle.price_sheet.specs.SheetReading.{sheet_of_text}
@@ -200,6 +200,20 @@ pub record IsFirstRefused (sheet : model.Sheet) (issuer : model.Issuer) (b : Bat
   pub counted : line ≡ 1 + line_count (batch_text (first_records index b))
   pub taken : journaled_in sheet issuer (batch_text (first_records index b)) ≡ Ok (first_records index b)
   pub refused : journaled_in sheet issuer (batch_text (first_records (index + 1) b)) ≡ Err why
+
+-- What a world replies to a batch of which all is well, by whether it has room for one more packet.
+abbrev pub reply_with_room : Result ℕ Refusal → Reply
+reply_with_room (Ok k) = Journaled k
+reply_with_room (Err why) = IsRefused why
+
+-- In that world the batch is refused for the record on that line, counted in its text: of the records above it alone it is
+-- journaled, unless the world is full, and with that one below them it is refused so.
+pub record IsFirstRefusedIn (w : World) (b : Batch) (why : Refusal) (line : ℕ) : Type 0 where
+  pub index : ℕ
+  pub within : index < length b.records
+  pub counted : line ≡ 1 + line_count (batch_text (first_records index b))
+  pub taken : (step w (Journal (offer_of (batch_text (first_records index b))))).0 ≡ reply_with_room (next_packet w)
+  pub refused : (step w (Journal (offer_of (batch_text (first_records (index + 1) b))))).0 ≡ IsRefused why
 
 -- of a batch behind so many lines
 abbrev pub said_of_journaled : {A : Type 0} → model.Sheet → ℕ → List ℕ → Result A Refusal → List ℕ

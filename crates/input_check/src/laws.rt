@@ -6,6 +6,8 @@ ghost use Rattle.metering_model.specs.Batch.{Batch, IsBatch};
 ghost use Rattle.metering_model.specs.BatchReading.{batch_in};
 ghost use Rattle.metering_model.specs.Schedule.{Schedule};
 ghost use Rattle.metering_model.specs.Sheet.{Issuer, Sheet};
+ghost use Rattle.metering_model.specs.Step.{step};
+ghost use Rattle.metering_model.specs.World.{Journal, Refused, World, offer_of};
 ghost use Rattle.metering_model.specs.declared.BatchFault.{BatchFault};
 ghost use Rattle.metering_model.specs.declared.BrokenRule.{BrokenRule};
 ghost use Rattle.input_sections.specs.RateInput.{RateInput, rate_input_in};
@@ -14,7 +16,7 @@ ghost use Rattle.schedule_reader.specs.Forms.{IsReadOf};
 ghost use Rattle.schedule_reader.specs.Schedules.{ReadSchedule, schedule_in};
 ghost use Rattle.metering_model.specs.RatedAlone.{journaled_in};
 ghost use Rattle.batch_player.specs.RateInput.{rated_file};
-ghost use Rattle.input_check.specs.Checks.{BeginsWhereCounted, IsFirstRefused, SaysWhatIsPlayed, SaysWhatIsRated, bad_index, event_lines, line_within, refused_by, said_of_input};
+ghost use Rattle.input_check.specs.Checks.{BeginsWhereCounted, IsFirstRefused, IsFirstRefusedIn, SaysWhatIsPlayed, SaysWhatIsRated, bad_index, event_lines, line_within, refused_by, said_of_input};
 ghost use Rattle.input_check.specs.Fields.{IsFaultOf, field_of, is_of_field, line_at};
 ghost use Rattle.input_check.specs.RateForms.{IsRateForm, RateForm};
 ghost use Rattle.input_check.specs.declared.fields.RecordField.{RecordField};
@@ -35,6 +37,11 @@ pub fn what_is_said_is_what_is_refused()
         → (b : Batch) × IsBatch text b
         × IsFirstRefused sheet issuer b (refused_by rule)
         (line_within (bad_index sheet [] text) (refused_by rule)) }
+    ensures scheduled { (w : World) (text : List ℕ) (rule : BrokenRule)
+        → (step w (Journal (offer_of text))).0 ≡ Refused (refused_by rule)
+        → (b : Batch) × IsBatch text b
+        × IsFirstRefusedIn w b (refused_by rule)
+        (line_within (bad_index w.sheet w.journals text) (refused_by rule)) }
 {}
 
 /// An input that is to be rated is read as a sheet, an issuer and a batch exactly where it joins the sections of these, each where

@@ -1,5 +1,6 @@
 use Rattle.input_check.proofs.EventLines.{begins_where_counted}
 use Rattle.input_check.proofs.FirstBadLines.{refused_for_first}
+use Rattle.input_check.proofs.FirstInJournals.{refused_for_first_there}
 use Rattle.input_check.proofs.RefusedLaws.{says_what_is_played, says_what_is_rated}
 use Rattle.input_check.proofs.laws.what_is_said_is_what_is_refused.Goals as goal
 
@@ -14,3 +15,6 @@ returns-clause-lines c = begins_where_counted
 
 pub returns-clause-journaled : goal.returns-clause-journaled
 returns-clause-journaled c = refused_for_first
+
+pub returns-clause-scheduled : goal.returns-clause-scheduled
+returns-clause-scheduled c = refused_for_first_there
