@@ -1,5 +1,5 @@
 -- What is said of an input is nothing, or has a line feed at least.
-use Rattle.std.proofs.Common.{◌≡◌, ◌⊎◌, ℕ, zero, suc, ◌+◌, ◌-◌, ◌≤◌, ◌==◌, Bool, true, false, cond, List, [], ◌∷◌, ◌++◌, length, take, Result, Ok, Err, codes, refl, sym, subst, inl, inr, arith}
+use Rattle.std.proofs.Common.{◌≡◌, ◌⊎◌, ℕ, zero, suc, ◌+◌, ◌-◌, ◌≤◌, ◌==◌, Bool, true, false, cond, List, [], ◌∷◌, ◌++◌, length, take, Option, Result, Ok, Err, codes, refl, sym, ap, ◌∙◌, subst, inl, inr, arith}
 use Rattle.std.proofs.lemmas.List.Sums.{sum_by-append}
 use Rattle.metering_model.specs.Batch.{Batch, is_empty}
 use Rattle.metering_model.specs.Schedule.{Planned, PlansDelivery, PlansExport, PlansJournal, PlansKeep, PlansRestart, PlansRevival, PlansStart, event_of, lines_text}
@@ -15,7 +15,11 @@ use Rattle.input_sections.specs.Sections.{Unread, begins_with, left}
 use Rattle.schedule_reader.specs.Schedules.{Preamble, event_in, events_in, preamble_in}
 use Rattle.metering_model.specs.RatedAlone.{journaled_in}
 use Rattle.answer_words.specs.Words.{section_code_text}
-use Rattle.input_check.specs.Checks.{bad_index, line_of_kept, line_within, more_words, reason, said_behind, said_below, said_of_batch, said_of_events, said_of_fault, said_of_input, said_of_journaled, said_of_rating, said_of_refused, said_of_reply, said_of_schedule, told_at, words_of}
+use Rattle.std.specs.Io.KnownBytes.{Appends}
+use Rattle.input_check.specs.declared.kinds.InputKind.{InputKind}
+use Rattle.input_check.specs.declared.kinds.InputKind.TheVariants as kind
+use Rattle.input_check.specs.Inputs.{IsSaidAs}
+use Rattle.input_check.specs.Checks.{bad_index, line_of_kept, line_within, more_words, reason, said_behind, said_below, said_of_batch, said_of_events, said_of_fault, said_of_input_as, said_of_journaled, said_of_rating, said_of_refused, said_of_reply, said_of_schedule, told_at, words_of}
 
 abbrev IsNoneOrLines : List ℕ → Type 0
 IsNoneOrLines t = (t ≡ []) ⊎ (1 ≤ line_count t)
@@ -104,18 +108,19 @@ of_rating text = by_input (rate_input_in text)
     by_input (Ok given) = of_batch given.sheet given.issuer (line_count (take (length text - length given.batch) text)) given.batch
     by_input (Err fault) = of_fault text fault
 
-of_input : (text : List ℕ) → IsNoneOrLines (said_of_input text)
-unfolding said_of_input
-of_input text = by_word (begins_with (codes "SCHEDULE") text)
-  where
-    by_word : (b : Bool) → IsNoneOrLines (cond b (said_of_schedule text) (said_of_rating text))
-    by_word true = of_schedule text
-    by_word false = of_rating text
+of_input : (k : InputKind) (text : List ℕ) → IsNoneOrLines (said_of_input_as k text)
+of_input kind.Play text = of_schedule text
+of_input kind.Rate text = of_rating text
 
 none_of : (t : List ℕ) → IsNoneOrLines t → line_count t ≡ 0 → t ≡ []
 none_of t (inl none) no_line = none
 none_of t (inr some) no_line = absurd (omega (arith, some, no_line))
 
--- where no line is said, nothing is
-pub nothing_said : (text : List ℕ) → line_count (said_of_input text) ≡ 0 → said_of_input text ≡ []
-nothing_said text no_line = none_of (said_of_input text) (of_input text) no_line
+-- Where no line is said nothing is, and just the warnings are written.
+module _ (k : InputKind) (known : Option (List ℕ)) (input said warned : List ℕ) (is : IsSaidAs k known input said warned) (no_line : line_count said ≡ 0) where
+  nothing_said : said ≡ []
+  nothing_said = is.is_said ∙ none_of (said_of_input_as k input) (of_input k input) (ap line_count (sym is.is_said) ∙ no_line)
+
+  pub just_warned : (old new : Option (List ℕ)) → Appends old new (said ++ warned) → IsSaidAs k known input [] warned × Appends old new warned
+  just_warned old new wrote =
+      (subst (λ (t : List ℕ). IsSaidAs k known input t warned) nothing_said is, subst (λ (t : List ℕ). Appends old new (t ++ warned)) nothing_said wrote)

@@ -17,13 +17,12 @@ use Rattle.schedule_reader.specs.Schedules.{Preamble, event_in, events_in, pream
 use Rattle.schedule_reader.proofs.PreambleLaws.{behind, by_preamble}
 use Rattle.metering_model.specs.RatedAlone.{journaled_in, rows_alone}
 use Rattle.batch_player.specs.RateInput.{or_refused, or_schedule, rated_file}
-use Rattle.input_check.specs.Checks.{SaysWhatIsPlayed, SaysWhatIsRated, bad_index, event_lines, lines_of_events, said_below, said_behind, said_of_batch, said_of_events, said_of_fault, said_of_input, said_of_journaled, said_of_rating, said_of_refusal, said_of_replies, said_of_reply, said_of_schedule, told_of_text}
+use Rattle.input_check.specs.Checks.{SaysWhatIsPlayed, SaysWhatIsRated, bad_index, event_lines, lines_of_events, said_below, said_behind, said_of_batch, said_of_events, said_of_fault, said_of_journaled, said_of_rating, said_of_refusal, said_of_replies, said_of_reply, said_of_schedule, told_of_text}
 use Rattle.input_check.proofs.NeverWants.{NeverWants, a_preamble, a_rating, some_events}
-use Rattle.input_check.proofs.SaidLaws.{said_as_rating, said_as_schedule}
 
 -- ---- what is to be rated
 
-rated : (period : ℕ) (text : List ℕ) → SaysWhatIsRated text (rated_file period text) (said_of_rating text)
+pub rated : (period : ℕ) (text : List ℕ) → SaysWhatIsRated text (rated_file period text) (said_of_rating text)
 unfolding rated_file said_of_rating said_of_batch said_of_refusal
 rated period text = by_input (rate_input_in text) refl
   where
@@ -47,9 +46,6 @@ rated period text = by_input (rate_input_in text) refl
     by_input (Ok given) is = by_batch given is (journaled_in given.sheet given.issuer given.batch)
     by_input (Err (section.Refused code n)) is = refl
     by_input (Err section.OutOfMemory) is = absurd (subst NeverWants is (a_rating text))
-
-pub says_what_is_rated : (period : ℕ) (text : List ℕ) → begins_with (codes "SCHEDULE") text ≡ false → SaysWhatIsRated text (rated_file period text) (said_of_input text)
-says_what_is_rated period text is = subst (SaysWhatIsRated text (rated_file period text)) (sym (said_as_rating text is)) (rated period text)
 
 -- ---- what is to be played
 
@@ -80,7 +76,7 @@ all_said (suc most) w u es h = by_test (λ v x xs is. all_said most v x xs is) (
         } in
         subst (λ xs. IsSaidOfAll w xs (u.line ∷ lines_of_events most e.1) said) (ok_same _ _ rest.2) all
 
-played : (text : List ℕ) → SaysWhatIsPlayed text (schedule_in text) (said_of_schedule text)
+pub played : (text : List ℕ) → SaysWhatIsPlayed text (schedule_in text) (said_of_schedule text)
 unfolding said_of_schedule event_lines
 played text = subst (λ r. SaysWhatIsPlayed text r (said_below text (preamble_in text))) (sym (by_preamble text)) (below (preamble_in text) refl)
   where
@@ -97,6 +93,3 @@ played text = subst (λ r. SaysWhatIsPlayed text r (said_below text (preamble_in
     below (Ok p) above = by_events p above (events_in (length text) p.rest) refl
     below (Err (section.Refused code n)) above = refl
     below (Err section.OutOfMemory) above = absurd (subst NeverWants above (a_preamble text))
-
-pub says_what_is_played : (text : List ℕ) → begins_with (codes "SCHEDULE") text ≡ true → SaysWhatIsPlayed text (schedule_in text) (said_of_input text)
-says_what_is_played text is = subst (SaysWhatIsPlayed text (schedule_in text)) (sym (said_as_schedule text is)) (played text)

@@ -25,8 +25,14 @@ use Rattle.input_sections.specs.RateInput.{rate_input_in}
 use Rattle.schedule_reader.specs.Schedules.{Preamble, event_in, events_in, group_in, preamble_in}
 use Rattle.schedule_reader.proofs.EventLoop.{nonempty, empty}
 use Rattle.metering_model.specs.RatedAlone.{journaled_in}
+use Rattle.input_check.specs.declared.kinds.InputKind.{InputKind}
+use Rattle.input_check.specs.declared.kinds.InputKind.TheVariants as kind
+use Rattle.input_check.specs.Inputs.{IsSaidAs}
+use Rattle.input_check.specs.Warnings.{warned_of_input_as}
+use Rattle.std.specs.Io.KnownBytes.{Appends}
+use Rattle.counted_io.specs.Writing.{AppendsPrefix}
 use Rattle.input_check.specs.Inner.Faults.{fault_of}
-use Rattle.input_check.specs.Checks.{IsSaidOf, bad_index, from_line, said_behind, said_below, said_by, said_of_batch, said_of_events, said_of_fault, said_of_input, said_of_journaled, said_of_rating, said_of_reply, said_of_schedule, said_of_text, section_on, text_of, told_of_text}
+use Rattle.input_check.specs.Checks.{bad_index, from_line, said_behind, said_below, said_by, said_of_batch, said_of_events, said_of_fault, said_of_input_as, said_of_journaled, said_of_rating, said_of_reply, said_of_schedule, said_of_text, section_on, text_of, told_of_text}
 
 step_err : {A B E : Type 0} (r : Result A E) (f : A → Result B E) (e : E) → r ≡ Err e → (r >>= f) ≡ Err e
 step_err r f e is = ap (λ s. s >>= f) is
@@ -187,21 +193,16 @@ rated_badly text fault is =
 
 -- ---- any input
 
-pub said_as_schedule : (text : List ℕ) → begins_with (codes "SCHEDULE") text ≡ true → said_of_input text ≡ said_of_schedule text
-unfolding said_of_input
-said_as_schedule text is = ap (λ b. cond b (said_of_schedule text) (said_of_rating text)) is
-
-pub said_as_rating : (text : List ℕ) → begins_with (codes "SCHEDULE") text ≡ false → said_of_input text ≡ said_of_rating text
-unfolding said_of_input
-said_as_rating text is = ap (λ b. cond b (said_of_schedule text) (said_of_rating text)) is
-
 too_long : (text : List ℕ) → 16_777_216 < length text → whole_of text ≡ Err (section.Refused codes_of.TooLong 1)
 too_long text long = ap (λ b. holds_or b (section.Refused codes_of.TooLong 1) >>= λ _. let u : Unread = record { text = text; from = 0; line = 1 } in Ok u) (too_few (length text) 16_777_216 long)
 
+warned_of_long : (k : InputKind) (text : List ℕ) → 16_777_216 < length text → warned_of_input_as k text ≡ []
+warned_of_long k text long = refl
+
 -- of an input that is too long nothing else is said
-pub said_of_long : (text : List ℕ) → 16_777_216 < length text → said_of_input text ≡ codes "line 1: L8" ++ 10 ∷ []
-unfolding said_of_input said_of_schedule said_of_rating preamble_in group_in rate_input_in digits
-said_of_long text long = by_word (begins_with (codes "SCHEDULE") text)
+pub said_of_long : (k : InputKind) (text : List ℕ) → 16_777_216 < length text → said_of_input_as k text ≡ codes "line 1: L8" ++ 10 ∷ []
+unfolding said_of_schedule said_of_rating preamble_in group_in rate_input_in digits
+said_of_long k text long = by_kind k
   where
     preamble_too_long : whole_of text ≡ Err (section.Refused codes_of.TooLong 1) → preamble_in text ≡ Err (section.Refused codes_of.TooLong 1)
     preamble_too_long is = step_err _ _ _ (step_err (whole_of text) _ _ is)
@@ -209,9 +210,9 @@ said_of_long text long = by_word (begins_with (codes "SCHEDULE") text)
     rating_too_long : whole_of text ≡ Err (section.Refused codes_of.TooLong 1) → said_of_rating text ≡ codes "line 1: L8" ++ 10 ∷ []
     rating_too_long is = rated_badly text (section.Refused codes_of.TooLong 1) (step_err (whole_of text) _ _ is)
 
-    by_word : (b : Bool) → cond b (said_of_schedule text) (said_of_rating text) ≡ codes "line 1: L8" ++ 10 ∷ []
-    by_word true = ap (said_below text) (preamble_too_long (too_long text long))
-    by_word false = rating_too_long (too_long text long)
+    by_kind : (k : InputKind) → said_of_input_as k text ≡ codes "line 1: L8" ++ 10 ∷ []
+    by_kind kind.Play = ap (said_below text) (preamble_too_long (too_long text long))
+    by_kind kind.Rate = rating_too_long (too_long text long)
 
 unfoldable zeros : ℕ → List ℕ
 zeros zero = []
@@ -222,13 +223,33 @@ unfolding zeros
 length-zeros zero = refl
 length-zeros (suc n) = ap suc (length-zeros n)
 
--- whatever was read, where it is known at all
-pub said_where_long : (known : Option (List ℕ)) → IfSome known (λ input. 16_777_216 < length input)
-    → (input : List ℕ) × IsSaidOf known input (codes "line 1: L8" ++ 10 ∷ [])
-said_where_long (Some input) long = (input, record { is_input = refl; is_said = sym (said_of_long input long) })
-said_where_long None long =
-    let input = zeros 16_777_217 in
-    (input, record { is_input = tt; is_said = sym (said_of_long input (omega (arith, length-zeros 16_777_217))) })
+-- Whatever was read, where it is known at all, and as whichever kind it is taken: that is said of it, and nothing is warned of.
+module _ (of_kind : List ℕ → InputKind) where
+  abbrev IsSaid : Option (List ℕ) → List ℕ → List ℕ → List ℕ → Type 0
+  IsSaid known input said warned = IsSaidAs (of_kind input) known input said warned
+
+  pub said_where_long : (known : Option (List ℕ)) → IfSome known (λ input. 16_777_216 < length input)
+      → (input : List ℕ) × IsSaid known input (codes "line 1: L8" ++ 10 ∷ []) []
+  said_where_long (Some input) long = (input, record { is_input = refl; is_said = sym (said_of_long (of_kind input) input long); is_warned = sym (warned_of_long (of_kind input) input long) })
+  said_where_long None long =
+      let input = zeros 16_777_217 in
+      let many : 16_777_216 < length input = omega (arith, length-zeros 16_777_217) in
+      (input, record { is_input = tt; is_said = sym (said_of_long (of_kind input) input many); is_warned = sym (warned_of_long (of_kind input) input many) })
+
+  -- what was written of it, whose lines are counted
+  pub written_where_long : (known old new : Option (List ℕ)) (count answer : ℕ) → IfSome known (λ input. 16_777_216 < length input)
+      → count ≡ 1 → Appends old new (codes "line 1: L8" ++ 10 ∷ []) × (answer ≡ count)
+      → (input said warned : List ℕ) × IsSaid known input said warned × Appends old new (said ++ warned) × (answer ≡ line_count said)
+  written_where_long known old new count answer long one done =
+      let is = said_where_long known long in
+      (is.0, _, _, is.1, subst (Appends old new) (sym (append-nil (codes "line 1: L8" ++ 10 ∷ []))) done.0, done.1 ∙ one)
+
+  pub written_in_part_where_long : (known old new : Option (List ℕ)) → IfSome known (λ input. 16_777_216 < length input)
+      → AppendsPrefix old new (codes "line 1: L8" ++ 10 ∷ [])
+      → (input said warned : List ℕ) × IsSaid known input said warned × AppendsPrefix old new (said ++ warned)
+  written_in_part_where_long known old new long part =
+      let is = said_where_long known long in
+      (is.0, _, _, is.1, subst (AppendsPrefix old new) (sym (append-nil (codes "line 1: L8" ++ 10 ∷ []))) part)
 
 -- ---- what holds of a call that ends well
 

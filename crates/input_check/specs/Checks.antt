@@ -32,6 +32,8 @@ use Rattle.schedule_player.specs.declared.PlayFault.{PlayFault}
 use Rattle.schedule_player.specs.declared.PlayFault.TheVariants as play
 use Rattle.metering_model.specs.RatedAlone.{journaled_in}
 use Rattle.answer_words.specs.Words.{issuer_fault_text, section_code_text, sheet_fault_text}
+use Rattle.input_check.specs.declared.kinds.InputKind.{InputKind}
+use Rattle.input_check.specs.declared.kinds.InputKind.TheVariants as kind
 use Rattle.input_check.specs.Fields.{field_name, field_of}
 use Rattle.input_check.specs.declared.fields.RecordField.{RecordField}
 
@@ -282,11 +284,7 @@ SaysWhatIsPlayed text (Err section.OutOfMemory) said = ⊥
 
 -- ---- any input
 
--- what `play` would read where it begins with this word, else what `rate` would read
-unfoldable pub said_of_input : List ℕ → List ℕ
-said_of_input text = if begins_with (codes "SCHEDULE") text then said_of_schedule text else said_of_rating text
-
--- The text is what is said of an input, which is all that a reader gives where its bytes are known.
-pub record IsSaidOf (known : Option (List ℕ)) (input text : List ℕ) : Type 0 where
-  pub is_input : IfSome known (λ bytes. input ≡ bytes)
-  pub is_said : text ≡ said_of_input input
+-- what `play` would read, or what `rate` would
+abbrev pub said_of_input_as : InputKind → List ℕ → List ℕ
+said_of_input_as kind.Play text = said_of_schedule text
+said_of_input_as kind.Rate text = said_of_rating text

@@ -1,5 +1,7 @@
 pub mod Fields
 pub mod Checks
+pub mod Warnings
+pub mod Inputs
 pub mod RateForms
 pub mod Inner
 pub mod Charges

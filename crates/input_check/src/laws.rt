@@ -1,7 +1,7 @@
 //! What is said beside what `rate` and `play` refuse, and of which parts what is rated is joined. Each law is a function with an
 //! empty body.
 
-ghost use Rattle.std.specs.Prelude.{◌≡◌, ℕ, List, [], Some, Ok, Err, true, false, codes};
+ghost use Rattle.std.specs.Prelude.{◌≡◌, ℕ, List, [], Some, Ok, Err, true};
 ghost use Rattle.metering_model.specs.Batch.{Batch, IsBatch};
 ghost use Rattle.metering_model.specs.BatchReading.{batch_in};
 ghost use Rattle.metering_model.specs.Schedule.{Schedule};
@@ -11,25 +11,25 @@ ghost use Rattle.metering_model.specs.World.{Journal, Refused, World, offer_of};
 ghost use Rattle.metering_model.specs.declared.BatchFault.{BatchFault};
 ghost use Rattle.metering_model.specs.declared.BrokenRule.{BrokenRule};
 ghost use Rattle.input_sections.specs.RateInput.{RateInput, rate_input_in};
-ghost use Rattle.input_sections.specs.Sections.{begins_with};
 ghost use Rattle.schedule_reader.specs.Forms.{IsReadOf};
 ghost use Rattle.schedule_reader.specs.Schedules.{ReadSchedule, schedule_in};
 ghost use Rattle.metering_model.specs.RatedAlone.{journaled_in};
 ghost use Rattle.batch_player.specs.RateInput.{rated_file};
-ghost use Rattle.input_check.specs.Checks.{BeginsWhereCounted, IsFirstRefused, IsFirstRefusedIn, SaysWhatIsPlayed, SaysWhatIsRated, bad_index, event_lines, line_within, refused_by, said_of_input};
+ghost use Rattle.input_check.specs.Checks.{BeginsWhereCounted, IsFirstRefused, IsFirstRefusedIn, SaysWhatIsPlayed, SaysWhatIsRated, bad_index, event_lines, line_within, refused_by, said_of_input_as};
+ghost use Rattle.input_check.specs.declared.kinds.InputKind.{InputKind};
 ghost use Rattle.input_check.specs.Fields.{IsFaultOf, field_of, is_of_field, line_at};
 ghost use Rattle.input_check.specs.RateForms.{IsRateForm, RateForm};
 ghost use Rattle.input_check.specs.declared.fields.RecordField.{RecordField};
 
-/// Of what is to be rated, in whichever period, nothing is said where `rate` gives a file, and else just why it refuses, with its
-/// line. Of what is to be played the first fault of the schedule is said, or just which events are answered as refused, each by
+/// Of what is checked as to be rated, in whichever period, nothing is said where `rate` gives a file, and else just why it refuses,
+/// with its line. Of what is checked as to be played the first fault of the schedule is said, or just which events are answered as refused, each by
 /// the line on which it begins: one more than the line feeds of the text above it. A batch that breaks a rule of the journals is
 /// told at the line of the first record with which it is refused.
 pub fn what_is_said_is_what_is_refused()
-    ensures rated { (period : ℕ) (text : List ℕ) → begins_with (codes "SCHEDULE") text ≡ false
-        → SaysWhatIsRated text (rated_file period text) (said_of_input text) }
-    ensures played { (text : List ℕ) → begins_with (codes "SCHEDULE") text ≡ true
-        → SaysWhatIsPlayed text (schedule_in text) (said_of_input text) }
+    ensures rated { (period : ℕ) (text : List ℕ)
+        → SaysWhatIsRated text (rated_file period text) (said_of_input_as InputKind.Rate text) }
+    ensures played { (text : List ℕ)
+        → SaysWhatIsPlayed text (schedule_in text) (said_of_input_as InputKind.Play text) }
     ensures lines { (text : List ℕ) (read : ReadSchedule) (schedule : Schedule) → IsReadOf text read schedule
         → BeginsWhereCounted schedule (event_lines text) }
     ensures journaled { (sheet : Sheet) (issuer : Issuer) (text : List ℕ) (rule : BrokenRule)

@@ -6,10 +6,12 @@ mod batches;
 mod checks;
 mod events;
 mod fields;
+mod kinds;
 pub mod laws;
 mod sections;
 
 pub use batch_player::rate_text;
-pub use checks::check_text;
+pub use checks::{check_text, check_text_as};
 pub use fields::RecordField;
+pub use kinds::InputKind;
 pub use schedule_player::play_text;
