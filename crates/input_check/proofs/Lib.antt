@@ -7,6 +7,7 @@ pub mod EventLines
 pub mod FirstBadRecords
 pub mod FirstBadLines
 pub mod FirstInJournals
+pub mod ReasonLaws
 pub mod RatingForms
 pub mod FieldLaws
 pub mod FieldPlaces

@@ -282,6 +282,14 @@ SaysWhatIsPlayed text (Ok s) said =
 SaysWhatIsPlayed text (Err (section.Refused code n)) said = said ≡ told_at n (section_code_text code ++ reason text code n)
 SaysWhatIsPlayed text (Err section.OutOfMemory) said = ⊥
 
+-- Of a section below any lines, whatever stands behind it, just what its reader says of the text of its lines is told behind its
+-- code: why that text is none such, or nothing.
+abbrev pub IsSaidOfSection : {A E : Type 0} → ScheduleCode → List ℕ → ℕ → (E → List ℕ) → (List ℕ → Result A E) → Type 0
+IsSaidOfSection code word most words reader =
+    (above ls : TextLines) (rest : List ℕ) → list_all (lacks 10) above ≡ true → AreLines most ls
+    → length (lines_text above ++ (section_text word ls ++ rest)) ≤ most_input_bytes
+    → reason (lines_text above ++ (section_text word ls ++ rest)) code (1 + length above) ≡ said_of_text words reader (lines_text ls)
+
 -- ---- any input
 
 -- what `play` would read, or what `rate` would

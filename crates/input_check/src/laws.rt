@@ -44,6 +44,13 @@ pub fn what_is_said_is_what_is_refused()
         (line_within (bad_index w.sheet w.journals text) (refused_by rule)) }
 {}
 
+/// What is told behind the code of a section, wherever it stands, is what the reader of its sheet or of its issuer says of the text of
+/// its lines.
+pub fn each_reason_is_of_its_section()
+    ensures sheet { IsSaidOfSection ScheduleCode.Sheet (codes "sheet ") most_sheet_lines sheet_fault_text sheet_of_text }
+    ensures issuer { IsSaidOfSection ScheduleCode.Issuer (codes "issuer ") most_issuer_lines issuer_fault_text issuer_of_text }
+{}
+
 /// An input that is to be rated is read as a sheet, an issuer and a batch exactly where it joins the sections of these, each where
 /// it is there, and the batch behind them.
 pub fn each_rating_is_read()
