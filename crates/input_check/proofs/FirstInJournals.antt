@@ -17,7 +17,8 @@ use Rattle.metering_model.specs.declared.BrokenRule.TheVariants as rules
 use Rattle.metering_model.specs.declared.Refusal.{Refusal}
 use Rattle.metering_model.specs.declared.Refusal.TheVariants as refusal
 use Rattle.metering_model.proofs.BatchLaws.{batch_read, batch_written}
-use Rattle.input_check.specs.Checks.{IsFirstRefusedIn, bad_index, first_records, line_of, line_within, refused_by, reply_with_room}
+use Rattle.fault_lines.specs.Told.{bad_index, line_of, line_within}
+use Rattle.input_check.specs.Checks.{IsFirstRefusedIn, first_records, refused_by, reply_with_room}
 use Rattle.input_check.proofs.EventWords.{outcome}
 use Rattle.input_check.proofs.FirstBadLines.{batch_counts, line_is}
 use Rattle.input_check.proofs.FirstBadRecords.{fewer_are_batch, first_of_batch}

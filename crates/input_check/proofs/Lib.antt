@@ -9,9 +9,6 @@ pub mod FirstBadLines
 pub mod FirstInJournals
 pub mod ReasonLaws
 pub mod RatingForms
-pub mod FieldLaws
-pub mod FieldPlaces
-pub mod FieldLines
 pub mod EventWords
 mod WorkedChecks
 mod WorkedCredits

@@ -17,9 +17,10 @@ use Rattle.metering_model.specs.RatedAlone.{journaled_in}
 use Rattle.answer_words.specs.Words.{section_code_text}
 use Rattle.std.specs.Io.KnownBytes.{Appends}
 use Rattle.input_check.specs.declared.kinds.InputKind.{InputKind}
-use Rattle.input_check.specs.declared.kinds.InputKind.TheVariants as kind
 use Rattle.input_check.specs.Inputs.{IsSaidAs}
-use Rattle.input_check.specs.Checks.{bad_index, line_of_kept, line_within, more_words, reason, said_behind, said_below, said_of_batch, said_of_events, said_of_fault, said_of_input_as, said_of_journaled, said_of_rating, said_of_refused, said_of_reply, said_of_schedule, told_at, words_of}
+use Rattle.input_check.specs.Checks.{line_of_kept, said_behind, said_below, said_of_batch, said_of_events, said_of_input_as, said_of_journaled, said_of_rating, said_of_refused, said_of_reply, said_of_schedule}
+use Rattle.fault_lines.specs.Told.{bad_index, line_within, more_words, reason, said_of_fault, told_at, words_of}
+use Rattle.input_check.specs.declared.kinds.InputKind.TheVariants as kind
 
 abbrev IsNoneOrLines : List ℕ → Type 0
 IsNoneOrLines t = (t ≡ []) ⊎ (1 ≤ line_count t)

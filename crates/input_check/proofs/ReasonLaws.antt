@@ -13,8 +13,9 @@ use Rattle.input_sections.specs.declared.faults.ScheduleFault.TheVariants as sec
 use Rattle.input_sections.specs.Sections.{Unread, whole_of}
 use Rattle.schedule_reader.proofs.WrittenLines.{lines_written, section_written}
 use Rattle.answer_words.specs.Words.{issuer_fault_text, sheet_fault_text}
-use Rattle.input_check.specs.Checks.{IsSaidOfSection, said_of, section_on}
-use Rattle.input_check.proofs.SaidLaws.{line_there, section_there}
+use Rattle.fault_lines.specs.Told.{said_of, section_on}
+use Rattle.fault_lines.proofs.SectionLaws.{line_there, section_there}
+use Rattle.input_check.specs.Checks.{IsSaidOfSection}
 
 module _ (c : ScheduleCode) (word : List ℕ) (most : ℕ) (small : most < 10 ^ 64) (whole : lacks 10 word ≡ true) where
   -- the section below so many lines is the one that stands there

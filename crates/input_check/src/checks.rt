@@ -13,9 +13,9 @@ ghost use Rattle.input_check.specs.Checks.{said_of_input_as};
 ghost use Rattle.input_check.specs.Inputs.{IsSaidAs, IsSaidOf, written_of_input_as};
 ghost use Rattle.input_check.specs.Warnings.{warned_of_input_as};
 
-use crate::batches::check_rating;
 use crate::events::check_schedule;
 use crate::kinds::{InputKind, kind_of};
+use crate::ratings::check_rating;
 use byte_text::line_count;
 use counted_io::{Sink, Source, write_all};
 use schedule_player::{PlayFault, read_input};

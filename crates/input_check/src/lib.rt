@@ -2,16 +2,13 @@
 //! a schedule are.
 #![tactic(auto)]
 
-mod batches;
 mod checks;
 mod events;
-mod fields;
 mod kinds;
 pub mod laws;
-mod sections;
+mod ratings;
 
 pub use batch_player::rate_text;
 pub use checks::{check_text, check_text_as};
-pub use fields::RecordField;
 pub use kinds::InputKind;
 pub use schedule_player::play_text;
