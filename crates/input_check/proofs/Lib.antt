@@ -8,6 +8,7 @@ pub mod FirstBadRecords
 pub mod FirstBadLines
 pub mod FirstInJournals
 pub mod ReasonLaws
+pub mod WarningLaws
 pub mod RatingForms
 pub mod EventWords
 mod WorkedChecks

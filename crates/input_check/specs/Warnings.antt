@@ -1,8 +1,8 @@
 -- What is warned of in an input: keys that no reader takes, and readings far ahead of all above them. Nothing is refused for it.
-use Rattle.std.specs.Prelude.{ℕ, ◌+◌, List, [], ◌∷◌, ◌++◌, length, take, Option, Some, None, Result, Ok, Err}
+use Rattle.std.specs.Prelude.{◌≡◌, slice_get, ℕ, ◌+◌, List, [], ◌∷◌, ◌++◌, length, take, Option, Some, None, Result, Ok, Err}
 use Rattle.metering_model.specs.Batch.{Batch}
 use Rattle.metering_model.specs.RatedAlone.{journaled_in}
-use Rattle.metering_model.specs.Schedule.{Planned, PlansJournal, lines_text}
+use Rattle.metering_model.specs.Schedule.{Planned, PlansJournal, TextLines, lines_text}
 use Rattle.metering_model.specs.Transcript.{line_count}
 use Rattle.metering_model.specs.World.{Reply, Journaled}
 use Rattle.metering_model.specs.declared.Refusal.{Refusal}
@@ -26,6 +26,13 @@ journaled_among [] events replies = []
 journaled_among (n ∷ ns) [] replies = []
 journaled_among (n ∷ ns) (e ∷ es) [] = []
 journaled_among (n ∷ ns) (e ∷ es) (r ∷ rs) = if_journaled n e r ++ journaled_among ns es rs
+
+-- A batch counts exactly where the reply to its event says that it was journaled, behind as many lines as that event begins on.
+pub record CountsWhatIsJournaled (lines : List ℕ) (events : List Planned) (replies : List Reply) : Type 0 where
+  pub each : (i n : ℕ) (text : List ℕ) → slice_get (journaled_among lines events replies) i ≡ Some (n, text) → (k packet : ℕ) × (ls : TextLines)
+      × (slice_get lines k ≡ Some n) × (slice_get events k ≡ Some (PlansJournal ls)) × (slice_get replies k ≡ Some (Journaled packet)) × (text ≡ lines_text ls)
+  pub all : (k n packet : ℕ) (ls : TextLines) → slice_get lines k ≡ Some n → slice_get events k ≡ Some (PlansJournal ls) → slice_get replies k ≡ Some (Journaled packet)
+      → (i : ℕ) × (slice_get (journaled_among lines events replies) i ≡ Some (n, lines_text ls))
 
 -- of a schedule
 abbrev pub journaled_in_schedule : List ℕ → ReadSchedule → List (ℕ × List ℕ)
