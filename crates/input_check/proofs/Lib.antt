@@ -9,6 +9,9 @@ pub mod FirstBadLines
 pub mod FirstInJournals
 pub mod ReasonLaws
 pub mod WarningLaws
+pub mod CountedBatches
+pub mod WarnedLaws
+pub mod WrittenLaws
 pub mod RatingForms
 pub mod EventWords
 mod WorkedChecks

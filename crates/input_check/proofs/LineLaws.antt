@@ -22,7 +22,7 @@ use Rattle.input_check.specs.Checks.{line_of_kept, said_behind, said_below, said
 use Rattle.fault_lines.specs.Told.{bad_index, line_within, more_words, reason, said_of_fault, told_at, words_of}
 use Rattle.input_check.specs.declared.kinds.InputKind.TheVariants as kind
 
-abbrev IsNoneOrLines : List ℕ → Type 0
+abbrev pub IsNoneOrLines : List ℕ → Type 0
 IsNoneOrLines t = (t ≡ []) ⊎ (1 ≤ line_count t)
 
 behind : (a b : List ℕ) → 1 ≤ line_count b → 1 ≤ line_count (a ++ b)
@@ -109,19 +109,6 @@ of_rating text = by_input (rate_input_in text)
     by_input (Ok given) = of_batch given.sheet given.issuer (line_count (take (length text - length given.batch) text)) given.batch
     by_input (Err fault) = of_fault text fault
 
-of_input : (k : InputKind) (text : List ℕ) → IsNoneOrLines (said_of_input_as k text)
+pub of_input : (k : InputKind) (text : List ℕ) → IsNoneOrLines (said_of_input_as k text)
 of_input kind.Play text = of_schedule text
 of_input kind.Rate text = of_rating text
-
-none_of : (t : List ℕ) → IsNoneOrLines t → line_count t ≡ 0 → t ≡ []
-none_of t (inl none) no_line = none
-none_of t (inr some) no_line = absurd (omega (arith, some, no_line))
-
--- Where no line is said nothing is, and just the warnings are written.
-module _ (k : InputKind) (known : Option (List ℕ)) (input said warned : List ℕ) (is : IsSaidAs k known input said warned) (no_line : line_count said ≡ 0) where
-  nothing_said : said ≡ []
-  nothing_said = is.is_said ∙ none_of (said_of_input_as k input) (of_input k input) (ap line_count (sym is.is_said) ∙ no_line)
-
-  pub just_warned : (old new : Option (List ℕ)) → Appends old new (said ++ warned) → IsSaidAs k known input [] warned × Appends old new warned
-  just_warned old new wrote =
-      (subst (λ (t : List ℕ). IsSaidAs k known input t warned) nothing_said is, subst (λ (t : List ℕ). Appends old new (t ++ warned)) nothing_said wrote)

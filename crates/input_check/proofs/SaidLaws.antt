@@ -31,7 +31,7 @@ use Rattle.input_check.specs.Inner.Faults.{fault_of}
 use Rattle.input_check.specs.Checks.{said_behind, said_below, said_of_batch, said_of_events, said_of_input_as, said_of_journaled, said_of_rating, said_of_reply, said_of_schedule}
 use Rattle.fault_lines.specs.Told.{bad_index, said_of_fault, told_of_text}
 
-step_err : {A B E : Type 0} (r : Result A E) (f : A → Result B E) (e : E) → r ≡ Err e → (r >>= f) ≡ Err e
+pub step_err : {A B E : Type 0} (r : Result A E) (f : A → Result B E) (e : E) → r ≡ Err e → (r >>= f) ≡ Err e
 step_err r f e is = ap (λ s. s >>= f) is
 
 -- ---- events
@@ -106,6 +106,10 @@ pub put_instead : (told more both cut said after : List ℕ) (n : ℕ) → n ≡
 put_instead told more both cut said after n long is cut_is after_is =
     after_is ∙ ap (λ t. t ++ said) (cut_is ∙ (ap (λ m. take m both) long ∙ (ap (take (length told)) is ∙ take-append_seam told more)))
 
+-- what was put behind a text is taken back
+pub taken_back : (told more both cut : List ℕ) (n : ℕ) → n ≡ length told → both ≡ told ++ more → cut ≡ take n both → cut ≡ told
+taken_back told more both cut n long is cut_is = cut_is ∙ (ap (λ m. take m both) long ∙ (ap (take (length told)) is ∙ take-append_seam told more))
+
 -- ---- a batch
 
 pub refused_batch : (sheet : model.Sheet) (issuer : model.Issuer) (lines : ℕ) (text : List ℕ) (why : Refusal) → journaled_in sheet issuer text ≡ Err why
@@ -119,7 +123,7 @@ unfolding said_of_batch
 taken_batch sheet issuer lines text b is = ap (said_of_journaled sheet lines text) is
 
 -- what stands above the batch is as long as the batch is not
-above : (text : List ℕ) (from : ℕ) → from ≤ length text → length text - length (drop from text) ≡ from
+pub above : (text : List ℕ) (from : ℕ) → from ≤ length text → length text - length (drop from text) ≡ from
 above text from within = omega (arith, within, length-drop from text)
 
 pub rated_well : (text : List ℕ) (sheet : model.Sheet) (issuer : model.Issuer) (from : ℕ) → from ≤ length text
@@ -146,11 +150,8 @@ rated_badly text fault is =
 too_few : (m n : ℕ) → n < m → nat_le m n ≡ false
 too_few m n below = grind (arith, nat_tests)
 
-too_long : (text : List ℕ) → 16_777_216 < length text → whole_of text ≡ Err (section.Refused codes_of.TooLong 1)
+pub too_long : (text : List ℕ) → 16_777_216 < length text → whole_of text ≡ Err (section.Refused codes_of.TooLong 1)
 too_long text long = ap (λ b. holds_or b (section.Refused codes_of.TooLong 1) >>= λ _. let u : Unread = record { text = text; from = 0; line = 1 } in Ok u) (too_few (length text) 16_777_216 long)
-
-warned_of_long : (k : InputKind) (text : List ℕ) → 16_777_216 < length text → warned_of_input_as k text ≡ []
-warned_of_long k text long = refl
 
 -- of an input that is too long nothing else is said
 pub said_of_long : (k : InputKind) (text : List ℕ) → 16_777_216 < length text → said_of_input_as k text ≡ codes "line 1: L8" ++ 10 ∷ []
@@ -167,45 +168,16 @@ said_of_long k text long = by_kind k
     by_kind kind.Play = ap (said_below text) (preamble_too_long (too_long text long))
     by_kind kind.Rate = rating_too_long (too_long text long)
 
-unfoldable zeros : ℕ → List ℕ
-zeros zero = []
-zeros (suc n) = 0 ∷ zeros n
-
-length-zeros : (n : ℕ) → length (zeros n) ≡ n
-unfolding zeros
-length-zeros zero = refl
-length-zeros (suc n) = ap suc (length-zeros n)
-
--- Whatever was read, where it is known at all, and as whichever kind it is taken: that is said of it, and nothing is warned of.
-module _ (of_kind : List ℕ → InputKind) where
-  abbrev IsSaid : Option (List ℕ) → List ℕ → List ℕ → List ℕ → Type 0
-  IsSaid known input said warned = IsSaidAs (of_kind input) known input said warned
-
-  pub said_where_long : (known : Option (List ℕ)) → IfSome known (λ input. 16_777_216 < length input)
-      → (input : List ℕ) × IsSaid known input (codes "line 1: L8" ++ 10 ∷ []) []
-  said_where_long (Some input) long = (input, record { is_input = refl; is_said = sym (said_of_long (of_kind input) input long); is_warned = sym (warned_of_long (of_kind input) input long) })
-  said_where_long None long =
-      let input = zeros 16_777_217 in
-      let many : 16_777_216 < length input = omega (arith, length-zeros 16_777_217) in
-      (input, record { is_input = tt; is_said = sym (said_of_long (of_kind input) input many); is_warned = sym (warned_of_long (of_kind input) input many) })
-
-  -- what was written of it, whose lines are counted
-  pub written_where_long : (known old new : Option (List ℕ)) (count answer : ℕ) → IfSome known (λ input. 16_777_216 < length input)
-      → count ≡ 1 → Appends old new (codes "line 1: L8" ++ 10 ∷ []) × (answer ≡ count)
-      → (input said warned : List ℕ) × IsSaid known input said warned × Appends old new (said ++ warned) × (answer ≡ line_count said)
-  written_where_long known old new count answer long one done =
-      let is = said_where_long known long in
-      (is.0, _, _, is.1, subst (Appends old new) (sym (append-nil (codes "line 1: L8" ++ 10 ∷ []))) done.0, done.1 ∙ one)
-
-  pub written_in_part_where_long : (known old new : Option (List ℕ)) → IfSome known (λ input. 16_777_216 < length input)
-      → AppendsPrefix old new (codes "line 1: L8" ++ 10 ∷ [])
-      → (input said warned : List ℕ) × IsSaid known input said warned × AppendsPrefix old new (said ++ warned)
-  written_in_part_where_long known old new long part =
-      let is = said_where_long known long in
-      (is.0, _, _, is.1, subst (AppendsPrefix old new) (sym (append-nil (codes "line 1: L8" ++ 10 ∷ []))) part)
-
 -- ---- what holds of a call that ends well
 
 pub both_on_ok : {E P Q R : Type 0} (result : Result (Unit {0}) E) → (P → Q → R) → OnOk result P → OnOk result Q → OnOk result R
 both_on_ok (Ok done) f p q = f p q
 both_on_ok (Err fault) f p q = tt
+
+pub on_ok : {E P Q : Type 0} (result : Result (Unit {0}) E) → (P → Q) → OnOk result P → OnOk result Q
+on_ok (Ok done) f p = f p
+on_ok (Err fault) f p = tt
+
+pub in_any_case : {E P : Type 0} (result : Result (Unit {0}) E) → P → OnOk result P
+in_any_case (Ok done) p = p
+in_any_case (Err fault) p = tt

@@ -27,14 +27,14 @@ fn put_faults(
     kind: InputKind,
     text: &[u8],
     told: &mut Vec<u8>,
-    _warned: &mut Vec<u8>,
+    warned: &mut Vec<u8>,
 ) -> Result<(), AllocError>
     ensures said { OnOk result (told.new.items ≡ told.old.items ++ said_of_input_as kind text.now) }
-    ensures warned { OnOk result (_warned.new.items ≡ _warned.old.items ++ warned_of_input_as kind text.now) }
+    ensures warned { OnOk result (warned.new.items ≡ warned.old.items ++ warned_of_input_as kind text.now) }
 {
     match kind {
-        InputKind::Play => check_schedule(alloc, text, told),
-        InputKind::Rate => check_rating(alloc, text, told),
+        InputKind::Play => check_schedule(alloc, text, told, warned),
+        InputKind::Rate => check_rating(alloc, text, told, warned),
     }
 }
 

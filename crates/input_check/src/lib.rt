@@ -7,6 +7,7 @@ mod events;
 mod kinds;
 pub mod laws;
 mod ratings;
+mod warnings;
 
 pub use batch_player::rate_text;
 pub use checks::{check_text, check_text_as};
