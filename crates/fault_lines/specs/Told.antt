@@ -22,6 +22,7 @@ use Rattle.input_sections.specs.declared.faults.ScheduleFault.TheVariants as sec
 use Rattle.input_sections.specs.Sections.{Section, Unread, lines_left, section_in, section_of, whole_of}
 use Rattle.answer_words.specs.Words.{issuer_fault_text, section_code_text, sheet_fault_text}
 use Rattle.fault_lines.specs.Fields.{field_name, field_of}
+use Rattle.fault_lines.specs.TextKinds.{batch_words, kind_words}
 use Rattle.fault_lines.specs.declared.fields.RecordField.{RecordField}
 
 -- ---- a line of what is said
@@ -59,11 +60,11 @@ abbrev pub said_of : {A E : Type 0} → (E → List ℕ) → (List ℕ → Resul
 said_of words reader (Some text) = said_of_text words reader text
 said_of words reader None = []
 
--- of a section with a sheet or an issuer, which are the ones with readers of their own
+-- of a section with a sheet or an issuer, which are the ones with readers of their own; of a text without a head what it is
 abbrev pub reason : List ℕ → ScheduleCode → ℕ → List ℕ
 reason text code.Sheet n = said_of sheet_fault_text sheet_of_text (section_on code.Sheet (codes "sheet ") 200_000 n text)
 reason text code.Issuer n = said_of issuer_fault_text issuer_of_text (section_on code.Issuer (codes "issuer ") 100 n text)
-reason text code.Head n = []
+reason text code.Head n = kind_words text
 reason text code.Nodes n = []
 reason text code.Agents n = []
 reason text code.Event n = []
@@ -118,9 +119,9 @@ record_words sheet (Some (Reads r)) =
 abbrev pub record_at : List ℕ → Option ℕ → Option Record
 record_at text index = option_and_then (slice_get (batch_of text).records) index
 
--- what is told behind the code: of a batch's own fault the field, of a bad record its words
+-- what is told behind the code: of a batch's own fault the field, and what its text or its line is, of a bad record its words
 abbrev pub more_words : model.Sheet → List ℕ → Option ℕ → Refusal → List ℕ
-more_words sheet text bad (refusal.BadBatch fault) = field_words (field_of text fault)
+more_words sheet text bad (refusal.BadBatch fault) = field_words (field_of text fault) ++ batch_words text fault
 more_words sheet text bad refusal.BadTarget = record_words sheet (record_at text bad)
 more_words sheet text bad refusal.Unpriced = record_words sheet (record_at text bad)
 more_words sheet text bad other = []

@@ -6,13 +6,16 @@ ghost use Rattle.metering_model.specs.BatchReading.{batch_in};
 ghost use Rattle.metering_model.specs.Transcript.{with_number};
 ghost use Rattle.metering_model.specs.declared.BatchFault.{BatchFault};
 ghost use Rattle.batch_view.specs.Lent.{model_reading, record_of};
+ghost use Rattle.fault_lines.specs.Fields.{field_of};
+ghost use Rattle.fault_lines.specs.TextKinds.{batch_words};
 ghost use Rattle.fault_lines.specs.Told.{field_words, line_within, more_words, record_at, record_words, told_at, told_of_text, words_of};
 
 use crate::fields::{RecordField, field_name, field_of};
+use crate::text_kinds::batch_words;
 use answer_words::{code_word, kept_code_word, refusal_line};
 use batch_view::{BatchView, Reading, Record};
 use byte_text::put_numbered;
-use metering_model::Refusal;
+use metering_model::{BatchFault, Refusal};
 use price_sheet::Sheet;
 use std::alloc::{AllocError, Global};
 
@@ -110,7 +113,18 @@ fn put_record_at(
     }
 }
 
-/// Appends what is told behind the code of a batch's refusal: of its own fault the field, of a bad record its words.
+/// Appends what is told of a batch's own fault: the field, and what its text or its line is.
+fn put_batch_words(told: &mut Vec<u8>, text: &[u8], fault: BatchFault) -> Result<(), AllocError>
+    requires { batch_in text.now ≡ Err fault }
+    ensures { OnOk result (told.new.items ≡ told.old.items
+        ++ (field_words (field_of text.now fault) ++ batch_words text.now fault)) }
+{
+    put_field(told, field_of(text, fault))?;
+    told.extend_from_slice(batch_words(text, fault))
+}
+
+/// Appends what is told behind the code of a batch's refusal: of its own fault the field, and what its text or its line is, of a
+/// bad record its words.
 fn put_more(
     told: &mut Vec<u8>,
     sheet: &Sheet,
@@ -122,7 +136,7 @@ fn put_more(
     ensures { OnOk result (told.new.items ≡ told.old.items ++ more_words sheet.now text.now bad refusal) }
 {
     match refusal {
-        Refusal::BadBatch(fault) => put_field(told, field_of(text, fault)),
+        Refusal::BadBatch(fault) => put_batch_words(told, text, fault),
         Refusal::BadTarget | Refusal::Unpriced => match bad {
             Some(index) => put_record_at(told, sheet, text, index),
             None => Ok(()),

@@ -190,7 +190,7 @@ fn fault_field(code: BatchCode, line: &[u8]) -> Option<RecordField>
 }
 
 /// The line of a text of that number, counted from 1, without its line feed; None where the text has no such line.
-fn line_at(text: &[u8], number: u32) -> Option<&[u8]>
+pub(crate) fn line_at(text: &[u8], number: u32) -> Option<&[u8]>
     ensures { MatchOption result (line_at text.now number ≡ None) (λ line. line_at text.now number ≡ Some line.now) }
 {
     let at = lines_length(text, number.saturating_sub(1))?;

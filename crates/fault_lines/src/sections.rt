@@ -7,6 +7,7 @@ ghost use Rattle.answer_words.specs.Words.{issuer_fault_text, sheet_fault_text};
 ghost use Rattle.fault_lines.specs.Told.{reason, said_by, said_of_fault, said_of_text, section_on};
 
 use crate::batches::put_place;
+use crate::text_kinds::kind_words;
 use answer_words::{put_issuer_fault, put_sheet_fault, section_code_word};
 use input_sections::{ScheduleCode, ScheduleFault, Unread, read_section};
 use price_sheet::Sheet;
@@ -103,7 +104,7 @@ fn put_issuer_reason(alloc: Global, told: &mut Vec<u8>, section: &[u8]) -> Resul
     }
 }
 
-/// Appends what the reader of a sheet or of an issuer says of the section on a line.
+/// Appends what the reader of a sheet or of an issuer says of the section on a line, or what a text is that has no head.
 fn put_reason(
     alloc: Global,
     told: &mut Vec<u8>,
@@ -122,6 +123,7 @@ fn put_reason(
             Some(section) => put_issuer_reason(alloc, told, section),
             None => Ok(()),
         },
+        ScheduleCode::Head => told.extend_from_slice(kind_words(text)),
         _ => Ok(()),
     }
 }
