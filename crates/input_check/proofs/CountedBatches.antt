@@ -12,9 +12,16 @@ use Rattle.input_sections.specs.declared.faults.ScheduleFault.{ScheduleFault}
 use Rattle.input_sections.specs.Sections.{Unread, left}
 use Rattle.schedule_reader.specs.Schedules.{event_in, events_in}
 use Rattle.schedule_reader.proofs.EventLoop.{nonempty, empty}
+use Rattle.batch_view.specs.declared.owned.Offer.{Offer}
+use Rattle.group_events.specs.declared.events.Event as events
+use Rattle.group_events.specs.declared.events.Event.TheVariants as event
+use Rattle.group_events.specs.declared.replies.Reply as replies
+use Rattle.group_events.specs.declared.replies.Reply.TheVariants as reply
+use Rattle.group_events.specs.Events.{event_of as events_of}
+use Rattle.group_events.specs.Replies.{reply_of}
 use Rattle.fault_lines.specs.Ahead.{ahead_of, ahead_of_all}
 use Rattle.input_check.specs.Checks.{lines_of_events}
-use Rattle.input_check.specs.Inner.Counted.{counted_of, counted_of_events, with_counted}
+use Rattle.input_check.specs.Inner.Counted.{counted_of, counted_of_events, handed_in, with_counted}
 use Rattle.input_check.specs.Warnings.{if_journaled, journaled_among}
 
 -- ---- what is told of batches
@@ -55,19 +62,48 @@ same_batch n w ls = by_batch (batch_in (lines_text ls))
     by_batch (Ok b) = by_reply (step w (Journal (Good (lines_text ls)))).0
     by_batch (Err fault) = refl
 
+none_counted : (n : ℕ) (e : Event) → handed_in n e ≡ [] → (r : Reply) → counted_of n e r ≡ []
+none_counted n e none (Journaled k) = none
+none_counted n e none (Delivered sent learned) = refl
+none_counted n e none (Started b k) = refl
+none_counted n e none Restarted = refl
+none_counted n e none (Exported s) = refl
+none_counted n e none (KeptText text) = refl
+none_counted n e none (Refused why) = refl
+
 pub same_counted : (n : ℕ) (w : World) (e : Planned) → counted_of n (event_of e) (step w (event_of e)).0 ≡ if_journaled n e (step w (event_of e)).0
 same_counted n w (PlansJournal ls) = same_batch n w ls
-same_counted n w (PlansDelivery k i) = refl
-same_counted n w (PlansStart i) = refl
-same_counted n w (PlansRestart i) = refl
-same_counted n w (PlansExport i p) = refl
-same_counted n w (PlansKeep i) = refl
-same_counted n w (PlansRevival i ls) = refl
+same_counted n w (PlansDelivery k i) = none_counted n (event_of (PlansDelivery k i)) refl (step w (event_of (PlansDelivery k i))).0
+same_counted n w (PlansStart i) = none_counted n (event_of (PlansStart i)) refl (step w (event_of (PlansStart i))).0
+same_counted n w (PlansRestart i) = none_counted n (event_of (PlansRestart i)) refl (step w (event_of (PlansRestart i))).0
+same_counted n w (PlansExport i p) = none_counted n (event_of (PlansExport i p)) refl (step w (event_of (PlansExport i p))).0
+same_counted n w (PlansKeep i) = none_counted n (event_of (PlansKeep i)) refl (step w (event_of (PlansKeep i))).0
+same_counted n w (PlansRevival i ls) = none_counted n (event_of (PlansRevival i ls)) refl (step w (event_of (PlansRevival i ls))).0
+
+-- ---- an event of the code, and a reply
+
+pub no_batch_journaled : (n : ℕ) (e : Event) (r : replies.Reply) → ((packet : ℕ) → r ≡ reply.Journaled packet → ⊥) → counted_of n e (reply_of r) ≡ []
+no_batch_journaled n e (reply.Journaled packet) never = absurd (never packet refl)
+no_batch_journaled n e (reply.Delivered sent learned) never = refl
+no_batch_journaled n e (reply.Started ballot packet) never = refl
+no_batch_journaled n e reply.Restarted never = refl
+no_batch_journaled n e (reply.Exported snapshot) never = refl
+no_batch_journaled n e (reply.KeptText text) never = refl
+no_batch_journaled n e (reply.Refused refusal) never = refl
+
+pub no_batch_handed_in : (n : ℕ) (e : events.Event) → ((offer : Offer) → e ≡ event.Journal offer → ⊥) → handed_in n (events_of e) ≡ []
+no_batch_handed_in n (event.Journal offer) never = absurd (never offer refl)
+no_batch_handed_in n (event.Deliver packet node) never = refl
+no_batch_handed_in n (event.Start node) never = refl
+no_batch_handed_in n (event.Restart node) never = refl
+no_batch_handed_in n (event.Export node period) never = refl
+no_batch_handed_in n (event.Keep node) never = refl
+no_batch_handed_in n (event.Revive node offer) never = refl
 
 -- what an event of a schedule stands for was done
-pub counted_there : (n : ℕ) (w : World) (e : Planned) (event : Event) (reply : Reply) (w' : World) → event ≡ event_of e → ◌≡◌ {A = Reply × World} (reply, w') (step w event)
-    → counted_of n event reply ≡ if_journaled n e (step w (event_of e)).0
-counted_there n w e event reply w' same is =
+pub counted_there : (n : ℕ) (w : World) (e : Planned) (here : Event) (answer : Reply) (w' : World) → here ≡ event_of e → ◌≡◌ {A = Reply × World} (answer, w') (step w here)
+    → counted_of n here answer ≡ if_journaled n e (step w (event_of e)).0
+counted_there n w e here answer w' same is =
     ap₂ (counted_of n) same (ap (λ (o : Reply × World). o.0) is ∙ ap (λ (v : Event). (step w v).0) same) ∙ same_counted n w e
 
 -- ---- the events that are left

@@ -16,3 +16,4 @@ pub mod RatingForms
 pub mod EventWords
 mod WorkedChecks
 mod WorkedCredits
+mod WorkedWarnings

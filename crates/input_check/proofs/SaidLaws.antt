@@ -106,6 +106,10 @@ pub put_instead : (told more both cut said after : List ℕ) (n : ℕ) → n ≡
 put_instead told more both cut said after n long is cut_is after_is =
     after_is ∙ ap (λ t. t ++ said) (cut_is ∙ (ap (λ m. take m both) long ∙ (ap (take (length told)) is ∙ take-append_seam told more)))
 
+-- what was put behind a text in two parts
+pub in_two_parts : (told one other first both : List ℕ) → first ≡ told ++ one → both ≡ first ++ other → both ≡ told ++ (one ++ other)
+in_two_parts told one other first both first_is both_is = both_is ∙ (ap (λ t. t ++ other) first_is ∙ append_assoc told one other)
+
 -- what was put behind a text is taken back
 pub taken_back : (told more both cut : List ℕ) (n : ℕ) → n ≡ length told → both ≡ told ++ more → cut ≡ take n both → cut ≡ told
 taken_back told more both cut n long is cut_is = cut_is ∙ (ap (λ m. take m both) long ∙ (ap (take (length told)) is ∙ take-append_seam told more))

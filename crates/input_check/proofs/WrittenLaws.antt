@@ -1,5 +1,5 @@
 -- What is written of an input: where nothing is said just the warnings, and of one that is too long one line.
-use Rattle.std.proofs.Common.{◌≡◌, ℕ, zero, suc, ◌<◌, ◌≤◌, List, [], ◌∷◌, ◌++◌, length, Option, Some, None, IfSome, Result, Ok, Err, codes, refl, sym, ap, ◌∙◌, subst, inl, inr, arith, append-nil}
+use Rattle.std.proofs.Common.{◌≡◌, ℕ, zero, suc, ◌<◌, ◌≤◌, List, [], ◌∷◌, ◌++◌, length, Option, Some, None, IfSome, IfOk, Result, Ok, Err, codes, refl, sym, ap, ◌∙◌, subst, inl, inr, arith, append-nil}
 use Rattle.std.specs.Io.KnownBytes.{Appends}
 use Rattle.counted_io.specs.Writing.{AppendsPrefix}
 use Rattle.metering_model.specs.Transcript.{line_count}
@@ -9,7 +9,7 @@ use Rattle.input_sections.specs.declared.faults.ScheduleCode.TheVariants as code
 use Rattle.input_sections.specs.declared.faults.ScheduleFault.TheVariants as section
 use Rattle.schedule_reader.specs.Schedules.{group_in, preamble_in}
 use Rattle.input_check.specs.Checks.{said_of_input_as}
-use Rattle.input_check.specs.Inputs.{IsSaidAs}
+use Rattle.input_check.specs.Inputs.{IsSaidAs, written_of_input_as}
 use Rattle.input_check.specs.Warnings.{warned_of_input_as}
 use Rattle.input_check.specs.declared.kinds.InputKind.{InputKind}
 use Rattle.input_check.specs.declared.kinds.InputKind.TheVariants as kind
@@ -31,6 +31,18 @@ module _ (k : InputKind) (known : Option (List ℕ)) (input said warned : List �
   pub just_warned : (old new : Option (List ℕ)) → Appends old new (said ++ warned) → IsSaidAs k known input [] warned × Appends old new warned
   just_warned old new wrote =
       (subst (λ (t : List ℕ). IsSaidAs k known input t warned) nothing_said is, subst (λ (t : List ℕ). Appends old new (t ++ warned)) nothing_said wrote)
+
+-- of whichever kind an input is checked as
+pub just_the_warnings : (of_kind : List ℕ → InputKind) (k : InputKind) (known old new : Option (List ℕ)) (input : List ℕ) {E : Type 0} (result : Result ℕ E)
+    → k ≡ of_kind input → IfSome known (λ bytes. input ≡ bytes)
+    → IfOk result (λ count. Appends old new (written_of_input_as k input) × (count ≡ line_count (said_of_input_as k input))) → result ≡ Ok 0
+    → (x warned : List ℕ) × IsSaidAs (of_kind x) known x [] warned × Appends old new warned
+just_the_warnings of_kind k known old new input (Ok count) same is wrote none_told =
+    let none : count ≡ 0 = cc in
+    let said : IsSaidAs k known input (said_of_input_as k input) (warned_of_input_as k input) = record { is_input = is; is_said = refl; is_warned = refl } in
+    let just = just_warned k known input _ _ said (sym wrote.1 ∙ none) old new wrote.0 in
+    (input, warned_of_input_as k input, subst (λ (j : InputKind). IsSaidAs j known input [] (warned_of_input_as k input)) same just.0, just.1)
+just_the_warnings of_kind k known old new input (Err fault) same is wrote none_told = absurd (cc)
 
 -- ---- an input that is too long
 

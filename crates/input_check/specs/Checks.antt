@@ -1,5 +1,5 @@
 -- What is said of an input: a line for each thing that is wrong with it, which names the line of the input; nothing where nothing is.
-use Rattle.std.specs.Prelude.{ℕ, zero, suc, ◌+◌, ◌-◌, ◌<◌, if◌then◌else◌, List, [], ◌∷◌, ◌++◌, length, take, Option, Some, Result, Ok, Err, ⊥, true, ◌≡◌, slice_get}
+use Rattle.std.specs.Prelude.{ℕ, zero, suc, ◌+◌, ◌-◌, ◌<◌, ◌≤◌, if◌then◌else◌, List, [], ◌∷◌, ◌++◌, length, take, Option, Some, Result, Ok, Err, true, ◌≡◌, slice_get}
 use Rattle.std.specs.List.{list_all}
 use Rattle.metering_model.specs.Batch.{Batch, batch_text, is_empty, lacks}
 use Rattle.metering_model.specs.Limits.{most_input_bytes}

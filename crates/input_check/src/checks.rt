@@ -176,7 +176,10 @@ pub fn check_text<R: Source, W: Sink>(
         ≡ count_after (tells_of_writer result) (W.failed_calls writer.old) }
 {
     match read_input(alloc, reader) {
-        Ok(input) => write_faults(alloc, kind_of(&input), &input, writer),
+        Ok(input) => {
+            let kind = kind_of(&input);
+            write_faults(alloc, kind, &input, writer)
+        }
         Err(PlayFault::Schedule(_)) => write_said(b"line 1: L8\n", 1, writer),
         Err(fault) => Err(fault),
     }

@@ -5,7 +5,7 @@ ghost use Rattle.metering_model.specs.Batch.{Batch};
 ghost use Rattle.group_events.specs.Events.{event_of};
 ghost use Rattle.schedule_player.specs.Replies.{reply_of};
 ghost use Rattle.fault_lines.specs.Ahead.{AreLatest, ahead_of_all};
-ghost use Rattle.input_check.specs.Inner.Counted.{counted_of, with_counted};
+ghost use Rattle.input_check.specs.Inner.Counted.{counted_of, handed_in, with_counted};
 ghost use Rattle.input_check.specs.Warnings.{unknown_on};
 
 use fault_lines::{LatestDays, put_unknown_keys};
@@ -32,7 +32,28 @@ pub(crate) fn put_unknown_on(
     }
 }
 
-/// Appends which readings of a batch are far ahead, where the reply to the event that begins on a line says that it was journaled.
+/// Appends which readings are far ahead of the batch that an event hands in, which begins on a line.
+fn put_handed_in(
+    latest: &mut LatestDays,
+    warned: &mut Vec<u8>,
+    line: u32,
+    event: &Event,
+) -> Result<(), AllocError>
+    ensures said { (journaled : List Batch) → AreLatest latest.old journaled → OnOk result
+        (warned.new.items ≡ warned.old.items ++ ahead_of_all journaled (handed_in line (event_of event.now))) }
+    ensures kept { (journaled : List Batch) → AreLatest latest.old journaled → OnOk result
+        (AreLatest latest.new (with_counted (handed_in line (event_of event.now)) journaled)) }
+{
+    match event {
+        Event::Journal(offer) => match offer {
+            Offer::Good(batch) => latest.put_ahead(warned, line as usize, &batch.view()),
+            Offer::Bad(_) => Ok(()),
+        },
+        _ => Ok(()),
+    }
+}
+
+/// Appends them where the reply says that the batch was journaled.
 pub(crate) fn put_ahead_of(
     latest: &mut LatestDays,
     warned: &mut Vec<u8>,
@@ -46,10 +67,7 @@ pub(crate) fn put_ahead_of(
         (AreLatest latest.new (with_counted (counted_of line (event_of event.now) (reply_of reply.now)) journaled)) }
 {
     match reply {
-        Reply::Journaled { .. } => match event {
-            Event::Journal(Offer::Good(batch)) => latest.put_ahead(warned, line as usize, &batch.view()),
-            _ => Ok(()),
-        },
+        Reply::Journaled { .. } => put_handed_in(latest, warned, line, event),
         _ => Ok(()),
     }
 }

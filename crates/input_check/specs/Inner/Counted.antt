@@ -9,9 +9,14 @@ use Rattle.input_sections.specs.Sections.{Unread, left}
 use Rattle.schedule_reader.specs.Schedules.{event_in}
 use Rattle.input_check.specs.Warnings.{if_journaled}
 
--- of an event of a group that begins on a line
+-- the batch that an event of a group hands in
+abbrev pub handed_in : ℕ → Event → List (ℕ × Batch)
+handed_in n (Journal (Good text)) = (n, batch_of text) ∷ []
+handed_in n event = []
+
+-- of an event that begins on a line, by its reply
 abbrev pub counted_of : ℕ → Event → Reply → List (ℕ × Batch)
-counted_of n (Journal (Good text)) (Journaled k) = (n, batch_of text) ∷ []
+counted_of n event (Journaled k) = handed_in n event
 counted_of n event reply = []
 
 -- of the events that are left, played from a world on
