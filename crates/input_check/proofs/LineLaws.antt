@@ -1,5 +1,5 @@
 -- What is said of an input is nothing, or has a line feed at least.
-use Rattle.std.proofs.Common.{◌≡◌, ◌⊎◌, ℕ, zero, suc, ◌+◌, ◌-◌, ◌≤◌, ◌==◌, Bool, true, false, cond, List, [], ◌∷◌, ◌++◌, length, take, Option, Result, Ok, Err, codes, refl, sym, ap, ◌∙◌, subst, inl, inr, arith}
+use Rattle.std.proofs.Common.{◌≡◌, ◌⊎◌, ℕ, zero, suc, ◌+◌, ◌-◌, ◌≤◌, ◌==◌, Bool, true, false, cond, List, [], ◌∷◌, ◌++◌, length, take, Result, Ok, Err, codes, refl, sym, subst, inl, inr, arith}
 use Rattle.std.proofs.lemmas.List.Sums.{sum_by-append}
 use Rattle.metering_model.specs.Batch.{Batch, is_empty}
 use Rattle.metering_model.specs.Schedule.{Planned, PlansDelivery, PlansExport, PlansJournal, PlansKeep, PlansRestart, PlansRevival, PlansStart, event_of, lines_text}
@@ -11,13 +11,11 @@ use Rattle.metering_model.specs.declared.Refusal.{Refusal}
 use Rattle.input_sections.specs.declared.faults.ScheduleFault.{ScheduleFault}
 use Rattle.input_sections.specs.declared.faults.ScheduleFault.TheVariants as section
 use Rattle.input_sections.specs.RateInput.{RateInput, rate_input_in}
-use Rattle.input_sections.specs.Sections.{Unread, begins_with, left}
+use Rattle.input_sections.specs.Sections.{Unread, left}
 use Rattle.schedule_reader.specs.Schedules.{Preamble, event_in, events_in, preamble_in}
 use Rattle.metering_model.specs.RatedAlone.{journaled_in}
 use Rattle.answer_words.specs.Words.{section_code_text}
-use Rattle.std.specs.Io.KnownBytes.{Appends}
 use Rattle.input_check.specs.declared.kinds.InputKind.{InputKind}
-use Rattle.input_check.specs.Inputs.{IsSaidAs}
 use Rattle.input_check.specs.Checks.{line_of_kept, said_behind, said_below, said_of_batch, said_of_events, said_of_input_as, said_of_journaled, said_of_rating, said_of_refused, said_of_reply, said_of_schedule}
 use Rattle.fault_lines.specs.Told.{bad_index, line_within, more_words, reason, said_of_fault, told_at, words_of}
 use Rattle.input_check.specs.declared.kinds.InputKind.TheVariants as kind

@@ -1,5 +1,5 @@
 -- What stands behind the code of a section is what its own reader says of the text of its lines.
-use Rattle.std.proofs.Common.{◌≡◌, ℕ, ◌+◌, ◌-◌, ◌<◌, ◌≤◌, ◌^◌, true, List, ◌++◌, length, Some, Result, Ok, Err, codes, refl, ap, ◌∙◌, arith, le-leb}
+use Rattle.std.proofs.Common.{◌≡◌, ℕ, ◌+◌, ◌-◌, ◌<◌, ◌≤◌, ◌^◌, true, List, ◌++◌, length, Some, Ok, codes, refl, ap, ◌∙◌, arith, le-leb}
 use Rattle.std.specs.List.{list_all}
 use Rattle.metering_model.specs.Batch.{lacks}
 use Rattle.metering_model.specs.Limits.{most_input_bytes, most_issuer_lines, most_sheet_lines}
@@ -9,7 +9,6 @@ use Rattle.price_sheet.specs.SheetReading.{sheet_of_text}
 use Rattle.sheet_text.specs.IssuerReading.{issuer_of_text}
 use Rattle.input_sections.specs.declared.faults.ScheduleCode.{ScheduleCode}
 use Rattle.input_sections.specs.declared.faults.ScheduleCode.TheVariants as code
-use Rattle.input_sections.specs.declared.faults.ScheduleFault.TheVariants as section
 use Rattle.input_sections.specs.Sections.{Unread, lines_left, section_of, whole_of}
 use Rattle.schedule_reader.proofs.WrittenLines.{lines_written, section_written}
 use Rattle.answer_words.specs.Words.{issuer_fault_text, sheet_fault_text}

@@ -1,5 +1,5 @@
 -- What is said is what is refused.
-use Rattle.std.proofs.Common.{◌≡◌, ℕ, zero, suc, ◌-◌, Bool, true, false, cond, List, [], ◌∷◌, ◌++◌, length, map, take, Result, Ok, Err, codes, refl, sym, ap, subst}
+use Rattle.std.proofs.Common.{◌≡◌, ℕ, zero, suc, ◌-◌, Bool, true, false, cond, List, [], ◌∷◌, ◌++◌, length, map, take, Result, Ok, Err, refl, sym, ap, subst}
 use Rattle.metering_model.specs.Batch.{Batch, is_empty}
 use Rattle.metering_model.specs.File.{file}
 use Rattle.metering_model.specs.FirstFailure.{◌>>=◌}
@@ -10,7 +10,7 @@ use Rattle.metering_model.specs.World.{World, opening}
 use Rattle.metering_model.specs.declared.Refusal.{Refusal}
 use Rattle.metering_model.proofs.StepLaws.{ok_same, step_ok}
 use Rattle.input_sections.specs.RateInput.{RateInput, rate_input_in}
-use Rattle.input_sections.specs.Sections.{Unread, begins_with, left}
+use Rattle.input_sections.specs.Sections.{Unread, left}
 use Rattle.input_sections.specs.declared.faults.ScheduleFault.{ScheduleFault}
 use Rattle.input_sections.specs.declared.faults.ScheduleFault.TheVariants as section
 use Rattle.schedule_reader.specs.Schedules.{Preamble, event_in, events_in, preamble_in, schedule_in}

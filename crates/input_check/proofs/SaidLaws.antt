@@ -1,5 +1,5 @@
 -- What is said, case by case.
-use Rattle.std.proofs.Common.{◌≡◌, ℕ, zero, suc, ◌-◌, ◌<◌, ◌≤◌, Bool, true, false, cond, List, [], ◌∷◌, ◌++◌, length, take, drop, Option, Some, None, IfSome, Result, Ok, Err, OnOk, codes, refl, sym, ap, ◌∙◌, arith, append-nil, append_assoc}
+use Rattle.std.proofs.Common.{◌≡◌, ℕ, suc, ◌-◌, ◌<◌, ◌≤◌, false, List, [], ◌∷◌, ◌++◌, length, take, drop, Some, None, Result, Ok, Err, OnOk, codes, refl, sym, ap, ◌∙◌, arith, append-nil, append_assoc}
 use Rattle.std.specs.Prelude.{nat_le}
 use Rattle.std.specs.Fmt.{digits}
 use Rattle.std.proofs.lemmas.Bool.Decides.{nat_tests}
@@ -16,17 +16,13 @@ use Rattle.metering_model.specs.declared.Refusal.{Refusal}
 use Rattle.input_sections.specs.declared.faults.ScheduleCode.TheVariants as codes_of
 use Rattle.input_sections.specs.declared.faults.ScheduleFault.{ScheduleFault}
 use Rattle.input_sections.specs.declared.faults.ScheduleFault.TheVariants as section
-use Rattle.input_sections.specs.Sections.{Unread, begins_with, left, whole_of}
+use Rattle.input_sections.specs.Sections.{Unread, left, whole_of}
 use Rattle.input_sections.specs.RateInput.{rate_input_in}
 use Rattle.schedule_reader.specs.Schedules.{Preamble, event_in, events_in, group_in, preamble_in}
 use Rattle.schedule_reader.proofs.EventLoop.{nonempty, empty}
 use Rattle.metering_model.specs.RatedAlone.{journaled_in}
 use Rattle.input_check.specs.declared.kinds.InputKind.{InputKind}
 use Rattle.input_check.specs.declared.kinds.InputKind.TheVariants as kind
-use Rattle.input_check.specs.Inputs.{IsSaidAs}
-use Rattle.input_check.specs.Warnings.{warned_of_input_as}
-use Rattle.std.specs.Io.KnownBytes.{Appends}
-use Rattle.counted_io.specs.Writing.{AppendsPrefix}
 use Rattle.input_check.specs.Inner.Faults.{fault_of}
 use Rattle.input_check.specs.Checks.{said_behind, said_below, said_of_batch, said_of_events, said_of_input_as, said_of_journaled, said_of_rating, said_of_reply, said_of_schedule}
 use Rattle.fault_lines.specs.Told.{bad_index, said_of_fault, told_of_text}

@@ -1,5 +1,5 @@
 -- What is warned of, case by case.
-use Rattle.std.proofs.Common.{◌≡◌, ℕ, ◌-◌, ◌<◌, ◌≤◌, List, [], ◌∷◌, ◌++◌, length, map, drop, take, Option, Some, None, Result, Ok, Err, refl, sym, ap, ap₂, ◌∙◌, append-nil}
+use Rattle.std.proofs.Common.{◌≡◌, ℕ, ◌-◌, ◌<◌, ◌≤◌, List, [], ◌++◌, length, map, drop, take, Some, None, Result, Ok, Err, refl, sym, ap, ◌∙◌, append-nil}
 use Rattle.metering_model.specs.Batch.{Batch}
 use Rattle.metering_model.specs.RatedAlone.{journaled_in}
 use Rattle.metering_model.specs.Schedule.{Planned, event_of}
@@ -16,7 +16,6 @@ use Rattle.schedule_reader.specs.Schedules.{Preamble, ReadSchedule, events_in, p
 use Rattle.schedule_reader.proofs.PreambleLaws.{behind, by_preamble, refused_behind, taken_behind}
 use Rattle.metering_model.specs.FirstFailure.{◌>>=◌}
 use Rattle.fault_lines.specs.Ahead.{ahead_of, ahead_of_all}
-use Rattle.fault_lines.specs.Told.{from_line}
 use Rattle.fault_lines.specs.UnknownKeys.{unknown_from}
 use Rattle.fault_lines.proofs.SectionLaws.{line_at, no_line, no_whole}
 use Rattle.input_check.specs.Checks.{event_lines, lines_of_events}

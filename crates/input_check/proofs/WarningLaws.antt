@@ -1,5 +1,5 @@
 -- Which batches count for what is warned of.
-use Rattle.std.proofs.Common.{◌≡◌, ◌⊎◌, ℕ, zero, suc, List, [], ◌∷◌, ◌++◌, Some, None, refl, sym, ap, ap₂, ◌∙◌, subst, inl, inr}
+use Rattle.std.proofs.Common.{◌≡◌, ◌⊎◌, ℕ, zero, suc, List, [], ◌∷◌, ◌++◌, Some, refl, sym, ap, ap₂, ◌∙◌, subst, inl, inr}
 use Rattle.std.specs.Prelude.{slice_get}
 use Rattle.std.proofs.lemmas.Option.{none-some, same_Some}
 use Rattle.metering_model.specs.Batch.{Batch}
@@ -65,7 +65,7 @@ all_count (m ∷ ms) (e ∷ es) (r ∷ rs) zero n packet ls line event reply = b
     by_event (inl is) same journal answer = (
       0,
       ap₂ (λ (x : Planned) (y : Reply). slice_get (if_journaled m x y ++ journaled_among ms es rs) 0) journal answer
-      ∙ ap (λ (x : ℕ). Some (x, batch_of (lines_text ls))) same,
+          ∙ ap (λ (x : ℕ). Some (x, batch_of (lines_text ls))) same,
     )
     by_event (inr none) same journal answer = absurd (none.1 ls packet journal answer)
 all_count (m ∷ ms) (e ∷ es) (r ∷ rs) (suc k) n packet ls line event reply = by_event (counts m e r) (all_count ms es rs k n packet ls line event reply)

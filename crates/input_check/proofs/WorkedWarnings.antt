@@ -1,5 +1,5 @@
 -- What `check` writes where something is warned of, and as which kind.
-use Rattle.std.proofs.Common.{◌≡◌, ℕ, List, [], ◌∷◌, ◌++◌, take, drop, Option, Some, None, refl, sym, ap, ◌∙◌, arith, codes}
+use Rattle.std.proofs.Common.{◌≡◌, ℕ, List, [], ◌∷◌, ◌++◌, take, drop, Option, Some, refl, sym, ap, ◌∙◌, arith, codes}
 use Rattle.std.proofs.lemmas.Option.{same_Some}
 use Rattle.std.specs.Prelude.{slice_get}
 use Rattle.std.specs.Str.{is_utf8, chars}
@@ -26,7 +26,7 @@ use Rattle.fault_lines.specs.Ahead.{ahead_in, ahead_of, ahead_of_all}
 use Rattle.fault_lines.specs.UnknownKeys.{keys_left, told_along, told_of_section, unknown_from, unknown_from_issuer, unknown_in_issuer, unknown_in_sheet, with_rows, with_table}
 use Rattle.input_check.specs.Checks.{event_lines, lines_of_events}
 use Rattle.input_check.specs.Inputs.{written_of_input_as}
-use Rattle.input_check.specs.Warnings.{journaled_among, unknown_on, warned_of_rating, warned_of_schedule}
+use Rattle.input_check.specs.Warnings.{unknown_on, warned_of_rating, warned_of_schedule}
 use Rattle.input_check.specs.declared.kinds.InputKind.{InputKind}
 use Rattle.input_check.specs.declared.kinds.InputKind.TheVariants as kind
 

@@ -1,5 +1,5 @@
 -- What is said of an input: a line for each thing that is wrong with it, which names the line of the input; nothing where nothing is.
-use Rattle.std.specs.Prelude.{ℕ, zero, suc, ◌+◌, ◌-◌, ◌<◌, ◌≤◌, if◌then◌else◌, List, [], ◌∷◌, ◌++◌, length, take, Option, Some, Result, Ok, Err, true, ◌≡◌, slice_get}
+use Rattle.std.specs.Prelude.{ℕ, zero, suc, ◌+◌, ◌-◌, ◌<◌, ◌≤◌, if◌then◌else◌, List, [], ◌∷◌, ◌++◌, length, take, Some, Result, Ok, Err, true, ◌≡◌, slice_get}
 use Rattle.std.specs.List.{list_all}
 use Rattle.metering_model.specs.Batch.{Batch, batch_text, is_empty, lacks}
 use Rattle.metering_model.specs.Limits.{most_input_bytes}
@@ -13,7 +13,6 @@ use Rattle.metering_model.specs.Step.{step}
 use Rattle.metering_model.specs.Transcript.{line_count}
 use Rattle.metering_model.specs.World.{World, Journal, Reply, Journaled, Refused as IsRefused, next_packet, offer_of, opening}
 use Rattle.input_sections.specs.declared.faults.ScheduleCode.{ScheduleCode}
-use Rattle.input_sections.specs.declared.faults.ScheduleCode.TheVariants as code
 use Rattle.input_sections.specs.declared.faults.ScheduleFault.{ScheduleFault}
 use Rattle.input_sections.specs.declared.faults.ScheduleFault.TheVariants as section
 use Rattle.input_sections.specs.Sections.{Unread, left}

@@ -70,7 +70,7 @@ loop-preserved c =
         _,
         rw c.line.ensures.value at (c.in_ok-check_event.ensures.latest ahead.0 ahead.1),
         warned_more c.loop.warned.items ahead.0 c.loop.world c.loop.here k _ _ _ _ _ _ more some c.in-Ok.ensures.event
-        (rw c.line.ensures.value at (c.in_ok-check_event.ensures.ahead ahead.0 ahead.1)) c.in_ok-check_event.ensures.world ahead.2,
+            (rw c.line.ensures.value at (c.in_ok-check_event.ensures.ahead ahead.0 ahead.1)) c.in_ok-check_event.ensures.world ahead.2,
       ),
     )
 

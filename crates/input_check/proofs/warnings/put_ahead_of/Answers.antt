@@ -1,11 +1,8 @@
-use Rattle.std.proofs.Common.{◌≡◌, [], ◌∷◌, ◌++◌, ℕ, List, OnOk, ap, sym, subst, ◌∙◌, rules}
-use Rattle.metering_model.specs.Batch.{Batch}
-use Rattle.batch_view.specs.Batches.{batch_of}
+use Rattle.std.proofs.Common.{ap, sym, subst, ◌∙◌}
 use Rattle.group_events.specs.Events.{event_of}
-use Rattle.schedule_player.specs.Replies.{reply_of}
 use Rattle.fault_lines.specs.Ahead.{AreLatest, ahead_of_all}
-use Rattle.input_check.specs.Inner.Counted.{counted_of, handed_in, with_counted}
-use Rattle.input_check.proofs.CountedBatches.{ahead_of_none, ahead_of_one, no_batch_handed_in, no_batch_journaled}
+use Rattle.input_check.specs.Inner.Counted.{with_counted}
+use Rattle.input_check.proofs.CountedBatches.{ahead_of_none, no_batch_journaled}
 use Rattle.input_check.proofs.WarnedLaws.{still}
 use Rattle.input_check.proofs.warnings.put_ahead_of.Goals as goal
 
