@@ -12,6 +12,7 @@ pub mod WarningLaws
 pub mod CountedBatches
 pub mod WarnedLaws
 pub mod WrittenLaws
+pub mod NothingSaid
 pub mod RatingForms
 pub mod EventWords
 mod WorkedChecks

@@ -37,19 +37,22 @@ of_fault : (text : List ℕ) (fault : ScheduleFault) → IsNoneOrLines (said_of_
 of_fault text (section.Refused code n) = inr (one_line (with_number (codes "line ") n ++ codes ": " ++ (section_code_text code ++ reason text code n)))
 of_fault text section.OutOfMemory = inl refl
 
-of_told : (n : ℕ) (words : List ℕ) → IsNoneOrLines (told_at n words)
-of_told n words = inr (one_line (with_number (codes "line ") n ++ codes ": " ++ words))
+pub some_told : (n : ℕ) (words : List ℕ) → 1 ≤ line_count (told_at n words)
+some_told n words = one_line (with_number (codes "line ") n ++ codes ": " ++ words)
 
-of_refused : (n : ℕ) (w : World) (e : Planned) (why : Refusal) → IsNoneOrLines (said_of_refused n w e why)
-of_refused n w (PlansJournal ls) why =
+pub some_refused : (n : ℕ) (w : World) (e : Planned) (why : Refusal) → 1 ≤ line_count (said_of_refused n w e why)
+some_refused n w (PlansJournal ls) why =
     let bad = bad_index w.sheet w.journals (lines_text ls) in
-    of_told (n + line_within bad why) (words_of why ++ more_words w.sheet (lines_text ls) bad why)
-of_refused n w (PlansRevival i ls) why = of_told (n + line_of_kept why) (words_of why)
-of_refused n w (PlansDelivery k i) why = of_told n (words_of why)
-of_refused n w (PlansStart i) why = of_told n (words_of why)
-of_refused n w (PlansRestart i) why = of_told n (words_of why)
-of_refused n w (PlansExport i p) why = of_told n (words_of why)
-of_refused n w (PlansKeep i) why = of_told n (words_of why)
+    some_told (n + line_within bad why) (words_of why ++ more_words w.sheet (lines_text ls) bad why)
+some_refused n w (PlansRevival i ls) why = some_told (n + line_of_kept why) (words_of why)
+some_refused n w (PlansDelivery k i) why = some_told n (words_of why)
+some_refused n w (PlansStart i) why = some_told n (words_of why)
+some_refused n w (PlansRestart i) why = some_told n (words_of why)
+some_refused n w (PlansExport i p) why = some_told n (words_of why)
+some_refused n w (PlansKeep i) why = some_told n (words_of why)
+
+of_told : (n : ℕ) (words : List ℕ) → IsNoneOrLines (told_at n words)
+of_told n words = inr (some_told n words)
 
 of_reply : (n : ℕ) (w : World) (e : Planned) (reply : Reply) → IsNoneOrLines (said_of_reply n w e reply)
 of_reply n w e (Journaled k) = inl refl
@@ -58,7 +61,7 @@ of_reply n w e (Started b k) = inl refl
 of_reply n w e Restarted = inl refl
 of_reply n w e (Exported s) = inl refl
 of_reply n w e (KeptText text) = inl refl
-of_reply n w e (IsRefused why) = of_refused n w e why
+of_reply n w e (IsRefused why) = inr (some_refused n w e why)
 
 of_events : (most : ℕ) (w : World) (u : Unread) → IsNoneOrLines (said_of_events most w u)
 unfolding said_of_events

@@ -55,6 +55,10 @@ module _ (text : List ℕ) where
   unfolding warned_of_schedule
   no_schedule_warned fault is = ap warned is
 
+  pub schedule_warned : (s : ReadSchedule) → schedule_in text ≡ Ok s → warned_of_schedule text ≡ unknown_on 4 text ++ ahead_of_all [] (journaled_in_schedule text s)
+  unfolding warned_of_schedule
+  schedule_warned s is = ap warned is
+
   pub no_preamble_warned : (fault : ScheduleFault) → preamble_in text ≡ Err fault → warned_of_schedule text ≡ []
   no_preamble_warned fault is = no_schedule_warned fault (by_preamble text ∙ ap (λ r. r >>= behind text) is)
 
