@@ -3,3 +3,10 @@ pub mod RecordWords
 pub mod FieldLaws
 pub mod FieldPlaces
 pub mod FieldLines
+pub mod Latest
+pub mod LatestKept
+pub mod AheadWalks
+pub mod UnknownLaws
+mod WorkedKinds
+mod WorkedAhead
+mod WorkedUnknown

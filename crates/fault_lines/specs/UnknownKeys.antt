@@ -1,17 +1,19 @@
 -- Keys of a sheet or of an issuer that no reader takes, and the line of the input at which each is told.
-use Rattle.std.specs.Prelude.{◌≡◌, ℕ, ◌+◌, Bool, false, not, ◌&&◌, ◌||◌, ◌==◌, nat_le, nat_lt, if◌then◌else◌, List, [], ◌∷◌, ◌++◌, length, map, take, drop, filter, slice_index, Option, Some, None, Result, Ok, Err, codes}
+use Rattle.std.specs.Prelude.{ℕ, ◌+◌, Bool, not, ◌&&◌, ◌||◌, ◌==◌, nat_le, nat_lt, if◌then◌else◌, List, [], ◌∷◌, ◌++◌, length, map, take, drop, filter, Option, Some, None, Result, Ok, Err, codes}
 use Rattle.std.specs.List.{flat_map, list_any, position}
 use Rattle.std.specs.Str.{is_utf8}
 use Rattle.toml.specs.Data.{Members, no_members, member}
 use Rattle.toml.specs.Parse.{parse_document}
 use Rattle.metering_model.specs.BatchReading.{is_same, lines_in}
 use Rattle.metering_model.specs.Limits.{most_sheet_lines, most_issuer_lines}
-use Rattle.sheet_text.specs.Keys.{KeyFault, rows_under}
-use Rattle.sheet_text.specs.Names.{Key, key_name}
+use Rattle.sheet_text.specs.Keys.{rows_under}
+use Rattle.sheet_text.specs.Names.{key_name}
+use Rattle.sheet_text.specs.declared.keys.KeyFault.{KeyFault}
+use Rattle.sheet_text.specs.declared.names.Key.{Key}
 use Rattle.sheet_text.specs.declared.names.Key.TheVariants as keys
 use Rattle.input_sections.specs.declared.faults.ScheduleCode.TheVariants as code
 use Rattle.input_sections.specs.declared.faults.ScheduleFault.{ScheduleFault}
-use Rattle.input_sections.specs.Sections.{Section, Unread, begins_with, left, section_in}
+use Rattle.input_sections.specs.Sections.{Section, Unread, begins_with, section_in}
 use Rattle.fault_lines.specs.Told.{told_at}
 
 -- ---- the keys that no reader takes

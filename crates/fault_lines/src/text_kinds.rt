@@ -1,7 +1,6 @@
 //! What a text is that is none of its kind.
 
 ghost use Rattle.std.specs.Prelude.{◌≡◌};
-ghost use Rattle.std.specs.Option.{option_map};
 ghost use Rattle.fault_lines.specs.Fields.{line_at};
 ghost use Rattle.fault_lines.specs.TextKinds.{batch_words, ends_with_return, is_byte_order_mark, is_of_head, is_utf16, kind_words, return_words};
 
