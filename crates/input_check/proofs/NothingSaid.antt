@@ -1,5 +1,5 @@
 -- Where nothing is said nothing is refused, whatever is warned of.
-use Rattle.std.proofs.Common.{◌≡◌, ℕ, ◌+◌, ◌-◌, ◌≤◌, Bool, false, ◌||◌, List, [], ◌∷◌, ◌++◌, length, map, take, Result, Ok, Err, refl, sym, ap, ap₂, ◌∙◌, subst, arith}
+use Rattle.std.proofs.Common.{◌≡◌, ℕ, ◌+◌, ◌-◌, ◌≤◌, false, ◌||◌, List, [], ◌∷◌, ◌++◌, length, map, take, Result, Ok, Err, refl, sym, ap, ap₂, ◌∙◌, subst, arith}
 use Rattle.std.specs.List.{list_any}
 use Rattle.metering_model.specs.Batch.{Batch}
 use Rattle.metering_model.specs.File.{file}
@@ -18,7 +18,7 @@ use Rattle.schedule_player.specs.Transcripts.{replies_to}
 use Rattle.batch_player.specs.RateInput.{or_refused, or_schedule, rated_file}
 use Rattle.group_events.specs.Replies.{is_refused}
 use Rattle.answer_words.specs.Words.{section_code_text}
-use Rattle.fault_lines.specs.Told.{bad_index, line_within, more_words, reason, said_of_fault, told_at, words_of}
+use Rattle.fault_lines.specs.Told.{bad_index, line_within, more_words, reason, said_of_fault, words_of}
 use Rattle.input_check.specs.Checks.{SaysWhatIsPlayed, event_lines, said_of_batch, said_of_journaled, said_of_rating, said_of_replies, said_of_reply, said_of_schedule}
 use Rattle.input_check.proofs.LineLaws.{some_told, some_refused}
 use Rattle.input_check.proofs.NeverWants.{NeverWants, a_rating}
