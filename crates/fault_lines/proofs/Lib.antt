@@ -1,0 +1,5 @@
+pub mod SectionLaws
+pub mod RecordWords
+pub mod FieldLaws
+pub mod FieldPlaces
+pub mod FieldLines
