@@ -18,21 +18,22 @@ abbrev pub told_of_batches : List ℕ → World → List Offered → List ℕ
 told_of_batches input w [] = []
 told_of_batches input w (b ∷ bs) = told_of_answer input w b (answer_to w b.text) ++ told_of_batches input (step w (journal_of b)).1 bs
 
--- The first fault of the sections alone, or each batch that a group of one node and 64 agents does not journal behind those above
--- it that it did journal.
-unfoldable pub refusals_of : List ℕ → List ℕ
-refusals_of input =
+-- the first fault of the sections alone, or each batch that a group of one node and 64 agents does not journal behind those above it
+-- that it did journal
+unfoldable pub said_of_input : List ℕ → List ℕ
+said_of_input input =
     elim (rate_input_in input) [
       | Ok given ↦ told_of_batches input (world_before given.sheet given.issuer) (batches_of (items_of input given))
       | Err fault ↦ said_of_fault input fault
     ]
 
 -- what is odd, and no fault
-unfoldable pub warnings_of : List ℕ → List ℕ
-warnings_of input = []
+unfoldable pub warned_of_input : List ℕ → List ℕ
+warned_of_input input = []
 
--- These are the refusals and the warnings of an input, which is all that a reader gives where its bytes are known.
-pub record IsSaidOf (known : Option (List ℕ)) (input refusals warnings : List ℕ) : Type 0 where
+-- The texts are what is said of an input that is refused, and of what it is warned. The input is all that a reader gives, where its bytes
+-- are known.
+pub record IsSaidOf (known : Option (List ℕ)) (input said warned : List ℕ) : Type 0 where
   pub is_input : IfSome known (λ bytes. input ≡ bytes)
-  pub are_refusals : refusals ≡ refusals_of input
-  pub are_warnings : warnings ≡ warnings_of input
+  pub is_said : said ≡ said_of_input input
+  pub is_warned : warned ≡ warned_of_input input

@@ -1,6 +1,6 @@
 //! `focusd check --kind schedule`: what is wrong with an input that is to have a schedule.
 
-ghost use Rattle.std.specs.Prelude.{◌≡◌, ◌≢◌, ◌⊎◌, ◌++◌, ◌+◌, ◌≤◌, ℕ, List, Ok, Err, IfOk, IfErr, OnOk, drop, length};
+ghost use Rattle.std.specs.Prelude.{◌≡◌, ◌≢◌, ◌⊎◌, ◌++◌, ◌+◌, ◌≤◌, ℕ, List, Ok, Err, IfOk, IfErr, OnOk, [], ◌∷◌, drop, length, map};
 ghost use Rattle.std.specs.Arc.{arc_value};
 ghost use Rattle.std.specs.Io.KnownBytes.{Appends, IsAtEnd};
 ghost use Rattle.counted_io.specs.Counts.{Rises, count_after};
@@ -14,7 +14,8 @@ ghost use Rattle.metering_model.specs.declared.Refusal.{Refusal};
 ghost use Rattle.input_sections.specs.declared.faults.ScheduleFault.{ScheduleFault};
 ghost use Rattle.input_sections.specs.RateInput.{rate_input_in};
 ghost use Rattle.schedule_player.specs.Faults.{tells_of_reader, tells_of_writer};
-ghost use Rattle.schedule_writer.specs.Checks.{IsSaidOf, refusals_of, told_of_batches, warnings_of};
+ghost use Rattle.schedule_writer.specs.Checks.{IsSaidOf, said_of_input, told_of_batches, warned_of_input};
+ghost use Rattle.schedule_writer.specs.Refusals.{journal_of};
 ghost use Rattle.schedule_writer.specs.Inputs.{batches_of, item_at, item_length, items_in};
 
 use crate::inputs::{Item, item_at};
@@ -89,7 +90,7 @@ fn check_batches(
     requires given { rate_input_in input.now
         ≡ Ok (record { sheet = given.sheet; issuer = given.issuer; batch = drop given.batch_from input.now }) }
     requires within { given.batch_from ≤ length input.now }
-    ensures { OnOk result (told.new.items ≡ told.old.items ++ refusals_of input.now) }
+    ensures { OnOk result (told.new.items ≡ told.old.items ++ said_of_input input.now) }
 {
     let RateInput {
         sheet,
@@ -108,7 +109,7 @@ fn check_batches(
 
 /// Appends the refusals of an input.
 fn put_refusals(alloc: Global, input: &[u8], told: &mut Vec<u8>) -> Result<(), AllocError>
-    ensures { OnOk result (told.new.items ≡ told.old.items ++ refusals_of input.now) }
+    ensures { OnOk result (told.new.items ≡ told.old.items ++ said_of_input input.now) }
 {
     match rate_input(alloc, input) {
         Ok(given) => check_batches(alloc, input, given, told),
@@ -118,8 +119,9 @@ fn put_refusals(alloc: Global, input: &[u8], told: &mut Vec<u8>) -> Result<(), A
 
 /// What is said of an input, and how many lines its refusals have.
 fn said_of(alloc: Global, input: &[u8]) -> Result<(Vec<u8>, u64), AllocError>
-    ensures said { IfOk result (λ r. r.0.items ≡ refusals_of input.now ++ warnings_of input.now) }
-    ensures count { IfOk result (λ r. r.1 ≡ line_count (refusals_of input.now)) }
+    ensures said { IfOk result (λ r. r.0.items ≡ said_of_input input.now ++ warned_of_input input.now) }
+    ensures count { IfOk result (λ r. r.1 ≡ line_count (said_of_input input.now)) }
+    ensures ahead { IfOk result (λ r. r.1 ≡ 0 → said_of_input input.now ≡ []) }
 {
     let mut said = Vec::new(alloc);
     put_refusals(alloc, input, &mut said)?;
@@ -148,11 +150,12 @@ fn write_said<W: Sink>(said: &[u8], count: u64, writer: &mut W) -> Result<u64, P
 /// Writes what is said of an input, all at once: at want of memory nothing.
 fn write_checked<W: Sink>(alloc: Global, input: &[u8], writer: &mut W) -> Result<u64, PlayFault>
     ensures said { OnOk result (Appends (W.contents writer.old) (W.contents writer.new)
-        (refusals_of input.now ++ warnings_of input.now)) }
-    ensures count { IfOk result (λ count. count ≡ line_count (refusals_of input.now)) }
+        (said_of_input input.now ++ warned_of_input input.now)) }
+    ensures count { IfOk result (λ count. count ≡ line_count (said_of_input input.now)) }
+    ensures ahead { result ≡ Ok 0 → said_of_input input.now ≡ [] }
     ensures prefix { result ≡ Err PlayFault.Write
         → AppendsPrefix (W.contents writer.old) (W.contents writer.new)
-        (refusals_of input.now ++ warnings_of input.now) }
+        (said_of_input input.now ++ warned_of_input input.now) }
     ensures fault { IfErr result (λ fault. (fault ≡ PlayFault.Write) ⊎ (fault ≡ PlayFault.OutOfMemory)) }
     ensures memory { result ≡ Err PlayFault.OutOfMemory → writer.new ≡ writer.old }
     ensures write_fault { result ≡ Err PlayFault.Write
@@ -178,15 +181,20 @@ pub fn check_schedule_input<R: Source, W: Sink>(
     writer: &mut W,
 ) -> Result<u64, PlayFault>
     // With Ok just what is said of the input was written.
-    ensures said { IfOk result (λ count. (input refusals warnings : List ℕ)
-        × IsSaidOf (R.remaining reader.old) input refusals warnings
-        × Appends (W.contents writer.old) (W.contents writer.new) (refusals ++ warnings)
-        × (count ≡ line_count refusals)) }
+    ensures said { IfOk result (λ count. (input said warned : List ℕ)
+        × IsSaidOf (R.remaining reader.old) input said warned
+        × Appends (W.contents writer.old) (W.contents writer.new) (said ++ warned)
+        × (count ≡ line_count said)) }
+
+    // Where nothing is refused, just the warnings were written.
+    ensures ahead { result ≡ Ok 0 → (input warned : List ℕ)
+        × IsSaidOf (R.remaining reader.old) input [] warned
+        × Appends (W.contents writer.old) (W.contents writer.new) warned }
 
     // After `Write` a prefix of it was, and never all of it.
-    ensures prefix { result ≡ Err PlayFault.Write → (input refusals warnings : List ℕ)
-        × IsSaidOf (R.remaining reader.old) input refusals warnings
-        × AppendsPrefix (W.contents writer.old) (W.contents writer.new) (refusals ++ warnings) }
+    ensures prefix { result ≡ Err PlayFault.Write → (input said warned : List ℕ)
+        × IsSaidOf (R.remaining reader.old) input said warned
+        × AppendsPrefix (W.contents writer.old) (W.contents writer.new) (said ++ warned) }
     ensures untouched { IfErr result (λ fault. fault ≢ PlayFault.Write → writer.new ≡ writer.old) }
     ensures no_section { (fault : ScheduleFault) → result ≢ Err (PlayFault.Schedule fault) }
     ensures no_refusal { (refusal : Refusal) → result ≢ Err (PlayFault.Refused refusal) }

@@ -20,7 +20,7 @@ ghost use Rattle.group_events.specs.Replies.{reply_of};
 
 use crate::faults::WriteFault;
 use crate::inputs::{Item, Offered, item_at};
-use crate::lines::told_of;
+use crate::lines::journal_offered;
 use batch_view::OwnedBatch;
 use group_events::{Event, Offer, Period, Reply};
 use metering_model::Refusal;
