@@ -1,10 +1,11 @@
-pub mod Certificates
-pub mod PlanLaws
-pub mod LineTexts
-pub mod AnswerLaws
-pub mod ItemLaws
-pub mod JudgedLaws
-pub mod ScheduleLaws
 pub mod KnownLaws
-mod WorkedInputs
-mod FalseRuns
+pub mod ItemLaws
+pub mod AnswerLaws
+pub mod JournalLaws
+pub mod JudgedLaws
+pub mod CheckLaws
+pub mod PlanLaws
+pub mod Certificates
+pub mod ScheduleLaws
+pub mod WorkedInputs
+pub mod FalseRuns

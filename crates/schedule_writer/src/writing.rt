@@ -17,7 +17,7 @@ ghost use Rattle.schedule_writer.specs.Refusals.{IsRefusedAt, IsTaken};
 ghost use Rattle.schedule_writer.specs.Requests.{IsRequest};
 ghost use Rattle.schedule_writer.specs.Schedules.{IsScheduleOf};
 ghost use Rattle.schedule_writer.specs.Inner.Certified.{IsCertified};
-ghost use Rattle.schedule_writer.specs.Inner.Judged.{IsAskedWithin, IsFaultOf, IsReadInput, IsUncertain};
+ghost use Rattle.schedule_writer.specs.Inner.Judged.{IsAskedBy, IsAskedWithin, IsFaultOf, IsReadInput, IsUncertain};
 ghost use Rattle.schedule_writer.specs.Inner.Plans.{offered_of, plan_of};
 
 use crate::asked::Request;

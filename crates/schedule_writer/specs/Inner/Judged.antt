@@ -82,8 +82,7 @@ IsFaultOf input fault.OutOfMemory = ⊤
 IsFaultOf input fault.Read = ⊥
 IsFaultOf input fault.Write = ⊥
 
--- These are the sheet, the issuer and the batches of the input, all of which are journaled, and how many of the batches stand above
--- each line that closes a period.
+-- These are the sheet, the issuer and the batches of the input, and how many of the batches stand above each line that closes a period.
 pub record IsReadInput (input : List ℕ) (sheet : Sheet) (issuer : Issuer) (bs : List Offered) (closes : List ℕ) : Type 0 where
   pub given : RateInput
   pub is_given : rate_input_in input ≡ Ok given
@@ -91,4 +90,3 @@ pub record IsReadInput (input : List ℕ) (sheet : Sheet) (issuer : Issuer) (bs 
   pub by_issuer : given.issuer ≡ issuer
   pub batches : bs ≡ batches_of (items_of input given)
   pub are_closes : closes ≡ closes_of (items_of input given)
-  pub taken : All IsJournaled (answers_to sheet issuer bs)
