@@ -5,9 +5,10 @@ use Rattle.std.specs.List.{flat_map, range_with_len, slice_get}
 use Rattle.std.specs.Option.{option_and_then, option_map_or, unwrap_or}
 use Rattle.std.proofs.lemmas.Grind.{flat_map-append}
 use Rattle.std.proofs.lemmas.Option.{option_and_then_some, slice_get_past}
-use Rattle.std.proofs.lemmas.List.{append-nil, take_more}
+use Rattle.std.proofs.lemmas.List.{append-nil, length-append, take_more}
 use Rattle.std.proofs.lemmas.List.Elements.{All-cons, All-nil}
-use Rattle.std.proofs.lemmas.List.FromFn.{counting_more, map-range_with_len_more}
+use Rattle.std.proofs.lemmas.List.Folds.{flat_map-map}
+use Rattle.std.proofs.lemmas.List.FromFn.{map-range_with_len_more}
 use Rattle.std.proofs.lemmas.Bool.{eqb-true, leb-true, ltb-false, ltb-true}
 use Rattle.metering_model.specs.BatchReading.{is_same}
 use Rattle.metering_model.specs.Cut.{Cut}
@@ -157,28 +158,36 @@ journals_split (PlansRevival i ls) es = refl
 -- ---- the files
 
 -- whose files were shown
-shown : Plan → Seen → List (ℕ × ℕ)
-shown plan seen = files_before plan.nodes seen.period ++ map (λ node. (node, seen.period)) (range_with_len 0 seen.node)
+pub shown : Plan → Seen → List (ℕ × ℕ)
+shown plan seen = files_before plan.nodes seen.period ++ files_of seen.node seen.period
+
+abbrev same : ℕ → ℕ
+same n = n
+
+abbrev pair : ℕ → ℕ → ℕ × ℕ
+pair period node = (node, period)
 
 period_more : (nodes period : ℕ) → files_before nodes (period + 1) ≡ files_before nodes period ++ files_of nodes period
 period_more nodes period =
-    ap (flat_map (files_of nodes)) (counting_more 0 period period refl)
-    ∙ (flat_map-append (files_of nodes) (range_with_len 0 period) (period ∷ []) ∙ ap (λ t. files_before nodes period ++ t) (append-nil (files_of nodes period)))
+    sym (flat_map-map (files_of nodes) same (range_with_len 0 (period + 1)))
+    ∙ (ap (flat_map (files_of nodes)) (map-range_with_len_more same 0 period period (omega arith))
+    ∙ (flat_map-append (files_of nodes) (map same (range_with_len 0 period)) (period ∷ [])
+    ∙ ap₂ (λ xs ys. xs ++ ys) (flat_map-map (files_of nodes) same (range_with_len 0 period)) (append-nil (files_of nodes period))))
 
-node_more : (node period : ℕ) → map (λ n. (n, period)) (range_with_len 0 (node + 1)) ≡ map (λ n. (n, period)) (range_with_len 0 node) ++ (node, period) ∷ []
-node_more node period = map-range_with_len_more (λ n. (n, period)) 0 node node refl
+node_more : (node period : ℕ) → files_of (node + 1) period ≡ files_of node period ++ (node, period) ∷ []
+node_more node period = map-range_with_len_more (pair period) 0 node node (omega arith)
 
 one_file : (plan : Plan) (seen : Seen) (b : Bool) → nat_lt (seen.node + 1) plan.nodes ≡ b → seen.node < plan.nodes
     → shown plan seen ++ (seen.node, seen.period) ∷ []
     ≡ shown plan (cond b (record seen { node = seen.node + 1 }) (record seen { node = 0; period = seen.period + 1 }))
 unfolding shown
 one_file plan seen true is within =
-    append_assoc (files_before plan.nodes seen.period) (map (λ node. (node, seen.period)) (range_with_len 0 seen.node)) ((seen.node, seen.period) ∷ [])
+    append_assoc (files_before plan.nodes seen.period) (files_of seen.node seen.period) ((seen.node, seen.period) ∷ [])
     ∙ ap (λ t. files_before plan.nodes seen.period ++ t) (sym (node_more seen.node seen.period))
 one_file plan seen false is within =
     let few : plan.nodes ≤ seen.node + 1 = ltb-false (seen.node + 1) plan.nodes is in
     let all : seen.node + 1 ≡ plan.nodes = omega arith in
-    append_assoc (files_before plan.nodes seen.period) (map (λ node. (node, seen.period)) (range_with_len 0 seen.node)) ((seen.node, seen.period) ∷ [])
+    append_assoc (files_before plan.nodes seen.period) (files_of seen.node seen.period) ((seen.node, seen.period) ∷ [])
     ∙ (ap (λ t. files_before plan.nodes seen.period ++ t) (sym (node_more seen.node seen.period) ∙ ap (λ n. files_of n seen.period) all)
     ∙ (sym (period_more plan.nodes seen.period) ∙ sym (append-nil (files_before plan.nodes (seen.period + 1)))))
 
@@ -186,7 +195,7 @@ same_shown : (plan : Plan) (seen next : Seen) → seen.node ≡ next.node → se
 unfolding shown
 same_shown plan seen next node period =
     append-nil (shown plan seen)
-    ∙ ap₂ (λ n p. files_before plan.nodes p ++ map (λ m. (m, p)) (range_with_len 0 n)) node period
+    ∙ ap₂ (λ n p. files_before plan.nodes p ++ files_of n p) node period
 
 one_export : (plan : Plan) (seen next : Seen) (h : Holding) (r : Reply) (e : Planned) → behind_taken plan seen h r e ≡ Some next
     → shown plan seen ++ exports_of (e ∷ []) ≡ shown plan next
@@ -249,13 +258,13 @@ all_exports nodes last batches plan es are upto is =
     is ∙ (append-nil (files_before plan.nodes (plan.last + 1)) ∙ ap₂ (λ n p. files_before n (p + 1)) are upto)
 
 start_split : (e : Planned) (es : List Planned) → length (filter is_start (e ∷ es)) ≡ length (filter is_start (e ∷ [])) + length (filter is_start es)
-start_split (PlansJournal ls) es = refl
-start_split (PlansExport i p) es = refl
-start_split (PlansDelivery k i) es = refl
-start_split (PlansStart i) es = refl
-start_split (PlansRestart i) es = refl
-start_split (PlansKeep i) es = refl
-start_split (PlansRevival i ls) es = refl
+start_split (PlansJournal ls) es = omega arith
+start_split (PlansExport i p) es = omega arith
+start_split (PlansDelivery k i) es = omega arith
+start_split (PlansStart i) es = omega arith
+start_split (PlansRestart i) es = omega arith
+start_split (PlansKeep i) es = omega arith
+start_split (PlansRevival i ls) es = omega arith
 
 more_in_all : (a b c d e f : ℕ) → a + b ≡ c → d ≡ b + e → c + e ≡ f → a + d ≡ f
 more_in_all a b c d e f one split rest = omega (arith, one, split, rest)
@@ -330,12 +339,8 @@ due plan seen last w (e ∷ es) is zero node period asks =
 due plan seen last w (e ∷ es) is (suc k) node period asks =
     option_and_then_some (λ next. behind_all plan next (step w (event_of e)).1 es) (behind plan seen w.journals (step w (event_of e)).0 e) last is
     (λ next one rest. more_in_all _ _ _ _ _ _ (same_count plan seen next _ _ e (is_taken plan seen next _ _ e one).1).0
-    (ap length (journals_split e (take k es)) ∙ lengths (journals_of (e ∷ [])) (journals_of (take k es)))
+    (ap length (journals_split e (take k es)) ∙ length-append (journals_of (e ∷ [])) (journals_of (take k es)))
     (due plan next last (step w (event_of e)).1 es rest k node period asks))
-  where
-    lengths : (xs ys : List (List ℕ)) → length (xs ++ ys) ≡ length xs + length ys
-    lengths [] ys = refl
-    lengths (x ∷ xs) ys = ap suc (lengths xs ys)
 
 -- ---- which files are shown
 

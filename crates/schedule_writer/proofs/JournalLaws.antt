@@ -2,16 +2,18 @@
 use Rattle.std.proofs.Common.{◌≡◌, ℕ, Bool, true, false, List, length, Option, Some, None, Result, Ok, Err, refl, sym, ap, subst, ◌∙◌, nat_le, nat_lt, ok_or}
 use Rattle.std.specs.Prelude.{◌==◌, if◌then◌else◌, slice_get}
 use Rattle.metering_model.specs.Batch.{Batch}
-use Rattle.metering_model.specs.BatchReading.{batch_in}
+use Rattle.metering_model.specs.BatchReading.{batch_in, is_same}
 use Rattle.metering_model.specs.Deliveries.{Handled, handled}
 use Rattle.metering_model.specs.FirstFailure.{◌>>=◌, holds_or}
 use Rattle.metering_model.specs.Holding.{Holding, placed, put}
 use Rattle.metering_model.specs.JournalRules.{first_broken, next_seq}
-use Rattle.metering_model.specs.KeptText.{KeptAmong}
-use Rattle.metering_model.specs.Step.{Outcome, after_delivery, batch_of as offered, on_batch, on_delivery, on_export, on_journal, on_keep, on_restart, on_revival, on_start, or_bad_batch, or_refused, outcome_of, step, unless_broken}
-use Rattle.metering_model.specs.World.{World, Event, Journal, Deliver, Start, Restart, Export, Keep, Revive, Good, Bad, KeptOffer, Packet, Delivered, with_node_at, with_packet, next_packet}
+use Rattle.metering_model.specs.KeptText.{kept_text}
+use Rattle.metering_model.specs.Limits.{most_periods, most_rounds}
+use Rattle.metering_model.specs.Step.{Outcome, batch_of as offered, kept_now, kept_of, node_at, on_batch, or_bad_batch, or_refused, outcome_of, snapshot, step, unless_broken}
+use Rattle.metering_model.specs.World.{World, Event, Journal, Deliver, Start, Restart, Export, Keep, Revive, Good, Bad, Packet, Delivered, current_period, votes, with_node_at, with_packet, next_packet}
 use Rattle.metering_model.specs.declared.BatchFault.{BatchFault}
 use Rattle.metering_model.specs.declared.Refusal.{Refusal}
+use Rattle.metering_model.specs.declared.Refusal.TheVariants.{AllClosed, NoAgent, NoBallot, NoPacket, NotKept, Observer, WrongSeq}
 use Rattle.batch_view.specs.Batches.{batch_of}
 use Rattle.batch_view.proofs.BatchLemmas.{batch_of_is}
 use Rattle.group_events.specs.Replies.{is_refused}
@@ -49,20 +51,30 @@ read (Err e) b is = absurd (cc)
 
 placing : (w : World) (text : List ℕ) (b : Batch) → batch_of text ≡ b → Leaves (put w.journals (batch_of text)) (on_batch w b)
 placing w text b is =
-    bound _ (holds_or (nat_le b.agent w.agents) _) _ (λ u one.
-    bound _ (holds_or (b.seq == next_seq w.journals b.agent) _) _ (λ u two.
-    bound _ (unless_broken (first_broken w.sheet (put w.journals b) (placed b))) _ (λ u three.
-    bound _ (next_packet w) _ (λ k room. done _ _ (ap (put w.journals) (sym is))))))
+    bound (put w.journals (batch_of text)) (holds_or (nat_le b.agent w.agents) NoAgent) _ (λ u one.
+    bound (put w.journals (batch_of text)) (holds_or (b.seq == next_seq w.journals b.agent) (WrongSeq (next_seq w.journals b.agent))) _ (λ u two.
+    bound (put w.journals (batch_of text)) (unless_broken (first_broken w.sheet (put w.journals b) (placed b))) _ (λ u three.
+    bound (put w.journals (batch_of text)) (next_packet w) _ (λ k room. done (put w.journals (batch_of text)) _ (ap (put w.journals) (sym is))))))
 
 leaves : (w : World) (e : Event) → Leaves (journals_behind w.journals e) (outcome_of w e)
-leaves w (Journal (Good text)) = bound _ (or_bad_batch (batch_in text)) (on_batch w) (λ b is. placing w text b (batch_of_is text b (read (batch_in text) b is)))
-leaves w (Journal (Bad fault)) = bound _ (offered (Bad fault)) (on_batch w) (λ b is. absurd (cc))
-leaves w (Deliver k i) = bound _ _ _ (λ p one. bound _ _ _ (λ n two. sends w i (handled w i n p) (handled w i n p).sends))
-leaves w (Start i) = bound _ _ _ (λ n one. bound _ _ _ (λ u two. bound _ _ _ (λ u three. bound _ _ _ (λ u four. bound _ _ _ (λ k room. done _ _ refl)))))
-leaves w (Restart i) = bound _ _ _ (λ n one. done _ _ refl)
-leaves w (Export i p) = bound _ _ _ (λ s one. done _ _ refl)
-leaves w (Keep i) = bound _ _ _ (λ n one. done _ _ refl)
-leaves w (Revive i offer) = bound _ _ _ (λ n one. bound _ _ _ (λ k two. bound _ _ _ (λ u three. done _ _ refl)))
+leaves w (Journal (Good text)) = bound (put w.journals (batch_of text)) (or_bad_batch (batch_in text)) (on_batch w) (λ b is. placing w text b (batch_of_is text b (read (batch_in text) b is)))
+leaves w (Journal (Bad fault)) = bound w.journals (offered (Bad fault)) (on_batch w) (λ b is. absurd (cc))
+leaves w (Deliver k i) =
+    bound w.journals (ok_or (slice_get w.packets k) NoPacket) _ (λ p one.
+    bound w.journals (node_at w i) _ (λ n two. sends w i (handled w i n p) (handled w i n p).sends))
+leaves w (Start i) =
+    bound w.journals (node_at w i) _ (λ n one.
+    bound w.journals (holds_or (votes w i) Observer) _ (λ u two.
+    bound w.journals (holds_or (nat_lt (current_period n) most_periods) AllClosed) _ (λ u three.
+    bound w.journals (holds_or (nat_lt n.kept.round most_rounds) NoBallot) _ (λ u four.
+    bound w.journals (next_packet w) _ (λ k room. done w.journals _ refl)))))
+leaves w (Restart i) = bound w.journals (node_at w i) _ (λ n one. done w.journals _ refl)
+leaves w (Export i p) = bound w.journals (snapshot w i p) _ (λ s one. done w.journals _ refl)
+leaves w (Keep i) = bound w.journals (node_at w i) _ (λ n one. done w.journals _ refl)
+leaves w (Revive i offer) =
+    bound w.journals (node_at w i) _ (λ n one.
+    bound w.journals (kept_of offer) _ (λ k two.
+    bound w.journals (holds_or (is_same (kept_text k) (kept_text (kept_now w n))) NotKept) _ (λ u three. done w.journals _ refl)))
 
 -- behind an event that is not refused the journals have its batch, if it has one
 pub journals_after : (w : World) (e : Event) → is_refused (step w e).0 ≡ false → (step w e).1.journals ≡ journals_behind w.journals e

@@ -7,5 +7,6 @@ pub mod CheckLaws
 pub mod PlanLaws
 pub mod Certificates
 pub mod ScheduleLaws
-pub mod WorkedInputs
-pub mod FalseRuns
+mod WorkedInputs
+mod WorkedSchedules
+mod FalseRuns

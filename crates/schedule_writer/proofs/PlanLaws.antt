@@ -1,8 +1,9 @@
 -- What is lent of a plan, and what one event more has done.
-use Rattle.std.proofs.Common.{◌≡◌, ◌<◌, ◌≤◌, ◌&&◌, ℕ, suc, Bool, true, false, cond, nat_lt, List, [], ◌∷◌, length, map, get_or, Option, Some, None, Result, Ok, refl, sym, ap, ◌∙◌, arith, length-map, lt-ltb}
-use Rattle.std.specs.Prelude.{not, nat_le}
+use Rattle.std.proofs.Common.{◌≡◌, ◌<◌, ◌≤◌, ◌&&◌, ℕ, suc, Bool, true, false, cond, nat_eq, nat_lt, List, [], ◌∷◌, length, map, get_or, Option, Some, None, Result, Ok, refl, sym, ap, ap₂, ◌∙◌, arith, lt-ltb}
+use Rattle.std.specs.Prelude.{◌↔◌, IsTrue, not, nat_le}
 use Rattle.std.specs.Option.{option_and_then, option_map_or}
-use Rattle.std.proofs.lemmas.List.{get_or-map}
+use Rattle.std.proofs.lemmas.Bool.{and_from, eq-eqb}
+use Rattle.std.proofs.lemmas.List.{get_or-map, length-map}
 use Rattle.metering_model.specs.Batch.{is_empty}
 use Rattle.metering_model.specs.BatchReading.{is_same}
 use Rattle.metering_model.specs.FirstFailure.{◌>>=◌}
@@ -10,7 +11,8 @@ use Rattle.metering_model.specs.Holding.{Holding}
 use Rattle.metering_model.specs.Schedule.{Planned, event_of}
 use Rattle.metering_model.specs.Sheet.{Sheet, Issuer}
 use Rattle.metering_model.specs.Step.{step}
-use Rattle.metering_model.specs.World.{World, Reply, opening}
+use Rattle.metering_model.specs.World.{World, Event, Reply, opening}
+use Rattle.metering_model.proofs.FieldLaws.{same_read}
 use Rattle.input_sections.specs.declared.faults.ScheduleFault.{ScheduleFault}
 use Rattle.input_sections.specs.Sections.{Unread, left}
 use Rattle.group_events.specs.Replies.{is_refused}
@@ -21,7 +23,8 @@ use Rattle.schedule_writer.specs.declared.inputs.Offered.{Offered as LentBatch}
 use Rattle.schedule_writer.specs.declared.plans.Plan.{Plan as LentPlan}
 use Rattle.schedule_writer.specs.declared.plans.Seen.{Seen}
 use Rattle.schedule_writer.specs.Inner.Certified.{IsCertified}
-use Rattle.schedule_writer.specs.Inner.Plans.{IsDone, Plan, all_seen, behind, behind_all, behind_taken, is_good, is_next, nothing_seen, offered_of, plan_of}
+use Rattle.schedule_writer.specs.Inner.Plans.{IsDone, Plan, all_seen, behind, behind_all, behind_taken, is_good, is_next, journals_behind, nothing_seen, offered_of, plan_of}
+use Rattle.schedule_writer.proofs.JournalLaws.{journals_after}
 
 pub next_is : (p : LentPlan) (seen : Seen) (text : List ℕ) (d : LentBatch) → seen.journaled < length p.batches.now
     → is_same (get_or p.batches.now seen.journaled d).text.now text ≡ is_next (plan_of p) seen text
@@ -35,6 +38,20 @@ next_is p seen text d within =
     ∙ ap (λ b. b.text) (get_or-map offered_of bs seen.journaled d (offered_of d) within) in
     sym (ap (λ t. t && is_same (get_or (plan_of p).batches seen.journaled []) text) test ∙ ap (λ t. is_same t text) read)
 
+same_itself : (t : List ℕ) → is_same t t ≡ true
+same_itself [] = refl
+same_itself (x ∷ xs) = and_from (nat_eq x x) (is_same xs xs) (eq-eqb x x refl) (same_itself xs)
+
+-- a test of two cuts
+pub cuts_tested : (b : Bool) (x y : List ℕ) → IsTrue b ↔ (x ≡ y) → b ≡ is_same x y
+cuts_tested b x y is = by_test b (is_same x y) refl is
+  where
+    by_test : (b t : Bool) → is_same x y ≡ t → IsTrue b ↔ (x ≡ y) → b ≡ t
+    by_test true true so is = refl
+    by_test false false so is = refl
+    by_test true false so is = sym (same_itself x) ∙ (ap (is_same x) (is.0 refl) ∙ so)
+    by_test false true so is = absurd (let no = is.1 (same_read x y so) in cc)
+
 -- ---- one event more
 
 -- what was taken was not refused
@@ -44,6 +61,14 @@ not_refused plan seen next h r e is = by_test (is_refused r) (option_map_or (λ 
     by_test : (t good : Bool) → cond (not t && good) (behind_taken plan seen h r e) None ≡ Some next → t ≡ false
     by_test false good so = refl
     by_test true good so = absurd (cc)
+
+-- the journals are those of the world behind it
+pub kept_journals : (plan : Plan) (seen next : Seen) (w v : World) (e : Planned) (event : Event) (before after : Holding)
+    → behind plan seen w.journals (step w (event_of e)).0 e ≡ Some next → v ≡ (step w (event_of e)).1 → event ≡ event_of e → before ≡ w.journals
+    → after ≡ journals_behind before event → after ≡ v.journals
+kept_journals plan seen next w v e event before after one behind_it same old new =
+    new ∙ (ap₂ journals_behind old same
+    ∙ (sym (journals_after w (event_of e) (not_refused plan seen next w.journals (step w (event_of e)).0 e one)) ∙ ap (λ (x : World). x.journals) (sym behind_it)))
 
 not_empty : {A : Type 0} (t : List ℕ) (x y : A) → 0 < length t → cond (is_empty t) x y ≡ y
 not_empty [] x y some = absurd (omega arith)

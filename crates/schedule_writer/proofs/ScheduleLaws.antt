@@ -47,7 +47,7 @@ closes_each plan r is last nodes is_last base batches closes done =
     record {
       journals = journals plan nothing_seen (all_seen plan) w r.events done ∙ (take-length plan.batches ∙ batches);
       exports = all_exports (r.voters + r.observers) last 0 plan r.events nodes is_last (exports plan nothing_seen (all_seen plan) w r.events done);
-      ballots = ballots plan nothing_seen (all_seen plan) w r.events done ∙ ap (λ n. n + 1) is_last;
+      ballots = (let so = ballots plan nothing_seen (all_seen plan) w r.events done in omega (arith, so, is_last));
       needed = needed plan nothing_seen (all_seen plan) w r.events done;
       none_refused = All-weaker _ _ (λ reply so. (good_is last reply so).0) (replies_to r r.events) replies;
       none_later = All-weaker _ _ (λ reply so. (good_is last reply so).1) (replies_to r r.events) replies;

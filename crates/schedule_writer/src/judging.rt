@@ -1,29 +1,27 @@
 //! Whether the journals take the batches, and what these ask of a group.
 
-ghost use Rattle.std.specs.Prelude.{◌≡◌, ◌≤◌, ◌++◌, ◌∷◌, [], ℕ, List, IfErr, IfOk, OnOk, Ok, Err, Some, None, map, max, length, drop};
+ghost use Rattle.std.specs.Prelude.{◌≡◌, ◌≤◌, ◌+◌, ◌++◌, ◌∷◌, [], ℕ, List, All, IfErr, IfOk, OnOk, Ok, map, max, length, drop};
 ghost use Rattle.std.specs.Arc.{arc_value};
+ghost use Rattle.metering_model.specs.Batch.{Batch};
+ghost use Rattle.metering_model.specs.BatchReading.{batch_in};
 ghost use Rattle.metering_model.specs.Front.{is_due};
 ghost use Rattle.metering_model.specs.Limits.{last_period, most_agents};
 ghost use Rattle.metering_model.specs.RatedAlone.{world_before};
+ghost use Rattle.metering_model.specs.Sheet as model;
 ghost use Rattle.metering_model.specs.Step.{step};
-ghost use Rattle.metering_model.specs.World as model;
-ghost use Rattle.metering_model.specs.World.{Journal, Refused, offer_of as model_offer};
-ghost use Rattle.metering_model.specs.declared.Refusal.{Refusal};
+ghost use Rattle.metering_model.specs.Transcript.{line};
 ghost use Rattle.batch_view.specs.Batches.{batch_of};
-ghost use Rattle.schedule_writer.specs.Inputs.{IsLastStart, agents_of, batches_of, closes_from, item_at, item_length, items_in};
-ghost use Rattle.schedule_writer.specs.Refusals.{IsJournaled, answer_to};
-ghost use Rattle.schedule_writer.specs.Inner.Judged.{IsJournal, IsJudged, IsLaterStart, IsRefusedAmong, IsRefusedNow, IsRefusedOrWant};
-ghost use Rattle.schedule_writer.specs.Inner.Plans.{item_of, offered_of};
-ghost use Rattle.group_events.specs.Events.{event_of};
 ghost use Rattle.group_events.specs.Offers.{IsOfferOf};
-ghost use Rattle.group_events.specs.Replies.{reply_of};
+ghost use Rattle.schedule_writer.specs.Inputs.{batches_of, closes_from, closes_of, item_at, item_length, items_in};
+ghost use Rattle.schedule_writer.specs.Refusals.{IsJournaled, answer_to, answers_to, journal_of};
+ghost use Rattle.schedule_writer.specs.Inner.Judged.{IsAskedBy, IsAskedWithin, IsJudged, IsLaterStart, IsRefusedAmong, IsRefusedHere, IsRefusedNow, IsRefusedOr};
+ghost use Rattle.schedule_writer.specs.Inner.Plans.{offered_of};
 
 use crate::faults::WriteFault;
 use crate::inputs::{Item, Offered, item_at};
 use crate::lines::journal_offered;
 use batch_view::OwnedBatch;
-use group_events::{Event, Offer, Period, Reply};
-use metering_model::Refusal;
+use group_events::{Event, Offer, Period};
 use price_sheet::{Issuer, Sheet};
 use schedule_player::World;
 use std::alloc::{AllocError, Global};

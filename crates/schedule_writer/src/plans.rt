@@ -1,10 +1,13 @@
 //! What a schedule is to journal and to close, and whether one does.
 
-ghost use Rattle.std.specs.Prelude.{◌≡◌, ◌↔◌, ◌<◌, ◌≤◌, IfOk, IsTrue, Ok, Some, None, if◌then◌else◌};
+ghost use Rattle.std.specs.Prelude.{◌≡◌, ◌↔◌, ◌<◌, ◌≤◌, nat_le, IfOk, IsTrue, Some, None, if◌then◌else◌};
+ghost use Rattle.metering_model.specs.BatchReading.{is_same};
+ghost use Rattle.metering_model.specs.Front.{front};
+ghost use Rattle.metering_model.specs.Schedule.{PlansExport};
 ghost use Rattle.metering_model.specs.Limits.{last_period, most_nodes};
 ghost use Rattle.group_events.specs.Replies.{reply_of};
 ghost use Rattle.schedule_reader.specs.Events.{HasWholeLines, planned_of};
-ghost use Rattle.schedule_writer.specs.Inner.Plans.{all_seen, behind, due_for, is_file_of, is_good, is_next, is_turn, one_more_ballot, one_more_batch, one_more_file, plan_of};
+ghost use Rattle.schedule_writer.specs.Inner.Plans.{all_seen, behind, behind_taken, due_for, is_file_of, is_good, is_next, is_turn, one_more_ballot, one_more_batch, one_more_file, plan_of};
 
 use crate::faults::Stop;
 use crate::inputs::Offered;
