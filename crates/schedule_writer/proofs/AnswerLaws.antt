@@ -1,5 +1,6 @@
 -- What a world answers to a text that is to be journaled, and what is told of it.
-use Rattle.std.proofs.Common.{◌≡◌, ◌⊎◌, ℕ, ◌+◌, Bool, true, false, ◌&&◌, List, [], ◌∷◌, ◌++◌, length, take, Option, Some, None, Result, Ok, Err, refl, sym, ap, subst, ◌∙◌, inl, inr, nat_le, nat_lt, append_assoc}
+use Rattle.std.proofs.Common.{◌≡◌, ◌⊎◌, ℕ, ◌+◌, Bool, true, false, ◌&&◌, List, [], ◌∷◌, ◌++◌, length, take, Option, Some, None, Result, Ok, Err, refl, sym, ap, subst, ◌∙◌, inl, inr, nat_le, nat_lt}
+use Rattle.std.proofs.lemmas.List.{append-nil}
 use Rattle.std.specs.Prelude.{◌==◌, if◌then◌else◌, codes}
 use Rattle.std.specs.Option.{option_map}
 use Rattle.metering_model.specs.Batch.{Batch}
@@ -10,7 +11,7 @@ use Rattle.metering_model.specs.JournalRules.{first_broken, next_seq}
 use Rattle.metering_model.specs.Limits.{most_packets}
 use Rattle.metering_model.specs.Step.{Outcome, batch_of as offered, on_batch, or_bad_batch, or_refused, step, unless_broken}
 use Rattle.metering_model.specs.Transcript.{line, line_count, with_number}
-use Rattle.metering_model.specs.World.{World, Good, Bad, Journal, Journaled, Reply, Refused, offer_of, with_packet, CarriesBatch}
+use Rattle.metering_model.specs.World.{World, Event, Good, Bad, Journal, Journaled, Reply, Refused, offer_of, with_packet, CarriesBatch}
 use Rattle.metering_model.specs.declared.BatchFault.{BatchFault}
 use Rattle.metering_model.specs.declared.BrokenRule.{BrokenRule}
 use Rattle.metering_model.specs.declared.BrokenRule.TheVariants.{BadTarget as BreaksTarget, Unpriced as BreaksPrice}
@@ -20,8 +21,12 @@ use Rattle.batch_view.specs.Batches.{batch_of}
 use Rattle.batch_view.proofs.BatchLemmas.{batch_of_is}
 use Rattle.journal_rules.specs.FirstBad.{first_bad}
 use Rattle.fault_lines.specs.Told.{bad_index, told_of_text, words_of, more_words, line_within}
-use Rattle.schedule_writer.specs.Inputs.{Offered}
+use Rattle.schedule_writer.specs.declared.faults.WriteFault.{WriteFault}
+use Rattle.schedule_writer.specs.declared.faults.WriteFault.TheVariants as written
+use Rattle.schedule_writer.specs.Checks.{told_of_answer}
+use Rattle.schedule_writer.specs.Inputs.{Offered, line_of}
 use Rattle.schedule_writer.specs.Refusals.{IsJournaled, answer_to, told_of_offered}
+use Rattle.schedule_writer.specs.Inner.Judged.{IsRefusedNow, IsRefusedOr}
 use Rattle.schedule_writer.specs.Inner.Lines.{IsAnswer, IsBadIn, is_of_rule}
 
 -- ---- a journal
@@ -140,20 +145,61 @@ same_told w lines text bad refusal.Observer is = refl
 same_told w lines text bad (refusal.BadKept fault) is = refl
 same_told w lines text bad refusal.NotKept is = refl
 
+-- what it says, behind the line
+abbrev saying : List ℕ → World → Offered → Refusal → List ℕ
+saying input w b why =
+    with_number (codes "line ") (line_count (take b.from input) + line_within (bad_index w.sheet w.journals b.text) why)
+    ++ codes ": " ++ (words_of why ++ more_words w.sheet b.text (bad_index w.sheet w.journals b.text) why)
+
 -- it is one line
 pub is_line : (input : List ℕ) (w : World) (b : Offered) (why : Refusal) → (told : List ℕ) × (told_of_offered input w b why ≡ line told)
-is_line input w b refusal.BadTarget = (_, refl)
-is_line input w b refusal.Unpriced = (_, refl)
-is_line input w b (refusal.BadBatch fault) = (_, refl)
-is_line input w b (refusal.WrongSeq wanted) = (_, refl)
-is_line input w b refusal.NoPacket = (_, refl)
-is_line input w b refusal.NoNode = (_, refl)
-is_line input w b (refusal.NotClosed learned) = (_, refl)
-is_line input w b (refusal.Missing agent seq) = (_, refl)
-is_line input w b refusal.AllClosed = (_, refl)
-is_line input w b refusal.NoBallot = (_, refl)
-is_line input w b refusal.WorldFull = (_, refl)
-is_line input w b refusal.NoAgent = (_, refl)
-is_line input w b refusal.Observer = (_, refl)
-is_line input w b (refusal.BadKept fault) = (_, refl)
-is_line input w b refusal.NotKept = (_, refl)
+is_line input w b refusal.BadTarget = (saying input w b refusal.BadTarget, refl)
+is_line input w b refusal.Unpriced = (saying input w b refusal.Unpriced, refl)
+is_line input w b (refusal.BadBatch fault) = (saying input w b (refusal.BadBatch fault), refl)
+is_line input w b (refusal.WrongSeq wanted) = (saying input w b (refusal.WrongSeq wanted), refl)
+is_line input w b refusal.NoPacket = (saying input w b refusal.NoPacket, refl)
+is_line input w b refusal.NoNode = (saying input w b refusal.NoNode, refl)
+is_line input w b (refusal.NotClosed learned) = (saying input w b (refusal.NotClosed learned), refl)
+is_line input w b (refusal.Missing agent seq) = (saying input w b (refusal.Missing agent seq), refl)
+is_line input w b refusal.AllClosed = (saying input w b refusal.AllClosed, refl)
+is_line input w b refusal.NoBallot = (saying input w b refusal.NoBallot, refl)
+is_line input w b refusal.WorldFull = (with_number (codes "line ") (line_of input b) ++ codes ": " ++ words_of refusal.WorldFull, refl)
+is_line input w b refusal.NoAgent = (saying input w b refusal.NoAgent, refl)
+is_line input w b refusal.Observer = (saying input w b refusal.Observer, refl)
+is_line input w b (refusal.BadKept fault) = (saying input w b (refusal.BadKept fault), refl)
+is_line input w b refusal.NotKept = (saying input w b refusal.NotKept, refl)
+
+-- ---- by the reply
+
+pub answered : (w : World) (text : List ℕ) (e : Event) → e ≡ Journal (offer_of text) → (step w e).0 ≡ answer_to w text
+unfolding answer_to
+answered w text e is = ap (λ m. (step w m).0) is
+
+pub stepped : (w v : World) (b : Offered) (e : Event) (r : Reply) → (r, v) ≡ step w e → e ≡ Journal (offer_of b.text) → r ≡ answer_to w b.text
+stepped w v b e r is same = ap (λ (o : Reply × World). o.0) is ∙ answered w b.text e same
+
+pub nothing_told : (input told : List ℕ) (w : World) (b : Offered) → IsJournaled (answer_to w b.text) → told ≡ told ++ told_of_answer input w b (answer_to w b.text)
+nothing_told input told w b is = sym (ap (λ r. told ++ told_of_answer input w b r) is.1 ∙ append-nil told)
+
+pub refusal_told : (input old new : List ℕ) (w : World) (b : Offered) (why : Refusal) → answer_to w b.text ≡ Refused why → new ≡ old ++ told_of_offered input w b why
+    → new ≡ old ++ told_of_answer input w b (answer_to w b.text)
+refusal_told input old new w b why is told = told ∙ ap (λ r. old ++ told_of_answer input w b r) (sym is)
+
+-- of want of memory nothing is said
+pub refused_or : (P Q : List ℕ → Type 0) → ((told : List ℕ) → P told → Q told) → (fault : WriteFault) → IsRefusedOr P fault → IsRefusedOr Q fault
+refused_or P Q from (written.Refused told) is = from told.items is
+refused_or P Q from written.OutOfMemory is = is
+refused_or P Q from written.Read is = is
+refused_or P Q from (written.Section told) is = is
+refused_or P Q from written.TooLong is = is
+refused_or P Q from written.NotClosed is = is
+refused_or P Q from written.Write is = is
+
+pub refused_now : (input told : List ℕ) (w : World) (b : Offered) (fault : WriteFault) → (why : Refusal) × (answer_to w b.text ≡ Refused why)
+    → told ≡ [] ++ told_of_answer input w b (answer_to w b.text) → ((text : List ℕ) → told ≡ line text → IsRefusedOr (λ words. words ≡ text) fault)
+    → IsRefusedOr (IsRefusedNow input w b) fault
+refused_now input told w b fault answer is from =
+    let one = is_line input w b answer.0 in
+    let same : told ≡ line one.0 = is ∙ (ap (told_of_answer input w b) answer.1 ∙ one.1) in
+    refused_or (λ words. words ≡ one.0) (IsRefusedNow input w b)
+    (λ words so. record { why = answer.0; refused = answer.1; is_told = ap line so ∙ sym one.1 }) fault (from one.0 same)

@@ -6,7 +6,8 @@ use Rattle.std.proofs.lemmas.Option.{option_and_then_some}
 use Rattle.std.proofs.lemmas.Bool.{cases_lt}
 use Rattle.std.proofs.lemmas.List.{append-nil, drop-drop, length-take, length-append, length-take-le, take-append-drop}
 use Rattle.metering_model.specs.Batch.{is_empty}
-use Rattle.metering_model.specs.BatchReading.{lines_in}
+use Rattle.std.specs.Result.{result_ok}
+use Rattle.metering_model.specs.BatchReading.{fields_in, head_in, lines_in}
 use Rattle.metering_model.specs.Schedule.{lines_text}
 use Rattle.metering_model.proofs.FieldLaws.{same_read}
 use Rattle.metering_model.proofs.StepLaws.{step_ok, ok_same}
@@ -108,11 +109,11 @@ extent_some text n is = by_lines (lines_in text).lines is
         (λ k counts long. by_count k (counts_one l ls k counts) (some_length _ _ n long))
       where
         counts_one : (l : List ℕ) (ls : List (List ℕ)) (k : ℕ) → counted (l ∷ ls) ≡ Some k → 1 ≤ k
-        counts_one l ls k is = one_more _ k is
+        counts_one l ls k is = one_more (λ head. head.count) (result_ok (head_in (fields_in l))) k is
           where
-            one_more : {A : Type 0} {f : A → ℕ} (o : Option A) (k : ℕ) → option_map (λ x. f x + 1) o ≡ Some k → 1 ≤ k
-            one_more (Some x) k so = let same = ap (λ o. unwrap_or o k) so in omega (arith, same)
-            one_more None k so = absurd (cc)
+            one_more : {A : Type 0} (f : A → ℕ) (o : Option A) (k : ℕ) → option_map (λ x. f x + 1) o ≡ Some k → 1 ≤ k
+            one_more f (Some x) k so = let same = ap (λ o. unwrap_or o k) so in omega (arith, same)
+            one_more f None k so = absurd (cc)
 
         by_count : (k : ℕ) → 1 ≤ k → length (lines_text (take k (l ∷ ls))) ≡ n → 1 ≤ n
         by_count zero one same = absurd (omega (arith, one))
@@ -206,7 +207,7 @@ items_placed zero input from before behind b is = absurd (no_items before (sym (
     no_items (x ∷ xs) so = cc
 items_placed (suc most) input from before behind b is =
     ⊎_elim (λ none. absurd (no_items before (sym (items_end (suc most) input from (omega (arith, none))) ∙ is)))
-    (λ some. by_before before some (sym (item_next most input from some) ∙ is))
+    (λ some. by_before (λ xs so. items_placed most input (from + item_length (drop from input)) xs behind b so) before some (sym (item_next most input from some) ∙ is))
     (some_or_none (length (drop from input)))
   where
     no_items : (before : List Item) → [] ≡ before ++ Offers b ∷ behind → ⊥
@@ -217,21 +218,22 @@ items_placed (suc most) input from before behind b is =
     some_or_none zero = inl (omega arith)
     some_or_none (suc n) = inr (omega arith)
 
-    by_before : (before : List Item) → 1 ≤ length (drop from input)
+    by_before : ((xs : List Item) → items_in most input (from + item_length (drop from input)) ≡ xs ++ Offers b ∷ behind
+        → b.from ≡ (from + item_length (drop from input)) + length (items_text xs))
+        → (before : List Item) → 1 ≤ length (drop from input)
         → item_at input from ∷ items_in most input (from + item_length (drop from input)) ≡ before ++ Offers b ∷ behind → b.from ≡ from + length (items_text before)
-    by_before [] some so = let first = first_of _ _ _ _ so in begins_there input from b first.0 ∙ plus_none from
+    by_before later [] some so = let first = first_of _ _ _ _ so in begins_there input from b first.0 ∙ plus_none from
       where
         plus_none : (n : ℕ) → n ≡ n + 0
         plus_none n = omega arith
-    by_before (x ∷ xs) some so =
+    by_before later (x ∷ xs) some so =
         let first = first_of _ _ _ _ so in
         let cut = cut_here input from some in
         let n = item_length (drop from input) in
         let long : length (item_text (item_at input from)) ≡ n = ap length cut.is ∙ length-take-le n (drop from input) cut.within in
-        let later = items_placed most input (from + n) xs behind b first.1 in
         let all = length-append (item_text x) (items_text xs) in
         let this : length (item_text x) ≡ n = ap (λ i. length (item_text i)) (sym first.0) ∙ long in
-        later ∙ sums from n (length (items_text xs)) (length (item_text x)) (length (item_text x ++ items_text xs)) this all
+        later xs first.1 ∙ sums from n (length (items_text xs)) (length (item_text x)) (length (item_text x ++ items_text xs)) this all
       where
         sums : (a n r x w : ℕ) → x ≡ n → w ≡ x + r → (a + n) + r ≡ a + w
         sums a n r x w one two = omega (arith, one, two)

@@ -1,5 +1,5 @@
 -- What is found of one batch more.
-use Rattle.std.proofs.Common.{◌≡◌, ◌≤◌, ◌⊎◌, ◌&&◌, ℕ, ◌+◌, ◌-◌, Bool, true, false, max, List, [], ◌∷◌, ◌++◌, map, All, refl, sym, ap, subst, ◌∙◌, inl, inr, ⊎_elim, arith}
+use Rattle.std.proofs.Common.{◌≡◌, ◌<◌, ◌≤◌, ◌⊎◌, ◌&&◌, ℕ, suc, length, drop, ◌+◌, ◌-◌, Bool, true, false, max, List, [], ◌∷◌, ◌++◌, map, All, refl, sym, ap, subst, ◌∙◌, inl, inr, ⊎_elim, arith}
 use Rattle.std.specs.List.{fold, list_all}
 use Rattle.std.proofs.lemmas.List.{map-append}
 use Rattle.std.proofs.lemmas.List.Elements.{All-push}
@@ -16,9 +16,11 @@ use Rattle.metering_model.specs.World.{World}
 use Rattle.metering_model.proofs.PlayLaws.{play-last, replies-last}
 use Rattle.row_laws.proofs.DueLaws.{due_later}
 use Rattle.batch_view.specs.Batches.{batch_of}
-use Rattle.schedule_writer.specs.Inputs.{Offered, IsLastStart, agents_of, are_due}
+use Rattle.schedule_writer.specs.declared.judging.Asked.{Asked}
+use Rattle.schedule_writer.specs.Inputs.{Offered, Offers, IsLastStart, agents_of, are_due, batches_of, item_length, items_in}
 use Rattle.schedule_writer.specs.Refusals.{IsJournaled, answer_to, answers_to, journal_of, world_behind}
-use Rattle.schedule_writer.specs.Inner.Judged.{IsAskedBy, IsJudged, IsLaterStart, IsRefusedAmong, IsRefusedNow}
+use Rattle.schedule_writer.specs.Inner.Judged.{IsAskedBy, IsJudged, IsLaterStart, IsRefusedAmong, IsRefusedHere, IsRefusedNow}
+use Rattle.schedule_writer.proofs.ItemLaws.{item_next}
 
 -- ---- the world
 
@@ -126,10 +128,6 @@ nothing_judged sheet issuer w is =
       };
     }
 
-pub same_judged : (sheet : Sheet) (issuer : Issuer) (bs cs : List Offered) (w : World) (agents last : ℕ) → bs ≡ cs → IsJudged sheet issuer bs w agents last
-    → IsJudged sheet issuer cs w agents last
-same_judged sheet issuer bs cs w agents last same is = subst (λ xs. IsJudged sheet issuer xs w agents last) same is
-
 -- the batch that is refused parts the others
 pub refused_among : (input : List ℕ) (sheet : Sheet) (issuer : Issuer) (all before behind : List Offered) (b : Offered) (w : World) (agents last : ℕ) (told : List ℕ)
     → all ≡ before ++ b ∷ behind → IsJudged sheet issuer before w agents last → IsRefusedNow input w b told → IsRefusedAmong input sheet issuer all told
@@ -142,3 +140,22 @@ refused_among input sheet issuer all before behind b w agents last told parts so
       taken = so.taken;
       refused = subst (λ x. IsRefusedNow input x b told) so.world refused;
     }
+
+-- what was found so far stands before it
+pub refused_here : (input : List ℕ) (sheet : Sheet) (issuer : Issuer) (all found : List Offered) (k most here : ℕ) (w : World) (agents last : ℕ) → most ≡ suc k
+    → 0 < length (drop here input) → found ++ batches_of (items_in most input here) ≡ all → IsJudged sheet issuer found w agents last
+    → (told : List ℕ) → IsRefusedHere input here w told → IsRefusedAmong input sheet issuer all told
+refused_here input sheet issuer all found k most here w agents last more some so judged told is =
+    let rest = items_in k input (here + item_length (drop here input)) in
+    let next : items_in most input here ≡ Offers is.batch ∷ rest
+    = ap (λ n. items_in n input here) more ∙ (item_next k input here some ∙ ap (λ i. i ∷ rest) is.is_there) in
+    refused_among input sheet issuer all found (batches_of rest) is.batch w agents last told (sym so ∙ ap (λ is. found ++ batches_of is) next) judged is.refused
+
+-- with one batch more that was put behind the others
+pub judged_put : (sheet : Sheet) (issuer : Issuer) (bs cs : List Offered) (b : Offered) (w v : World) (agents last : ℕ) (asked put : Asked)
+    → IsJudged sheet issuer bs w agents last → IsJournaled (answer_to w b.text) → v ≡ (step w (journal_of b)).1 → asked.agents ≡ max agents (batch_of b.text).agent
+    → IsLaterStart sheet.base (batch_of b.text) last asked.last → cs ≡ bs ++ b ∷ [] → put ≡ asked → IsJudged sheet issuer cs v put.agents put.last
+judged_put sheet issuer bs cs b w v agents last asked put so journaled after are is more same =
+    subst (λ (a : Asked). IsJudged sheet issuer cs v a.agents a.last) (sym same)
+    (subst (λ xs. IsJudged sheet issuer xs v asked.agents asked.last) (sym more)
+    (judged_more sheet issuer bs b w v agents last asked.agents asked.last so journaled after are is))

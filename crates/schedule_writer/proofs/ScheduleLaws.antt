@@ -7,17 +7,18 @@ use Rattle.std.proofs.lemmas.List.Elements.{All-weaker}
 use Rattle.metering_model.specs.Schedule.{PlansExport}
 use Rattle.metering_model.specs.Sheet.{Sheet, Issuer}
 use Rattle.metering_model.specs.World.{opening}
-use Rattle.metering_model.specs.declared.Refusal.{Refusal}
 use Rattle.input_sections.specs.RateInput.{RateInput, rate_input_in}
 use Rattle.schedule_player.specs.Transcripts.{replies_to}
 use Rattle.schedule_reader.specs.Schedules.{ReadSchedule}
 use Rattle.schedule_writer.specs.declared.asked.Request.{Request}
 use Rattle.schedule_writer.specs.declared.plans.Plan.{Plan as LentPlan}
 use Rattle.schedule_writer.specs.Inputs.{IsAskedFor, IsLastStart, Item, Offered, agents_of, batches_of, closes_of, due_before, due_in, items_in, items_of, least_last}
-use Rattle.schedule_writer.specs.Refusals.{IsRefusedAt, IsTaken}
+use Rattle.schedule_writer.specs.declared.faults.WriteFault.{WriteFault}
+use Rattle.schedule_writer.specs.declared.faults.WriteFault.TheVariants as written
+use Rattle.schedule_writer.specs.Refusals.{IsJournaled, IsRefusedAt, IsTaken, answers_to}
 use Rattle.schedule_writer.specs.Schedules.{ClosesEach, IsExported, IsScheduleOf, journals_of}
 use Rattle.schedule_writer.specs.Inner.Certified.{IsCertified}
-use Rattle.schedule_writer.specs.Inner.Judged.{IsAskedBy, IsReadInput, IsRefusedAmong}
+use Rattle.schedule_writer.specs.Inner.Judged.{IsAskedBy, IsFaultOf, IsReadInput, IsRefusedAmong, IsRefusedOr, IsUncertain}
 use Rattle.schedule_writer.specs.Inner.Plans.{Plan, all_seen, behind_all, due_for, nothing_seen, offered_of, plan_of}
 use Rattle.schedule_writer.proofs.Certificates.{IsGood, IsShown, all_exports, all_good, ballots, closed, due, exports, good_is, journals, needed}
 
@@ -125,3 +126,39 @@ refused_at input given bs told is_given same is =
       refused = is.refused.refused;
       is_told = is.refused.is_told;
     }
+
+pub refused_fault : (input : List ℕ) (given : RateInput) (sheet : Sheet) (issuer : Issuer) (bs : List Offered) (fault : WriteFault) → rate_input_in input ≡ Ok given
+    → given.sheet ≡ sheet → given.issuer ≡ issuer → bs ≡ batches_of (items_of input given) → IsRefusedOr (IsRefusedAmong input sheet issuer bs) fault → IsFaultOf input fault
+refused_fault input given sheet issuer bs fault is_given by_sheet by_issuer same is = by_fault fault is
+  where
+    by_fault : (fault : WriteFault) → IsRefusedOr (IsRefusedAmong input sheet issuer bs) fault → IsFaultOf input fault
+    by_fault (written.Refused told) so =
+        refused_at input given bs told.items is_given same
+        (subst (λ (s : Sheet). IsRefusedAmong input s given.issuer bs told.items) (sym by_sheet)
+        (subst (λ (i : Issuer). IsRefusedAmong input sheet i bs told.items) (sym by_issuer) so))
+    by_fault written.OutOfMemory so = so
+    by_fault written.Read so = so
+    by_fault (written.Section told) so = absurd so
+    by_fault written.TooLong so = absurd so
+    by_fault written.NotClosed so = absurd so
+    by_fault written.Write so = so
+
+pub is_taken : (input : List ℕ) (given : RateInput) (sheet : Sheet) (issuer : Issuer) (bs : List Offered) → rate_input_in input ≡ Ok given → given.sheet ≡ sheet → given.issuer ≡ issuer
+    → bs ≡ batches_of (items_of input given) → All IsJournaled (answers_to sheet issuer bs) → IsTaken input
+is_taken input given sheet issuer bs is_given by_sheet by_issuer same all =
+    record {
+      given = given;
+      is_given = is_given;
+      taken = subst (λ (s : Sheet). All IsJournaled (answers_to s given.issuer (batches_of (items_of input given)))) (sym by_sheet)
+          (subst (λ (i : Issuer). All IsJournaled (answers_to sheet i (batches_of (items_of input given)))) (sym by_issuer)
+          (subst (λ xs. All IsJournaled (answers_to sheet issuer xs)) same all));
+    }
+
+pub uncertain : (input : List ℕ) → IsTaken input → (fault : WriteFault) → IsUncertain fault → IsFaultOf input fault
+uncertain input taken written.TooLong is = taken
+uncertain input taken written.NotClosed is = taken
+uncertain input taken written.OutOfMemory is = is
+uncertain input taken (written.Refused told) is = absurd is
+uncertain input taken (written.Section told) is = absurd is
+uncertain input taken written.Read is = is
+uncertain input taken written.Write is = is

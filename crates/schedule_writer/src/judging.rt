@@ -181,7 +181,7 @@ fn put_batch<'a>(
     asked: Asked,
 ) -> Result<(), WriteFault>
     ensures batches { OnOk result (map offered_of items.new.batches.items
-        ≡ map offered_of items.old.batches.items ++ offered_of offered ∷ []) }
+        ≡ map offered_of items.old.batches.items ++ offered_of offered.entry ∷ []) }
     ensures count { OnOk result (length items.new.batches.items ≡ length items.old.batches.items + 1) }
     ensures closes { OnOk result (items.new.closes.items ≡ items.old.closes.items) }
     ensures asked { OnOk result (items.new.asked ≡ asked) }
