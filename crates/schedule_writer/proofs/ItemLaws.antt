@@ -68,7 +68,7 @@ pub items_none : (input : List ℕ) (from : ℕ) → items_in 0 input from ≡ [
 unfolding items_in
 items_none input from = refl
 
-batches_split : (i : Item) (is : List Item) → batches_of (i ∷ is) ≡ batches_of (i ∷ []) ++ batches_of is
+pub batches_split : (i : Item) (is : List Item) → batches_of (i ∷ is) ≡ batches_of (i ∷ []) ++ batches_of is
 batches_split (Offers b) is = refl
 batches_split Closes is = refl
 

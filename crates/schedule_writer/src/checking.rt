@@ -131,8 +131,8 @@ fn said_of(alloc: Global, input: &[u8]) -> Result<(Vec<u8>, u64), AllocError>
 
 /// Writes what is said, and answers how many lines its refusals have.
 fn write_said<W: Sink>(said: &[u8], count: u64, writer: &mut W) -> Result<u64, PlayFault>
-    ensures said { OnOk result (Appends (W.contents writer.old) (W.contents writer.new) said.now) }
-    ensures count { IfOk result (λ lines. lines ≡ count) }
+    ensures said { IfOk result (λ lines. Appends (W.contents writer.old) (W.contents writer.new) said.now
+        × (lines ≡ count)) }
     ensures prefix { result ≡ Err PlayFault.Write
         → AppendsPrefix (W.contents writer.old) (W.contents writer.new) said.now }
     ensures fault { IfErr result (λ fault. fault ≡ PlayFault.Write) }
@@ -149,10 +149,11 @@ fn write_said<W: Sink>(said: &[u8], count: u64, writer: &mut W) -> Result<u64, P
 
 /// Writes what is said of an input, all at once: at want of memory nothing.
 fn write_checked<W: Sink>(alloc: Global, input: &[u8], writer: &mut W) -> Result<u64, PlayFault>
-    ensures said { OnOk result (Appends (W.contents writer.old) (W.contents writer.new)
-        (said_of_input input.now ++ warned_of_input input.now)) }
-    ensures count { IfOk result (λ count. count ≡ line_count (said_of_input input.now)) }
-    ensures ahead { result ≡ Ok 0 → said_of_input input.now ≡ [] }
+    ensures said { IfOk result (λ count. Appends (W.contents writer.old) (W.contents writer.new)
+        (said_of_input input.now ++ warned_of_input input.now)
+        × (count ≡ line_count (said_of_input input.now))) }
+    ensures ahead { result ≡ Ok 0 → (said_of_input input.now ≡ [])
+        × Appends (W.contents writer.old) (W.contents writer.new) (warned_of_input input.now) }
     ensures prefix { result ≡ Err PlayFault.Write
         → AppendsPrefix (W.contents writer.old) (W.contents writer.new)
         (said_of_input input.now ++ warned_of_input input.now) }
