@@ -9,7 +9,6 @@ use Rattle.metering_model.specs.RatedAlone.{world_before}
 use Rattle.metering_model.specs.Step.{play, step}
 use Rattle.metering_model.specs.Transcript.{line, line_count, with_number}
 use Rattle.metering_model.specs.World.{World, Reply, Journaled, Delivered, Started, Restarted, Exported, KeptText, Refused}
-use Rattle.input_sections.specs.declared.faults.ScheduleCode.{ScheduleCode}
 use Rattle.input_sections.specs.declared.faults.ScheduleFault.{ScheduleFault}
 use Rattle.input_sections.specs.declared.faults.ScheduleFault.TheVariants as section
 use Rattle.input_sections.specs.RateInput.{RateInput, rate_input_in}

@@ -1,5 +1,5 @@
 -- Events that are not what is planned.
-use Rattle.std.proofs.Common.{◌≡◌, ℕ, List, [], ◌∷◌, None, Some, refl, codes}
+use Rattle.std.proofs.Common.{◌≡◌, [], ◌∷◌, None, Some, refl, codes}
 use Rattle.metering_model.specs.Schedule.{PlansDelivery, PlansExport, PlansJournal, PlansKeep, PlansRestart, PlansStart}
 use Rattle.metering_model.specs.World.{Delivered, Exported, Journaled, KeptText, Refused, Restarted, Snapshot, Started}
 use Rattle.metering_model.specs.declared.Refusal.TheVariants.{NoPacket}

@@ -4,14 +4,13 @@ use Rattle.std.specs.List.{position}
 use Rattle.std.specs.Option.{option_and_then, option_map, unwrap_or}
 use Rattle.std.proofs.lemmas.Option.{option_and_then_some}
 use Rattle.std.proofs.lemmas.Bool.{cases_lt}
-use Rattle.std.proofs.lemmas.List.{append-nil, drop-drop, length-take, length-append, length-take-le, take-append-drop}
+use Rattle.std.proofs.lemmas.List.{drop-drop, length-take, length-append, length-take-le, take-append-drop}
 use Rattle.metering_model.specs.Batch.{is_empty}
 use Rattle.std.specs.Result.{result_ok}
 use Rattle.metering_model.specs.BatchReading.{fields_in, head_in, lines_in}
 use Rattle.metering_model.specs.Schedule.{lines_text}
 use Rattle.metering_model.proofs.FieldLaws.{same_read}
 use Rattle.metering_model.proofs.StepLaws.{step_ok, ok_same}
-use Rattle.metering_model.specs.Sheet.{Sheet, Issuer}
 use Rattle.byte_text.proofs.PastLines.{text_of_front}
 use Rattle.batch_view.specs.Extents.{batch_length, counted, extent_in}
 use Rattle.input_sections.specs.declared.faults.ScheduleFault.{ScheduleFault}

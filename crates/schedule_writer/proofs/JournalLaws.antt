@@ -1,6 +1,6 @@
 -- What a step leaves of the journals.
-use Rattle.std.proofs.Common.{◌≡◌, ℕ, Bool, true, false, List, length, Option, Some, None, Result, Ok, Err, refl, sym, ap, subst, ◌∙◌, nat_le, nat_lt, ok_or}
-use Rattle.std.specs.Prelude.{◌==◌, if◌then◌else◌, slice_get}
+use Rattle.std.proofs.Common.{◌≡◌, ℕ, false, List, Option, Some, None, Result, Ok, Err, refl, sym, ap, ◌∙◌, nat_le, nat_lt, ok_or}
+use Rattle.std.specs.Prelude.{◌==◌, slice_get}
 use Rattle.metering_model.specs.Batch.{Batch}
 use Rattle.metering_model.specs.BatchReading.{batch_in, is_same}
 use Rattle.metering_model.specs.Deliveries.{Handled, handled}

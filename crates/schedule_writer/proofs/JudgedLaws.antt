@@ -1,12 +1,11 @@
 -- What is found of one batch more.
 use Rattle.std.proofs.Common.{◌≡◌, ◌<◌, ◌≤◌, ◌⊎◌, ◌&&◌, ℕ, suc, length, drop, ◌+◌, ◌-◌, Bool, true, false, max, List, [], ◌∷◌, ◌++◌, map, All, refl, sym, ap, subst, ◌∙◌, inl, inr, ⊎_elim, arith}
-use Rattle.std.specs.List.{fold, list_all}
+use Rattle.std.specs.List.{fold}
 use Rattle.std.proofs.lemmas.List.{map-append}
 use Rattle.std.proofs.lemmas.List.Elements.{All-push}
 use Rattle.std.proofs.lemmas.List.Folds.{list_all-append}
 use Rattle.std.proofs.lemmas.List.Sums.{fold-append}
 use Rattle.std.proofs.lemmas.Bool.{cases_lt}
-use Rattle.metering_model.specs.Batch.{Batch}
 use Rattle.metering_model.specs.Front.{is_due}
 use Rattle.metering_model.specs.Sheet.{Sheet, Issuer}
 use Rattle.metering_model.specs.Limits.{last_period}
@@ -19,7 +18,7 @@ use Rattle.batch_view.specs.Batches.{batch_of}
 use Rattle.schedule_writer.specs.declared.judging.Asked.{Asked}
 use Rattle.schedule_writer.specs.Inputs.{Offered, Offers, IsLastStart, agents_of, are_due, batches_of, item_length, items_in}
 use Rattle.schedule_writer.specs.Refusals.{IsJournaled, answer_to, answers_to, journal_of, world_behind}
-use Rattle.schedule_writer.specs.Inner.Judged.{IsAskedBy, IsJudged, IsLaterStart, IsRefusedAmong, IsRefusedHere, IsRefusedNow}
+use Rattle.schedule_writer.specs.Inner.Judged.{IsJudged, IsLaterStart, IsRefusedAmong, IsRefusedHere, IsRefusedNow}
 use Rattle.schedule_writer.proofs.ItemLaws.{item_next}
 
 -- ---- the world

@@ -1,5 +1,5 @@
 -- What is lent of a plan, and what one event more has done.
-use Rattle.std.proofs.Common.{◌≡◌, ◌<◌, ◌≤◌, ◌&&◌, ℕ, suc, Bool, true, false, cond, nat_eq, nat_lt, List, [], ◌∷◌, length, map, get_or, Option, Some, None, Result, Ok, refl, sym, ap, ap₂, ◌∙◌, arith, lt-ltb}
+use Rattle.std.proofs.Common.{◌≡◌, ◌<◌, ◌≤◌, ◌&&◌, ℕ, suc, Bool, true, false, cond, nat_eq, nat_lt, List, [], ◌∷◌, length, map, get_or, Some, None, Result, Ok, refl, sym, ap, ap₂, ◌∙◌, arith, lt-ltb}
 use Rattle.std.specs.Prelude.{◌↔◌, IsTrue, not, nat_le}
 use Rattle.std.specs.Option.{option_and_then, option_map_or}
 use Rattle.std.proofs.lemmas.Bool.{and_from, eq-eqb}
@@ -16,14 +16,14 @@ use Rattle.metering_model.proofs.FieldLaws.{same_read}
 use Rattle.input_sections.specs.declared.faults.ScheduleFault.{ScheduleFault}
 use Rattle.input_sections.specs.Sections.{Unread, left}
 use Rattle.group_events.specs.Replies.{is_refused}
-use Rattle.schedule_reader.specs.Schedules.{Preamble, ReadSchedule, event_in, events_in, preamble_in, schedule_in}
+use Rattle.schedule_reader.specs.Schedules.{Preamble, event_in, events_in, preamble_in}
 use Rattle.schedule_reader.proofs.PreambleLaws.{taken_behind}
 use Rattle.schedule_writer.specs.Schedules.{learned_in}
 use Rattle.schedule_writer.specs.declared.inputs.Offered.{Offered as LentBatch}
 use Rattle.schedule_writer.specs.declared.plans.Plan.{Plan as LentPlan}
 use Rattle.schedule_writer.specs.declared.plans.Seen.{Seen}
 use Rattle.schedule_writer.specs.Inner.Certified.{IsCertified}
-use Rattle.schedule_writer.specs.Inner.Plans.{IsDone, Plan, all_seen, behind, behind_all, behind_taken, is_good, is_next, journals_behind, nothing_seen, offered_of, plan_of}
+use Rattle.schedule_writer.specs.Inner.Plans.{IsDone, Plan, all_seen, behind, behind_all, behind_taken, is_next, journals_behind, nothing_seen, offered_of, plan_of}
 use Rattle.schedule_writer.proofs.JournalLaws.{journals_after}
 
 pub next_is : (p : LentPlan) (seen : Seen) (text : List ℕ) (d : LentBatch) → seen.journaled < length p.batches.now

@@ -1,18 +1,17 @@
 -- A schedule that closes what it should, and some that do not.
-use Rattle.std.proofs.Common.{◌≡◌, ℕ, List, [], ◌∷◌, ◌++◌, Option, Some, None, refl, codes, subst}
+use Rattle.std.proofs.Common.{◌≡◌, ◌<◌, ◌≤◌, ℕ, List, [], ◌∷◌, ◌++◌, Option, Some, refl, sym, codes, subst, arith}
 use Rattle.std.specs.Fmt.{digits}
 use Rattle.metering_model.specs.Front.{front}
-use Rattle.metering_model.specs.Holding.{Holding}
 use Rattle.metering_model.specs.NumberText.{decimals_of, worth_of}
 use Rattle.metering_model.specs.Schedule.{Planned, PlansDelivery, PlansExport, PlansJournal, PlansStart}
 use Rattle.metering_model.specs.Transcript.{line}
-use Rattle.metering_model.specs.World.{Exported, Reply, Snapshot}
+use Rattle.metering_model.specs.World.{Exported, Reply, Restarted, Snapshot}
 use Rattle.batch_view.specs.Batches.{batch_of}
 use Rattle.input_sections.specs.RateInput.{default_sheet}
 use Rattle.sheet_text.specs.Samples.{sample_issuer}
 use Rattle.schedule_reader.specs.Schedules.{ReadSchedule}
 use Rattle.schedule_writer.specs.Inputs.{Item, Offers}
-use Rattle.schedule_writer.specs.Schedules.{ClosesEach}
+use Rattle.schedule_writer.specs.Schedules.{ClosesEach, world_at}
 use Rattle.schedule_writer.specs.Inner.Plans.{Plan, behind_all}
 use Rattle.schedule_writer.proofs.ScheduleLaws.{closes_each}
 
@@ -58,20 +57,21 @@ an_empty_cut_is_none : ClosesEach empty items 0 → ⊥
 unfolding batch_of worth_of decimals_of digits
 an_empty_cut_is_none is =
     let file = is.closed 6 0 0 refl in
-    let cut : (0 ∷ []) ≡ (1 ∷ []) = subst (λ s. s.to ≡ front 24_300 (record { agent = 1; seq = 1; records = [] } ∷ []) s.from 0) (same_file file.snapshot file.answers) file.cut in
+    let cut : ◌≡◌ {A = List ℕ} (0 ∷ []) (1 ∷ [])
+    = subst (λ s. s.to ≡ front 24_300 (world_at empty 6).journals s.from 0) (sym (same_file file.snapshot file.answers)) file.cut in
     cc
 
 -- ---- a second month is closed, and not shown
 
 abbrev too_many : ReadSchedule
-too_many = schedule (PlansJournal (batch ∷ []) ∷ PlansDelivery 0 0 ∷ ballot 1 2 3 4 ++ PlansExport 0 0 ∷ ballot 6 7 8 9)
+too_many = schedule (PlansJournal (batch ∷ []) ∷ PlansDelivery 0 0 ∷ ballot 1 2 3 4 ++ PlansExport 0 0 ∷ ballot 5 6 7 8)
 
 one_ballot_too_many : ClosesEach too_many items 0 → ⊥
-one_ballot_too_many is = let one_too_many : 2 ≡ 1 = is.ballots in cc
+one_ballot_too_many is = let one_too_many : ◌≡◌ {A = ℕ} 2 1 = is.ballots in cc
 
 one_month_too_many : ClosesEach too_many items 0 → ⊥
 unfolding batch_of worth_of decimals_of digits
-one_month_too_many is = let later = is.none_later 11 _ _ in absurd (omega (arith, later))
+one_month_too_many is = let below : 12 < 13 = omega arith in let later : 1 ≤ 0 = is.none_later 12 Restarted below in omega (arith, later)
 
 -- ---- the file is asked for twice
 
@@ -79,4 +79,4 @@ abbrev twice : ReadSchedule
 twice = schedule (PlansJournal (batch ∷ []) ∷ PlansDelivery 0 0 ∷ ballot 1 2 3 4 ++ PlansExport 0 0 ∷ PlansExport 0 0 ∷ [])
 
 not_asked_twice : ClosesEach twice items 0 → ⊥
-not_asked_twice is = let one_too_many : ((0, 0) ∷ (0, 0) ∷ []) ≡ ((0, 0) ∷ []) = is.exports in cc
+not_asked_twice is = let one_too_many : ◌≡◌ {A = List (ℕ × ℕ)} ((0, 0) ∷ (0, 0) ∷ []) ((0, 0) ∷ []) = is.exports in cc

@@ -1,5 +1,5 @@
 -- What is said of an input as one that is to have a schedule: a line for each thing that is wrong with it, and for each that is odd.
-use Rattle.std.specs.Prelude.{◌≡◌, List, ℕ, [], ◌∷◌, ◌++◌, Option, Result, Ok, Err, IfSome}
+use Rattle.std.specs.Prelude.{◌≡◌, List, ℕ, [], ◌∷◌, ◌++◌, Option, Ok, Err, IfSome}
 use Rattle.metering_model.specs.RatedAlone.{world_before}
 use Rattle.metering_model.specs.Step.{step}
 use Rattle.metering_model.specs.World.{World, Reply, Refused}

@@ -1,5 +1,5 @@
 -- What an input asks to be journaled and to be closed, in its order.
-use Rattle.std.specs.Prelude.{◌≡◌, ◌≤◌, ◌⊎◌, ℕ, zero, suc, ◌+◌, ◌-◌, ◌==◌, Bool, true, false, if◌then◌else◌, max, fold, map, List, [], ◌∷◌, length, take, drop, Option, Some, None, Result, Ok, Err, unwrap_or, slice_get, nat_lt, codes}
+use Rattle.std.specs.Prelude.{◌≡◌, ◌≤◌, ◌⊎◌, ℕ, zero, suc, ◌+◌, ◌-◌, ◌==◌, Bool, true, false, if◌then◌else◌, max, fold, map, List, [], ◌∷◌, length, take, drop, Option, Some, None, Ok, Err, unwrap_or, slice_get, nat_lt, codes}
 use Rattle.std.specs.List.{flat_map, list_all, position}
 use Rattle.metering_model.specs.Limits.{last_period}
 use Rattle.metering_model.specs.Batch.{is_empty}

@@ -2,9 +2,9 @@
 use Rattle.std.specs.Prelude.{◌≡◌, ◌≤◌, ℕ, ◌+◌, Bool, true, false, List, map, length, take, filter, All, Option, Some, None, Ok, IfSome, slice_get}
 use Rattle.std.specs.List.{filter_map, flat_map, range_with_len}
 use Rattle.metering_model.specs.Front.{front}
-use Rattle.metering_model.specs.Schedule.{Planned, PlansJournal, PlansDelivery, PlansStart, PlansRestart, PlansExport, PlansKeep, PlansRevival, event_of, lines_text}
+use Rattle.metering_model.specs.Schedule.{Planned, PlansJournal, PlansStart, PlansRestart, PlansExport, PlansKeep, PlansRevival, event_of, lines_text}
 use Rattle.metering_model.specs.Step.{play}
-use Rattle.metering_model.specs.World.{World, Snapshot, Reply, Journaled, Delivered, Started, Restarted, Exported, KeptText, Refused, opening}
+use Rattle.metering_model.specs.World.{World, Snapshot, Reply, Delivered, Exported, opening}
 use Rattle.input_sections.specs.RateInput.{RateInput, rate_input_in}
 use Rattle.group_events.specs.Replies.{is_refused}
 use Rattle.schedule_reader.specs.Schedules.{ReadSchedule, schedule_in}

@@ -1,5 +1,5 @@
 -- What is found of batches that are journaled in turn.
-use Rattle.std.specs.Prelude.{◌≡◌, ◌<◌, ◌≤◌, ◌⊎◌, ℕ, false, true, List, [], ◌∷◌, ◌++◌, All, Ok, Err, ⊤}
+use Rattle.std.specs.Prelude.{◌≡◌, ◌<◌, ◌≤◌, ◌⊎◌, ℕ, false, true, List, ◌∷◌, ◌++◌, All, Ok, Err, ⊤}
 use Rattle.metering_model.specs.Batch.{Batch}
 use Rattle.metering_model.specs.Front.{is_due}
 use Rattle.metering_model.specs.Limits.{last_period, most_agents}
@@ -7,7 +7,6 @@ use Rattle.metering_model.specs.Sheet.{Sheet, Issuer}
 use Rattle.metering_model.specs.Transcript.{line}
 use Rattle.metering_model.specs.World.{World, Refused}
 use Rattle.metering_model.specs.declared.Refusal.{Refusal}
-use Rattle.input_sections.specs.declared.faults.ScheduleFault.{ScheduleFault}
 use Rattle.input_sections.specs.declared.faults.ScheduleFault.TheVariants as section
 use Rattle.input_sections.specs.RateInput.{RateInput, rate_input_in}
 use Rattle.schedule_writer.specs.declared.faults.WriteFault.{WriteFault}

@@ -1,4 +1,4 @@
-use Rattle.std.proofs.Common.{◌≡◌, ap, sym, ◌∙◌, rules}
+use Rattle.std.proofs.Common.{◌≡◌, sym, ◌∙◌, rules}
 use Rattle.metering_model.specs.Transcript.{line_count}
 use Rattle.schedule_writer.specs.Checks.{said_of_input}
 use Rattle.schedule_writer.proofs.CheckLaws.{none_said, nothing_warned}

@@ -2,7 +2,7 @@ use Rattle.std.proofs.Common.{◌≡◌, sym, ap, subst, ◌∙◌}
 use Rattle.metering_model.specs.World.{Refused}
 use Rattle.group_events.specs.Events.{event_of}
 use Rattle.group_events.specs.Replies.{is_refused, reply_of}
-use Rattle.schedule_writer.specs.Refusals.{IsJournaled, answer_to, told_of_offered}
+use Rattle.schedule_writer.specs.Refusals.{IsJournaled, answer_to}
 use Rattle.schedule_writer.specs.Inner.Plans.{offered_of}
 use Rattle.schedule_writer.proofs.AnswerLaws.{bad_batch_there, nothing_told, refusal_told, stepped}
 use Rattle.schedule_writer.proofs.lines.journal_offered.Goals as goal

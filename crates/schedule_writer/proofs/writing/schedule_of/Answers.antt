@@ -1,7 +1,6 @@
 use Rattle.std.proofs.Common.{drop, map, sym, ap, ◌∙◌}
-use Rattle.std.specs.Arc.{arc_value}
 use Rattle.std.proofs.lemmas.Result.{IfErr-weaker}
-use Rattle.schedule_writer.specs.Inputs.{batches_of, closes_from, items_in}
+use Rattle.schedule_writer.specs.Inputs.{batches_of, closes_from}
 use Rattle.schedule_writer.specs.Inner.Plans.{offered_of}
 use Rattle.schedule_writer.proofs.ScheduleLaws.{is_taken, items_behind, refused_fault, uncertain}
 use Rattle.schedule_writer.proofs.writing.schedule_of.Goals as goal
