@@ -7,5 +7,5 @@ use Rattle.schedule_writer.proofs.checking.check_batches.Goals as goal
 pub returns : goal.returns
 returns c =
     let same = said_of_given c.args.input.now c.args.given.batch_from c.args.given.sheet c.args.given.issuer c.in_ok-world.world c.requires.within c.requires.given
-        (c.in_ok-world.ensures ∙ ap₂ world_before c.in-Ok.ensures.ok c.in-Ok-new.ensures.ok) in
+    (c.in_ok-world.ensures ∙ ap₂ world_before c.in-Ok.ensures.ok c.in-Ok-new.ensures.ok) in
     on_ok_weaker c.check_items.result (λ told. told ∙ ap (λ t. c.args.told.now.items ++ t) same) c.check_items.ensures

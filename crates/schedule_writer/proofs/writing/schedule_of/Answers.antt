@@ -33,5 +33,5 @@ returns-clause-fault c =
     let from = c.args.given.batch_from in
     let same = items_behind input from c.args.given.sheet c.args.given.issuer c.requires.within in
     let taken = is_taken input (record { sheet = c.args.given.sheet; issuer = c.args.given.issuer; batch = drop from input }) _ _ _ c.requires.given
-        (sym c.in-Ok.ensures.ok) (sym c.in-Ok-new.ensures.ok) (c.in-Ok-read_items.ensures.batches ∙ ap batches_of same) c.in-Ok-read_items.ensures.taken in
+    (sym c.in-Ok.ensures.ok) (sym c.in-Ok-new.ensures.ok) (c.in-Ok-read_items.ensures.batches ∙ ap batches_of same) c.in-Ok-read_items.ensures.taken in
     IfErr-weaker c.schedule_with.result _ _ (uncertain input taken) c.schedule_with.ensures.fault
