@@ -18,7 +18,7 @@ is_longer n most longer = cases (nat_le n most) refl
     cases true e = absurd (omega (arith, leb-true n most e))
     cases false e = e
 
-too_long : (input : List ℕ) → 16_777_216 < length input → rate_input_in input ≡ Err (faults.Refused TooLong 1)
+pub too_long : (input : List ℕ) → 16_777_216 < length input → rate_input_in input ≡ Err (faults.Refused TooLong 1)
 unfolding rate_input_in
 too_long input longer =
     let fault = faults.Refused TooLong 1 in

@@ -1,7 +1,8 @@
 use Rattle.std.proofs.Common.{drop, map, sym, ap, ◌∙◌}
+use Rattle.std.proofs.lemmas.Result.{IfErr-weaker}
 use Rattle.schedule_writer.specs.Inputs.{batches_of, closes_from}
 use Rattle.schedule_writer.specs.Inner.Plans.{offered_of}
-use Rattle.schedule_writer.proofs.ScheduleLaws.{items_behind}
+use Rattle.schedule_writer.proofs.ScheduleLaws.{is_taken, items_behind, refused_fault, uncertain}
 use Rattle.schedule_writer.proofs.writing.schedule_of.Goals as goal
 
 pub schedule_with-requires-clause-read : goal.schedule_with-requires-clause-read
@@ -12,8 +13,25 @@ schedule_with-requires-clause-read c =
     record {
       given = record { sheet = c.args.given.sheet; issuer = c.args.given.issuer; batch = drop from input };
       is_given = c.requires.given;
-      by_sheet = sym c.in-Ok-new.ensures.ok;
-      by_issuer = sym c.in-Ok-new-2.ensures.ok;
-      batches = ap (map offered_of) c.deref.ensures.value ∙ (c.in-Ok.ensures.batches ∙ ap batches_of same);
-      are_closes = c.deref-2.ensures.value ∙ (c.in-Ok.ensures.closes ∙ ap (closes_from 0) same);
+      by_sheet = sym (c.deref.ensures ∙ c.in-Ok.ensures.ok);
+      by_issuer = sym (c.deref-2.ensures ∙ c.in-Ok-new.ensures.ok);
+      batches = ap (map offered_of) c.deref-3.ensures.value ∙ (c.in-Ok-read_items.ensures.batches ∙ ap batches_of same);
+      are_closes = c.deref-4.ensures.value ∙ (c.in-Ok-read_items.ensures.closes ∙ ap (closes_from 0) same);
     }
+
+pub returns-in-Err-clause-fault : goal.returns-in-Err-clause-fault
+returns-in-Err-clause-fault c =
+    let input = c.args.input.now in
+    let from = c.args.given.batch_from in
+    let same = items_behind input from c.args.given.sheet c.args.given.issuer c.requires.within in
+    refused_fault input (record { sheet = c.args.given.sheet; issuer = c.args.given.issuer; batch = drop from input }) _ _ _ _ c.requires.given (sym c.in-Ok.ensures.ok)
+    (sym c.in-Ok-new.ensures.ok) (ap batches_of same) c.in-Err.ensures.refused
+
+pub returns-clause-fault : goal.returns-clause-fault
+returns-clause-fault c =
+    let input = c.args.input.now in
+    let from = c.args.given.batch_from in
+    let same = items_behind input from c.args.given.sheet c.args.given.issuer c.requires.within in
+    let taken = is_taken input (record { sheet = c.args.given.sheet; issuer = c.args.given.issuer; batch = drop from input }) _ _ _ c.requires.given
+    (sym c.in-Ok.ensures.ok) (sym c.in-Ok-new.ensures.ok) (c.in-Ok-read_items.ensures.batches ∙ ap batches_of same) c.in-Ok-read_items.ensures.taken in
+    IfErr-weaker c.schedule_with.result _ _ (uncertain input taken) c.schedule_with.ensures.fault
