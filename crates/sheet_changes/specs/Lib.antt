@@ -1,5 +1,6 @@
 pub mod Changes
 pub mod Faults
+pub mod FieldChanges
 pub mod Likenesses
 pub mod Inner
 pub mod Regions
