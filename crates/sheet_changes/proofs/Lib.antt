@@ -1,4 +1,5 @@
 mod DayNumbers
+mod FieldLines
 mod FirstDays
 mod KeptLatest
 mod PriceDays
