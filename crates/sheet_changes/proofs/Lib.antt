@@ -7,5 +7,7 @@ mod CommitmentLaws
 mod RegionLaws
 mod LikenessLaws
 mod SaidLaws
+mod SortedLists
+mod ListedDays
 mod TwoSheets
 mod WorkedChanges

@@ -67,7 +67,7 @@ abbrev pub price_day_cmp : PriceDay → PriceDay → Ordering
 price_day_cmp a b = ordering_then (slice_cmp nat_cmp a.sku b.sku) (int_cmp a.day b.day)
 
 -- what is in force on such a day, whose text is this
-abbrev pub price_lines : Sheet → Sheet → PriceDay → List ℕ → List ℕ
+unfoldable pub price_lines : Sheet → Sheet → PriceDay → List ℕ → List ℕ
 price_lines old new d date = changed_keys price_text (codes "price" ∷ d.sku ∷ date ∷ []) price_keys (price_in_force old d.sku d.day) (price_in_force new d.sku d.day)
 
 -- one day after another
@@ -89,7 +89,7 @@ commitment_text keys.Kind c = c.kind
 commitment_text keys.Rate c = spelling 6 (pos c.rate)
 commitment_text other c = []
 
-abbrev pub commitment_lines : Sheet → Sheet → List ℕ → List ℕ
+unfoldable pub commitment_lines : Sheet → Sheet → List ℕ → List ℕ
 commitment_lines old new id = changed_keys commitment_text (codes "commitment" ∷ id ∷ []) commitment_keys (commitment_with old id) (commitment_with new id)
 
 -- a region's names

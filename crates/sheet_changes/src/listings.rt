@@ -68,6 +68,26 @@ fn put_prices(
     Ok(())
 }
 
+/// Appends what the two sheets have under the id of a commitment, where that differs.
+fn put_commitment(
+    alloc: Global,
+    text: &mut Vec<u8>,
+    old: &Sheet,
+    new: &Sheet,
+    id: &[u8],
+) -> Result<(), AllocError>
+    ensures { OnOk result (text.new.items ≡ text.old.items ++ commitment_lines old.now new.now id.now) }
+{
+    put_keys(
+        alloc,
+        text,
+        &[b"commitment", id],
+        &COMMITMENT_KEYS,
+        old.commitment(id),
+        new.commitment(id),
+    )
+}
+
 /// Appends the fields that differ of the commitments with these ids.
 fn put_commitments(
     alloc: Global,
@@ -80,14 +100,7 @@ fn put_commitments(
         ++ flat_map (commitment_lines old.now new.now) (map (λ id. id.now) ids.now)) }
 {
     for id in ids {
-        put_keys(
-            alloc,
-            text,
-            &[b"commitment", *id],
-            &COMMITMENT_KEYS,
-            old.commitment(id),
-            new.commitment(id),
-        )?;
+        put_commitment(alloc, text, old, new, id)?;
     }
     Ok(())
 }
@@ -135,7 +148,11 @@ pub(crate) fn put_fields(
     ensures { OnOk result ((fields : List ℕ) × ListsFields old.now new.now fields
         × (text.new.items ≡ text.old.items ++ fields)) }
 {
-    put_prices(alloc, text, old, new, &price_days(alloc, old, new)?)?;
-    put_commitments(alloc, text, old, new, &commitment_ids(alloc, old, new)?)?;
-    put_names(text, old, new, &region_ids(alloc, old, new)?)
+    let days = price_days(alloc, old, new)?;
+    put_prices(alloc, text, old, new, &days)?;
+    let commitments = commitment_ids(alloc, old, new)?;
+    put_commitments(alloc, text, old, new, &commitments)?;
+    let regions = region_ids(alloc, old, new)?;
+    put_names(text, old, new, &regions)?;
+    Ok(())
 }
