@@ -25,7 +25,7 @@ joined_behind (p ∷ q ∷ ps) key old new =
     ∙ sym (append_assoc (p.now ++ 9 ∷ []) (each_tabbed (q ∷ ps)) (key ++ 9 ∷ (old ++ 9 ∷ new))))
 
 unlike : (old new : List ℕ) → old ≢ new → is_same old new ≡ false
-unlike old new other = elim (cases_Bool (is_same old new)) [ | inl t ↦ absurd (other (same_read old new t)) | inr f ↦ f ]
+unlike old new other = elim (cases_Bool (is_same old new)) [ inl t ↦ absurd (other (same_read old new t)) | inr f ↦ f ]
 
 pub none_changed : (named : List (List ℕ)) (old new : List ℕ) → old ≡ new → changed named old new ≡ []
 none_changed named old new same = cond-true (is_same old new) [] (tabbed (named ++ old ∷ new ∷ [])) (ap (is_same old) (sym same) ∙ same_text old)

@@ -1,4 +1,5 @@
 pub mod Changes
+pub mod Checks
 pub mod Faults
 pub mod FieldChanges
 pub mod Likenesses

@@ -3,6 +3,7 @@
 #![tactic(auto)]
 
 mod changes;
+mod checks;
 mod commitments;
 mod comparisons;
 mod days;
@@ -15,6 +16,7 @@ mod prices;
 mod regions;
 
 pub use changes::{Asked, sheets_text};
+pub use checks::check_two_sheets;
 pub use comparisons::{Likeness, likeness_between};
 pub use faults::SheetsFault;
 pub use utc_calendar::Day;
