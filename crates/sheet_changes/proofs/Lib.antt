@@ -9,5 +9,6 @@ mod LikenessLaws
 mod SaidLaws
 mod SortedLists
 mod ListedDays
+mod ListedLaws
 mod TwoSheets
 mod WorkedChanges
