@@ -10,5 +10,6 @@ mod SaidLaws
 mod SortedLists
 mod ListedDays
 mod ListedLaws
+mod OneListing
 mod TwoSheets
 mod WorkedChanges
