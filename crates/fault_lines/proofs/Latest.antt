@@ -1,9 +1,7 @@
 -- The latest of some days, in whatever order they come.
-use Rattle.std.proofs.Common.{◌≡◌, ◌⊎◌, ℕ, ◌==◌, Bool, true, false, cond, List, [], ◌∷◌, ◌++◌, filter, Option, Some, None, ℤ, ◌≤ℤ◌, int_lt, inl, inr, refl, sym, ap, ◌∙◌, arith, append_assoc}
-use Rattle.std.specs.List.{flat_map}
+use Rattle.std.proofs.Common.{◌≡◌, ◌⊎◌, Bool, true, false, cond, List, [], ◌∷◌, ◌++◌, Option, Some, None, ℤ, ◌≤ℤ◌, int_lt, inl, inr, refl, ap, ◌∙◌, arith}
 use Rattle.std.proofs.lemmas.Int.{ints}
-use Rattle.metering_model.specs.Batch.{Batch, Record}
-use Rattle.fault_lines.specs.Ahead.{days_of, later, latest, start_day}
+use Rattle.fault_lines.specs.Ahead.{later, latest}
 
 -- the later of two is one of them, and neither comes after it
 IsLaterOf : ℤ → ℤ → ℤ → Type 0

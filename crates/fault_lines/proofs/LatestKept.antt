@@ -1,5 +1,5 @@
 -- The latest days with one batch more.
-use Rattle.std.proofs.Common.{◌≡◌, ◌≢◌, ◌⊎◌, ℕ, zero, suc, ◌+◌, ◌-◌, ◌<◌, ◌≤◌, ◌==◌, Bool, true, false, cond, List, [], ◌∷◌, ◌++◌, length, filter, Option, Some, None, ℤ, slice_set, inl, inr, refl, sym, ap, ◌∙◌, subst, arith, eq-eqb}
+use Rattle.std.proofs.Common.{◌≡◌, ◌≢◌, ℕ, zero, suc, ◌-◌, ◌<◌, ◌≤◌, ◌==◌, Bool, false, cond, List, [], ◌∷◌, ◌++◌, length, filter, Option, Some, None, ℤ, slice_set, inl, inr, refl, sym, ap, ◌∙◌, subst, arith, eq-eqb}
 use Rattle.std.specs.List.{flat_map, slice_get}
 use Rattle.std.proofs.lemmas.Bool.Decides.{eqb_tells}
 use Rattle.std.proofs.Math.ListN.{replicate}
@@ -48,8 +48,9 @@ module _ (b : Batch) (journaled : List Batch) where
   ]
 
 -- those of no batches
-pub none_there : AreLatest (replicate most_agents None) []
+pub none_there : AreLatest (replicate {0} most_agents None) []
 none_there agent low high =
+    let none : Option ℤ = None in
     let within : agent - 1 < most_agents = omega (arith, low, high) in
-    slice_get-get_or (replicate most_agents None) (agent - 1) None (subst (λ n. agent - 1 < n) (sym (length-replicate most_agents None)) within)
-    ∙ ap Some (get_or-replicate most_agents (agent - 1) None None within)
+    slice_get-get_or (replicate {0} most_agents none) (agent - 1) none (subst (λ n. agent - 1 < n) (sym (length-replicate {0} most_agents none)) within)
+    ∙ ap Some (get_or-replicate {0} most_agents (agent - 1) none none within)

@@ -7,3 +7,6 @@ pub mod Latest
 pub mod LatestKept
 pub mod AheadWalks
 pub mod UnknownLaws
+mod WorkedKinds
+mod WorkedAhead
+mod WorkedUnknown

@@ -8,7 +8,7 @@ use Rattle.metering_model.specs.declared.Refusal.TheVariants as refusal
 use Rattle.metering_model.specs.Schedule.{Planned, PlansDelivery, PlansExport, PlansJournal, PlansKeep, PlansRestart, PlansRevival, PlansStart, Schedule, event_of, lines_text, schedule_text}
 use Rattle.metering_model.specs.Sheet as model
 use Rattle.metering_model.specs.Step.{step}
-use Rattle.metering_model.specs.Transcript.{line, line_count}
+use Rattle.metering_model.specs.Transcript.{line_count}
 use Rattle.metering_model.specs.World.{World, Reply, Refused as IsRefused, opening}
 use Rattle.input_sections.specs.declared.faults.ScheduleFault.{ScheduleFault}
 use Rattle.input_sections.specs.declared.faults.ScheduleFault.TheVariants as section

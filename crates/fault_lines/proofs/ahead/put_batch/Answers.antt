@@ -1,9 +1,7 @@
-use Rattle.std.proofs.Common.{◌≡◌, ◌+◌, List, [], map, drop, sym, ap, ◌∙◌, subst, arith, length}
-use Rattle.metering_model.specs.Batch.{Record}
+use Rattle.std.proofs.Common.{◌≡◌, ◌+◌, map, drop, sym, ap, ◌∙◌, subst, arith}
 use Rattle.batch_view.specs.Asked.{asked_in, asked_left, record_asked}
 use Rattle.batch_view.specs.Batches.{RecordsLeft, batch_of}
-use Rattle.fault_lines.specs.Ahead.{latest}
-use Rattle.fault_lines.proofs.AheadWalks.{IsNext, IsWalked, next_asked, none_asked, walk_begins, walk_goes_on, walk_latest, walk_told}
+use Rattle.fault_lines.proofs.AheadWalks.{IsWalked, next_asked, none_asked, walk_begins, walk_goes_on, walk_latest, walk_told}
 use Rattle.fault_lines.proofs.ahead.put_batch.Goals as goal
 
 pub loop-asked-init : goal.loop-asked-init

@@ -1,8 +1,8 @@
-use Rattle.std.proofs.Common.{◌≡◌, ℕ, List, ◌+◌, ◌++◌, ◌≤◌, [], length, not, filter, refl, sym, ap, ◌∙◌, arith}
+use Rattle.std.proofs.Common.{◌≡◌, ◌+◌, ◌++◌, ◌≤◌, [], length, not, filter, refl, ap, ◌∙◌, arith}
 use Rattle.std.specs.List.{flat_map}
 use Rattle.metering_model.specs.BatchReading.{Lines, lines_in}
 use Rattle.metering_model.specs.Transcript.{line_count}
-use Rattle.fault_lines.specs.UnknownKeys.{first_word, has_key, is_key, table_of, told_along, told_unknown}
+use Rattle.fault_lines.specs.UnknownKeys.{is_key, table_of, told_along, told_unknown}
 use Rattle.fault_lines.proofs.UnknownLaws.{along_ends, along_goes_on, is_none, left_ends, left_goes_on, lines_fit}
 use Rattle.fault_lines.proofs.unknown_keys.put_along.Goals as goal
 

@@ -1,4 +1,4 @@
-use Rattle.std.proofs.Common.{◌≡◌, ◌≤◌, ◌++◌, [], length, sym, ap, ◌∙◌, arith, append-nil}
+use Rattle.std.proofs.Common.{◌≤◌, ◌++◌, length, sym, ap, ◌∙◌, arith, append-nil}
 use Rattle.std.proofs.lemmas.Bool.Decides.{nat_tests}
 use Rattle.metering_model.specs.BatchReading.{lines_in}
 use Rattle.fault_lines.specs.UnknownKeys.{told_of_keys}

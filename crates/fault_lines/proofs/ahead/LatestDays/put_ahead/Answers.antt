@@ -1,6 +1,5 @@
-use Rattle.std.proofs.Common.{◌≡◌, ◌-◌, List, None, ℕ, ℤ, slice_index_or, sym, ap, ◌∙◌, subst, arith, ◌≤◌}
+use Rattle.std.proofs.Common.{◌≡◌, ◌-◌, None, slice_index_or, sym, ap, ◌∙◌, subst, ◌≤◌}
 use Rattle.std.proofs.lemmas.Option.{get_or_from_slice_get}
-use Rattle.metering_model.specs.Batch.{Batch}
 use Rattle.metering_model.specs.Limits.{most_agents}
 use Rattle.batch_view.specs.Batches.{batch_of}
 use Rattle.fault_lines.specs.Ahead.{AreLatest, ahead_of, days_of, latest}
