@@ -14,3 +14,4 @@ mod ListedLaws
 mod OneListing
 mod TwoSheets
 mod WorkedChanges
+mod WorkedListings

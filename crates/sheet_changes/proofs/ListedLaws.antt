@@ -159,7 +159,7 @@ module _ (old new : Sheet) (old_ok : IsSheet old) (new_ok : IsSheet new) where
           (subst (λ o. (key : Key) → Contains price_keys key → part (price_text key) o ≡ part (price_text key) (price_in_force new sku day)) is
           (all_same price_text named (price_in_force old sku day) (price_in_force new sku day) price_keys (none (ap is_some is) []))))
 
--- ---- commitments
+  -- ---- commitments
 
   pub commitment_unlisted : (id : List ℕ) (c : Commitment) → commitment_with old id ≡ Some c → commitment_lines old new id ≡ [] → commitment_with new id ≡ Some c
   unfolding commitment_lines
@@ -183,7 +183,7 @@ module _ (old new : Sheet) (old_ok : IsSheet old) (new_ok : IsSheet new) where
           let rate : d.rate ≡ c.rate = same_price d.rate c.rate there.0.rate has.0.rate (sym (same keys.Rate (4, omega arith, refl))) in
           λ i. Some (record { id = name i; sku = sku i; buy = buy i; category = category i; kind = kind i; rate = rate i })
 
--- ---- the law
+  -- ---- the law
 
   from_none : (day : ℤ) → new.base ≡ old.base → ListsNoneBefore day old new → GoesOnFrom day old new
   from_none day base none = record {

@@ -84,10 +84,10 @@ module _ {K : Type 0} (R : K → K → Ordering) (total : IsTotalOrder R) where
 pub one_date : (s t : List ℕ) (n : ℤ) → IsDayText s n → IsDayText t n → s ≡ t
 one_date s t n one other =
     let same =
-        epoch_day_injective
-        (record { year = pos one.year; month = one.month; day = one.day; year_in = omega (arith, signed_arith, one.year_in); month_in = one.month_in; day_in = one.day_in })
-        (record { year = pos other.year; month = other.month; day = other.day; year_in = omega (arith, signed_arith, other.year_in); month_in = other.month_in; day_in = other.day_in })
-        (sym one.number ∙ other.number) in
+    epoch_day_injective
+    (record { year = pos one.year; month = one.month; day = one.day; year_in = omega (arith, signed_arith, one.year_in); month_in = one.month_in; day_in = one.day_in })
+    (record { year = pos other.year; month = other.month; day = other.day; year_in = omega (arith, signed_arith, other.year_in); month_in = other.month_in; day_in = other.day_in })
+    (sym one.number ∙ other.number) in
     one.joined ∙ (λ i. day_text (unsigned_abs (same.0 i)) (same.1 i) (same.2 i)) ∙ sym other.joined
 
 -- ---- the listing
