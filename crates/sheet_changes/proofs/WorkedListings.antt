@@ -1,5 +1,6 @@
 -- What is listed of the sheets of the examples.
 use Rattle.std.proofs.Common.{◌≡◌, ℕ, zero, suc, [], ◌∷◌, ◌++◌, map, refl, ap, arith, codes, Contains}
+use Rattle.std.specs.Fmt.{digits}
 use Rattle.std.specs.Prelude.{unsigned_abs}
 use Rattle.metering_model.specs.NumberText.{decimals_of}
 use Rattle.metering_model.proofs.Samples.{cpu}
@@ -11,16 +12,16 @@ abbrev cpu_in_february : PriceDay
 cpu_in_february = record { sku = codes "cpu"; day = february_1 }
 
 pub a_price_is_listed : price_lines old_sheet with_later_price cpu_in_february (codes "2025-02-01") ≡ codes "price" ++ 9 ∷ (codes "cpu" ++ 9 ∷ (codes "2025-02-01" ++ 9 ∷ (codes "contracted" ++ 9 ∷ (codes "0.08" ++ 9 ∷ (codes "0.09" ++ 10 ∷ [])))))
-unfolding price_lines key_name decimals_of
+unfolding price_lines key_name decimals_of digits
 a_price_is_listed = refl
 
 -- a price that is split at a day, and is the same on both sides
 pub a_split_is_not_listed : price_lines old_sheet with_split_price cpu_in_february (codes "2025-02-01") ≡ []
-unfolding price_lines key_name decimals_of
+unfolding price_lines key_name decimals_of digits
 a_split_is_not_listed = refl
 
 pub a_rate_is_listed : commitment_lines old_sheet with_another_rate (codes "cm-1") ≡ codes "commitment" ++ 9 ∷ (codes "cm-1" ++ 9 ∷ (codes "rate" ++ 9 ∷ (codes "0.05" ++ 9 ∷ (codes "0.06" ++ 10 ∷ []))))
-unfolding commitment_lines key_name decimals_of
+unfolding commitment_lines key_name decimals_of digits
 a_rate_is_listed = refl
 
 pub a_name_is_listed : region_line old_sheet with_another_name (codes "eu-1") ≡ codes "region" ++ 9 ∷ (codes "eu-1" ++ 9 ∷ (codes "Europe 1" ++ 9 ∷ (codes "Europe One" ++ 10 ∷ [])))
