@@ -8,7 +8,6 @@ mod RegionLaws
 mod LikenessLaws
 mod SaidLaws
 mod SortedLists
-mod CheckLaws
 mod ListedDays
 mod ListedLaws
 mod OneListing

@@ -37,7 +37,7 @@ pub struct Asked {
 }
 
 /// Refuses what stands behind the last section.
-pub(crate) fn nothing_behind(unread: &Unread<'_>) -> Result<(), ScheduleFault>
+fn nothing_behind(unread: &Unread<'_>) -> Result<(), ScheduleFault>
     ensures taken { IfOk result (λ none. nothing_behind unread.now ≡ Ok none) }
     ensures refused { IfErr result (λ fault. (fault ≢ ScheduleFault.OutOfMemory)
         × (nothing_behind unread.now ≡ Err fault)) }
