@@ -37,7 +37,7 @@ status_of (Threads threads.Mismatch) = 1
 status_of (Threads threads.Write) = 3
 status_of (Threads threads.Refused) = 1
 status_of Unlike = 1
-status_of (Batch at refusal) = 1
+status_of (Batch told) = 1
 status_of TooLong = 1
 status_of NotClosed = 1
 
@@ -62,7 +62,7 @@ message_of (Threads threads.Mismatch) = codes "mismatch"
 message_of (Threads threads.Write) = codes "write failed"
 message_of (Threads threads.Refused) = codes "refused"
 message_of Unlike = codes "unlike"
-message_of (Batch at refusal) = with_number (codes "line ") at ++ codes ": " ++ refusal_text refusal
+message_of (Batch told) = told.items
 message_of TooLong = codes "too long"
 message_of NotClosed = codes "not closed"
 
