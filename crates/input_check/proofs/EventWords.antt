@@ -1,8 +1,7 @@
 -- What is told of a refused batch, and of its first bad record.
-use Rattle.std.proofs.Common.{◌≡◌, ℕ, ◌≤◌, Bool, true, false, ◌&&◌, ◌==◌, List, [], ◌++◌, length, Option, Some, None, Result, Ok, Err, refl, sym, ap, ◌∙◌, subst, append-nil, nat_le, nat_lt}
+use Rattle.std.proofs.Common.{◌≡◌, ℕ, Bool, true, false, ◌&&◌, ◌==◌, List, length, Option, Some, None, Result, Ok, Err, refl, sym, ap, ◌∙◌, subst, nat_le, nat_lt}
 use Rattle.std.specs.Prelude.{if◌then◌else◌}
 use Rattle.std.specs.Option.{option_map}
-use Rattle.std.proofs.lemmas.Option.{slice_get_past}
 use Rattle.metering_model.specs.Batch.{Batch}
 use Rattle.metering_model.specs.BatchReading.{batch_in}
 use Rattle.metering_model.specs.FirstFailure.{◌>>=◌, holds_or}
@@ -16,27 +15,11 @@ use Rattle.metering_model.specs.declared.BrokenRule.{BrokenRule}
 use Rattle.metering_model.specs.declared.BrokenRule.TheVariants.{BadTarget as BreaksTarget, Unpriced as BreaksPrice}
 use Rattle.metering_model.specs.declared.Refusal.{Refusal}
 use Rattle.metering_model.specs.declared.Refusal.TheVariants as refusal
-use Rattle.batch_view.specs.Batches.{batch_of}
 use Rattle.batch_view.proofs.BatchLemmas.{batch_of_is}
 use Rattle.journal_rules.specs.FirstBad.{first_bad}
 use Rattle.metering_model.specs.RatedAlone.{journaled_in, world_before}
-use Rattle.input_check.specs.Checks.{bad_index, record_at, record_words, told_of_text}
+use Rattle.fault_lines.specs.Told.{bad_index, told_of_text}
 use Rattle.input_check.specs.Inner.Replies.{is_of_rule}
-
--- ---- a record
-
-pub none_told : (sheet : model.Sheet) (text : List ℕ) (index : ℕ) → length (batch_of text).records ≤ index → record_words sheet (record_at text (Some index)) ≡ []
-none_told sheet text index past = ap (record_words sheet) (slice_get_past (batch_of text).records index past)
-
-pub no_batch_told : (sheet : model.Sheet) (text : List ℕ) (index : ℕ) (fault : BatchFault) → batch_in text ≡ Err fault → record_words sheet (record_at text (Some index)) ≡ []
-unfolding batch_of
-no_batch_told sheet text index fault is = rw is refl
-
-pub never : ◌≡◌ {A = Bool} false true → ⊥
-never is = cc
-
-pub nothing_more : (told words : List ℕ) → words ≡ [] → told ≡ told ++ words
-nothing_more told words none = sym (ap (λ t. told ++ t) none ∙ append-nil told)
 
 -- ---- a journal
 

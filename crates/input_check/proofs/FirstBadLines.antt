@@ -23,7 +23,8 @@ use Rattle.journal_rules.specs.FirstBad.{first_bad}
 use Rattle.input_sections.proofs.CountedLines.{lines_count}
 use Rattle.metering_model.specs.RatedAlone.{journaled_in}
 use Rattle.batch_player.proofs.JournaledLaws.{bad_target, later_batch, no_batch, taken, unpriced}
-use Rattle.input_check.specs.Checks.{IsFirstRefused, bad_index, first_records, line_of, line_within, refused_by}
+use Rattle.fault_lines.specs.Told.{bad_index, line_of, line_within}
+use Rattle.input_check.specs.Checks.{IsFirstRefused, first_records, refused_by}
 use Rattle.input_check.proofs.FirstBadRecords.{fewer_are_batch, first_of_batch}
 
 -- ---- the lines of a batch

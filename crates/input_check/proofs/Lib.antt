@@ -7,9 +7,6 @@ pub mod EventLines
 pub mod FirstBadRecords
 pub mod FirstBadLines
 pub mod RatingForms
-pub mod FieldLaws
-pub mod FieldPlaces
-pub mod FieldLines
 pub mod EventWords
 mod WorkedChecks
 mod WorkedCredits

@@ -15,7 +15,8 @@ use Rattle.input_sections.specs.Sections.{Unread, begins_with, left}
 use Rattle.schedule_reader.specs.Schedules.{Preamble, event_in, events_in, preamble_in}
 use Rattle.metering_model.specs.RatedAlone.{journaled_in}
 use Rattle.answer_words.specs.Words.{section_code_text}
-use Rattle.input_check.specs.Checks.{bad_index, line_of_kept, line_within, more_words, reason, said_behind, said_below, said_of_batch, said_of_events, said_of_fault, said_of_input, said_of_journaled, said_of_rating, said_of_refused, said_of_reply, said_of_schedule, told_at, words_of}
+use Rattle.fault_lines.specs.Told.{bad_index, line_within, more_words, reason, said_of_fault, told_at, words_of}
+use Rattle.input_check.specs.Checks.{line_of_kept, said_behind, said_below, said_of_batch, said_of_events, said_of_input, said_of_journaled, said_of_rating, said_of_refused, said_of_reply, said_of_schedule}
 
 abbrev IsNoneOrLines : List ℕ → Type 0
 IsNoneOrLines t = (t ≡ []) ⊎ (1 ≤ line_count t)

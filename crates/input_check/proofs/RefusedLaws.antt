@@ -17,7 +17,8 @@ use Rattle.schedule_reader.specs.Schedules.{Preamble, event_in, events_in, pream
 use Rattle.schedule_reader.proofs.PreambleLaws.{behind, by_preamble}
 use Rattle.metering_model.specs.RatedAlone.{journaled_in, rows_alone}
 use Rattle.batch_player.specs.RateInput.{or_refused, or_schedule, rated_file}
-use Rattle.input_check.specs.Checks.{SaysWhatIsPlayed, SaysWhatIsRated, bad_index, event_lines, lines_of_events, said_below, said_behind, said_of_batch, said_of_events, said_of_fault, said_of_input, said_of_journaled, said_of_rating, said_of_refusal, said_of_replies, said_of_reply, said_of_schedule, told_of_text}
+use Rattle.fault_lines.specs.Told.{bad_index, said_of_fault, told_of_text}
+use Rattle.input_check.specs.Checks.{SaysWhatIsPlayed, SaysWhatIsRated, event_lines, lines_of_events, said_below, said_behind, said_of_batch, said_of_events, said_of_input, said_of_journaled, said_of_rating, said_of_refusal, said_of_replies, said_of_reply, said_of_schedule}
 use Rattle.input_check.proofs.NeverWants.{NeverWants, a_preamble, a_rating, some_events}
 use Rattle.input_check.proofs.SaidLaws.{said_as_rating, said_as_schedule}
 

@@ -17,8 +17,9 @@ use Rattle.input_sections.specs.Sections.{section_in, read_as, sheet_section, is
 use Rattle.input_sections.specs.RateInput.{rate_input_in}
 use Rattle.schedule_reader.specs.Schedules.{group_in, head_line, nodes_line, number_line, event_in, line_event, journal_event, revival_event, events_in, preamble_in}
 use Rattle.metering_model.specs.RatedAlone.{journaled_in}
-use Rattle.input_check.specs.Fields.{fault_field}
-use Rattle.input_check.specs.Checks.{from_line, section_on, said_of_text, said_of_events, said_of_schedule, said_of_batch, said_of_rating, said_of_input}
+use Rattle.fault_lines.specs.Fields.{fault_field}
+use Rattle.fault_lines.specs.Told.{from_line, section_on, said_of_text}
+use Rattle.input_check.specs.Checks.{said_of_events, said_of_schedule, said_of_batch, said_of_rating, said_of_input}
 
 abbrev said : List (List ℕ) → List ℕ
 said ls = said_of_input (lines_text ls)

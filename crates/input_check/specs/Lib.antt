@@ -1,4 +1,3 @@
-pub mod Fields
 pub mod Checks
 pub mod RateForms
 pub mod Inner

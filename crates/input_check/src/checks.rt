@@ -11,8 +11,8 @@ ghost use Rattle.input_sections.specs.declared.faults.ScheduleFault.{ScheduleFau
 ghost use Rattle.schedule_player.specs.Faults.{tells_of_reader, tells_of_writer};
 ghost use Rattle.input_check.specs.Checks.{IsSaidOf, said_of_input};
 
-use crate::batches::check_rating;
 use crate::events::check_schedule;
+use crate::ratings::check_rating;
 use byte_text::line_count;
 use counted_io::{Sink, Source, write_all};
 use input_sections::behind_word;

@@ -11,8 +11,7 @@ ghost use Rattle.input_check.specs.Checks.{line_of_kept, said_of_events, said_of
 ghost use Rattle.input_check.specs.Inner.Faults.{fault_of};
 ghost use Rattle.input_check.specs.Inner.Replies.{IsBadIn, breaks_rule};
 
-use crate::batches::{put_at, put_refused_text};
-use crate::sections::put_fault;
+use fault_lines::{put_at, put_fault, put_refused_text};
 use input_sections::{ScheduleFault, Unread};
 use metering_model::Refusal;
 use schedule_player::{Reply, World, event_of, opening_world};

@@ -1,12 +1,10 @@
 //! What is said beside what `rate` and `play` refuse, and of which parts what is rated is joined. Each law is a function with an
 //! empty body.
 
-ghost use Rattle.std.specs.Prelude.{◌≡◌, ℕ, List, [], Some, Ok, Err, true, false, codes};
+ghost use Rattle.std.specs.Prelude.{◌≡◌, ℕ, List, [], Ok, Err, true, false, codes};
 ghost use Rattle.metering_model.specs.Batch.{Batch, IsBatch};
-ghost use Rattle.metering_model.specs.BatchReading.{batch_in};
 ghost use Rattle.metering_model.specs.Schedule.{Schedule};
 ghost use Rattle.metering_model.specs.Sheet.{Issuer, Sheet};
-ghost use Rattle.metering_model.specs.declared.BatchFault.{BatchFault};
 ghost use Rattle.metering_model.specs.declared.BrokenRule.{BrokenRule};
 ghost use Rattle.input_sections.specs.RateInput.{RateInput, rate_input_in};
 ghost use Rattle.input_sections.specs.Sections.{begins_with};
@@ -14,10 +12,9 @@ ghost use Rattle.schedule_reader.specs.Forms.{IsReadOf};
 ghost use Rattle.schedule_reader.specs.Schedules.{ReadSchedule, schedule_in};
 ghost use Rattle.metering_model.specs.RatedAlone.{journaled_in};
 ghost use Rattle.batch_player.specs.RateInput.{rated_file};
-ghost use Rattle.input_check.specs.Checks.{BeginsWhereCounted, IsFirstRefused, SaysWhatIsPlayed, SaysWhatIsRated, bad_index, event_lines, line_within, refused_by, said_of_input};
-ghost use Rattle.input_check.specs.Fields.{IsFaultOf, field_of, is_of_field, line_at};
+ghost use Rattle.fault_lines.specs.Told.{bad_index, line_within};
+ghost use Rattle.input_check.specs.Checks.{BeginsWhereCounted, IsFirstRefused, SaysWhatIsPlayed, SaysWhatIsRated, event_lines, refused_by, said_of_input};
 ghost use Rattle.input_check.specs.RateForms.{IsRateForm, RateForm};
-ghost use Rattle.input_check.specs.declared.fields.RecordField.{RecordField};
 
 /// Of what is to be rated, in whichever period, nothing is said where `rate` gives a file, and else just why it refuses, with its
 /// line. Of what is to be played the first fault of the schedule is said, or just which events are answered as refused, each by
@@ -44,11 +41,4 @@ pub fn each_rating_is_read()
         → (f : RateForm) × IsRateForm text given f }
     ensures taken { (text : List ℕ) (given : RateInput) (f : RateForm) → IsRateForm text given f
         → rate_input_in text ≡ Ok given }
-{}
-
-/// The field that is told of a batch's fault is the first in its line that breaks its rule, and the code is that field's.
-pub fn each_fault_is_of_its_field()
-    ensures field { (text : List ℕ) (fault : BatchFault) → batch_in text ≡ Err fault → is_of_field fault.code ≡ true
-        → (line : List ℕ) × (f : RecordField) × (line_at text fault.line ≡ Some line)
-        × (field_of text fault ≡ Some f) × IsFaultOf line fault.code f }
 {}

@@ -2,14 +2,11 @@
 //! a schedule are.
 #![tactic(auto)]
 
-mod batches;
 mod checks;
 mod events;
-mod fields;
 pub mod laws;
-mod sections;
+mod ratings;
 
 pub use batch_player::rate_text;
 pub use checks::check_text;
-pub use fields::RecordField;
 pub use schedule_player::play_text;

@@ -4,7 +4,7 @@ use Rattle.metering_model.specs.Schedule.{Planned, PlansJournal, lines_text}
 use Rattle.metering_model.specs.World.{World, Reply, Refused}
 use Rattle.metering_model.specs.declared.Refusal.{Refusal}
 use Rattle.metering_model.specs.declared.Refusal.TheVariants.{BadTarget, Unpriced}
-use Rattle.input_check.specs.Checks.{bad_index}
+use Rattle.fault_lines.specs.Told.{bad_index}
 
 abbrev pub is_of_rule : Refusal → Bool
 is_of_rule BadTarget = true

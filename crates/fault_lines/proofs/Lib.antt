@@ -1,0 +1,12 @@
+pub mod SectionLaws
+pub mod RecordWords
+pub mod FieldLaws
+pub mod FieldPlaces
+pub mod FieldLines
+pub mod Latest
+pub mod LatestKept
+pub mod AheadWalks
+pub mod UnknownLaws
+mod WorkedKinds
+mod WorkedAhead
+mod WorkedUnknown

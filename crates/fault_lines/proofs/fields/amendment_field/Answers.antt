@@ -1,0 +1,12 @@
+use Rattle.std.proofs.Common.{List, ℕ, ◌∷◌, Some, ap, ◌∙◌}
+use Rattle.metering_model.specs.BatchReading.{fields_in}
+use Rattle.fault_lines.proofs.FieldPlaces.{amendment_told}
+use Rattle.fault_lines.proofs.fields.amendment_field.Goals as goal
+
+pub returns : goal.returns
+returns c = λ version is.
+    let letter = c.in_ok-rest.field-0-0.now in
+    let seq = c.in_ok-seq.seq.now in
+    let index = c.in_ok-index.index.now in
+    let are = c.in_ok-rest.ensures ∙ ap (λ (ts : List (List ℕ)). letter ∷ ts) (c.in_ok-seq.ensures ∙ ap (λ (ts : List (List ℕ)). seq ∷ ts) c.in_ok-index.ensures) in
+    ap Some c.number_field.ensures ∙ amendment_told c.args.line.now version letter seq index (fields_in c.in_ok-index.field-0-1.now) are c.requires.few is

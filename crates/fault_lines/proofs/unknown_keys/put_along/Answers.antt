@@ -1,0 +1,60 @@
+use Rattle.std.proofs.Common.{◌≡◌, ◌+◌, ◌++◌, ◌≤◌, [], length, not, filter, refl, ap, ◌∙◌, arith}
+use Rattle.std.specs.List.{flat_map}
+use Rattle.metering_model.specs.BatchReading.{Lines, lines_in}
+use Rattle.metering_model.specs.Transcript.{line_count}
+use Rattle.fault_lines.specs.UnknownKeys.{is_key, table_of, told_along, told_unknown}
+use Rattle.fault_lines.proofs.UnknownLaws.{along_ends, along_goes_on, is_none, left_ends, left_goes_on, lines_fit}
+use Rattle.fault_lines.proofs.unknown_keys.put_along.Goals as goal
+
+pub loop-index-init : goal.loop-index-init
+loop-index-init c =
+    let here : c.args.opening + 1 ≡ c.args.opening + 1 + 0 = omega arith in (
+      ap (λ n. c.args.told.now.items ++ told_along n [] c.args.keys.now.items (lines_in c.args.text.now).lines) here,
+      refl,
+      omega (arith, lines_fit c.args.text.now),
+    )
+
+pub loop-index-preserved : goal.loop-index-preserved
+loop-index-preserved c =
+    let l = c.loop-index in
+    let line = c.in-Some.line.now in
+    let rest = ap (λ (ls : Lines). ls.lines) c.in-Some.ensures in
+    let n = c.args.opening + 1 + l.index in
+    let from : c.from.result + 1 + l.index ≡ n = ap (λ k. k + 1 + l.index) c.from.ensures in
+    let next : c.args.opening + 1 + (l.index + 1) ≡ n + 1 = omega arith in
+    let told =
+    (rw c.deref.ensures.value at c.in_ok-put_those.ensures)
+    ∙ (ap (λ k. l.told.items ++ flat_map (told_unknown k) (filter (is_key c.tables_at.result.0.now c.first_word-word.result.now) l.keys.items)) from
+    ∙ (ap (λ t. l.told.items ++ flat_map (told_unknown n) (filter (is_key t c.first_word-word.result.now) l.keys.items)) c.tables_at.ensures.at
+    ∙ ap (λ w. l.told.items ++ flat_map (told_unknown n) (filter (is_key (table_of l.table.now line) w) l.keys.items)) c.first_word-word.ensures)) in
+    let left =
+    c.drop_those.ensures
+    ∙ (ap (λ t. filter (λ k. not (is_key t c.first_word-word.result.now k)) l.keys.items) c.tables_at.ensures.at
+    ∙ ap (λ w. filter (λ k. not (is_key (table_of l.table.now line) w k)) l.keys.items) c.first_word-word.ensures) in
+    let few : length (lines_in c.in-Some.behind.now).lines + (l.index + 1) ≤ line_count c.args.text.now = omega (arith, ap length rest, l.invariant.2) in (
+      along_goes_on _ _ _ l.table.now _ n _ l.keys.items _ _ line _ l.invariant.0 rest told left c.tables_at.ensures.below next,
+      left_goes_on [] [] [] l.table.now _ n n l.keys.items _ _ line _ _ l.invariant.1 rest left c.tables_at.ensures.below,
+      few,
+    )
+
+pub returns-clause-told : goal.returns-clause-told
+returns-clause-told c =
+    let l = c.loop-index in
+    let none = is_none (lines_in l.rest.now).lines (omega (arith, l.invariant.2, c.loop-index-test.false, c.line_count-index-end.ensures)) in
+    along_ends _ _ [] l.table.now [] (c.args.opening + 1 + l.index) 0 l.keys.items [] _ l.invariant.0 none
+
+pub returns-clause-left : goal.returns-clause-left
+returns-clause-left c =
+    let l = c.loop-index in
+    let none = is_none (lines_in l.rest.now).lines (omega (arith, l.invariant.2, c.loop-index-test.false, c.line_count-index-end.ensures)) in
+    left_ends [] [] [] l.table.now [] 0 0 l.keys.items [] _ _ l.invariant.1 none
+
+pub returns-in_default-clause-told : goal.returns-in_default-clause-told
+returns-in_default-clause-told c =
+    let l = c.loop-index in
+    along_ends _ _ [] l.table.now [] (c.args.opening + 1 + l.index) 0 l.keys.items [] _ l.invariant.0 c.in_default.ensures
+
+pub returns-in_default-clause-left : goal.returns-in_default-clause-left
+returns-in_default-clause-left c =
+    let l = c.loop-index in
+    left_ends [] [] [] l.table.now [] 0 0 l.keys.items [] _ _ l.invariant.1 c.in_default.ensures

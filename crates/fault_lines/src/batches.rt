@@ -1,0 +1,181 @@
+//! What is told of a batch that is refused.
+
+ghost use Rattle.std.specs.Prelude.{◌≡◌, ◌++◌, Err, Some, OnOk, codes};
+ghost use Rattle.metering_model.specs.Batch.{Reads};
+ghost use Rattle.metering_model.specs.BatchReading.{batch_in};
+ghost use Rattle.metering_model.specs.Transcript.{with_number};
+ghost use Rattle.metering_model.specs.declared.BatchFault.{BatchFault};
+ghost use Rattle.batch_view.specs.Lent.{model_reading, record_of};
+ghost use Rattle.fault_lines.specs.Fields.{field_of};
+ghost use Rattle.fault_lines.specs.TextKinds.{batch_words};
+ghost use Rattle.fault_lines.specs.Told.{field_words, line_within, more_words, record_at, record_words, told_at, told_of_text, words_of};
+
+use crate::fields::{RecordField, field_name, field_of};
+use crate::text_kinds::batch_words;
+use answer_words::{code_word, kept_code_word, refusal_line};
+use batch_view::{BatchView, Reading, Record};
+use byte_text::put_numbered;
+use metering_model::{BatchFault, Refusal};
+use price_sheet::Sheet;
+use std::alloc::{AllocError, Global};
+
+/// Appends the code of a refusal and what it tells, but for a line.
+fn put_words(told: &mut Vec<u8>, refusal: Refusal) -> Result<(), AllocError>
+    ensures { OnOk result (told.new.items ≡ told.old.items ++ words_of refusal) }
+{
+    match refusal {
+        Refusal::BadBatch(fault) => {
+            told.extend_from_slice(b"G1 ")?;
+            told.extend_from_slice(code_word(fault.code))
+        }
+        Refusal::BadKept(fault) => {
+            told.extend_from_slice(b"G14 ")?;
+            told.extend_from_slice(kept_code_word(fault.code))
+        }
+        _ => told.extend_from_slice(refusal_line(refusal).as_slice()),
+    }
+}
+
+/// Appends the line of the input on which something is wrong, and a colon.
+pub(crate) fn put_place(told: &mut Vec<u8>, line: u128) -> Result<(), AllocError>
+    ensures { OnOk result (told.new.items ≡ told.old.items ++ (with_number (codes "line ") line ++ codes ": ")) }
+{
+    put_numbered(told, b"line ", line)?;
+    told.extend_from_slice(b": ")
+}
+
+/// Appends that something is refused at a line of the input.
+pub fn put_at(told: &mut Vec<u8>, line: u128, refusal: Refusal) -> Result<(), AllocError>
+    ensures { OnOk result (told.new.items ≡ told.old.items ++ told_at line (words_of refusal)) }
+{
+    put_place(told, line)?;
+    put_words(told, refusal)?;
+    told.push(b'\n')?;
+    Ok(())
+}
+
+/// Appends the name of a field, where there is one.
+fn put_field(told: &mut Vec<u8>, field: Option<RecordField>) -> Result<(), AllocError>
+    ensures { OnOk result (told.new.items ≡ told.old.items ++ field_words field) }
+{
+    match field {
+        Some(field) => {
+            told.extend_from_slice(b" ")?;
+            told.extend_from_slice(field_name(field))
+        }
+        None => Ok(()),
+    }
+}
+
+/// Appends what a bad reading lacks: a price on its day, or else the commitment that it names.
+fn put_lacking(told: &mut Vec<u8>, sheet: &Sheet, reading: &Reading<'_>) -> Result<(), AllocError>
+    ensures { OnOk result (told.new.items ≡ told.old.items
+        ++ record_words sheet.now (Some (Reads (model_reading reading.now)))) }
+{
+    if sheet.price(reading.key.text, reading.start.day()).is_some() {
+        told.extend_from_slice(b" commitment ")?;
+        told.extend_from_slice(reading.commitment.text)
+    } else {
+        told.extend_from_slice(b" price ")?;
+        told.extend_from_slice(reading.key.text)
+    }
+}
+
+/// Appends what is told of a bad record: an amendment's target, or what a reading lacks.
+fn put_record(told: &mut Vec<u8>, sheet: &Sheet, what: &Record<'_>) -> Result<(), AllocError>
+    ensures { OnOk result (told.new.items ≡ told.old.items ++ record_words sheet.now (Some (record_of what.now))) }
+{
+    match what {
+        Record::Amend { seq, index, .. } => {
+            put_numbered(told, b" ", u128::from(*seq))?;
+            put_numbered(told, b" ", u128::from(*index))
+        }
+        Record::Reading(reading) => put_lacking(told, sheet, reading),
+    }
+}
+
+/// Appends what is told of the record at an index of a batch.
+fn put_record_at(
+    told: &mut Vec<u8>,
+    sheet: &Sheet,
+    text: &[u8],
+    index: u16,
+) -> Result<(), AllocError>
+    ensures { OnOk result (told.new.items ≡ told.old.items
+        ++ record_words sheet.now (record_at text.now (Some index))) }
+{
+    let Ok(view) = BatchView::parse(text) else {
+        return Ok(());
+    };
+    match view.record_at(index) {
+        Some(record) => put_record(told, sheet, &record),
+        None => Ok(()),
+    }
+}
+
+/// Appends what is told of a batch's own fault: the field, and what its text or its line is.
+fn put_batch_words(told: &mut Vec<u8>, text: &[u8], fault: BatchFault) -> Result<(), AllocError>
+    requires { batch_in text.now ≡ Err fault }
+    ensures { OnOk result (told.new.items ≡ told.old.items
+        ++ (field_words (field_of text.now fault) ++ batch_words text.now fault)) }
+{
+    put_field(told, field_of(text, fault))?;
+    told.extend_from_slice(batch_words(text, fault))
+}
+
+/// Appends what is told behind the code of a batch's refusal: of its own fault the field, and what its text or its line is, of a
+/// bad record its words.
+fn put_more(
+    told: &mut Vec<u8>,
+    sheet: &Sheet,
+    text: &[u8],
+    bad: Option<u16>,
+    refusal: Refusal,
+) -> Result<(), AllocError>
+    requires { (fault : BatchFault) → refusal ≡ Refusal.BadBatch fault → batch_in text.now ≡ Err fault }
+    ensures { OnOk result (told.new.items ≡ told.old.items ++ more_words sheet.now text.now bad refusal) }
+{
+    match refusal {
+        Refusal::BadBatch(fault) => put_batch_words(told, text, fault),
+        Refusal::BadTarget | Refusal::Unpriced => match bad {
+            Some(index) => put_record_at(told, sheet, text, index),
+            None => Ok(()),
+        },
+        _ => Ok(()),
+    }
+}
+
+/// On which line of its own text a batch is refused, where this is its first bad record. The head is line 1.
+fn line_within(bad: Option<u16>, refusal: Refusal) -> u32
+    ensures { result ≡ line_within bad refusal }
+{
+    match refusal {
+        Refusal::BadBatch(fault) => fault.line,
+        Refusal::WrongSeq { .. } | Refusal::NoAgent => 1,
+        Refusal::BadTarget | Refusal::Unpriced => match bad {
+            Some(index) => u32::from(index) + 2,
+            None => 1,
+        },
+        _ => 0,
+    }
+}
+
+/// Appends that a text behind so many lines of the input is refused as a batch, of which this is the first bad record.
+pub fn put_refused_text(
+    told: &mut Vec<u8>,
+    lines: usize,
+    sheet: &Sheet,
+    text: &[u8],
+    bad: Option<u16>,
+    refusal: Refusal,
+) -> Result<(), AllocError>
+    requires { (fault : BatchFault) → refusal ≡ Refusal.BadBatch fault → batch_in text.now ≡ Err fault }
+    ensures { OnOk result (told.new.items ≡ told.old.items ++ told_of_text lines sheet.now text.now bad refusal) }
+{
+    let within = line_within(bad, refusal);
+    put_place(told, lines as u128 + u128::from(within))?;
+    put_words(told, refusal)?;
+    put_more(told, sheet, text, bad, refusal)?;
+    told.push(b'\n')?;
+    Ok(())
+}

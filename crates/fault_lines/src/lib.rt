@@ -1,0 +1,16 @@
+//! How a fault of an input is told: by the line of the whole input on which it stands, its code, and what is known of it.
+#![tactic(auto)]
+
+mod ahead;
+mod batches;
+mod fields;
+pub mod laws;
+mod sections;
+mod text_kinds;
+mod unknown_keys;
+
+pub use ahead::LatestDays;
+pub use batches::{put_at, put_refused_text};
+pub use fields::RecordField;
+pub use sections::put_fault;
+pub use unknown_keys::put_unknown_keys;

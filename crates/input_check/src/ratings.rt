@@ -1,0 +1,64 @@
+//! The batch that is to be rated.
+
+ghost use Rattle.std.specs.Prelude.{◌≡◌, [], ◌++◌, Err, Some, OnOk};
+ghost use Rattle.metering_model.specs.Sheet as model;
+ghost use Rattle.fault_lines.specs.Told.{bad_index};
+ghost use Rattle.input_check.specs.Checks.{said_of_batch, said_of_rating};
+
+use batch_player::first_refusal;
+use batch_view::BatchView;
+use byte_text::line_count;
+use fault_lines::{put_fault, put_refused_text};
+use input_sections::rate_input;
+use journal_rules::first_bad_alone;
+use metering_model::Refusal;
+use price_sheet::Sheet;
+use std::alloc::{AllocError, Global};
+
+/// The index of the first bad record of a batch in journals that have it and no other.
+fn bad_alone(sheet: &Sheet, batch: &BatchView<'_>) -> Option<u16>
+    ensures { result ≡ bad_index sheet.now [] batch.now }
+{
+    match first_bad_alone(sheet, batch) {
+        Some((index, _)) => Some(index),
+        None => None,
+    }
+}
+
+/// Appends what is said of a batch behind so many lines of an input.
+fn check_batch(
+    told: &mut Vec<u8>,
+    sheet: &Sheet,
+    lines: usize,
+    text: &[u8],
+) -> Result<(), AllocError>
+    ensures { (issuer : model.Issuer)
+        → OnOk result (told.new.items ≡ told.old.items
+        ++ said_of_batch sheet.now issuer lines text.now) }
+{
+    let view = match BatchView::parse(text) {
+        Ok(view) => view,
+        Err(fault) => {
+            return put_refused_text(told, lines, sheet, text, None, Refusal::BadBatch(fault));
+        }
+    };
+    match first_refusal(sheet, &view) {
+        Some(refusal) => {
+            let bad = bad_alone(sheet, &view);
+            put_refused_text(told, lines, sheet, text, bad, refusal)
+        }
+        None => Ok(()),
+    }
+}
+
+/// Appends what is said of a text that is to be rated.
+pub(crate) fn check_rating(alloc: Global, text: &[u8], told: &mut Vec<u8>) -> Result<(), AllocError>
+    ensures { OnOk result (told.new.items ≡ told.old.items ++ said_of_rating text.now) }
+{
+    let given = match rate_input(alloc, text) {
+        Ok(given) => given,
+        Err(fault) => return put_fault(alloc, told, text, fault),
+    };
+    let (above, batch) = text.split_at(given.batch_from);
+    check_batch(told, &given.sheet, line_count(above), batch)
+}
