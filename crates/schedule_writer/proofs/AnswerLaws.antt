@@ -1,45 +1,159 @@
--- What a world answers to a text, as it is offered.
-use Rattle.std.proofs.Common.{◌≡◌, ◌⊎◌, ℕ, ◌+◌, true, List, length, take, Result, Ok, Err, refl, sym, ap, subst, ◌∙◌, ⊎_elim, arith}
+-- What a world answers to a text that is to be journaled, and what is told of it.
+use Rattle.std.proofs.Common.{◌≡◌, ◌⊎◌, ℕ, ◌+◌, Bool, true, false, ◌&&◌, List, [], ◌∷◌, ◌++◌, length, take, Option, Some, None, Result, Ok, Err, refl, sym, ap, subst, ◌∙◌, inl, inr, nat_le, nat_lt, append_assoc}
+use Rattle.std.specs.Prelude.{◌==◌, if◌then◌else◌, codes}
+use Rattle.std.specs.Option.{option_map}
 use Rattle.metering_model.specs.Batch.{Batch}
-use Rattle.metering_model.specs.declared.BatchFault.{BatchFault}
-use Rattle.metering_model.specs.declared.Refusal.{Refusal}
-use Rattle.metering_model.specs.declared.Refusal.TheVariants.{BadBatch, BadTarget, Unpriced}
-use Rattle.metering_model.specs.Transcript.{line_count}
-use Rattle.batch_view.specs.Batches.{batch_of}
 use Rattle.metering_model.specs.BatchReading.{batch_in}
-use Rattle.metering_model.specs.Step.{step}
-use Rattle.metering_model.specs.World as model
-use Rattle.group_events.specs.declared.Offer.{Offer}
-use Rattle.group_events.specs.declared.Offer.TheVariants as read
-use Rattle.group_events.specs.Events.{offer_of}
-use Rattle.group_events.specs.Offers.{IsOfferOf}
-use Rattle.schedule_player.proofs.Offered.{offered}
+use Rattle.metering_model.specs.FirstFailure.{◌>>=◌, holds_or}
+use Rattle.metering_model.specs.Holding.{Position, placed, put}
+use Rattle.metering_model.specs.JournalRules.{first_broken, next_seq}
+use Rattle.metering_model.specs.Limits.{most_packets}
+use Rattle.metering_model.specs.Step.{Outcome, batch_of as offered, on_batch, or_bad_batch, or_refused, step, unless_broken}
+use Rattle.metering_model.specs.Transcript.{line, line_count, with_number}
+use Rattle.metering_model.specs.World.{World, Good, Bad, Journal, Journaled, Reply, Refused, offer_of, with_packet, CarriesBatch}
+use Rattle.metering_model.specs.declared.BatchFault.{BatchFault}
+use Rattle.metering_model.specs.declared.BrokenRule.{BrokenRule}
+use Rattle.metering_model.specs.declared.BrokenRule.TheVariants.{BadTarget as BreaksTarget, Unpriced as BreaksPrice}
+use Rattle.metering_model.specs.declared.Refusal.{Refusal}
+use Rattle.metering_model.specs.declared.Refusal.TheVariants as refusal
+use Rattle.batch_view.specs.Batches.{batch_of}
+use Rattle.batch_view.proofs.BatchLemmas.{batch_of_is}
+use Rattle.journal_rules.specs.FirstBad.{first_bad}
+use Rattle.fault_lines.specs.Told.{bad_index, told_of_text, words_of, more_words, line_within}
 use Rattle.schedule_writer.specs.Inputs.{Offered}
-use Rattle.schedule_writer.specs.Refusals.{IsLineOf, answer_to}
-use Rattle.schedule_writer.specs.Inner.Judged.{IsFirstBad}
+use Rattle.schedule_writer.specs.Refusals.{IsJournaled, answer_to, told_of_offered}
+use Rattle.schedule_writer.specs.Inner.Lines.{IsAnswer, IsBadIn, is_of_rule}
 
--- the answer to what is offered of a text is that to the text
-pub answered : (w : model.World) (text : List ℕ) (o : Offer) → IsOfferOf text o → (step w (model.Journal (offer_of o))).0 ≡ answer_to w text
-unfolding answer_to
-answered w text o is = ap (λ m. (step w (model.Journal m)).0) (offered text o is)
+-- ---- a journal
 
-pub stepped : (w : model.World) (text : List ℕ) (o : Offer) → IsOfferOf text o → (step w (model.Journal (offer_of o))).1 ≡ (step w (model.Journal (model.offer_of text))).1
-stepped w text o is = ap (λ m. (step w (model.Journal m)).1) (offered text o is)
+same_refusal : (w : World) (a b : Refusal) → (or_refused w (Err a)).0 ≡ Refused b → a ≡ b
+same_refusal w a b is = cc
 
-abbrev by_answer : List ℕ → Result Batch BatchFault → model.Offer
-by_answer bytes r = elim r [ Ok b ↦ model.Good bytes | Err fault ↦ model.Bad fault ]
+module _ (w : World) (b : Batch) where
+  abbrev outcome : (of next : Bool) → Option BrokenRule → Result ℕ Refusal → Result Outcome Refusal
+  outcome of next broken room =
+      holds_or of refusal.NoAgent >>= λ _. holds_or next (refusal.WrongSeq (next_seq w.journals b.agent)) >>= λ _. unless_broken broken >>= λ _.
+      room >>= λ k. Ok (Journaled k, with_packet (CarriesBatch b) (record w { journals = put w.journals b }))
 
--- what is no batch is refused as such
-pub bad_is_refused : (w : model.World) (text : List ℕ) (fault : BatchFault) → batch_in text ≡ Err fault → answer_to w text ≡ model.Refused (BadBatch fault)
-unfolding answer_to
-bad_is_refused w text fault is = ap (λ r. (step w (model.Journal (by_answer text r))).0) is
+  -- what a batch is refused for tells no fault of its text
+  no_fault : (of next : Bool) (broken : Option BrokenRule) (room : Bool) (fault : BatchFault)
+      → (or_refused w (outcome of next broken (if room then Ok (length w.packets) else Err refusal.WorldFull))).0 ≡ Refused (refusal.BadBatch fault) → ⊥
+  no_fault false next broken room fault is = let same = same_refusal w _ _ is in cc
+  no_fault true false broken room fault is = let same = same_refusal w _ _ is in cc
+  no_fault true true (Some BreaksTarget) room fault is = let same = same_refusal w _ _ is in cc
+  no_fault true true (Some BreaksPrice) room fault is = let same = same_refusal w _ _ is in cc
+  no_fault true true None false fault is = let same = same_refusal w _ _ is in cc
+  no_fault true true None true fault is = cc
 
--- the line of the input on which the record stands for which a batch is refused
-pub line_of_record : (input : List ℕ) (w : model.World) (o : Offered) (why : Refusal) (index line above : ℕ) → (why ≡ BadTarget) ⊎ (why ≡ Unpriced)
-    → IsFirstBad w o.text (length (batch_of o.text).records) why index → above ≡ line_count (take o.from input) → line ≡ above + (index + 2)
-    → IsLineOf input w o why line
-line_of_record input w o why index line above one_of bad lines counted =
-    ⊎_elim
-    (λ is. subst (λ r. IsLineOf input w o r line) (sym is) (record { index = index; within = bad.within; counted = omega arith; taken = bad.taken; refused = bad.refused ∙ ap model.Refused is }))
-    (λ is. subst (λ r. IsLineOf input w o r line) (sym is) (record { index = index; within = bad.within; counted = omega arith; taken = bad.taken; refused = bad.refused ∙ ap model.Refused is }))
-    one_of
+  -- what breaks a rule is of an agent of the world, and comes next
+  is_next : (of next : Bool) (broken : Option BrokenRule) (room : Bool) (why : Refusal)
+      → (or_refused w (outcome of next broken (if room then Ok (length w.packets) else Err refusal.WorldFull))).0 ≡ Refused why → is_of_rule why ≡ true → (of && next) ≡ true
+  is_next false next broken room why is rule = absurd (let same = same_refusal w refusal.NoAgent why is in let no : is_of_rule refusal.NoAgent ≡ true = ap is_of_rule same ∙ rule in cc)
+  is_next true false broken room why is rule =
+      absurd (let same = same_refusal w (refusal.WrongSeq (next_seq w.journals b.agent)) why is in let no : is_of_rule (refusal.WrongSeq (next_seq w.journals b.agent)) ≡ true = ap is_of_rule same ∙ rule in cc)
+  is_next true true broken room why is rule = refl
+
+  -- it is journaled or refused, and journaled where it comes to the journals
+  answers : (of next : Bool) (broken : Option BrokenRule) (room : Bool)
+      → IsAnswer (or_refused w (outcome of next broken (if room then Ok (length w.packets) else Err refusal.WorldFull))).0
+  answers false next broken room = inr (refusal.NoAgent, refl)
+  answers true false broken room = inr (refusal.WrongSeq (next_seq w.journals b.agent), refl)
+  answers true true (Some BreaksTarget) room = inr (refusal.BadTarget, refl)
+  answers true true (Some BreaksPrice) room = inr (refusal.Unpriced, refl)
+  answers true true None false = inr (refusal.WorldFull, refl)
+  answers true true None true = inl (length w.packets, refl)
+
+-- the index that a world gives of an event's first bad record
+abbrev world_index : World → Result Batch Refusal → Option ℕ
+world_index w r =
+    option_map (λ p. p.index)
+    (elim r [ Ok b ↦ (if nat_le b.agent w.agents && (b.seq == next_seq w.journals b.agent) then first_bad w.sheet (put w.journals b) (placed b) else None) | Err why ↦ None ])
+
+module _ (w : World) (text : List ℕ) where
+  abbrev journaled : Result Batch BatchFault → Reply
+  journaled r = (or_refused w (offered (elim r [ Ok b ↦ Good text | Err fault ↦ Bad fault ]) >>= on_batch w)).0
+
+  pub bad_batch_there : (fault : BatchFault) → answer_to w text ≡ Refused (refusal.BadBatch fault) → batch_in text ≡ Err fault
+  unfolding answer_to
+  bad_batch_there fault is = by_batch (batch_in text) refl is
+    where
+      same_fault : (f : BatchFault) → (or_refused w (Err (refusal.BadBatch f))).0 ≡ Refused (refusal.BadBatch fault) → f ≡ fault
+      same_fault f so = cc
+
+      by_batch : (r : Result Batch BatchFault) → batch_in text ≡ r → journaled r ≡ Refused (refusal.BadBatch fault) → r ≡ Err fault
+      by_batch (Ok b) read so =
+          absurd (no_fault w b (nat_le b.agent w.agents) (b.seq == next_seq w.journals b.agent) (first_broken w.sheet (put w.journals b) (placed b)) (nat_lt (length w.packets) most_packets) fault
+          (subst (λ (r : Result Batch BatchFault). (or_refused w (or_bad_batch r >>= on_batch w)).0 ≡ Refused (refusal.BadBatch fault)) read so))
+      by_batch (Err f) bad so = ap Err (same_fault f so)
+
+  pub bad_index_there : (why : Refusal) → answer_to w text ≡ Refused why → is_of_rule why ≡ true → world_index w (offered (offer_of text)) ≡ bad_index w.sheet w.journals text
+  unfolding answer_to
+  bad_index_there why is rule = by_batch (batch_in text) refl is
+    where
+      by_batch : (r : Result Batch BatchFault) → batch_in text ≡ r → journaled r ≡ Refused why
+          → world_index w (offered (elim r [ Ok b ↦ Good text | Err fault ↦ Bad fault ])) ≡ bad_index w.sheet w.journals text
+      by_batch (Ok b) read so =
+          let next = is_next w b (nat_le b.agent w.agents) (b.seq == next_seq w.journals b.agent) (first_broken w.sheet (put w.journals b) (placed b)) (nat_lt (length w.packets) most_packets) why
+          (subst (λ (r : Result Batch BatchFault). (or_refused w (or_bad_batch r >>= on_batch w)).0 ≡ Refused why) read so) rule in
+          ap (λ (r : Result Batch BatchFault). world_index w (or_bad_batch r)) read
+          ∙ (ap (λ t. option_map (λ (p : Position). p.index) (if t then first_bad w.sheet (put w.journals b) (placed b) else None)) next
+          ∙ ap (λ (x : Batch). option_map (λ (p : Position). p.index) (first_bad w.sheet (put w.journals x) (placed x))) (sym (batch_of_is text b read)))
+      by_batch (Err f) bad so = absurd (let same = same_refusal w (refusal.BadBatch f) why so in let no : is_of_rule (refusal.BadBatch f) ≡ true = ap is_of_rule same ∙ rule in cc)
+
+  pub is_answer : IsAnswer (answer_to w text)
+  unfolding answer_to
+  is_answer = by_batch (batch_in text) refl
+    where
+      by_batch : (r : Result Batch BatchFault) → batch_in text ≡ r → IsAnswer (journaled r)
+      by_batch (Ok b) read =
+          subst (λ (r : Result Batch BatchFault). IsAnswer (or_refused w (or_bad_batch r >>= on_batch w)).0) (sym read)
+          (answers w b (nat_le b.agent w.agents) (b.seq == next_seq w.journals b.agent) (first_broken w.sheet (put w.journals b) (placed b)) (nat_lt (length w.packets) most_packets))
+      by_batch (Err f) bad = inr (refusal.BadBatch f, refl)
+
+  -- what is journaled is a batch
+  pub journaled_is_batch : IsJournaled (answer_to w text) → (b : Batch) × (batch_in text ≡ Ok b)
+  unfolding answer_to
+  journaled_is_batch is = by_batch (batch_in text) refl is.1
+    where
+      by_batch : (r : Result Batch BatchFault) → batch_in text ≡ r → journaled r ≡ Journaled is.0 → (b : Batch) × (r ≡ Ok b)
+      by_batch (Ok b) read so = (b, refl)
+      by_batch (Err f) bad so = absurd (cc)
+
+-- ---- what is told
+
+-- of what is no bad record the index is not told
+pub same_told : (w : World) (lines : ℕ) (text : List ℕ) (bad : Option ℕ) (why : Refusal) → IsBadIn w text why bad
+    → told_of_text lines w.sheet text bad why ≡ told_of_text lines w.sheet text (bad_index w.sheet w.journals text) why
+same_told w lines text bad refusal.BadTarget is = ap (λ i. told_of_text lines w.sheet text i refusal.BadTarget) (is refl)
+same_told w lines text bad refusal.Unpriced is = ap (λ i. told_of_text lines w.sheet text i refusal.Unpriced) (is refl)
+same_told w lines text bad (refusal.BadBatch fault) is = refl
+same_told w lines text bad (refusal.WrongSeq wanted) is = refl
+same_told w lines text bad refusal.NoPacket is = refl
+same_told w lines text bad refusal.NoNode is = refl
+same_told w lines text bad (refusal.NotClosed learned) is = refl
+same_told w lines text bad (refusal.Missing agent seq) is = refl
+same_told w lines text bad refusal.AllClosed is = refl
+same_told w lines text bad refusal.NoBallot is = refl
+same_told w lines text bad refusal.WorldFull is = refl
+same_told w lines text bad refusal.NoAgent is = refl
+same_told w lines text bad refusal.Observer is = refl
+same_told w lines text bad (refusal.BadKept fault) is = refl
+same_told w lines text bad refusal.NotKept is = refl
+
+-- it is one line
+pub is_line : (input : List ℕ) (w : World) (b : Offered) (why : Refusal) → (told : List ℕ) × (told_of_offered input w b why ≡ line told)
+is_line input w b refusal.BadTarget = (_, refl)
+is_line input w b refusal.Unpriced = (_, refl)
+is_line input w b (refusal.BadBatch fault) = (_, refl)
+is_line input w b (refusal.WrongSeq wanted) = (_, refl)
+is_line input w b refusal.NoPacket = (_, refl)
+is_line input w b refusal.NoNode = (_, refl)
+is_line input w b (refusal.NotClosed learned) = (_, refl)
+is_line input w b (refusal.Missing agent seq) = (_, refl)
+is_line input w b refusal.AllClosed = (_, refl)
+is_line input w b refusal.NoBallot = (_, refl)
+is_line input w b refusal.WorldFull = (_, refl)
+is_line input w b refusal.NoAgent = (_, refl)
+is_line input w b refusal.Observer = (_, refl)
+is_line input w b (refusal.BadKept fault) = (_, refl)
+is_line input w b refusal.NotKept = (_, refl)

@@ -1,49 +1,94 @@
 -- What a run that was seen whole has shown.
-use Rattle.std.proofs.Common.{◌≡◌, ◌<◌, ◌≤◌, ◌⊎◌, ℕ, zero, suc, ◌+◌, ◌&&◌, nat_lt, Bool, true, false, cond, nat_eq, nat_le, List, [], ◌∷◌, ◌++◌, length, take, map, All, Option, Some, None, refl, sym, ap, subst, ◌∙◌, inl, inr, ⊎_elim, arith, append_assoc, get_or}
-use Rattle.std.specs.List.{slice_get}
-use Rattle.std.specs.Option.{option_and_then, unwrap_or}
-use Rattle.metering_model.specs.BatchReading.{is_same}
-use Rattle.std.proofs.lemmas.Option.{option_and_then_some, slice_get_past, slice_get_within, get_or_from_slice_get}
-use Rattle.std.proofs.lemmas.List.{append-nil, take_more}
+use Rattle.std.proofs.Common.{◌≡◌, ◌<◌, ◌≤◌, ◌⊎◌, ℕ, zero, suc, ◌+◌, ◌&&◌, nat_lt, Bool, true, false, cond, nat_eq, nat_le, List, [], ◌∷◌, ◌++◌, length, take, map, All, Option, Some, None, refl, sym, ap, ap₂, subst, ◌∙◌, arith, append_assoc, get_or}
+use Rattle.std.specs.Prelude.{IfSome, filter, not}
+use Rattle.std.specs.List.{flat_map, range_with_len, slice_get}
+use Rattle.std.specs.Option.{option_and_then, option_map_or, unwrap_or}
+use Rattle.std.proofs.lemmas.Grind.{flat_map-append}
+use Rattle.std.proofs.lemmas.Option.{option_and_then_some, slice_get_past}
+use Rattle.std.proofs.lemmas.List.{append-nil, length-append, take_more}
 use Rattle.std.proofs.lemmas.List.Elements.{All-cons, All-nil}
-use Rattle.std.proofs.lemmas.Bool.{eqb-true, leb-true, ltb-false, ltb-true, cases_lt}
+use Rattle.std.proofs.lemmas.List.Folds.{flat_map-map}
+use Rattle.std.proofs.lemmas.List.FromFn.{map-range_with_len_more}
+use Rattle.std.proofs.lemmas.Bool.{eqb-true, leb-true, ltb-false, ltb-true}
+use Rattle.metering_model.specs.BatchReading.{is_same}
+use Rattle.metering_model.specs.Cut.{Cut}
+use Rattle.metering_model.specs.Front.{front}
+use Rattle.metering_model.specs.Holding.{Holding}
 use Rattle.metering_model.specs.Schedule.{Planned, PlansJournal, PlansDelivery, PlansStart, PlansRestart, PlansExport, PlansKeep, PlansRevival, event_of, lines_text}
 use Rattle.metering_model.specs.Step.{play, step}
 use Rattle.metering_model.specs.World.{World, Reply, Snapshot, Journaled, Delivered, Started, Restarted, Exported, KeptText, Refused}
 use Rattle.metering_model.proofs.FieldLaws.{same_read}
 use Rattle.group_events.specs.Replies.{is_refused}
 use Rattle.schedule_writer.specs.declared.plans.Seen.{Seen}
-use Rattle.schedule_writer.specs.Schedules.{journals_of}
-use Rattle.schedule_writer.specs.Inner.Plans.{Plan, all_seen, behind, behind_all, behind_taken, due_in, is_file_of, is_next, is_turn, nothing_seen, one_more_batch, one_more_file}
+use Rattle.schedule_writer.specs.Schedules.{exports_of, files_before, files_of, is_needed, is_start, journals_of, learned_in}
+use Rattle.schedule_writer.specs.Inner.Plans.{Plan, all_seen, behind, behind_all, behind_taken, due_for, is_file_of, is_good, is_next, is_turn, one_more_ballot, one_more_batch, one_more_file}
 
 -- ---- what a test says
-
-if_not : {A : Type 0} (b : Bool) (o : Option A) (x : A) → cond b None o ≡ Some x → (b ≡ false) × (o ≡ Some x)
-if_not true o x is = absurd (cc)
-if_not false o x is = (refl, is)
 
 some_is : {A : Type 0} (x y : A) → Some x ≡ Some y → x ≡ y
 some_is x y is = ap (λ o. unwrap_or o x) is
 
+none_is : {A B : Type 0} (y : A) → ◌≡◌ {A = Option A} None (Some y) → B
+none_is y is = absurd (cc)
+
+if_good : {A : Type 0} (b : Bool) (o : Option A) (x : A) → cond b o None ≡ Some x → (b ≡ true) × (o ≡ Some x)
+if_good true o x is = (refl, is)
+if_good false o x is = absurd (cc)
+
 if_so : {A : Type 0} (b : Bool) (y x : A) → cond b (Some y) None ≡ Some x → (b ≡ true) × (y ≡ x)
-if_so true y x is = (refl, some_is y x is)
-if_so false y x is = absurd (cc)
+if_so b y x is = let good = if_good b (Some y) x is in (good.0, some_is y x good.1)
 
 both_true : (a b : Bool) → (a && b) ≡ true → (a ≡ true) × (b ≡ true)
 both_true true b is = (refl, is)
 both_true false b is = absurd (cc)
 
+not_true : (b : Bool) → not b ≡ true → b ≡ false
+not_true true is = absurd (cc)
+not_true false is = refl
+
 -- ---- one event
 
 -- the event was taken, and this was done behind it
-is_taken : (plan : Plan) (seen next : Seen) (r : Reply) (e : Planned) → behind plan seen r e ≡ Some next
-    → (is_refused r ≡ false) × (behind_taken plan seen r e ≡ Some next)
-is_taken plan seen next r e is = if_not (is_refused r) (behind_taken plan seen r e) next is
+is_taken : (plan : Plan) (seen next : Seen) (h : Holding) (r : Reply) (e : Planned) → behind plan seen h r e ≡ Some next
+    → (is_good plan.last r ≡ true) × (behind_taken plan seen h r e ≡ Some next)
+is_taken plan seen next h r e is = if_good (is_good plan.last r) (behind_taken plan seen h r e) next is
 
-same_batches : (b : Bool) (seen : Seen)
-    → seen.journaled ≡ (cond b (record seen { node = seen.node + 1 }) (record seen { node = 0; period = seen.period + 1 })).journaled
-same_batches true seen = refl
-same_batches false seen = refl
+file_keeps : (b : Bool) (seen : Seen)
+    → (seen.journaled ≡ (cond b (record seen { node = seen.node + 1 }) (record seen { node = 0; period = seen.period + 1 })).journaled)
+    × (seen.ballots ≡ (cond b (record seen { node = seen.node + 1 }) (record seen { node = 0; period = seen.period + 1 })).ballots)
+file_keeps true seen = (refl, refl)
+file_keeps false seen = (refl, refl)
+
+record HasTurn (plan : Plan) (seen : Seen) (node period : ℕ) : Type 0 where
+  node_is : node ≡ seen.node
+  within : node < plan.nodes
+  period_is : period ≡ seen.period
+  last : period ≤ plan.last
+  due : seen.journaled ≡ due_for plan period
+
+has_turn : (plan : Plan) (seen : Seen) (node period : ℕ) → is_turn plan seen node period ≡ true → HasTurn plan seen node period
+has_turn plan seen node period is =
+    let a = both_true (nat_eq node seen.node && nat_lt node plan.nodes && nat_eq period seen.period && nat_le period plan.last) (nat_eq seen.journaled (due_for plan period)) is in
+    let b = both_true (nat_eq node seen.node && nat_lt node plan.nodes && nat_eq period seen.period) (nat_le period plan.last) a.0 in
+    let d = both_true (nat_eq node seen.node && nat_lt node plan.nodes) (nat_eq period seen.period) b.0 in
+    let e = both_true (nat_eq node seen.node) (nat_lt node plan.nodes) d.0 in
+    record {
+      node_is = eqb-true node seen.node e.0;
+      within = ltb-true node plan.nodes e.1;
+      period_is = eqb-true period seen.period d.1;
+      last = leb-true period plan.last b.1;
+      due = eqb-true seen.journaled (due_for plan period) a.1;
+    }
+
+-- the turn at which a file is shown
+turn_of : (plan : Plan) (seen next : Seen) (h : Holding) (r : Reply) (node period : ℕ) → behind_taken plan seen h r (PlansExport node period) ≡ Some next
+    → HasTurn plan seen node period × (is_file_of plan.base h period r ≡ true) × (one_more_file plan seen ≡ next)
+turn_of plan seen next h r node period is =
+    let so = if_so (is_turn plan seen node period && is_file_of plan.base h period r) (one_more_file plan seen) next is in
+    let both = both_true (is_turn plan seen node period) (is_file_of plan.base h period r) so.0 in
+    (has_turn plan seen node period both.0, both.1, so.1)
+
+-- ---- the journals
 
 one_batch : (plan : Plan) (seen next : Seen) (text : List ℕ) → cond (is_next plan seen text) (Some (one_more_batch seen)) None ≡ Some next
     → take next.journaled plan.batches ≡ take seen.journaled plan.batches ++ text ∷ []
@@ -54,182 +99,288 @@ one_batch plan seen next text is =
     ∙ (take_more plan.batches seen.journaled [] (ltb-true seen.journaled (length plan.batches) both.0)
     ∙ ap (λ t. take seen.journaled plan.batches ++ t ∷ []) (same_read (get_or plan.batches seen.journaled []) text both.1))
 
-one_journal : (plan : Plan) (seen next : Seen) (r : Reply) (e : Planned) (es : List Planned) → behind_taken plan seen r e ≡ Some next
-    → take seen.journaled plan.batches ++ journals_of (e ∷ es) ≡ take next.journaled plan.batches ++ journals_of es
-one_journal plan seen next r (PlansJournal ls) es is =
-    sym (append_assoc (take seen.journaled plan.batches) (lines_text ls ∷ []) (journals_of es))
-    ∙ ap (λ t. t ++ journals_of es) (sym (one_batch plan seen next (lines_text ls) is))
-one_journal plan seen next r (PlansExport i p) es is =
-    let so = if_so (is_turn plan seen i p && is_file_of p r) (one_more_file plan seen) next is in
-    ap (λ n. take n plan.batches ++ journals_of es) (same_batches (nat_lt (seen.node + 1) plan.nodes) seen ∙ ap (λ s. s.journaled) so.1)
-one_journal plan seen next r (PlansDelivery k i) es is = ap (λ s. take s.journaled plan.batches ++ journals_of es) (some_is seen next is)
-one_journal plan seen next r (PlansStart i) es is = ap (λ s. take s.journaled plan.batches ++ journals_of es) (some_is seen next is)
-one_journal plan seen next r (PlansRestart i) es is = ap (λ s. take s.journaled plan.batches ++ journals_of es) (some_is seen next is)
-one_journal plan seen next r (PlansKeep i) es is = ap (λ s. take s.journaled plan.batches ++ journals_of es) (some_is seen next is)
-one_journal plan seen next r (PlansRevival i ls) es is = ap (λ s. take s.journaled plan.batches ++ journals_of es) (some_is seen next is)
+-- an event that journals nothing leaves as many batches journaled as there were, and a ballot begins at a start alone
+same_count : (plan : Plan) (seen next : Seen) (h : Holding) (r : Reply) (e : Planned) → behind_taken plan seen h r e ≡ Some next
+    → (seen.journaled + length (journals_of (e ∷ [])) ≡ next.journaled) × (seen.ballots + length (filter is_start (e ∷ [])) ≡ next.ballots)
+same_count plan seen next h r (PlansJournal ls) is =
+    let so = if_so (is_next plan seen (lines_text ls)) (one_more_batch seen) next is in
+    (ap (λ s. s.journaled) so.1, none_more seen.ballots ∙ ap (λ s. s.ballots) so.1)
+  where
+    none_more : (n : ℕ) → n + 0 ≡ n
+    none_more n = omega arith
+same_count plan seen next h r (PlansExport i p) is =
+    let turn = turn_of plan seen next h r i p is in
+    let kept = file_keeps (nat_lt (seen.node + 1) plan.nodes) seen in
+    (none_more seen.journaled ∙ (kept.0 ∙ ap (λ s. s.journaled) turn.2), none_more seen.ballots ∙ (kept.1 ∙ ap (λ s. s.ballots) turn.2))
+  where
+    none_more : (n : ℕ) → n + 0 ≡ n
+    none_more n = omega arith
+same_count plan seen next h r (PlansDelivery k i) is =
+    (none_more seen.journaled ∙ ap (λ s. s.journaled) (some_is seen next is), none_more seen.ballots ∙ ap (λ s. s.ballots) (some_is seen next is))
+  where
+    none_more : (n : ℕ) → n + 0 ≡ n
+    none_more n = omega arith
+same_count plan seen next h r (PlansStart i) is =
+    let so = if_so (nat_le seen.ballots plan.last) (one_more_ballot seen) next is in
+    (none_more seen.journaled ∙ ap (λ s. s.journaled) so.1, ap (λ s. s.ballots) so.1)
+  where
+    none_more : (n : ℕ) → n + 0 ≡ n
+    none_more n = omega arith
+same_count plan seen next h r (PlansRestart i) is = none_is next is
+same_count plan seen next h r (PlansKeep i) is = none_is next is
+same_count plan seen next h r (PlansRevival i ls) is = none_is next is
+
+same_taken : (plan : Plan) (seen next : Seen) → seen.journaled ≡ next.journaled → take seen.journaled plan.batches ++ [] ≡ take next.journaled plan.batches
+same_taken plan seen next same = append-nil (take seen.journaled plan.batches) ∙ ap (λ n. take n plan.batches) same
+
+no_more : (n m : ℕ) → n + 0 ≡ m → n ≡ m
+no_more n m is = omega arith
+
+one_journal : (plan : Plan) (seen next : Seen) (h : Holding) (r : Reply) (e : Planned) → behind_taken plan seen h r e ≡ Some next
+    → take seen.journaled plan.batches ++ journals_of (e ∷ []) ≡ take next.journaled plan.batches
+one_journal plan seen next h r (PlansJournal ls) is = sym (one_batch plan seen next (lines_text ls) is)
+one_journal plan seen next h r (PlansExport i p) is = same_taken plan seen next (no_more _ _ (same_count plan seen next h r (PlansExport i p) is).0)
+one_journal plan seen next h r (PlansDelivery k i) is = same_taken plan seen next (no_more _ _ (same_count plan seen next h r (PlansDelivery k i) is).0)
+one_journal plan seen next h r (PlansStart i) is = same_taken plan seen next (no_more _ _ (same_count plan seen next h r (PlansStart i) is).0)
+one_journal plan seen next h r (PlansRestart i) is = none_is next is
+one_journal plan seen next h r (PlansKeep i) is = none_is next is
+one_journal plan seen next h r (PlansRevival i ls) is = none_is next is
+
+journals_split : (e : Planned) (es : List Planned) → journals_of (e ∷ es) ≡ journals_of (e ∷ []) ++ journals_of es
+journals_split (PlansJournal ls) es = refl
+journals_split (PlansExport i p) es = refl
+journals_split (PlansDelivery k i) es = refl
+journals_split (PlansStart i) es = refl
+journals_split (PlansRestart i) es = refl
+journals_split (PlansKeep i) es = refl
+journals_split (PlansRevival i ls) es = refl
+
+-- ---- the files
+
+-- whose files were shown
+pub shown : Plan → Seen → List (ℕ × ℕ)
+shown plan seen = files_before plan.nodes seen.period ++ files_of seen.node seen.period
+
+abbrev same : ℕ → ℕ
+same n = n
+
+abbrev pair : ℕ → ℕ → ℕ × ℕ
+pair period node = (node, period)
+
+period_more : (nodes period : ℕ) → files_before nodes (period + 1) ≡ files_before nodes period ++ files_of nodes period
+period_more nodes period =
+    sym (flat_map-map (files_of nodes) same (range_with_len 0 (period + 1)))
+    ∙ (ap (flat_map (files_of nodes)) (map-range_with_len_more same 0 period period (omega arith))
+    ∙ (flat_map-append (files_of nodes) (map same (range_with_len 0 period)) (period ∷ [])
+    ∙ ap₂ (λ xs ys. xs ++ ys) (flat_map-map (files_of nodes) same (range_with_len 0 period)) (append-nil (files_of nodes period))))
+
+node_more : (node period : ℕ) → files_of (node + 1) period ≡ files_of node period ++ (node, period) ∷ []
+node_more node period = map-range_with_len_more (pair period) 0 node node (omega arith)
+
+one_file : (plan : Plan) (seen : Seen) (b : Bool) → nat_lt (seen.node + 1) plan.nodes ≡ b → seen.node < plan.nodes
+    → shown plan seen ++ (seen.node, seen.period) ∷ []
+    ≡ shown plan (cond b (record seen { node = seen.node + 1 }) (record seen { node = 0; period = seen.period + 1 }))
+unfolding shown
+one_file plan seen true is within =
+    append_assoc (files_before plan.nodes seen.period) (files_of seen.node seen.period) ((seen.node, seen.period) ∷ [])
+    ∙ ap (λ t. files_before plan.nodes seen.period ++ t) (sym (node_more seen.node seen.period))
+one_file plan seen false is within =
+    let few : plan.nodes ≤ seen.node + 1 = ltb-false (seen.node + 1) plan.nodes is in
+    let all : seen.node + 1 ≡ plan.nodes = omega arith in
+    append_assoc (files_before plan.nodes seen.period) (files_of seen.node seen.period) ((seen.node, seen.period) ∷ [])
+    ∙ (ap (λ t. files_before plan.nodes seen.period ++ t) (sym (node_more seen.node seen.period) ∙ ap (λ n. files_of n seen.period) all)
+    ∙ (sym (period_more plan.nodes seen.period) ∙ sym (append-nil (files_before plan.nodes (seen.period + 1)))))
+
+same_shown : (plan : Plan) (seen next : Seen) → seen.node ≡ next.node → seen.period ≡ next.period → shown plan seen ++ [] ≡ shown plan next
+unfolding shown
+same_shown plan seen next node period =
+    append-nil (shown plan seen)
+    ∙ ap₂ (λ n p. files_before plan.nodes p ++ files_of n p) node period
+
+one_export : (plan : Plan) (seen next : Seen) (h : Holding) (r : Reply) (e : Planned) → behind_taken plan seen h r e ≡ Some next
+    → shown plan seen ++ exports_of (e ∷ []) ≡ shown plan next
+one_export plan seen next h r (PlansExport i p) is =
+    let turn = turn_of plan seen next h r i p is in
+    let within : seen.node < plan.nodes = subst (λ n. n < plan.nodes) turn.0.node_is turn.0.within in
+    ap₂ (λ n q. shown plan seen ++ (n, q) ∷ []) turn.0.node_is turn.0.period_is
+    ∙ (one_file plan seen (nat_lt (seen.node + 1) plan.nodes) refl within ∙ ap (shown plan) turn.2)
+one_export plan seen next h r (PlansJournal ls) is =
+    let so = if_so (is_next plan seen (lines_text ls)) (one_more_batch seen) next is in
+    same_shown plan seen next (ap (λ s. s.node) so.1) (ap (λ s. s.period) so.1)
+one_export plan seen next h r (PlansDelivery k i) is = same_shown plan seen next (ap (λ s. s.node) (some_is seen next is)) (ap (λ s. s.period) (some_is seen next is))
+one_export plan seen next h r (PlansStart i) is =
+    let so = if_so (nat_le seen.ballots plan.last) (one_more_ballot seen) next is in
+    same_shown plan seen next (ap (λ s. s.node) so.1) (ap (λ s. s.period) so.1)
+one_export plan seen next h r (PlansRestart i) is = none_is next is
+one_export plan seen next h r (PlansKeep i) is = none_is next is
+one_export plan seen next h r (PlansRevival i ls) is = none_is next is
+
+exports_split : (e : Planned) (es : List Planned) → exports_of (e ∷ es) ≡ exports_of (e ∷ []) ++ exports_of es
+exports_split (PlansJournal ls) es = refl
+exports_split (PlansExport i p) es = refl
+exports_split (PlansDelivery k i) es = refl
+exports_split (PlansStart i) es = refl
+exports_split (PlansRestart i) es = refl
+exports_split (PlansKeep i) es = refl
+exports_split (PlansRevival i ls) es = refl
 
 -- ---- all events
+
+-- what was done grows by what each event adds
+grown : {A : Type 0} (done done_next : List A) (one rest whole last : List A) → done ++ one ≡ done_next → whole ≡ one ++ rest → done_next ++ rest ≡ last
+    → done ++ whole ≡ last
+grown done done_next one rest whole last here split behind =
+    ap (λ t. done ++ t) split ∙ (sym (append_assoc done one rest) ∙ (ap (λ t. t ++ rest) here ∙ behind))
 
 pub journals : (plan : Plan) (seen last : Seen) (w : World) (es : List Planned) → behind_all plan seen w es ≡ Some last
     → take seen.journaled plan.batches ++ journals_of es ≡ take last.journaled plan.batches
 unfolding behind_all
 journals plan seen last w [] is = append-nil (take seen.journaled plan.batches) ∙ ap (λ s. take s.journaled plan.batches) (some_is seen last is)
 journals plan seen last w (e ∷ es) is =
-    option_and_then_some (λ next. behind_all plan next (step w (event_of e)).1 es) (behind plan seen (step w (event_of e)).0 e) last is
-    (λ next one rest. one_journal plan seen next (step w (event_of e)).0 e es (is_taken plan seen next _ e one).1 ∙ journals plan next last (step w (event_of e)).1 es rest)
+    option_and_then_some (λ next. behind_all plan next (step w (event_of e)).1 es) (behind plan seen w.journals (step w (event_of e)).0 e) last is
+    (λ next one rest. grown _ _ _ _ _ _ (one_journal plan seen next _ _ e (is_taken plan seen next _ _ e one).1) (journals_split e es)
+    (journals plan next last (step w (event_of e)).1 es rest))
 
-pub none_refused : (plan : Plan) (seen last : Seen) (w : World) (es : List Planned) → behind_all plan seen w es ≡ Some last
-    → All (λ r. is_refused r ≡ false) (play w (map event_of es)).0
+pub exports : (plan : Plan) (seen last : Seen) (w : World) (es : List Planned) → behind_all plan seen w es ≡ Some last
+    → shown plan seen ++ exports_of es ≡ shown plan last
 unfolding behind_all
-none_refused plan seen last w [] is = All-nil (λ r. is_refused r ≡ false)
-none_refused plan seen last w (e ∷ es) is =
-    option_and_then_some (λ next. behind_all plan next (step w (event_of e)).1 es) (behind plan seen (step w (event_of e)).0 e) last is
-    (λ next one rest. All-cons (λ r. is_refused r ≡ false) (step w (event_of e)).0 (play (step w (event_of e)).1 (map event_of es)).0
-    (is_taken plan seen next _ e one).0 (none_refused plan next last (step w (event_of e)).1 es rest))
+exports plan seen last w [] is = append-nil (shown plan seen) ∙ ap (shown plan) (some_is seen last is)
+exports plan seen last w (e ∷ es) is =
+    option_and_then_some (λ next. behind_all plan next (step w (event_of e)).1 es) (behind plan seen w.journals (step w (event_of e)).0 e) last is
+    (λ next one rest. grown _ _ _ _ _ _ (one_export plan seen next _ _ e (is_taken plan seen next _ _ e one).1) (exports_split e es)
+    (exports plan next last (step w (event_of e)).1 es rest))
+
+pub all_exports : (nodes last batches : ℕ) (plan : Plan) (es : List Planned) → plan.nodes ≡ nodes → plan.last ≡ last
+    → shown plan (record { journaled = 0; ballots = 0; node = 0; period = 0 }) ++ exports_of es ≡ shown plan (all_seen plan)
+    → exports_of es ≡ files_before nodes (last + 1)
+unfolding shown
+all_exports nodes last batches plan es are upto is =
+    is ∙ (append-nil (files_before plan.nodes (plan.last + 1)) ∙ ap₂ (λ n p. files_before n (p + 1)) are upto)
+
+start_split : (e : Planned) (es : List Planned) → length (filter is_start (e ∷ es)) ≡ length (filter is_start (e ∷ [])) + length (filter is_start es)
+start_split (PlansJournal ls) es = omega arith
+start_split (PlansExport i p) es = omega arith
+start_split (PlansDelivery k i) es = omega arith
+start_split (PlansStart i) es = omega arith
+start_split (PlansRestart i) es = omega arith
+start_split (PlansKeep i) es = omega arith
+start_split (PlansRevival i ls) es = omega arith
+
+more_in_all : (a b c d e f : ℕ) → a + b ≡ c → d ≡ b + e → c + e ≡ f → a + d ≡ f
+more_in_all a b c d e f one split rest = omega (arith, one, split, rest)
+
+pub ballots : (plan : Plan) (seen last : Seen) (w : World) (es : List Planned) → behind_all plan seen w es ≡ Some last
+    → seen.ballots + length (filter is_start es) ≡ last.ballots
+unfolding behind_all
+ballots plan seen last w [] is = let same = ap (λ s. s.ballots) (some_is seen last is) in omega (arith, same)
+ballots plan seen last w (e ∷ es) is =
+    option_and_then_some (λ next. behind_all plan next (step w (event_of e)).1 es) (behind plan seen w.journals (step w (event_of e)).0 e) last is
+    (λ next one rest. more_in_all _ _ _ _ _ _ (same_count plan seen next _ _ e (is_taken plan seen next _ _ e one).1).1 (start_split e es)
+    (ballots plan next last (step w (event_of e)).1 es rest))
+
+one_needed : (plan : Plan) (seen next : Seen) (h : Holding) (r : Reply) (e : Planned) → behind_taken plan seen h r e ≡ Some next → is_needed e ≡ true
+one_needed plan seen next h r (PlansJournal ls) is = refl
+one_needed plan seen next h r (PlansExport i p) is = refl
+one_needed plan seen next h r (PlansDelivery k i) is = refl
+one_needed plan seen next h r (PlansStart i) is = refl
+one_needed plan seen next h r (PlansRestart i) is = none_is next is
+one_needed plan seen next h r (PlansKeep i) is = none_is next is
+one_needed plan seen next h r (PlansRevival i ls) is = none_is next is
+
+pub needed : (plan : Plan) (seen last : Seen) (w : World) (es : List Planned) → behind_all plan seen w es ≡ Some last → All (λ e. is_needed e ≡ true) es
+unfolding behind_all
+needed plan seen last w [] is = All-nil (λ e. is_needed e ≡ true)
+needed plan seen last w (e ∷ es) is =
+    option_and_then_some (λ next. behind_all plan next (step w (event_of e)).1 es) (behind plan seen w.journals (step w (event_of e)).0 e) last is
+    (λ next one rest. All-cons (λ d. is_needed d ≡ true) e es (one_needed plan seen next _ _ e (is_taken plan seen next _ _ e one).1)
+    (needed plan next last (step w (event_of e)).1 es rest))
+
+-- ---- the replies
+
+pub IsGood : ℕ → Reply → Type 0
+IsGood last r = (is_refused r ≡ false) × IfSome (learned_in r) (λ period. period ≤ last)
+
+within_last : (last : ℕ) (o : Option ℕ) → option_map_or (λ period. nat_le period last) o true ≡ true → IfSome o (λ period. period ≤ last)
+within_last last (Some period) is = leb-true period last is
+within_last last None is = _
+
+good : (last : ℕ) (r : Reply) → is_good last r ≡ true → IsGood last r
+unfolding IsGood
+good last r is =
+    let both = both_true (not (is_refused r)) (option_map_or (λ period. nat_le period last) (learned_in r) true) is in
+    (not_true (is_refused r) both.0, within_last last (learned_in r) both.1)
+
+pub all_good : (plan : Plan) (seen last : Seen) (w : World) (es : List Planned) → behind_all plan seen w es ≡ Some last
+    → All (IsGood plan.last) (play w (map event_of es)).0
+unfolding behind_all
+all_good plan seen last w [] is = All-nil (IsGood plan.last)
+all_good plan seen last w (e ∷ es) is =
+    option_and_then_some (λ next. behind_all plan next (step w (event_of e)).1 es) (behind plan seen w.journals (step w (event_of e)).0 e) last is
+    (λ next one rest. All-cons (IsGood plan.last) (step w (event_of e)).0 (play (step w (event_of e)).1 (map event_of es)).0
+    (good plan.last _ (is_taken plan seen next _ _ e one).0) (all_good plan next last (step w (event_of e)).1 es rest))
+
+pub good_is : (last : ℕ) (r : Reply) → IsGood last r → (is_refused r ≡ false) × IfSome (learned_in r) (λ period. period ≤ last)
+unfolding IsGood
+good_is last r is = is
 
 -- ---- how many batches are journaled before a file is shown
 
-one_count : (plan : Plan) (seen next : Seen) (r : Reply) (e : Planned) (es : List Planned) → behind_taken plan seen r e ≡ Some next
-    → seen.journaled + length (journals_of (e ∷ es)) ≡ next.journaled + length (journals_of es)
-one_count plan seen next r (PlansJournal ls) es is =
-    let so = if_so (is_next plan seen (lines_text ls)) (one_more_batch seen) next is in
-    let more : seen.journaled + 1 ≡ next.journaled = ap (λ s. s.journaled) so.1 in
-    let all : length (journals_of (PlansJournal ls ∷ es)) ≡ suc (length (journals_of es)) = refl in
-    omega arith
-one_count plan seen next r (PlansExport i p) es is =
-    let so = if_so (is_turn plan seen i p && is_file_of p r) (one_more_file plan seen) next is in
-    ap (λ n. n + length (journals_of es)) (same_batches (nat_lt (seen.node + 1) plan.nodes) seen ∙ ap (λ s. s.journaled) so.1)
-one_count plan seen next r (PlansDelivery k i) es is = ap (λ s. s.journaled + length (journals_of es)) (some_is seen next is)
-one_count plan seen next r (PlansStart i) es is = ap (λ s. s.journaled + length (journals_of es)) (some_is seen next is)
-one_count plan seen next r (PlansRestart i) es is = ap (λ s. s.journaled + length (journals_of es)) (some_is seen next is)
-one_count plan seen next r (PlansKeep i) es is = ap (λ s. s.journaled + length (journals_of es)) (some_is seen next is)
-one_count plan seen next r (PlansRevival i ls) es is = ap (λ s. s.journaled + length (journals_of es)) (some_is seen next is)
-
-record HasTurn (plan : Plan) (seen : Seen) (node period : ℕ) : Type 0 where
-  node_is : node ≡ seen.node
-  within : node < plan.nodes
-  period_is : period ≡ seen.period
-  last : period ≤ plan.last
-  due : seen.journaled ≡ due_in plan period
-
-has_turn : (plan : Plan) (seen : Seen) (node period : ℕ) → is_turn plan seen node period ≡ true → HasTurn plan seen node period
-has_turn plan seen node period is =
-    let a = both_true (nat_eq node seen.node && nat_lt node plan.nodes && nat_eq period seen.period && nat_le period plan.last) (nat_eq seen.journaled (due_in plan period)) is in
-    let b = both_true (nat_eq node seen.node && nat_lt node plan.nodes && nat_eq period seen.period) (nat_le period plan.last) a.0 in
-    let d = both_true (nat_eq node seen.node && nat_lt node plan.nodes) (nat_eq period seen.period) b.0 in
-    let e = both_true (nat_eq node seen.node) (nat_lt node plan.nodes) d.0 in
-    record {
-      node_is = eqb-true node seen.node e.0;
-      within = ltb-true node plan.nodes e.1;
-      period_is = eqb-true period seen.period d.1;
-      last = leb-true period plan.last b.1;
-      due = eqb-true seen.journaled (due_in plan period) a.1;
-    }
-
--- the turn at which a file is shown
-turn_of : (plan : Plan) (seen next : Seen) (r : Reply) (node period : ℕ) → behind_taken plan seen r (PlansExport node period) ≡ Some next
-    → HasTurn plan seen node period × (is_file_of period r ≡ true) × (one_more_file plan seen ≡ next)
-turn_of plan seen next r node period is =
-    let so = if_so (is_turn plan seen node period && is_file_of period r) (one_more_file plan seen) next is in
-    let both = both_true (is_turn plan seen node period) (is_file_of period r) so.0 in
-    (has_turn plan seen node period both.0, both.1, so.1)
-
 pub due : (plan : Plan) (seen last : Seen) (w : World) (es : List Planned) → behind_all plan seen w es ≡ Some last
-    → (place node period : ℕ) → slice_get es place ≡ Some (PlansExport node period) → seen.journaled + length (journals_of (take place es)) ≡ due_in plan period
+    → (place node period : ℕ) → slice_get es place ≡ Some (PlansExport node period) → seen.journaled + length (journals_of (take place es)) ≡ due_for plan period
 unfolding behind_all
 due plan seen last w [] is place node period asks = let past = slice_get_past {X = Planned} [] place (omega arith) in let bad = sym past ∙ asks in absurd (cc)
 due plan seen last w (e ∷ es) is zero node period asks =
-    option_and_then_some (λ next. behind_all plan next (step w (event_of e)).1 es) (behind plan seen (step w (event_of e)).0 e) last is
+    option_and_then_some (λ next. behind_all plan next (step w (event_of e)).1 es) (behind plan seen w.journals (step w (event_of e)).0 e) last is
     (λ next one rest.
-    let taken : behind_taken plan seen (step w (event_of e)).0 (PlansExport node period) ≡ Some next
-    = subst (λ x. behind_taken plan seen (step w (event_of e)).0 x ≡ Some next) (some_is e (PlansExport node period) asks) (is_taken plan seen next _ e one).1 in
-    let is_due = (turn_of plan seen next (step w (event_of e)).0 node period taken).0.due in
-    omega arith)
+    let taken : behind_taken plan seen w.journals (step w (event_of e)).0 (PlansExport node period) ≡ Some next
+    = subst (λ x. behind_taken plan seen w.journals (step w (event_of e)).0 x ≡ Some next) (some_is e (PlansExport node period) asks) (is_taken plan seen next _ _ e one).1 in
+    let is_due = (turn_of plan seen next w.journals (step w (event_of e)).0 node period taken).0.due in
+    omega (arith, is_due))
 due plan seen last w (e ∷ es) is (suc k) node period asks =
-    option_and_then_some (λ next. behind_all plan next (step w (event_of e)).1 es) (behind plan seen (step w (event_of e)).0 e) last is
-    (λ next one rest. one_count plan seen next (step w (event_of e)).0 e (take k es) (is_taken plan seen next _ e one).1
-    ∙ due plan next last (step w (event_of e)).1 es rest k node period asks)
+    option_and_then_some (λ next. behind_all plan next (step w (event_of e)).1 es) (behind plan seen w.journals (step w (event_of e)).0 e) last is
+    (λ next one rest. more_in_all _ _ _ _ _ _ (same_count plan seen next _ _ e (is_taken plan seen next _ _ e one).1).0
+    (ap length (journals_split e (take k es)) ∙ length-append (journals_of (e ∷ [])) (journals_of (take k es)))
+    (due plan next last (step w (event_of e)).1 es rest k node period asks))
 
 -- ---- which files are shown
 
--- this file was shown before
-IsPassed : Seen → ℕ → ℕ → Type 0
-IsPassed seen node period = (period < seen.period) ⊎ ((period ≡ seen.period) × (node < seen.node))
-
--- it is shown by one of these events
-pub record IsShown (w : World) (es : List Planned) (node period : ℕ) : Type 0 where
-  pub place : ℕ
-  pub asks : slice_get es place ≡ Some (PlansExport node period)
+-- the export at a place is answered by the file of the period, with all that is due of what is journaled by then
+pub record IsShown (base : ℕ) (w : World) (es : List Planned) (place period : ℕ) : Type 0 where
   pub snapshot : Snapshot
   pub answers : slice_get (play w (map event_of es)).0 place ≡ Some (Exported snapshot)
   pub is_of : snapshot.period ≡ period
+  pub cut : snapshot.to ≡ front base (play w (map event_of (take place es))).1.journals snapshot.from period
 
-shown_later : (w : World) (e : Planned) (es : List Planned) (node period : ℕ) → IsShown (step w (event_of e)).1 es node period → IsShown w (e ∷ es) node period
-shown_later w e es node period is = record { place = suc is.place; asks = is.asks; snapshot = is.snapshot; answers = is.answers; is_of = is.is_of }
+file_shown : (base : ℕ) (h : Holding) (p : ℕ) (r : Reply) → is_file_of base h p r ≡ true
+    → (s : Snapshot) × (r ≡ Exported s) × (s.period ≡ p) × (s.to ≡ front base h s.from p)
+file_shown base h p (Exported s) is =
+    let both = both_true (nat_eq s.period p) (is_same s.to (front base h s.from p)) is in
+    (s, refl, eqb-true s.period p both.0, same_read s.to (front base h s.from p) both.1)
+file_shown base h p (Journaled k) is = absurd (cc)
+file_shown base h p (Delivered sent learned) is = absurd (cc)
+file_shown base h p (Started ballot k) is = absurd (cc)
+file_shown base h p Restarted is = absurd (cc)
+file_shown base h p (KeptText text) is = absurd (cc)
+file_shown base h p (Refused why) is = absurd (cc)
 
-file_in : (p : ℕ) (r : Reply) → is_file_of p r ≡ true → (s : Snapshot) × (r ≡ Exported s) × (s.period ≡ p)
-file_in p (Exported s) is = (s, refl, eqb-true s.period p is)
-file_in p (Journaled k) is = absurd (cc)
-file_in p (Delivered sent learned) is = absurd (cc)
-file_in p (Started b k) is = absurd (cc)
-file_in p Restarted is = absurd (cc)
-file_in p (KeptText t) is = absurd (cc)
-file_in p (Refused why) is = absurd (cc)
+shown_now : (base : ℕ) (w : World) (e : Planned) (es : List Planned) (p : ℕ) → is_file_of base w.journals p (step w (event_of e)).0 ≡ true → IsShown base w (e ∷ es) 0 p
+shown_now base w e es p is =
+    let file = file_shown base w.journals p (step w (event_of e)).0 is in
+    record { snapshot = file.0; answers = ap Some file.1; is_of = file.2; cut = file.3 }
 
-shown_now : (w : World) (es : List Planned) (node period : ℕ) → is_file_of period (step w (event_of (PlansExport node period))).0 ≡ true
-    → IsShown w (PlansExport node period ∷ es) node period
-shown_now w es node period is =
-    let file = file_in period (step w (event_of (PlansExport node period))).0 is in
-    record { place = 0; asks = refl; snapshot = file.0; answers = ap Some file.1; is_of = file.2 }
+shown_later : (base : ℕ) (w : World) (e : Planned) (es : List Planned) (place p : ℕ) → IsShown base (step w (event_of e)).1 es place p → IsShown base w (e ∷ es) (suc place) p
+shown_later base w e es place p is = record { snapshot = is.snapshot; answers = is.answers; is_of = is.is_of; cut = is.cut }
 
--- what is passed behind one file more was passed before, or is that file
-passed_before : (plan : Plan) (seen : Seen) (b : Bool) → nat_lt (seen.node + 1) plan.nodes ≡ b → (node period : ℕ) → node < plan.nodes
-    → IsPassed (cond b (record seen { node = seen.node + 1 }) (record seen { node = 0; period = seen.period + 1 })) node period
-    → IsPassed seen node period ⊎ ((seen.node ≡ node) × (seen.period ≡ period))
-unfolding IsPassed
-passed_before plan seen true is node period within (inl less) = inl (inl less)
-passed_before plan seen true is node period within (inr same) =
-    ⊎_elim (λ below. inl (inr (same.0, below))) (λ above. inr (omega arith, sym same.0)) (cases_lt node seen.node)
-passed_before plan seen false is node period within (inr same) = absurd (omega arith)
-passed_before plan seen false is node period within (inl less) =
-    let few : plan.nodes ≤ seen.node + 1 = ltb-false (seen.node + 1) plan.nodes is in
-    ⊎_elim (λ below. inl (inl below))
-    (λ above. ⊎_elim (λ below. inl (inr (omega arith, below))) (λ beside. inr (omega arith, omega arith)) (cases_lt node seen.node))
-    (cases_lt period seen.period)
-
-one_shown : (plan : Plan) (seen next : Seen) (w : World) (e : Planned) (es : List Planned) → behind_taken plan seen (step w (event_of e)).0 e ≡ Some next
-    → (node period : ℕ) → node < plan.nodes → IsPassed next node period → IsPassed seen node period ⊎ IsShown w (e ∷ es) node period
-unfolding IsPassed
-one_shown plan seen next w (PlansExport i p) es is node period within passed =
-    let turn = turn_of plan seen next (step w (event_of (PlansExport i p))).0 i p is in
-    ⊎_elim inl
-    (λ same.
-    let node_is : i ≡ node = turn.0.node_is ∙ same.0 in
-    let period_is : p ≡ period = turn.0.period_is ∙ same.1 in
-    inr (subst (λ n. IsShown w (PlansExport i p ∷ es) n period) node_is (subst (λ q. IsShown w (PlansExport i p ∷ es) i q) period_is (shown_now w es i p turn.1))))
-    (passed_before plan seen (nat_lt (seen.node + 1) plan.nodes) refl node period within (subst (λ s. IsPassed s node period) (sym turn.2) passed))
-one_shown plan seen next w (PlansJournal ls) es is node period within passed =
-    inl (subst (λ s. IsPassed s node period) (sym (if_so (is_next plan seen (lines_text ls)) (one_more_batch seen) next is).1) passed)
-one_shown plan seen next w (PlansDelivery k i) es is node period within passed = inl (subst (λ s. IsPassed s node period) (sym (some_is seen next is)) passed)
-one_shown plan seen next w (PlansStart i) es is node period within passed = inl (subst (λ s. IsPassed s node period) (sym (some_is seen next is)) passed)
-one_shown plan seen next w (PlansRestart i) es is node period within passed = inl (subst (λ s. IsPassed s node period) (sym (some_is seen next is)) passed)
-one_shown plan seen next w (PlansKeep i) es is node period within passed = inl (subst (λ s. IsPassed s node period) (sym (some_is seen next is)) passed)
-one_shown plan seen next w (PlansRevival i ls) es is node period within passed = inl (subst (λ s. IsPassed s node period) (sym (some_is seen next is)) passed)
-
-shown_by : (plan : Plan) (seen last : Seen) (w : World) (es : List Planned) → behind_all plan seen w es ≡ Some last
-    → (node period : ℕ) → node < plan.nodes → IsPassed last node period → IsPassed seen node period ⊎ IsShown w es node period
+pub closed : (plan : Plan) (seen last : Seen) (w : World) (es : List Planned) → behind_all plan seen w es ≡ Some last
+    → (place node period : ℕ) → slice_get es place ≡ Some (PlansExport node period) → IsShown plan.base w es place period
 unfolding behind_all
-shown_by plan seen last w [] is node period within passed = inl (subst (λ s. IsPassed s node period) (sym (some_is seen last is)) passed)
-shown_by plan seen last w (e ∷ es) is node period within passed =
-    option_and_then_some (λ next. behind_all plan next (step w (event_of e)).1 es) (behind plan seen (step w (event_of e)).0 e) last is
+closed plan seen last w [] is place node period asks = let past = slice_get_past {X = Planned} [] place (omega arith) in let bad = sym past ∙ asks in absurd (cc)
+closed plan seen last w (e ∷ es) is zero node period asks =
+    option_and_then_some (λ next. behind_all plan next (step w (event_of e)).1 es) (behind plan seen w.journals (step w (event_of e)).0 e) last is
     (λ next one rest.
-    ⊎_elim (λ before. one_shown plan seen next w e es (is_taken plan seen next _ e one).1 node period within before)
-    (λ later. inr (shown_later w e es node period later))
-    (shown_by plan next last (step w (event_of e)).1 es rest node period within passed))
-
-pub shown : (plan : Plan) (w : World) (es : List Planned) → behind_all plan nothing_seen w es ≡ Some (all_seen plan)
-    → (node period : ℕ) → node < plan.nodes → period ≤ plan.last → IsShown w es node period
-unfolding IsPassed
-shown plan w es is node period within last =
-    ⊎_elim (λ before. absurd (⊎_elim (λ less. omega arith) (λ same. omega arith) before)) (λ is. is)
-    (shown_by plan nothing_seen (all_seen plan) w es is node period within (inl (omega arith)))
+    let taken : behind_taken plan seen w.journals (step w (event_of e)).0 (PlansExport node period) ≡ Some next
+    = subst (λ x. behind_taken plan seen w.journals (step w (event_of e)).0 x ≡ Some next) (some_is e (PlansExport node period) asks) (is_taken plan seen next _ _ e one).1 in
+    shown_now plan.base w e es period (turn_of plan seen next w.journals (step w (event_of e)).0 node period taken).1)
+closed plan seen last w (e ∷ es) is (suc k) node period asks =
+    option_and_then_some (λ next. behind_all plan next (step w (event_of e)).1 es) (behind plan seen w.journals (step w (event_of e)).0 e) last is
+    (λ next one rest. shown_later plan.base w e es k period (closed plan next last (step w (event_of e)).1 es rest k node period asks))

@@ -1,7 +1,7 @@
 -- What is found of one batch more.
-use Rattle.std.proofs.Common.{◌≡◌, ◌<◌, ◌≤◌, ◌⊎◌, ◌&&◌, ℕ, suc, ◌+◌, ◌-◌, Bool, true, false, max, List, [], ◌∷◌, ◌++◌, length, take, drop, map, get_or, All, refl, sym, ap, subst, ◌∙◌, inl, inr, ⊎_elim, arith, drop-cons}
+use Rattle.std.proofs.Common.{◌≡◌, ◌≤◌, ◌⊎◌, ◌&&◌, ℕ, ◌+◌, ◌-◌, Bool, true, false, max, List, [], ◌∷◌, ◌++◌, map, All, refl, sym, ap, subst, ◌∙◌, inl, inr, ⊎_elim, arith}
 use Rattle.std.specs.List.{fold, list_all}
-use Rattle.std.proofs.lemmas.List.{map-append, take-append-drop}
+use Rattle.std.proofs.lemmas.List.{map-append}
 use Rattle.std.proofs.lemmas.List.Elements.{All-push}
 use Rattle.std.proofs.lemmas.List.Folds.{list_all-append}
 use Rattle.std.proofs.lemmas.List.Sums.{fold-append}
@@ -9,17 +9,16 @@ use Rattle.std.proofs.lemmas.Bool.{cases_lt}
 use Rattle.metering_model.specs.Batch.{Batch}
 use Rattle.metering_model.specs.Front.{is_due}
 use Rattle.metering_model.specs.Sheet.{Sheet, Issuer}
+use Rattle.metering_model.specs.Limits.{last_period}
+use Rattle.metering_model.specs.RatedAlone.{world_before}
 use Rattle.metering_model.specs.Step.{play, step}
-use Rattle.metering_model.specs.World.{World, Refused}
-use Rattle.metering_model.specs.declared.Refusal.{Refusal}
+use Rattle.metering_model.specs.World.{World}
 use Rattle.metering_model.proofs.PlayLaws.{play-last, replies-last}
 use Rattle.row_laws.proofs.DueLaws.{due_later}
 use Rattle.batch_view.specs.Batches.{batch_of}
-use Rattle.schedule_writer.specs.declared.inputs.Offered.{Offered as LentBatch}
 use Rattle.schedule_writer.specs.Inputs.{Offered, IsLastStart, agents_of, are_due}
-use Rattle.schedule_writer.specs.Refusals.{IsJournaled, IsLineOf, answer_to, answers_to, journal_of, world_before, world_behind}
-use Rattle.schedule_writer.specs.Inner.Judged.{IsLaterStart, IsRefusedAmong}
-use Rattle.schedule_writer.specs.Inner.Plans.{offered_of}
+use Rattle.schedule_writer.specs.Refusals.{IsJournaled, answer_to, answers_to, journal_of, world_behind}
+use Rattle.schedule_writer.specs.Inner.Judged.{IsAskedBy, IsJudged, IsLaterStart, IsRefusedAmong, IsRefusedNow}
 
 -- ---- the world
 
@@ -83,7 +82,7 @@ due_of_more base q bs b = list_all-append (λ o. is_due base q (batch_of o.text)
 last_more : (base p q : ℕ) (bs : List Offered) (b : Offered) → IsLastStart base bs p → IsLaterStart base (batch_of b.text) p q → IsLastStart base (bs ++ b ∷ []) q
 last_more base p q bs b last later = record { within = later.within; none_behind = none_behind; one_there = one_there }
   where
-    none_behind : (q ≡ 1_199) ⊎ (are_due base q (bs ++ b ∷ []) ≡ true)
+    none_behind : (q ≡ last_period) ⊎ (are_due base q (bs ++ b ∷ []) ≡ true)
     none_behind =
         ⊎_elim inl
         (λ due. ⊎_elim (λ end. inl (omega (arith, later.later, later.within)))
@@ -101,14 +100,7 @@ last_more base p q bs b last later = record { within = later.within; none_behind
         last.one_there)
         (cases_lt p q)
 
--- ---- batches as they are lent
-
--- what is judged so far
-pub record IsJudged (sheet : Sheet) (issuer : Issuer) (bs : List Offered) (w : World) (agents last : ℕ) : Type 0 where
-  pub world : w ≡ world_behind sheet issuer bs
-  pub taken : All IsJournaled (answers_to sheet issuer bs)
-  pub are_agents : agents ≡ agents_of bs
-  pub is_last : IsLastStart sheet.base bs last
+-- ---- one batch more
 
 pub judged_more : (sheet : Sheet) (issuer : Issuer) (bs : List Offered) (b : Offered) (w v : World) (agents last more later : ℕ) → IsJudged sheet issuer bs w agents last
     → IsJournaled (answer_to w b.text) → v ≡ (step w (journal_of b)).1 → more ≡ max agents (batch_of b.text).agent
@@ -117,8 +109,10 @@ judged_more sheet issuer bs b w v agents last more later so journaled after are 
     record {
       world = world_more sheet issuer w v bs b so.world after;
       taken = taken_more sheet issuer w bs b so.world so.taken journaled;
-      are_agents = are ∙ (ap (λ n. max n (batch_of b.text).agent) so.are_agents ∙ agents_more bs b);
-      is_last = last_more sheet.base last later bs b so.is_last is;
+      asked = record {
+        are_agents = are ∙ (ap (λ n. max n (batch_of b.text).agent) so.asked.are_agents ∙ agents_more bs b);
+        is_last = last_more sheet.base last later bs b so.asked.is_last is;
+      };
     }
 
 pub nothing_judged : (sheet : Sheet) (issuer : Issuer) (w : World) → w ≡ world_before sheet issuer → IsJudged sheet issuer [] w 1 0
@@ -126,27 +120,25 @@ nothing_judged sheet issuer w is =
     record {
       world = is;
       taken = λ k d below. absurd (omega arith);
-      are_agents = refl;
-      is_last = record { within = omega arith; none_behind = inr refl; one_there = inl refl };
+      asked = record {
+        are_agents = refl;
+        is_last = record { within = omega arith; none_behind = inr refl; one_there = inl refl };
+      };
     }
 
--- the batch at a place parts the others
-pub parted : (bs : List LentBatch) (i : ℕ) (d : LentBatch) → i < length bs
-    → map offered_of bs ≡ map offered_of (take i bs) ++ offered_of (get_or bs i d) ∷ map offered_of (drop (suc i) bs)
-parted bs i d within =
-    ap (map offered_of) (sym (take-append-drop i bs))
-    ∙ (map-append offered_of (take i bs) (drop i bs) ∙ ap (λ t. map offered_of (take i bs) ++ map offered_of t) (drop-cons bs i d within))
+pub same_judged : (sheet : Sheet) (issuer : Issuer) (bs cs : List Offered) (w : World) (agents last : ℕ) → bs ≡ cs → IsJudged sheet issuer bs w agents last
+    → IsJudged sheet issuer cs w agents last
+same_judged sheet issuer bs cs w agents last same is = subst (λ xs. IsJudged sheet issuer xs w agents last) same is
 
-pub refused_among : (input : List ℕ) (sheet : Sheet) (issuer : Issuer) (bs : List LentBatch) (i : ℕ) (d : LentBatch) (w : World) (agents last line : ℕ) (why : Refusal) → i < length bs
-    → IsJudged sheet issuer (map offered_of (take i bs)) w agents last → answer_to w (get_or bs i d).text.now ≡ Refused why
-    → IsLineOf input w (offered_of (get_or bs i d)) why line → IsRefusedAmong input sheet issuer (map offered_of bs) line why
-refused_among input sheet issuer bs i d w agents last line why within so refused at =
+-- the batch that is refused parts the others
+pub refused_among : (input : List ℕ) (sheet : Sheet) (issuer : Issuer) (all before behind : List Offered) (b : Offered) (w : World) (agents last : ℕ) (told : List ℕ)
+    → all ≡ before ++ b ∷ behind → IsJudged sheet issuer before w agents last → IsRefusedNow input w b told → IsRefusedAmong input sheet issuer all told
+refused_among input sheet issuer all before behind b w agents last told parts so refused =
     record {
-      before = map offered_of (take i bs);
-      batch = offered_of (get_or bs i d);
-      behind = map offered_of (drop (suc i) bs);
-      all = parted bs i d within;
+      before = before;
+      batch = b;
+      behind = behind;
+      all = parts;
       taken = so.taken;
-      refused = subst (λ x. answer_to x (get_or bs i d).text.now ≡ Refused why) so.world refused;
-      at_line = subst (λ x. IsLineOf input x (offered_of (get_or bs i d)) why line) so.world at;
+      refused = subst (λ x. IsRefusedNow input x b told) so.world refused;
     }

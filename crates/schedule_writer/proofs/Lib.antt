@@ -1,10 +1,12 @@
-pub mod Certificates
-pub mod PlanLaws
-pub mod LineTexts
-pub mod AnswerLaws
-pub mod ItemLaws
-pub mod JudgedLaws
-pub mod ScheduleLaws
 pub mod KnownLaws
+pub mod ItemLaws
+pub mod AnswerLaws
+pub mod JournalLaws
+pub mod JudgedLaws
+pub mod CheckLaws
+pub mod PlanLaws
+pub mod Certificates
+pub mod ScheduleLaws
 mod WorkedInputs
+mod WorkedSchedules
 mod FalseRuns

@@ -1,18 +1,30 @@
--- A plan's batches, as they are lent.
-use Rattle.std.proofs.Common.{◌≡◌, ◌<◌, ◌&&◌, ℕ, nat_lt, true, List, [], ◌∷◌, ◌++◌, length, map, drop, get_or, Option, Some, refl, sym, ap, ◌∙◌, arith, suc, ◌+◌, drop-cons, add-one}
-use Rattle.std.specs.Option.{option_and_then}
+-- What is lent of a plan, and what one event more has done.
+use Rattle.std.proofs.Common.{◌≡◌, ◌<◌, ◌≤◌, ◌&&◌, ℕ, suc, Bool, true, false, cond, nat_eq, nat_lt, List, [], ◌∷◌, length, map, get_or, Option, Some, None, Result, Ok, refl, sym, ap, ap₂, ◌∙◌, arith, lt-ltb}
+use Rattle.std.specs.Prelude.{◌↔◌, IsTrue, not, nat_le}
+use Rattle.std.specs.Option.{option_and_then, option_map_or}
+use Rattle.std.proofs.lemmas.Bool.{and_from, eq-eqb}
 use Rattle.std.proofs.lemmas.List.{get_or-map, length-map}
-use Rattle.std.proofs.lemmas.Bool.{lt-ltb}
+use Rattle.metering_model.specs.Batch.{is_empty}
 use Rattle.metering_model.specs.BatchReading.{is_same}
-use Rattle.metering_model.specs.Schedule.{event_of}
+use Rattle.metering_model.specs.FirstFailure.{◌>>=◌}
+use Rattle.metering_model.specs.Holding.{Holding}
+use Rattle.metering_model.specs.Schedule.{Planned, event_of}
+use Rattle.metering_model.specs.Sheet.{Sheet, Issuer}
 use Rattle.metering_model.specs.Step.{step}
-use Rattle.metering_model.specs.World.{World}
-use Rattle.schedule_reader.specs.declared.events.Planned.{Planned}
-use Rattle.schedule_reader.specs.Events.{planned_of}
+use Rattle.metering_model.specs.World.{World, Event, Reply, opening}
+use Rattle.metering_model.proofs.FieldLaws.{same_read}
+use Rattle.input_sections.specs.declared.faults.ScheduleFault.{ScheduleFault}
+use Rattle.input_sections.specs.Sections.{Unread, left}
+use Rattle.group_events.specs.Replies.{is_refused}
+use Rattle.schedule_reader.specs.Schedules.{Preamble, ReadSchedule, event_in, events_in, preamble_in, schedule_in}
+use Rattle.schedule_reader.proofs.PreambleLaws.{taken_behind}
+use Rattle.schedule_writer.specs.Schedules.{learned_in}
 use Rattle.schedule_writer.specs.declared.inputs.Offered.{Offered as LentBatch}
 use Rattle.schedule_writer.specs.declared.plans.Plan.{Plan as LentPlan}
 use Rattle.schedule_writer.specs.declared.plans.Seen.{Seen}
-use Rattle.schedule_writer.specs.Inner.Plans.{Plan, behind, behind_all, is_next, offered_of, plan_of}
+use Rattle.schedule_writer.specs.Inner.Certified.{IsCertified}
+use Rattle.schedule_writer.specs.Inner.Plans.{IsDone, Plan, all_seen, behind, behind_all, behind_taken, is_good, is_next, journals_behind, nothing_seen, offered_of, plan_of}
+use Rattle.schedule_writer.proofs.JournalLaws.{journals_after}
 
 pub next_is : (p : LentPlan) (seen : Seen) (text : List ℕ) (d : LentBatch) → seen.journaled < length p.batches.now
     → is_same (get_or p.batches.now seen.journaled d).text.now text ≡ is_next (plan_of p) seen text
@@ -26,22 +38,94 @@ next_is p seen text d within =
     ∙ ap (λ b. b.text) (get_or-map offered_of bs seen.journaled d (offered_of d) within) in
     sym (ap (λ t. t && is_same (get_or (plan_of p).batches seen.journaled []) text) test ∙ ap (λ t. is_same t text) read)
 
--- one event more was done
-pub behind_more : (plan : Plan) (start seen next : Seen) (from w v : World) (all : List Planned) (i : ℕ) (d : Planned) → i < length all
-    → behind_all plan start from (map planned_of all) ≡ behind_all plan seen w (map planned_of (drop i all))
-    → behind plan seen (step w (event_of (planned_of (get_or all i d)))).0 (planned_of (get_or all i d)) ≡ Some next
-    → v ≡ (step w (event_of (planned_of (get_or all i d)))).1
-    → behind_all plan start from (map planned_of all) ≡ behind_all plan next v (map planned_of (drop (i + 1) all))
-unfolding behind_all
-behind_more plan start seen next from w v all i d within so_far one after =
-    let e = planned_of (get_or all i d) in
-    let rest = map planned_of (drop (suc i) all) in
-    so_far
-    ∙ (ap (λ es. behind_all plan seen w (map planned_of es)) (drop-cons all i d within)
-    ∙ (ap (option_and_then (λ n. behind_all plan n (step w (event_of e)).1 rest)) one
-    ∙ (ap (λ u. behind_all plan next u rest) (sym after)
-    ∙ ap (λ n. behind_all plan next v (map planned_of (drop n all))) (sym (add-one i)))))
+same_itself : (t : List ℕ) → is_same t t ≡ true
+same_itself [] = refl
+same_itself (x ∷ xs) = and_from (nat_eq x x) (is_same xs xs) (eq-eqb x x refl) (same_itself xs)
 
-pub behind_whole : (plan : Plan) (seen : Seen) (w : World) (all : List Planned) (i : ℕ) → drop i all ≡ [] → behind_all plan seen w (map planned_of (drop i all)) ≡ Some seen
-unfolding behind_all
-behind_whole plan seen w all i none = ap (λ es. behind_all plan seen w (map planned_of es)) none
+-- a test of two cuts
+pub cuts_tested : (b : Bool) (x y : List ℕ) → IsTrue b ↔ (x ≡ y) → b ≡ is_same x y
+cuts_tested b x y is = by_test b (is_same x y) refl is
+  where
+    by_test : (b t : Bool) → is_same x y ≡ t → IsTrue b ↔ (x ≡ y) → b ≡ t
+    by_test true true so is = refl
+    by_test false false so is = refl
+    by_test true false so is = sym (same_itself x) ∙ (ap (is_same x) (is.0 refl) ∙ so)
+    by_test false true so is = absurd (let no = is.1 (same_read x y so) in cc)
+
+-- ---- one event more
+
+-- what was taken was not refused
+pub not_refused : (plan : Plan) (seen next : Seen) (h : Holding) (r : Reply) (e : Planned) → behind plan seen h r e ≡ Some next → is_refused r ≡ false
+not_refused plan seen next h r e is = by_test (is_refused r) (option_map_or (λ period. nat_le period plan.last) (learned_in r) true) is
+  where
+    by_test : (t good : Bool) → cond (not t && good) (behind_taken plan seen h r e) None ≡ Some next → t ≡ false
+    by_test false good so = refl
+    by_test true good so = absurd (cc)
+
+-- the journals are those of the world behind it
+pub kept_journals : (plan : Plan) (seen next : Seen) (w v : World) (e : Planned) (event : Event) (before after : Holding)
+    → behind plan seen w.journals (step w (event_of e)).0 e ≡ Some next → v ≡ (step w (event_of e)).1 → event ≡ event_of e → before ≡ w.journals
+    → after ≡ journals_behind before event → after ≡ v.journals
+kept_journals plan seen next w v e event before after one behind_it same old new =
+    new ∙ (ap₂ journals_behind old same
+    ∙ (sym (journals_after w (event_of e) (not_refused plan seen next w.journals (step w (event_of e)).0 e one)) ∙ ap (λ (x : World). x.journals) (sym behind_it)))
+
+not_empty : {A : Type 0} (t : List ℕ) (x y : A) → 0 < length t → cond (is_empty t) x y ≡ y
+not_empty [] x y some = absurd (omega arith)
+not_empty (c ∷ cs) x y some = refl
+
+all_empty : {A : Type 0} (t : List ℕ) (x y : A) → length t ≤ 0 → cond (is_empty t) x y ≡ x
+all_empty [] x y none = refl
+all_empty (c ∷ cs) x y none = absurd (omega arith)
+
+module _ (plan : Plan) where
+  pub done_more : (seen next last : Seen) (w v : World) (k most : ℕ) (u : Unread) (e : Planned × Unread) → most ≡ suc k → 0 < length (left u) → event_in u ≡ Ok e
+      → behind plan seen w.journals (step w (event_of e.0)).0 e.0 ≡ Some next → v ≡ (step w (event_of e.0)).1
+      → IsDone plan next last v (events_in k e.1) → IsDone plan seen last w (events_in most u)
+  unfolding events_in behind_all
+  done_more seen next last w v k most u e more some here one after is =
+      record {
+        events = e.0 ∷ is.events;
+        is_read =
+            ap (λ n. events_in n u) more
+            ∙ (not_empty (left u) (Ok []) (event_in u >>= λ (x : Planned × Unread). events_in k x.1 >>= λ (es : List Planned). Ok (x.0 ∷ es)) some
+            ∙ (ap (λ (r : Result (Planned × Unread) ScheduleFault). r >>= λ (x : Planned × Unread). events_in k x.1 >>= λ (es : List Planned). Ok (x.0 ∷ es)) here
+            ∙ ap (λ (r : Result (List Planned) ScheduleFault). r >>= λ (es : List Planned). Ok (e.0 ∷ es)) is.is_read));
+        done =
+            ap (option_and_then (λ n. behind_all plan n (step w (event_of e.0)).1 is.events)) one
+            ∙ (ap (λ x. behind_all plan next x is.events) (sym after) ∙ is.done);
+      }
+
+  -- nothing more is left, or nothing more is looked at
+  pub done_all : (seen : Seen) (w : World) (k most : ℕ) (u : Unread) → most ≡ suc k → length (left u) ≤ 0 → IsDone plan seen seen w (events_in most u)
+  unfolding events_in behind_all
+  done_all seen w k most u more none =
+      record {
+        events = [];
+        is_read =
+            ap (λ n. events_in n u) more
+            ∙ all_empty (left u) (Ok []) (event_in u >>= λ (x : Planned × Unread). events_in k x.1 >>= λ (es : List Planned). Ok (x.0 ∷ es)) none;
+        done = refl;
+      }
+
+  pub done_none : (seen : Seen) (w : World) (most : ℕ) (u : Unread) → most ≡ 0 → IsDone plan seen seen w (events_in most u)
+  unfolding events_in behind_all
+  done_none seen w most u none = record { events = []; is_read = ap (λ n. events_in n u) none; done = refl }
+
+-- ---- the whole
+
+pub certified : (plan : Plan) (text : List ℕ) (p : Preamble) (voters observers agents : ℕ) (sheet : Sheet) (issuer : Issuer) (last : Seen) → preamble_in text ≡ Ok p
+    → p.voters ≡ voters → p.observers ≡ observers → p.agents ≡ agents → p.sheet ≡ sheet → p.issuer ≡ issuer → last ≡ all_seen plan
+    → IsDone plan nothing_seen last (opening p.voters p.observers p.agents p.sheet p.issuer) (events_in (length text) p.rest)
+    → IsCertified plan voters observers agents sheet issuer text
+certified plan text p voters observers agents sheet issuer last above has_voters has_observers has_agents by_sheet by_issuer all done =
+    record {
+      schedule = record { voters = p.voters; observers = p.observers; agents = p.agents; sheet = p.sheet; issuer = p.issuer; events = done.events };
+      is_read = taken_behind text p done.events above done.is_read;
+      has_voters = has_voters;
+      has_observers = has_observers;
+      has_agents = has_agents;
+      by_sheet = by_sheet;
+      by_issuer = by_issuer;
+      done = done.done ∙ ap Some all;
+    }

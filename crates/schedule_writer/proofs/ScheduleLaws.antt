@@ -1,24 +1,25 @@
 -- A text that stood the test is a schedule for the input.
-use Rattle.std.proofs.Common.{◌≡◌, ◌<◌, ◌≤◌, ℕ, ◌+◌, ◌-◌, max, List, [], ◌++◌, length, take, drop, map, Option, Some, None, Ok, refl, sym, ap, subst, ◌∙◌, arith}
-use Rattle.std.specs.List.{slice_get}
+use Rattle.std.proofs.Common.{◌≡◌, ◌≤◌, ℕ, ◌+◌, ◌-◌, max, All, List, [], ◌++◌, length, take, drop, map, Option, Some, None, Ok, refl, sym, ap, subst, ◌∙◌, arith}
 use Rattle.std.specs.Option.{unwrap_or}
 use Rattle.std.proofs.Math.Seq.{take-length}
 use Rattle.std.proofs.lemmas.List.{length-drop, length-map}
+use Rattle.std.proofs.lemmas.List.Elements.{All-weaker}
 use Rattle.metering_model.specs.Schedule.{PlansExport}
 use Rattle.metering_model.specs.Sheet.{Sheet, Issuer}
 use Rattle.metering_model.specs.World.{opening}
 use Rattle.metering_model.specs.declared.Refusal.{Refusal}
 use Rattle.input_sections.specs.RateInput.{RateInput, rate_input_in}
+use Rattle.schedule_player.specs.Transcripts.{replies_to}
 use Rattle.schedule_reader.specs.Schedules.{ReadSchedule}
 use Rattle.schedule_writer.specs.declared.asked.Request.{Request}
 use Rattle.schedule_writer.specs.declared.plans.Plan.{Plan as LentPlan}
-use Rattle.schedule_writer.specs.Inputs.{IsAskedFor, IsLastStart, Item, Offered, agents_of, batches_of, closes_of, due_before, items_in, items_of, least_last}
-use Rattle.schedule_writer.specs.Refusals.{IsRefusedAt}
+use Rattle.schedule_writer.specs.Inputs.{IsAskedFor, IsLastStart, Item, Offered, agents_of, batches_of, closes_of, due_before, due_in, items_in, items_of, least_last}
+use Rattle.schedule_writer.specs.Refusals.{IsRefusedAt, IsTaken}
 use Rattle.schedule_writer.specs.Schedules.{ClosesEach, IsExported, IsScheduleOf, journals_of}
 use Rattle.schedule_writer.specs.Inner.Certified.{IsCertified}
-use Rattle.schedule_writer.specs.Inner.Judged.{IsReadInput, IsRefusedAmong}
-use Rattle.schedule_writer.specs.Inner.Plans.{Plan, all_seen, behind_all, due_in, nothing_seen, offered_of, plan_of}
-use Rattle.schedule_writer.proofs.Certificates.{IsShown, due, journals, none_refused, shown}
+use Rattle.schedule_writer.specs.Inner.Judged.{IsAskedBy, IsReadInput, IsRefusedAmong}
+use Rattle.schedule_writer.specs.Inner.Plans.{Plan, all_seen, behind_all, due_for, nothing_seen, offered_of, plan_of}
+use Rattle.schedule_writer.proofs.Certificates.{IsGood, IsShown, all_exports, all_good, ballots, closed, due, exports, good_is, journals, needed}
 
 -- ---- what is read from a byte on is what stands behind the sections
 
@@ -32,74 +33,86 @@ items_behind input from sheet issuer within = ap (items_in (length input) input)
 
 -- ---- what is closed
 
-shown_is_exported : (r : ReadSchedule) (node period : ℕ) → IsShown (opening r.voters r.observers r.agents r.sheet r.issuer) r.events node period → IsExported r node period
-shown_is_exported r node period is = record { place = is.place; asks = is.asks; snapshot = is.snapshot; answers = is.answers; is_of = is.is_of }
+shown_is_exported : (r : ReadSchedule) (base place period : ℕ) → base ≡ r.sheet.base
+    → IsShown base (opening r.voters r.observers r.agents r.sheet r.issuer) r.events place period → IsExported r place period
+shown_is_exported r base place period same is = let plain = subst (λ b. IsShown b (opening r.voters r.observers r.agents r.sheet r.issuer) r.events place period) same is in
+    record { snapshot = plain.snapshot; answers = plain.answers; is_of = plain.is_of; cut = plain.cut }
 
-pub closes_each : (plan : Plan) (r : ReadSchedule) (is : List Item) (last : ℕ) → plan.nodes ≡ r.voters + r.observers → plan.last ≡ last
+pub closes_each : (plan : Plan) (r : ReadSchedule) (is : List Item) (last : ℕ) → plan.nodes ≡ r.voters + r.observers → plan.last ≡ last → plan.base ≡ r.sheet.base
     → plan.batches ≡ map (λ b. b.text) (batches_of is) → plan.closes ≡ closes_of is
     → behind_all plan nothing_seen (opening r.voters r.observers r.agents r.sheet r.issuer) r.events ≡ Some (all_seen plan) → ClosesEach r is last
-closes_each plan r is last nodes is_last batches closes done =
+closes_each plan r is last nodes is_last base batches closes done =
     let w = opening r.voters r.observers r.agents r.sheet r.issuer in
+    let replies : All (IsGood last) (replies_to r r.events) = subst (λ n. All (IsGood n) (replies_to r r.events)) is_last (all_good plan nothing_seen (all_seen plan) w r.events done) in
     record {
       journals = journals plan nothing_seen (all_seen plan) w r.events done ∙ (take-length plan.batches ∙ batches);
-      none_refused = none_refused plan nothing_seen (all_seen plan) w r.events done;
-      closed = λ node period within upto.
-          shown_is_exported r node period (shown plan w r.events done node period (subst (λ n. node < n) (sym nodes) within) (subst (λ n. period ≤ n) (sym is_last) upto));
+      exports = all_exports (r.voters + r.observers) last 0 plan r.events nodes is_last (exports plan nothing_seen (all_seen plan) w r.events done);
+      ballots = (let so = ballots plan nothing_seen (all_seen plan) w r.events done in omega (arith, so, is_last));
+      needed = needed plan nothing_seen (all_seen plan) w r.events done;
+      none_refused = All-weaker _ _ (λ reply so. (good_is last reply so).0) (replies_to r r.events) replies;
+      none_later = All-weaker _ _ (λ reply so. (good_is last reply so).1) (replies_to r r.events) replies;
+      closed = λ place node period asks. shown_is_exported r plan.base place period base (closed plan nothing_seen (all_seen plan) w r.events done place node period asks);
       due = λ place node period asks.
           (let so = due plan nothing_seen (all_seen plan) w r.events done place node period asks in
-          let plain : length (journals_of (take place r.events)) ≡ due_in plan period = omega (arith, so) in
+          let plain : length (journals_of (take place r.events)) ≡ due_for plan period = omega (arith, so) in
           plain ∙ same_due period);
     }
   where
-    same_due : (period : ℕ) → due_in plan period ≡ due_before is period
+    same_due : (period : ℕ) → due_for plan period ≡ due_before is period
     same_due period =
-        ap (λ cs. unwrap_or (slice_get cs period) (length plan.batches)) closes
-        ∙ ap (unwrap_or (slice_get (closes_of is) period)) (ap length batches ∙ length-map (batches_of is) (λ b. b.text))
+        ap (λ cs. due_in cs (length plan.batches) period) closes
+        ∙ ap (λ n. due_in (closes_of is) n period) (ap length batches ∙ length-map (batches_of is) (λ b. b.text))
 
 -- ---- the whole
-
-pub scheduled : (request : Request) (input text : List ℕ) (given : RateInput) (plan : LentPlan) (agents asked : ℕ) → rate_input_in input ≡ Ok given
-    → map offered_of plan.batches.now ≡ batches_of (items_of input given) → plan.closes.now ≡ closes_of (items_of input given)
-    → plan.voters ≡ request.nodes → plan.observers ≡ request.observers → plan.nodes ≡ request.nodes + request.observers
-    → agents ≡ agents_of (map offered_of plan.batches.now) → IsAskedFor request.through given.sheet.base (map offered_of plan.batches.now) asked
-    → plan.last ≡ max asked (least_last request.through (length plan.batches.now) plan.closes.now)
-    → IsCertified (plan_of plan) plan.voters plan.observers agents given.sheet given.issuer text
-    → IsScheduleOf request (Some input) input text
-scheduled request input text given plan agents asked is_given batches closes voters observers nodes are_agents is_asked is_last certified =
-    let is = items_of input given in
-    record {
-      is_input = refl;
-      given = given;
-      is_given = is_given;
-      schedule = certified.schedule;
-      is_read = certified.is_read;
-      voters = certified.has_voters ∙ voters;
-      observers = certified.has_observers ∙ observers;
-      agents = certified.has_agents ∙ (are_agents ∙ ap agents_of batches);
-      sheet = certified.by_sheet;
-      issuer = certified.by_issuer;
-      last = plan.last;
-      through = record {
-        asked = asked;
-        is_asked = subst (λ bs. IsAskedFor request.through given.sheet.base bs asked) batches is_asked;
-        is_last =
-            is_last ∙ ap (λ cs. max asked (least_last request.through (length plan.batches.now) cs)) closes
-            ∙ ap (λ n. max asked (least_last request.through n (closes_of is))) (sym (length-map plan.batches.now offered_of) ∙ ap length batches);
-      };
-      closes = closes_each (plan_of plan) certified.schedule is plan.last
-          (nodes ∙ (ap (λ n. n + request.observers) (sym (certified.has_voters ∙ voters)) ∙ ap (λ n. certified.schedule.voters + n) (sym (certified.has_observers ∙ observers))))
-          refl (ap (map (λ b. b.text)) batches) closes certified.done;
-    }
 
 pub is_asked_for : (through : Option ℕ) (base last : ℕ) (bs : List Offered) → IsLastStart base bs last → IsAskedFor through base bs (unwrap_or through last)
 is_asked_for (Some p) base last bs is = refl
 is_asked_for None base last bs is = is
 
--- ---- what is refused
+pub scheduled : (request : Request) (input text : List ℕ) (plan : LentPlan) (issuer : Issuer) (agents last asked : ℕ)
+    → IsReadInput input plan.sheet.now issuer (map offered_of plan.batches.now) plan.closes.now
+    → IsAskedBy plan.sheet.now.base (map offered_of plan.batches.now) agents last
+    → plan.voters ≡ request.nodes → plan.observers ≡ request.observers → plan.nodes ≡ request.nodes + request.observers
+    → asked ≡ unwrap_or request.through last
+    → plan.last ≡ max asked (least_last request.through (length plan.batches.now) plan.closes.now)
+    → IsCertified (plan_of plan) plan.voters plan.observers agents plan.sheet.now issuer text
+    → IsScheduleOf request (Some input) input text
+scheduled request input text plan issuer agents last asked read by voters observers nodes is_asked is certified =
+    let given = read.given in
+    let items = items_of input given in
+    let bs = map offered_of plan.batches.now in
+    let wanted : IsAskedFor request.through plan.sheet.now.base bs asked
+    = subst (IsAskedFor request.through plan.sheet.now.base bs) (sym is_asked) (is_asked_for request.through plan.sheet.now.base last bs by.is_last) in
+    record {
+      is_input = refl;
+      given = given;
+      is_given = read.is_given;
+      schedule = certified.schedule;
+      is_read = certified.is_read;
+      voters = certified.has_voters ∙ voters;
+      observers = certified.has_observers ∙ observers;
+      agents = certified.has_agents ∙ (by.are_agents ∙ ap agents_of read.batches);
+      sheet = certified.by_sheet ∙ sym read.by_sheet;
+      issuer = certified.by_issuer ∙ sym read.by_issuer;
+      last = plan.last;
+      through = record {
+        asked = asked;
+        is_asked = subst (λ (s : Sheet). IsAskedFor request.through s.base (batches_of items) asked) (sym read.by_sheet)
+            (subst (λ xs. IsAskedFor request.through plan.sheet.now.base xs asked) read.batches wanted);
+        is_last =
+            is ∙ (ap (λ cs. max asked (least_last request.through (length plan.batches.now) cs)) read.are_closes
+            ∙ ap (λ n. max asked (least_last request.through n (closes_of items))) (sym (length-map plan.batches.now offered_of) ∙ ap length read.batches));
+      };
+      closes = closes_each (plan_of plan) certified.schedule items plan.last
+          (nodes ∙ (ap (λ n. n + request.observers) (sym (certified.has_voters ∙ voters)) ∙ ap (λ n. certified.schedule.voters + n) (sym (certified.has_observers ∙ observers))))
+          refl (ap (λ (s : Sheet). s.base) (sym certified.by_sheet)) (ap (map (λ b. b.text)) read.batches) read.are_closes certified.done;
+    }
 
-pub refused_at : (input : List ℕ) (given : RateInput) (bs : List Offered) (line : ℕ) (why : Refusal) → rate_input_in input ≡ Ok given → bs ≡ batches_of (items_of input given)
-    → IsRefusedAmong input given.sheet given.issuer bs line why → IsRefusedAt input line why
-refused_at input given bs line why is_given same is =
+-- ---- what is refused, or not
+
+pub refused_at : (input : List ℕ) (given : RateInput) (bs : List Offered) (told : List ℕ) → rate_input_in input ≡ Ok given → bs ≡ batches_of (items_of input given)
+    → IsRefusedAmong input given.sheet given.issuer bs told → IsRefusedAt input told
+refused_at input given bs told is_given same is =
     record {
       given = given;
       is_given = is_given;
@@ -108,31 +121,7 @@ refused_at input given bs line why is_given same is =
       behind = is.behind;
       all = sym same ∙ is.all;
       taken = is.taken;
-      refused = is.refused;
-      at_line = is.at_line;
+      why = is.refused.why;
+      refused = is.refused.refused;
+      is_told = is.refused.is_told;
     }
-
--- ---- of what was read
-
-pub read_schedule : (request : Request) (input text : List ℕ) (sheet : Sheet) (issuer : Issuer) (plan : LentPlan) (agents last : ℕ)
-    → IsReadInput input sheet issuer (map offered_of plan.batches.now) plan.closes.now → plan.voters ≡ request.nodes → plan.observers ≡ request.observers
-    → plan.nodes ≡ request.nodes + request.observers → agents ≡ agents_of (map offered_of plan.batches.now)
-    → IsLastStart sheet.base (map offered_of plan.batches.now) last → (asked : ℕ) → asked ≡ unwrap_or request.through last
-    → plan.last ≡ max asked (least_last request.through (length plan.batches.now) plan.closes.now)
-    → IsCertified (plan_of plan) plan.voters plan.observers agents sheet issuer text
-    → IsScheduleOf request (Some input) input text
-read_schedule request input text sheet issuer plan agents last read voters observers nodes are_agents is_last asked is_asked is certified =
-    scheduled request input text read.given plan agents asked read.is_given read.batches read.are_closes voters observers nodes are_agents
-    (subst (IsAskedFor request.through read.given.sheet.base (map offered_of plan.batches.now)) (sym is_asked)
-    (is_asked_for request.through read.given.sheet.base last (map offered_of plan.batches.now)
-    (subst (λ s. IsLastStart s.base (map offered_of plan.batches.now) last) (sym read.by_sheet) is_last)))
-    is
-    (subst (λ s. IsCertified (plan_of plan) plan.voters plan.observers agents s read.given.issuer text) (sym read.by_sheet)
-    (subst (λ i. IsCertified (plan_of plan) plan.voters plan.observers agents sheet i text) (sym read.by_issuer) certified))
-
-pub read_refused : (input : List ℕ) (sheet : Sheet) (issuer : Issuer) (bs : List Offered) (closes : List ℕ) (line : ℕ) (why : Refusal)
-    → IsReadInput input sheet issuer bs closes → IsRefusedAmong input sheet issuer bs line why → IsRefusedAt input line why
-read_refused input sheet issuer bs closes line why read is =
-    refused_at input read.given bs line why read.is_given read.batches
-    (subst (λ s. IsRefusedAmong input s read.given.issuer bs line why) (sym read.by_sheet)
-    (subst (λ i. IsRefusedAmong input sheet i bs line why) (sym read.by_issuer) is))

@@ -15,7 +15,7 @@ abbrev pub tells_of_reader : {A : Type 0} → Result A WriteFault → Bool
 tells_of_reader (Ok x) = false
 tells_of_reader (Err Read) = true
 tells_of_reader (Err (Section fault)) = false
-tells_of_reader (Err (Refused line refusal)) = false
+tells_of_reader (Err (Refused told)) = false
 tells_of_reader (Err TooLong) = false
 tells_of_reader (Err NotClosed) = false
 tells_of_reader (Err Write) = false
@@ -26,7 +26,7 @@ abbrev pub tells_of_writer : {A : Type 0} → Result A WriteFault → Bool
 tells_of_writer (Ok x) = false
 tells_of_writer (Err Read) = false
 tells_of_writer (Err (Section fault)) = false
-tells_of_writer (Err (Refused line refusal)) = false
+tells_of_writer (Err (Refused told)) = false
 tells_of_writer (Err TooLong) = false
 tells_of_writer (Err NotClosed) = false
 tells_of_writer (Err Write) = true

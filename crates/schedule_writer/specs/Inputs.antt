@@ -1,6 +1,7 @@
 -- What an input asks to be journaled and to be closed, in its order.
-use Rattle.std.specs.Prelude.{◌≡◌, ◌≤◌, ◌⊎◌, ℕ, zero, suc, ◌+◌, ◌-◌, ◌==◌, Bool, true, false, IsTrue, if◌then◌else◌, max, fold, map, List, [], ◌∷◌, ◌++◌, length, take, drop, Option, Some, None, Result, Ok, Err, unwrap_or, slice_get, nat_lt, codes}
-use Rattle.std.specs.List.{filter_map, list_all, position}
+use Rattle.std.specs.Prelude.{◌≡◌, ◌≤◌, ◌⊎◌, ℕ, zero, suc, ◌+◌, ◌-◌, ◌==◌, Bool, true, false, if◌then◌else◌, max, fold, map, List, [], ◌∷◌, length, take, drop, Option, Some, None, Result, Ok, Err, unwrap_or, slice_get, nat_lt, codes}
+use Rattle.std.specs.List.{flat_map, list_all, position}
+use Rattle.metering_model.specs.Limits.{last_period}
 use Rattle.metering_model.specs.Batch.{is_empty}
 use Rattle.metering_model.specs.declared.BatchCode.{BatchCode}
 use Rattle.metering_model.specs.declared.BatchCode.TheVariants.{Head}
@@ -76,6 +77,14 @@ items_in (suc most) input from =
 unfoldable pub items_of : List ℕ → RateInput → List Item
 items_of input given = items_in (length input) input (length input - length given.batch)
 
+-- the text of an item, and that of items, one behind the other
+abbrev pub item_text : Item → List ℕ
+item_text (Offers b) = b.text
+item_text Closes = close_line
+
+abbrev pub items_text : List Item → List ℕ
+items_text is = flat_map item_text is
+
 -- the batches, in the order in which they are journaled
 abbrev pub batches_of : List Item → List Offered
 batches_of [] = []
@@ -91,9 +100,12 @@ closes_from n (Closes ∷ is) = n ∷ closes_from n is
 abbrev pub closes_of : List Item → List ℕ
 closes_of is = closes_from 0 is
 
--- how many batches are journaled before a period is closed: those above its line, and where it has none all
+-- of so many batches, how many are journaled before a period is closed: those above its line, and where it has none all
+abbrev pub due_in : List ℕ → ℕ → ℕ → ℕ
+due_in closes count p = unwrap_or (slice_get closes p) count
+
 abbrev pub due_before : List Item → ℕ → ℕ
-due_before is p = unwrap_or (slice_get (closes_of is) p) (length (batches_of is))
+due_before is p = due_in (closes_of is) (length (batches_of is)) p
 
 -- ---- the group, and the last period
 
@@ -105,11 +117,11 @@ agents_of bs = fold max 1 (map (λ b. (batch_of b.text).agent) bs)
 abbrev pub are_due : ℕ → ℕ → List Offered → Bool
 are_due base p bs = list_all (λ b. is_due base p (batch_of b.text)) bs
 
--- The last period in which a reading starts, of 1,200: no reading starts behind it, unless it is the last of these, and one starts
--- in it, unless it is the first.
+-- The last period in which a reading starts: no reading starts behind it, unless it is the last that a group has, and one starts in
+-- it, unless it is the first.
 pub record IsLastStart (base : ℕ) (bs : List Offered) (p : ℕ) : Type 0 where
-  pub within : p ≤ 1_199
-  pub none_behind : (p ≡ 1_199) ⊎ (are_due base p bs ≡ true)
+  pub within : p ≤ last_period
+  pub none_behind : (p ≡ last_period) ⊎ (are_due base p bs ≡ true)
   pub one_there : (p ≡ 0) ⊎ (are_due base (p - 1) bs ≡ false)
 
 -- the period that is asked for, or else the last one in which a reading starts

@@ -3,4 +3,5 @@ pub mod Requests
 pub mod Inputs
 pub mod Refusals
 pub mod Schedules
+pub mod Checks
 pub mod Inner

@@ -1,38 +1,65 @@
-//! Whether a text is a schedule that does what was planned. It is read as `play` reads it, and its events are done; the files
-//! are not made.
+//! Whether a text is a schedule that does what was planned. It is read as `play` reads it, and its events are done as they are read;
+//! the files are not made.
 
-ghost use Rattle.std.specs.Prelude.{◌≡◌, ◌+◌, ◌≤◌, All, IfOk, Ok, OnOk, Some, map};
+ghost use Rattle.std.specs.Prelude.{◌≡◌, ◌+◌, ◌≤◌, IfOk, Ok, OnOk, Some};
+ghost use Rattle.metering_model.specs.Limits.{last_period, most_agents, most_nodes};
 ghost use Rattle.metering_model.specs.Schedule.{event_of};
 ghost use Rattle.metering_model.specs.Step.{step};
+ghost use Rattle.group_events.specs.Events.{event_of as offered_event};
 ghost use Rattle.schedule_reader.specs.Events.{HasWholeLines, planned_of};
-ghost use Rattle.schedule_reader.specs.Schedules.{schedule_in};
+ghost use Rattle.schedule_reader.specs.Schedules.{events_in, preamble_in};
 ghost use Rattle.schedule_writer.specs.Inner.Certified.{IsCertified};
-ghost use Rattle.schedule_writer.specs.Inner.Plans.{behind, behind_all, nothing_seen, plan_of};
+ghost use Rattle.schedule_writer.specs.Inner.Plans.{IsDone, behind, journals_behind, nothing_seen, plan_of};
 
 use crate::faults::Stop;
 use crate::plans::{Plan, Seen};
-use input_sections::ScheduleFault;
+use batch_store::Store;
+use group_events::{Event, Offer};
+use input_sections::{ScheduleFault, Unread};
 use price_sheet::{Issuer, Sheet};
 use schedule_player::{World, event_of, opening_world};
-use schedule_reader::{Planned, Schedule};
+use schedule_reader::{Planned, Preamble, event_in};
 use std::alloc::Global;
+use std::sync::Arc;
+
+/// Keeps the batch of an event that was taken, if it has one: the journals are looked at when a file is shown.
+fn keep_batch(journals: &mut Store, event: &Event) -> Result<(), Stop>
+    ensures { OnOk result (journals.new.batches ≡ journals_behind journals.old.batches (offered_event event.now)) }
+{
+    let Event::Journal(Offer::Good(batch)) = event else {
+        return Ok(());
+    };
+    if batch.view().agent() > journals.agents() {
+        return Err(Stop::NotClosed);
+    }
+    let Ok(shared) = Arc::try_clone(batch) else {
+        return Err(Stop::OutOfMemory);
+    };
+    match journals.put(shared) {
+        Ok(_) => Ok(()),
+        Err(_) => Err(Stop::OutOfMemory),
+    }
+}
 
 /// Does one event, and answers what was done behind it.
 fn do_event(
     alloc: Global,
     plan: &Plan<'_>,
     world: &mut World,
+    journals: &mut Store,
     seen: Seen,
     planned: &Planned<'_>,
 ) -> Result<Seen, Stop>
-    requires nodes { plan.now.nodes ≤ 99 }
-    requires last { plan.now.last ≤ 1_199 }
+    requires nodes { plan.now.nodes ≤ most_nodes }
+    requires last { plan.now.last ≤ last_period }
     requires whole { HasWholeLines planned.now }
+    requires same { journals.old.batches ≡ world.old.journals }
     ensures seen { IfOk result
-        (λ next. behind (plan_of plan.now) seen
+        (λ next. behind (plan_of plan.now) seen world.old.journals
         (step world.old (event_of (planned_of planned.now))).0 (planned_of planned.now)
         ≡ Some next) }
     ensures world { OnOk result (world.new ≡ (step world.old (event_of (planned_of planned.now))).1) }
+    ensures journals { OnOk result (journals.new.batches ≡ world.new.journals) }
 {
     let Ok(event) = event_of(alloc, planned) else {
         return Err(Stop::OutOfMemory);
@@ -40,64 +67,75 @@ fn do_event(
     let Ok(reply) = world.step(alloc, &event) else {
         return Err(Stop::OutOfMemory);
     };
-    match plan.behind(seen, planned, &reply) {
-        Some(seen) => Ok(seen),
-        None => Err(Stop::NotClosed),
-    }
+    let Some(next) = plan.behind(alloc, seen, journals, planned, &reply)? else {
+        return Err(Stop::NotClosed);
+    };
+    keep_batch(journals, &event)?;
+    Ok(next)
 }
 
-/// Does the events in turn, and answers what was done behind them.
+/// Does the events that are left in turn as they are read, no more than `most`, and answers what was done behind them.
 fn do_events(
     alloc: Global,
     plan: &Plan<'_>,
     world: &mut World,
-    events: &[Planned<'_>],
+    journals: &mut Store,
+    unread: Unread<'_>,
+    most: usize,
 ) -> Result<Seen, Stop>
-    requires nodes { plan.now.nodes ≤ 99 }
-    requires last { plan.now.last ≤ 1_199 }
-    requires whole { All HasWholeLines events.now }
-    ensures { IfOk result (λ seen. behind_all (plan_of plan.now) nothing_seen world.old
-        (map planned_of events.now) ≡ Some seen) }
+    requires nodes { plan.now.nodes ≤ most_nodes }
+    requires last { plan.now.last ≤ last_period }
+    requires same { journals.old.batches ≡ world.old.journals }
+    ensures { IfOk result
+        (λ seen. IsDone (plan_of plan.now) nothing_seen seen world.old (events_in most unread.entry)) }
 {
     let mut seen = Seen {
         journaled: 0,
+        ballots: 0,
         node: 0,
         period: 0,
     };
-    for planned in events {
-        seen = do_event(alloc, plan, world, seen, planned)?;
+    let mut here = unread;
+    for _ in 0..most {
+        if here.left().is_empty() {
+            return Ok(seen);
+        }
+        let (planned, rest) = match event_in(&here) {
+            Ok(parts) => parts,
+            Err(_) => return Err(Stop::NotClosed),
+        };
+        seen = do_event(alloc, plan, world, journals, seen, &planned)?;
+        here = rest;
     }
     Ok(seen)
 }
 
-/// The schedule that a text is, by this sheet and this issuer, of a group of that size.
-fn read_back<'a>(
+/// What stands above the events of a text, where it is of that group, by this sheet and this issuer.
+fn read_above<'a>(
     alloc: Global,
     plan: &Plan<'_>,
     agents: u8,
-    sheet: &Sheet,
     issuer: &Issuer,
     text: &'a [u8],
-) -> Result<Schedule<'a>, Stop>
-    ensures taken { IfOk result (λ s. schedule_in text.now
-        ≡ Ok (record { voters = s.voters; observers = s.observers; agents = s.agents; sheet = s.sheet; issuer = s.issuer; events = map planned_of s.events.items })) }
-    ensures lines { IfOk result (λ s. All HasWholeLines s.events.items) }
+) -> Result<Preamble<'a>, Stop>
+    ensures taken { IfOk result (λ p. preamble_in text.now
+        ≡ Ok (record { voters = p.voters; observers = p.observers; agents = p.agents; sheet = p.sheet; issuer = p.issuer; rest = p.rest })) }
     ensures group { IfOk result
-        (λ s. (s.voters ≡ plan.now.voters) × (s.observers ≡ plan.now.observers)
-        × (s.agents ≡ agents)) }
-    ensures sheet { IfOk result (λ s. s.sheet ≡ sheet.now) }
-    ensures issuer { IfOk result (λ s. s.issuer ≡ issuer.now) }
+        (λ p. (p.voters ≡ plan.now.voters) × (p.observers ≡ plan.now.observers)
+        × (p.agents ≡ agents)) }
+    ensures sheet { IfOk result (λ p. p.sheet ≡ plan.now.sheet.now) }
+    ensures issuer { IfOk result (λ p. p.issuer ≡ issuer.now) }
 {
-    let schedule = match Schedule::read(alloc, text) {
-        Ok(schedule) => schedule,
+    let above = match Preamble::read(alloc, text) {
+        Ok(above) => above,
         Err(ScheduleFault::OutOfMemory) => return Err(Stop::OutOfMemory),
         Err(_) => return Err(Stop::NotClosed),
     };
-    let is_group = schedule.voters == plan.voters
-        && schedule.observers == plan.observers
-        && schedule.agents == agents;
-    if is_group && schedule.sheet.same(sheet) && schedule.issuer.same(issuer) {
-        Ok(schedule)
+    let is_group = above.voters == plan.voters
+        && above.observers == plan.observers
+        && above.agents == agents;
+    if is_group && above.sheet.same(plan.sheet) && above.issuer.same(issuer) {
+        Ok(above)
     } else {
         Err(Stop::NotClosed)
     }
@@ -108,30 +146,32 @@ pub(crate) fn certify(
     alloc: Global,
     plan: &Plan<'_>,
     agents: u8,
-    sheet: &Sheet,
     issuer: &Issuer,
     text: &[u8],
 ) -> Result<(), Stop>
     requires voters { 1 ≤ plan.now.voters }
-    requires nodes { (plan.now.nodes ≡ plan.now.voters + plan.now.observers) × (plan.now.nodes ≤ 99) }
-    requires last { plan.now.last ≤ 1_199 }
-    requires agents { (1 ≤ agents) × (agents ≤ 64) }
-    ensures { OnOk result (IsCertified
-        (plan_of plan.now) plan.now.voters plan.now.observers agents sheet.now issuer.now text.now) }
+    requires nodes { (plan.now.nodes ≡ plan.now.voters + plan.now.observers) × (plan.now.nodes ≤ most_nodes) }
+    requires last { plan.now.last ≤ last_period }
+    requires agents { (1 ≤ agents) × (agents ≤ most_agents) }
+    ensures { OnOk result (IsCertified (plan_of plan.now)
+        plan.now.voters plan.now.observers agents plan.now.sheet.now issuer.now text.now) }
 {
-    let schedule = read_back(alloc, plan, agents, sheet, issuer, text)?;
-    let Schedule {
+    let above = read_above(alloc, plan, agents, issuer, text)?;
+    let Preamble {
         voters,
         observers,
         agents,
         sheet,
         issuer,
-        events,
-    } = schedule;
+        rest,
+    } = above;
     let Ok(mut world) = opening_world(alloc, voters, observers, agents, sheet, issuer) else {
         return Err(Stop::OutOfMemory);
     };
-    let seen = do_events(alloc, plan, &mut world, &events)?;
+    let Ok(mut journals) = Store::new(alloc, agents) else {
+        return Err(Stop::OutOfMemory);
+    };
+    let seen = do_events(alloc, plan, &mut world, &mut journals, rest, text.len())?;
     if plan.is_done(seen) {
         Ok(())
     } else {

@@ -1,6 +1,7 @@
 //! What a schedule tells to happen: batches are journaled, and periods are closed.
 
 ghost use Rattle.std.specs.Prelude.{◌≤◌};
+ghost use Rattle.metering_model.specs.Limits.{last_period};
 
 use crate::drafts::Draft;
 use crate::faults::Stop;
@@ -9,6 +10,9 @@ use crate::plans::Plan;
 use byte_text::{Line, line_count};
 use input_sections::{ScheduleCode, Unread, read_section};
 use std::alloc::Global;
+
+/// A sheet has no more lines than this.
+const MOST_SHEET_LINES: u32 = 200_000;
 
 /// A sheet without rows, as it is taken where the input has none.
 const EMPTY_SHEET: &[u8] = b"sheet 1\nbase = \"2025-01\"\n";
@@ -25,7 +29,7 @@ fn sheet_end(input: &[u8]) -> Option<usize> {
     if !unread.begins_with(b"sheet ") {
         return Some(0);
     }
-    match read_section(&unread, ScheduleCode::Sheet, b"sheet ", 200_000) {
+    match read_section(&unread, ScheduleCode::Sheet, b"sheet ", MOST_SHEET_LINES) {
         Ok(section) => Some(section.rest.from()),
         Err(_) => None,
     }
@@ -127,7 +131,7 @@ fn put_closed(draft: &mut Draft, voters: u8, nodes: u8, period: u16) -> Result<(
 
 /// Appends all that happens: before each period is closed the batches above it are journaled, and those that are left at the end.
 fn put_events(draft: &mut Draft, plan: &Plan<'_>) -> Result<(), Stop>
-    requires { plan.now.last ≤ 1_199 }
+    requires { plan.now.last ≤ last_period }
 {
     let mut journaled = 0;
     for period in 0..plan.last + 1 {
@@ -153,7 +157,7 @@ pub(crate) fn schedule_for(
     input: &[u8],
     batch_from: usize,
 ) -> Result<Vec<u8>, Stop>
-    requires { plan.now.last ≤ 1_199 }
+    requires { plan.now.last ≤ last_period }
 {
     let mut draft = Draft::new(alloc);
     put_above(&mut draft, plan, agents, input, batch_from)?;

@@ -1,11 +1,10 @@
 //! Why no schedule was written, or not all of one.
 
 use input_sections::ScheduleFault;
-use metering_model::Refusal;
 use thiserror::Error;
 
 /// Why no schedule was written, or not all of one.
-#[derive(Clone, Copy, Debug, PartialEq, Eq, Drop, Error)]
+#[derive(Debug, Drop, Error)]
 pub enum WriteFault {
     /// A call of the reader failed.
     #[error("read failed")]
@@ -13,9 +12,9 @@ pub enum WriteFault {
     /// A section of the input is refused, or the input is too long.
     #[error("refused {0}")]
     Section(ScheduleFault),
-    /// The journals refuse a batch, at this line of the input, counted from 1.
-    #[error("line {line}: {refusal}")]
-    Refused { line: u32, refusal: Refusal },
+    /// The journals refuse a batch: in the words of `check`, with the line of the input, and without a line feed.
+    #[error("refused")]
+    Refused(Vec<u8>),
     /// The schedule would have more bytes, or more packets, than a schedule may have.
     #[error("too long")]
     TooLong,

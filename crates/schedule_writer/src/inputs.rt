@@ -1,13 +1,12 @@
 //! What stands behind the sections of an input: batches, and lines that close a period.
 
-ghost use Rattle.std.specs.Prelude.{◌≡◌, ◌+◌, ◌<◌, ◌≤◌, ◌++◌, ◌∷◌, [], IfOk, drop, length, map};
-ghost use Rattle.schedule_writer.specs.Inputs.{batches_of, closes_from, head_text, item_at, item_length, items_in, lacks_head, offered_length};
-ghost use Rattle.schedule_writer.specs.Inner.Plans.{offered_of};
+ghost use Rattle.std.specs.Prelude.{◌≡◌, ◌+◌, ◌<◌, ◌≤◌, drop, length};
+ghost use Rattle.schedule_writer.specs.Inputs.{head_text, item_at, item_length, lacks_head, offered_length};
+ghost use Rattle.schedule_writer.specs.Inner.Plans.{item_of};
 
 use batch_view::{BatchCode, BatchView};
 use byte_text::find_byte;
 use input_sections::behind_word;
-use std::alloc::{AllocError, Global};
 
 /// What is offered as a batch.
 #[derive(Clone, Copy, Drop)]
@@ -17,11 +16,12 @@ pub(crate) struct Offered<'a> {
     pub(crate) text: &'a [u8],
 }
 
-/// The batches of an input, and how many of them stand above each line that closes a period.
-#[derive(Drop)]
-pub(crate) struct Items<'a> {
-    pub(crate) batches: Vec<Offered<'a>>,
-    pub(crate) closes: Vec<usize>,
+/// What stands next in an input.
+#[derive(Clone, Copy, Drop)]
+pub(crate) enum Item<'a> {
+    Offers(Offered<'a>),
+    /// A line that closes the period which is open.
+    Closes,
 }
 
 /// The first line with its line feed; all of the text where it has none.
@@ -63,55 +63,21 @@ fn offered_length(text: &[u8]) -> usize
     }
 }
 
-/// Puts the item that begins at a byte of the input behind those above it, and answers how many bytes it has.
-fn put_item<'a>(input: &'a [u8], from: usize, items: &mut Items<'a>) -> Result<usize, AllocError>
+/// The item that begins at a byte of the input, and how many bytes it has.
+pub(crate) fn item_at<'a>(input: &'a [u8], from: usize) -> (Item<'a>, usize)
     requires { from ≤ length input.now }
-    ensures length { IfOk result (λ n. n ≡ item_length (drop from input.now)) }
-    ensures within { IfOk result (λ n. from + n ≤ length input.now) }
-    ensures batches { IfOk result (λ _. map offered_of items.new.batches.items
-        ≡ map offered_of items.old.batches.items ++ batches_of (item_at input.now from ∷ [])) }
-    ensures closes { IfOk result (λ _. items.new.closes.items
-        ≡ items.old.closes.items ++ closes_from (length items.old.batches.items) (item_at input.now from ∷ [])) }
+    ensures item { item_of result.0 ≡ item_at input.now from }
+    ensures length { result.1 ≡ item_length (drop from input.now) }
+    ensures within { from + result.1 ≤ length input.now }
 {
     let left = &input[from..];
     if behind_word(left, b"close\n").is_some() {
-        items.closes.push(items.batches.len())?;
-        return Ok(6);
+        return (Item::Closes, 6);
     }
     let length = offered_length(left);
-    let Ok(_) = items.batches.push(Offered {
+    let offered = Offered {
         from,
         text: &left[..length],
-    })
-    else {
-        return Err(AllocError);
     };
-    Ok(length)
-}
-
-/// The items from a byte of the input on.
-pub(crate) fn read_items<'a>(
-    alloc: Global,
-    input: &'a [u8],
-    from: usize,
-) -> Result<Items<'a>, AllocError>
-    requires { from ≤ length input.now }
-    ensures batches { IfOk result
-        (λ items. map offered_of items.batches.items
-        ≡ batches_of (items_in (length input.now) input.now from)) }
-    ensures closes { IfOk result
-        (λ items. items.closes.items ≡ closes_from 0 (items_in (length input.now) input.now from)) }
-{
-    let mut items = Items {
-        batches: Vec::new(alloc),
-        closes: Vec::new(alloc),
-    };
-    let mut here = from;
-    for _ in 0..input.len() {
-        if here == input.len() {
-            return Ok(items);
-        }
-        here += put_item(input, here, &mut items)?;
-    }
-    Ok(items)
+    (Item::Offers(offered), length)
 }

@@ -1,27 +1,27 @@
 //! Whether the journals take the batches, and what these ask of a group.
 
-ghost use Rattle.std.specs.Prelude.{◌≡◌, ◌+◌, ◌≤◌, ℕ, IfErr, IfOk, OnOk, Ok, Err, Some, None, map, max};
+ghost use Rattle.std.specs.Prelude.{◌≡◌, ◌≤◌, ◌+◌, ◌++◌, ◌∷◌, [], ℕ, List, All, IfErr, IfOk, OnOk, Ok, map, max, length, drop};
 ghost use Rattle.std.specs.Arc.{arc_value};
+ghost use Rattle.metering_model.specs.Batch.{Batch};
+ghost use Rattle.metering_model.specs.BatchReading.{batch_in};
 ghost use Rattle.metering_model.specs.Front.{is_due};
+ghost use Rattle.metering_model.specs.Limits.{last_period, most_agents};
+ghost use Rattle.metering_model.specs.RatedAlone.{world_before};
+ghost use Rattle.metering_model.specs.Sheet as model;
 ghost use Rattle.metering_model.specs.Step.{step};
-ghost use Rattle.metering_model.specs.World.{Journal, Refused, offer_of as model_offer};
-ghost use Rattle.metering_model.specs.declared.Refusal.{Refusal};
+ghost use Rattle.metering_model.specs.Transcript.{line};
 ghost use Rattle.batch_view.specs.Batches.{batch_of};
-ghost use Rattle.schedule_writer.specs.Inputs.{IsLastStart, agents_of};
-ghost use Rattle.schedule_writer.specs.Refusals.{IsJournaled, IsLineOf, answer_to, world_before};
-ghost use Rattle.schedule_writer.specs.Inner.Judged.{IsLaterStart, IsOfBatches, IsRefusedAmong};
-ghost use Rattle.schedule_writer.specs.Inner.Plans.{offered_of};
-ghost use Rattle.group_events.specs.Events.{event_of};
 ghost use Rattle.group_events.specs.Offers.{IsOfferOf};
-ghost use Rattle.group_events.specs.Replies.{reply_of};
+ghost use Rattle.schedule_writer.specs.Inputs.{batches_of, closes_from, closes_of, item_at, item_length, items_in};
+ghost use Rattle.schedule_writer.specs.Refusals.{IsJournaled, answer_to, answers_to, journal_of};
+ghost use Rattle.schedule_writer.specs.Inner.Judged.{IsAskedBy, IsAskedWithin, IsJudged, IsLaterStart, IsRefusedAmong, IsRefusedHere, IsRefusedNow, IsRefusedOr};
+ghost use Rattle.schedule_writer.specs.Inner.Plans.{offered_of};
 
-use crate::faults::{Stop, WriteFault};
-use crate::inputs::Offered;
-use crate::lines::first_refused;
+use crate::faults::WriteFault;
+use crate::inputs::{Item, Offered, item_at};
+use crate::lines::journal_offered;
 use batch_view::OwnedBatch;
-use byte_text::line_count;
-use group_events::{Event, Offer, Period, Reply};
-use metering_model::Refusal;
+use group_events::{Event, Offer, Period};
 use price_sheet::{Issuer, Sheet};
 use schedule_player::World;
 use std::alloc::{AllocError, Global};
@@ -39,8 +39,16 @@ pub(crate) struct Asked {
     pub(crate) last: u16,
 }
 
+/// The batches of an input, how many of them stand above each line that closes a period, and what they ask.
+#[derive(Drop)]
+pub(crate) struct Items<'a> {
+    pub(crate) batches: Vec<Offered<'a>>,
+    pub(crate) closes: Vec<usize>,
+    pub(crate) asked: Asked,
+}
+
 /// What is offered of a text, which is copied once.
-fn read_offer(alloc: Global, text: &[u8]) -> Result<Offer, AllocError>
+pub(crate) fn read_offer(alloc: Global, text: &[u8]) -> Result<Offer, AllocError>
     ensures { IfOk result (IsOfferOf text.now) }
 {
     let bytes = Vec::from_slice(alloc, text)?;
@@ -49,7 +57,7 @@ fn read_offer(alloc: Global, text: &[u8]) -> Result<Offer, AllocError>
 
 /// Whether each reading of the batch starts before the end of the period.
 fn is_due(sheet: &Sheet, batch: &OwnedBatch, period: u16) -> bool
-    requires { period ≤ 1_199 }
+    requires { period ≤ last_period }
     ensures { result ≡ is_due sheet.now.base period (batch_of batch.now) }
 {
     match Period::new(period) {
@@ -60,7 +68,7 @@ fn is_due(sheet: &Sheet, batch: &OwnedBatch, period: u16) -> bool
 
 /// The last period in which a reading of the batch starts, or this one, where that is later.
 fn later_start(sheet: &Sheet, batch: &OwnedBatch, before: u16) -> u16
-    requires { before ≤ 1_199 }
+    requires { before ≤ last_period }
     ensures { IsLaterStart sheet.now.base (batch_of batch.now) before result }
 {
     for period in before..LAST_PERIOD {
@@ -71,96 +79,13 @@ fn later_start(sheet: &Sheet, batch: &OwnedBatch, before: u16) -> u16
     LAST_PERIOD
 }
 
-/// The line of the input that stands so many lines below these.
-fn line_at(above: usize, below: u32) -> Result<u32, Stop>
-    ensures { IfOk result (λ line. line ≡ above + below) }
-{
-    let line = above as u128 + u128::from(below);
-    if line <= 4_294_967_295 {
-        Ok(line as u32)
-    } else {
-        Err(Stop::TooLong)
-    }
-}
-
-/// The line of the input at which a batch is refused. The world is as it was before that.
-fn refused_line(
-    alloc: Global,
-    world: &mut World,
-    input: &[u8],
-    offered: &Offered<'_>,
-    refusal: Refusal,
-) -> Result<u32, Stop>
-    ensures { IfOk result (λ line. IsLineOf input.now world.old (offered_of offered.now) refusal line) }
-{
-    let Some(front) = input.get(..offered.from) else {
-        return Err(Stop::NotClosed);
-    };
-    let above = line_count(front);
-    match refusal {
-        Refusal::BadBatch(fault) => line_at(above, fault.line),
-        Refusal::BadTarget | Refusal::Unpriced => {
-            let index = first_refused(alloc, world, offered.text, refusal)?;
-            line_at(above, index + 2)
-        }
-        _ => line_at(above, 1),
-    }
-}
-
-/// What is answered to a refused batch.
-fn refused(
-    alloc: Global,
-    world: &mut World,
-    input: &[u8],
-    offered: &Offered<'_>,
-    refusal: Refusal,
-) -> WriteFault
-    ensures line { (line : ℕ) (why : Refusal) → result ≡ WriteFault.Refused line why
-        → (refusal ≡ why) × IsLineOf input.now world.old (offered_of offered.now) why line }
-    ensures others { IsOfBatches result }
-{
-    // A group that can send no packet more would need a longer schedule than there is.
-    if matches!(refusal, Refusal::WorldFull) {
-        return WriteFault::TooLong;
-    }
-    match refused_line(alloc, world, input, offered, refusal) {
-        Ok(line) => WriteFault::Refused { line, refusal },
-        Err(stop) => WriteFault::from(stop),
-    }
-}
-
-/// Why a reply refuses, or None where a batch was journaled.
-fn refusal_of(reply: &Reply) -> Result<Option<Refusal>, Stop>
-    ensures taken { result ≡ Ok None → IsJournaled (reply_of reply.now) }
-    ensures refused { (why : Refusal) → result ≡ Ok (Some why) → reply_of reply.now ≡ Refused why }
-{
-    match reply {
-        Reply::Journaled { .. } => Ok(None),
-        Reply::Refused(refusal) => Ok(Some(*refusal)),
-        _ => Err(Stop::NotClosed),
-    }
-}
-
-/// Does the event of a journal, and answers why it is refused, if it is. A refusal leaves the world as it was.
-fn journal(alloc: Global, world: &mut World, event: &Event) -> Result<Option<Refusal>, Stop>
-    ensures taken { result ≡ Ok None → IsJournaled (step world.old (event_of event.now)).0 }
-    ensures world { result ≡ Ok None → world.new ≡ (step world.old (event_of event.now)).1 }
-    ensures refused { (why : Refusal) → result ≡ Ok (Some why) → (step world.old (event_of event.now)).0 ≡ Refused why }
-    ensures kept { (why : Refusal) → result ≡ Ok (Some why) → world.new ≡ world.old }
-{
-    let Ok(reply) = world.step(alloc, event) else {
-        return Err(Stop::OutOfMemory);
-    };
-    refusal_of(&reply)
-}
-
 /// What one more batch asks too.
 fn with_batch(sheet: &Sheet, asked: Asked, batch: &OwnedBatch) -> Asked
-    requires last { asked.last ≤ 1_199 }
-    requires agents { (1 ≤ asked.agents) × (asked.agents ≤ 64) }
+    requires last { asked.last ≤ last_period }
+    requires agents { (1 ≤ asked.agents) × (asked.agents ≤ most_agents) }
     ensures agents { result.agents ≡ max asked.agents (batch_of batch.now).agent }
     ensures last { IsLaterStart sheet.now.base (batch_of batch.now) asked.last result.last }
-    ensures within { (result.last ≤ 1_199) × (1 ≤ result.agents) × (result.agents ≤ 64) }
+    ensures within { (result.last ≤ last_period) × (1 ≤ result.agents) × (result.agents ≤ most_agents) }
 {
     Asked {
         agents: asked.agents.max(batch.view().agent()),
@@ -168,7 +93,32 @@ fn with_batch(sheet: &Sheet, asked: Asked, batch: &OwnedBatch) -> Asked
     }
 }
 
-/// Journals one more batch, and answers what it asks too, or why and where it is refused.
+/// What is asked with one more offer, where it is a batch.
+fn asked_too(sheet: &Sheet, asked: Asked, offer: &Offer) -> Asked
+    requires last { asked.last ≤ last_period }
+    requires agents { (1 ≤ asked.agents) × (asked.agents ≤ most_agents) }
+    ensures agents { (text : List ℕ) (b : Batch) → IsOfferOf text offer.now → batch_in text ≡ Ok b
+        → result.agents ≡ max asked.agents (batch_of text).agent }
+    ensures last { (text : List ℕ) (b : Batch) → IsOfferOf text offer.now → batch_in text ≡ Ok b
+        → IsLaterStart sheet.now.base (batch_of text) asked.last result.last }
+    ensures within { (result.last ≤ last_period) × (1 ≤ result.agents) × (result.agents ≤ most_agents) }
+{
+    match offer {
+        Offer::Good(batch) => with_batch(sheet, asked, batch),
+        Offer::Bad(_) => asked,
+    }
+}
+
+/// A line without its line feed, as why a schedule is refused.
+fn refused(told: Vec<u8>) -> WriteFault
+    ensures { (text : List ℕ) → told.items ≡ line text → IsRefusedOr (λ words. words ≡ text) result }
+{
+    let mut told = told;
+    told.pop();
+    WriteFault::Refused(told)
+}
+
+/// Journals one more batch, and answers what it asks too, or why it is refused.
 fn judge(
     alloc: Global,
     world: &mut World,
@@ -177,37 +127,37 @@ fn judge(
     offered: &Offered<'_>,
     asked: Asked,
 ) -> Result<Asked, WriteFault>
-    requires last { asked.last ≤ 1_199 }
-    requires agents { (1 ≤ asked.agents) × (asked.agents ≤ 64) }
+    requires from { offered.now.from ≤ length input.now }
+    requires last { asked.last ≤ last_period }
+    requires agents { (1 ≤ asked.agents) × (asked.agents ≤ most_agents) }
     ensures journaled { OnOk result (IsJournaled (answer_to world.old offered.now.text.now)) }
-    ensures world { OnOk result (world.new ≡ (step world.old (Journal (model_offer offered.now.text.now))).1) }
+    ensures world { OnOk result (world.new ≡ (step world.old (journal_of (offered_of offered.now))).1) }
     ensures agents { IfOk result (λ r. r.agents ≡ max asked.agents (batch_of offered.now.text.now).agent) }
     ensures last { IfOk result (λ r. IsLaterStart sheet.now.base (batch_of offered.now.text.now) asked.last r.last) }
-    ensures within { IfOk result (λ r. (r.last ≤ 1_199) × (1 ≤ r.agents) × (r.agents ≤ 64)) }
-    ensures refused { (line : ℕ) (why : Refusal) → result ≡ Err (WriteFault.Refused line why)
-        → (answer_to world.old offered.now.text.now ≡ Refused why)
-        × IsLineOf input.now world.old (offered_of offered.now) why line }
-    ensures others { IfErr result IsOfBatches }
+    ensures within { IfOk result (λ r. (r.last ≤ last_period) × (1 ≤ r.agents) × (r.agents ≤ most_agents)) }
+    ensures refused { IfErr result (IsRefusedOr (IsRefusedNow input.now world.old (offered_of offered.now))) }
 {
     let Ok(offer) = read_offer(alloc, offered.text) else {
         return Err(WriteFault::OutOfMemory);
     };
-    let asked = match &offer {
-        Offer::Good(batch) => with_batch(sheet, asked, batch),
-        Offer::Bad(fault) => {
-            let refusal = Refusal::BadBatch(*fault);
-            return Err(refused(alloc, world, input, offered, refusal));
-        }
-    };
-    match journal(alloc, world, &Event::Journal(offer)) {
-        Ok(None) => Ok(asked),
-        Ok(Some(refusal)) => Err(refused(alloc, world, input, offered, refusal)),
-        Err(stop) => Err(WriteFault::from(stop)),
+    let more = asked_too(sheet, asked, &offer);
+    let mut told = Vec::new(alloc);
+    match journal_offered(
+        alloc,
+        world,
+        input,
+        offered,
+        &Event::Journal(offer),
+        &mut told,
+    ) {
+        Ok(true) => Ok(more),
+        Ok(false) => Err(refused(told)),
+        Err(_) => Err(WriteFault::OutOfMemory),
     }
 }
 
 /// A group of one node and 64 agents, in which nothing has happened.
-fn world_before(
+pub(crate) fn world_before(
     alloc: Global,
     sheet: &Arc<Sheet>,
     issuer: &Arc<Issuer>,
@@ -224,27 +174,101 @@ fn world_before(
     )
 }
 
-/// Journals the batches in turn in such a group, and answers what they ask of one, or which is refused first.
-pub(crate) fn judge_all(
+/// Puts a batch that was journaled behind those above it.
+fn put_batch<'a>(
+    items: &mut Items<'a>,
+    offered: Offered<'a>,
+    asked: Asked,
+) -> Result<(), WriteFault>
+    ensures batches { OnOk result (map offered_of items.new.batches.items
+        ≡ map offered_of items.old.batches.items ++ offered_of offered ∷ []) }
+    ensures count { OnOk result (length items.new.batches.items ≡ length items.old.batches.items + 1) }
+    ensures closes { OnOk result (items.new.closes.items ≡ items.old.closes.items) }
+    ensures asked { OnOk result (items.new.asked ≡ asked) }
+    ensures fault { IfErr result (λ fault. fault ≡ WriteFault.OutOfMemory) }
+{
+    let Ok(_) = items.batches.push(offered) else {
+        return Err(WriteFault::OutOfMemory);
+    };
+    items.asked = asked;
+    Ok(())
+}
+
+/// Takes the item that begins at a byte of the input, a batch where the world journals it, and answers how many bytes it has.
+fn take_item<'a>(
+    alloc: Global,
+    world: &mut World,
+    sheet: &Sheet,
+    input: &'a [u8],
+    from: usize,
+    items: &mut Items<'a>,
+) -> Result<usize, WriteFault>
+    requires from { from ≤ length input.now }
+    requires within { IsAskedWithin items.old.asked.agents items.old.asked.last }
+    ensures length { IfOk result (λ n. n ≡ item_length (drop from input.now)) }
+    ensures next { IfOk result (λ n. from + n ≤ length input.now) }
+    ensures within { OnOk result (IsAskedWithin items.new.asked.agents items.new.asked.last) }
+    ensures batches { OnOk result (map offered_of items.new.batches.items
+        ≡ map offered_of items.old.batches.items ++ batches_of (item_at input.now from ∷ [])) }
+    ensures count { OnOk result (length items.new.batches.items
+        ≡ length items.old.batches.items + length (batches_of (item_at input.now from ∷ []))) }
+    ensures closes { OnOk result (items.new.closes.items
+        ≡ items.old.closes.items ++ closes_from (length items.old.batches.items) (item_at input.now from ∷ [])) }
+    ensures judged { (issuer : model.Issuer)
+        → IsJudged sheet.now issuer (map offered_of items.old.batches.items) world.old items.old.asked.agents items.old.asked.last
+        → OnOk result (IsJudged sheet.now issuer (map offered_of items.new.batches.items) world.new
+        items.new.asked.agents items.new.asked.last) }
+    ensures refused { IfErr result (IsRefusedOr (IsRefusedHere input.now from world.old)) }
+{
+    let (item, length) = item_at(input, from);
+    match item {
+        Item::Closes => match items.closes.push(items.batches.len()) {
+            Ok(()) => Ok(length),
+            Err(_) => Err(WriteFault::OutOfMemory),
+        },
+        Item::Offers(offered) => {
+            let asked = judge(alloc, world, sheet, input, &offered, items.asked)?;
+            put_batch(items, offered, asked)?;
+            Ok(length)
+        }
+    }
+}
+
+/// Journals the batches from a byte of the input on in turn, in such a group, and answers what stands there and what they ask of
+/// one, or which is refused first: what stands behind that is not looked at.
+pub(crate) fn read_items<'a>(
     alloc: Global,
     sheet: &Arc<Sheet>,
     issuer: &Arc<Issuer>,
-    input: &[u8],
-    batches: &[Offered<'_>],
-) -> Result<Asked, WriteFault>
-    ensures agents { IfOk result (λ r. r.agents ≡ agents_of (map offered_of batches.now)) }
-    ensures last { IfOk result (λ r. IsLastStart (arc_value sheet.now).base (map offered_of batches.now) r.last) }
-    ensures within { IfOk result (λ r. (r.last ≤ 1_199) × (1 ≤ r.agents) × (r.agents ≤ 64)) }
-    ensures refused { (line : ℕ) (why : Refusal) → result ≡ Err (WriteFault.Refused line why)
-        → IsRefusedAmong input.now (arc_value sheet.now) (arc_value issuer.now) (map offered_of batches.now) line why }
-    ensures others { IfErr result IsOfBatches }
+    input: &'a [u8],
+    from: usize,
+) -> Result<Items<'a>, WriteFault>
+    requires { from ≤ length input.now }
+    ensures batches { IfOk result (λ r. map offered_of r.batches.items
+        ≡ batches_of (items_in (length input.now) input.now from)) }
+    ensures closes { IfOk result (λ r. r.closes.items ≡ closes_of (items_in (length input.now) input.now from)) }
+    ensures taken { IfOk result (λ r. All IsJournaled
+        (answers_to (arc_value sheet.now) (arc_value issuer.now) (map offered_of r.batches.items))) }
+    ensures asked { IfOk result (λ r. IsAskedBy
+        (arc_value sheet.now).base (map offered_of r.batches.items) r.asked.agents r.asked.last) }
+    ensures within { IfOk result (λ r. IsAskedWithin r.asked.agents r.asked.last) }
+    ensures refused { IfErr result (IsRefusedOr (IsRefusedAmong
+        input.now (arc_value sheet.now) (arc_value issuer.now) (batches_of (items_in (length input.now) input.now from)))) }
 {
     let Ok(mut world) = world_before(alloc, sheet, issuer) else {
         return Err(WriteFault::OutOfMemory);
     };
-    let mut asked = Asked { agents: 1, last: 0 };
-    for offered in batches {
-        asked = judge(alloc, &mut world, sheet, input, offered, asked)?;
+    let mut items = Items {
+        batches: Vec::new(alloc),
+        closes: Vec::new(alloc),
+        asked: Asked { agents: 1, last: 0 },
+    };
+    let mut here = from;
+    for _ in 0..input.len() {
+        if here == input.len() {
+            return Ok(items);
+        }
+        here += take_item(alloc, &mut world, sheet, input, here, &mut items)?;
     }
-    Ok(asked)
+    Ok(items)
 }

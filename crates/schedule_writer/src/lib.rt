@@ -3,15 +3,18 @@
 
 mod asked;
 mod certifying;
+mod checking;
 mod drafting;
 mod drafts;
 mod faults;
 mod inputs;
 mod judging;
+pub mod laws;
 mod lines;
 mod plans;
 mod writing;
 
 pub use asked::Request;
+pub use checking::check_schedule_input;
 pub use faults::WriteFault;
 pub use writing::schedule_text;

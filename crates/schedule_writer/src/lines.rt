@@ -1,118 +1,106 @@
-//! For which of its records a batch is refused.
+//! A batch is journaled, or it is told at which line of the input it is refused, and why.
 
-ghost use Rattle.std.specs.Prelude.{◌≡◌, ◌≤◌, true, false, Ok, Some, IfOk, IfSome, length};
-ghost use Rattle.metering_model.specs.World.{Refused};
-ghost use Rattle.batch_view.specs.Batches.{batch_of};
-ghost use Rattle.group_events.specs.Replies.{is_refused, reply_of};
-ghost use Rattle.schedule_writer.specs.Inner.Judged.{IsFirstBad};
-ghost use Rattle.schedule_writer.specs.Refusals.{IsJournaled, answer_to, first_records};
+ghost use Rattle.std.specs.Prelude.{◌≡◌, ◌++◌, ◌≤◌, ℕ, true, false, IfOk, OnOk, MatchOption, length};
+ghost use Rattle.metering_model.specs.BatchReading.{batch_in};
+ghost use Rattle.metering_model.specs.Step.{step};
+ghost use Rattle.metering_model.specs.World.{Journal, Refused, offer_of};
+ghost use Rattle.metering_model.specs.declared.BatchFault.{BatchFault};
+ghost use Rattle.metering_model.specs.declared.Refusal.{Refusal};
+ghost use Rattle.group_events.specs.Events.{event_of};
+ghost use Rattle.group_events.specs.Replies.{reply_of};
+ghost use Rattle.schedule_writer.specs.Checks.{told_of_answer};
+ghost use Rattle.schedule_writer.specs.Refusals.{IsJournaled, answer_to, journal_of, told_of_offered};
+ghost use Rattle.schedule_writer.specs.Inner.Lines.{IsAnswer, IsBadIn, is_of_rule};
+ghost use Rattle.schedule_writer.specs.Inner.Plans.{offered_of};
 
-use crate::faults::Stop;
-use batch_view::BatchView;
-use byte_text::{first_line, lines_length, put_numbered};
-use group_events::{Event, Offer, Reply};
+use crate::inputs::Offered;
+use byte_text::line_count;
+use fault_lines::{put_at, put_refused_text};
+use group_events::{Event, Reply};
 use metering_model::Refusal;
 use schedule_player::World;
 use std::alloc::{AllocError, Global};
 
-/// The text of a batch with so many of its records, or None where it has fewer.
-fn first_records(alloc: Global, text: &[u8], count: u32) -> Result<Option<Vec<u8>>, AllocError>
-    ensures { IfOk result (λ part. IfSome part (λ bytes. bytes.items ≡ first_records count text.now)) }
+/// Whether a refusal is for a rule of the journals.
+fn is_of_rule(refusal: Refusal) -> bool
+    ensures { result ≡ is_of_rule refusal }
 {
-    let Ok(view) = BatchView::parse(text) else {
-        return Ok(None);
-    };
-    let Some((_, below)) = first_line(text) else {
-        return Ok(None);
-    };
-    let Some(length) = lines_length(below, count) else {
-        return Ok(None);
-    };
-    if text.len() < 2 {
-        return Ok(None);
-    }
-    let mut part = Vec::from_slice(alloc, &text[..2])?;
-    put_numbered(&mut part, b"|", u128::from(view.agent()))?;
-    put_numbered(&mut part, b"|", u128::from(view.seq()))?;
-    put_numbered(&mut part, b"|", u128::from(count))?;
-    part.push(b'\n')?;
-    part.extend_from_slice(&below[..length])?;
-    Ok(Some(part))
+    matches!(refusal, Refusal::BadTarget | Refusal::Unpriced)
 }
 
-/// What the world answers to a batch with so many of its records.
-fn answer_to(alloc: Global, world: &mut World, text: &[u8], count: u32) -> Result<Reply, Stop>
-    ensures answer { IfOk result (λ reply. reply_of reply ≡ answer_to world.old (first_records count text.now)) }
-    ensures kept { IfOk result (λ reply. is_refused (reply_of reply) ≡ true → world.new ≡ world.old) }
+/// The index of the record for which a batch is refused, where it is for a rule of the journals. The world is as it was before.
+fn bad_record(world: &World, event: &Event, text: &[u8], refusal: Refusal) -> Option<u16>
+    requires event { event_of event.now ≡ Journal (offer_of text.now) }
+    requires refused { answer_to world.now text.now ≡ Refused refusal }
+    ensures { IsBadIn world.now text.now refusal result }
 {
-    let part = match first_records(alloc, text, count) {
-        Ok(Some(part)) => part,
-        Ok(None) => return Err(Stop::NotClosed),
-        Err(_) => return Err(Stop::OutOfMemory),
-    };
-    let Ok(offer) = Offer::read(alloc, part) else {
-        return Err(Stop::OutOfMemory);
-    };
-    match world.step(alloc, &Event::Journal(offer)) {
-        Ok(reply) => Ok(reply),
-        Err(_) => Err(Stop::OutOfMemory),
+    if is_of_rule(refusal) {
+        world.bad_record(event)
+    } else {
+        None
     }
 }
 
-/// Whether a reply refuses so: true where it does, false where a batch was journaled, and None at any other.
-fn refuses_so(reply: &Reply, refusal: Refusal) -> Option<bool>
-    ensures refused { result ≡ Some true → reply_of reply.now ≡ Refused refusal }
-    ensures taken { result ≡ Some false → IsJournaled (reply_of reply.now) }
+/// Appends the line that is told of a refused batch, of which this is the first bad record, where it is refused for one.
+fn put_refusal(
+    told: &mut Vec<u8>,
+    world: &World,
+    input: &[u8],
+    offered: &Offered<'_>,
+    bad: Option<u16>,
+    refusal: Refusal,
+) -> Result<(), AllocError>
+    requires from { offered.now.from ≤ length input.now }
+    requires fault { (fault : BatchFault) → refusal ≡ Refusal.BadBatch fault
+        → batch_in offered.now.text.now ≡ Err fault }
+    requires bad { IsBadIn world.now offered.now.text.now refusal bad }
+    ensures { OnOk result (told.new.items ≡ told.old.items
+        ++ told_of_offered input.now world.now (offered_of offered.now) refusal) }
+{
+    let above = line_count(&input[..offered.from]);
+    match refusal {
+        Refusal::WorldFull => put_at(told, above as u128 + 1, refusal),
+        _ => put_refused_text(told, above, world.sheet(), offered.text, bad, refusal),
+    }
+}
+
+/// Why a reply to a journal refuses, or None where the batch was journaled.
+fn refusal_of(reply: &Reply) -> Option<Refusal>
+    requires { IsAnswer (reply_of reply.now) }
+    ensures { MatchOption result (IsJournaled (reply_of reply.now)) (λ why. reply_of reply.now ≡ Refused why) }
 {
     match reply {
-        Reply::Journaled { .. } => Some(false),
-        Reply::Refused(other) => { if *other == refusal { Some(true) } else { None } }
+        Reply::Refused(refusal) => Some(*refusal),
         _ => None,
     }
 }
 
-/// Whether the world refuses a batch with so many of its records so: true where it does, and false where it journals it.
-fn is_refused_so(
+/// Journals a batch, and answers whether it was. Where it is refused the world stays as it was, and the line that tells so is
+/// appended.
+pub(crate) fn journal_offered(
     alloc: Global,
     world: &mut World,
-    text: &[u8],
-    count: u32,
-    refusal: Refusal,
-) -> Result<bool, Stop>
-    ensures refused { result ≡ Ok true → answer_to world.old (first_records count text.now) ≡ Refused refusal }
-    ensures kept { result ≡ Ok true → world.new ≡ world.old }
-    ensures taken { result ≡ Ok false → IsJournaled (answer_to world.old (first_records count text.now)) }
+    input: &[u8],
+    offered: &Offered<'_>,
+    event: &Event,
+    told: &mut Vec<u8>,
+) -> Result<bool, AllocError>
+    requires from { offered.now.from ≤ length input.now }
+    requires event { event_of event.now ≡ journal_of (offered_of offered.now) }
+    ensures told { OnOk result (told.new.items ≡ told.old.items
+        ++ told_of_answer input.now world.old (offered_of offered.now) (answer_to world.old offered.now.text.now)) }
+    ensures world { OnOk result (world.new ≡ (step world.old (journal_of (offered_of offered.now))).1) }
+    ensures journaled { IfOk result (λ is. is ≡ true → IsJournaled (answer_to world.old offered.now.text.now)) }
+    ensures refused { IfOk result (λ is. is ≡ false
+        → (why : Refusal) × (answer_to world.old offered.now.text.now ≡ Refused why)) }
 {
-    let reply = answer_to(alloc, world, text, count)?;
-    match refuses_so(&reply, refusal) {
-        Some(answer) => Ok(answer),
-        None => Err(Stop::NotClosed),
-    }
-}
-
-/// The index of the record for which a batch is refused: of those above it alone it is journaled. Such a front is looked for from
-/// the end, since what is refused leaves the world as it was.
-pub(crate) fn first_refused(
-    alloc: Global,
-    world: &mut World,
-    text: &[u8],
-    refusal: Refusal,
-) -> Result<u32, Stop>
-    ensures bad { IfOk result (IsFirstBad world.old text.now (length (batch_of text.now).records) refusal) }
-    ensures within { IfOk result (λ index. index ≤ 999) }
-{
-    let Ok(view) = BatchView::parse(text) else {
-        return Err(Stop::NotClosed);
-    };
-    let count = u32::from(view.count());
-    if !is_refused_so(alloc, world, text, count, refusal)? {
-        return Err(Stop::NotClosed);
-    }
-    for above in 0..count {
-        let index = count - 1 - above;
-        if !is_refused_so(alloc, world, text, index, refusal)? {
-            return Ok(index);
+    let reply = world.step(alloc, event)?;
+    match refusal_of(&reply) {
+        None => Ok(true),
+        Some(refusal) => {
+            let bad = bad_record(world, event, offered.text, refusal);
+            put_refusal(told, world, input, offered, bad, refusal)?;
+            Ok(false)
         }
     }
-    Err(Stop::NotClosed)
 }

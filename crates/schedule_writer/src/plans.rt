@@ -1,14 +1,23 @@
 //! What a schedule is to journal and to close, and whether one does.
 
-ghost use Rattle.std.specs.Prelude.{◌≡◌, ◌↔◌, ◌<◌, ◌≤◌, IsTrue, Some, None, if◌then◌else◌};
+ghost use Rattle.std.specs.Prelude.{◌≡◌, ◌↔◌, ◌<◌, ◌≤◌, nat_le, IfOk, IsTrue, Some, None, if◌then◌else◌};
+ghost use Rattle.metering_model.specs.BatchReading.{is_same};
+ghost use Rattle.metering_model.specs.Front.{front};
+ghost use Rattle.metering_model.specs.Schedule.{PlansExport};
+ghost use Rattle.metering_model.specs.Limits.{last_period, most_nodes};
 ghost use Rattle.group_events.specs.Replies.{reply_of};
 ghost use Rattle.schedule_reader.specs.Events.{HasWholeLines, planned_of};
-ghost use Rattle.schedule_writer.specs.Inner.Plans.{all_seen, behind, due_in, is_file_of, is_next, is_turn, one_more_batch, one_more_file, plan_of};
+ghost use Rattle.schedule_writer.specs.Inner.Plans.{all_seen, behind, behind_taken, due_for, is_file_of, is_good, is_next, is_turn, one_more_ballot, one_more_batch, one_more_file, plan_of};
 
+use crate::faults::Stop;
 use crate::inputs::Offered;
+use batch_store::Store;
 use byte_text::is_same;
+use group_events::Snapshot;
+use price_sheet::Sheet;
 use schedule_player::Reply;
 use schedule_reader::Planned;
+use std::alloc::Global;
 
 /// What a schedule is to journal and to close.
 #[derive(Clone, Copy, Drop)]
@@ -19,6 +28,7 @@ pub(crate) struct Plan<'a> {
     pub(crate) nodes: u8,
     /// The last period that is closed.
     pub(crate) last: u16,
+    pub(crate) sheet: &'a Sheet,
     pub(crate) batches: &'a [Offered<'a>],
     /// How many batches stand above each line that closes a period.
     pub(crate) closes: &'a [usize],
@@ -29,26 +39,18 @@ pub(crate) struct Plan<'a> {
 pub(crate) struct Seen {
     /// How many batches were journaled.
     pub(crate) journaled: usize,
+    /// How many ballots began.
+    pub(crate) ballots: u16,
     /// The node that shows its file next.
     pub(crate) node: u8,
     /// The period whose files are shown.
     pub(crate) period: u16,
 }
 
-/// Whether a reply is the file of that period.
-fn is_file_of(period: u16, reply: &Reply) -> bool
-    ensures { result ≡ is_file_of period (reply_of reply.now) }
-{
-    match reply {
-        Reply::Exported(snapshot) => snapshot.period().number() == period,
-        _ => false,
-    }
-}
-
 impl<'a> Plan<'a> {
     /// How many batches are journaled before a period is closed.
     pub(crate) fn due_before(&self, period: u16) -> usize
-        ensures { result ≡ due_in (plan_of self.now) period }
+        ensures { result ≡ due_for (plan_of self.now) period }
     {
         match self.closes.get(usize::from(period)) {
             Some(count) => *count,
@@ -74,6 +76,57 @@ impl<'a> Plan<'a> {
             && seen.journaled == self.due_before(period)
     }
 
+    /// Whether the cut of a file has all that is due of what is journaled. Only what lies above the cut before it is looked at.
+    fn has_due(&self, alloc: Global, journals: &Store, file: &Snapshot) -> Result<bool, Stop>
+        ensures { IfOk result (λ is. is ≡ is_same file.now.to
+            (front (plan_of self.now).base journals.now.batches file.now.from file.now.period)) }
+    {
+        if file.from().agents() != journals.agents() {
+            return Err(Stop::NotClosed);
+        }
+        match journals.due_front(alloc, file.from(), file.period(), self.sheet.base_month()) {
+            Ok(due) => Ok(file.to().same(&due)),
+            Err(_) => Err(Stop::OutOfMemory),
+        }
+    }
+
+    /// Whether a reply is the file of that period, with all that is due of what is journaled.
+    fn is_file_of(
+        &self,
+        alloc: Global,
+        journals: &Store,
+        period: u16,
+        reply: &Reply,
+    ) -> Result<bool, Stop>
+        ensures { IfOk result (λ is. is
+            ≡ is_file_of (plan_of self.now).base journals.now.batches period (reply_of reply.now)) }
+    {
+        match reply {
+            Reply::Exported(file) => {
+                if file.period().number() == period {
+                    self.has_due(alloc, journals, file)
+                } else {
+                    Ok(false)
+                }
+            }
+            _ => Ok(false),
+        }
+    }
+
+    /// Whether a reply refuses nothing, and tells of no later period that it was learned.
+    fn is_good(&self, reply: &Reply) -> bool
+        ensures { result ≡ is_good self.now.last (reply_of reply.now) }
+    {
+        match reply {
+            Reply::Refused(_) => false,
+            Reply::Delivered {
+                learned: Some(period),
+                ..
+            } => period.number() <= self.last,
+            _ => true,
+        }
+    }
+
     /// What was done with one more batch.
     fn with_batch(&self, seen: Seen, text: &[u8]) -> Option<Seen>
         ensures { result ≡ (if is_next (plan_of self.now) seen text.now then Some (one_more_batch seen) else None) }
@@ -83,6 +136,23 @@ impl<'a> Plan<'a> {
         }
         Some(Seen {
             journaled: seen.journaled + 1,
+            ballots: seen.ballots,
+            node: seen.node,
+            period: seen.period,
+        })
+    }
+
+    /// What was done with one more ballot.
+    fn with_ballot(&self, seen: Seen) -> Option<Seen>
+        requires { self.now.last ≤ last_period }
+        ensures { result ≡ (if nat_le seen.ballots self.now.last then Some (one_more_ballot seen) else None) }
+    {
+        if seen.ballots > self.last {
+            return None;
+        }
+        Some(Seen {
+            journaled: seen.journaled,
+            ballots: seen.ballots + 1,
             node: seen.node,
             period: seen.period,
         })
@@ -91,53 +161,89 @@ impl<'a> Plan<'a> {
     /// What was done with one more file.
     fn with_file(&self, seen: Seen) -> Seen
         requires node { seen.node < self.now.nodes }
-        requires nodes { self.now.nodes ≤ 99 }
-        requires period { seen.period ≤ 1_199 }
+        requires nodes { self.now.nodes ≤ most_nodes }
+        requires period { seen.period ≤ last_period }
         ensures { result ≡ one_more_file (plan_of self.now) seen }
     {
         if seen.node + 1 < self.nodes {
             Seen {
                 journaled: seen.journaled,
+                ballots: seen.ballots,
                 node: seen.node + 1,
                 period: seen.period,
             }
         } else {
             Seen {
                 journaled: seen.journaled,
+                ballots: seen.ballots,
                 node: 0,
                 period: seen.period + 1,
             }
         }
     }
 
-    /// What was done behind one more event and its reply; None where it is not what is planned.
-    pub(crate) fn behind(&self, seen: Seen, event: &Planned<'_>, reply: &Reply) -> Option<Seen>
-        requires nodes { self.now.nodes ≤ 99 }
-        requires last { self.now.last ≤ 1_199 }
-        requires whole { HasWholeLines event.now }
-        ensures { result ≡ behind (plan_of self.now) seen (reply_of reply.now) (planned_of event.now) }
+    /// What was done behind an export and its reply, with these journals; None where it is not what is planned.
+    fn behind_export(
+        &self,
+        alloc: Global,
+        seen: Seen,
+        journals: &Store,
+        node: u8,
+        period: u16,
+        reply: &Reply,
+    ) -> Result<Option<Seen>, Stop>
+        requires nodes { self.now.nodes ≤ most_nodes }
+        requires last { self.now.last ≤ last_period }
+        ensures { IfOk result (λ next. next ≡ behind_taken
+            (plan_of self.now) seen journals.now.batches (reply_of reply.now) (PlansExport node period)) }
     {
-        if matches!(reply, Reply::Refused(_)) {
-            return None;
+        if !self.is_turn(seen, node, period) {
+            return Ok(None);
+        }
+        if self.is_file_of(alloc, journals, period, reply)? {
+            Ok(Some(self.with_file(seen)))
+        } else {
+            Ok(None)
+        }
+    }
+
+    /// What was done behind one more event and its reply, with these journals before it; None where it is not what is planned.
+    pub(crate) fn behind(
+        &self,
+        alloc: Global,
+        seen: Seen,
+        journals: &Store,
+        event: &Planned<'_>,
+        reply: &Reply,
+    ) -> Result<Option<Seen>, Stop>
+        requires nodes { self.now.nodes ≤ most_nodes }
+        requires last { self.now.last ≤ last_period }
+        requires whole { HasWholeLines event.now }
+        ensures { IfOk result (λ next. next ≡ behind
+            (plan_of self.now) seen journals.now.batches (reply_of reply.now) (planned_of event.now)) }
+    {
+        if !self.is_good(reply) {
+            return Ok(None);
         }
         match event {
-            Planned::Journal(text) => self.with_batch(seen, text),
+            Planned::Journal(text) => Ok(self.with_batch(seen, text)),
             Planned::Export { node, period } => {
-                if self.is_turn(seen, *node, *period) && is_file_of(*period, reply) {
-                    Some(self.with_file(seen))
-                } else {
-                    None
-                }
+                self.behind_export(alloc, seen, journals, *node, *period, reply)
             }
-            _ => Some(seen),
+            Planned::Deliver { .. } => Ok(Some(seen)),
+            Planned::Start { .. } => Ok(self.with_ballot(seen)),
+            Planned::Restart { .. } | Planned::Keep { .. } | Planned::Revive { .. } => Ok(None),
         }
     }
 
     /// Whether all is done that was planned.
     pub(crate) fn is_done(&self, seen: Seen) -> bool
-        requires { self.now.last ≤ 1_199 }
+        requires { self.now.last ≤ last_period }
         ensures { IsTrue result ↔ (seen ≡ all_seen (plan_of self.now)) }
     {
-        seen.journaled == self.batches.len() && seen.node == 0 && seen.period == self.last + 1
+        seen.journaled == self.batches.len()
+            && seen.ballots == self.last + 1
+            && seen.node == 0
+            && seen.period == self.last + 1
     }
 }

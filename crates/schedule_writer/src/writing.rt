@@ -1,30 +1,31 @@
 //! `focusd schedule`: from batches to a schedule that closes their months.
 
-ghost use Rattle.std.specs.Prelude.{◌≡◌, ◌≢◌, ◌+◌, ◌-◌, ◌<◌, ◌≤◌, ℕ, List, Some, Ok, Err, IfOk, IfErr, IfSome, OnOk, OnErr, false, drop, length, map, max, unwrap_or};
+ghost use Rattle.std.specs.Prelude.{◌≡◌, ◌≢◌, ◌⊎◌, ◌+◌, ◌<◌, ◌≤◌, ℕ, List, Some, Ok, Err, IfOk, IfErr, IfSome, OnOk, OnErr, false, drop, length, map, max, unwrap_or, Vec};
 ghost use Rattle.std.specs.Arc.{arc_value};
 ghost use Rattle.std.specs.Io.KnownBytes.{Appends, IsAtEnd};
+ghost use Rattle.std.specs.declared.alloc.Global.{Global};
 ghost use Rattle.counted_io.specs.Counts.{Rises, count_after};
 ghost use Rattle.counted_io.specs.Reading.{ConsumesAtMost};
 ghost use Rattle.counted_io.specs.Writing.{AppendsPrefix};
-ghost use Rattle.metering_model.specs.declared.Refusal.{Refusal};
+ghost use Rattle.metering_model.specs.Limits.{last_period, most_agents, most_input_bytes, most_nodes};
+ghost use Rattle.input_sections.specs.declared.faults.ScheduleCode.{ScheduleCode};
 ghost use Rattle.input_sections.specs.declared.faults.ScheduleFault.{ScheduleFault};
 ghost use Rattle.input_sections.specs.RateInput.{rate_input_in};
 ghost use Rattle.schedule_writer.specs.Faults.{tells_of_reader, tells_of_writer};
 ghost use Rattle.schedule_writer.specs.Inputs.{above_last, least_last};
-ghost use Rattle.schedule_writer.specs.Refusals.{IsRefusedAt};
+ghost use Rattle.schedule_writer.specs.Refusals.{IsRefusedAt, IsTaken};
 ghost use Rattle.schedule_writer.specs.Requests.{IsRequest};
 ghost use Rattle.schedule_writer.specs.Schedules.{IsScheduleOf};
 ghost use Rattle.schedule_writer.specs.Inner.Certified.{IsCertified};
-ghost use Rattle.schedule_writer.specs.Inner.Judged.{IsOfBatches, IsReadInput};
+ghost use Rattle.schedule_writer.specs.Inner.Judged.{IsAskedBy, IsAskedWithin, IsFaultOf, IsReadInput, IsUncertain};
 ghost use Rattle.schedule_writer.specs.Inner.Plans.{offered_of, plan_of};
-ghost use Rattle.input_sections.specs.declared.faults.ScheduleCode.{ScheduleCode};
 
 use crate::asked::Request;
 use crate::certifying::certify;
 use crate::drafting::schedule_for;
 use crate::faults::{Stop, WriteFault};
-use crate::inputs::{Offered, read_items};
-use crate::judging::judge_all;
+use crate::inputs::Offered;
+use crate::judging::{Asked, read_items};
 use crate::plans::Plan;
 use counted_io::{Sink, Source, write_all};
 use input_sections::{RateInput, rate_input};
@@ -59,8 +60,8 @@ fn least_last(through: Option<u16>, count: usize, closes: &[usize]) -> usize
 
 /// The last period that is closed: the one that is asked for, or the other, where that is later. None where that is no period.
 fn last_closed(asked: u16, least: usize) -> Option<u16>
-    requires { asked ≤ 1_199 }
-    ensures { IfSome result (λ last. (last ≡ max asked least) × (last ≤ 1_199)) }
+    requires { asked ≤ last_period }
+    ensures { IfSome result (λ last. (last ≡ max asked least) × (last ≤ last_period)) }
 {
     if least <= usize::from(asked) {
         return Some(asked);
@@ -87,43 +88,42 @@ fn certified_text(
     alloc: Global,
     plan: &Plan<'_>,
     agents: u8,
-    sheet: &Sheet,
     issuer: &Issuer,
     input: &[u8],
     batch_from: usize,
 ) -> Result<Vec<u8>, Stop>
     requires voters { 1 ≤ plan.now.voters }
-    requires nodes { (plan.now.nodes ≡ plan.now.voters + plan.now.observers) × (plan.now.nodes ≤ 99) }
-    requires last { plan.now.last ≤ 1_199 }
-    requires agents { (1 ≤ agents) × (agents ≤ 64) }
-    ensures { IfOk result (λ text. IsCertified
-        (plan_of plan.now) plan.now.voters plan.now.observers agents sheet.now issuer.now text.items) }
+    requires nodes { (plan.now.nodes ≡ plan.now.voters + plan.now.observers) × (plan.now.nodes ≤ most_nodes) }
+    requires last { plan.now.last ≤ last_period }
+    requires agents { (1 ≤ agents) × (agents ≤ most_agents) }
+    ensures { IfOk result (λ text. IsCertified (plan_of plan.now)
+        plan.now.voters plan.now.observers agents plan.now.sheet.now issuer.now text.items) }
 {
     let text = schedule_for(alloc, plan, agents, input, batch_from)?;
-    certify(alloc, plan, agents, sheet, issuer, &text)?;
+    certify(alloc, plan, agents, issuer, &text)?;
     Ok(text)
 }
 
-/// The schedule for an input, of which these are the batches, and the numbers of those above each line that closes a period.
+/// The schedule for an input, of which these are the batches, with what they ask, and the numbers of those above each line that
+/// closes a period.
 fn schedule_with(
     alloc: Global,
     request: Request,
     input: &[u8],
     batch_from: usize,
-    sheet: &Arc<Sheet>,
-    issuer: &Arc<Issuer>,
+    sheet: &Sheet,
+    issuer: &Issuer,
     batches: &[Offered<'_>],
     closes: &[usize],
+    asked: Asked,
 ) -> Result<Vec<u8>, WriteFault>
     requires request { IsRequest request }
-    requires read { IsReadInput input.now (arc_value sheet.now) (arc_value issuer.now)
-        (map offered_of batches.now) closes.now }
+    requires within { IsAskedWithin asked.agents asked.last }
+    requires read { IsReadInput input.now sheet.now issuer.now (map offered_of batches.now) closes.now }
+    requires asked { IsAskedBy sheet.now.base (map offered_of batches.now) asked.agents asked.last }
     ensures schedule { IfOk result (λ text. IsScheduleOf request (Some input.now) input.now text.items) }
-    ensures refused { (line : ℕ) (why : Refusal) → result ≡ Err (WriteFault.Refused line why)
-        → IsRefusedAt input.now line why }
-    ensures others { IfErr result IsOfBatches }
+    ensures fault { IfErr result IsUncertain }
 {
-    let asked = judge_all(alloc, sheet, issuer, input, batches)?;
     let through = asked_for(request.through, asked.last);
     let least = least_last(request.through, batches.len(), closes);
     let Some(last) = last_closed(through, least) else {
@@ -134,10 +134,11 @@ fn schedule_with(
         observers: request.observers,
         nodes: request.nodes + request.observers,
         last,
+        sheet,
         batches,
         closes,
     };
-    match certified_text(alloc, &plan, asked.agents, sheet, issuer, input, batch_from) {
+    match certified_text(alloc, &plan, asked.agents, issuer, input, batch_from) {
         Ok(text) => Ok(text),
         Err(stop) => Err(WriteFault::from(stop)),
     }
@@ -155,23 +156,22 @@ fn schedule_of(
         ≡ Ok (record { sheet = given.sheet; issuer = given.issuer; batch = drop given.batch_from input.now }) }
     requires within { given.batch_from ≤ length input.now }
     ensures schedule { IfOk result (λ text. IsScheduleOf request (Some input.now) input.now text.items) }
-    ensures refused { (line : ℕ) (why : Refusal) → result ≡ Err (WriteFault.Refused line why)
-        → IsRefusedAt input.now line why }
-    ensures others { IfErr result IsOfBatches }
+    ensures fault { IfErr result (IsFaultOf input.now) }
 {
     let RateInput {
         sheet,
         issuer,
         batch_from,
     } = given;
-    let Ok(items) = read_items(alloc, input, batch_from) else {
-        return Err(WriteFault::OutOfMemory);
-    };
     let Ok(sheet) = Arc::new(alloc, sheet) else {
         return Err(WriteFault::OutOfMemory);
     };
     let Ok(issuer) = Arc::new(alloc, issuer) else {
         return Err(WriteFault::OutOfMemory);
+    };
+    let items = match read_items(alloc, &sheet, &issuer, input, batch_from) {
+        Ok(items) => items,
+        Err(fault) => return Err(fault),
     };
     schedule_with(
         alloc,
@@ -182,6 +182,7 @@ fn schedule_of(
         &issuer,
         &items.batches,
         &items.closes,
+        items.asked,
     )
 }
 
@@ -189,12 +190,7 @@ fn schedule_of(
 fn schedule_for_input(alloc: Global, request: Request, input: &[u8]) -> Result<Vec<u8>, WriteFault>
     requires request { IsRequest request }
     ensures schedule { IfOk result (λ text. IsScheduleOf request (Some input.now) input.now text.items) }
-    ensures section { (fault : ScheduleFault) → result ≡ Err (WriteFault.Section fault)
-        → (fault ≢ ScheduleFault.OutOfMemory) × (rate_input_in input.now ≡ Err fault) }
-    ensures refused { (line : ℕ) (why : Refusal) → result ≡ Err (WriteFault.Refused line why)
-        → IsRefusedAt input.now line why }
-    ensures no_read { result ≢ Err WriteFault.Read }
-    ensures no_write { result ≢ Err WriteFault.Write }
+    ensures fault { IfErr result (IsFaultOf input.now) }
 {
     match rate_input(alloc, input) {
         Ok(given) => schedule_of(alloc, request, input, given),
@@ -209,14 +205,15 @@ fn input_of<R: Source>(alloc: Global, reader: &mut R) -> Result<Vec<u8>, WriteFa
     ensures end { OnOk result (IsAtEnd (R.remaining reader.new)) }
     ensures section { (fault : ScheduleFault) → result ≡ Err (WriteFault.Section fault)
         → (fault ≡ ScheduleFault.Refused ScheduleCode.TooLong 1)
-        × IfSome (R.remaining reader.old) (λ input. 16_777_216 < length input) }
+        × IfSome (R.remaining reader.old) (λ input. most_input_bytes < length input) }
     ensures fault { result ≡ Err WriteFault.Read
         → Rises (R.failed_calls reader.old) (R.failed_calls reader.new) }
-    ensures taken { ConsumesAtMost 16_777_217 (R.remaining reader.old) (R.remaining reader.new) }
+    ensures taken { ConsumesAtMost (most_input_bytes + 1) (R.remaining reader.old) (R.remaining reader.new) }
     ensures count { R.failed_calls reader.new
         ≡ count_after (tells_of_reader result) (R.failed_calls reader.old) }
     ensures no_write { result ≢ Err WriteFault.Write }
-    ensures no_refusal { (line : ℕ) (why : Refusal) → result ≢ Err (WriteFault.Refused line why) }
+    ensures no_refusal { (told : Vec ℕ Global) → result ≢ Err (WriteFault.Refused told) }
+    ensures no_stop { (result ≢ Err WriteFault.TooLong) × (result ≢ Err WriteFault.NotClosed) }
 {
     match read_input(alloc, reader) {
         Ok(input) => Ok(input),
@@ -246,7 +243,9 @@ fn write_text<W: Sink>(text: &[u8], writer: &mut W) -> Result<(), WriteFault>
 /// journaled, and each period closed behind the batches that stand above its line `close`, or behind all.
 ///
 /// At most 16,777,217 bytes are read. After `Write` a prefix of the schedule was written, and after any other fault nothing.
-/// `NotClosed` says that what was to be written did not stand the test; no clause says that this never happens.
+/// `Refused` has the line of the whole input on which the first batch that is not journaled is refused, and why, in the words of
+/// `check`. `TooLong` says that the schedule would have more bytes, packets or periods than one may have, and `NotClosed` that what was
+/// to be written did not stand the test: no clause says that this never happens.
 pub fn schedule_text<R: Source, W: Sink>(
     alloc: Global,
     request: Request,
@@ -266,15 +265,21 @@ pub fn schedule_text<R: Source, W: Sink>(
         × AppendsPrefix (W.contents writer.old) (W.contents writer.new) text }
     ensures section { (fault : ScheduleFault) → result ≡ Err (WriteFault.Section fault)
         → IfSome (R.remaining reader.old) (λ input. rate_input_in input ≡ Err fault) }
-    ensures refused { (line : ℕ) (refusal : Refusal) → result ≡ Err (WriteFault.Refused line refusal)
-        → IfSome (R.remaining reader.old) (λ input. IsRefusedAt input line refusal) }
+
+    // What is told of the first batch that is not journaled, as `check` tells it.
+    ensures refused { (told : Vec ℕ Global) → result ≡ Err (WriteFault.Refused told)
+        → IfSome (R.remaining reader.old) (λ input. IsRefusedAt input told.items) }
+
+    // No refusal of a section or of a batch is told as one of these.
+    ensures taken { (result ≡ Err WriteFault.TooLong) ⊎ (result ≡ Err WriteFault.NotClosed)
+        → IfSome (R.remaining reader.old) IsTaken }
     ensures plain_memory { result ≢ Err (WriteFault.Section ScheduleFault.OutOfMemory) }
     ensures read_fault { result ≡ Err WriteFault.Read
         → Rises (R.failed_calls reader.old) (R.failed_calls reader.new) }
     ensures write_fault { result ≡ Err WriteFault.Write
         → Rises (W.failed_calls writer.old) (W.failed_calls writer.new) }
     ensures untouched { IfErr result (λ fault. fault ≢ WriteFault.Write → writer.new ≡ writer.old) }
-    ensures read { ConsumesAtMost 16_777_217 (R.remaining reader.old) (R.remaining reader.new) }
+    ensures read { ConsumesAtMost (most_input_bytes + 1) (R.remaining reader.old) (R.remaining reader.new) }
 
     // With Ok nothing is left to read.
     ensures end { OnOk result (IsAtEnd (R.remaining reader.new)) }

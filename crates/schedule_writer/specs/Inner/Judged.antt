@@ -1,48 +1,86 @@
 -- What is found of batches that are journaled in turn.
-use Rattle.std.specs.Prelude.{◌≡◌, ◌≢◌, ◌<◌, ◌≤◌, ◌⊎◌, ℕ, ◌+◌, ◌-◌, Bool, true, false, List, ◌∷◌, ◌++◌, All, length, max, Result, Ok, Err, ⊤}
+use Rattle.std.specs.Prelude.{◌≡◌, ◌<◌, ◌≤◌, ◌⊎◌, ℕ, false, true, List, [], ◌∷◌, ◌++◌, All, Ok, Err, ⊤}
 use Rattle.metering_model.specs.Batch.{Batch}
 use Rattle.metering_model.specs.Front.{is_due}
+use Rattle.metering_model.specs.Limits.{last_period, most_agents}
 use Rattle.metering_model.specs.Sheet.{Sheet, Issuer}
+use Rattle.metering_model.specs.Transcript.{line}
 use Rattle.metering_model.specs.World.{World, Refused}
 use Rattle.metering_model.specs.declared.Refusal.{Refusal}
+use Rattle.input_sections.specs.declared.faults.ScheduleFault.{ScheduleFault}
+use Rattle.input_sections.specs.declared.faults.ScheduleFault.TheVariants as section
+use Rattle.input_sections.specs.RateInput.{RateInput, rate_input_in}
 use Rattle.schedule_writer.specs.declared.faults.WriteFault.{WriteFault}
 use Rattle.schedule_writer.specs.declared.faults.WriteFault.TheVariants as fault
-use Rattle.input_sections.specs.RateInput.{RateInput, rate_input_in}
-use Rattle.schedule_writer.specs.Inputs.{Offered, batches_of, closes_of, items_of}
-use Rattle.schedule_writer.specs.Refusals.{IsJournaled, IsLineOf, answer_to, answers_to, first_records, world_behind}
+use Rattle.schedule_writer.specs.Inputs.{IsLastStart, Offered, Offers, agents_of, batches_of, closes_of, item_at, items_of}
+use Rattle.schedule_writer.specs.Refusals.{IsJournaled, IsRefusedAt, IsTaken, answer_to, answers_to, told_of_offered, world_behind}
 
 -- The last period in which a reading of the batch starts, or this one, where that is later.
 pub record IsLaterStart (base : ℕ) (b : Batch) (before last : ℕ) : Type 0 where
   pub later : before ≤ last
-  pub within : last ≤ 1_199
-  pub none_behind : (last ≡ 1_199) ⊎ (is_due base last b ≡ true)
+  pub within : last ≤ last_period
+  pub none_behind : (last ≡ last_period) ⊎ (is_due base last b ≡ true)
   pub not_before : (p : ℕ) → before ≤ p → p < last → is_due base p b ≡ false
 
--- The record at the index is the one for which the batch is refused.
-pub record IsFirstBad (w : World) (text : List ℕ) (count : ℕ) (why : Refusal) (index : ℕ) : Type 0 where
-  pub within : index < count
-  pub taken : IsJournaled (answer_to w (first_records index text))
-  pub refused : answer_to w (first_records (index + 1) text) ≡ Refused why
+-- what is asked is within the limits of a group
+abbrev pub IsAskedWithin : (agents last : ℕ) → Type 0
+IsAskedWithin agents last = (last ≤ last_period) × (1 ≤ agents) × (agents ≤ most_agents)
 
--- The first of these batches that is refused is so at that line of the input.
-pub record IsRefusedAmong (input : List ℕ) (sheet : Sheet) (issuer : Issuer) (bs : List Offered) (line : ℕ) (why : Refusal) : Type 0 where
+-- what these batches ask of a group: the greatest agent, and the last period in which a reading starts
+pub record IsAskedBy (base : ℕ) (bs : List Offered) (agents last : ℕ) : Type 0 where
+  pub are_agents : agents ≡ agents_of bs
+  pub is_last : IsLastStart base bs last
+
+-- what is judged so far
+pub record IsJudged (sheet : Sheet) (issuer : Issuer) (bs : List Offered) (w : World) (agents last : ℕ) : Type 0 where
+  pub world : w ≡ world_behind sheet issuer bs
+  pub taken : All IsJournaled (answers_to sheet issuer bs)
+  pub asked : IsAskedBy sheet.base bs agents last
+
+-- the world refuses the batch, and this is told of it
+pub record IsRefusedNow (input : List ℕ) (w : World) (b : Offered) (told : List ℕ) : Type 0 where
+  pub why : Refusal
+  pub refused : answer_to w b.text ≡ Refused why
+  pub is_told : line told ≡ told_of_offered input w b why
+
+-- a batch begins at that byte of the input, and is refused so
+pub record IsRefusedHere (input : List ℕ) (from : ℕ) (w : World) (told : List ℕ) : Type 0 where
+  pub batch : Offered
+  pub is_there : item_at input from ≡ Offers batch
+  pub refused : IsRefusedNow input w batch told
+
+-- The first of these batches that is refused is so, and this is told of it.
+pub record IsRefusedAmong (input : List ℕ) (sheet : Sheet) (issuer : Issuer) (bs : List Offered) (told : List ℕ) : Type 0 where
   pub before : List Offered
   pub batch : Offered
   pub behind : List Offered
   pub all : bs ≡ before ++ batch ∷ behind
   pub taken : All IsJournaled (answers_to sheet issuer before)
-  pub refused : answer_to (world_behind sheet issuer before) batch.text ≡ Refused why
-  pub at_line : IsLineOf input (world_behind sheet issuer before) batch why line
+  pub refused : IsRefusedNow input (world_behind sheet issuer before) batch told
 
--- the fault is none of a section, and none of a device
-abbrev pub IsOfBatches : WriteFault → Type 0
-IsOfBatches fault.Read = ⊥
-IsOfBatches (fault.Section f) = ⊥
-IsOfBatches (fault.Refused line why) = ⊤
-IsOfBatches fault.TooLong = ⊤
-IsOfBatches fault.NotClosed = ⊤
-IsOfBatches fault.Write = ⊥
-IsOfBatches fault.OutOfMemory = ⊤
+-- the fault is that a batch is refused, of which that is so what is told, or want of memory
+abbrev pub IsRefusedOr : (List ℕ → Type 0) → WriteFault → Type 0
+IsRefusedOr so (fault.Refused told) = so told.items
+IsRefusedOr so fault.OutOfMemory = ⊤
+IsRefusedOr so other = ⊥
+
+-- the fault is none of the input
+abbrev pub IsUncertain : WriteFault → Type 0
+IsUncertain fault.TooLong = ⊤
+IsUncertain fault.NotClosed = ⊤
+IsUncertain fault.OutOfMemory = ⊤
+IsUncertain other = ⊥
+
+-- what each fault says of an input that was read
+abbrev pub IsFaultOf : List ℕ → WriteFault → Type 0
+IsFaultOf input (fault.Section section.OutOfMemory) = ⊥
+IsFaultOf input (fault.Section told) = rate_input_in input ≡ Err told
+IsFaultOf input (fault.Refused told) = IsRefusedAt input told.items
+IsFaultOf input fault.TooLong = IsTaken input
+IsFaultOf input fault.NotClosed = IsTaken input
+IsFaultOf input fault.OutOfMemory = ⊤
+IsFaultOf input fault.Read = ⊥
+IsFaultOf input fault.Write = ⊥
 
 -- These are the sheet, the issuer and the batches of the input, and how many of the batches stand above each line that closes a period.
 pub record IsReadInput (input : List ℕ) (sheet : Sheet) (issuer : Issuer) (bs : List Offered) (closes : List ℕ) : Type 0 where

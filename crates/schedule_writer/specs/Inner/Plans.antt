@@ -1,32 +1,51 @@
 -- What a schedule is to journal and to close, and what it has done so far.
-use Rattle.std.specs.Prelude.{◌≡◌, ℕ, ◌+◌, ◌==◌, ◌&&◌, Bool, true, false, nat_le, nat_lt, if◌then◌else◌, List, [], ◌∷◌, length, map, Option, Some, None, unwrap_or, slice_get}
+use Rattle.std.specs.Prelude.{◌≡◌, ℕ, ◌+◌, ◌==◌, ◌&&◌, Bool, true, false, not, nat_le, nat_lt, if◌then◌else◌, List, [], ◌∷◌, length, map, Option, Some, None, Result, Ok}
 use Rattle.std.specs.List.{slice_index_or}
-use Rattle.std.specs.Option.{option_and_then}
+use Rattle.std.specs.Option.{option_and_then, option_map_or}
+use Rattle.batch_view.specs.Batches.{batch_of}
 use Rattle.metering_model.specs.BatchReading.{is_same}
+use Rattle.metering_model.specs.Front.{front}
+use Rattle.metering_model.specs.Holding.{Holding, put}
 use Rattle.metering_model.specs.Schedule.{Planned, PlansJournal, PlansDelivery, PlansStart, PlansRestart, PlansExport, PlansKeep, PlansRevival, event_of, lines_text}
 use Rattle.metering_model.specs.Step.{step}
-use Rattle.metering_model.specs.World.{World, Reply, Journaled, Delivered, Started, Restarted, Exported, KeptText, Refused}
+use Rattle.metering_model.specs.World.{World, Event, Journal, Good, Reply, Exported}
 use Rattle.group_events.specs.Replies.{is_refused}
+use Rattle.input_sections.specs.declared.faults.ScheduleFault.{ScheduleFault}
+use Rattle.schedule_writer.specs.declared.inputs.Item.{Item as LentItem}
+use Rattle.schedule_writer.specs.declared.inputs.Item.TheVariants as lent
 use Rattle.schedule_writer.specs.declared.inputs.Offered.{Offered as LentBatch}
 use Rattle.schedule_writer.specs.declared.plans.Plan.{Plan as LentPlan}
 use Rattle.schedule_writer.specs.declared.plans.Seen.{Seen}
-use Rattle.schedule_writer.specs.Inputs.{Offered}
+use Rattle.schedule_writer.specs.Inputs.{Item, Offers, Closes, Offered, due_in}
+use Rattle.schedule_writer.specs.Schedules.{learned_in}
 
 abbrev pub offered_of : LentBatch → Offered
 offered_of b = record { from = b.from; text = b.text.now }
 
--- how many nodes show the file of each period, the last period, the batches, and how many stand above each line that closes a period
+abbrev pub item_of : LentItem → Item
+item_of (lent.Offers b) = Offers (offered_of b)
+item_of lent.Closes = Closes
+
+-- how many nodes show the file of each period, the last period, the month of the first, the batches, and how many stand above each
+-- line that closes a period
 pub record Plan : Type 0 where
   pub nodes : ℕ
   pub last : ℕ
+  pub base : ℕ
   pub batches : List (List ℕ)
   pub closes : List ℕ
 
 abbrev pub plan_of : LentPlan → Plan
-plan_of p = record { nodes = p.nodes; last = p.last; batches = map (λ b. b.text) (map offered_of p.batches.now); closes = p.closes.now }
+plan_of p = record {
+  nodes = p.nodes;
+  last = p.last;
+  base = p.sheet.now.base;
+  batches = map (λ b. b.text) (map offered_of p.batches.now);
+  closes = p.closes.now;
+}
 
-abbrev pub due_in : Plan → ℕ → ℕ
-due_in plan p = unwrap_or (slice_get plan.closes p) (length plan.batches)
+abbrev pub due_for : Plan → ℕ → ℕ
+due_for plan p = due_in plan.closes (length plan.batches) p
 
 -- whether the text is the batch that comes next
 abbrev pub is_next : Plan → Seen → List ℕ → Bool
@@ -35,42 +54,61 @@ is_next plan seen text = nat_lt seen.journaled (length plan.batches) && is_same 
 -- whether it is the node's turn to show the file of that period, and the batches above it are journaled
 abbrev pub is_turn : Plan → Seen → ℕ → ℕ → Bool
 is_turn plan seen node period =
-    (node == seen.node) && nat_lt node plan.nodes && (period == seen.period) && nat_le period plan.last && (seen.journaled == due_in plan period)
+    (node == seen.node) && nat_lt node plan.nodes && (period == seen.period) && nat_le period plan.last && (seen.journaled == due_for plan period)
 
-abbrev pub is_file_of : ℕ → Reply → Bool
-is_file_of p (Exported s) = s.period == p
-is_file_of p _ = false
+-- whether the reply is the file of that period, with all that is due of what is journaled
+abbrev pub is_file_of : ℕ → Holding → ℕ → Reply → Bool
+is_file_of base journals p (Exported s) = (s.period == p) && is_same s.to (front base journals s.from p)
+is_file_of base journals p other = false
+
+-- whether nothing was refused, and no later period than this one was learned
+abbrev pub is_good : ℕ → Reply → Bool
+is_good last r = not (is_refused r) && option_map_or (λ period. nat_le period last) (learned_in r) true
 
 abbrev pub one_more_batch : Seen → Seen
 one_more_batch seen = record seen { journaled = seen.journaled + 1 }
+
+abbrev pub one_more_ballot : Seen → Seen
+one_more_ballot seen = record seen { ballots = seen.ballots + 1 }
 
 abbrev pub one_more_file : Plan → Seen → Seen
 one_more_file plan seen =
     if nat_lt (seen.node + 1) plan.nodes then record seen { node = seen.node + 1 } else record seen { node = 0; period = seen.period + 1 }
 
--- what was done behind an event that was taken, where it is what is planned
-abbrev pub behind_taken : Plan → Seen → Reply → Planned → Option Seen
-behind_taken plan seen r (PlansJournal ls) = if is_next plan seen (lines_text ls) then Some (one_more_batch seen) else None
-behind_taken plan seen r (PlansExport i p) = if is_turn plan seen i p && is_file_of p r then Some (one_more_file plan seen) else None
-behind_taken plan seen r (PlansDelivery k i) = Some seen
-behind_taken plan seen r (PlansStart i) = Some seen
-behind_taken plan seen r (PlansRestart i) = Some seen
-behind_taken plan seen r (PlansKeep i) = Some seen
-behind_taken plan seen r (PlansRevival i ls) = Some seen
+-- what was done behind an event that was taken, with these journals before it, where it is what is planned
+abbrev pub behind_taken : Plan → Seen → Holding → Reply → Planned → Option Seen
+behind_taken plan seen h r (PlansJournal ls) = if is_next plan seen (lines_text ls) then Some (one_more_batch seen) else None
+behind_taken plan seen h r (PlansExport i p) = if is_turn plan seen i p && is_file_of plan.base h p r then Some (one_more_file plan seen) else None
+behind_taken plan seen h r (PlansDelivery k i) = Some seen
+behind_taken plan seen h r (PlansStart i) = if nat_le seen.ballots plan.last then Some (one_more_ballot seen) else None
+behind_taken plan seen h r (PlansRestart i) = None
+behind_taken plan seen h r (PlansKeep i) = None
+behind_taken plan seen h r (PlansRevival i ls) = None
 
--- nothing is planned that is refused
-abbrev pub behind : Plan → Seen → Reply → Planned → Option Seen
-behind plan seen r e = if is_refused r then None else behind_taken plan seen r e
+-- nothing is planned that is refused, or by which a later period is learned
+abbrev pub behind : Plan → Seen → Holding → Reply → Planned → Option Seen
+behind plan seen h r e = if is_good plan.last r then behind_taken plan seen h r e else None
 
 -- what was done behind these events, where each is what is planned
 unfoldable pub behind_all : Plan → Seen → World → List Planned → Option Seen
 behind_all plan seen w [] = Some seen
 behind_all plan seen w (e ∷ es) =
-    option_and_then (λ next. behind_all plan next (step w (event_of e)).1 es) (behind plan seen (step w (event_of e)).0 e)
+    option_and_then (λ next. behind_all plan next (step w (event_of e)).1 es) (behind plan seen w.journals (step w (event_of e)).0 e)
+
+-- The events that were read are what is planned, and this was done behind them.
+pub record IsDone (plan : Plan) (seen last : Seen) (w : World) (read : Result (List Planned) ScheduleFault) : Type 0 where
+  pub events : List Planned
+  pub is_read : read ≡ Ok events
+  pub done : behind_all plan seen w events ≡ Some last
 
 abbrev pub nothing_seen : Seen
-nothing_seen = record { journaled = 0; node = 0; period = 0 }
+nothing_seen = record { journaled = 0; ballots = 0; node = 0; period = 0 }
 
--- all batches, and each node's file of each period
+-- all batches, a ballot for each period, and each node's file of each period
 abbrev pub all_seen : Plan → Seen
-all_seen plan = record { journaled = length plan.batches; node = 0; period = plan.last + 1 }
+all_seen plan = record { journaled = length plan.batches; ballots = plan.last + 1; node = 0; period = plan.last + 1 }
+
+-- the journals with the batch of an event that was taken, if it has one
+abbrev pub journals_behind : Holding → Event → Holding
+journals_behind h (Journal (Good text)) = put h (batch_of text)
+journals_behind h other = h

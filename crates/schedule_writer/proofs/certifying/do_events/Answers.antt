@@ -1,20 +1,31 @@
-use Rattle.std.proofs.Common.{◌<◌, ◌∙◌, length, rules, arith}
-use Rattle.std.proofs.lemmas.List.{drop_all}
-use Rattle.schedule_writer.specs.Inner.Plans.{nothing_seen, plan_of}
-use Rattle.schedule_writer.proofs.PlanLaws.{behind_more, behind_whole}
+use Rattle.std.proofs.Common.{◌≡◌, ◌+◌, ◌-◌, ◌<◌, ◌≤◌, suc, length, ap, arith}
+use Rattle.std.proofs.lemmas.Bool.Decides.{nat_tests}
+use Rattle.input_sections.specs.Sections.{left}
+use Rattle.schedule_writer.specs.Inner.Plans.{plan_of}
+use Rattle.schedule_writer.proofs.PlanLaws.{done_all, done_more, done_none}
 use Rattle.schedule_writer.proofs.certifying.do_events.Goals as goal
 
-pub loop-planned-preserved : goal.loop-planned-preserved
-loop-planned-preserved c =
-    let events = c.args.events.now in
-    let i = c.loop-planned.planned-index in
-    let within : i < length events = search (rules, arith) in
-    behind_more (plan_of c.args.plan.now) nothing_seen c.loop-planned.seen c.in_ok-seen.seen c.args.world.now c.loop-planned.world c.do_event.new.world events i _ within
-    c.loop-planned.invariant c.in_ok-seen.ensures.seen c.in_ok-seen.ensures.world
+pub returns-then-is_empty : goal.returns-then-is_empty
+returns-then-is_empty c =
+    let k = c.args.most - (c.loop.counter + 1) in
+    let more : c.args.most - c.loop.counter ≡ suc k = omega (arith, c.loop-test.true) in
+    let same = ap length c.left.ensures in
+    let none : length (left c.loop.here) ≤ 0 = grind (arith, nat_tests, same, c.is_empty.ensures, c.if-is_empty.true) in
+    c.loop.invariant.done _ (done_all (plan_of c.args.plan.now) c.loop.seen c.loop.world k _ c.loop.here more none)
+
+pub loop-preserved : goal.loop-preserved
+loop-preserved c =
+    let k = c.args.most - (c.loop.counter + 1) in
+    let more : c.args.most - c.loop.counter ≡ suc k = omega (arith, c.loop-test.true) in
+    let same = ap length c.left.ensures in
+    let some : 0 < length (left c.loop.here) = grind (arith, nat_tests, same, c.is_empty.ensures, c.if-is_empty.false) in
+    record {
+      same = c.in_ok-seen.ensures.journals;
+      done = λ last is. c.loop.invariant.done last
+          (done_more (plan_of c.args.plan.now) c.loop.seen _ last c.loop.world _ k _ c.loop.here _ more some c.in-Ok.ensures.event c.in_ok-seen.ensures.seen c.in_ok-seen.ensures.world is);
+    }
 
 pub returns : goal.returns
 returns c =
-    let plan = plan_of c.args.plan.now in
-    let i = c.loop-planned.planned-index in
-    c.loop-planned.invariant
-    ∙ behind_whole plan c.loop-planned.seen c.loop-planned.world c.args.events.now i (drop_all i c.args.events.now c.loop-planned-test.false)
+    let none : c.args.most - c.loop.counter ≡ 0 = omega (arith, c.loop-test.false) in
+    c.loop.invariant.done _ (done_none (plan_of c.args.plan.now) c.loop.seen c.loop.world _ c.loop.here none)

@@ -1,10 +1,14 @@
-use Rattle.std.proofs.Common.{◌≡◌, map, drop}
-use Rattle.schedule_reader.specs.Events.{planned_of}
-use Rattle.schedule_writer.specs.Inner.Plans.{behind_all, nothing_seen, plan_of}
+use Rattle.std.proofs.Common.{◌≡◌, ◌-◌}
+use Rattle.schedule_reader.specs.Schedules.{events_in}
+use Rattle.schedule_writer.specs.declared.plans.Seen.{Seen}
+use Rattle.schedule_writer.specs.Inner.Plans.{IsDone, nothing_seen, plan_of}
 use Rattle.schedule_writer.proofs.certifying.do_events.Given as goal
 
--- What is behind all events from the start on is behind those that are left.
-abbrev pub invariant-loop-planned : goal.invariant-loop-planned
-invariant-loop-planned l =
-    behind_all (plan_of l.plan) nothing_seen l.fn.world (map planned_of l.events)
-    ≡ behind_all (plan_of l.plan) l.seen l.world (map planned_of (drop l.planned-index l.events))
+-- The journals are those of the world, and whatever is done behind the events that are left is done behind all.
+abbrev pub invariant-loop : goal.invariant-loop
+invariant-loop l =
+    record {
+      same : l.journals.batches ≡ l.world.journals;
+      done : (last : Seen) → IsDone (plan_of l.plan) l.seen last l.world (events_in (l.most - l.counter) l.here)
+          → IsDone (plan_of l.plan) nothing_seen last l.fn.world (events_in l.most l.fn.unread);
+    }
