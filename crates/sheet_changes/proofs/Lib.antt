@@ -1,4 +1,5 @@
 mod DayNumbers
+mod FieldLines
 mod FirstDays
 mod KeptLatest
 mod PriceDays
@@ -6,5 +7,8 @@ mod CommitmentLaws
 mod RegionLaws
 mod LikenessLaws
 mod SaidLaws
+mod SortedLists
+mod ListedDays
+mod ListedLaws
 mod TwoSheets
 mod WorkedChanges

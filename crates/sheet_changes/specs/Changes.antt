@@ -1,5 +1,5 @@
 -- What is said of an old sheet and a new one: of which months the files stay, and which regions are named otherwise.
-use Rattle.std.specs.Prelude.{◌≡◌, ◌≢◌, ⊤, ℕ, ◌++◌, List, ◌∷◌, All, flat_map, IsTrue, Option, Some, None, IfSome, Result, Ok, ℤ, ◌<ℤ◌, ◌≤ℤ◌, codes}
+use Rattle.std.specs.Prelude.{◌≡◌, ◌≢◌, ⊤, ℕ, Bool, true, false, ◌++◌, List, ◌∷◌, All, flat_map, IsTrue, Option, Some, None, IfSome, Result, Ok, ℤ, ◌<ℤ◌, ◌≤ℤ◌, codes}
 use Rattle.std.specs.List.{Contains}
 use Rattle.metering_model.specs.Batch.{is_empty}
 use Rattle.metering_model.specs.BatchReading.{is_same}
@@ -10,6 +10,7 @@ use Rattle.metering_model.specs.Sheet.{Commitment, Sheet}
 use Rattle.metering_model.specs.SheetRules.{are_apart}
 use Rattle.metering_model.specs.Transcript.{line}
 use Rattle.sheet_laws.specs.Longer.{GoesOnFrom, NamesAlike}
+use Rattle.sheet_changes.specs.FieldChanges.{ListsFields}
 use Rattle.sheet_changes.specs.Regions.{unlike_regions}
 use Rattle.input_sections.specs.declared.faults.ScheduleCode.TheVariants as code
 use Rattle.input_sections.specs.declared.faults.ScheduleFault.{ScheduleFault}
@@ -90,9 +91,14 @@ two_sheets_in text = do
   _ ← holds_or (is_empty (left new.1)) (Refused code.Sheet new.1.line)
   Ok (old.0, new.0)
 
+-- what is said, and behind it all that differs, where that is asked for
+abbrev pub SaysAll : Bool → Sheet → Sheet → List ℕ → Type 0
+SaysAll false old new text = SaysChanges old new text
+SaysAll true old new text = (said fields : List ℕ) × SaysChanges old new said × ListsFields old new fields × (text ≡ said ++ fields)
+
 -- The text is what is said of the two sheets of an input, which is all that a reader gives where its bytes are known.
-pub record IsSaidOf (known : Option (List ℕ)) (old new : Sheet) (text : List ℕ) : Type 0 where
+pub record IsSaidOf (known : Option (List ℕ)) (all : Bool) (old new : Sheet) (text : List ℕ) : Type 0 where
   pub input : List ℕ
   pub is_input : IfSome known (λ bytes. input ≡ bytes)
   pub are_sheets : two_sheets_in input ≡ Ok (old, new)
-  pub is_said : SaysChanges old new text
+  pub is_said : SaysAll all old new text

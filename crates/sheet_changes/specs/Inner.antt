@@ -1,2 +1,3 @@
 -- Words of private functions and proofs.
 pub mod Compared
+pub mod Listed

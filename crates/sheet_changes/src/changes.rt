@@ -1,22 +1,24 @@
 //! `focusd sheets`: what a new price sheet does to closed months.
 
-ghost use Rattle.std.specs.Prelude.{◌≡◌, ◌≢◌, ◌↔◌, [], ℕ, List, Ok, Err, IfOk, IfErr, IfSome, IsTrue, OnOk};
+ghost use Rattle.std.specs.Prelude.{◌≡◌, ◌≢◌, ◌↔◌, ◌+◌, [], ℕ, List, Ok, Err, IfOk, IfErr, IfSome, IsTrue, OnOk};
 ghost use Rattle.std.specs.Io.KnownBytes.{Appends, IsAtEnd};
 ghost use Rattle.counted_io.specs.Counts.{Rises, count_after};
 ghost use Rattle.counted_io.specs.Reading.{ConsumesAtMost};
 ghost use Rattle.counted_io.specs.Writing.{AppendsPrefix};
+ghost use Rattle.metering_model.specs.Limits.{most_input_bytes};
 ghost use Rattle.metering_model.specs.Sheet as model;
 ghost use Rattle.metering_model.specs.SheetRules.{IsSheet};
 ghost use Rattle.metering_model.specs.declared.Refusal.{Refusal};
 ghost use Rattle.input_sections.specs.declared.faults.ScheduleFault.{ScheduleFault};
 ghost use Rattle.program_input.specs.Faults.{tells_of_reader, tells_of_writer};
-ghost use Rattle.sheet_changes.specs.Changes.{GoesOnBy, IsSaidOf, SaysChanges, StaysBefore, two_sheets_in};
+ghost use Rattle.sheet_changes.specs.Changes.{GoesOnBy, IsSaidOf, SaysAll, SaysChanges, StaysBefore, two_sheets_in};
 ghost use Rattle.sheet_changes.specs.Faults.{of_input};
 ghost use Rattle.sheet_changes.specs.Likenesses.{likeness_of};
 ghost use Rattle.sheet_changes.specs.Inner.Compared.{StaysBy, nothing_behind};
 
 use crate::comparisons::{Likeness, likeness_between, put_likeness};
 use crate::faults::SheetsFault;
+use crate::listings::put_fields;
 use crate::regions::put_regions;
 use counted_io::{Sink, Source, write_all};
 use input_sections::{ScheduleCode, ScheduleFault, Unread, read_sheet};
@@ -24,6 +26,15 @@ use price_sheet::Sheet;
 use program_input::{PlayFault, read_input};
 use std::alloc::{AllocError, Global};
 use utc_calendar::Day;
+
+/// What is asked of two sheets.
+#[derive(Clone, Copy, Debug, PartialEq, Eq, Drop)]
+pub struct Asked {
+    /// The day from which the new sheet is to go on, and name each region alike, if one is given.
+    pub before: Option<Day>,
+    /// Whether each field that differs is listed.
+    pub all: bool,
+}
 
 /// Refuses what stands behind the last section.
 fn nothing_behind(unread: &Unread<'_>) -> Result<(), ScheduleFault>
@@ -97,19 +108,40 @@ fn put_changes(
     Ok(stays(before, &likeness, text.len() == first))
 }
 
+/// Puts what is said of two sheets into an empty text, and behind it each field that differs, where all is asked for.
+/// It answers whether all stays that is asked for.
+fn put_answer(
+    alloc: Global,
+    text: &mut Vec<u8>,
+    asked: Asked,
+    old: &Sheet,
+    new: &Sheet,
+) -> Result<bool, AllocError>
+    requires empty { text.old.items ≡ [] }
+    requires rules { IsSheet old.now × IsSheet new.now }
+    ensures says { OnOk result (SaysAll asked.all old.now new.now text.new.items) }
+    ensures stays { IfOk result (λ stays. IsTrue stays ↔ StaysBefore asked.before old.now new.now) }
+{
+    let stays = put_changes(text, asked.before, old, new)?;
+    if asked.all {
+        put_fields(alloc, text, old, new)?;
+    }
+    Ok(stays)
+}
+
 /// Writes what is said of two sheets, all at once: at want of memory nothing.
 fn write_changes<W: Sink>(
     alloc: Global,
-    before: Option<Day>,
+    asked: Asked,
     old: &Sheet,
     new: &Sheet,
     writer: &mut W,
 ) -> Result<bool, PlayFault>
     requires { IsSheet old.now × IsSheet new.now }
-    ensures said { IfOk result (λ stays. (IsTrue stays ↔ StaysBefore before old.now new.now)
-        × (text : List ℕ) × SaysChanges old.now new.now text
+    ensures said { IfOk result (λ stays. (IsTrue stays ↔ StaysBefore asked.before old.now new.now)
+        × (text : List ℕ) × SaysAll asked.all old.now new.now text
         × Appends (W.contents writer.old) (W.contents writer.new) text) }
-    ensures prefix { result ≡ Err PlayFault.Write → (text : List ℕ) × SaysChanges old.now new.now text
+    ensures prefix { result ≡ Err PlayFault.Write → (text : List ℕ) × SaysAll asked.all old.now new.now text
         × AppendsPrefix (W.contents writer.old) (W.contents writer.new) text }
     ensures untouched { IfErr result (λ fault. fault ≢ PlayFault.Write → writer.new ≡ writer.old) }
     ensures others { (result ≢ Err PlayFault.Read) × ((fault : ScheduleFault) → result ≢ Err (PlayFault.Schedule fault))
@@ -120,7 +152,7 @@ fn write_changes<W: Sink>(
         ≡ count_after (tells_of_writer result) (W.failed_calls writer.old) }
 {
     let mut text = Vec::new(alloc);
-    let Ok(stays) = put_changes(&mut text, before, old, new) else {
+    let Ok(stays) = put_answer(alloc, &mut text, asked, old, new) else {
         return Err(PlayFault::OutOfMemory);
     };
     match write_all(writer, &text) {
@@ -132,16 +164,16 @@ fn write_changes<W: Sink>(
 /// Writes what is said of the two sheets of an input that was read.
 fn compare_input<W: Sink>(
     alloc: Global,
-    before: Option<Day>,
+    asked: Asked,
     input: &[u8],
     writer: &mut W,
 ) -> Result<bool, PlayFault>
     ensures said { IfOk result (λ stays. (old new : model.Sheet) × (text : List ℕ)
-        × (IsTrue stays ↔ StaysBefore before old new)
-        × (two_sheets_in input.now ≡ Ok (old, new)) × SaysChanges old new text
+        × (IsTrue stays ↔ StaysBefore asked.before old new)
+        × (two_sheets_in input.now ≡ Ok (old, new)) × SaysAll asked.all old new text
         × Appends (W.contents writer.old) (W.contents writer.new) text) }
     ensures prefix { result ≡ Err PlayFault.Write → (old new : model.Sheet) × (text : List ℕ)
-        × (two_sheets_in input.now ≡ Ok (old, new)) × SaysChanges old new text
+        × (two_sheets_in input.now ≡ Ok (old, new)) × SaysAll asked.all old new text
         × AppendsPrefix (W.contents writer.old) (W.contents writer.new) text }
     ensures section { (fault : ScheduleFault) → result ≡ Err (PlayFault.Schedule fault)
         → (fault ≢ ScheduleFault.OutOfMemory) × (two_sheets_in input.now ≡ Err fault) }
@@ -153,36 +185,37 @@ fn compare_input<W: Sink>(
         ≡ count_after (tells_of_writer result) (W.failed_calls writer.old) }
 {
     match two_sheets(alloc, input) {
-        Ok((old, new)) => write_changes(alloc, before, &old, &new, writer),
+        Ok((old, new)) => write_changes(alloc, asked, &old, &new, writer),
         Err(fault) => Err(PlayFault::from(fault)),
     }
 }
 
 /// Reads the sections of an old sheet and a new one, and writes what the new one does to closed months: a line that
-/// says from which days it goes on, and a line for each region that the two do not name alike.
+/// says from which days it goes on, and a line for each region that the two do not name alike. Where all is asked for
+/// there follows a line for each field that differs.
 ///
 /// Where a day is given, the new sheet is to go on from it and to name each region alike. Where it does not, that is
 /// told once all lines were written (`Unlike`). At most 16,777,217 bytes are read. After `Write` a prefix of the lines
 /// was written, and after any fault but that and `Unlike` nothing. `Refused` is never answered.
 pub fn sheets_text<R: Source, W: Sink>(
     alloc: Global,
-    before: Option<Day>,
+    asked: Asked,
     reader: &mut R,
     writer: &mut W,
 ) -> Result<(), SheetsFault>
     // With Ok just what is said of the two sheets was written, and all stays that was asked for.
     ensures said { OnOk result ((old new : model.Sheet) × (text : List ℕ)
-        × IsSaidOf (R.remaining reader.old) old new text × StaysBefore before old new
+        × IsSaidOf (R.remaining reader.old) asked.all old new text × StaysBefore asked.before old new
         × Appends (W.contents writer.old) (W.contents writer.new) text) }
 
     // With `Unlike` it was written too, and not all stays.
     ensures unlike { result ≡ Err SheetsFault.Unlike
-        → (old new : model.Sheet) × (text : List ℕ) × IsSaidOf (R.remaining reader.old) old new text
-        × (¬ StaysBefore before old new) × Appends (W.contents writer.old) (W.contents writer.new) text }
+        → (old new : model.Sheet) × (text : List ℕ) × IsSaidOf (R.remaining reader.old) asked.all old new text
+        × (¬ StaysBefore asked.before old new) × Appends (W.contents writer.old) (W.contents writer.new) text }
 
     // After `Write` a prefix of it was, and never all of it.
     ensures prefix { result ≡ Err (SheetsFault.Input PlayFault.Write)
-        → (old new : model.Sheet) × (text : List ℕ) × IsSaidOf (R.remaining reader.old) old new text
+        → (old new : model.Sheet) × (text : List ℕ) × IsSaidOf (R.remaining reader.old) asked.all old new text
         × AppendsPrefix (W.contents writer.old) (W.contents writer.new) text }
     ensures section { (fault : ScheduleFault) → result ≡ Err (SheetsFault.Input (PlayFault.Schedule fault))
         → IfSome (R.remaining reader.old) (λ input. two_sheets_in input ≡ Err fault) }
@@ -190,7 +223,7 @@ pub fn sheets_text<R: Source, W: Sink>(
     ensures unrefused { (refusal : Refusal) → result ≢ Err (SheetsFault.Input (PlayFault.Refused refusal)) }
     ensures untouched { IfErr result (λ fault. fault ≢ SheetsFault.Unlike
         → fault ≢ SheetsFault.Input PlayFault.Write → writer.new ≡ writer.old) }
-    ensures read { ConsumesAtMost 16_777_217 (R.remaining reader.old) (R.remaining reader.new) }
+    ensures read { ConsumesAtMost (most_input_bytes + 1) (R.remaining reader.old) (R.remaining reader.new) }
 
     // With Ok and with `Unlike` nothing is left to read.
     ensures end { OnOk result (IsAtEnd (R.remaining reader.new)) }
@@ -210,7 +243,7 @@ pub fn sheets_text<R: Source, W: Sink>(
         Ok(input) => input,
         Err(fault) => return Err(SheetsFault::Input(fault)),
     };
-    match compare_input(alloc, before, &input, writer) {
+    match compare_input(alloc, asked, &input, writer) {
         Ok(true) => Ok(()),
         Ok(false) => Err(SheetsFault::Unlike),
         Err(fault) => Err(SheetsFault::Input(fault)),
