@@ -30,7 +30,7 @@ use Rattle.input_sections.specs.RateInput.{rate_input_in}
 use Rattle.metering_model.specs.Sheet.{Sheet}
 use Rattle.metering_model.specs.Limits.{most_input_bytes, most_transcript_bytes}
 use Rattle.sheet_changes.specs.Changes.{IsSaidOf as AreSheetsOf, StaysBefore, two_sheets_in}
-use Rattle.sheet_changes.specs.Checks.{IsSaidOf as IsSaidOfSheets}
+use Rattle.sheet_changes.specs.Checks.{IsCheckOf}
 use Rattle.schedule_writer.specs.Checks.{IsSaidOf as IsSaidOfBatches}
 use Rattle.schedule_writer.specs.Refusals.{IsRefusedAt, IsTaken}
 use Rattle.schedule_writer.specs.Schedules.{IsScheduleOf}
@@ -68,7 +68,7 @@ IsChecked None known input said warned = IsSaidOf known input said warned
 IsChecked (Some kind.Rate) known input said warned = IsSaidAs checked_as.Rate known input said warned
 IsChecked (Some kind.Play) known input said warned = IsSaidAs checked_as.Play known input said warned
 IsChecked (Some kind.Schedule) known input said warned = IsSaidOfBatches known input said warned
-IsChecked (Some kind.Sheets) known input said warned = IsSaidOfSheets known input said warned
+IsChecked (Some kind.Sheets) known input said warned = IsCheckOf known input said warned
 
 -- What was asked for was done, and nothing else: the file of the input was written, or the transcript of the schedule that
 -- the input is; or nothing is refused of the input and just the warnings were written; or the first file of the period in the
@@ -110,7 +110,8 @@ Refuses (Threads size) known fault =
 Refuses (Sheets asked) known fault =
     (told : ScheduleFault) × (fault ≡ of_fault.Play (play.Schedule told)) × IfSome known (λ input. two_sheets_in input ≡ Err told)
 Refuses (Schedule request) known fault =
-    ((told : ScheduleFault) × (fault ≡ of_fault.Play (play.Schedule told)) × IfSome known (λ input. rate_input_in input ≡ Err told))
+    ((told : ScheduleFault) × (fault ≡ of_fault.Play (play.Schedule told))
+    × IfSome known (λ input. rate_input_in input ≡ Err told))
     ⊎ (((told : Vec ℕ Global) × (fault ≡ of_fault.Batch told) × IfSome known (λ input. IsRefusedAt input told.items))
     ⊎ (((fault ≡ of_fault.TooLong) ⊎ (fault ≡ of_fault.NotClosed)) × IfSome known IsTaken))
 Refuses Help known fault = ⊥
@@ -134,8 +135,8 @@ Says (Schedule request) fault known old new = ⊥
 Says Help fault known old new = ⊥
 Says Version fault known old new = ⊥
 
--- What a command leaves where it refuses: `file` of a torn file all that the input has, and of an input that is too long a front of
--- the file; all else leaves nothing at all.
+-- What a command leaves where it refuses: `file` of a torn file all that the input has, and of an input that is too long a
+-- front of the file; all else leaves nothing at all.
 abbrev pub IsLeftBy : {W : Type 0} → SinkOf W → Command → Fault → (known : Option (List ℕ)) (writer writer' : W) → Type 0
 IsLeftBy sink (File period) (of_fault.File file.Torn) known writer writer' =
     AppendsPart known period (sink.contents writer) (sink.contents writer')
@@ -164,7 +165,8 @@ IsDoneInPart (Check kind) known old new =
 IsDoneInPart (File period) known old new = AppendsLess known period old new
 IsDoneInPart (Threads size) known old new = (run : Run) × IsRunOf size run × AppendsPrefix old new (report_text run)
 IsDoneInPart (Sheets asked) known old new =
-    (before_it after_it : Sheet) × (text : List ℕ) × AreSheetsOf known asked.all before_it after_it text × AppendsPrefix old new text
+    (before_it after_it : Sheet) × (text : List ℕ) × AreSheetsOf known asked.all before_it after_it text
+    × AppendsPrefix old new text
 IsDoneInPart (Schedule request) known old new =
     (input text : List ℕ) × IsScheduleOf request known input text × AppendsPrefix old new text
 IsDoneInPart Help known old new = (text : List ℕ) × AppendsPrefix old new text
@@ -185,21 +187,25 @@ most_read Version = 0
 -- One call of the reader failed, and none of the writer.
 abbrev pub ReaderFailed : {R W : Type 0} → SourceOf R → SinkOf W → (reader reader' : R) (writer writer' : W) → Type 0
 ReaderFailed source sink reader reader' writer writer' =
-    (source.failed_calls reader' ≡ next_count (source.failed_calls reader)) × (sink.failed_calls writer' ≡ sink.failed_calls writer)
+    (source.failed_calls reader' ≡ next_count (source.failed_calls reader))
+    × (sink.failed_calls writer' ≡ sink.failed_calls writer)
 
 -- One call of the writer failed, and none of the reader.
 abbrev pub WriterFailed : {R W : Type 0} → SourceOf R → SinkOf W → (reader reader' : R) (writer writer' : W) → Type 0
 WriterFailed source sink reader reader' writer writer' =
-    (sink.failed_calls writer' ≡ next_count (sink.failed_calls writer)) × (source.failed_calls reader' ≡ source.failed_calls reader)
+    (sink.failed_calls writer' ≡ next_count (sink.failed_calls writer))
+    × (source.failed_calls reader' ≡ source.failed_calls reader)
 
 -- What a run leaves of the reader, the writer and the sink of its errors, by the status that it ends with.
 pub record Ends {R W E A B : Type 0} (source : SourceOf R) (sink : SinkOf W) (telling : SinkOf E)
-    (args : Result (IntoIter (String A) B) Error) (status : ℕ) (reader reader' : R) (writer writer' : W) (errors errors' : E) : Type 0 where
+    (args : Result (IntoIter (String A) B) Error) (status : ℕ) (reader reader' : R) (writer writer' : W)
+    (errors errors' : E) : Type 0 where
   pub range : status ≤ 4
   -- 0: what was asked for was written whole, and nothing else; only what is done without the input leaves it where it is.
   pub done : status ≡ 0 → (command : Command) × AsksFor args command
       × IsDone command (source.remaining reader) (source.remaining reader') (sink.contents writer) (sink.contents writer')
-  pub end : status ≡ 0 → ((command : Command) → AsksFor args command → takes_input command ≡ true) → IsAtEnd (source.remaining reader')
+  pub end : status ≡ 0 → ((command : Command) → AsksFor args command → takes_input command ≡ true)
+      → IsAtEnd (source.remaining reader')
   pub silent : status ≡ 0 → errors' ≡ errors
   -- 1: what was asked for is refused so, or it says what is wrong with the input, and tells so of the same input.
   pub refused : status ≡ 1 → (command : Command) × (fault : Fault) × AsksFor args command × (status_of fault ≡ 1)
@@ -207,7 +213,8 @@ pub record Ends {R W E A B : Type 0} (source : SourceOf R) (sink : SinkOf W) (te
       ⊎ Says command fault (source.remaining reader) (sink.contents writer) (sink.contents writer'))
       × Tells telling fault errors errors'
   -- 2: nothing was asked for.
-  pub not_asked : status ≡ 2 → ((command : Command) → ¬ AsksFor args command) × Tells telling (of_fault.Line on_line.Line) errors errors'
+  pub not_asked : status ≡ 2 → ((command : Command) → ¬ AsksFor args command)
+      × Tells telling (of_fault.Line on_line.Line) errors errors'
   pub untouched : status ≡ 2 → reader' ≡ reader
   -- 3: one call failed, and no other; where it was the writer's, just a prefix of what is asked for was written.
   pub device : status ≡ 3 → (command : Command) × AsksFor args command
@@ -216,7 +223,8 @@ pub record Ends {R W E A B : Type 0} (source : SourceOf R) (sink : SinkOf W) (te
       ⊎ (WriterFailed source sink reader reader' writer writer'
       × IsDoneInPart command (source.remaining reader) (sink.contents writer) (sink.contents writer')
       × Tells telling (of_fault.Play play.Write) errors errors'))
-  pub calm : status ≢ 3 → (source.failed_calls reader' ≡ source.failed_calls reader) × (sink.failed_calls writer' ≡ sink.failed_calls writer)
+  pub calm : status ≢ 3 → (source.failed_calls reader' ≡ source.failed_calls reader)
+      × (sink.failed_calls writer' ≡ sink.failed_calls writer)
   -- 4: memory was wanting; a schedule may have been played up to some event, or a file written up to some byte.
   pub memory : status ≡ 4 → Tells telling (of_fault.Play play.OutOfMemory) errors errors'
   pub part : status ≡ 4 → IsUnwritten sink args (source.remaining reader) writer writer'

@@ -25,15 +25,17 @@ pub enum Command {
     Rate { period: Period },
     /// `play`: the transcript of a schedule.
     Play,
-    /// `check --kind KIND`: what is wrong with an input of that kind; where none is given, the input's first line decides.
+    /// `check --kind KIND`: what is wrong with an input of that kind. Where none is given, an input that
+    /// begins with `SCHEDULE` is to be played, and any other to be rated.
     Check(Option<Kind>),
     /// `file --period P`: the file of that billing period in a transcript.
     File { period: Period },
     /// `threads --nodes N --agents A --batches K --periods P`: the report of a group of that size,
     /// run in threads.
     Threads { size: Size },
-    /// `sheets --before DAY --all`: what a new price sheet changes of an old one; files of months that end
-    /// before the day, where one is given, are to stay. With `--all` each field that differs is listed too.
+    /// `sheets --before DAY --all`: what a new price sheet changes of an old one; files of months that
+    /// end before the day, where one is given, are to stay. With `--all` each field that differs is
+    /// listed too.
     Sheets { asked: Asked },
     /// `schedule --nodes N --observers M --through P`: a schedule that closes the months of batches.
     Schedule { request: Request },

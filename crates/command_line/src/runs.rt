@@ -105,7 +105,8 @@ fn rate<R: Source, W: Sink>(
     ensures outcome { Leaves W.Sink (Command.Rate period) result
         (R.remaining reader.old) (R.remaining reader.new)
         (R.failed_calls reader.old) (R.failed_calls reader.new) writer.old writer.new }
-    ensures read { ConsumesAtMost (most_input_bytes + 1) (R.remaining reader.old) (R.remaining reader.new) }
+    ensures read { ConsumesAtMost (most_input_bytes + 1)
+        (R.remaining reader.old) (R.remaining reader.new) }
 {
     match rate_text(alloc, period, reader, writer) {
         Ok(()) => Ok(()),
@@ -117,7 +118,8 @@ fn play<R: Source, W: Sink>(alloc: Global, reader: &mut R, writer: &mut W) -> Re
     ensures outcome { Leaves W.Sink Command.Play result
         (R.remaining reader.old) (R.remaining reader.new)
         (R.failed_calls reader.old) (R.failed_calls reader.new) writer.old writer.new }
-    ensures read { ConsumesAtMost (most_input_bytes + 1) (R.remaining reader.old) (R.remaining reader.new) }
+    ensures read { ConsumesAtMost (most_input_bytes + 1)
+        (R.remaining reader.old) (R.remaining reader.new) }
 {
     match play_text(alloc, reader, writer) {
         Ok(()) => Ok(()),
@@ -134,7 +136,8 @@ fn say<R: Source, W: Sink>(
 ) -> Result<u64, PlayFault>
     ensures said { IfOk result (λ count. (input said warned : List ℕ)
         × IsChecked kind (R.remaining reader.old) input said warned
-        × Appends (W.contents writer.old) (W.contents writer.new) (said ++ warned) × (count ≡ line_count said)) }
+        × Appends (W.contents writer.old) (W.contents writer.new) (said ++ warned)
+        × (count ≡ line_count said)) }
     ensures ahead { result ≡ Ok 0 → (input warned : List ℕ)
         × IsChecked kind (R.remaining reader.old) input [] warned
         × Appends (W.contents writer.old) (W.contents writer.new) warned }
@@ -145,7 +148,8 @@ fn say<R: Source, W: Sink>(
     ensures untouched { IfErr result (λ fault. fault ≢ PlayFault.Write → writer.new ≡ writer.old) }
     ensures no_section { (fault : ScheduleFault) → result ≢ Err (PlayFault.Schedule fault) }
     ensures no_refusal { (refusal : Refusal) → result ≢ Err (PlayFault.Refused refusal) }
-    ensures read { ConsumesAtMost (most_input_bytes + 1) (R.remaining reader.old) (R.remaining reader.new) }
+    ensures read { ConsumesAtMost (most_input_bytes + 1)
+        (R.remaining reader.old) (R.remaining reader.new) }
     ensures reads { R.failed_calls reader.new
         ≡ count_after (tells_of_reader result) (R.failed_calls reader.old) }
     ensures writes { W.failed_calls writer.new
@@ -172,7 +176,8 @@ fn check<R: Source, W: Sink>(
     ensures outcome { Leaves W.Sink (Command.Check kind) result
         (R.remaining reader.old) (R.remaining reader.new)
         (R.failed_calls reader.old) (R.failed_calls reader.new) writer.old writer.new }
-    ensures read { ConsumesAtMost (most_input_bytes + 1) (R.remaining reader.old) (R.remaining reader.new) }
+    ensures read { ConsumesAtMost (most_input_bytes + 1)
+        (R.remaining reader.old) (R.remaining reader.new) }
 {
     match say(alloc, kind, reader, writer) {
         Ok(0) => Ok(()),
@@ -190,7 +195,8 @@ fn file<R: Source, W: Sink>(
     ensures outcome { Leaves W.Sink (Command.File period) result
         (R.remaining reader.old) (R.remaining reader.new)
         (R.failed_calls reader.old) (R.failed_calls reader.new) writer.old writer.new }
-    ensures read { ConsumesAtMost (most_transcript_bytes + 1) (R.remaining reader.old) (R.remaining reader.new) }
+    ensures read { ConsumesAtMost (most_transcript_bytes + 1)
+        (R.remaining reader.old) (R.remaining reader.new) }
 {
     match file_text(alloc, period, reader, writer) {
         Ok(()) => Ok(()),
@@ -217,7 +223,8 @@ fn sheets<R: Source, W: Sink>(
     ensures outcome { Leaves W.Sink (Command.Sheets asked) result
         (R.remaining reader.old) (R.remaining reader.new)
         (R.failed_calls reader.old) (R.failed_calls reader.new) writer.old writer.new }
-    ensures read { ConsumesAtMost (most_input_bytes + 1) (R.remaining reader.old) (R.remaining reader.new) }
+    ensures read { ConsumesAtMost (most_input_bytes + 1)
+        (R.remaining reader.old) (R.remaining reader.new) }
 {
     match sheets_text(alloc, asked, reader, writer) {
         Ok(()) => Ok(()),
@@ -249,7 +256,8 @@ fn schedule<R: Source, W: Sink>(
     ensures outcome { Leaves W.Sink (Command.Schedule request) result
         (R.remaining reader.old) (R.remaining reader.new)
         (R.failed_calls reader.old) (R.failed_calls reader.new) writer.old writer.new }
-    ensures read { ConsumesAtMost (most_input_bytes + 1) (R.remaining reader.old) (R.remaining reader.new) }
+    ensures read { ConsumesAtMost (most_input_bytes + 1)
+        (R.remaining reader.old) (R.remaining reader.new) }
 {
     match schedule_text(alloc, request, reader, writer) {
         Ok(()) => Ok(()),
@@ -266,7 +274,8 @@ fn threads<T: Threads + Wait + Sync, W: Sink>(
 ) -> Result<(), Fault>
     requires { IsSize size }
     ensures outcome { (known : Option (List ℕ)) (reads : ℕ)
-        → Leaves W.Sink (Command.Threads size) result known known reads reads writer.old writer.new }
+        → Leaves W.Sink (Command.Threads size) result
+        known known reads reads writer.old writer.new }
 {
     match threads_text(rt, alloc, size, writer) {
         Ok(()) => Ok(()),
@@ -277,9 +286,11 @@ fn threads<T: Threads + Wait + Sync, W: Sink>(
 // Shows a text, of help or of the version, and takes nothing of the input, whatever that is.
 fn show<W: Sink>(text: &[u8], writer: &mut W) -> Result<(), Fault>
     ensures shown { OnOk result (Appends (W.contents writer.old) (W.contents writer.new) text.now) }
-    ensures prefix { OnErr result (AppendsPrefix (W.contents writer.old) (W.contents writer.new) text.now) }
+    ensures prefix { OnErr result
+        (AppendsPrefix (W.contents writer.old) (W.contents writer.new) text.now) }
     ensures fault { IfErr result (λ fault. fault ≡ Fault.Play PlayFault.Write) }
-    ensures count { W.failed_calls writer.new ≡ count_after (is_err result) (W.failed_calls writer.old) }
+    ensures count { W.failed_calls writer.new
+        ≡ count_after (is_err result) (W.failed_calls writer.old) }
 {
     match write_all(writer, text) {
         Ok(()) => Ok(()),
@@ -287,7 +298,8 @@ fn show<W: Sink>(text: &[u8], writer: &mut W) -> Result<(), Fault>
     }
 }
 
-// What comes of a command. A group in threads is not run here: its size is the error, and nothing is done.
+// What comes of a command. A group in threads is not run here: its size is the error, and nothing is
+// done.
 fn outcome<R: Source, W: Sink>(
     alloc: Global,
     wanted: &Wanted,
@@ -299,7 +311,8 @@ fn outcome<R: Source, W: Sink>(
     ensures outcome { IfOk result (λ outcome. Leaves W.Sink wanted.now.command outcome
         (R.remaining reader.old) (R.remaining reader.new)
         (R.failed_calls reader.old) (R.failed_calls reader.new) writer.old writer.new) }
-    ensures alone { IfOk result (λ outcome. (size : Size) → wanted.now.command ≢ Command.Threads size) }
+    ensures alone { IfOk result
+        (λ outcome. (size : Size) → wanted.now.command ≢ Command.Threads size) }
     ensures threads { IfErr result (λ size. wanted.now.command ≡ Command.Threads size) }
     ensures untouched { IsErr result → (reader.new ≡ reader.old) × (writer.new ≡ writer.old) }
     ensures read { ConsumesAtMost (most_read wanted.now.command)
@@ -365,11 +378,11 @@ pub fn run_alone<R: Source, W: Sink, E: Sink>(
 /// Does what the arguments ask for, of which the first is the program's name, and answers the status
 /// to end with.
 ///
-/// 0 says that it was done, and of `check` that nothing is refused, though it may warn; 1 that the input
-/// is refused, that `check` wrote what is refused of it, that it has no whole file of the period, that
-/// not all stays of two sheets that is to stay, that no schedule was found, or that a run in threads came
-/// to a mismatch; 2 that the words ask for nothing, or are no text; 3 that a read or a write failed; 4
-/// that memory was wanting.
+/// 0 says that it was done, and of `check` that nothing is refused, though it may warn; 1 that the
+/// input is refused, that `check` wrote what is refused of it, that it has no whole file of the period,
+/// that not all stays of two sheets that is to stay, that no schedule was found, or that a run in
+/// threads came to a mismatch; 2 that the words ask for nothing, or are no text; 3 that a read or a
+/// write failed; 4 that memory was wanting.
 /// In each case but 0 a line tells of it on `errors`, as far as that takes it. At most 16,777,217
 /// bytes are read, by `file` at most 4,294,967,297, and none at 2, by `threads`, or for help or the
 /// version. What is no group in threads is done by [`run_alone`], which no thread can keep from

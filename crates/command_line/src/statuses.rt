@@ -19,7 +19,8 @@ use threads_player::ThreadsFault;
 pub enum Fault {
     /// The command line.
     Line(LineFault),
-    /// `rate` or `play`, sections of `sheets` or `schedule`, or a device of any but `file` and `threads`.
+    /// `rate` or `play`, the sections of `sheets` or `schedule`, or a device of any but `file` and
+    /// `threads`.
     Play(PlayFault),
     /// `check` wrote so many lines of what is wrong.
     Faults(u64),
@@ -145,10 +146,12 @@ fn end_of(fault: &Fault) -> &'static [u8]
 
 // Writes one text and then the other.
 fn write_both<W: Sink>(first: &[u8], second: &[u8], writer: &mut W) -> Result<(), Failed>
-    ensures written { OnOk result (Appends (W.contents writer.old) (W.contents writer.new) (first.now ++ second.now)) }
+    ensures written { OnOk result
+        (Appends (W.contents writer.old) (W.contents writer.new) (first.now ++ second.now)) }
     ensures prefix { OnErr result
         (AppendsPrefix (W.contents writer.old) (W.contents writer.new) (first.now ++ second.now)) }
-    ensures count { W.failed_calls writer.new ≡ count_after (is_err result) (W.failed_calls writer.old) }
+    ensures count { W.failed_calls writer.new
+        ≡ count_after (is_err result) (W.failed_calls writer.old) }
 {
     write_all(writer, first)?;
     write_all(writer, second)

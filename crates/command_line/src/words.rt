@@ -100,13 +100,7 @@ fn flag<'a>(alloc: Global, name: &'a str, help: &'a str) -> Arg<'a>
 }
 
 // `--NAME N` with a number from the one to the other, which may be left out
-fn number_option<'a>(
-    alloc: Global,
-    name: &'a str,
-    help: &'a str,
-    least: u16,
-    most: u16,
-) -> Arg<'a>
+fn number_option<'a>(alloc: Global, name: &'a str, help: &'a str, least: u16, most: u16) -> Arg<'a>
     ensures rule { rule_of result ≡ number_option name.entry.now least most }
     ensures local { result.global ≡ false }
 {
@@ -123,12 +117,7 @@ fn plain_grammar<'a>(alloc: Global, name: &'a str, about: &'a str) -> clap::Comm
 }
 
 // The same, whose help says behind all else what the input is
-fn explained<'a>(
-    alloc: Global,
-    name: &'a str,
-    about: &'a str,
-    input: &'a str,
-) -> clap::Command<'a>
+fn explained<'a>(alloc: Global, name: &'a str, about: &'a str, input: &'a str) -> clap::Command<'a>
     ensures app { app_of result ≡ new_app name.entry.now }
     ensures local { (out-Command result).has_globals ≡ false }
 {
@@ -138,10 +127,7 @@ fn explained<'a>(
 }
 
 // A command with one option more
-fn taking<'a>(
-    command: clap::Command<'a>,
-    option: Arg<'a>,
-) -> Result<clap::Command<'a>, LineFault>
+fn taking<'a>(command: clap::Command<'a>, option: Arg<'a>) -> Result<clap::Command<'a>, LineFault>
     requires local { ((out-Command command).has_globals ≡ false) × (option.global ≡ false) }
     ensures app { IfOk result
         (λ c. app_of c ≡ with_rule (app_of command.entry) (rule_of option.entry)) }
@@ -170,7 +156,8 @@ fn period_grammar<'a>(
         "The billing period, in months from the base of the price sheet: 0 to 1199",
         0,
         1_199,
-    ).required(true);
+    )
+    .required(true);
     taking(plain_grammar(alloc, name, about), period)
 }
 
@@ -188,7 +175,8 @@ fn threads_grammar<'a>(alloc: Global) -> Result<clap::Command<'a>, LineFault>
         "How many batches of each agent: 1 to 99",
         1,
         99,
-    ).required(true);
+    )
+    .required(true);
     let periods = number_option(alloc, "periods", "How many months: 1 to 12", 1, 12).required(true);
     let threads = taking(plain_grammar(alloc, "threads", THREADS), nodes)?;
     let threads = taking(threads, agents)?;
@@ -233,15 +221,17 @@ fn schedule_grammar<'a>(alloc: Global) -> Result<clap::Command<'a>, LineFault>
     ensures local { IfOk result (λ c. (out-Command c).has_globals ≡ false) }
     ensures memory { result ≢ Err LineFault.Line }
 {
-    let nodes = number_option(alloc, "nodes", "How many nodes vote: 1 to 99", 1, 99)
-        .default_value("3");
+    let nodes = number_option(alloc, "nodes", "How many nodes vote: 1 to 99", 1, 99).default_value(
+        "3",
+    );
     let observers = number_option(
         alloc,
         "observers",
         "How many more observe: 0 to 98, at most 99 with those that vote",
         0,
         98,
-    ).default_value("0");
+    )
+    .default_value("0");
     let through = number_option(
         alloc,
         "through",

@@ -119,9 +119,17 @@ fn sheets_and_a_schedule_are_asked_for(rt: HostRuntime) -> Result<(), Fail> {
     let day = Some(Day::read(b"2024-02-29").ok_or("no day")?);
     for (lines, before, all) in [
         ("sheets", None, false),
-        ("sheets --before 2024-02-29\nsheets --before=2024-02-29", day, false),
+        (
+            "sheets --before 2024-02-29\nsheets --before=2024-02-29",
+            day,
+            false,
+        ),
         ("sheets --all", None, true),
-        ("sheets --all --before 2024-02-29\nsheets --before=2024-02-29 --all", day, true),
+        (
+            "sheets --all --before 2024-02-29\nsheets --before=2024-02-29 --all",
+            day,
+            true,
+        ),
     ] {
         let asked = Asked { before, all };
         let other = first_other(rt.alloc(), lines, Ok(Command::Sheets { asked }))?;

@@ -44,10 +44,11 @@ pub record ComesTo {W : Type 0} (sink : SinkOf W) (command : Command) (fault : F
   pub part : status_of fault ≡ 4 → IsKept sink command known writer writer'
       ⊎ ((command ≡ Play) × IsPlayedInPart known (sink.contents writer) (sink.contents writer'))
 
-abbrev pub Leaves : {W : Type 0} → SinkOf W → Command → Result (Unit {0}) Fault → (known left : Option (List ℕ)) (reads reads' : ℕ)
-    (writer writer' : W) → Type 0
+abbrev pub Leaves : {W : Type 0} → SinkOf W → Command → Result (Unit {0}) Fault → (known left : Option (List ℕ))
+    (reads reads' : ℕ) (writer writer' : W) → Type 0
 Leaves sink command (Ok done) known left reads reads' writer writer' = Does sink command known left reads reads' writer writer'
-Leaves sink command (Err fault) known left reads reads' writer writer' = ComesTo sink command fault known reads reads' writer writer'
+Leaves sink command (Err fault) known left reads reads' writer writer' =
+    ComesTo sink command fault known reads reads' writer writer'
 
 -- what can be run: a schedule or a group of a size that may be asked for
 abbrev pub IsSound : Command → Type 0
