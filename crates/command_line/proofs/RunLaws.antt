@@ -728,6 +728,12 @@ ends_at_words C source sink telling args on_line.OutOfMemory status reader write
   not_given = missing_of C args on_line.OutOfMemory status same missing;
 }
 
+-- Where words ask for a group, only want of memory comes before.
+pub memory_alone : {A B : Type 0} (args : Result (IntoIter (String A) B) Error) (fault : LineFault) (status : ℕ) → status ≡ status_of (Line fault)
+    → (fault ≡ on_line.Line → (command : Command) → ¬ AsksFor args command) → (size : Size) → AsksFor args (RunThreads size) → status ≡ 4
+memory_alone args on_line.Line status same unasked size asked = absurd (unasked refl (RunThreads size) asked)
+memory_alone args on_line.OutOfMemory status same unasked size asked = same
+
 -- What was lent may have another name where nothing was done to it before.
 pub ends_from : {R W E A B : Type 0} (source : SourceOf R) (sink : SinkOf W) (telling : SinkOf E) (args : Result (IntoIter (String A) B) Error) (status : ℕ) (reader reader₀ reader' : R) (writer writer₀ writer' : W) (errors errors₀ errors' : E)
     → reader ≡ reader₀ → writer ≡ writer₀ → errors ≡ errors₀

@@ -30,11 +30,11 @@ flag_option name = record (new_rule name) { long = Some name; action = Some SetT
 abbrev pub number_option : Text → (least most : ℕ) → Rule
 number_option name least most = record (text_option name) { parser = Some (parser.Signed (pos least) (pos most)) }
 
--- which may not be left out
+-- the same where it may not be left out
 abbrev pub required : Rule → Rule
 required rule = record rule { required = true }
 
--- the same with a text for where it is left out
+-- the same with a text that stands for it where it is left out
 abbrev pub defaulting_to : Text → Rule → Rule
 defaulting_to default rule = record rule { defaults = default ∷ [] }
 
@@ -101,7 +101,7 @@ abbrev pub GivesDay : List Row → Option ℤ → Type 0
 GivesDay rows None = first_of (codes "before") rows ≡ None
 GivesDay rows (Some day) = (text : Text) × (first_of (codes "before") rows ≡ Some text) × (day_in text ≡ Some day)
 
--- The option is given; where it is left out, `clap` gives it the other text.
+-- The option is given, or it is left out: `clap` gives it the one text or the other.
 abbrev pub GivesFlag : List Row → (option : Text) → Bool → Type 0
 GivesFlag rows option true = one_of option rows ≡ Some (codes "true")
 GivesFlag rows option false = one_of option rows ≡ Some (codes "false")
