@@ -1,6 +1,6 @@
 -- What a parse that succeeds, or fails, says of what the words ask for.
 use Rattle.std.specs.Bool.{⊤}
-use Rattle.std.proofs.Common.{Bool, ◌≡◌, ◌≢◌, ◌⊎◌, ◌==◌, ◌∙◌, sym, ap, subst, Result, Ok, Err, IfOk, ℕ, ℤ, ◌+◌, ◌*◌, ◌<◌, ◌^◌, List, [], ◌∷◌, codes, slice_index, Option, Some, None, IfSome, is_none as is_nothing, is_some, option_map, true, false, refl, inl, inr, arith}
+use Rattle.std.proofs.Common.{Bool, ◌≡◌, ◌≢◌, ◌⊎◌, ◌==◌, ◌∙◌, sym, ap, subst, Result, Ok, Err, IfOk, ℕ, ℤ, ◌+◌, ◌*◌, ◌<◌, ◌^◌, List, [], ◌∷◌, codes, slice_index, Option, Some, None, IfSome, is_none as is_nothing, option_map, true, false, refl, inl, inr, arith}
 use Rattle.std.specs.Str.{bytes_eq}
 use Rattle.std.proofs.lemmas.Slice.Eq.{bytes_eq-Decides}
 use Rattle.std.specs.Str.Parse.{ParsesBool, ParsesUnsigned, false_text, true_text, ExplainsUnsignedError, HasUnsignedDigitsIfOk}

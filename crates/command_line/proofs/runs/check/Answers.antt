@@ -1,6 +1,6 @@
 use Rattle.std.proofs.Common.{◌≡◌, Ok, Err, ap, arith}
 use Rattle.std.proofs.lemmas.Bool.Decides.{nat_tests}
-use Rattle.command_line.proofs.RunLaws.{check_comes_to, says}
+use Rattle.command_line.proofs.RunLaws.{check_comes_to}
 use Rattle.command_line.proofs.runs.check.Goals as goal
 
 pub returns-in-Ok-eq0-clause-outcome : goal.returns-in-Ok-eq0-clause-outcome

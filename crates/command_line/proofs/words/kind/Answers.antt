@@ -1,4 +1,4 @@
-use Rattle.std.proofs.Common.{◌≡◌, ◌∙◌, Some, None, codes, is_none, refl, true, ap}
+use Rattle.std.proofs.Common.{◌≡◌, ◌∙◌, Some, codes, is_none, refl, true, ap}
 use Rattle.clap.specs.Words.{found_of}
 use Rattle.command_line.proofs.WordLaws.{absent, first_read, is_none as is_absent, no_kind}
 use Rattle.command_line.proofs.words.kind.Goals as goal
