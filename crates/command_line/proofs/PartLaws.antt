@@ -1,5 +1,5 @@
--- The two parts of a fault's line, one behind the other.
-use Rattle.std.proofs.Common.{◌≡◌, ◌∙◌, ◌++◌, Result, Ok, Err, OnOk, OnErr, is_err, codes, inl, inr, sym, ap, subst}
+-- The parts of a fault's line, one behind the other.
+use Rattle.std.proofs.Common.{◌≡◌, ◌∙◌, ◌++◌, ℕ, List, Option, Result, Ok, Err, OnOk, OnErr, is_err, codes, inl, inr, sym, ap, subst}
 use Rattle.std.proofs.KnownBytes.{Appends-trans}
 use Rattle.std.proofs.lemmas.List.{append-nil, append_assoc}
 use Rattle.std.specs.Io.KnownBytes.{Appends}
@@ -8,16 +8,13 @@ use Rattle.counted_io.specs.Writing.{AppendsPrefix}
 use Rattle.counted_io.specs.declared.writing.Sink.{Ghosts as SinkOf}
 use Rattle.counted_io.specs.declared.writing.Failed.{Failed}
 use Rattle.counted_io.proofs.Prefixes.{prefix_behind, prefix_within}
-use Rattle.metering_model.specs.Transcript.{refusal_text}
 use Rattle.command_line.specs.Endings.{Tells, ending_line}
-use Rattle.command_line.specs.Inner.Parts.{first_part, first_words, last_part}
+use Rattle.command_line.specs.Inner.Parts.{first_part, last_part}
 use Rattle.command_line.specs.declared.statuses.Fault.{Fault}
 use Rattle.command_line.specs.declared.statuses.Fault.TheVariants.{Line, Play, Faults, File, Threads, Unlike, Batch, TooLong, NotClosed}
 
 parts_join : (fault : Fault) → first_part fault ++ last_part fault ≡ ending_line fault
-parts_join (Batch at refusal) =
-    sym (append_assoc (codes "focusd: " ++ first_words (Batch at refusal)) (refusal_text refusal) (codes "\n"))
-    ∙ ap (λ text. text ++ codes "\n") (append_assoc (codes "focusd: ") (first_words (Batch at refusal)) (refusal_text refusal))
+parts_join (Batch told) = sym (append_assoc (codes "focusd: ") told.items (codes "\n"))
 parts_join (Line fault) = append-nil (ending_line (Line fault))
 parts_join (Play fault) = append-nil (ending_line (Play fault))
 parts_join (Faults count) = append-nil (ending_line (Faults count))
@@ -26,6 +23,12 @@ parts_join (Threads fault) = append-nil (ending_line (Threads fault))
 parts_join Unlike = append-nil (ending_line Unlike)
 parts_join TooLong = append-nil (ending_line TooLong)
 parts_join NotClosed = append-nil (ending_line NotClosed)
+
+-- a part of the second text behind all of the first is a part of both
+pub part_of_both : (old between new : Option (List ℕ)) (first last : List ℕ) (r : Result (Unit {0}) Failed) → Appends old between first
+    → OnErr r (AppendsPrefix between new last) → OnErr r (AppendsPrefix old new (first ++ last))
+part_of_both old between new first last (Ok x) written cut = tt
+part_of_both old between new first last (Err x) written cut = prefix_behind old between new first last written cut
 
 module _ {E : Type 0} (sink : SinkOf E) (fault : Fault) where
   -- the first part was not written whole

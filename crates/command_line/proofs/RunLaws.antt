@@ -1,8 +1,9 @@
 -- What the status of a fault tells of the fault, and what a run leaves.
-use Rattle.std.proofs.Common.{◌≡◌, ◌≢◌, ◌⊎◌, ◌≤◌, ◌++◌, length, ◌∙◌, sym, ap, subst, ℕ, ℤ, List, [], String, Option, Some, None, Result, Ok, Err, IfErr, IfSome, true, false, inl, inr, refl, arith}
+use Rattle.std.proofs.Common.{Bool, ◌≡◌, ◌≢◌, ◌⊎◌, ◌≤◌, ◌+◌, ◌++◌, length, ◌∙◌, sym, ap, subst, ℕ, List, [], String, Vec, Option, Some, None, Result, Ok, Err, IfErr, IfSome, OnErr, OnOk, is_err, true, false, inl, inr, refl, arith}
 use Rattle.std.specs.Io.KnownBytes.{Appends, IsAtEnd}
 use Rattle.std.specs.IoError.{error_kind}
 use Rattle.std.specs.declared.io.Error.{Error}
+use Rattle.std.specs.declared.alloc.Global.{Global}
 use Rattle.std.specs.declared.io.ErrorKind.TheVariants.{OutOfMemory as NoMemory}
 use Rattle.std.specs.declared.vec.IntoIter.{IntoIter}
 use Rattle.counted_io.specs.Counts.{count_after, next_count}
@@ -15,22 +16,22 @@ use Rattle.program_input.specs.declared.faults.PlayFault.TheVariants as play
 use Rattle.program_input.specs.declared.ScheduleFault.TheVariants as section
 use Rattle.program_input.specs.Faults.{tells_of_reader, tells_of_writer}
 use Rattle.metering_model.specs.Transcript.{line_count}
-use Rattle.input_check.specs.Checks.{IsSaidOf, said_of_input}
-use Rattle.input_check.proofs.LineLaws.{nothing_said}
+use Rattle.metering_model.specs.Limits.{most_input_bytes, most_transcript_bytes}
 use Rattle.period_file.specs.declared.faults.FileFault.{FileFault}
 use Rattle.period_file.specs.declared.faults.FileFault.TheVariants as file
 use Rattle.period_file.specs.Faults.{tells_of_reader as file_read, tells_of_writer as file_wrote}
-use Rattle.period_file.specs.Files.{AppendsFront, AppendsPart}
+use Rattle.period_file.specs.Files.{AppendsFront, AppendsLess, AppendsPart}
 use Rattle.input_sections.specs.RateInput.{rate_input_in}
 use Rattle.metering_model.specs.declared.Refusal.{Refusal}
 use Rattle.program_input.specs.declared.ScheduleFault.{ScheduleFault}
 use Rattle.metering_model.specs.Sheet.{Sheet}
 use Rattle.sheet_changes.specs.Changes.{IsSaidOf as AreSheetsOf, StaysBefore, two_sheets_in}
 use Rattle.sheet_changes.specs.Faults.{of_input}
+use Rattle.sheet_changes.specs.declared.changes.Asked.{Asked}
 use Rattle.sheet_changes.specs.declared.faults.SheetsFault.{SheetsFault}
 use Rattle.sheet_changes.specs.declared.faults.SheetsFault.TheVariants as compared
 use Rattle.schedule_writer.specs.Faults.{tells_of_reader as schedule_read, tells_of_writer as schedule_wrote}
-use Rattle.schedule_writer.specs.Refusals.{IsRefusedAt}
+use Rattle.schedule_writer.specs.Refusals.{IsRefusedAt, IsTaken}
 use Rattle.schedule_writer.specs.declared.asked.Request.{Request}
 use Rattle.schedule_writer.specs.declared.faults.WriteFault.{WriteFault}
 use Rattle.schedule_writer.specs.declared.faults.WriteFault.TheVariants as written
@@ -42,13 +43,14 @@ use Rattle.threads_player.specs.Runs.{IsSheetRefused}
 use Rattle.threads_player.specs.declared.sizes.Size.{Size}
 use Rattle.command_line.specs.declared.words.LineFault.{LineFault}
 use Rattle.command_line.specs.declared.words.LineFault.TheVariants as on_line
+use Rattle.command_line.specs.declared.commands.Kind.{Kind}
 use Rattle.command_line.specs.declared.commands.Command.{Command}
 use Rattle.command_line.specs.declared.commands.Command.TheVariants.{Rate, Play as PlaySchedule, Check, File as CutFile, Threads as RunThreads, Help as ShowHelp, Version as ShowVersion, Sheets as CompareSheets, Schedule as WriteSchedule}
 use Rattle.command_line.specs.declared.statuses.Fault.{Fault}
 use Rattle.command_line.specs.declared.statuses.Fault.TheVariants.{Line, Play, Faults, File, Threads, Unlike, Batch, TooLong, NotClosed}
 use Rattle.command_line.specs.Endings.{Tells, ending_line, status_of}
-use Rattle.command_line.specs.Runs.{AsksFor, Ends, IsDone, IsDoneInPart, IsLeftBy, IsPlayedInPart, IsUnwritten, Refuses, Says, words_behind_name}
-use Rattle.command_line.specs.Inner.Outcomes.{ComesTo, IsEnding, IsKept, Leaves}
+use Rattle.command_line.specs.Runs.{AsksFor, Ends, IsChecked, IsDone, IsDoneInPart, IsLeftBy, IsPlayedInPart, IsUnwritten, Refuses, Says, most_read, words_behind_name}
+use Rattle.command_line.specs.Inner.Outcomes.{ComesTo, IsEnding, IsKept, IsSound, Leaves}
 use Rattle.command_line.specs.CommandLine.{takes_input}
 use Rattle.command_line.proofs.WordLaws.{asks_for_threads, takes_or_not}
 
@@ -136,7 +138,7 @@ comes_to sink command fault known reads reads' writer writer' read wrote same re
     let kept : fault ≢ play.Write → fault ≢ play.OutOfMemory → IsKept sink command known writer writer' = λ no_write no_memory. inl (same no_write no_memory) in
     record {
       understood = is_no_line fault;
-      refused = λ one. (refused one, left one (at_1 (writer' ≡ writer) fault same one));
+      refused = λ one. inl (refused one, left one (at_1 (writer' ≡ writer) fault same one));
       device = is_device (IsKept sink command known writer writer') (IsDoneInPart command known (sink.contents writer) (sink.contents writer')) fault _ _ _ _ read wrote kept cut;
       calm = is_calm fault _ _ _ _ read wrote;
       unwritten = λ not_3 not_4. inl (but_at_3_and_4 (IsKept sink command known writer writer') fault kept not_3 not_4);
@@ -150,27 +152,43 @@ comes_to sink command fault known reads reads' writer writer' read wrote same re
 
 -- ---- `check`
 
--- where no line is said, nothing is
-pub silent : (known old new : Option (List ℕ)) (count : ℕ) → (input text : List ℕ) × IsSaidOf known input text × Appends old new text × (count ≡ line_count text)
-    → count ≡ 0 → (input : List ℕ) × IsSaidOf known input [] × Appends old new []
-silent known old new count said zero =
-    let none : said_of_input said.0 ≡ [] = nothing_said said.0 (sym (ap line_count said.2.is_said) ∙ (sym said.4 ∙ zero)) in
-    let empty : said.1 ≡ [] = said.2.is_said ∙ none in
-    (said.0, subst (IsSaidOf known said.0) empty said.2, subst (Appends old new) empty said.3)
-
--- something is wrong, and the lines that say so were written
-pub says : {W : Type 0} (sink : SinkOf W) (count : ℕ) (known : Option (List ℕ)) (reads reads' : ℕ) (writer writer' : W)
+-- something is refused, and the lines that say so were written
+pub says : {W : Type 0} (sink : SinkOf W) (kind : Option Kind) (count : ℕ) (known : Option (List ℕ)) (reads reads' : ℕ) (writer writer' : W)
     → count ≢ 0 → reads' ≡ reads → sink.failed_calls writer' ≡ sink.failed_calls writer
-    → (input text : List ℕ) × IsSaidOf known input text × Appends (sink.contents writer) (sink.contents writer') text × (count ≡ line_count text)
-    → ComesTo sink Check (Faults count) known reads reads' writer writer'
-says sink count known reads reads' writer writer' some read wrote said = record {
-  understood = λ two. absurd (omega (arith, two));
-  refused = λ one. ((said.0, said.1, said.2, (λ none. some (said.4 ∙ ap line_count none)), ap Faults said.4), (said.0, said.1, said.2, said.3));
-  device = λ three. absurd (omega (arith, three));
-  calm = λ other. (read, wrote);
-  unwritten = λ not_3 not_4. inr (said.0, said.1, said.2, said.3);
-  part = λ four. absurd (omega (arith, four));
-}
+    → (input said warned : List ℕ) × IsChecked kind known input said warned × Appends (sink.contents writer) (sink.contents writer') (said ++ warned) × (count ≡ line_count said)
+    → ComesTo sink (Check kind) (Faults count) known reads reads' writer writer'
+says sink kind count known reads reads' writer writer' some read wrote said =
+    let it : Says (Check kind) (Faults count) known (sink.contents writer) (sink.contents writer') =
+    (said.0, said.1, said.2, said.3, (λ none. some (said.5 ∙ ap line_count none)), ap Faults said.5, said.4) in
+    record {
+      understood = λ two. absurd (omega (arith, two));
+      refused = λ one. inr it;
+      device = λ three. absurd (omega (arith, three));
+      calm = λ other. (read, wrote);
+      unwritten = λ not_3 not_4. inr it;
+      part = λ four. absurd (omega (arith, four));
+    }
+
+-- no section is refused, and no batch
+unrefused : (Refused : Type 0) (fault : PlayFault) → status_of (Play fault) ≡ 1 → ((bad : ScheduleFault) → fault ≢ play.Schedule bad) → ((refusal : Refusal) → fault ≢ play.Refused refusal) → Refused
+unrefused Refused play.Read one section batch = absurd (cc)
+unrefused Refused play.Write one section batch = absurd (cc)
+unrefused Refused play.OutOfMemory one section batch = absurd (cc)
+unrefused Refused (play.Refused refusal) one section batch = absurd (batch refusal refl)
+unrefused Refused (play.Schedule bad) one section batch = absurd (section bad refl)
+
+-- what `check` comes to where it has nothing to say
+pub check_comes_to : {W : Type 0} (sink : SinkOf W) (kind : Option Kind) (fault : PlayFault) (known : Option (List ℕ)) (reads reads' : ℕ) (writer writer' : W)
+    → reads' ≡ count_after (tells_of_reader (failed fault)) reads
+    → sink.failed_calls writer' ≡ count_after (tells_of_writer (failed fault)) (sink.failed_calls writer)
+    → (fault ≢ play.Write → writer' ≡ writer)
+    → ((bad : ScheduleFault) → fault ≢ play.Schedule bad) → ((refusal : Refusal) → fault ≢ play.Refused refusal)
+    → (fault ≡ play.Write → IsDoneInPart (Check kind) known (sink.contents writer) (sink.contents writer'))
+    → ComesTo sink (Check kind) (Play fault) known reads reads' writer writer'
+check_comes_to sink kind fault known reads reads' writer writer' read wrote same no_section batch cut =
+    comes_to sink (Check kind) fault known reads reads' writer writer' read wrote (λ no_write no_memory. same no_write)
+    (λ one. unrefused _ fault one no_section batch) (λ one kept. kept) (no_section section.OutOfMemory)
+    (λ is. inl (same (λ write. absurd (cc)))) cut
 
 -- ---- `file`
 
@@ -184,12 +202,12 @@ file_no_line file.OutOfMemory two = absurd (cc)
 
 file_device : (Same Part : Type 0) (fault : FileFault) (reads reads' writes writes' : ℕ)
     → reads' ≡ count_after (file_read (not_cut fault)) reads → writes' ≡ count_after (file_wrote (not_cut fault)) writes
-    → Same → Part → status_of (File fault) ≡ 3 → IsDevice Same Part (ending_line (File fault)) reads reads' writes writes'
+    → Same → (fault ≡ file.Write → Part) → status_of (File fault) ≡ 3 → IsDevice Same Part (ending_line (File fault)) reads reads' writes writes'
 file_device Same Part file.NoFile reads reads' writes writes' read wrote same part three = absurd (cc)
 file_device Same Part file.Torn reads reads' writes writes' read wrote same part three = absurd (cc)
 file_device Same Part file.TooLong reads reads' writes writes' read wrote same part three = absurd (cc)
 file_device Same Part file.Read reads reads' writes writes' read wrote same part three = inl (refl, read, wrote, same)
-file_device Same Part file.Write reads reads' writes writes' read wrote same part three = inr (refl, wrote, read, part)
+file_device Same Part file.Write reads reads' writes writes' read wrote same part three = inr (refl, wrote, read, part refl)
 file_device Same Part file.OutOfMemory reads reads' writes writes' read wrote same part three = absurd (cc)
 
 file_calm : (fault : FileFault) (reads reads' writes writes' : ℕ)
@@ -219,14 +237,15 @@ pub file_comes_to : {W : Type 0} (sink : SinkOf W) (period : ℕ) (fault : FileF
     → (fault ≡ file.NoFile → writer' ≡ writer)
     → (fault ≡ file.Torn → AppendsPart known period (sink.contents writer) (sink.contents writer'))
     → AppendsFront known period (sink.contents writer) (sink.contents writer')
+    → (fault ≡ file.Write → AppendsLess known period (sink.contents writer) (sink.contents writer'))
     → (status_of (File fault) ≡ 1 → Refuses (CutFile period) known (File fault))
     → ComesTo sink (CutFile period) (File fault) known reads reads' writer writer'
-file_comes_to sink period fault known reads reads' writer writer' read wrote none torn front refused =
+file_comes_to sink period fault known reads reads' writer writer' read wrote none torn front less refused =
     let kept : IsKept sink (CutFile period) known writer writer' = inr (period, refl, front) in
     record {
       understood = file_no_line fault;
-      refused = λ one. (refused one, file_left sink period fault known writer writer' none torn front one);
-      device = file_device (IsKept sink (CutFile period) known writer writer') (AppendsFront known period (sink.contents writer) (sink.contents writer')) fault _ _ _ _ read wrote kept front;
+      refused = λ one. inl (refused one, file_left sink period fault known writer writer' none torn front one);
+      device = file_device (IsKept sink (CutFile period) known writer writer') (AppendsLess known period (sink.contents writer) (sink.contents writer')) fault _ _ _ _ read wrote kept less;
       calm = file_calm fault _ _ _ _ read wrote;
       unwritten = λ not_3 not_4. inl kept;
       part = λ four. inl kept;
@@ -279,7 +298,7 @@ pub threads_come_to : {W : Type 0} (sink : SinkOf W) (size : Size) (fault : Thre
     → ComesTo sink (RunThreads size) (Threads fault) known reads reads writer writer'
 threads_come_to sink size fault known reads writer writer' wrote same sheet cut = record {
   understood = threads_no_line fault;
-  refused = λ one. (threads_refused IsSheetRefused fault sheet one, same (not_write fault (not_3_at (status_of (Threads fault)) 1 one (λ is. omega (arith, is)))));
+  refused = λ one. inl (threads_refused IsSheetRefused fault sheet one, same (not_write fault (not_3_at (status_of (Threads fault)) 1 one (λ is. omega (arith, is)))));
   device = threads_device (IsKept sink (RunThreads size) known writer writer') (IsDoneInPart (RunThreads size) known (sink.contents writer) (sink.contents writer')) fault _ _ _ wrote cut;
   calm = λ other. (refl, threads_calm fault _ _ wrote other);
   unwritten = λ not_3 not_4. inl (inl (same (not_write fault not_3)));
@@ -289,13 +308,13 @@ threads_come_to sink size fault known reads writer writer' wrote same sheet cut 
 -- ---- `sheets` and `schedule`
 
 -- not all stays, and what is said of the sheets was written
-pub unlike_comes_to : {W : Type 0} (sink : SinkOf W) (before : Option ℤ) (known : Option (List ℕ)) (reads reads' : ℕ) (writer writer' : W)
+unlike_comes_to : {W : Type 0} (sink : SinkOf W) (asked : Asked) (known : Option (List ℕ)) (reads reads' : ℕ) (writer writer' : W)
     → reads' ≡ reads → sink.failed_calls writer' ≡ sink.failed_calls writer
-    → Refuses (CompareSheets before) known Unlike → Says (CompareSheets before) known (sink.contents writer) (sink.contents writer')
-    → ComesTo sink (CompareSheets before) Unlike known reads reads' writer writer'
-unlike_comes_to sink before known reads reads' writer writer' read wrote refused said = record {
+    → Says (CompareSheets asked) Unlike known (sink.contents writer) (sink.contents writer')
+    → ComesTo sink (CompareSheets asked) Unlike known reads reads' writer writer'
+unlike_comes_to sink asked known reads reads' writer writer' read wrote said = record {
   understood = λ two. absurd (omega (arith, two));
-  refused = λ one. (refused, said);
+  refused = λ one. inr said;
   device = λ three. absurd (omega (arith, three));
   calm = λ other. (read, wrote);
   unwritten = λ not_3 not_4. inr said;
@@ -306,31 +325,31 @@ abbrev pub not_compared : SheetsFault → Result (Unit {0}) SheetsFault
 not_compared fault = Err fault
 
 -- the sections are refused, and no batch is
-sheets_refused : (before : Option ℤ) (known : Option (List ℕ)) (fault : PlayFault) → status_of (Play fault) ≡ 1 → ((refusal : Refusal) → fault ≢ play.Refused refusal)
-    → ((bad : ScheduleFault) → fault ≡ play.Schedule bad → IfSome known (λ input. two_sheets_in input ≡ Err bad)) → Refuses (CompareSheets before) known (Play fault)
-sheets_refused before known play.Read one batch bad = absurd (cc)
-sheets_refused before known play.Write one batch bad = absurd (cc)
-sheets_refused before known play.OutOfMemory one batch bad = absurd (cc)
-sheets_refused before known (play.Refused refusal) one batch bad = absurd (batch refusal refl)
-sheets_refused before known (play.Schedule fault) one batch bad = inl (fault, refl, bad fault refl)
+sheets_refused : (asked : Asked) (known : Option (List ℕ)) (fault : PlayFault) → status_of (Play fault) ≡ 1 → ((refusal : Refusal) → fault ≢ play.Refused refusal)
+    → ((bad : ScheduleFault) → fault ≡ play.Schedule bad → IfSome known (λ input. two_sheets_in input ≡ Err bad)) → Refuses (CompareSheets asked) known (Play fault)
+sheets_refused asked known play.Read one batch bad = absurd (cc)
+sheets_refused asked known play.Write one batch bad = absurd (cc)
+sheets_refused asked known play.OutOfMemory one batch bad = absurd (cc)
+sheets_refused asked known (play.Refused refusal) one batch bad = absurd (batch refusal refl)
+sheets_refused asked known (play.Schedule fault) one batch bad = (fault, refl, bad fault refl)
 
-pub sheets_come_to : {W : Type 0} (sink : SinkOf W) (before : Option ℤ) (fault : SheetsFault) (known : Option (List ℕ)) (reads reads' : ℕ) (writer writer' : W)
+pub sheets_come_to : {W : Type 0} (sink : SinkOf W) (asked : Asked) (fault : SheetsFault) (known : Option (List ℕ)) (reads reads' : ℕ) (writer writer' : W)
     → reads' ≡ count_after (tells_of_reader (of_input tt (not_compared fault))) reads
     → sink.failed_calls writer' ≡ count_after (tells_of_writer (of_input tt (not_compared fault))) (sink.failed_calls writer)
     → (fault ≢ compared.Unlike → fault ≢ compared.Input play.Write → writer' ≡ writer)
-    → (fault ≡ compared.Unlike → (old new : Sheet) × (text : List ℕ) × AreSheetsOf known old new text × (¬ StaysBefore before old new) × Appends (sink.contents writer) (sink.contents writer') text)
+    → (fault ≡ compared.Unlike → (old new : Sheet) × (text : List ℕ) × AreSheetsOf known asked.all old new text × (¬ StaysBefore asked.before old new) × Appends (sink.contents writer) (sink.contents writer') text)
     → ((bad : ScheduleFault) → fault ≡ compared.Input (play.Schedule bad) → IfSome known (λ input. two_sheets_in input ≡ Err bad))
     → ((refusal : Refusal) → fault ≢ compared.Input (play.Refused refusal))
     → fault ≢ compared.Input (play.Schedule section.OutOfMemory)
-    → (fault ≡ compared.Input play.Write → IsDoneInPart (CompareSheets before) known (sink.contents writer) (sink.contents writer'))
-    → ComesTo sink (CompareSheets before) (fault_of_sheets fault) known reads reads' writer writer'
-sheets_come_to sink before compared.Unlike known reads reads' writer writer' read wrote same unlike bad batch plain cut =
+    → (fault ≡ compared.Input play.Write → IsDoneInPart (CompareSheets asked) known (sink.contents writer) (sink.contents writer'))
+    → ComesTo sink (CompareSheets asked) (fault_of_sheets fault) known reads reads' writer writer'
+sheets_come_to sink asked compared.Unlike known reads reads' writer writer' read wrote same unlike bad batch plain cut =
     let said = unlike refl in
-    unlike_comes_to sink before known reads reads' writer writer' read wrote (inr (refl, (said.0, said.1, said.2, said.3, said.4))) (said.0, said.1, said.2, said.3, said.5)
-sheets_come_to sink before (compared.Input fault) known reads reads' writer writer' read wrote same unlike bad batch plain cut =
-    comes_to sink (CompareSheets before) fault known reads reads' writer writer' read wrote
+    unlike_comes_to sink asked known reads reads' writer writer' read wrote (said.0, said.1, said.2, said.3, said.4, refl, said.5)
+sheets_come_to sink asked (compared.Input fault) known reads reads' writer writer' read wrote same unlike bad batch plain cut =
+    comes_to sink (CompareSheets asked) fault known reads reads' writer writer' read wrote
     (λ no_write no_memory. same (λ is. absurd (cc)) (λ is. no_write (same_input fault play.Write is)))
-    (λ one. sheets_refused before known fault one (λ refusal is. batch refusal (ap compared.Input is)) (λ it is. bad it (ap compared.Input is)))
+    (λ one. sheets_refused asked known fault one (λ refusal is. batch refusal (ap compared.Input is)) (λ it is. bad it (ap compared.Input is)))
     (λ one kept. kept) (λ is. plain (ap compared.Input is)) (λ is. inl (same (λ unlike. absurd (cc)) (λ input. absurd (other_input fault is input))))
     (λ is. cut (ap compared.Input is))
   where
@@ -346,7 +365,7 @@ pub unscheduled : {W : Type 0} (sink : SinkOf W) (request : Request) (fault : Fa
     → Refuses (WriteSchedule request) known fault → ComesTo sink (WriteSchedule request) fault known reads reads' writer writer'
 unscheduled sink request fault known reads reads' writer writer' one read wrote same refused = record {
   understood = λ two. absurd (omega (arith, one, two));
-  refused = λ is. (refused, same);
+  refused = λ is. inl (refused, same);
   device = λ three. absurd (omega (arith, one, three));
   calm = λ other. (read, wrote);
   unwritten = λ not_3 not_4. inl (inl same);
@@ -361,33 +380,34 @@ pub schedule_comes_to : {W : Type 0} (sink : SinkOf W) (request : Request) (faul
     → sink.failed_calls writer' ≡ count_after (schedule_wrote (not_written fault)) (sink.failed_calls writer)
     → (fault ≢ written.Write → writer' ≡ writer)
     → ((bad : ScheduleFault) → fault ≡ written.Section bad → IfSome known (λ input. rate_input_in input ≡ Err bad))
-    → ((line : ℕ) (refusal : Refusal) → fault ≡ written.Refused line refusal → IfSome known (λ input. IsRefusedAt input line refusal))
+    → ((told : Vec ℕ Global) → fault ≡ written.Refused told → IfSome known (λ input. IsRefusedAt input told.items))
+    → (fault ≡ written.TooLong → IfSome known IsTaken) → (fault ≡ written.NotClosed → IfSome known IsTaken)
     → fault ≢ written.Section section.OutOfMemory
     → (fault ≡ written.Write → IsDoneInPart (WriteSchedule request) known (sink.contents writer) (sink.contents writer'))
     → ComesTo sink (WriteSchedule request) (fault_of_schedule fault) known reads reads' writer writer'
-schedule_comes_to sink request written.Read known reads reads' writer writer' read wrote same bad batch plain cut =
+schedule_comes_to sink request written.Read known reads reads' writer writer' read wrote same bad batch long unclosed plain cut =
     comes_to sink (WriteSchedule request) play.Read known reads reads' writer writer' read wrote (λ no_write no_memory. same (λ is. absurd (cc)))
     (λ one. absurd (cc)) (λ one kept. kept) (λ is. absurd (cc)) (λ is. absurd (cc)) (λ is. absurd (cc))
-schedule_comes_to sink request (written.Section fault) known reads reads' writer writer' read wrote same bad batch plain cut =
+schedule_comes_to sink request (written.Section fault) known reads reads' writer writer' read wrote same bad batch long unclosed plain cut =
     comes_to sink (WriteSchedule request) (play.Schedule fault) known reads reads' writer writer' read wrote (λ no_write no_memory. same (λ is. absurd (cc)))
     (λ one. inl (fault, refl, bad fault refl)) (λ one kept. kept) (λ is. plain (cc)) (λ is. absurd (cc)) (λ is. absurd (cc))
-schedule_comes_to sink request (written.Refused line refusal) known reads reads' writer writer' read wrote same bad batch plain cut =
-    unscheduled sink request (Batch line refusal) known reads reads' writer writer' refl read wrote (same (λ is. absurd (cc)))
-    (inr (inl (line, refusal, refl, batch line refusal refl)))
-schedule_comes_to sink request written.TooLong known reads reads' writer writer' read wrote same bad batch plain cut =
-    unscheduled sink request TooLong known reads reads' writer writer' refl read wrote (same (λ is. absurd (cc))) (inr (inr (inl refl)))
-schedule_comes_to sink request written.NotClosed known reads reads' writer writer' read wrote same bad batch plain cut =
-    unscheduled sink request NotClosed known reads reads' writer writer' refl read wrote (same (λ is. absurd (cc))) (inr (inr (inr refl)))
-schedule_comes_to sink request written.Write known reads reads' writer writer' read wrote same bad batch plain cut =
+schedule_comes_to sink request (written.Refused told) known reads reads' writer writer' read wrote same bad batch long unclosed plain cut =
+    unscheduled sink request (Batch told) known reads reads' writer writer' refl read wrote (same (λ is. absurd (cc)))
+    (inr (inl (told, refl, batch told refl)))
+schedule_comes_to sink request written.TooLong known reads reads' writer writer' read wrote same bad batch long unclosed plain cut =
+    unscheduled sink request TooLong known reads reads' writer writer' refl read wrote (same (λ is. absurd (cc))) (inr (inr (inl refl, long refl)))
+schedule_comes_to sink request written.NotClosed known reads reads' writer writer' read wrote same bad batch long unclosed plain cut =
+    unscheduled sink request NotClosed known reads reads' writer writer' refl read wrote (same (λ is. absurd (cc))) (inr (inr (inr refl, unclosed refl)))
+schedule_comes_to sink request written.Write known reads reads' writer writer' read wrote same bad batch long unclosed plain cut =
     comes_to sink (WriteSchedule request) play.Write known reads reads' writer writer' read wrote (λ no_write no_memory. absurd (no_write refl))
     (λ one. absurd (cc)) (λ one kept. kept) (λ is. absurd (cc)) (λ is. absurd (cc)) (λ is. cut refl)
-schedule_comes_to sink request written.OutOfMemory known reads reads' writer writer' read wrote same bad batch plain cut =
+schedule_comes_to sink request written.OutOfMemory known reads reads' writer writer' read wrote same bad batch long unclosed plain cut =
     comes_to sink (WriteSchedule request) play.OutOfMemory known reads reads' writer writer' read wrote (λ no_write no_memory. absurd (no_memory refl))
     (λ one. absurd (cc)) (λ one kept. kept) (λ is. absurd (cc)) (λ is. inl (same (λ write. absurd (cc)))) (λ is. absurd (cc))
 
 -- ---- help and the version
 
-pub not_shown : {W : Type 0} (sink : SinkOf W) (command : Command) (known : Option (List ℕ)) (reads : ℕ) (writer writer' : W)
+not_shown : {W : Type 0} (sink : SinkOf W) (command : Command) (known : Option (List ℕ)) (reads : ℕ) (writer writer' : W)
     → sink.failed_calls writer' ≡ next_count (sink.failed_calls writer) → IsDoneInPart command known (sink.contents writer) (sink.contents writer')
     → ComesTo sink command (Play play.Write) known reads reads writer writer'
 not_shown sink command known reads writer writer' wrote cut = record {
@@ -398,6 +418,15 @@ not_shown sink command known reads writer writer' wrote cut = record {
   unwritten = λ not_3 not_4. absurd (not_3 refl);
   part = λ four. absurd (omega (arith, four));
 }
+
+-- a text that is shown is what the command writes, and takes nothing of the input
+pub shown : {W : Type 0} (sink : SinkOf W) (command : Command) (r : Result (Unit {0}) Fault) (known : Option (List ℕ)) (reads : ℕ) (writer writer' : W)
+    → OnOk r (IsDone command known known (sink.contents writer) (sink.contents writer')) → OnErr r (IsDoneInPart command known (sink.contents writer) (sink.contents writer'))
+    → IfErr r (λ fault. fault ≡ Play play.Write) → sink.failed_calls writer' ≡ count_after (is_err r) (sink.failed_calls writer)
+    → Leaves sink command r known known reads reads writer writer'
+shown sink command (Ok x) known reads writer writer' done part write count = record { done = done; calm = (refl, count) }
+shown sink command (Err fault) known reads writer writer' done part write count =
+    subst (λ (f : Fault). ComesTo sink command f known reads reads writer writer') (sym write) (not_shown sink command known reads writer writer' count part)
 
 -- ---- the whole run
 
@@ -423,7 +452,7 @@ tells_memory Told (Threads threads.Refused) four told = absurd (cc)
 tells_memory Told (Threads threads.OutOfMemory) four told = told
 tells_memory Told (Threads threads.Mismatch) four told = absurd (cc)
 tells_memory Told Unlike four told = absurd (omega (arith, four))
-tells_memory Told (Batch at refusal) four told = absurd (omega (arith, four))
+tells_memory Told (Batch words) four told = absurd (omega (arith, four))
 tells_memory Told TooLong four told = absurd (omega (arith, four))
 tells_memory Told NotClosed four told = absurd (omega (arith, four))
 
@@ -447,9 +476,10 @@ part_of Kept Unwritten Part Asked one command asked kept (inl same) = inl (kept 
 part_of Kept Unwritten Part Asked one command asked kept (inr both) = inr (subst Asked both.0 asked, both.1)
 
 -- what is said was asked for
-said_of : (Kept Unwritten : Type 0) (Said Asked : Command → Type 0) (command : Command) → Asked command → (Kept → Unwritten) → Kept ⊎ Said command → Unwritten ⊎ ((other : Command) × Asked other × Said other)
-said_of Kept Unwritten Said Asked command asked kept (inl same) = inl (kept same)
-said_of Kept Unwritten Said Asked command asked kept (inr said) = inr (command, asked, said)
+said_of : (Kept Unwritten : Type 0) (Said : Command → Fault → Type 0) (Asked : Command → Type 0) (command : Command) (fault : Fault) → Asked command → (Kept → Unwritten)
+    → Kept ⊎ Said command fault → Unwritten ⊎ ((other : Command) × (what : Fault) × Asked other × Said other what)
+said_of Kept Unwritten Said Asked command fault asked kept (inl same) = inl (kept same)
+said_of Kept Unwritten Said Asked command fault asked kept (inr said) = inr (command, fault, asked, said)
 
 device_of : (Kept Unwritten Part : Type 0) (line : List ℕ) (reads reads' writes writes' : ℕ) → (Kept → Unwritten)
     → IsDevice Kept Part line reads reads' writes writes' → IsDevice Unwritten Part line reads reads' writes writes'
@@ -461,10 +491,10 @@ at_end_of : (Asked : Command → Type 0) (command : Command) (known left old new
     → ((command : Command) → Asked command → takes_input command ≡ true) → IsAtEnd left
 at_end_of Asked (Rate period) known left old new asked done takes = done.1
 at_end_of Asked PlaySchedule known left old new asked done takes = done.1
-at_end_of Asked Check known left old new asked done takes = done.1
+at_end_of Asked (Check kind) known left old new asked done takes = done.1
 at_end_of Asked (CutFile period) known left old new asked done takes = done.1
 at_end_of Asked (RunThreads size) known left old new asked done takes = let yes_it_does = takes (RunThreads size) asked in absurd (cc)
-at_end_of Asked (CompareSheets before) known left old new asked done takes = done.1
+at_end_of Asked (CompareSheets asked_of) known left old new asked done takes = done.1
 at_end_of Asked (WriteSchedule request) known left old new asked done takes = done.1
 at_end_of Asked ShowHelp known left old new asked done takes = let yes_it_does = takes ShowHelp asked in absurd (cc)
 at_end_of Asked ShowVersion known left old new asked done takes = let yes_it_does = takes ShowVersion asked in absurd (cc)
@@ -491,7 +521,7 @@ in_range (Threads threads.Refused) = (omega arith, omega arith)
 in_range (Threads threads.OutOfMemory) = (omega arith, omega arith)
 in_range (Threads threads.Mismatch) = (omega arith, omega arith)
 in_range Unlike = (omega arith, omega arith)
-in_range (Batch at refusal) = (omega arith, omega arith)
+in_range (Batch told) = (omega arith, omega arith)
 in_range TooLong = (omega arith, omega arith)
 in_range NotClosed = (omega arith, omega arith)
 
@@ -501,8 +531,30 @@ nothing_read most None = let nothing : (taken : List ℕ) × Unit {0} × (length
 nothing_read most (Some bytes) = let nothing : (taken : List ℕ) × (bytes ≡ taken ++ bytes) × (length taken ≤ most) = ([], refl, omega arith) in nothing
 
 -- and few bytes are not many
-pub no_more_read : (known left : Option (List ℕ)) → ConsumesAtMost 16_777_217 known left → ConsumesAtMost 4_294_967_297 known left
-no_more_read known left it = let few = it.2 in (it.0, it.1, omega (arith, few))
+more_read : (few many : ℕ) (known left : Option (List ℕ)) → few ≤ many → ConsumesAtMost few known left → ConsumesAtMost many known left
+more_read few many known left more it = let taken = it.2 in (it.0, it.1, omega (arith, taken, more))
+
+read_by_any : (command : Command) → most_read command ≤ most_transcript_bytes + 1
+read_by_any (Rate period) = omega arith
+read_by_any PlaySchedule = omega arith
+read_by_any (Check kind) = omega arith
+read_by_any (CutFile period) = omega arith
+read_by_any (RunThreads size) = omega arith
+read_by_any (CompareSheets asked) = omega arith
+read_by_any (WriteSchedule request) = omega arith
+read_by_any ShowHelp = omega arith
+read_by_any ShowVersion = omega arith
+
+read_by_others : (command : Command) → ((period : ℕ) → command ≢ CutFile period) → most_read command ≤ most_input_bytes + 1
+read_by_others (Rate period) other = omega arith
+read_by_others PlaySchedule other = omega arith
+read_by_others (Check kind) other = omega arith
+read_by_others (CutFile period) other = absurd (other period refl)
+read_by_others (RunThreads size) other = omega arith
+read_by_others (CompareSheets asked) other = omega arith
+read_by_others (WriteSchedule request) other = omega arith
+read_by_others ShowHelp other = omega arith
+read_by_others ShowVersion other = omega arith
 
 -- no fault ends with 0
 never_zero : (fault : Fault) (status : ℕ) → status ≡ status_of fault → status ≡ 0 → ⊥
@@ -521,6 +573,28 @@ pub asks_without : {A B : Type 0} (args : Result (IntoIter (String A) B) Error) 
 asks_without (Ok given) command takes asked other others without = takes_or_not (words_behind_name given) command other asked others takes without
 asks_without (Err error) command takes asked other others without = absurd asked
 
+-- What asks for what takes no input leaves the reader as it was.
+unread_of : {A B : Type 0} (Same : Type 0) (args : Result (IntoIter (String A) B) Error) (command : Command) → AsksFor args command → (takes_input command ≡ false → Same)
+    → (other : Command) → AsksFor args other → takes_input other ≡ false → Same
+unread_of Same args command asked same other others without = at (takes_input command) refl
+  where
+    at : (takes : Bool) → takes_input command ≡ takes → Same
+    at true is = absurd (asks_without args command is asked other others without)
+    at false is = same is
+
+-- What is asked for can be run.
+pub sound_of : {A B : Type 0} (args : Result (IntoIter (String A) B) Error) (command : Command) → AsksFor args command → IsSound command
+sound_of (Err error) command asked = absurd asked
+sound_of (Ok given) (WriteSchedule request) asked = asked.named.1.within
+sound_of (Ok given) (RunThreads size) asked = asked.named.1.within
+sound_of (Ok given) (Rate period) asked = tt
+sound_of (Ok given) PlaySchedule asked = tt
+sound_of (Ok given) (Check kind) asked = tt
+sound_of (Ok given) (CutFile period) asked = tt
+sound_of (Ok given) (CompareSheets of_sheets) asked = tt
+sound_of (Ok given) ShowHelp asked = tt
+sound_of (Ok given) ShowVersion asked = tt
+
 -- what asks for something was given
 given_of : {A B : Type 0} (args : Result (IntoIter (String A) B) Error) (command : Command) (P : Error → Type 0) → AsksFor args command → IfErr args P
 given_of (Ok given) command P asked = tt
@@ -535,11 +609,10 @@ pub ends : {R W E A B : Type 0} (source : SourceOf R) (sink : SinkOf W) (telling
     → AsksFor args command
     → Leaves sink command outcome (source.remaining reader) (source.remaining reader') (source.failed_calls reader) (source.failed_calls reader') writer writer'
     → IsEnding telling outcome status errors errors'
-    → (((period : ℕ) → command ≢ CutFile period) → ConsumesAtMost 16_777_217 (source.remaining reader) (source.remaining reader'))
-    → ConsumesAtMost 4_294_967_297 (source.remaining reader) (source.remaining reader')
-    → ((other : Command) → AsksFor args other → takes_input other ≡ false → reader' ≡ reader)
+    → ConsumesAtMost (most_read command) (source.remaining reader) (source.remaining reader')
+    → (takes_input command ≡ false → reader' ≡ reader)
     → Ends source sink telling args status reader reader' writer writer' errors errors'
-ends source sink telling args command (Ok x) status reader reader' writer writer' errors errors' asked leaves ending read read_by_file unread =
+ends source sink telling args command (Ok x) status reader reader' writer writer' errors errors' asked leaves ending read unread =
     let zero = ending.0 in
     record {
       range = omega (arith, zero);
@@ -554,12 +627,12 @@ ends source sink telling args command (Ok x) status reader reader' writer writer
       memory = λ is. absurd (omega (arith, zero, is));
       part = λ is. absurd (omega (arith, zero, is));
       unwritten = λ not_0 not_3 not_4. absurd (not_0 zero);
-      read = λ none. read (other_than (AsksFor args) command asked none);
-      read_by_file = read_by_file;
-      unread = unread;
+      read = λ none. more_read _ _ _ _ (read_by_others command (other_than (AsksFor args) command asked none)) read;
+      read_by_file = more_read _ _ _ _ (read_by_any command) read;
+      unread = unread_of (reader' ≡ reader) args command asked unread;
       not_given = given_of args command _ asked;
     }
-ends source sink telling args command (Err fault) status reader reader' writer writer' errors errors' asked leaves ending read read_by_file unread =
+ends source sink telling args command (Err fault) status reader reader' writer writer' errors errors' asked leaves ending read unread =
     let same = ending.0 in
     let known = source.remaining reader in
     let kept : IsKept sink command known writer writer' → IsUnwritten sink args known writer writer' =
@@ -574,7 +647,7 @@ ends source sink telling args command (Err fault) status reader reader' writer w
       done = λ is. absurd (never_zero fault status same is);
       end = λ is. absurd (never_zero fault status same is);
       silent = λ is. absurd (never_zero fault status same is);
-      refused = λ is. let one = sym same ∙ is in (command, fault, asked, one, (leaves.refused one).0, (leaves.refused one).1, ending.1);
+      refused = λ is. let one = sym same ∙ is in (command, fault, asked, one, leaves.refused one, ending.1);
       not_asked = λ is. absurd (leaves.understood (sym same ∙ is));
       untouched = λ is. absurd (leaves.understood (sym same ∙ is));
       device = λ is. (
@@ -586,11 +659,11 @@ ends source sink telling args command (Err fault) status reader reader' writer w
       calm = λ other. leaves.calm (λ is. other (same ∙ is));
       memory = λ is. tells_memory told fault (sym same ∙ is) ending.1;
       part = λ is. part_of (IsKept sink command known writer writer') _ _ (AsksFor args) PlaySchedule command asked kept (leaves.part (sym same ∙ is));
-      unwritten = λ not_0 not_3 not_4. said_of (IsKept sink command known writer writer') (IsUnwritten sink args known writer writer') (λ c. Says c known (sink.contents writer) (sink.contents writer')) (AsksFor args) command asked kept
+      unwritten = λ not_0 not_3 not_4. said_of (IsKept sink command known writer writer') (IsUnwritten sink args known writer writer') (λ c f. Says c f known (sink.contents writer) (sink.contents writer')) (AsksFor args) command fault asked kept
           (leaves.unwritten (λ is. not_3 (same ∙ is)) (λ is. not_4 (same ∙ is)));
-      read = λ none. read (other_than (AsksFor args) command asked none);
-      read_by_file = read_by_file;
-      unread = unread;
+      read = λ none. more_read _ _ _ _ (read_by_others command (other_than (AsksFor args) command asked none)) read;
+      read_by_file = more_read _ _ _ _ (read_by_any command) read;
+      unread = unread_of (reader' ≡ reader) args command asked unread;
       not_given = given_of args command _ asked;
     }
 
@@ -631,8 +704,8 @@ ends_at_words C source sink telling args on_line.Line status reader writer error
   memory = λ is. absurd (omega (arith, same, is));
   part = λ is. inl (inl refl);
   unwritten = λ not_0 not_3 not_4. inl (inl refl);
-  read = λ none. nothing_read 16_777_217 (source.remaining reader);
-  read_by_file = nothing_read 4_294_967_297 (source.remaining reader);
+  read = λ none. nothing_read (most_input_bytes + 1) (source.remaining reader);
+  read_by_file = nothing_read (most_transcript_bytes + 1) (source.remaining reader);
   unread = λ command asked without. refl;
   not_given = missing_of C args on_line.Line status same missing;
 }
@@ -649,11 +722,17 @@ ends_at_words C source sink telling args on_line.OutOfMemory status reader write
   memory = λ is. told;
   part = λ is. inl (inl refl);
   unwritten = λ not_0 not_3 not_4. inl (inl refl);
-  read = λ none. nothing_read 16_777_217 (source.remaining reader);
-  read_by_file = nothing_read 4_294_967_297 (source.remaining reader);
+  read = λ none. nothing_read (most_input_bytes + 1) (source.remaining reader);
+  read_by_file = nothing_read (most_transcript_bytes + 1) (source.remaining reader);
   unread = λ command asked without. refl;
   not_given = missing_of C args on_line.OutOfMemory status same missing;
 }
+
+-- Where words ask for a group, only want of memory comes before.
+pub memory_alone : {A B : Type 0} (args : Result (IntoIter (String A) B) Error) (fault : LineFault) (status : ℕ) → status ≡ status_of (Line fault)
+    → (fault ≡ on_line.Line → (command : Command) → ¬ AsksFor args command) → (size : Size) → AsksFor args (RunThreads size) → status ≡ 4
+memory_alone args on_line.Line status same unasked size asked = absurd (unasked refl (RunThreads size) asked)
+memory_alone args on_line.OutOfMemory status same unasked size asked = same
 
 -- What was lent may have another name where nothing was done to it before.
 pub ends_from : {R W E A B : Type 0} (source : SourceOf R) (sink : SinkOf W) (telling : SinkOf E) (args : Result (IntoIter (String A) B) Error) (status : ℕ) (reader reader₀ reader' : R) (writer writer₀ writer' : W) (errors errors₀ errors' : E)

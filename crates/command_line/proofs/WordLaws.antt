@@ -1,6 +1,9 @@
 -- What a parse that succeeds, or fails, says of what the words ask for.
-use Rattle.std.proofs.Common.{◌≡◌, ◌≢◌, ◌⊎◌, ◌∙◌, sym, ap, subst, Result, Ok, Err, IfOk, ℕ, ℤ, ◌+◌, ◌*◌, ◌<◌, ◌^◌, List, [], ◌∷◌, codes, slice_index, Option, Some, None, IfSome, is_none as is_nothing, is_some, option_map, true, false, refl, inl, inr, arith}
-use Rattle.std.specs.Str.Parse.{ParsesUnsigned, ExplainsUnsignedError, HasUnsignedDigitsIfOk}
+use Rattle.std.specs.Bool.{⊤}
+use Rattle.std.proofs.Common.{Bool, ◌≡◌, ◌≢◌, ◌⊎◌, ◌==◌, ◌∙◌, sym, ap, subst, Result, Ok, Err, IfOk, ℕ, ℤ, ◌+◌, ◌*◌, ◌<◌, ◌^◌, List, [], ◌∷◌, codes, slice_index, Option, Some, None, IfSome, is_none as is_nothing, option_map, true, false, refl, inl, inr, arith}
+use Rattle.std.specs.Str.{bytes_eq}
+use Rattle.std.proofs.lemmas.Slice.Eq.{bytes_eq-Decides}
+use Rattle.std.specs.Str.Parse.{ParsesBool, ParsesUnsigned, false_text, true_text, ExplainsUnsignedError, HasUnsignedDigitsIfOk}
 use Rattle.clap.specs.Words.{ReadsOne, Row, Text, first_of, first_value, found_of, is_simple, kind_of, one_text, rows_of, subcommand_of, subcommand_rows_of}
 use Rattle.clap.specs.Matches.{subcommand_name_of}
 use Rattle.clap.specs.Kinds.{Kinds, HasKind, IsAmong}
@@ -16,14 +19,16 @@ use Rattle.clap.proofs.OnLiterals.{clap_on_literals}
 use Rattle.std.specs.Box.{box_value}
 use Rattle.std.specs.Borrow.{Bor}
 use Rattle.command_line.specs.declared.commands.Command.{Command}
+use Rattle.command_line.specs.declared.commands.Kind.{Kind}
 use Rattle.command_line.specs.declared.commands.Command.TheVariants.{Rate, Play, Check, File, Threads, Sheets, Schedule, Help, Version}
 use Rattle.command_line.specs.declared.words.LineFault.{LineFault}
 use Rattle.command_line.specs.Inner.Requests.{IsRequestFor}
 use Rattle.command_line.proofs.RequestLaws.{IsRequest, request_alone_in}
 use Rattle.metering_model.specs.Dates.{day_in}
 use Rattle.schedule_writer.specs.declared.asked.Request.{Request}
+use Rattle.sheet_changes.specs.declared.changes.Asked.{Asked}
 use Rattle.threads_player.specs.declared.sizes.Size.{Size}
-use Rattle.command_line.specs.CommandLine.{grammar_of_focusd, takes_input, Asks, AsksForCheck, AsksForHelp, AsksForPlay, GivesDay, GivesNumber, GivesPeriod, GivesRequest, GivesSize, GivesThrough}
+use Rattle.command_line.specs.CommandLine.{grammar_of_focusd, takes_input, Asks, AsksByName, AsksForHelp, AsksForVersion, GivesAsked, GivesDay, GivesNumber, GivesPeriod, GivesRequest, GivesFlag, GivesKind, GivesSize, GivesThrough, IsNamed, kind_text}
 
 pub grammar_is_simple : is_simple grammar_of_focusd ≡ true
 unfolding clap_on_literals
@@ -59,18 +64,39 @@ unfolding clap_on_literals
 alone k request no_memory words e (inl memory) is = absurd (no_memory (sym is ∙ memory))
 alone k request no_memory words e (inr among) is = request_alone_in k request grammar_of_focusd words refl refl (subst (λ kind. IsAmong kind (fault_of grammar_of_focusd words)) is among)
 
+-- What is asked for is asked for by a name, or it is help or the version.
+by_name : (words : List Text) (command : Command) → Asks words command → AsksByName words command ⊎ (AsksForHelp words ⊎ AsksForVersion words)
+by_name words (Rate period) asked = inl asked
+by_name words Play asked = inl asked
+by_name words (Check kind) asked = inl asked
+by_name words (File period) asked = inl asked
+by_name words (Threads size) asked = inl asked
+by_name words (Sheets asked_of) asked = inl asked
+by_name words (Schedule request) asked = inl asked
+by_name words Help asked = inr (inl asked)
+by_name words Version asked = inr (inr asked)
+
+-- and what is asked for by a name is asked for
+named_asks : (words : List Text) (command : Command) → AsksByName words command → Asks words command
+named_asks words (Rate period) named = named
+named_asks words Play named = named
+named_asks words (Check kind) named = named
+named_asks words (File period) named = named
+named_asks words (Threads size) named = named
+named_asks words (Sheets asked_of) named = named
+named_asks words (Schedule request) named = named
+named_asks words Help named = absurd named.named
+named_asks words Version named = absurd named.named
+
 -- an error that is neither want of memory nor a request is of words that ask for nothing
 pub asks_for_nothing : (words : List Text) (e : Error) → HasKind (fault_of grammar_of_focusd words) e → kind_of e ≢ OutOfMemory → kind_of e ≢ DisplayHelp → kind_of e ≢ DisplayVersion
     → (command : Command) → Asks words command → ⊥
-asks_for_nothing words e has no_memory no_help no_version (Rate period) asked = no_memory (only_memory _ e asked.taken has)
-asks_for_nothing words e has no_memory no_help no_version Play asked = no_memory (only_memory _ e asked.taken has)
-asks_for_nothing words e has no_memory no_help no_version Check asked = no_memory (only_memory _ e asked.taken has)
-asks_for_nothing words e has no_memory no_help no_version (File period) asked = no_memory (only_memory _ e asked.taken has)
-asks_for_nothing words e has no_memory no_help no_version (Threads size) asked = no_memory (only_memory _ e asked.taken has)
-asks_for_nothing words e has no_memory no_help no_version (Sheets before) asked = no_memory (only_memory _ e asked.taken has)
-asks_for_nothing words e has no_memory no_help no_version (Schedule request) asked = no_memory (only_memory _ e asked.taken has)
-asks_for_nothing words e has no_memory no_help no_version Help asked = neither no_memory no_help (only_kind DisplayHelp _ e asked has)
-asks_for_nothing words e has no_memory no_help no_version Version asked = neither no_memory no_version (only_kind DisplayVersion _ e asked has)
+asks_for_nothing words e has no_memory no_help no_version command asked = nothing_of (by_name words command asked)
+  where
+    nothing_of : AsksByName words command ⊎ (AsksForHelp words ⊎ AsksForVersion words) → ⊥
+    nothing_of (inl named) = no_memory (only_memory _ e named.taken has)
+    nothing_of (inr (inl help)) = neither no_memory no_help (only_kind DisplayHelp _ e help has)
+    nothing_of (inr (inr version)) = neither no_memory no_version (only_kind DisplayVersion _ e version has)
 
 -- a request that is answered is what the words ask for
 pub request_asks : (words : List Text) (e : Error) (r : Result Command LineFault) → HasKind (fault_of grammar_of_focusd words) e → IfOk r (λ command. IsRequestFor command (kind_of e))
@@ -79,10 +105,10 @@ request_asks words e (Ok Help) has is = alone DisplayHelp (record { known = λ s
 request_asks words e (Ok Version) has is = alone DisplayVersion (record { known = λ same. absurd (cc); named = λ same. absurd (cc) }) (λ same. absurd (cc)) words e has is
 request_asks words e (Ok (Rate period)) has is = absurd is
 request_asks words e (Ok Play) has is = absurd is
-request_asks words e (Ok Check) has is = absurd is
+request_asks words e (Ok (Check kind)) has is = absurd is
 request_asks words e (Ok (File period)) has is = absurd is
 request_asks words e (Ok (Threads size)) has is = absurd is
-request_asks words e (Ok (Sheets before)) has is = absurd is
+request_asks words e (Ok (Sheets asked_of)) has is = absurd is
 request_asks words e (Ok (Schedule request)) has is = absurd is
 request_asks words e (Err fault) has is = tt
 
@@ -119,43 +145,35 @@ pub name_met : (m : ArgMatches) (name : Text) (rs : List Row) → subcommand_row
 name_met m name rs entered =
     named_of (out-ArgMatches m).subcommand (λ b. (out-SubCommand (box_value b)).name.now) (λ b. rows_of (found_of (out-SubCommand (box_value b)).matches)) name rs entered
 
--- Words that ask for a command meet its subcommand.
-pub meets_one : (words : List Text) (m : ArgMatches) (command : Command) → Asks words command → fault_of grammar_of_focusd words ≡ []
-    → subcommand_rows_of m ≡ subcommand_of grammar_of_focusd words
-    → (subcommand_name_of m ≢ Some (codes "play")) → (subcommand_name_of m ≢ Some (codes "check")) → (subcommand_name_of m ≢ Some (codes "threads"))
-    → (subcommand_name_of m ≢ Some (codes "file")) → (subcommand_name_of m ≢ Some (codes "sheets")) → (subcommand_name_of m ≢ Some (codes "schedule"))
-    → (subcommand_name_of m ≢ Some (codes "rate")) → ⊥
-meets_one words m (Rate period) asked taken same no_play no_check no_threads no_file no_sheets no_schedule no_rate = no_rate (name_met m (codes "rate") asked.rows (same ∙ asked.named))
-meets_one words m Play asked taken same no_play no_check no_threads no_file no_sheets no_schedule no_rate = no_play (name_met m (codes "play") asked.rows (same ∙ asked.named))
-meets_one words m Check asked taken same no_play no_check no_threads no_file no_sheets no_schedule no_rate = no_check (name_met m (codes "check") asked.rows (same ∙ asked.named))
-meets_one words m (File period) asked taken same no_play no_check no_threads no_file no_sheets no_schedule no_rate = no_file (name_met m (codes "file") asked.rows (same ∙ asked.named))
-meets_one words m (Threads size) asked taken same no_play no_check no_threads no_file no_sheets no_schedule no_rate = no_threads (name_met m (codes "threads") asked.rows (same ∙ asked.named))
-meets_one words m (Sheets before) asked taken same no_play no_check no_threads no_file no_sheets no_schedule no_rate = no_sheets (name_met m (codes "sheets") asked.rows (same ∙ asked.named))
-meets_one words m (Schedule request) asked taken same no_play no_check no_threads no_file no_sheets no_schedule no_rate = no_schedule (name_met m (codes "schedule") asked.rows (same ∙ asked.named))
-meets_one words m Help asked taken same no_play no_check no_threads no_file no_sheets no_schedule no_rate = absurd (cc)
-meets_one words m Version asked taken same no_play no_check no_threads no_file no_sheets no_schedule no_rate = absurd (cc)
+-- what is taken is asked for by its name, if it is asked for
+named_of_taken : (words : List Text) (command : Command) → fault_of grammar_of_focusd words ≡ [] → Asks words command → AsksByName words command
+named_of_taken words command taken asked = named_by (by_name words command asked)
+  where
+    named_by : AsksByName words command ⊎ (AsksForHelp words ⊎ AsksForVersion words) → AsksByName words command
+    named_by (inl named) = named
+    named_by (inr (inl help)) = absurd (cc)
+    named_by (inr (inr version)) = absurd (cc)
 
--- What is met under the name `play` is asked for.
-pub asks_for_play : (words : List Text) (m : ArgMatches) (r : Option (Bor ArgMatches)) → is_some r ≡ true → (is_some r ≡ true → subcommand_name_of m ≡ Some (codes "play"))
-    → IfSome r (λ p. option_map (λ (q : Text × List Row). q.1) (subcommand_rows_of m) ≡ Some (rows_of (found_of p.now))) → fault_of grammar_of_focusd words ≡ []
-    → subcommand_rows_of m ≡ subcommand_of grammar_of_focusd words → AsksForPlay words
-asks_for_play words m None there found has_rows taken same = absurd (cc)
-asks_for_play words m (Some p) there found has_rows taken same = record {
-  taken = taken;
-  rows = rows_of (found_of p.now);
-  named = sym same ∙ met m (codes "play") (rows_of (found_of p.now)) (found there) has_rows;
-}
+-- Words that ask for a command name a subcommand.
+pub names_one : (words : List Text) (command : Command) → fault_of grammar_of_focusd words ≡ [] → subcommand_of grammar_of_focusd words ≡ None → Asks words command → ⊥
+names_one words command taken none asked = let named = named_of_taken words command taken asked in let bad = sym none ∙ named.met in absurd (cc)
 
--- What is met under the name `check` is asked for.
-pub asks_for_check : (words : List Text) (m : ArgMatches) (r : Option (Bor ArgMatches)) → is_some r ≡ true → (is_some r ≡ true → subcommand_name_of m ≡ Some (codes "check"))
-    → IfSome r (λ p. option_map (λ (q : Text × List Row). q.1) (subcommand_rows_of m) ≡ Some (rows_of (found_of p.now))) → fault_of grammar_of_focusd words ≡ []
-    → subcommand_rows_of m ≡ subcommand_of grammar_of_focusd words → AsksForCheck words
-asks_for_check words m None there found has_rows taken same = absurd (cc)
-asks_for_check words m (Some p) there found has_rows taken same = record {
-  taken = taken;
-  rows = rows_of (found_of p.now);
-  named = sym same ∙ met m (codes "check") (rows_of (found_of p.now)) (found there) has_rows;
-}
+-- What the subcommand that is met asks for is asked for,
+pub named_is_asked : (words : List Text) (name : Text) (rows : List Row) (command : Command) → fault_of grammar_of_focusd words ≡ []
+    → subcommand_of grammar_of_focusd words ≡ Some (name, rows) → IsNamed name rows command → Asks words command
+named_is_asked words name rows command taken met named = named_asks words command (record { taken = taken; name = name; rows = rows; met = met; named = named })
+
+-- and nothing else is.
+pub asked_is_named : (words : List Text) (name : Text) (rows : List Row) (command : Command) → fault_of grammar_of_focusd words ≡ []
+    → subcommand_of grammar_of_focusd words ≡ Some (name, rows) → Asks words command → IsNamed name rows command
+asked_is_named words name rows command taken met asked =
+    let it = named_of_taken words command taken asked in
+    let both : ◌≡◌ {A = Option (Text × List Row)} (Some (it.name, it.rows)) (Some (name, rows)) = sym it.met ∙ met in
+    let names = ap (option_map (λ (p : Text × List Row). p.0)) both in
+    let same_name : it.name ≡ name = cc in
+    let others = ap (option_map (λ (p : Text × List Row). p.1)) both in
+    let same_rows : it.rows ≡ rows = cc in
+    subst (λ n. IsNamed n rows command) same_name (subst (λ rs. IsNamed it.name rs command) same_rows it.named)
 
 -- what `get_one` says of a number of so many bits
 abbrev pub Reads : ℕ → Text → Option ℕ → Type 0
@@ -207,127 +225,102 @@ no_day f r text read is none (Some day) gives =
     let bad = sym none ∙ (ap day_in same ∙ gives.2) in
     absurd (cc)
 
+-- a text that is no kind gives none
+pub no_kind : (f : Found) (r : Option (Bor Text)) (text : Bor Text) → option_map (λ (s : Bor Text). s.now) r ≡ first_value f (codes "kind") → r ≡ Some text
+    → ((kind : Kind) → text.now ≢ kind_text kind) → (kind : Option Kind) → GivesKind (rows_of f) kind → ⊥
+no_kind f r text read is none None gives = let bad = sym (first_read f (codes "kind") r text read is) ∙ gives in absurd (cc)
+no_kind f r text read is none (Some kind) gives =
+    let both = sym (first_read f (codes "kind") r text read is) ∙ gives in
+    let same : text.now ≡ kind_text kind = cc in
+    none kind same
+
+-- a flag that is read is given
+pub flag_read : (E : Type 0) (f : Found) (flag : Text) (o : Option Text) (r : Option Bool) → one_text f flag ≡ o → (o ≡ None → r ≡ None)
+    → ((t : Text) → o ≡ Some t → ReadsOne {E = E} ParsesBool t r) → IfSome r (GivesFlag (rows_of f) flag)
+flag_read E f flag o None is none value = tt
+flag_read E f flag None (Some given) is none value = let gone = none refl in absurd (cc)
+flag_read E f flag (Some t) (Some true) is none value =
+    let text : t ≡ codes "true" = value t refl in
+    sym (one_text-rows f flag) ∙ (is ∙ ap Some text)
+flag_read E f flag (Some t) (Some false) is none value =
+    let text : t ≡ codes "false" = value t refl in
+    sym (one_text-rows f flag) ∙ (is ∙ ap Some text)
+
+-- and one that is not read is not
+pub no_flag : (E : Type 0) (f : Found) (flag : Text) (r : Option Bool) → r ≡ None → ((t : Text) → one_text f flag ≡ Some t → ReadsOne {E = E} ParsesBool t r)
+    → (given : Bool) → GivesFlag (rows_of f) flag given → ⊥
+no_flag E f flag (Some b) is value given gives = absurd (cc)
+no_flag E f flag None is value true gives = let failed : (e : E) × ((codes "true" ≢ true_text) × (codes "true" ≢ false_text)) = value (codes "true") (one_text-rows f flag ∙ gives) in failed.1.0 refl
+no_flag E f flag None is value false gives = let failed : (e : E) × ((codes "false" ≢ true_text) × (codes "false" ≢ false_text)) = value (codes "false") (one_text-rows f flag ∙ gives) in failed.1.1 refl
+
 -- a period that is not read is not given
-pub no_through : (f : Found) (r : Option ℕ) → (first_of (codes "through") (rows_of f) ≡ None → ⊥) → ((p : ℕ) → r ≡ Some p → p < 1_200 → ⊥)
-    → ((u : Text) → one_text f (codes "through") ≡ Some u → Reads 16 u r) → (through : Option ℕ) → GivesThrough (rows_of f) through → ⊥
-no_through f r there other value None gives = there gives
-no_through f r there other value (Some p) gives =
-    let small : p < 2 ^ 16 = omega (arith, gives.1) in
-    other p (no_number 16 (codes "through") f r p gives.0 small value) gives.1
+pub no_through : (rows : List Row) → (first_of (codes "through") rows ≡ None → ⊥) → ((period : ℕ) → ¬ GivesPeriod rows (codes "through") period)
+    → (through : Option ℕ) → ¬ GivesThrough rows through
+no_through rows there none None gives = there gives
+no_through rows there none (Some period) gives = none period gives
 
--- the first two letters of the subcommand's name, as a number
-abbrev letters : Option (Text × List Row) → ℕ
-letters None = 0
-letters (Some p) = 256 * slice_index p.0 0 + slice_index p.0 1
-
-abbrev letters_of : Command → ℕ
-letters_of (Rate period) = 29281
-letters_of Play = 28780
-letters_of Check = 25448
-letters_of (File period) = 26217
-letters_of (Threads size) = 29800
-letters_of (Sheets before) = 29544
-letters_of (Schedule request) = 29539
-letters_of Help = 0
-letters_of Version = 0
-
-letters_asked : (words : List Text) (command : Command) → Asks words command → fault_of grammar_of_focusd words ≡ [] → ◌≡◌ {A = ℕ} (letters (subcommand_of grammar_of_focusd words)) (letters_of command)
-letters_asked words (Rate period) asked taken = ap letters asked.named
-letters_asked words Play asked taken = ap letters asked.named
-letters_asked words Check asked taken = ap letters asked.named
-letters_asked words (File period) asked taken = ap letters asked.named
-letters_asked words (Threads size) asked taken = ap letters asked.named
-letters_asked words (Sheets before) asked taken = ap letters asked.named
-letters_asked words (Schedule request) asked taken = ap letters asked.named
-letters_asked words Help asked taken = absurd (cc)
-letters_asked words Version asked taken = absurd (cc)
-
--- Words that name one subcommand ask for no other.
-another : (words : List Text) (name : Text) (rows : List Row) (command : Command) → Asks words command → fault_of grammar_of_focusd words ≡ []
-    → subcommand_of grammar_of_focusd words ≡ Some (name, rows) → ◌≡◌ {A = ℕ} (letters_of command) (256 * slice_index name 0 + slice_index name 1)
-another words name rows command asked taken named = sym (letters_asked words command asked taken) ∙ ap letters named
+-- two names are not one
+pub differ : (one other : Text) → bytes_eq one other ≡ false → one ≡ other → ⊥
+differ one other apart same = let bad : true ≡ false = sym ((bytes_eq-Decides one other).1 same) ∙ apart in absurd (cc)
 
 -- Where a text of the option spells a period, it is the one that is read.
-pub period_read : (f : Found) (r : Option ℕ) (period : ℕ) → GivesPeriod (rows_of f) period → ((u : Text) → one_text f (codes "period") ≡ Some u → Reads 16 u r) → r ≡ Some period
-period_read f r period gives value =
+pub period_read : (f : Found) (option : Text) (r : Option ℕ) (period : ℕ) → GivesPeriod (rows_of f) option period → ((u : Text) → one_text f option ≡ Some u → Reads 16 u r)
+    → r ≡ Some period
+period_read f option r period gives value =
     let small : period < 2 ^ 16 = omega (arith, gives.within) in
-    no_number 16 (codes "period") f r period gives.number small value
+    no_number 16 option f r period gives.number small value
 
--- Words that ask for the subcommand whose rows were found ask for what these give.
-pub rate_gives : (words : List Text) (rows : List Row) (command : Command) → Asks words command → fault_of grammar_of_focusd words ≡ []
-    → subcommand_of grammar_of_focusd words ≡ Some (codes "rate", rows) → (period : ℕ) × GivesPeriod rows period
-rate_gives words rows (Rate period) asked taken named =
-    let both = ap (option_map (λ (p : Text × List Row). p.1)) (sym asked.named ∙ named) in
-    let same : asked.rows ≡ rows = cc in
-    (period, rw same at asked.given)
-rate_gives words rows Play asked taken named = let is : ◌≡◌ {A = ℕ} 28780 29281 = another words (codes "rate") rows Play asked taken named in absurd (omega (arith, is))
-rate_gives words rows Check asked taken named = let is : ◌≡◌ {A = ℕ} 25448 29281 = another words (codes "rate") rows Check asked taken named in absurd (omega (arith, is))
-rate_gives words rows (File period) asked taken named = let is : ◌≡◌ {A = ℕ} 26217 29281 = another words (codes "rate") rows (File period) asked taken named in absurd (omega (arith, is))
-rate_gives words rows (Threads size) asked taken named = let is : ◌≡◌ {A = ℕ} 29800 29281 = another words (codes "rate") rows (Threads size) asked taken named in absurd (omega (arith, is))
-rate_gives words rows (Sheets before) asked taken named = let is : ◌≡◌ {A = ℕ} 29544 29281 = another words (codes "rate") rows (Sheets before) asked taken named in absurd (omega (arith, is))
-rate_gives words rows (Schedule request) asked taken named = let is : ◌≡◌ {A = ℕ} 29539 29281 = another words (codes "rate") rows (Schedule request) asked taken named in absurd (omega (arith, is))
-rate_gives words rows Help asked taken named = let is : ◌≡◌ {A = ℕ} 0 29281 = another words (codes "rate") rows Help asked taken named in absurd (omega (arith, is))
-rate_gives words rows Version asked taken named = let is : ◌≡◌ {A = ℕ} 0 29281 = another words (codes "rate") rows Version asked taken named in absurd (omega (arith, is))
+-- the first two letters of a name, as a number
+abbrev letters : Text → ℕ
+letters name = 256 * slice_index name 0 + slice_index name 1
 
-pub file_gives : (words : List Text) (rows : List Row) (command : Command) → Asks words command → fault_of grammar_of_focusd words ≡ []
-    → subcommand_of grammar_of_focusd words ≡ Some (codes "file", rows) → (period : ℕ) × GivesPeriod rows period
-file_gives words rows (Rate period) asked taken named = let is : ◌≡◌ {A = ℕ} 29281 26217 = another words (codes "file") rows (Rate period) asked taken named in absurd (omega (arith, is))
-file_gives words rows Play asked taken named = let is : ◌≡◌ {A = ℕ} 28780 26217 = another words (codes "file") rows Play asked taken named in absurd (omega (arith, is))
-file_gives words rows Check asked taken named = let is : ◌≡◌ {A = ℕ} 25448 26217 = another words (codes "file") rows Check asked taken named in absurd (omega (arith, is))
-file_gives words rows (File period) asked taken named =
-    let both = ap (option_map (λ (p : Text × List Row). p.1)) (sym asked.named ∙ named) in
-    let same : asked.rows ≡ rows = cc in
-    (period, rw same at asked.given)
-file_gives words rows (Threads size) asked taken named = let is : ◌≡◌ {A = ℕ} 29800 26217 = another words (codes "file") rows (Threads size) asked taken named in absurd (omega (arith, is))
-file_gives words rows (Sheets before) asked taken named = let is : ◌≡◌ {A = ℕ} 29544 26217 = another words (codes "file") rows (Sheets before) asked taken named in absurd (omega (arith, is))
-file_gives words rows (Schedule request) asked taken named = let is : ◌≡◌ {A = ℕ} 29539 26217 = another words (codes "file") rows (Schedule request) asked taken named in absurd (omega (arith, is))
-file_gives words rows Help asked taken named = let is : ◌≡◌ {A = ℕ} 0 26217 = another words (codes "file") rows Help asked taken named in absurd (omega (arith, is))
-file_gives words rows Version asked taken named = let is : ◌≡◌ {A = ℕ} 0 26217 = another words (codes "file") rows Version asked taken named in absurd (omega (arith, is))
+abbrev pick : Bool → Type 0 → Type 0 → Type 0
+pick true one other = one
+pick false one other = other
 
-pub is_given : (words : List Text) (rows : List Row) (command : Command) → Asks words command → fault_of grammar_of_focusd words ≡ []
-    → subcommand_of grammar_of_focusd words ≡ Some (codes "threads", rows) → (size : Size) × GivesSize rows size
-is_given words rows (Rate period) asked taken named = let is : ◌≡◌ {A = ℕ} 29281 29800 = another words (codes "threads") rows (Rate period) asked taken named in absurd (omega (arith, is))
-is_given words rows Play asked taken named = let is : ◌≡◌ {A = ℕ} 28780 29800 = another words (codes "threads") rows Play asked taken named in absurd (omega (arith, is))
-is_given words rows Check asked taken named = let is : ◌≡◌ {A = ℕ} 25448 29800 = another words (codes "threads") rows Check asked taken named in absurd (omega (arith, is))
-is_given words rows (File period) asked taken named = let is : ◌≡◌ {A = ℕ} 26217 29800 = another words (codes "threads") rows (File period) asked taken named in absurd (omega (arith, is))
-is_given words rows (Threads size) asked taken named =
-    let both = ap (option_map (λ (p : Text × List Row). p.1)) (sym asked.named ∙ named) in
-    let same : asked.rows ≡ rows = cc in
-    (size, rw same at asked.given)
-is_given words rows (Sheets before) asked taken named = let is : ◌≡◌ {A = ℕ} 29544 29800 = another words (codes "threads") rows (Sheets before) asked taken named in absurd (omega (arith, is))
-is_given words rows (Schedule request) asked taken named = let is : ◌≡◌ {A = ℕ} 29539 29800 = another words (codes "threads") rows (Schedule request) asked taken named in absurd (omega (arith, is))
-is_given words rows Help asked taken named = let is : ◌≡◌ {A = ℕ} 0 29800 = another words (codes "threads") rows Help asked taken named in absurd (omega (arith, is))
-is_given words rows Version asked taken named = let is : ◌≡◌ {A = ℕ} 0 29800 = another words (codes "threads") rows Version asked taken named in absurd (omega (arith, is))
+-- what the options give to a subcommand whose name begins so
+abbrev GivesAt : ℕ → List Row → Type 0
+GivesAt n rows =
+    pick (n == 29281) ((period : ℕ) × GivesPeriod rows (codes "period") period)
+    (pick (n == 25448) ((kind : Option Kind) × GivesKind rows kind)
+    (pick (n == 26217) ((period : ℕ) × GivesPeriod rows (codes "period") period)
+    (pick (n == 29800) ((size : Size) × GivesSize rows size)
+    (pick (n == 29544) ((asked : Asked) × GivesAsked rows asked)
+    (pick (n == 29539) ((request : Request) × GivesRequest rows request) ⊤)))))
 
-pub sheets_give : (words : List Text) (rows : List Row) (command : Command) → Asks words command → fault_of grammar_of_focusd words ≡ []
-    → subcommand_of grammar_of_focusd words ≡ Some (codes "sheets", rows) → (before : Option ℤ) × GivesDay rows before
-sheets_give words rows (Rate period) asked taken named = let is : ◌≡◌ {A = ℕ} 29281 29544 = another words (codes "sheets") rows (Rate period) asked taken named in absurd (omega (arith, is))
-sheets_give words rows Play asked taken named = let is : ◌≡◌ {A = ℕ} 28780 29544 = another words (codes "sheets") rows Play asked taken named in absurd (omega (arith, is))
-sheets_give words rows Check asked taken named = let is : ◌≡◌ {A = ℕ} 25448 29544 = another words (codes "sheets") rows Check asked taken named in absurd (omega (arith, is))
-sheets_give words rows (File period) asked taken named = let is : ◌≡◌ {A = ℕ} 26217 29544 = another words (codes "sheets") rows (File period) asked taken named in absurd (omega (arith, is))
-sheets_give words rows (Threads size) asked taken named = let is : ◌≡◌ {A = ℕ} 29800 29544 = another words (codes "sheets") rows (Threads size) asked taken named in absurd (omega (arith, is))
-sheets_give words rows (Sheets before) asked taken named =
-    let both = ap (option_map (λ (p : Text × List Row). p.1)) (sym asked.named ∙ named) in
-    let same : asked.rows ≡ rows = cc in
-    (before, rw same at asked.given)
-sheets_give words rows (Schedule request) asked taken named = let is : ◌≡◌ {A = ℕ} 29539 29544 = another words (codes "sheets") rows (Schedule request) asked taken named in absurd (omega (arith, is))
-sheets_give words rows Help asked taken named = let is : ◌≡◌ {A = ℕ} 0 29544 = another words (codes "sheets") rows Help asked taken named in absurd (omega (arith, is))
-sheets_give words rows Version asked taken named = let is : ◌≡◌ {A = ℕ} 0 29544 = another words (codes "sheets") rows Version asked taken named in absurd (omega (arith, is))
+gives_at : (name : Text) (rows : List Row) (command : Command) → IsNamed name rows command → GivesAt (letters name) rows
+gives_at name rows (Rate period) named = subst (λ (n : Text). GivesAt (letters n) rows) (sym named.0) (period, named.1)
+gives_at name rows Play named = subst (λ (n : Text). GivesAt (letters n) rows) (sym named) tt
+gives_at name rows (Check kind) named = subst (λ (n : Text). GivesAt (letters n) rows) (sym named.0) (kind, named.1)
+gives_at name rows (File period) named = subst (λ (n : Text). GivesAt (letters n) rows) (sym named.0) (period, named.1)
+gives_at name rows (Threads size) named = subst (λ (n : Text). GivesAt (letters n) rows) (sym named.0) (size, named.1)
+gives_at name rows (Sheets asked) named = subst (λ (n : Text). GivesAt (letters n) rows) (sym named.0) (asked, named.1)
+gives_at name rows (Schedule request) named = subst (λ (n : Text). GivesAt (letters n) rows) (sym named.0) (request, named.1)
+gives_at name rows Help named = absurd named
+gives_at name rows Version named = absurd named
 
-pub schedule_gives : (words : List Text) (rows : List Row) (command : Command) → Asks words command → fault_of grammar_of_focusd words ≡ []
-    → subcommand_of grammar_of_focusd words ≡ Some (codes "schedule", rows) → (request : Request) × GivesRequest rows request
-schedule_gives words rows (Rate period) asked taken named = let is : ◌≡◌ {A = ℕ} 29281 29539 = another words (codes "schedule") rows (Rate period) asked taken named in absurd (omega (arith, is))
-schedule_gives words rows Play asked taken named = let is : ◌≡◌ {A = ℕ} 28780 29539 = another words (codes "schedule") rows Play asked taken named in absurd (omega (arith, is))
-schedule_gives words rows Check asked taken named = let is : ◌≡◌ {A = ℕ} 25448 29539 = another words (codes "schedule") rows Check asked taken named in absurd (omega (arith, is))
-schedule_gives words rows (File period) asked taken named = let is : ◌≡◌ {A = ℕ} 26217 29539 = another words (codes "schedule") rows (File period) asked taken named in absurd (omega (arith, is))
-schedule_gives words rows (Threads size) asked taken named = let is : ◌≡◌ {A = ℕ} 29800 29539 = another words (codes "schedule") rows (Threads size) asked taken named in absurd (omega (arith, is))
-schedule_gives words rows (Sheets before) asked taken named = let is : ◌≡◌ {A = ℕ} 29544 29539 = another words (codes "schedule") rows (Sheets before) asked taken named in absurd (omega (arith, is))
-schedule_gives words rows (Schedule request) asked taken named =
-    let both = ap (option_map (λ (p : Text × List Row). p.1)) (sym asked.named ∙ named) in
-    let same : asked.rows ≡ rows = cc in
-    (request, rw same at asked.given)
-schedule_gives words rows Help asked taken named = let is : ◌≡◌ {A = ℕ} 0 29539 = another words (codes "schedule") rows Help asked taken named in absurd (omega (arith, is))
-schedule_gives words rows Version asked taken named = let is : ◌≡◌ {A = ℕ} 0 29539 = another words (codes "schedule") rows Version asked taken named in absurd (omega (arith, is))
+-- what is asked for by such a name is given
+given_as : (name literal : Text) (rows : List Row) (command : Command) → name ≡ literal → IsNamed name rows command → GivesAt (letters literal) rows
+given_as name literal rows command is named = subst (λ (n : Text). GivesAt (letters n) rows) is (gives_at name rows command named)
+
+-- A subcommand whose options give nothing asks for nothing.
+pub no_rate : (name : Text) (rows : List Row) → name ≡ codes "rate" → ((period : ℕ) → ¬ GivesPeriod rows (codes "period") period) → (command : Command) → ¬ IsNamed name rows command
+no_rate name rows is none command named = let given = given_as name (codes "rate") rows command is named in none given.0 given.1
+
+pub no_check : (name : Text) (rows : List Row) → name ≡ codes "check" → ((kind : Option Kind) → ¬ GivesKind rows kind) → (command : Command) → ¬ IsNamed name rows command
+no_check name rows is none command named = let given = given_as name (codes "check") rows command is named in none given.0 given.1
+
+pub no_file : (name : Text) (rows : List Row) → name ≡ codes "file" → ((period : ℕ) → ¬ GivesPeriod rows (codes "period") period) → (command : Command) → ¬ IsNamed name rows command
+no_file name rows is none command named = let given = given_as name (codes "file") rows command is named in none given.0 given.1
+
+pub no_threads : (name : Text) (rows : List Row) → name ≡ codes "threads" → ((size : Size) → ¬ GivesSize rows size) → (command : Command) → ¬ IsNamed name rows command
+no_threads name rows is none command named = let given = given_as name (codes "threads") rows command is named in none given.0 given.1
+
+pub no_sheets : (name : Text) (rows : List Row) → name ≡ codes "sheets" → ((asked : Asked) → ¬ GivesAsked rows asked) → (command : Command) → ¬ IsNamed name rows command
+no_sheets name rows is none command named = let given = given_as name (codes "sheets") rows command is named in none given.0 given.1
+
+pub no_schedule : (name : Text) (rows : List Row) → name ≡ codes "schedule" → ((request : Request) → ¬ GivesRequest rows request) → (command : Command) → ¬ IsNamed name rows command
+no_schedule name rows is none command named = let given = given_as name (codes "schedule") rows command is named in none given.0 given.1
 
 pub some_is_not_none : (n : ℕ) → None ≡ Some n → ⊥
 some_is_not_none n same = absurd (cc)
@@ -340,48 +333,59 @@ is_none None none = refl
 is_none (Some a) none = absurd (none a refl)
 
 -- Words that ask for a group ask for nothing else.
-pub asks_for_threads : (words : List Text) (command : Command) (size : Size) → Asks words command → Asks words (Threads size) → (other : Size) × (command ≡ Threads other)
-asks_for_threads words (Rate period) size asked threads = let is : ◌≡◌ {A = ℕ} 29281 29800 = another words (codes "threads") threads.rows (Rate period) asked threads.taken threads.named in absurd (omega (arith, is))
-asks_for_threads words Play size asked threads = let is : ◌≡◌ {A = ℕ} 28780 29800 = another words (codes "threads") threads.rows Play asked threads.taken threads.named in absurd (omega (arith, is))
-asks_for_threads words Check size asked threads = let is : ◌≡◌ {A = ℕ} 25448 29800 = another words (codes "threads") threads.rows Check asked threads.taken threads.named in absurd (omega (arith, is))
-asks_for_threads words (File period) size asked threads = let is : ◌≡◌ {A = ℕ} 26217 29800 = another words (codes "threads") threads.rows (File period) asked threads.taken threads.named in absurd (omega (arith, is))
-asks_for_threads words (Threads other) size asked threads = (other, refl)
-asks_for_threads words (Sheets before) size asked threads = let is : ◌≡◌ {A = ℕ} 29544 29800 = another words (codes "threads") threads.rows (Sheets before) asked threads.taken threads.named in absurd (omega (arith, is))
-asks_for_threads words (Schedule request) size asked threads = let is : ◌≡◌ {A = ℕ} 29539 29800 = another words (codes "threads") threads.rows (Schedule request) asked threads.taken threads.named in absurd (omega (arith, is))
-asks_for_threads words Help size asked threads = let is : ◌≡◌ {A = ℕ} 0 29800 = another words (codes "threads") threads.rows Help asked threads.taken threads.named in absurd (omega (arith, is))
-asks_for_threads words Version size asked threads = let is : ◌≡◌ {A = ℕ} 0 29800 = another words (codes "threads") threads.rows Version asked threads.taken threads.named in absurd (omega (arith, is))
+threads_named : (rows : List Row) (command : Command) → IsNamed (codes "threads") rows command → (other : Size) × (command ≡ Threads other)
+threads_named rows (Rate period) named = absurd (differ (codes "threads") (codes "rate") refl named.0)
+threads_named rows Play named = absurd (differ (codes "threads") (codes "play") refl named)
+threads_named rows (Check kind) named = absurd (differ (codes "threads") (codes "check") refl named.0)
+threads_named rows (File period) named = absurd (differ (codes "threads") (codes "file") refl named.0)
+threads_named rows (Threads other) named = (other, refl)
+threads_named rows (Sheets asked_of) named = absurd (differ (codes "threads") (codes "sheets") refl named.0)
+threads_named rows (Schedule request) named = absurd (differ (codes "threads") (codes "schedule") refl named.0)
+threads_named rows Help named = absurd named
+threads_named rows Version named = absurd named
 
--- What is done with the input is asked for by words that the grammar takes.
+pub asks_for_threads : (words : List Text) (command : Command) (size : Size) → Asks words command → Asks words (Threads size) → (other : Size) × (command ≡ Threads other)
+asks_for_threads words command size asked threads =
+    threads_named threads.rows command (asked_is_named words (codes "threads") threads.rows command threads.taken (subst (λ (n : Text). subcommand_of grammar_of_focusd words ≡ Some (n, threads.rows)) threads.named.0 threads.met) asked)
+
+-- What is done with the input is asked for by a name.
 taken_of : (words : List Text) (command : Command) → Asks words command → takes_input command ≡ true → fault_of grammar_of_focusd words ≡ []
-taken_of words (Rate period) asked takes = asked.taken
-taken_of words Play asked takes = asked.taken
-taken_of words Check asked takes = asked.taken
-taken_of words (File period) asked takes = asked.taken
-taken_of words (Sheets before) asked takes = asked.taken
-taken_of words (Schedule request) asked takes = asked.taken
-taken_of words (Threads size) asked takes = absurd (cc)
 taken_of words Help asked takes = absurd (cc)
 taken_of words Version asked takes = absurd (cc)
+taken_of words (Threads size) asked takes = absurd (cc)
+taken_of words (Rate period) asked takes = asked.taken
+taken_of words Play asked takes = asked.taken
+taken_of words (Check kind) asked takes = asked.taken
+taken_of words (File period) asked takes = asked.taken
+taken_of words (Sheets asked_of) asked takes = asked.taken
+taken_of words (Schedule request) asked takes = asked.taken
+
+-- what is done without is a group, help or the version
+without_input : (command : Command) → takes_input command ≡ false → ((size : Size) × (command ≡ Threads size)) ⊎ ((command ≡ Help) ⊎ (command ≡ Version))
+without_input (Threads size) none = inl (size, refl)
+without_input Help none = inr (inl refl)
+without_input Version none = inr (inr refl)
+without_input (Rate period) none = absurd (cc)
+without_input Play none = absurd (cc)
+without_input (Check kind) none = absurd (cc)
+without_input (File period) none = absurd (cc)
+without_input (Sheets asked_of) none = absurd (cc)
+without_input (Schedule request) none = absurd (cc)
 
 -- Words that ask for what is done with the input ask for nothing that is done without.
 pub takes_or_not : (words : List Text) (command other : Command) → Asks words command → Asks words other → takes_input command ≡ true → takes_input other ≡ false → ⊥
-takes_or_not words command (Threads size) asked others takes takes_none =
-    let is = (asks_for_threads words command size asked others).1 in
-    let bad : true ≡ false = sym takes ∙ ap takes_input is in
-    absurd (cc)
-takes_or_not words command Help asked others takes takes_none = let taken = taken_of words command asked takes in absurd (cc)
-takes_or_not words command Version asked others takes takes_none = let taken = taken_of words command asked takes in absurd (cc)
-takes_or_not words command (Rate period) asked others takes takes_none = absurd (cc)
-takes_or_not words command Play asked others takes takes_none = absurd (cc)
-takes_or_not words command Check asked others takes takes_none = absurd (cc)
-takes_or_not words command (File period) asked others takes takes_none = absurd (cc)
-takes_or_not words command (Sheets before) asked others takes takes_none = absurd (cc)
-takes_or_not words command (Schedule request) asked others takes takes_none = absurd (cc)
+takes_or_not words command other asked others takes none = neither_of (without_input other none)
+  where
+    no_request : fault_of grammar_of_focusd words ≡ [] → AsksForHelp words → ⊥
+    no_request taken help = absurd (cc)
 
--- what is there is not absent
-pub not_there : {A : Type 0} (o : Option A) → is_some o ≡ true → is_some o ≡ false → ⊥
-not_there o there absent = absurd (cc)
+    no_version : fault_of grammar_of_focusd words ≡ [] → AsksForVersion words → ⊥
+    no_version taken version = absurd (cc)
 
-pub not_some : {A : Type 0} (o : Option A) → is_some o ≡ true → o ≡ None → ⊥
-not_some None there none = absurd (cc)
-not_some (Some a) there none = absurd (cc)
+    neither_of : ((size : Size) × (other ≡ Threads size)) ⊎ ((other ≡ Help) ⊎ (other ≡ Version)) → ⊥
+    neither_of (inl group) =
+        let is = (asks_for_threads words command group.0 asked (subst (Asks words) group.1 others)).1 in
+        let bad : true ≡ false = sym takes ∙ ap takes_input is in
+        absurd (cc)
+    neither_of (inr (inl is)) = no_request (taken_of words command asked takes) (subst (Asks words) is others)
+    neither_of (inr (inr is)) = no_version (taken_of words command asked takes) (subst (Asks words) is others)

@@ -15,7 +15,8 @@ use Rattle.answer_words.specs.Words.{section_text}
 use Rattle.command_line.specs.declared.statuses.Fault.{Fault}
 use Rattle.command_line.specs.declared.statuses.Fault.TheVariants.{Line, Play, Faults, File, Threads, Unlike, Batch, TooLong, NotClosed}
 
--- 1 refused input, no whole file, a mismatch or sheets that are unlike, 2 the command line, 3 a failed read or write, 4 want of memory
+-- 1 refused input, no whole file, a mismatch or sheets that are unlike, 2 the command line, 3 a failed read or write, 4 want of
+-- memory
 abbrev pub status_of : Fault → ℕ
 status_of (Line on_line.Line) = 2
 status_of (Line on_line.OutOfMemory) = 4
@@ -37,7 +38,7 @@ status_of (Threads threads.Mismatch) = 1
 status_of (Threads threads.Write) = 3
 status_of (Threads threads.Refused) = 1
 status_of Unlike = 1
-status_of (Batch at refusal) = 1
+status_of (Batch told) = 1
 status_of TooLong = 1
 status_of NotClosed = 1
 
@@ -62,7 +63,7 @@ message_of (Threads threads.Mismatch) = codes "mismatch"
 message_of (Threads threads.Write) = codes "write failed"
 message_of (Threads threads.Refused) = codes "refused"
 message_of Unlike = codes "unlike"
-message_of (Batch at refusal) = with_number (codes "line ") at ++ codes ": " ++ refusal_text refusal
+message_of (Batch told) = told.items
 message_of TooLong = codes "too long"
 message_of NotClosed = codes "not closed"
 
@@ -73,5 +74,7 @@ ending_line fault = line (codes "focusd: " ++ message_of fault)
 -- The line of the fault was written and no call failed; or one call did, and of the line a prefix was written and never all.
 abbrev pub Tells : {E : Type 0} → SinkOf E → Fault → (errors errors' : E) → Type 0
 Tells sink fault errors errors' =
-    (Appends (sink.contents errors) (sink.contents errors') (ending_line fault) × (sink.failed_calls errors' ≡ sink.failed_calls errors))
-    ⊎ (AppendsPrefix (sink.contents errors) (sink.contents errors') (ending_line fault) × (sink.failed_calls errors' ≡ next_count (sink.failed_calls errors)))
+    (Appends (sink.contents errors) (sink.contents errors') (ending_line fault)
+    × (sink.failed_calls errors' ≡ sink.failed_calls errors))
+    ⊎ (AppendsPrefix (sink.contents errors) (sink.contents errors') (ending_line fault)
+    × (sink.failed_calls errors' ≡ next_count (sink.failed_calls errors)))

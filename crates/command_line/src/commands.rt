@@ -2,8 +2,21 @@
 
 use period_file::Period;
 use schedule_writer::Request;
-use sheet_changes::Day;
+use sheet_changes::Asked;
 use threads_player::Size;
+
+/// What an input is taken for: that of the command of this name.
+#[derive(Clone, Copy, Debug, PartialEq)]
+pub enum Kind {
+    /// A batch to be rated.
+    Rate,
+    /// A schedule to be played.
+    Play,
+    /// Batches of which a schedule is to be written.
+    Schedule,
+    /// An old price sheet and a new one.
+    Sheets,
+}
 
 /// What the program is asked for.
 #[derive(Clone, Copy, Debug, PartialEq)]
@@ -12,16 +25,18 @@ pub enum Command {
     Rate { period: Period },
     /// `play`: the transcript of a schedule.
     Play,
-    /// `check`: what is wrong with an input.
-    Check,
+    /// `check --kind KIND`: what is wrong with an input of that kind. Where none is given, an input that
+    /// begins with `SCHEDULE` is to be played, and any other to be rated.
+    Check(Option<Kind>),
     /// `file --period P`: the file of that billing period in a transcript.
     File { period: Period },
     /// `threads --nodes N --agents A --batches K --periods P`: the report of a group of that size,
     /// run in threads.
     Threads { size: Size },
-    /// `sheets --before DAY`: what a new price sheet changes of an old one; files of months that end
-    /// before the day, where one is given, are to stay.
-    Sheets { before: Option<Day> },
+    /// `sheets --before DAY --all`: what a new price sheet changes of an old one; files of months that
+    /// end before the day, where one is given, are to stay. With `--all` each field that differs is
+    /// listed too.
+    Sheets { asked: Asked },
     /// `schedule --nodes N --observers M --through P`: a schedule that closes the months of batches.
     Schedule { request: Request },
     /// `--help`, also behind a command: how the program, or that command, is called.

@@ -7,10 +7,11 @@ mod runs;
 mod statuses;
 mod words;
 
-pub use commands::Command;
+pub use commands::{Command, Kind};
 pub use period_file::{FileFault, file_text};
 pub use runs::{run, run_alone};
 pub use schedule_writer::Request;
+pub use sheet_changes::Asked;
 pub use statuses::{Fault, ending};
 pub use threads_player::{Size, ThreadsFault};
 pub use words::{LineFault, command, help};

@@ -1,28 +1,35 @@
 //! A run of the program, from what the process gave to the status that it ends with.
 
-ghost use Rattle.std.specs.Prelude.{◌≡◌, ◌≢◌, ℕ, List, [], Option, Err, IfOk, IfErr, IsErr, map, string_bytes};
+ghost use Rattle.std.specs.Prelude.{◌≡◌, ◌≢◌, ◌+◌, ◌++◌, ℕ, List, [], Option, Ok, Err, IfOk, IfErr, IsErr, OnErr, OnOk, false, is_err, map, string_bytes};
+ghost use Rattle.std.specs.Io.KnownBytes.{Appends, IsAtEnd};
 ghost use Rattle.std.specs.IoError.{error_kind};
 ghost use Rattle.std.specs.declared.io.ErrorKind.TheVariants.{OutOfMemory as NoMemory};
+ghost use Rattle.counted_io.specs.Counts.{count_after};
 ghost use Rattle.counted_io.specs.Reading.{ConsumesAtMost};
+ghost use Rattle.counted_io.specs.Writing.{AppendsPrefix};
+ghost use Rattle.metering_model.specs.Limits.{most_input_bytes, most_transcript_bytes};
+ghost use Rattle.metering_model.specs.Transcript.{line_count};
+ghost use Rattle.metering_model.specs.declared.Refusal.{Refusal};
+ghost use Rattle.program_input.specs.Faults.{tells_of_reader, tells_of_writer};
+ghost use Rattle.program_input.specs.declared.ScheduleFault.{ScheduleFault};
 ghost use Rattle.threads_player.specs.declared.sizes.Size.{Size};
 ghost use Rattle.threads_player.specs.Groups.{IsSize};
 ghost use Rattle.command_line.specs.declared.commands.Command.{Command};
-ghost use Rattle.command_line.specs.CommandLine.{Asks};
-ghost use Rattle.command_line.specs.Runs.{AsksFor, Ends, words_behind_name};
-ghost use Rattle.command_line.specs.Inner.Outcomes.{IsEnding, Leaves};
+ghost use Rattle.command_line.specs.CommandLine.{Asks, takes_input};
+ghost use Rattle.command_line.specs.Runs.{AsksFor, Ends, IsChecked, most_read, words_behind_name};
+ghost use Rattle.command_line.specs.Inner.Outcomes.{IsEnding, IsSound, Leaves};
 ghost use Rattle.command_line.specs.Inner.Faults.{fault_of_schedule, fault_of_sheets};
 ghost use Rattle.schedule_writer.specs.Requests.{IsRequest};
-ghost use Rattle.schedule_writer.specs.declared.asked.Request.{Request};
 
-use crate::commands::Command;
+use crate::commands::{Command, Kind};
 use crate::statuses::{Fault, ending};
 use crate::words::{LineFault, command, help};
 use counted_io::{Sink, Source, write_all};
-use input_check::{check_text, play_text, rate_text};
+use input_check::{InputKind, check_text, check_text_as, play_text, rate_text};
 use period_file::{Period, file_text};
 use program_input::PlayFault;
-use schedule_writer::{Request, WriteFault, schedule_text};
-use sheet_changes::{Day, SheetsFault, sheets_text};
+use schedule_writer::{Request, WriteFault, check_schedule_input, schedule_text};
+use sheet_changes::{Asked, SheetsFault, check_two_sheets, sheets_text};
 use std::alloc::Global;
 use std::env::Args;
 use std::io;
@@ -98,7 +105,8 @@ fn rate<R: Source, W: Sink>(
     ensures outcome { Leaves W.Sink (Command.Rate period) result
         (R.remaining reader.old) (R.remaining reader.new)
         (R.failed_calls reader.old) (R.failed_calls reader.new) writer.old writer.new }
-    ensures read { ConsumesAtMost 16_777_217 (R.remaining reader.old) (R.remaining reader.new) }
+    ensures read { ConsumesAtMost (most_input_bytes + 1)
+        (R.remaining reader.old) (R.remaining reader.new) }
 {
     match rate_text(alloc, period, reader, writer) {
         Ok(()) => Ok(()),
@@ -110,7 +118,8 @@ fn play<R: Source, W: Sink>(alloc: Global, reader: &mut R, writer: &mut W) -> Re
     ensures outcome { Leaves W.Sink Command.Play result
         (R.remaining reader.old) (R.remaining reader.new)
         (R.failed_calls reader.old) (R.failed_calls reader.new) writer.old writer.new }
-    ensures read { ConsumesAtMost 16_777_217 (R.remaining reader.old) (R.remaining reader.new) }
+    ensures read { ConsumesAtMost (most_input_bytes + 1)
+        (R.remaining reader.old) (R.remaining reader.new) }
 {
     match play_text(alloc, reader, writer) {
         Ok(()) => Ok(()),
@@ -118,14 +127,59 @@ fn play<R: Source, W: Sink>(alloc: Global, reader: &mut R, writer: &mut W) -> Re
     }
 }
 
+// Writes what is said of an input of this kind, and answers how many lines tell what is refused.
+fn say<R: Source, W: Sink>(
+    alloc: Global,
+    kind: Option<Kind>,
+    reader: &mut R,
+    writer: &mut W,
+) -> Result<u64, PlayFault>
+    ensures said { IfOk result (λ count. (input said warned : List ℕ)
+        × IsChecked kind (R.remaining reader.old) input said warned
+        × Appends (W.contents writer.old) (W.contents writer.new) (said ++ warned)
+        × (count ≡ line_count said)) }
+    ensures ahead { result ≡ Ok 0 → (input warned : List ℕ)
+        × IsChecked kind (R.remaining reader.old) input [] warned
+        × Appends (W.contents writer.old) (W.contents writer.new) warned }
+    ensures end { result ≡ Ok 0 → IsAtEnd (R.remaining reader.new) }
+    ensures prefix { result ≡ Err PlayFault.Write → (input said warned : List ℕ)
+        × IsChecked kind (R.remaining reader.old) input said warned
+        × AppendsPrefix (W.contents writer.old) (W.contents writer.new) (said ++ warned) }
+    ensures untouched { IfErr result (λ fault. fault ≢ PlayFault.Write → writer.new ≡ writer.old) }
+    ensures no_section { (fault : ScheduleFault) → result ≢ Err (PlayFault.Schedule fault) }
+    ensures no_refusal { (refusal : Refusal) → result ≢ Err (PlayFault.Refused refusal) }
+    ensures read { ConsumesAtMost (most_input_bytes + 1)
+        (R.remaining reader.old) (R.remaining reader.new) }
+    ensures reads { R.failed_calls reader.new
+        ≡ count_after (tells_of_reader result) (R.failed_calls reader.old) }
+    ensures writes { W.failed_calls writer.new
+        ≡ count_after (tells_of_writer result) (W.failed_calls writer.old) }
+{
+    match kind {
+        None => check_text(alloc, reader, writer),
+        Some(kind) => match kind {
+            Kind::Rate => check_text_as(alloc, InputKind::Rate, reader, writer),
+            Kind::Play => check_text_as(alloc, InputKind::Play, reader, writer),
+            Kind::Schedule => check_schedule_input(alloc, reader, writer),
+            Kind::Sheets => check_two_sheets(alloc, reader, writer),
+        },
+    }
+}
+
 // Where something is wrong, the lines that say so were written, and their number is the fault.
-fn check<R: Source, W: Sink>(alloc: Global, reader: &mut R, writer: &mut W) -> Result<(), Fault>
-    ensures outcome { Leaves W.Sink Command.Check result
+fn check<R: Source, W: Sink>(
+    alloc: Global,
+    kind: Option<Kind>,
+    reader: &mut R,
+    writer: &mut W,
+) -> Result<(), Fault>
+    ensures outcome { Leaves W.Sink (Command.Check kind) result
         (R.remaining reader.old) (R.remaining reader.new)
         (R.failed_calls reader.old) (R.failed_calls reader.new) writer.old writer.new }
-    ensures read { ConsumesAtMost 16_777_217 (R.remaining reader.old) (R.remaining reader.new) }
+    ensures read { ConsumesAtMost (most_input_bytes + 1)
+        (R.remaining reader.old) (R.remaining reader.new) }
 {
-    match check_text(alloc, reader, writer) {
+    match say(alloc, kind, reader, writer) {
         Ok(0) => Ok(()),
         Ok(count) => Err(Fault::Faults(count)),
         Err(fault) => Err(Fault::Play(fault)),
@@ -141,7 +195,8 @@ fn file<R: Source, W: Sink>(
     ensures outcome { Leaves W.Sink (Command.File period) result
         (R.remaining reader.old) (R.remaining reader.new)
         (R.failed_calls reader.old) (R.failed_calls reader.new) writer.old writer.new }
-    ensures read { ConsumesAtMost 4_294_967_297 (R.remaining reader.old) (R.remaining reader.new) }
+    ensures read { ConsumesAtMost (most_transcript_bytes + 1)
+        (R.remaining reader.old) (R.remaining reader.new) }
 {
     match file_text(alloc, period, reader, writer) {
         Ok(()) => Ok(()),
@@ -161,16 +216,17 @@ fn fault_of_sheets(fault: SheetsFault) -> Fault
 // Where not all stays that is to stay, all was written that is said of the sheets.
 fn sheets<R: Source, W: Sink>(
     alloc: Global,
-    before: Option<Day>,
+    asked: Asked,
     reader: &mut R,
     writer: &mut W,
 ) -> Result<(), Fault>
-    ensures outcome { Leaves W.Sink (Command.Sheets before) result
+    ensures outcome { Leaves W.Sink (Command.Sheets asked) result
         (R.remaining reader.old) (R.remaining reader.new)
         (R.failed_calls reader.old) (R.failed_calls reader.new) writer.old writer.new }
-    ensures read { ConsumesAtMost 16_777_217 (R.remaining reader.old) (R.remaining reader.new) }
+    ensures read { ConsumesAtMost (most_input_bytes + 1)
+        (R.remaining reader.old) (R.remaining reader.new) }
 {
-    match sheets_text(alloc, before, reader, writer) {
+    match sheets_text(alloc, asked, reader, writer) {
         Ok(()) => Ok(()),
         Err(fault) => Err(fault_of_sheets(fault)),
     }
@@ -182,7 +238,7 @@ fn fault_of_schedule(fault: WriteFault) -> Fault
     match fault {
         WriteFault::Read => Fault::Play(PlayFault::Read),
         WriteFault::Section(fault) => Fault::Play(PlayFault::Schedule(fault)),
-        WriteFault::Refused { line, refusal } => Fault::Batch { line, refusal },
+        WriteFault::Refused(told) => Fault::Batch(told),
         WriteFault::TooLong => Fault::TooLong,
         WriteFault::NotClosed => Fault::NotClosed,
         WriteFault::Write => Fault::Play(PlayFault::Write),
@@ -200,7 +256,8 @@ fn schedule<R: Source, W: Sink>(
     ensures outcome { Leaves W.Sink (Command.Schedule request) result
         (R.remaining reader.old) (R.remaining reader.new)
         (R.failed_calls reader.old) (R.failed_calls reader.new) writer.old writer.new }
-    ensures read { ConsumesAtMost 16_777_217 (R.remaining reader.old) (R.remaining reader.new) }
+    ensures read { ConsumesAtMost (most_input_bytes + 1)
+        (R.remaining reader.old) (R.remaining reader.new) }
 {
     match schedule_text(alloc, request, reader, writer) {
         Ok(()) => Ok(()),
@@ -217,7 +274,8 @@ fn threads<T: Threads + Wait + Sync, W: Sink>(
 ) -> Result<(), Fault>
     requires { IsSize size }
     ensures outcome { (known : Option (List ℕ)) (reads : ℕ)
-        → Leaves W.Sink (Command.Threads size) result known known reads reads writer.old writer.new }
+        → Leaves W.Sink (Command.Threads size) result
+        known known reads reads writer.old writer.new }
 {
     match threads_text(rt, alloc, size, writer) {
         Ok(()) => Ok(()),
@@ -225,26 +283,52 @@ fn threads<T: Threads + Wait + Sync, W: Sink>(
     }
 }
 
-// Shows the text of help, and takes nothing of the input, whatever that is.
-fn show_help<W: Sink>(text: &str, writer: &mut W) -> Result<(), Fault>
-    requires { text.now ≢ [] }
-    ensures outcome { (known : Option (List ℕ)) (reads : ℕ)
-        → Leaves W.Sink Command.Help result known known reads reads writer.old writer.new }
+// Shows a text, of help or of the version, and takes nothing of the input, whatever that is.
+fn show<W: Sink>(text: &[u8], writer: &mut W) -> Result<(), Fault>
+    ensures shown { OnOk result (Appends (W.contents writer.old) (W.contents writer.new) text.now) }
+    ensures prefix { OnErr result
+        (AppendsPrefix (W.contents writer.old) (W.contents writer.new) text.now) }
+    ensures fault { IfErr result (λ fault. fault ≡ Fault.Play PlayFault.Write) }
+    ensures count { W.failed_calls writer.new
+        ≡ count_after (is_err result) (W.failed_calls writer.old) }
 {
-    match write_all(writer, text.as_bytes()) {
+    match write_all(writer, text) {
         Ok(()) => Ok(()),
         Err(_) => Err(Fault::Play(PlayFault::Write)),
     }
 }
 
-// Shows the version, and takes nothing of the input.
-fn show_version<W: Sink>(writer: &mut W) -> Result<(), Fault>
-    ensures outcome { (known : Option (List ℕ)) (reads : ℕ)
-        → Leaves W.Sink Command.Version result known known reads reads writer.old writer.new }
+// What comes of a command. A group in threads is not run here: its size is the error, and nothing is
+// done.
+fn outcome<R: Source, W: Sink>(
+    alloc: Global,
+    wanted: &Wanted,
+    reader: &mut R,
+    writer: &mut W,
+) -> Result<Result<(), Fault>, Size>
+    requires sound { IsSound wanted.now.command }
+    requires help { wanted.now.command ≡ Command.Help → string_bytes wanted.now.help ≢ [] }
+    ensures outcome { IfOk result (λ outcome. Leaves W.Sink wanted.now.command outcome
+        (R.remaining reader.old) (R.remaining reader.new)
+        (R.failed_calls reader.old) (R.failed_calls reader.new) writer.old writer.new) }
+    ensures alone { IfOk result
+        (λ outcome. (size : Size) → wanted.now.command ≢ Command.Threads size) }
+    ensures threads { IfErr result (λ size. wanted.now.command ≡ Command.Threads size) }
+    ensures untouched { IsErr result → (reader.new ≡ reader.old) × (writer.new ≡ writer.old) }
+    ensures read { ConsumesAtMost (most_read wanted.now.command)
+        (R.remaining reader.old) (R.remaining reader.new) }
+    ensures unread { takes_input wanted.now.command ≡ false → reader.new ≡ reader.old }
 {
-    match write_all(writer, b"focusd 0.3.0\n") {
-        Ok(()) => Ok(()),
-        Err(_) => Err(Fault::Play(PlayFault::Write)),
+    match wanted.command {
+        Command::Rate { period } => Ok(rate(alloc, period, reader, writer)),
+        Command::Play => Ok(play(alloc, reader, writer)),
+        Command::Check(kind) => Ok(check(alloc, kind, reader, writer)),
+        Command::File { period } => Ok(file(alloc, period, reader, writer)),
+        Command::Threads { size } => Err(size),
+        Command::Sheets { asked } => Ok(sheets(alloc, asked, reader, writer)),
+        Command::Schedule { request } => Ok(schedule(alloc, request, reader, writer)),
+        Command::Help => Ok(show(wanted.help.as_bytes(), writer)),
+        Command::Version => Ok(show(b"focusd 0.3.0\n", writer)),
     }
 }
 
@@ -285,30 +369,20 @@ pub fn run_alone<R: Source, W: Sink, E: Sink>(
         Ok(wanted) => wanted,
         Err(fault) => return Ok(ending(&Fault::Line(fault), errors)),
     };
-    let command = wanted.command;
-    match command {
-        Command::Rate { period } => Ok(ended(rate(alloc, period, reader, writer), errors)),
-        Command::Play => Ok(ended(play(alloc, reader, writer), errors)),
-        Command::Check => Ok(ended(check(alloc, reader, writer), errors)),
-        Command::File { period } => Ok(ended(file(alloc, period, reader, writer), errors)),
-        Command::Threads { size } => Err(size),
-        Command::Sheets { before } => Ok(ended(sheets(alloc, before, reader, writer), errors)),
-        Command::Schedule { request } => Ok(ended(
-            schedule(alloc, request, reader, writer),
-            errors,
-        )),
-        Command::Help => Ok(ended(show_help(wanted.help.as_str(), writer), errors)),
-        Command::Version => Ok(ended(show_version(writer), errors)),
+    match outcome(alloc, &wanted, reader, writer) {
+        Ok(outcome) => Ok(ended(outcome, errors)),
+        Err(size) => Err(size),
     }
 }
 
 /// Does what the arguments ask for, of which the first is the program's name, and answers the status
 /// to end with.
 ///
-/// 0 says that it was done; 1 that the input is refused, that `check` wrote what is wrong with it,
-/// that it has no whole file of the period, that not all stays of two sheets that is to stay, that no
-/// schedule was found, or that a run in threads came to a mismatch; 2 that the
-/// words ask for nothing, or are no text; 3 that a read or a write failed; 4 that memory was wanting.
+/// 0 says that it was done, and of `check` that nothing is refused, though it may warn; 1 that the
+/// input is refused, that `check` wrote what is refused of it, that it has no whole file of the period,
+/// that not all stays of two sheets that is to stay, that no schedule was found, or that a run in
+/// threads came to a mismatch; 2 that the words ask for nothing, or are no text; 3 that a read or a
+/// write failed; 4 that memory was wanting.
 /// In each case but 0 a line tells of it on `errors`, as far as that takes it. At most 16,777,217
 /// bytes are read, by `file` at most 4,294,967,297, and none at 2, by `threads`, or for help or the
 /// version. What is no group in threads is done by [`run_alone`], which no thread can keep from

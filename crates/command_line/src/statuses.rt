@@ -1,23 +1,26 @@
 //! How the program ends at a fault: its exit status, and its line on standard error.
 
-ghost use Rattle.std.specs.Prelude.{◌≡◌, ◌+◌, ◌≤◌, ◌++◌, length};
+ghost use Rattle.std.specs.Prelude.{◌≡◌, ◌+◌, ◌≤◌, ◌++◌, OnErr, OnOk, is_err, length};
+ghost use Rattle.std.specs.Io.KnownBytes.{Appends};
+ghost use Rattle.counted_io.specs.Counts.{count_after};
+ghost use Rattle.counted_io.specs.Writing.{AppendsPrefix};
 ghost use Rattle.command_line.specs.Endings.{Tells, status_of};
-ghost use Rattle.command_line.specs.Inner.Parts.{first_part, first_words, last_part};
+ghost use Rattle.command_line.specs.Inner.Parts.{end_part, first_part, first_words, told_part};
 
 use crate::words::LineFault;
 use answer_words::{Line, put_section, refusal_line};
 use counted_io::{Failed, Sink, write_all};
-use metering_model::Refusal;
 use period_file::FileFault;
 use program_input::{PlayFault, ScheduleCode, ScheduleFault};
 use threads_player::ThreadsFault;
 
 /// Why the program did not do what it is asked for.
-#[derive(Clone, Copy, Drop)]
+#[derive(Drop)]
 pub enum Fault {
     /// The command line.
     Line(LineFault),
-    /// `rate` or `play`, or a device of `check`, of help or of the version.
+    /// `rate` or `play`, the sections of `sheets` or `schedule`, or a device of any but `file` and
+    /// `threads`.
     Play(PlayFault),
     /// `check` wrote so many lines of what is wrong.
     Faults(u64),
@@ -27,8 +30,8 @@ pub enum Fault {
     Threads(ThreadsFault),
     /// `sheets` wrote all, and not all stays that is to stay.
     Unlike,
-    /// `schedule`: the journals refuse a batch, at this line of the input.
-    Batch { line: u32, refusal: Refusal },
+    /// `schedule`: the journals refuse a batch; in the words of `check`, without a line feed.
+    Batch(Vec<u8>),
     /// `schedule`: it would be longer than a schedule may be.
     TooLong,
     /// `schedule`: what was to be written does not close the months.
@@ -45,7 +48,7 @@ fn status(fault: &Fault) -> u8
         | Fault::File(FileFault::NoFile | FileFault::Torn | FileFault::TooLong)
         | Fault::Threads(ThreadsFault::Mismatch | ThreadsFault::Refused)
         | Fault::Unlike
-        | Fault::Batch { .. }
+        | Fault::Batch(_)
         | Fault::TooLong
         | Fault::NotClosed => 1,
         Fault::Line(LineFault::Line) => 2,
@@ -60,7 +63,7 @@ fn status(fault: &Fault) -> u8
     }
 }
 
-// Appends what is told of the fault, but of a batch its refusal, for which a line may be too short:
+// Appends what is told of the fault, but nothing of a refused batch, for which a line may be too short:
 // at most "refused " and the 44 bytes of a refusal.
 fn put_message(line: &mut Line, fault: &Fault)
     requires room { length line.old + 52 ≤ 64 }
@@ -101,52 +104,67 @@ fn put_message(line: &mut Line, fault: &Fault)
         Fault::Threads(ThreadsFault::Mismatch) => line.put(b"mismatch"),
         Fault::Threads(ThreadsFault::Refused) => line.put(b"refused"),
         Fault::Unlike => line.put(b"unlike"),
-        Fault::Batch { line: at, .. } => {
-            line.put(b"line ");
-            line.put_number(*at);
-            line.put(b": ");
-        }
+        Fault::Batch(_) => {}
         Fault::TooLong => line.put(b"too long"),
         Fault::NotClosed => line.put(b"not closed"),
     }
 }
 
-// The line of the fault, but of a refused batch what stands before its refusal
+// The line of the fault, but of a refused batch what stands before its words
 fn line_of(fault: &Fault) -> Line
     ensures { result ≡ first_part fault.now }
 {
     let mut line = Line::new();
     line.put(b"focusd: ");
     put_message(&mut line, fault);
-    if matches!(fault, Fault::Batch { .. }) {
+    if matches!(fault, Fault::Batch(_)) {
         return line;
     }
     line.put(b"\n");
     line
 }
 
-// What stands behind it: nothing, but of a refused batch
-fn rest_of(fault: &Fault) -> Line
-    ensures { result ≡ last_part fault.now }
+// What stands behind it: nothing, but of a refused batch its words
+fn words_of(fault: &Fault) -> &[u8]
+    ensures { result.now ≡ told_part fault.now }
 {
     match fault {
-        Fault::Batch { refusal, .. } => {
-            let mut rest = refusal_line(*refusal);
-            rest.put(b"\n");
-            rest
-        }
-        _ => Line::new(),
+        Fault::Batch(told) => told,
+        _ => b"",
     }
+}
+
+// What stands behind those
+fn end_of(fault: &Fault) -> &'static [u8]
+    ensures { result.now ≡ end_part fault.now }
+{
+    match fault {
+        Fault::Batch(_) => b"\n",
+        _ => b"",
+    }
+}
+
+// Writes one text and then the other.
+fn write_both<W: Sink>(first: &[u8], second: &[u8], writer: &mut W) -> Result<(), Failed>
+    ensures written { OnOk result
+        (Appends (W.contents writer.old) (W.contents writer.new) (first.now ++ second.now)) }
+    ensures prefix { OnErr result
+        (AppendsPrefix (W.contents writer.old) (W.contents writer.new) (first.now ++ second.now)) }
+    ensures count { W.failed_calls writer.new
+        ≡ count_after (is_err result) (W.failed_calls writer.old) }
+{
+    write_all(writer, first)?;
+    write_all(writer, second)
 }
 
 fn tell<W: Sink>(fault: &Fault, writer: &mut W) -> Result<(), Failed>
     ensures told { Tells W.Sink fault.now writer.old writer.new }
 {
     write_all(writer, line_of(fault).as_slice())?;
-    write_all(writer, rest_of(fault).as_slice())
+    write_both(words_of(fault), end_of(fault), writer)
 }
 
-/// Writes the line of the fault in one write, or in two where a batch is refused, and gives the status
+/// Writes the line of the fault in one write, or in three where a batch is refused, and gives the status
 /// to end with: 1 for refused input, a mismatch or sheets that are unlike, 2 for the command line, 3 for
 /// a failed read or write, 4 for want of memory.
 ///

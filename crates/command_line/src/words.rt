@@ -1,21 +1,22 @@
 //! The words of the command line.
 
-ghost use Rattle.std.specs.Prelude.{◌≡◌, ◌≢◌, ◌≤◌, ℕ, ℤ, Err, IfOk, IfSome, None, Option, Some, codes, false, map, pos, string_bytes, []};
-ghost use Rattle.clap.specs.Words.{app_of, found_of, kind_of, new_app, rows_of, rule_of, with_subcommand};
+ghost use Rattle.std.specs.Prelude.{Bool, ◌≡◌, ◌≢◌, ◌≤◌, ℕ, ℤ, Err, IfOk, IfSome, None, Option, Some, codes, false, map, pos, string_bytes, []};
+ghost use Rattle.clap.specs.Words.{app_of, found_of, kind_of, new_app, rows_of, rule_of, with_rule, with_subcommand};
 ghost use Rattle.schedule_writer.specs.declared.asked.Request.{Request};
 ghost use Rattle.clap.specs.declared.builder.command.Command.TheViews.{out-Command};
 ghost use Rattle.command_line.specs.declared.commands.Command.{Command};
-ghost use Rattle.command_line.specs.CommandLine.{bare_grammar, grammar_of_focusd, group_grammar, number_option, period_grammar, threads_grammar, Asks, AsksForHelp, GivesNumber, GivesPeriod, GivesSize, GivesDay, GivesRequest, GivesThrough, nodes_grammar, number_or, optional_number, optional_text, schedule_grammar, sheets_grammar};
+ghost use Rattle.command_line.specs.declared.commands.Kind.{Kind};
+ghost use Rattle.sheet_changes.specs.declared.changes.Asked.{Asked};
+ghost use Rattle.command_line.specs.CommandLine.{bare_grammar, check_grammar, flag_option, grammar_of_focusd, kind_text, number_option, period_grammar, threads_grammar, Asks, AsksForHelp, GivesAsked, GivesDay, GivesFlag, GivesKind, GivesNumber, GivesPeriod, GivesRequest, GivesSize, GivesThrough, IsNamed, schedule_grammar, sheets_grammar, text_option};
 ghost use Rattle.command_line.specs.Inner.Requests.{IsRequestFor};
 ghost use Rattle.clap.specs.declared.builder.value_parser.ValueParser.TheVariants.{Signed};
 
-use crate::commands::Command;
-use clap::builder::ValueParser;
+use crate::commands::{Command, Kind};
 use clap::error::ErrorKind;
 use clap::{Arg, ArgAction, ArgMatches};
 use period_file::Period;
 use schedule_writer::Request;
-use sheet_changes::Day;
+use sheet_changes::{Asked, Day};
 use std::alloc::Global;
 use thiserror::Error;
 use threads_player::Size;
@@ -27,7 +28,14 @@ const RATE: &str = "Writes the file of a period of one batch, from an input of a
 
 const PLAY: &str = "Plays a schedule of at most 16 MiB, and writes its transcript";
 
-const CHECK: &str = "Writes what rate or play refuses of an input of at most 16 MiB, by lines";
+const CHECK: &str = "Writes what is refused of an input of at most 16 MiB, and warnings, by lines";
+
+const CHECK_INPUT: &str = "Input, by its kind:
+  rate      a section `sheet n` and its n lines, a section `issuer n` and its n lines, each if it is
+            there, and one batch
+  play      a schedule, which begins with the line `SCHEDULE 1`
+  schedule  sections as for rate, then batches, and lines `close` between them
+  sheets    two sections `sheet n` and its n lines: the old sheet, then the new";
 
 const FILE: &str = "Copies the file of a period out of a transcript of at most 4 GiB";
 
@@ -36,6 +44,9 @@ const SCHEDULE: &str =
 
 const SHEETS: &str =
     "Writes what a new price sheet changes of an old one, from an input of at most 16 MiB";
+
+const SHEETS_INPUT: &str =
+    "Input: two sections `sheet n` and its n lines: the old sheet, then the new";
 
 const THREADS: &str = "Runs a group in threads, without an input, and writes a report";
 
@@ -66,72 +77,67 @@ fn request_of(error: &clap::Error) -> Result<Command, LineFault>
     }
 }
 
-// `--NAME N`, which may not be left out
-fn number_option<'a>(
-    alloc: Global,
-    name: &'a str,
-    help: &'a str,
-    parser: ValueParser<'a>,
-) -> Arg<'a>
-    ensures rule { (least most : ℕ) → parser.entry ≡ Signed (pos least) (pos most)
-        → rule_of result ≡ number_option name.entry.now least most }
+// `--NAME VALUE`, which may be left out
+fn text_option<'a>(alloc: Global, name: &'a str, help: &'a str) -> Arg<'a>
+    ensures rule { rule_of result ≡ text_option name.entry.now }
     ensures local { result.global ≡ false }
 {
     Arg::new(alloc, name)
         .long(name)
         .help(help)
-        .required(true)
         .action(ArgAction::Set)
-        .value_parser(parser)
 }
 
-// `--NAME N`, which may be left out
-fn optional_number<'a>(
-    alloc: Global,
-    name: &'a str,
-    help: &'a str,
-    parser: ValueParser<'a>,
-) -> Arg<'a>
-    ensures rule { (least most : ℕ) → parser.entry ≡ Signed (pos least) (pos most)
-        → rule_of result ≡ optional_number name.entry.now least most }
+// `--NAME`, which may be left out
+fn flag<'a>(alloc: Global, name: &'a str, help: &'a str) -> Arg<'a>
+    ensures rule { rule_of result ≡ flag_option name.entry.now }
     ensures local { result.global ≡ false }
 {
     Arg::new(alloc, name)
         .long(name)
         .help(help)
-        .action(ArgAction::Set)
-        .value_parser(parser)
+        .action(ArgAction::SetTrue)
 }
 
-// The same with a number for where it is left out
-fn number_or<'a>(
-    alloc: Global,
-    default: &'a str,
-    name: &'a str,
-    help: &'a str,
-    parser: ValueParser<'a>,
-) -> Arg<'a>
-    ensures rule { (least most : ℕ) → parser.entry ≡ Signed (pos least) (pos most)
-        → rule_of result ≡ number_or default.entry.now name.entry.now least most }
+// `--NAME N` with a number from the one to the other, which may be left out
+fn number_option<'a>(alloc: Global, name: &'a str, help: &'a str, least: u16, most: u16) -> Arg<'a>
+    ensures rule { rule_of result ≡ number_option name.entry.now least most }
     ensures local { result.global ≡ false }
 {
-    Arg::new(alloc, name)
-        .long(name)
-        .help(help)
-        .action(ArgAction::Set)
-        .value_parser(parser)
-        .default_value(default)
+    let numbers = clap::value_parser!(u16).range(i64::from(least)..=i64::from(most));
+    text_option(alloc, name, help).value_parser(numbers)
 }
 
-// `--NAME TEXT`, which may be left out
-fn optional_text<'a>(alloc: Global, name: &'a str, help: &'a str) -> Arg<'a>
-    ensures rule { rule_of result ≡ optional_text name.entry.now }
-    ensures local { result.global ≡ false }
+// A command without options
+fn plain_grammar<'a>(alloc: Global, name: &'a str, about: &'a str) -> clap::Command<'a>
+    ensures app { app_of result ≡ new_app name.entry.now }
+    ensures local { (out-Command result).has_globals ≡ false }
 {
-    Arg::new(alloc, name)
-        .long(name)
-        .help(help)
-        .action(ArgAction::Set)
+    clap::Command::new(alloc, name).about(about)
+}
+
+// The same, whose help says behind all else what the input is
+fn explained<'a>(alloc: Global, name: &'a str, about: &'a str, input: &'a str) -> clap::Command<'a>
+    ensures app { app_of result ≡ new_app name.entry.now }
+    ensures local { (out-Command result).has_globals ≡ false }
+{
+    clap::Command::new(alloc, name)
+        .about(about)
+        .after_help(input)
+}
+
+// A command with one option more
+fn taking<'a>(command: clap::Command<'a>, option: Arg<'a>) -> Result<clap::Command<'a>, LineFault>
+    requires local { ((out-Command command).has_globals ≡ false) × (option.global ≡ false) }
+    ensures app { IfOk result
+        (λ c. app_of c ≡ with_rule (app_of command.entry) (rule_of option.entry)) }
+    ensures local { IfOk result (λ c. (out-Command c).has_globals ≡ false) }
+    ensures memory { result ≢ Err LineFault.Line }
+{
+    match command.arg(option) {
+        Ok(command) => Ok(command),
+        Err(_) => Err(LineFault::OutOfMemory),
+    }
 }
 
 // `rate --period P` or `file --period P`
@@ -148,40 +154,11 @@ fn period_grammar<'a>(
         alloc,
         "period",
         "The billing period, in months from the base of the price sheet: 0 to 1199",
-        clap::value_parser!(u16).range(0..1200),
-    );
-    match clap::Command::new(alloc, name).about(about).arg(period) {
-        Ok(command) => Ok(command),
-        Err(_) => Err(LineFault::OutOfMemory),
-    }
-}
-
-// `threads --nodes N --agents A`
-fn group_grammar<'a>(alloc: Global) -> Result<clap::Command<'a>, LineFault>
-    ensures app { IfOk result (λ c. app_of c ≡ group_grammar) }
-    ensures local { IfOk result (λ c. (out-Command c).has_globals ≡ false) }
-    ensures memory { result ≢ Err LineFault.Line }
-{
-    let nodes = number_option(
-        alloc,
-        "nodes",
-        "How many nodes: 1 to 9",
-        clap::value_parser!(u8).range(1..10),
-    );
-    let agents = number_option(
-        alloc,
-        "agents",
-        "How many agents: 1 to 9",
-        clap::value_parser!(u8).range(1..10),
-    );
-    let threads = clap::Command::new(alloc, "threads").about(THREADS);
-    let Ok(threads) = threads.arg(nodes) else {
-        return Err(LineFault::OutOfMemory);
-    };
-    match threads.arg(agents) {
-        Ok(group) => Ok(group),
-        Err(_) => Err(LineFault::OutOfMemory),
-    }
+        0,
+        1_199,
+    )
+    .required(true);
+    taking(plain_grammar(alloc, name, about), period)
 }
 
 // `threads --nodes N --agents A --batches K --periods P`
@@ -190,75 +167,52 @@ fn threads_grammar<'a>(alloc: Global) -> Result<clap::Command<'a>, LineFault>
     ensures local { IfOk result (λ c. (out-Command c).has_globals ≡ false) }
     ensures memory { result ≢ Err LineFault.Line }
 {
+    let nodes = number_option(alloc, "nodes", "How many nodes: 1 to 9", 1, 9).required(true);
+    let agents = number_option(alloc, "agents", "How many agents: 1 to 9", 1, 9).required(true);
     let batches = number_option(
         alloc,
         "batches",
         "How many batches of each agent: 1 to 99",
-        clap::value_parser!(u8).range(1..100),
-    );
-    let periods = number_option(
-        alloc,
-        "periods",
-        "How many months: 1 to 12",
-        clap::value_parser!(u8).range(1..13),
-    );
-    let Ok(group) = group_grammar(alloc)?.arg(batches) else {
-        return Err(LineFault::OutOfMemory);
-    };
-    match group.arg(periods) {
-        Ok(threads) => Ok(threads),
-        Err(_) => Err(LineFault::OutOfMemory),
-    }
+        1,
+        99,
+    )
+    .required(true);
+    let periods = number_option(alloc, "periods", "How many months: 1 to 12", 1, 12).required(true);
+    let threads = taking(plain_grammar(alloc, "threads", THREADS), nodes)?;
+    let threads = taking(threads, agents)?;
+    let threads = taking(threads, batches)?;
+    taking(threads, periods)
 }
 
-// `sheets --before DAY`
+// `check --kind KIND`
+fn check_grammar<'a>(alloc: Global) -> Result<clap::Command<'a>, LineFault>
+    ensures app { IfOk result (λ c. app_of c ≡ check_grammar) }
+    ensures local { IfOk result (λ c. (out-Command c).has_globals ≡ false) }
+    ensures memory { result ≢ Err LineFault.Line }
+{
+    let kind = text_option(
+        alloc,
+        "kind",
+        "What the input is for: rate, play, schedule or sheets; left out, its first line decides on rate or play",
+    );
+    taking(explained(alloc, "check", CHECK, CHECK_INPUT), kind)
+}
+
+// `sheets --before DAY --all`
 fn sheets_grammar<'a>(alloc: Global) -> Result<clap::Command<'a>, LineFault>
     ensures app { IfOk result (λ c. app_of c ≡ sheets_grammar) }
     ensures local { IfOk result (λ c. (out-Command c).has_globals ≡ false) }
     ensures memory { result ≢ Err LineFault.Line }
 {
-    let before = optional_text(
+    let before = text_option(
         alloc,
         "before",
         "A day, as 2025-04-01: files of months that end before it have to stay",
     );
-    match clap::Command::new(alloc, "sheets")
-        .about(SHEETS)
-        .arg(before)
-    {
-        Ok(command) => Ok(command),
-        Err(_) => Err(LineFault::OutOfMemory),
-    }
-}
-
-// `schedule --nodes N --observers M`
-fn nodes_grammar<'a>(alloc: Global) -> Result<clap::Command<'a>, LineFault>
-    ensures app { IfOk result (λ c. app_of c ≡ nodes_grammar) }
-    ensures local { IfOk result (λ c. (out-Command c).has_globals ≡ false) }
-    ensures memory { result ≢ Err LineFault.Line }
-{
-    let nodes = number_or(
-        alloc,
-        "3",
-        "nodes",
-        "How many nodes vote: 1 to 99",
-        clap::value_parser!(u8).range(1..100),
-    );
-    let observers = number_or(
-        alloc,
-        "0",
-        "observers",
-        "How many more observe: 0 to 98, at most 99 with those that vote",
-        clap::value_parser!(u8).range(0..99),
-    );
-    let schedule = clap::Command::new(alloc, "schedule").about(SCHEDULE);
-    let Ok(schedule) = schedule.arg(nodes) else {
-        return Err(LineFault::OutOfMemory);
-    };
-    match schedule.arg(observers) {
-        Ok(group) => Ok(group),
-        Err(_) => Err(LineFault::OutOfMemory),
-    }
+    let all = flag(alloc, "all", "Lists each field that differs too");
+    let sheets = explained(alloc, "sheets", SHEETS, SHEETS_INPUT);
+    let sheets = taking(sheets, before)?;
+    taking(sheets, all)
 }
 
 // `schedule --nodes N --observers M --through P`
@@ -267,16 +221,28 @@ fn schedule_grammar<'a>(alloc: Global) -> Result<clap::Command<'a>, LineFault>
     ensures local { IfOk result (λ c. (out-Command c).has_globals ≡ false) }
     ensures memory { result ≢ Err LineFault.Line }
 {
-    let through = optional_number(
+    let nodes = number_option(alloc, "nodes", "How many nodes vote: 1 to 99", 1, 99).default_value(
+        "3",
+    );
+    let observers = number_option(
+        alloc,
+        "observers",
+        "How many more observe: 0 to 98, at most 99 with those that vote",
+        0,
+        98,
+    )
+    .default_value("0");
+    let through = number_option(
         alloc,
         "through",
         "The last period to close: 0 to 1199; left out, at least the last in which a reading starts",
-        clap::value_parser!(u16).range(0..=1199),
+        0,
+        1_199,
     );
-    match nodes_grammar(alloc)?.arg(through) {
-        Ok(schedule) => Ok(schedule),
-        Err(_) => Err(LineFault::OutOfMemory),
-    }
+    let schedule = plain_grammar(alloc, "schedule", SCHEDULE);
+    let schedule = taking(schedule, nodes)?;
+    let schedule = taking(schedule, observers)?;
+    taking(schedule, through)
 }
 
 // Without its commands: `help` is none of them, since `--help` asks for it.
@@ -295,14 +261,6 @@ fn bare_grammar<'a>(alloc: Global) -> Result<clap::Command<'a>, LineFault>
             .disable_help_subcommand(true)
             .subcommand_required(true),
     )
-}
-
-// A command without options
-fn plain_grammar<'a>(alloc: Global, name: &'a str, about: &'a str) -> clap::Command<'a>
-    ensures app { app_of result ≡ new_app name.entry.now }
-    ensures local { (out-Command result).has_globals ≡ false }
-{
-    clap::Command::new(alloc, name).about(about)
 }
 
 fn with<'a>(
@@ -327,47 +285,36 @@ fn grammar<'a>(alloc: Global) -> Result<clap::Command<'a>, LineFault>
 {
     let rating = with(bare_grammar(alloc)?, period_grammar(alloc, "rate", RATE)?)?;
     let playing = with(rating, plain_grammar(alloc, "play", PLAY))?;
-    let checking = with(playing, plain_grammar(alloc, "check", CHECK))?;
+    let checking = with(playing, check_grammar(alloc)?)?;
     let filing = with(checking, period_grammar(alloc, "file", FILE)?)?;
     let scheduling = with(filing, schedule_grammar(alloc)?)?;
     let comparing = with(scheduling, sheets_grammar(alloc)?)?;
     with(comparing, threads_grammar(alloc)?)
 }
 
-// The period that the option gives, where it is one
-fn period(matches: &ArgMatches<'_>) -> Option<Period>
-    ensures given { IfSome result (GivesPeriod (rows_of (found_of matches.now))) }
+// The period that an option gives, where it is one
+fn period(matches: &ArgMatches<'_>, option: &str) -> Option<Period>
+    ensures given { IfSome result (GivesPeriod (rows_of (found_of matches.now)) option.now) }
     ensures not_given { result ≡ None → (period : ℕ)
-        → ¬ GivesPeriod (rows_of (found_of matches.now)) period }
+        → ¬ GivesPeriod (rows_of (found_of matches.now)) option.now period }
 {
-    let number = matches.get_one::<u16>("period")?;
+    let number = matches.get_one::<u16>(option)?;
     Period::new(number)
 }
 
-// The number of an option, where it is one from 1 to the other
-fn number(matches: &ArgMatches<'_>, option: &str, most: u8) -> Option<u8>
-    ensures given { IfSome result (λ n. (1 ≤ n) × (n ≤ most)
+// The number of an option, where it is one from the one to the other
+fn number(matches: &ArgMatches<'_>, option: &str, least: u8, most: u8) -> Option<u8>
+    ensures given { IfSome result (λ n. (least ≤ n) × (n ≤ most)
         × GivesNumber (rows_of (found_of matches.now)) option.now n) }
-    ensures not_given { result ≡ None → (n : ℕ) → 1 ≤ n → n ≤ most
+    ensures not_given { result ≡ None → (n : ℕ) → least ≤ n → n ≤ most
         → ¬ GivesNumber (rows_of (found_of matches.now)) option.now n }
 {
     let number = matches.get_one::<u8>(option)?;
-    if 1 <= number && number <= most {
+    if least <= number && number <= most {
         Some(number)
     } else {
         None
     }
-}
-
-// How many observers the option gives, where they may be so many
-fn observers(matches: &ArgMatches<'_>) -> Option<u8>
-    ensures given { IfSome result (λ n. (n ≤ 98)
-        × GivesNumber (rows_of (found_of matches.now)) (codes "observers") n) }
-    ensures not_given { result ≡ None → (n : ℕ) → n ≤ 98
-        → ¬ GivesNumber (rows_of (found_of matches.now)) (codes "observers") n }
-{
-    let number = matches.get_one::<u8>("observers")?;
-    if number <= 98 { Some(number) } else { None }
 }
 
 // The period that the option gives, if it gives one; `None` where its text is no period
@@ -379,12 +326,8 @@ fn through(matches: &ArgMatches<'_>) -> Option<Option<u16>>
     if matches.get_str("through").is_none() {
         return Some(None);
     }
-    let number = matches.get_one::<u16>("through")?;
-    if number < 1200 {
-        Some(Some(number))
-    } else {
-        None
-    }
+    let last = period(matches, "through")?;
+    Some(Some(last.number()))
 }
 
 // What the options ask of a schedule, where that may be asked
@@ -393,8 +336,8 @@ fn request(matches: &ArgMatches<'_>) -> Option<Request>
     ensures not_given { result ≡ None → (request : Request)
         → ¬ GivesRequest (rows_of (found_of matches.now)) request }
 {
-    let nodes = number(matches, "nodes", 99)?;
-    let observers = observers(matches)?;
+    let nodes = number(matches, "nodes", 1, 99)?;
+    let observers = number(matches, "observers", 0, 98)?;
     let through = through(matches)?;
     if u16::from(nodes) + u16::from(observers) > 99 {
         return None;
@@ -419,6 +362,54 @@ fn day(matches: &ArgMatches<'_>) -> Option<Option<Day>>
     Some(Some(day))
 }
 
+// Whether the flag is given
+fn is_given(matches: &ArgMatches<'_>, flag: &str) -> Option<bool>
+    ensures given { IfSome result (GivesFlag (rows_of (found_of matches.now)) flag.now) }
+    ensures not_given { result ≡ None → (given : Bool)
+        → ¬ GivesFlag (rows_of (found_of matches.now)) flag.now given }
+{
+    matches.get_one::<bool>(flag)
+}
+
+// What the options ask of two sheets, where that may be asked
+fn asked_of_sheets(matches: &ArgMatches<'_>) -> Option<Asked>
+    ensures given { IfSome result (GivesAsked (rows_of (found_of matches.now))) }
+    ensures not_given { result ≡ None → (asked : Asked)
+        → ¬ GivesAsked (rows_of (found_of matches.now)) asked }
+{
+    Some(Asked {
+        before: day(matches)?,
+        all: is_given(matches, "all")?,
+    })
+}
+
+// The kind of this name
+fn kind_of(name: &str) -> Option<Kind>
+    ensures is { IfSome result (λ kind. name.now ≡ kind_text kind) }
+    ensures is_none { result ≡ None → (kind : Kind) → name.now ≢ kind_text kind }
+{
+    match name {
+        "rate" => Some(Kind::Rate),
+        "play" => Some(Kind::Play),
+        "schedule" => Some(Kind::Schedule),
+        "sheets" => Some(Kind::Sheets),
+        _ => None,
+    }
+}
+
+// The kind that the option gives, if it gives one; `None` where its text is no kind
+fn kind(matches: &ArgMatches<'_>) -> Option<Option<Kind>>
+    ensures given { IfSome result (GivesKind (rows_of (found_of matches.now))) }
+    ensures not_given { result ≡ None → (kind : Option Kind)
+        → ¬ GivesKind (rows_of (found_of matches.now)) kind }
+{
+    let Some(text) = matches.get_str("kind") else {
+        return Some(None);
+    };
+    let kind = kind_of(text)?;
+    Some(Some(kind))
+}
+
 // The size that the options give, where it is one that is run
 fn size(matches: &ArgMatches<'_>) -> Option<Size>
     ensures given { IfSome result (GivesSize (rows_of (found_of matches.now))) }
@@ -426,11 +417,47 @@ fn size(matches: &ArgMatches<'_>) -> Option<Size>
         → ¬ GivesSize (rows_of (found_of matches.now)) size }
 {
     Some(Size {
-        nodes: number(matches, "nodes", 9)?,
-        agents: number(matches, "agents", 9)?,
-        batches: number(matches, "batches", 99)?,
-        periods: number(matches, "periods", 12)?,
+        nodes: number(matches, "nodes", 1, 9)?,
+        agents: number(matches, "agents", 1, 9)?,
+        batches: number(matches, "batches", 1, 99)?,
+        periods: number(matches, "periods", 1, 12)?,
     })
+}
+
+// What the subcommand of this name asks for with these options
+fn named(name: &str, options: &ArgMatches<'_>) -> Option<Command>
+    ensures asked { IfSome result (IsNamed name.now (rows_of (found_of options.now))) }
+    ensures not_asked { result ≡ None → (command : Command)
+        → ¬ IsNamed name.now (rows_of (found_of options.now)) command }
+{
+    match name {
+        "rate" => {
+            let period = period(options, "period")?;
+            Some(Command::Rate { period })
+        }
+        "play" => Some(Command::Play),
+        "check" => {
+            let kind = kind(options)?;
+            Some(Command::Check(kind))
+        }
+        "file" => {
+            let period = period(options, "period")?;
+            Some(Command::File { period })
+        }
+        "threads" => {
+            let size = size(options)?;
+            Some(Command::Threads { size })
+        }
+        "sheets" => {
+            let asked = asked_of_sheets(options)?;
+            Some(Command::Sheets { asked })
+        }
+        "schedule" => {
+            let request = request(options)?;
+            Some(Command::Schedule { request })
+        }
+        _ => None,
+    }
 }
 
 /// Reads the words behind the program's name.
@@ -445,43 +472,13 @@ pub fn command(alloc: Global, words: &[String]) -> Result<Command, LineFault>
         Ok(matches) => matches,
         Err(error) => return request_of(&error),
     };
-    if matches.subcommand_matches("play").is_some() {
-        return Ok(Command::Play);
-    }
-    if matches.subcommand_matches("check").is_some() {
-        return Ok(Command::Check);
-    }
-    if let Some(threads) = matches.subcommand_matches("threads") {
-        let Some(size) = size(threads) else {
-            return Err(LineFault::Line);
-        };
-        return Ok(Command::Threads { size });
-    }
-    if let Some(file) = matches.subcommand_matches("file") {
-        let Some(period) = period(file) else {
-            return Err(LineFault::Line);
-        };
-        return Ok(Command::File { period });
-    }
-    if let Some(sheets) = matches.subcommand_matches("sheets") {
-        let Some(before) = day(sheets) else {
-            return Err(LineFault::Line);
-        };
-        return Ok(Command::Sheets { before });
-    }
-    if let Some(schedule) = matches.subcommand_matches("schedule") {
-        let Some(request) = request(schedule) else {
-            return Err(LineFault::Line);
-        };
-        return Ok(Command::Schedule { request });
-    }
-    let Some(rate) = matches.subcommand_matches("rate") else {
+    let Some((name, options)) = matches.subcommand() else {
         return Err(LineFault::Line);
     };
-    let Some(period) = period(rate) else {
-        return Err(LineFault::Line);
-    };
-    Ok(Command::Rate { period })
+    match named(name, options) {
+        Some(command) => Ok(command),
+        None => Err(LineFault::Line),
+    }
 }
 
 // The error's text, which is never empty: of one that is, some part found no memory.

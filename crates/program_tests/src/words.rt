@@ -1,7 +1,7 @@
 //! The words that the program is given.
 
 use batch_store::Period;
-use command_line::{Command, LineFault, Request, Size, command};
+use command_line::{Asked, Command, Kind, LineFault, Request, Size, command};
 use std::alloc::{AllocError, Global};
 use std::test::Fail;
 use utc_calendar::Day;
@@ -86,6 +86,10 @@ file --period 0 --period 0
 file rate --period 0
 check --period 0
 check play
+check --kind
+check --kind Rate
+check --kind file
+check --kind rate --kind rate
 rate --period 0 file
 rate 0 --help
 rate --period 1200 --help
@@ -95,6 +99,8 @@ sheets --before 2025-02-29
 sheets --before 2025-4-1
 sheets 2025-04-01
 sheets --before 2025-04-01 --before 2025-04-01
+sheets --all=true
+sheets --all --all
 schedule --nodes 0
 schedule --nodes 100
 schedule --observers 97
@@ -110,12 +116,25 @@ threads
 
 #[test]
 fn sheets_and_a_schedule_are_asked_for(rt: HostRuntime) -> Result<(), Fail> {
-    let other = first_other(rt.alloc(), "sheets", Ok(Command::Sheets { before: None }))?;
-    assert_eq!(rt; other, None);
-    let before = Some(Day::read(b"2024-02-29").ok_or("no day")?);
-    let lines = "sheets --before 2024-02-29\nsheets --before=2024-02-29";
-    let other = first_other(rt.alloc(), lines, Ok(Command::Sheets { before }))?;
-    assert_eq!(rt; other, None);
+    let day = Some(Day::read(b"2024-02-29").ok_or("no day")?);
+    for (lines, before, all) in [
+        ("sheets", None, false),
+        (
+            "sheets --before 2024-02-29\nsheets --before=2024-02-29",
+            day,
+            false,
+        ),
+        ("sheets --all", None, true),
+        (
+            "sheets --all --before 2024-02-29\nsheets --before=2024-02-29 --all",
+            day,
+            true,
+        ),
+    ] {
+        let asked = Asked { before, all };
+        let other = first_other(rt.alloc(), lines, Ok(Command::Sheets { asked }))?;
+        assert_eq!(rt; other, None);
+    }
     for (lines, nodes, observers, through) in [
         ("schedule\nschedule --nodes 3 --observers 0", 3, 0, None),
         (
@@ -148,9 +167,17 @@ fn help_and_the_version_are_asked_for(rt: HostRuntime) -> Result<(), Fail> {
 }
 
 #[test]
-fn check_has_no_words_and_others_ask_for_nothing(rt: HostRuntime) -> Result<(), Fail> {
-    let other = first_other(rt.alloc(), "check", Ok(Command::Check))?;
-    assert_eq!(rt; other, None);
+fn check_takes_a_kind_and_others_ask_for_nothing(rt: HostRuntime) -> Result<(), Fail> {
+    for (lines, kind) in [
+        ("check", None),
+        ("check --kind rate\ncheck --kind=rate", Some(Kind::Rate)),
+        ("check --kind play", Some(Kind::Play)),
+        ("check --kind schedule", Some(Kind::Schedule)),
+        ("check --kind sheets", Some(Kind::Sheets)),
+    ] {
+        let other = first_other(rt.alloc(), lines, Ok(Command::Check(kind)))?;
+        assert_eq!(rt; other, None);
+    }
     let other = first_other(rt.alloc(), NOTHING, Err(LineFault::Line))?;
     assert_eq!(rt; other, None);
     Ok(())

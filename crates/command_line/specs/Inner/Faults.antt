@@ -10,7 +10,7 @@ use Rattle.command_line.specs.declared.statuses.Fault.TheVariants.{Play, Unlike,
 abbrev pub fault_of_schedule : WriteFault → Fault
 fault_of_schedule written.Read = Play play.Read
 fault_of_schedule (written.Section fault) = Play (play.Schedule fault)
-fault_of_schedule (written.Refused line refusal) = Batch line refusal
+fault_of_schedule (written.Refused told) = Batch told
 fault_of_schedule written.TooLong = TooLong
 fault_of_schedule written.NotClosed = NotClosed
 fault_of_schedule written.Write = Play play.Write

@@ -1,12 +1,11 @@
--- The two parts of a fault's line: a batch's refusal stands in the second.
+-- The parts of a fault's line: what is told of a refused batch stands in a part of its own, and the line feed behind it.
 use Rattle.std.specs.Prelude.{ℕ, List, [], ◌++◌, codes}
-use Rattle.metering_model.specs.Transcript.{line, refusal_text, with_number}
 use Rattle.command_line.specs.Endings.{ending_line, message_of}
 use Rattle.command_line.specs.declared.statuses.Fault.{Fault}
 use Rattle.command_line.specs.declared.statuses.Fault.TheVariants.{Line, Play, Faults, File, Threads, Unlike, Batch, TooLong, NotClosed}
 
 abbrev pub first_words : Fault → List ℕ
-first_words (Batch at refusal) = with_number (codes "line ") at ++ codes ": "
+first_words (Batch told) = []
 first_words (Line fault) = message_of (Line fault)
 first_words (Play fault) = message_of (Play fault)
 first_words (Faults count) = message_of (Faults count)
@@ -17,7 +16,7 @@ first_words TooLong = message_of TooLong
 first_words NotClosed = message_of NotClosed
 
 abbrev pub first_part : Fault → List ℕ
-first_part (Batch at refusal) = codes "focusd: " ++ first_words (Batch at refusal)
+first_part (Batch told) = codes "focusd: "
 first_part (Line fault) = ending_line (Line fault)
 first_part (Play fault) = ending_line (Play fault)
 first_part (Faults count) = ending_line (Faults count)
@@ -27,6 +26,13 @@ first_part Unlike = ending_line Unlike
 first_part TooLong = ending_line TooLong
 first_part NotClosed = ending_line NotClosed
 
+abbrev pub told_part : Fault → List ℕ
+told_part (Batch told) = told.items
+told_part _ = []
+
+abbrev pub end_part : Fault → List ℕ
+end_part (Batch told) = codes "\n"
+end_part _ = []
+
 abbrev pub last_part : Fault → List ℕ
-last_part (Batch at refusal) = line (refusal_text refusal)
-last_part _ = []
+last_part fault = told_part fault ++ end_part fault

@@ -25,5 +25,5 @@ returns-in-Err-clause-outcome g c =
     let fault = c.in-Err.fault in
     let told = c.in-Err.ensures in
     file_comes_to g.W.Sink c.args.period fault known _ _ _ _ told.reads told.writes
-    (λ is. told.none (ap Err is)) (λ is. told.torn (ap Err is)) told.front
+    (λ is. told.none (ap Err is)) (λ is. told.torn (ap Err is)) told.front (λ is. told.prefix (ap Err is))
     (λ one. refuses c.args.period known fault one told.refused)

@@ -13,5 +13,5 @@ returns-in-Err g c =
       ended =
           ends_from g.R.Source g.W.Sink g.E.Sink c.args.args c.ended.result _ _ _ _ _ _ _ _ _ same.0 same.1 same.2
           (ends g.R.Source g.W.Sink g.E.Sink c.args.args (Threads c.in-Err.size) c.threads.result c.ended.result c.run_alone.new.reader c.run_alone.new.reader _ _ _ _
-          before.threads (c.threads.ensures.outcome known reads) c.ended.ensures.ending (λ other. nothing_read 16_777_217 known) (nothing_read 4_294_967_297 known) (λ other asked without. refl));
+          before.threads (c.threads.ensures.outcome known reads) c.ended.ensures.ending (nothing_read 0 known) (λ without. refl));
     }

@@ -7,7 +7,7 @@ pub returns-clause-app : goal.returns-clause-app
 returns-clause-app c =
     let rating = c.in_ok-rating.ensures.app ∙ ap₂ with_subcommand c.in_ok-bare_grammar.ensures.app (ap (λ (a : App). a.top) c.in_ok-period_grammar.ensures.app) in
     let playing = c.in_ok-playing.ensures.app ∙ ap₂ with_subcommand rating (ap (λ (a : App). a.top) c.plain_grammar.ensures.app) in
-    let checking = c.in_ok-checking.ensures.app ∙ ap₂ with_subcommand playing (ap (λ (a : App). a.top) c.plain_grammar-2.ensures.app) in
+    let checking = c.in_ok-checking.ensures.app ∙ ap₂ with_subcommand playing (ap (λ (a : App). a.top) c.in_ok-check_grammar.ensures.app) in
     let filing = c.in_ok-filing.ensures.app ∙ ap₂ with_subcommand checking (ap (λ (a : App). a.top) c.in_ok-period_grammar-2.ensures.app) in
     let scheduling = c.in_ok-scheduling.ensures.app ∙ ap₂ with_subcommand filing (ap (λ (a : App). a.top) c.in_ok-schedule_grammar.ensures.app) in
     let comparing = c.in_ok-comparing.ensures.app ∙ ap₂ with_subcommand scheduling (ap (λ (a : App). a.top) c.in_ok-sheets_grammar.ensures.app) in
