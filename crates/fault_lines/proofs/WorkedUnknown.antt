@@ -5,8 +5,9 @@ use Rattle.std.specs.Fmt.{digits}
 use Rattle.metering_model.specs.Schedule.{lines_text}
 use Rattle.sheet_text.specs.Names.{key_name}
 use Rattle.sheet_text.specs.Keys.{rows_in, rows_under}
+use Rattle.input_sections.specs.Sections.{section_in}
 use Rattle.sheet_text.proofs.WorkedSteps.{scan_numeral, skip_ws, skip_from, special, body, one_line, quoted, simple_key, key_after, underscore_fits, decimal_number, plain_number, number, word_value, word_len, unquoted, along_header, along_dots, at_key, define, key_equals, val, atom, header_key, expression, line, lines, skip_bom, parse_document}
-use Rattle.fault_lines.specs.UnknownKeys.{keys_left, told_along, told_of_section, unknown_in_issuer, unknown_in_sheet, with_rows, with_table}
+use Rattle.fault_lines.specs.UnknownKeys.{keys_left, told_along, told_of_section, unknown_from, unknown_from_issuer, unknown_in_issuer, unknown_in_sheet, with_rows, with_table}
 
 a_known_sheet : told_of_section unknown_in_sheet 4 (lines_text (codes "base = \"2025-01\"" ∷ codes "[[price]]" ∷ codes "sku = \"cpu\"" ∷ codes "per = 1" ∷ [])) ≡ lines_text ([])
 unfolding told_of_section unknown_in_sheet unknown_in_issuer with_table with_rows keys_left told_along key_name rows_in rows_under is_utf8 chars lib.Utf8.encode parse_document lines line expression skip_bom skip_from skip_ws header_key key_equals key_after simple_key val atom quoted one_line body special define along_header along_dots at_key unquoted word_len word_value number underscore_fits plain_number decimal_number scan_numeral digits
@@ -62,3 +63,20 @@ of_an_issuer = refl
 no_table : told_of_section unknown_in_sheet 4 (lines_text (codes "= 1" ∷ [])) ≡ lines_text ([])
 unfolding told_of_section unknown_in_sheet unknown_in_issuer with_table with_rows keys_left told_along key_name rows_in rows_under is_utf8 chars lib.Utf8.encode parse_document lines line expression skip_bom skip_from skip_ws header_key key_equals key_after simple_key val atom quoted one_line body special define along_header along_dots at_key unquoted word_len word_value number underscore_fits plain_number decimal_number scan_numeral digits
 no_table = refl
+
+-- ---- the sections at the front of an input
+
+-- a sheet, and an issuer behind it
+of_both_sections : unknown_from (record { text = lines_text (codes "sheet 2" ∷ codes "base = 1" ∷ codes "x = 1" ∷ codes "issuer 1" ∷ codes "y = 2" ∷ codes "B1|1|1|0" ∷ []); from = 0; line = 1 }) ≡ lines_text (codes "line 3: unknown x" ∷ codes "line 5: unknown y" ∷ [])
+unfolding unknown_from unknown_from_issuer section_in told_of_section unknown_in_sheet unknown_in_issuer with_table with_rows keys_left told_along key_name rows_in rows_under is_utf8 chars lib.Utf8.encode parse_document lines line expression skip_bom skip_from skip_ws header_key key_equals key_after simple_key val atom quoted one_line body special define along_header along_dots at_key unquoted word_len word_value number underscore_fits plain_number decimal_number scan_numeral digits
+of_both_sections = refl
+
+-- an issuer without a sheet
+of_an_issuer_alone : unknown_from (record { text = lines_text (codes "issuer 1" ∷ codes "y = 2" ∷ codes "B1|1|1|0" ∷ []); from = 0; line = 1 }) ≡ lines_text (codes "line 2: unknown y" ∷ [])
+unfolding unknown_from unknown_from_issuer section_in told_of_section unknown_in_sheet unknown_in_issuer with_table with_rows keys_left told_along key_name rows_in rows_under is_utf8 chars lib.Utf8.encode parse_document lines line expression skip_bom skip_from skip_ws header_key key_equals key_after simple_key val atom quoted one_line body special define along_header along_dots at_key unquoted word_len word_value number underscore_fits plain_number decimal_number scan_numeral digits
+of_an_issuer_alone = refl
+
+-- a batch alone
+of_no_section : unknown_from (record { text = lines_text (codes "B1|1|1|0" ∷ []); from = 0; line = 1 }) ≡ lines_text ([])
+unfolding unknown_from unknown_from_issuer section_in told_of_section unknown_in_sheet unknown_in_issuer with_table with_rows keys_left told_along key_name rows_in rows_under is_utf8 chars lib.Utf8.encode parse_document lines line expression skip_bom skip_from skip_ws header_key key_equals key_after simple_key val atom quoted one_line body special define along_header along_dots at_key unquoted word_len word_value number underscore_fits plain_number decimal_number scan_numeral digits
+of_no_section = refl

@@ -27,7 +27,7 @@ same_refusal : (w : World) (a b : Refusal) → (or_refused w (Err a)).0 ≡ Refu
 same_refusal w a b is = cc
 
 module _ (w : World) (b : Batch) where
-  abbrev outcome : (of next : Bool) → Option BrokenRule → Result ℕ Refusal → Result Outcome Refusal
+  abbrev pub outcome : (of next : Bool) → Option BrokenRule → Result ℕ Refusal → Result Outcome Refusal
   outcome of next broken room =
       holds_or of refusal.NoAgent >>= λ _. holds_or next (refusal.WrongSeq (next_seq w.journals b.agent)) >>= λ _. unless_broken broken >>= λ _.
       room >>= λ k. Ok (Journaled k, with_packet (CarriesBatch b) (record w { journals = put w.journals b }))

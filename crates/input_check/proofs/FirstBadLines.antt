@@ -12,7 +12,7 @@ use Rattle.metering_model.specs.declared.BrokenRule.{BrokenRule}
 use Rattle.metering_model.specs.declared.BrokenRule.TheVariants as rules
 use Rattle.metering_model.specs.declared.Refusal.{Refusal}
 use Rattle.metering_model.specs.declared.Refusal.TheVariants as refusal
-use Rattle.metering_model.specs.Holding.{placed, put}
+use Rattle.metering_model.specs.Holding.{Holding, placed, put}
 use Rattle.metering_model.specs.JournalRules.{first_broken}
 use Rattle.metering_model.specs.Sheet as model
 use Rattle.metering_model.specs.Transcript.{line_count}
@@ -30,11 +30,16 @@ use Rattle.input_check.proofs.FirstBadRecords.{fewer_are_batch, first_of_batch}
 -- ---- the lines of a batch
 
 -- a head line, and one for each record
-batch_counts : (text : List ℕ) (b : Batch) → IsBatch text b → line_count (batch_text b) ≡ 1 + length b.records
+pub batch_counts : (text : List ℕ) (b : Batch) → IsBatch text b → line_count (batch_text b) ≡ 1 + length b.records
 batch_counts text b is =
     let limits : HeadLimits (head_of b) = record { agent = is.agent; seq = is.seq; count = is.count } in
     let feeds : list_all (lacks 10) (batch_lines b) ≡ true = and_from _ _ (head_lacks_feed (head_of b) limits) (records_lack_feed b.records is.records) in
     omega (arith, ap line_count (lines_are_text b), lines_count (batch_lines b) feeds, length-map b.records record_line)
+
+pub line_is : (sheet : model.Sheet) (h : Holding) (text : List ℕ) (b : Batch) (rule : BrokenRule) → batch_in text ≡ Ok b
+    → line_within (bad_index sheet h text) (refused_by rule) ≡ line_of (option_map (λ p. p.index) (first_bad sheet (put h b) (placed b)))
+line_is sheet h text b rules.BadTarget read = ap (λ (x : Batch). line_of (option_map (λ p. p.index) (first_bad sheet (put h x) (placed x)))) (batch_of_is text b read)
+line_is sheet h text b rules.Unpriced read = ap (λ (x : Batch). line_of (option_map (λ p. p.index) (first_bad sheet (put h x) (placed x)))) (batch_of_is text b read)
 
 -- ---- why a batch is refused
 
@@ -83,18 +88,13 @@ module _ (sheet : model.Sheet) (issuer : model.Issuer) where
       by_batch (Ok b) read = by_seq b read (b.seq == 1) refl
       by_batch (Err fault) bad = absurd (no_bad_batch rule fault (sym (no_batch sheet issuer text fault bad) ∙ so))
 
-  line_is : (text : List ℕ) (b : Batch) (rule : BrokenRule) → batch_in text ≡ Ok b
-      → line_within (bad_index sheet [] text) (refused_by rule) ≡ line_of (option_map (λ p. p.index) (first_bad sheet (put [] b) (placed b)))
-  line_is text b rules.BadTarget read = ap (λ (x : Batch). line_of (option_map (λ p. p.index) (first_bad sheet (put [] x) (placed x)))) (batch_of_is text b read)
-  line_is text b rules.Unpriced read = ap (λ (x : Batch). line_of (option_map (λ p. p.index) (first_bad sheet (put [] x) (placed x)))) (batch_of_is text b read)
-
   pub refused_for_first : (text : List ℕ) (rule : BrokenRule) → journaled_in sheet issuer text ≡ Err (refused_by rule)
       → (b : Batch) × IsBatch text b × IsFirstRefused sheet issuer b (refused_by rule) (line_within (bad_index sheet [] text) (refused_by rule))
   refused_for_first text rule so =
       let is = breaks text rule so in
       let b = is.batch in
       let whole = batch_read text b is.is_batch in
-      let found = first_of_batch sheet b rule is.broken in
+      let found = first_of_batch sheet [] b rule is.broken in
       let i = found.0 in
       let first = found.1 in
       let above = fewer_are_batch i text b whole in
@@ -105,7 +105,7 @@ module _ (sheet : model.Sheet) (issuer : model.Issuer) where
         record {
           index = i;
           within = first.within;
-          counted = line_is text b rule is.is_batch ∙ ap (λ o. line_of (option_map (λ p. p.index) o)) first.bad
+          counted = line_is sheet [] text b rule is.is_batch ∙ ap (λ o. line_of (option_map (λ p. p.index) o)) first.bad
               ∙ omega (arith, batch_counts (batch_text (first_records i b)) (first_records i b) above, long);
           taken = taken sheet issuer (batch_text (first_records i b)) (first_records i b) (batch_written _ _ above) is.first first.above;
           refused = refused_so (batch_text (first_records (i + 1) b)) (first_records (i + 1) b) rule (batch_written _ _ with_it) is.first first.with_it;

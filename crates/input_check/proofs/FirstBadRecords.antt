@@ -1,5 +1,5 @@
 -- A batch that breaks a rule of the journals is refused for the first of its records that does.
-use Rattle.std.proofs.Common.{◌≡◌, ℕ, zero, suc, ◌+◌, ◌<◌, ◌≤◌, Bool, true, false, ◌&&◌, cond, List, [], ◌∷◌, ◌++◌, length, take, Option, Some, None, decimal, codes, pos, get_or, refl, sym, ap, ap₂, ◌∙◌, arith, inl, inr, length-take}
+use Rattle.std.proofs.Common.{◌≡◌, ℕ, zero, suc, ◌+◌, ◌<◌, ◌≤◌, Bool, true, false, ◌&&◌, cond, List, [], ◌∷◌, ◌++◌, ◌⊎◌, length, take, Option, Some, None, decimal, codes, pos, get_or, refl, sym, ap, ap₂, ◌∙◌, arith, inl, inr, length-take}
 use Rattle.std.specs.Prelude.{◌==◌, nat_lt, if◌then◌else◌}
 use Rattle.std.specs.List.{flat_map, join_with_byte, list_all, slice_get}
 use Rattle.std.specs.Option.{option_and_then, option_to_list}
@@ -8,10 +8,10 @@ use Rattle.std.proofs.lemmas.Fmt.{length-decimal-le}
 use Rattle.std.proofs.lemmas.List.{length-append, length-take-le, take_all}
 use Rattle.std.proofs.lemmas.List.Elements.{All-take}
 use Rattle.std.proofs.lemmas.List.Folds.{length-flat_map-take}
-use Rattle.metering_model.specs.Batch.{Batch, IsBatch, IsRecord, Record, Reads, Amends, batch_text, head_fields, is_of_version, kind_text, line_of_fields, record_fields, tags_text, version_text}
+use Rattle.metering_model.specs.Batch.{Batch, IsBatch, IsRecord, Reading, Record, Reads, Amends, batch_text, head_fields, is_of_version, kind_text, line_of_fields, record_fields, tags_text, version_text}
 use Rattle.metering_model.specs.declared.BrokenRule.{BrokenRule}
 use Rattle.metering_model.specs.declared.BrokenRule.TheVariants as rules
-use Rattle.metering_model.specs.Holding.{Holding, Position, placed, put, reading_at, reading_of, is_batch_at}
+use Rattle.metering_model.specs.Holding.{Holding, Position, comes_before, held, placed, put, reading_at, reading_of, is_batch_at}
 use Rattle.metering_model.specs.JournalRules.{broken_by, comes_earlier, first_broken, is_fit_target}
 use Rattle.metering_model.specs.NumberText.{spelling}
 use Rattle.metering_model.specs.Sheet.{Sheet}
@@ -24,9 +24,6 @@ use Rattle.input_check.specs.Checks.{first_records}
 
 abbrev at : Batch → ℕ → Position
 at b index = record { agent = b.agent; seq = b.seq; index = index }
-
-abbrev alone : Batch → Holding
-alone b = put [] b
 
 some_get : {A : Type 0} (n i : ℕ) (xs : List A) → i < n → slice_get (take n xs) i ≡ slice_get xs i
 some_get zero i xs low = absurd (omega (arith, low))
@@ -43,34 +40,79 @@ names_above b index seq target earlier here =
       | inr both ↦ ltb-true target index (and_parts (seq == b.seq) (nat_lt target index) both).1
     ]
 
-module _ (sheet : Sheet) (n : ℕ) (b : Batch) where
+-- Two holdings have the same there, or the one has this batch and the other that one.
+abbrev FindsBeside : (agent seq : ℕ) (b c : Batch) (h k : Holding) → Type 0
+FindsBeside agent seq b c h k =
+    (held h agent seq ≡ held k agent seq) ⊎ ((is_batch_at agent seq b ≡ true) × (held h agent seq ≡ Some b) × (held k agent seq ≡ Some c))
+
+module _ (sheet : Sheet) (h : Holding) (n : ℕ) (b : Batch) where
   abbrev cut : Batch
   cut = first_records n b
 
-  same_reading : (seq target : ℕ) → (is_batch_at b.agent seq b ≡ true → target < n)
-      → reading_at (alone b) (record { agent = b.agent; seq = seq; index = target }) ≡ reading_at (alone cut) (record { agent = b.agent; seq = seq; index = target })
-  same_reading seq target low = by_test (is_batch_at b.agent seq b) refl
+  found : (agent seq : ℕ) (k : Holding) → FindsBeside agent seq b cut (put k b) (put k cut)
+  found agent seq k = by_holding k
     where
-      by_test : (t : Bool) → is_batch_at b.agent seq b ≡ t
-          → option_and_then (λ (x : Batch). option_and_then reading_of (slice_get x.records target)) (cond t (Some b) None)
-          ≡ option_and_then (λ (x : Batch). option_and_then reading_of (slice_get x.records target)) (cond t (Some cut) None)
-      by_test true is = ap (option_and_then reading_of) (sym (some_get n target b.records (low is)))
-      by_test false is = refl
+      in_front : (rest : Holding) → FindsBeside agent seq b cut (b ∷ rest) (cut ∷ rest)
+      in_front rest = by_test (is_batch_at agent seq b) refl
+        where
+          by_test : (t : Bool) → is_batch_at agent seq b ≡ t → FindsBeside agent seq b cut (b ∷ rest) (cut ∷ rest)
+          by_test true here = inr (
+            here,
+            ap (λ t. cond t (Some b) (held rest agent seq)) here,
+            ap (λ t. cond t (Some cut) (held rest agent seq)) here,
+          )
+          by_test false other =
+              inl (ap (λ t. cond t (Some b) (held rest agent seq)) other ∙ sym (ap (λ t. cond t (Some cut) (held rest agent seq)) other))
 
-  same_rule : (index : ℕ) (what : Record) → index < n → broken_by sheet (alone b) (at b index) what ≡ broken_by sheet (alone cut) (at b index) what
+      behind : (x : Batch) (one two : Holding) → FindsBeside agent seq b cut one two → FindsBeside agent seq b cut (x ∷ one) (x ∷ two)
+      behind x one two later = by_test (is_batch_at agent seq x) refl later
+        where
+          by_test : (t : Bool) → is_batch_at agent seq x ≡ t → FindsBeside agent seq b cut one two → FindsBeside agent seq b cut (x ∷ one) (x ∷ two)
+          by_test true here rest =
+              inl (ap (λ t. cond t (Some x) (held one agent seq)) here ∙ sym (ap (λ t. cond t (Some x) (held two agent seq)) here))
+          by_test false other (inl same) = inl (ap (λ o. cond (is_batch_at agent seq x) (Some x) o) same)
+          by_test false other (inr both) = inr (
+            both.0,
+            ap (λ t. cond t (Some x) (held one agent seq)) other ∙ both.1,
+            ap (λ t. cond t (Some x) (held two agent seq)) other ∙ both.2,
+          )
+
+      by_order : (x : Batch) (k : Holding) (first second : Bool) → FindsBeside agent seq b cut (put k b) (put k cut)
+          → FindsBeside agent seq b cut (cond first (b ∷ x ∷ k) (cond second (x ∷ put k b) (x ∷ k))) (cond first (cut ∷ x ∷ k) (cond second (x ∷ put k cut) (x ∷ k)))
+      by_order x k true second later = in_front (x ∷ k)
+      by_order x k false true later = behind x (put k b) (put k cut) later
+      by_order x k false false later = inl refl
+
+      by_holding : (k : Holding) → FindsBeside agent seq b cut (put k b) (put k cut)
+      by_holding [] = in_front []
+      by_holding (x ∷ k) = by_order x k (comes_before b x) (comes_before x b) (by_holding k)
+
+  same_reading : (seq target : ℕ) → (is_batch_at b.agent seq b ≡ true → target < n)
+      → reading_at (put h b) (record { agent = b.agent; seq = seq; index = target }) ≡ reading_at (put h cut) (record { agent = b.agent; seq = seq; index = target })
+  same_reading seq target low = by_place (found b.agent seq h)
+    where
+      in_batch : Option Batch → Option Reading
+      in_batch o = option_and_then (λ (x : Batch). option_and_then reading_of (slice_get x.records target)) o
+
+      by_place : FindsBeside b.agent seq b cut (put h b) (put h cut)
+          → reading_at (put h b) (record { agent = b.agent; seq = seq; index = target }) ≡ reading_at (put h cut) (record { agent = b.agent; seq = seq; index = target })
+      by_place (inl same) = ap in_batch same
+      by_place (inr both) = ap in_batch both.1 ∙ (ap (option_and_then reading_of) (sym (some_get n target b.records (low both.0))) ∙ sym (ap in_batch both.2))
+
+  same_rule : (index : ℕ) (what : Record) → index < n → broken_by sheet (put h b) (at b index) what ≡ broken_by sheet (put h cut) (at b index) what
   same_rule index (Reads r) low = refl
   same_rule index (Amends seq target value) low = by_test (comes_earlier (at b index) seq target) refl
     where
       by_test : (t : Bool) → comes_earlier (at b index) seq target ≡ t
-          → (if t && is_fit_target value (reading_at (alone b) (record { agent = b.agent; seq = seq; index = target })) then None else Some rules.BadTarget)
-          ≡ (if t && is_fit_target value (reading_at (alone cut) (record { agent = b.agent; seq = seq; index = target })) then None else Some rules.BadTarget)
+          → (if t && is_fit_target value (reading_at (put h b) (record { agent = b.agent; seq = seq; index = target })) then None else Some rules.BadTarget)
+          ≡ (if t && is_fit_target value (reading_at (put h cut) (record { agent = b.agent; seq = seq; index = target })) then None else Some rules.BadTarget)
       by_test true earlier =
           ap (λ o. if is_fit_target value o then None else Some rules.BadTarget)
           (same_reading seq target (λ here. let above = names_above b index seq target earlier here in omega (arith, above, low)))
       by_test false earlier = refl
 
   same_first : (index : ℕ) (rs : List Record) → index + length rs ≤ n
-      → first_broken sheet (alone b) (placed_from b.agent b.seq index rs) ≡ first_broken sheet (alone cut) (placed_from b.agent b.seq index rs)
+      → first_broken sheet (put h b) (placed_from b.agent b.seq index rs) ≡ first_broken sheet (put h cut) (placed_from b.agent b.seq index rs)
   same_first index [] low = refl
   same_first index (r ∷ rs) low = ap₂ or_later (same_rule index r (omega (arith, low))) (same_first (index + 1) rs (omega (arith, low)))
 
@@ -199,25 +241,25 @@ fewer_are_batch n text b is = record {
   of_version = some_pass (is_of_version b.version) n b.records is.of_version;
 }
 
--- ---- a batch that is journaled alone
+-- ---- a batch beside the journals
 
--- Of a batch that breaks a rule by itself, this record is the first that does.
-pub record IsFirstOf (sheet : Sheet) (b : Batch) (rule : BrokenRule) (i : ℕ) : Type 0 where
+-- Of a batch that breaks a rule in journals which have it too, this record is the first that does.
+pub record IsFirstOf (sheet : Sheet) (h : Holding) (b : Batch) (rule : BrokenRule) (i : ℕ) : Type 0 where
   pub within : i < length b.records
-  pub bad : first_bad sheet (put [] b) (placed b) ≡ Some (record { agent = b.agent; seq = b.seq; index = i })
-  pub above : first_broken sheet (put [] (first_records i b)) (placed (first_records i b)) ≡ None
-  pub with_it : first_broken sheet (put [] (first_records (i + 1) b)) (placed (first_records (i + 1) b)) ≡ Some rule
+  pub bad : first_bad sheet (put h b) (placed b) ≡ Some (record { agent = b.agent; seq = b.seq; index = i })
+  pub above : first_broken sheet (put h (first_records i b)) (placed (first_records i b)) ≡ None
+  pub with_it : first_broken sheet (put h (first_records (i + 1) b)) (placed (first_records (i + 1) b)) ≡ Some rule
 
-pub first_of_batch : (sheet : Sheet) (b : Batch) (rule : BrokenRule) → first_broken sheet (put [] b) (placed b) ≡ Some rule → (i : ℕ) × IsFirstOf sheet b rule i
-first_of_batch sheet b rule broken =
-    let first = first_there sheet (alone b) b.agent b.seq rule 0 b.records broken in
+pub first_of_batch : (sheet : Sheet) (h : Holding) (b : Batch) (rule : BrokenRule) → first_broken sheet (put h b) (placed b) ≡ Some rule → (i : ℕ) × IsFirstOf sheet h b rule i
+first_of_batch sheet h b rule broken =
+    let first = first_there sheet (put h b) b.agent b.seq rule 0 b.records broken in
     let i = first.0 in
     let is = first.1 in (
       i,
       record {
         within = is.within;
         bad = is.bad ∙ ap (λ n. Some (record { agent = b.agent; seq = b.seq; index = n })) (omega arith);
-        above = sym (same_first sheet i b 0 (take i b.records) (omega (arith, length-take i b.records))) ∙ is.above;
-        with_it = sym (same_first sheet (i + 1) b 0 (take (i + 1) b.records) (omega (arith, length-take (i + 1) b.records))) ∙ is.with_it;
+        above = sym (same_first sheet h i b 0 (take i b.records) (omega (arith, length-take i b.records))) ∙ is.above;
+        with_it = sym (same_first sheet h (i + 1) b 0 (take (i + 1) b.records) (omega (arith, length-take (i + 1) b.records))) ∙ is.with_it;
       },
     )

@@ -11,14 +11,16 @@ use Rattle.metering_model.specs.declared.Refusal.{Refusal}
 use Rattle.input_sections.specs.declared.faults.ScheduleFault.{ScheduleFault}
 use Rattle.input_sections.specs.declared.faults.ScheduleFault.TheVariants as section
 use Rattle.input_sections.specs.RateInput.{RateInput, rate_input_in}
-use Rattle.input_sections.specs.Sections.{Unread, begins_with, left}
+use Rattle.input_sections.specs.Sections.{Unread, left}
 use Rattle.schedule_reader.specs.Schedules.{Preamble, event_in, events_in, preamble_in}
 use Rattle.metering_model.specs.RatedAlone.{journaled_in}
 use Rattle.answer_words.specs.Words.{section_code_text}
+use Rattle.input_check.specs.declared.kinds.InputKind.{InputKind}
+use Rattle.input_check.specs.Checks.{line_of_kept, said_behind, said_below, said_of_batch, said_of_events, said_of_input_as, said_of_journaled, said_of_rating, said_of_refused, said_of_reply, said_of_schedule}
 use Rattle.fault_lines.specs.Told.{bad_index, line_within, more_words, reason, said_of_fault, told_at, words_of}
-use Rattle.input_check.specs.Checks.{line_of_kept, said_behind, said_below, said_of_batch, said_of_events, said_of_input, said_of_journaled, said_of_rating, said_of_refused, said_of_reply, said_of_schedule}
+use Rattle.input_check.specs.declared.kinds.InputKind.TheVariants as kind
 
-abbrev IsNoneOrLines : List ℕ → Type 0
+abbrev pub IsNoneOrLines : List ℕ → Type 0
 IsNoneOrLines t = (t ≡ []) ⊎ (1 ≤ line_count t)
 
 behind : (a b : List ℕ) → 1 ≤ line_count b → 1 ≤ line_count (a ++ b)
@@ -35,19 +37,22 @@ of_fault : (text : List ℕ) (fault : ScheduleFault) → IsNoneOrLines (said_of_
 of_fault text (section.Refused code n) = inr (one_line (with_number (codes "line ") n ++ codes ": " ++ (section_code_text code ++ reason text code n)))
 of_fault text section.OutOfMemory = inl refl
 
-of_told : (n : ℕ) (words : List ℕ) → IsNoneOrLines (told_at n words)
-of_told n words = inr (one_line (with_number (codes "line ") n ++ codes ": " ++ words))
+pub some_told : (n : ℕ) (words : List ℕ) → 1 ≤ line_count (told_at n words)
+some_told n words = one_line (with_number (codes "line ") n ++ codes ": " ++ words)
 
-of_refused : (n : ℕ) (w : World) (e : Planned) (why : Refusal) → IsNoneOrLines (said_of_refused n w e why)
-of_refused n w (PlansJournal ls) why =
+pub some_refused : (n : ℕ) (w : World) (e : Planned) (why : Refusal) → 1 ≤ line_count (said_of_refused n w e why)
+some_refused n w (PlansJournal ls) why =
     let bad = bad_index w.sheet w.journals (lines_text ls) in
-    of_told (n + line_within bad why) (words_of why ++ more_words w.sheet (lines_text ls) bad why)
-of_refused n w (PlansRevival i ls) why = of_told (n + line_of_kept why) (words_of why)
-of_refused n w (PlansDelivery k i) why = of_told n (words_of why)
-of_refused n w (PlansStart i) why = of_told n (words_of why)
-of_refused n w (PlansRestart i) why = of_told n (words_of why)
-of_refused n w (PlansExport i p) why = of_told n (words_of why)
-of_refused n w (PlansKeep i) why = of_told n (words_of why)
+    some_told (n + line_within bad why) (words_of why ++ more_words w.sheet (lines_text ls) bad why)
+some_refused n w (PlansRevival i ls) why = some_told (n + line_of_kept why) (words_of why)
+some_refused n w (PlansDelivery k i) why = some_told n (words_of why)
+some_refused n w (PlansStart i) why = some_told n (words_of why)
+some_refused n w (PlansRestart i) why = some_told n (words_of why)
+some_refused n w (PlansExport i p) why = some_told n (words_of why)
+some_refused n w (PlansKeep i) why = some_told n (words_of why)
+
+of_told : (n : ℕ) (words : List ℕ) → IsNoneOrLines (told_at n words)
+of_told n words = inr (some_told n words)
 
 of_reply : (n : ℕ) (w : World) (e : Planned) (reply : Reply) → IsNoneOrLines (said_of_reply n w e reply)
 of_reply n w e (Journaled k) = inl refl
@@ -56,7 +61,7 @@ of_reply n w e (Started b k) = inl refl
 of_reply n w e Restarted = inl refl
 of_reply n w e (Exported s) = inl refl
 of_reply n w e (KeptText text) = inl refl
-of_reply n w e (IsRefused why) = of_refused n w e why
+of_reply n w e (IsRefused why) = inr (some_refused n w e why)
 
 of_events : (most : ℕ) (w : World) (u : Unread) → IsNoneOrLines (said_of_events most w u)
 unfolding said_of_events
@@ -105,18 +110,6 @@ of_rating text = by_input (rate_input_in text)
     by_input (Ok given) = of_batch given.sheet given.issuer (line_count (take (length text - length given.batch) text)) given.batch
     by_input (Err fault) = of_fault text fault
 
-of_input : (text : List ℕ) → IsNoneOrLines (said_of_input text)
-unfolding said_of_input
-of_input text = by_word (begins_with (codes "SCHEDULE") text)
-  where
-    by_word : (b : Bool) → IsNoneOrLines (cond b (said_of_schedule text) (said_of_rating text))
-    by_word true = of_schedule text
-    by_word false = of_rating text
-
-none_of : (t : List ℕ) → IsNoneOrLines t → line_count t ≡ 0 → t ≡ []
-none_of t (inl none) no_line = none
-none_of t (inr some) no_line = absurd (omega (arith, some, no_line))
-
--- where no line is said, nothing is
-pub nothing_said : (text : List ℕ) → line_count (said_of_input text) ≡ 0 → said_of_input text ≡ []
-nothing_said text no_line = none_of (said_of_input text) (of_input text) no_line
+pub of_input : (k : InputKind) (text : List ℕ) → IsNoneOrLines (said_of_input_as k text)
+of_input kind.Play text = of_schedule text
+of_input kind.Rate text = of_rating text

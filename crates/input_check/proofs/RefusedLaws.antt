@@ -1,5 +1,5 @@
 -- What is said is what is refused.
-use Rattle.std.proofs.Common.{◌≡◌, ℕ, zero, suc, ◌-◌, Bool, true, false, cond, List, [], ◌∷◌, ◌++◌, length, map, take, Result, Ok, Err, codes, refl, sym, ap, subst}
+use Rattle.std.proofs.Common.{◌≡◌, ℕ, zero, suc, ◌-◌, Bool, true, false, cond, List, [], ◌∷◌, ◌++◌, length, map, take, Result, Ok, Err, refl, sym, ap, subst}
 use Rattle.metering_model.specs.Batch.{Batch, is_empty}
 use Rattle.metering_model.specs.File.{file}
 use Rattle.metering_model.specs.FirstFailure.{◌>>=◌}
@@ -10,21 +10,20 @@ use Rattle.metering_model.specs.World.{World, opening}
 use Rattle.metering_model.specs.declared.Refusal.{Refusal}
 use Rattle.metering_model.proofs.StepLaws.{ok_same, step_ok}
 use Rattle.input_sections.specs.RateInput.{RateInput, rate_input_in}
-use Rattle.input_sections.specs.Sections.{Unread, begins_with, left}
+use Rattle.input_sections.specs.Sections.{Unread, left}
 use Rattle.input_sections.specs.declared.faults.ScheduleFault.{ScheduleFault}
 use Rattle.input_sections.specs.declared.faults.ScheduleFault.TheVariants as section
 use Rattle.schedule_reader.specs.Schedules.{Preamble, event_in, events_in, preamble_in, schedule_in}
 use Rattle.schedule_reader.proofs.PreambleLaws.{behind, by_preamble}
 use Rattle.metering_model.specs.RatedAlone.{journaled_in, rows_alone}
 use Rattle.batch_player.specs.RateInput.{or_refused, or_schedule, rated_file}
+use Rattle.input_check.specs.Checks.{SaysWhatIsPlayed, SaysWhatIsRated, event_lines, lines_of_events, said_below, said_behind, said_of_batch, said_of_events, said_of_journaled, said_of_rating, said_of_refusal, said_of_replies, said_of_reply, said_of_schedule}
 use Rattle.fault_lines.specs.Told.{bad_index, said_of_fault, told_of_text}
-use Rattle.input_check.specs.Checks.{SaysWhatIsPlayed, SaysWhatIsRated, event_lines, lines_of_events, said_below, said_behind, said_of_batch, said_of_events, said_of_input, said_of_journaled, said_of_rating, said_of_refusal, said_of_replies, said_of_reply, said_of_schedule}
 use Rattle.input_check.proofs.NeverWants.{NeverWants, a_preamble, a_rating, some_events}
-use Rattle.input_check.proofs.SaidLaws.{said_as_rating, said_as_schedule}
 
 -- ---- what is to be rated
 
-rated : (period : ℕ) (text : List ℕ) → SaysWhatIsRated text (rated_file period text) (said_of_rating text)
+pub rated : (period : ℕ) (text : List ℕ) → SaysWhatIsRated text (rated_file period text) (said_of_rating text)
 unfolding rated_file said_of_rating said_of_batch said_of_refusal
 rated period text = by_input (rate_input_in text) refl
   where
@@ -48,9 +47,6 @@ rated period text = by_input (rate_input_in text) refl
     by_input (Ok given) is = by_batch given is (journaled_in given.sheet given.issuer given.batch)
     by_input (Err (section.Refused code n)) is = refl
     by_input (Err section.OutOfMemory) is = absurd (subst NeverWants is (a_rating text))
-
-pub says_what_is_rated : (period : ℕ) (text : List ℕ) → begins_with (codes "SCHEDULE") text ≡ false → SaysWhatIsRated text (rated_file period text) (said_of_input text)
-says_what_is_rated period text is = subst (SaysWhatIsRated text (rated_file period text)) (sym (said_as_rating text is)) (rated period text)
 
 -- ---- what is to be played
 
@@ -81,7 +77,7 @@ all_said (suc most) w u es h = by_test (λ v x xs is. all_said most v x xs is) (
         } in
         subst (λ xs. IsSaidOfAll w xs (u.line ∷ lines_of_events most e.1) said) (ok_same _ _ rest.2) all
 
-played : (text : List ℕ) → SaysWhatIsPlayed text (schedule_in text) (said_of_schedule text)
+pub played : (text : List ℕ) → SaysWhatIsPlayed text (schedule_in text) (said_of_schedule text)
 unfolding said_of_schedule event_lines
 played text = subst (λ r. SaysWhatIsPlayed text r (said_below text (preamble_in text))) (sym (by_preamble text)) (below (preamble_in text) refl)
   where
@@ -98,6 +94,3 @@ played text = subst (λ r. SaysWhatIsPlayed text r (said_below text (preamble_in
     below (Ok p) above = by_events p above (events_in (length text) p.rest) refl
     below (Err (section.Refused code n)) above = refl
     below (Err section.OutOfMemory) above = absurd (subst NeverWants above (a_preamble text))
-
-pub says_what_is_played : (text : List ℕ) → begins_with (codes "SCHEDULE") text ≡ true → SaysWhatIsPlayed text (schedule_in text) (said_of_input text)
-says_what_is_played text is = subst (SaysWhatIsPlayed text (schedule_in text)) (sym (said_as_schedule text is)) (played text)

@@ -1,5 +1,5 @@
 -- What is said, case by case.
-use Rattle.std.proofs.Common.{◌≡◌, ℕ, zero, suc, ◌-◌, ◌<◌, ◌≤◌, Bool, true, false, cond, List, [], ◌∷◌, ◌++◌, length, take, drop, Option, Some, None, IfSome, Result, Ok, Err, OnOk, codes, refl, sym, ap, ◌∙◌, arith, append-nil, append_assoc}
+use Rattle.std.proofs.Common.{◌≡◌, ℕ, suc, ◌-◌, ◌<◌, ◌≤◌, false, List, [], ◌∷◌, ◌++◌, length, take, drop, Some, None, Result, Ok, Err, OnOk, codes, refl, sym, ap, ◌∙◌, arith, append-nil, append_assoc}
 use Rattle.std.specs.Prelude.{nat_le}
 use Rattle.std.specs.Fmt.{digits}
 use Rattle.std.proofs.lemmas.Bool.Decides.{nat_tests}
@@ -16,16 +16,18 @@ use Rattle.metering_model.specs.declared.Refusal.{Refusal}
 use Rattle.input_sections.specs.declared.faults.ScheduleCode.TheVariants as codes_of
 use Rattle.input_sections.specs.declared.faults.ScheduleFault.{ScheduleFault}
 use Rattle.input_sections.specs.declared.faults.ScheduleFault.TheVariants as section
-use Rattle.input_sections.specs.Sections.{Unread, begins_with, left, whole_of}
+use Rattle.input_sections.specs.Sections.{Unread, left, whole_of}
 use Rattle.input_sections.specs.RateInput.{rate_input_in}
 use Rattle.schedule_reader.specs.Schedules.{Preamble, event_in, events_in, group_in, preamble_in}
 use Rattle.schedule_reader.proofs.EventLoop.{nonempty, empty}
 use Rattle.metering_model.specs.RatedAlone.{journaled_in}
+use Rattle.input_check.specs.declared.kinds.InputKind.{InputKind}
+use Rattle.input_check.specs.declared.kinds.InputKind.TheVariants as kind
 use Rattle.input_check.specs.Inner.Faults.{fault_of}
+use Rattle.input_check.specs.Checks.{said_behind, said_below, said_of_batch, said_of_events, said_of_input_as, said_of_journaled, said_of_rating, said_of_reply, said_of_schedule}
 use Rattle.fault_lines.specs.Told.{bad_index, said_of_fault, told_of_text}
-use Rattle.input_check.specs.Checks.{IsSaidOf, said_behind, said_below, said_of_batch, said_of_events, said_of_input, said_of_journaled, said_of_rating, said_of_reply, said_of_schedule}
 
-step_err : {A B E : Type 0} (r : Result A E) (f : A → Result B E) (e : E) → r ≡ Err e → (r >>= f) ≡ Err e
+pub step_err : {A B E : Type 0} (r : Result A E) (f : A → Result B E) (e : E) → r ≡ Err e → (r >>= f) ≡ Err e
 step_err r f e is = ap (λ s. s >>= f) is
 
 -- ---- events
@@ -100,6 +102,14 @@ pub put_instead : (told more both cut said after : List ℕ) (n : ℕ) → n ≡
 put_instead told more both cut said after n long is cut_is after_is =
     after_is ∙ ap (λ t. t ++ said) (cut_is ∙ (ap (λ m. take m both) long ∙ (ap (take (length told)) is ∙ take-append_seam told more)))
 
+-- what was put behind a text in two parts
+pub in_two_parts : (told one other first both : List ℕ) → first ≡ told ++ one → both ≡ first ++ other → both ≡ told ++ (one ++ other)
+in_two_parts told one other first both first_is both_is = both_is ∙ (ap (λ t. t ++ other) first_is ∙ append_assoc told one other)
+
+-- what was put behind a text is taken back
+pub taken_back : (told more both cut : List ℕ) (n : ℕ) → n ≡ length told → both ≡ told ++ more → cut ≡ take n both → cut ≡ told
+taken_back told more both cut n long is cut_is = cut_is ∙ (ap (λ m. take m both) long ∙ (ap (take (length told)) is ∙ take-append_seam told more))
+
 -- ---- a batch
 
 pub refused_batch : (sheet : model.Sheet) (issuer : model.Issuer) (lines : ℕ) (text : List ℕ) (why : Refusal) → journaled_in sheet issuer text ≡ Err why
@@ -113,7 +123,7 @@ unfolding said_of_batch
 taken_batch sheet issuer lines text b is = ap (said_of_journaled sheet lines text) is
 
 -- what stands above the batch is as long as the batch is not
-above : (text : List ℕ) (from : ℕ) → from ≤ length text → length text - length (drop from text) ≡ from
+pub above : (text : List ℕ) (from : ℕ) → from ≤ length text → length text - length (drop from text) ≡ from
 above text from within = omega (arith, within, length-drop from text)
 
 pub rated_well : (text : List ℕ) (sheet : model.Sheet) (issuer : model.Issuer) (from : ℕ) → from ≤ length text
@@ -137,24 +147,16 @@ rated_badly text fault is =
 
 -- ---- any input
 
-pub said_as_schedule : (text : List ℕ) → begins_with (codes "SCHEDULE") text ≡ true → said_of_input text ≡ said_of_schedule text
-unfolding said_of_input
-said_as_schedule text is = ap (λ b. cond b (said_of_schedule text) (said_of_rating text)) is
-
-pub said_as_rating : (text : List ℕ) → begins_with (codes "SCHEDULE") text ≡ false → said_of_input text ≡ said_of_rating text
-unfolding said_of_input
-said_as_rating text is = ap (λ b. cond b (said_of_schedule text) (said_of_rating text)) is
-
 too_few : (m n : ℕ) → n < m → nat_le m n ≡ false
 too_few m n below = grind (arith, nat_tests)
 
-too_long : (text : List ℕ) → 16_777_216 < length text → whole_of text ≡ Err (section.Refused codes_of.TooLong 1)
+pub too_long : (text : List ℕ) → 16_777_216 < length text → whole_of text ≡ Err (section.Refused codes_of.TooLong 1)
 too_long text long = ap (λ b. holds_or b (section.Refused codes_of.TooLong 1) >>= λ _. let u : Unread = record { text = text; from = 0; line = 1 } in Ok u) (too_few (length text) 16_777_216 long)
 
 -- of an input that is too long nothing else is said
-pub said_of_long : (text : List ℕ) → 16_777_216 < length text → said_of_input text ≡ codes "line 1: L8" ++ 10 ∷ []
-unfolding said_of_input said_of_schedule said_of_rating preamble_in group_in rate_input_in digits
-said_of_long text long = by_word (begins_with (codes "SCHEDULE") text)
+pub said_of_long : (k : InputKind) (text : List ℕ) → 16_777_216 < length text → said_of_input_as k text ≡ codes "line 1: L8" ++ 10 ∷ []
+unfolding said_of_schedule said_of_rating preamble_in group_in rate_input_in digits
+said_of_long k text long = by_kind k
   where
     preamble_too_long : whole_of text ≡ Err (section.Refused codes_of.TooLong 1) → preamble_in text ≡ Err (section.Refused codes_of.TooLong 1)
     preamble_too_long is = step_err _ _ _ (step_err (whole_of text) _ _ is)
@@ -162,29 +164,20 @@ said_of_long text long = by_word (begins_with (codes "SCHEDULE") text)
     rating_too_long : whole_of text ≡ Err (section.Refused codes_of.TooLong 1) → said_of_rating text ≡ codes "line 1: L8" ++ 10 ∷ []
     rating_too_long is = rated_badly text (section.Refused codes_of.TooLong 1) (step_err (whole_of text) _ _ is)
 
-    by_word : (b : Bool) → cond b (said_of_schedule text) (said_of_rating text) ≡ codes "line 1: L8" ++ 10 ∷ []
-    by_word true = ap (said_below text) (preamble_too_long (too_long text long))
-    by_word false = rating_too_long (too_long text long)
-
-unfoldable zeros : ℕ → List ℕ
-zeros zero = []
-zeros (suc n) = 0 ∷ zeros n
-
-length-zeros : (n : ℕ) → length (zeros n) ≡ n
-unfolding zeros
-length-zeros zero = refl
-length-zeros (suc n) = ap suc (length-zeros n)
-
--- whatever was read, where it is known at all
-pub said_where_long : (known : Option (List ℕ)) → IfSome known (λ input. 16_777_216 < length input)
-    → (input : List ℕ) × IsSaidOf known input (codes "line 1: L8" ++ 10 ∷ [])
-said_where_long (Some input) long = (input, record { is_input = refl; is_said = sym (said_of_long input long) })
-said_where_long None long =
-    let input = zeros 16_777_217 in
-    (input, record { is_input = tt; is_said = sym (said_of_long input (omega (arith, length-zeros 16_777_217))) })
+    by_kind : (k : InputKind) → said_of_input_as k text ≡ codes "line 1: L8" ++ 10 ∷ []
+    by_kind kind.Play = ap (said_below text) (preamble_too_long (too_long text long))
+    by_kind kind.Rate = rating_too_long (too_long text long)
 
 -- ---- what holds of a call that ends well
 
 pub both_on_ok : {E P Q R : Type 0} (result : Result (Unit {0}) E) → (P → Q → R) → OnOk result P → OnOk result Q → OnOk result R
 both_on_ok (Ok done) f p q = f p q
 both_on_ok (Err fault) f p q = tt
+
+pub on_ok : {E P Q : Type 0} (result : Result (Unit {0}) E) → (P → Q) → OnOk result P → OnOk result Q
+on_ok (Ok done) f p = f p
+on_ok (Err fault) f p = tt
+
+pub in_any_case : {E P : Type 0} (result : Result (Unit {0}) E) → P → OnOk result P
+in_any_case (Ok done) p = p
+in_any_case (Err fault) p = tt

@@ -19,7 +19,8 @@ use Rattle.schedule_reader.specs.Schedules.{group_in, head_line, nodes_line, num
 use Rattle.metering_model.specs.RatedAlone.{journaled_in}
 use Rattle.fault_lines.specs.Fields.{fault_field}
 use Rattle.fault_lines.specs.Told.{from_line, section_on, said_of_text}
-use Rattle.input_check.specs.Checks.{said_of_events, said_of_schedule, said_of_batch, said_of_rating, said_of_input}
+use Rattle.input_check.specs.Checks.{said_of_events, said_of_schedule, said_of_batch, said_of_rating}
+use Rattle.input_check.specs.Inputs.{said_of_input}
 
 abbrev said : List (List ℕ) → List ℕ
 said ls = said_of_input (lines_text ls)

@@ -1,18 +1,21 @@
 -- What is said of an input: a line for each thing that is wrong with it, which names the line of the input; nothing where nothing is.
-use Rattle.std.specs.Prelude.{ℕ, zero, suc, ◌+◌, ◌-◌, ◌<◌, if◌then◌else◌, List, [], ◌∷◌, ◌++◌, length, take, Option, Some, Result, Ok, Err, IfSome, codes, ◌≡◌, slice_get}
-use Rattle.metering_model.specs.Batch.{Batch, batch_text, is_empty}
+use Rattle.std.specs.Prelude.{ℕ, zero, suc, ◌+◌, ◌-◌, ◌<◌, ◌≤◌, if◌then◌else◌, List, [], ◌∷◌, ◌++◌, length, take, Some, Result, Ok, Err, true, ◌≡◌, slice_get}
+use Rattle.std.specs.List.{list_all}
+use Rattle.metering_model.specs.Batch.{Batch, batch_text, is_empty, lacks}
+use Rattle.metering_model.specs.Limits.{most_input_bytes}
 use Rattle.metering_model.specs.declared.BrokenRule.{BrokenRule}
 use Rattle.metering_model.specs.declared.BrokenRule.TheVariants as rule
 use Rattle.metering_model.specs.declared.Refusal.{Refusal}
 use Rattle.metering_model.specs.declared.Refusal.TheVariants as refusal
-use Rattle.metering_model.specs.Schedule.{Planned, PlansDelivery, PlansExport, PlansJournal, PlansKeep, PlansRestart, PlansRevival, PlansStart, Schedule, event_of, lines_text, schedule_text}
+use Rattle.metering_model.specs.Schedule.{AreLines, Planned, PlansDelivery, PlansExport, PlansJournal, PlansKeep, PlansRestart, PlansRevival, PlansStart, Schedule, TextLines, event_of, lines_text, schedule_text, section_text}
 use Rattle.metering_model.specs.Sheet as model
 use Rattle.metering_model.specs.Step.{step}
 use Rattle.metering_model.specs.Transcript.{line_count}
-use Rattle.metering_model.specs.World.{World, Reply, Refused as IsRefused, opening}
+use Rattle.metering_model.specs.World.{World, Journal, Reply, Journaled, Refused as IsRefused, next_packet, offer_of, opening}
+use Rattle.input_sections.specs.declared.faults.ScheduleCode.{ScheduleCode}
 use Rattle.input_sections.specs.declared.faults.ScheduleFault.{ScheduleFault}
 use Rattle.input_sections.specs.declared.faults.ScheduleFault.TheVariants as section
-use Rattle.input_sections.specs.Sections.{Unread, begins_with, left}
+use Rattle.input_sections.specs.Sections.{Unread, left}
 use Rattle.input_sections.specs.RateInput.{rate_input_in}
 use Rattle.schedule_reader.specs.Schedules.{Preamble, ReadSchedule, event_in, events_in, preamble_in}
 use Rattle.schedule_player.specs.Transcripts.{replies_to}
@@ -20,7 +23,9 @@ use Rattle.schedule_player.specs.declared.PlayFault.{PlayFault}
 use Rattle.schedule_player.specs.declared.PlayFault.TheVariants as play
 use Rattle.metering_model.specs.RatedAlone.{journaled_in}
 use Rattle.answer_words.specs.Words.{section_code_text}
-use Rattle.fault_lines.specs.Told.{bad_index, reason, said_of_fault, told_at, told_of_text, words_of}
+use Rattle.fault_lines.specs.Told.{bad_index, reason, said_of_fault, said_of_text, told_at, told_of_text, words_of}
+use Rattle.input_check.specs.declared.kinds.InputKind.{InputKind}
+use Rattle.input_check.specs.declared.kinds.InputKind.TheVariants as kind
 
 -- ---- the events of a schedule
 
@@ -82,6 +87,20 @@ pub record IsFirstRefused (sheet : model.Sheet) (issuer : model.Issuer) (b : Bat
   pub counted : line ≡ 1 + line_count (batch_text (first_records index b))
   pub taken : journaled_in sheet issuer (batch_text (first_records index b)) ≡ Ok (first_records index b)
   pub refused : journaled_in sheet issuer (batch_text (first_records (index + 1) b)) ≡ Err why
+
+-- What a world replies to a batch of which all is well, by whether it has room for one more packet.
+abbrev pub reply_with_room : Result ℕ Refusal → Reply
+reply_with_room (Ok k) = Journaled k
+reply_with_room (Err why) = IsRefused why
+
+-- In that world the batch is refused for the record on that line, counted in its text: of the records above it alone it is
+-- journaled, unless the world is full, and with that one below them it is refused so.
+pub record IsFirstRefusedIn (w : World) (b : Batch) (why : Refusal) (line : ℕ) : Type 0 where
+  pub index : ℕ
+  pub within : index < length b.records
+  pub counted : line ≡ 1 + line_count (batch_text (first_records index b))
+  pub taken : (step w (Journal (offer_of (batch_text (first_records index b))))).0 ≡ reply_with_room (next_packet w)
+  pub refused : (step w (Journal (offer_of (batch_text (first_records (index + 1) b))))).0 ≡ IsRefused why
 
 -- of a batch behind so many lines
 abbrev pub said_of_journaled : {A : Type 0} → model.Sheet → ℕ → List ℕ → Result A Refusal → List ℕ
@@ -148,13 +167,17 @@ SaysWhatIsPlayed text (Ok s) said =
 SaysWhatIsPlayed text (Err (section.Refused code n)) said = said ≡ told_at n (section_code_text code ++ reason text code n)
 SaysWhatIsPlayed text (Err section.OutOfMemory) said = ⊥
 
+-- Of a section below any lines, whatever stands behind it, just what its reader says of the text of its lines is told behind its
+-- code: why that text is none such, or nothing.
+abbrev pub IsSaidOfSection : {A E : Type 0} → ScheduleCode → List ℕ → ℕ → (E → List ℕ) → (List ℕ → Result A E) → Type 0
+IsSaidOfSection code word most words reader =
+    (above ls : TextLines) (rest : List ℕ) → list_all (lacks 10) above ≡ true → AreLines most ls
+    → length (lines_text above ++ (section_text word ls ++ rest)) ≤ most_input_bytes
+    → reason (lines_text above ++ (section_text word ls ++ rest)) code (1 + length above) ≡ said_of_text words reader (lines_text ls)
+
 -- ---- any input
 
--- what `play` would read where it begins with this word, else what `rate` would read
-unfoldable pub said_of_input : List ℕ → List ℕ
-said_of_input text = if begins_with (codes "SCHEDULE") text then said_of_schedule text else said_of_rating text
-
--- The text is what is said of an input, which is all that a reader gives where its bytes are known.
-pub record IsSaidOf (known : Option (List ℕ)) (input text : List ℕ) : Type 0 where
-  pub is_input : IfSome known (λ bytes. input ≡ bytes)
-  pub is_said : text ≡ said_of_input input
+-- what `play` would read, or what `rate` would
+abbrev pub said_of_input_as : InputKind → List ℕ → List ℕ
+said_of_input_as kind.Play text = said_of_schedule text
+said_of_input_as kind.Rate text = said_of_rating text

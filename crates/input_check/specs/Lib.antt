@@ -1,4 +1,6 @@
 pub mod Checks
+pub mod Warnings
+pub mod Inputs
 pub mod RateForms
 pub mod Inner
 pub mod Charges

@@ -1,6 +1,7 @@
 //! The events of a schedule that are refused.
 
-ghost use Rattle.std.specs.Prelude.{◌≡◌, ◌≤◌, ◌+◌, ◌++◌, IfOk, OnOk};
+ghost use Rattle.std.specs.Prelude.{◌≡◌, ◌≤◌, ◌+◌, [], ◌++◌, List, IfOk, OnOk};
+ghost use Rattle.metering_model.specs.Batch.{Batch};
 ghost use Rattle.metering_model.specs.Schedule.{event_of};
 ghost use Rattle.metering_model.specs.Step.{step};
 ghost use Rattle.metering_model.specs.World as model;
@@ -8,15 +9,22 @@ ghost use Rattle.schedule_player.specs.Replies.{reply_of};
 ghost use Rattle.schedule_reader.specs.Events.{HasWholeLines, planned_of};
 ghost use Rattle.schedule_reader.specs.Schedules.{events_in};
 ghost use Rattle.input_check.specs.Checks.{line_of_kept, said_of_events, said_of_refused, said_of_reply, said_of_schedule};
+ghost use Rattle.fault_lines.specs.Ahead.{AreLatest, ahead_of_all};
+ghost use Rattle.input_check.specs.Warnings.{if_journaled, warned_of_schedule};
+ghost use Rattle.input_check.specs.Inner.Counted.{counted_of_events, with_counted};
 ghost use Rattle.input_check.specs.Inner.Faults.{fault_of};
 ghost use Rattle.input_check.specs.Inner.Replies.{IsBadIn, breaks_rule};
 
-use fault_lines::{put_at, put_fault, put_refused_text};
+use crate::warnings::{put_ahead_of, put_unknown_on};
+use fault_lines::{LatestDays, put_at, put_fault, put_refused_text};
 use input_sections::{ScheduleFault, Unread};
 use metering_model::Refusal;
 use schedule_player::{Reply, World, event_of, opening_world};
 use schedule_reader::{Planned, Preamble, event_in};
 use std::alloc::{AllocError, Global};
+
+/// The line of a schedule on which its sheet opens, behind its head, its nodes and its agents.
+const SHEET_LINE: u32 = 4;
 
 /// The line of a revival's text that a refusal tells, or 0 where it tells none.
 fn line_of_kept(refusal: Refusal) -> u64
@@ -105,12 +113,21 @@ fn check_event(
     line: u32,
     planned: &Planned<'_>,
     told: &mut Vec<u8>,
+    latest: &mut LatestDays,
+    warned: &mut Vec<u8>,
 ) -> Result<(), AllocError>
     requires { HasWholeLines planned.now }
     ensures said { OnOk result
         (told.new.items ≡ told.old.items
         ++ said_of_reply line world.old (planned_of planned.now)
         (step world.old (event_of (planned_of planned.now))).0) }
+    ensures ahead { (journaled : List Batch) → AreLatest latest.old journaled → OnOk result
+        (warned.new.items ≡ warned.old.items ++ ahead_of_all journaled
+        (if_journaled line (planned_of planned.now) (step world.old (event_of (planned_of planned.now))).0)) }
+    ensures latest { (journaled : List Batch) → AreLatest latest.old journaled → OnOk result
+        (AreLatest latest.new (with_counted
+        (if_journaled line (planned_of planned.now) (step world.old (event_of (planned_of planned.now))).0)
+        journaled)) }
     ensures world { OnOk result (world.new ≡ (step world.old (event_of (planned_of planned.now))).1) }
 {
     let event = event_of(alloc, planned)?;
@@ -120,7 +137,8 @@ fn check_event(
     } else {
         None
     };
-    put_reply(told, world, line, planned, bad, &reply)
+    put_reply(told, world, line, planned, bad, &reply)?;
+    put_ahead_of(latest, warned, line, &event, &reply)
 }
 
 /// Does the events that are left in turn, no more than `most`, and answers the fault of the first that is none, or of what
@@ -131,10 +149,14 @@ fn check_events(
     unread: Unread<'_>,
     most: usize,
     told: &mut Vec<u8>,
+    warned: &mut Vec<u8>,
 ) -> Result<Option<ScheduleFault>, AllocError>
     ensures said { OnOk result (told.new.items ≡ told.old.items ++ said_of_events most world.old unread.entry) }
+    ensures ahead { OnOk result (warned.new.items
+        ≡ warned.old.items ++ ahead_of_all [] (counted_of_events most world.old unread.entry)) }
     ensures fault { IfOk result (λ fault. fault ≡ fault_of (events_in most unread.entry)) }
 {
+    let mut latest = LatestDays::none();
     let mut here = unread;
     for _ in 0..most {
         if here.left().is_empty() {
@@ -144,7 +166,15 @@ fn check_events(
             Ok(parts) => parts,
             Err(fault) => return Ok(Some(fault)),
         };
-        check_event(alloc, world, here.line(), &planned, told)?;
+        check_event(
+            alloc,
+            world,
+            here.line(),
+            &planned,
+            told,
+            &mut latest,
+            warned,
+        )?;
         here = rest;
     }
     Ok(None)
@@ -156,11 +186,14 @@ fn check_behind(
     above: Preamble<'_>,
     most: usize,
     told: &mut Vec<u8>,
+    warned: &mut Vec<u8>,
 ) -> Result<Option<ScheduleFault>, AllocError>
     requires nodes { (1 ≤ above.voters) × (above.voters + above.observers ≤ 99) }
     requires agents { (1 ≤ above.agents) × (above.agents ≤ 64) }
     ensures said { OnOk result (told.new.items ≡ told.old.items ++ said_of_events most
         (model.opening above.entry.voters above.entry.observers above.entry.agents above.entry.sheet above.entry.issuer) above.entry.rest) }
+    ensures ahead { OnOk result (warned.new.items ≡ warned.old.items ++ ahead_of_all [] (counted_of_events most
+        (model.opening above.entry.voters above.entry.observers above.entry.agents above.entry.sheet above.entry.issuer) above.entry.rest)) }
     ensures fault { IfOk result (λ fault. fault ≡ fault_of (events_in most above.entry.rest)) }
 {
     let Preamble {
@@ -172,26 +205,31 @@ fn check_behind(
         rest,
     } = above;
     let mut world = opening_world(alloc, voters, observers, agents, sheet, issuer)?;
-    check_events(alloc, &mut world, rest, most, told)
+    check_events(alloc, &mut world, rest, most, told, warned)
 }
 
-/// Appends what is said of a text that is to be a schedule. Where it turns out to be none, what was said of its events is
-/// taken back.
+/// Appends what is said of a text that is to be a schedule, and in another place what is warned of. Where it turns out to be none,
+/// what was said and warned of is taken back.
 pub(crate) fn check_schedule(
     alloc: Global,
     text: &[u8],
     told: &mut Vec<u8>,
+    warned: &mut Vec<u8>,
 ) -> Result<(), AllocError>
-    ensures { OnOk result (told.new.items ≡ told.old.items ++ said_of_schedule text.now) }
+    ensures said { OnOk result (told.new.items ≡ told.old.items ++ said_of_schedule text.now) }
+    ensures warned { OnOk result (warned.new.items ≡ warned.old.items ++ warned_of_schedule text.now) }
 {
     let above = match Preamble::read(alloc, text) {
         Ok(above) => above,
         Err(fault) => return put_fault(alloc, told, text, fault),
     };
-    let before = told.len();
-    match check_behind(alloc, above, text.len(), told)? {
+    let said_before = told.len();
+    let warned_before = warned.len();
+    put_unknown_on(alloc, warned, text, SHEET_LINE)?;
+    match check_behind(alloc, above, text.len(), told, warned)? {
         Some(fault) => {
-            told.truncate(before);
+            told.truncate(said_before);
+            warned.truncate(warned_before);
             put_fault(alloc, told, text, fault)
         }
         None => Ok(()),

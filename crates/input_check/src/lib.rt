@@ -4,9 +4,12 @@
 
 mod checks;
 mod events;
+mod kinds;
 pub mod laws;
 mod ratings;
+mod warnings;
 
 pub use batch_player::rate_text;
-pub use checks::check_text;
+pub use checks::{check_text, check_text_as};
+pub use kinds::InputKind;
 pub use schedule_player::play_text;

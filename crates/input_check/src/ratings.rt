@@ -2,13 +2,17 @@
 
 ghost use Rattle.std.specs.Prelude.{◌≡◌, [], ◌++◌, Err, Some, OnOk};
 ghost use Rattle.metering_model.specs.Sheet as model;
+ghost use Rattle.metering_model.specs.RatedAlone.{journaled_in};
+ghost use Rattle.fault_lines.specs.Ahead.{ahead_of_all};
+ghost use Rattle.input_check.specs.Warnings.{if_taken, warned_of_rating};
 ghost use Rattle.fault_lines.specs.Told.{bad_index};
 ghost use Rattle.input_check.specs.Checks.{said_of_batch, said_of_rating};
 
+use crate::warnings::put_unknown_on;
 use batch_player::first_refusal;
 use batch_view::BatchView;
 use byte_text::line_count;
-use fault_lines::{put_fault, put_refused_text};
+use fault_lines::{LatestDays, put_fault, put_refused_text};
 use input_sections::rate_input;
 use journal_rules::first_bad_alone;
 use metering_model::Refusal;
@@ -25,16 +29,20 @@ fn bad_alone(sheet: &Sheet, batch: &BatchView<'_>) -> Option<u16>
     }
 }
 
-/// Appends what is said of a batch behind so many lines of an input.
+/// Appends what is said of a batch behind so many lines of an input, and in another place which of its readings are far ahead.
 fn check_batch(
     told: &mut Vec<u8>,
+    warned: &mut Vec<u8>,
     sheet: &Sheet,
     lines: usize,
     text: &[u8],
 ) -> Result<(), AllocError>
-    ensures { (issuer : model.Issuer)
+    ensures said { (issuer : model.Issuer)
         → OnOk result (told.new.items ≡ told.old.items
         ++ said_of_batch sheet.now issuer lines text.now) }
+    ensures ahead { (issuer : model.Issuer)
+        → OnOk result (warned.new.items ≡ warned.old.items
+        ++ ahead_of_all [] (if_taken lines (journaled_in sheet.now issuer text.now))) }
 {
     let view = match BatchView::parse(text) {
         Ok(view) => view,
@@ -47,18 +55,25 @@ fn check_batch(
             let bad = bad_alone(sheet, &view);
             put_refused_text(told, lines, sheet, text, bad, refusal)
         }
-        None => Ok(()),
+        None => LatestDays::none().put_ahead(warned, lines, &view),
     }
 }
 
-/// Appends what is said of a text that is to be rated.
-pub(crate) fn check_rating(alloc: Global, text: &[u8], told: &mut Vec<u8>) -> Result<(), AllocError>
-    ensures { OnOk result (told.new.items ≡ told.old.items ++ said_of_rating text.now) }
+/// Appends what is said of a text that is to be rated, and in another place what is warned of.
+pub(crate) fn check_rating(
+    alloc: Global,
+    text: &[u8],
+    told: &mut Vec<u8>,
+    warned: &mut Vec<u8>,
+) -> Result<(), AllocError>
+    ensures said { OnOk result (told.new.items ≡ told.old.items ++ said_of_rating text.now) }
+    ensures warned { OnOk result (warned.new.items ≡ warned.old.items ++ warned_of_rating text.now) }
 {
     let given = match rate_input(alloc, text) {
         Ok(given) => given,
         Err(fault) => return put_fault(alloc, told, text, fault),
     };
+    put_unknown_on(alloc, warned, text, 1)?;
     let (above, batch) = text.split_at(given.batch_from);
-    check_batch(told, &given.sheet, line_count(above), batch)
+    check_batch(told, warned, &given.sheet, line_count(above), batch)
 }

@@ -1,16 +1,22 @@
-use Rattle.std.proofs.Common.{Err, ap}
+use Rattle.std.proofs.Common.{Err, refl, ap}
 use Rattle.std.proofs.lemmas.Result.{IfOk-weaker}
-use Rattle.input_check.proofs.SaidLaws.{said_where_long}
+use Rattle.input_check.specs.Inputs.{kind_in}
+use Rattle.input_check.proofs.WrittenLaws.{just_the_warnings, written_in_part_where_long, written_where_long}
 use Rattle.input_check.proofs.checks.check_text.Goals as goal
+
+pub returns-in-Ok-clause-ahead : goal.returns-in-Ok-clause-ahead
+returns-in-Ok-clause-ahead g c =
+    just_the_warnings kind_in _ _ _ _ c.in-Ok.input.items c.write_faults.result (rw c.deref.ensures.value at c.kind_of-kind.ensures) c.in-Ok.ensures.whole
+    (rw c.deref-in-Ok.ensures.value at c.write_faults.ensures.said)
 
 pub returns-in-Err-Schedule-clause-said : goal.returns-in-Err-Schedule-clause-said
 returns-in-Err-Schedule-clause-said g c =
     let told = c.in-Err-Schedule in
-    let long = said_where_long (g.R.Source.remaining c.args.reader.now) (told.ensures.section told.field-0-0 (ap Err told.field-0-is)).1 in
-    IfOk-weaker c.write_said.result _ _ (λ count is. (long.0, _, long.1, is.0, is.1)) c.write_said.ensures.said
+    let long = (told.ensures.section told.field-0-0 (ap Err told.field-0-is)).1 in
+    IfOk-weaker c.write_said.result _ _ (λ answer is. written_where_long kind_in _ _ _ _ answer long refl is) c.write_said.ensures.said
 
 pub returns-in-Err-Schedule-clause-prefix : goal.returns-in-Err-Schedule-clause-prefix
 returns-in-Err-Schedule-clause-prefix g c = λ write.
     let told = c.in-Err-Schedule in
-    let long = said_where_long (g.R.Source.remaining c.args.reader.now) (told.ensures.section told.field-0-0 (ap Err told.field-0-is)).1 in
-    (long.0, _, long.1, c.write_said.ensures.prefix write)
+    let long = (told.ensures.section told.field-0-0 (ap Err told.field-0-is)).1 in
+    written_in_part_where_long kind_in _ _ _ long (c.write_said.ensures.prefix write)

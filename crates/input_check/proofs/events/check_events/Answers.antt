@@ -2,6 +2,7 @@ use Rattle.std.proofs.Common.{◌≡◌, ◌+◌, ◌-◌, ◌<◌, ◌≤◌, s
 use Rattle.std.proofs.lemmas.Bool.Decides.{nat_tests}
 use Rattle.input_sections.specs.Sections.{left}
 use Rattle.input_check.proofs.FaultLoop.{found_at_end, found_here, found_next, found_none}
+use Rattle.input_check.proofs.CountedBatches.{warned_all, warned_at_end, warned_more, warned_whole}
 use Rattle.input_check.proofs.SaidLaws.{said_all, said_at_end, said_more, said_whole}
 use Rattle.input_check.proofs.events.check_events.Goals as goal
 
@@ -12,6 +13,15 @@ returns-then-is_empty-clause-said c =
     let same = ap length c.left.ensures in
     let none : length (left c.loop.here) ≤ 0 = grind (arith, nat_tests, same, c.is_empty.ensures, c.if-is_empty.true) in
     said_all c.loop.told.items k c.loop.world c.loop.here _ _ more none c.loop.invariant.0
+
+pub returns-then-is_empty-clause-ahead : goal.returns-then-is_empty-clause-ahead
+returns-then-is_empty-clause-ahead c =
+    let k = c.args.most - (c.loop.counter + 1) in
+    let more : c.args.most - c.loop.counter ≡ suc k = omega (arith, c.loop-test.true) in
+    let same = ap length c.left.ensures in
+    let none : length (left c.loop.here) ≤ 0 = grind (arith, nat_tests, same, c.is_empty.ensures, c.if-is_empty.true) in
+    let ahead = c.loop.invariant.2 in
+    warned_all c.loop.warned.items ahead.0 c.loop.world c.loop.here k _ _ more none ahead.2
 
 pub returns-then-is_empty-clause-fault : goal.returns-then-is_empty-clause-fault
 returns-then-is_empty-clause-fault c =
@@ -29,6 +39,15 @@ returns-in-Err-clause-said c =
     let some : 0 < length (left c.loop.here) = grind (arith, nat_tests, same, c.is_empty.ensures, c.if-is_empty.false) in
     said_whole c.loop.told.items k c.loop.world c.loop.here _ _ _ more some c.in-Err.ensures.event c.loop.invariant.0
 
+pub returns-in-Err-clause-ahead : goal.returns-in-Err-clause-ahead
+returns-in-Err-clause-ahead c =
+    let k = c.args.most - (c.loop.counter + 1) in
+    let more : c.args.most - c.loop.counter ≡ suc k = omega (arith, c.loop-test.true) in
+    let same = ap length c.left.ensures in
+    let some : 0 < length (left c.loop.here) = grind (arith, nat_tests, same, c.is_empty.ensures, c.if-is_empty.false) in
+    let ahead = c.loop.invariant.2 in
+    warned_whole c.loop.warned.items ahead.0 c.loop.world c.loop.here k _ _ _ more some c.in-Err.ensures.event ahead.2
+
 pub returns-in-Err-clause-fault : goal.returns-in-Err-clause-fault
 returns-in-Err-clause-fault c =
     let k = c.args.most - (c.loop.counter + 1) in
@@ -43,15 +62,28 @@ loop-preserved c =
     let more : c.args.most - c.loop.counter ≡ suc k = omega (arith, c.loop-test.true) in
     let same = ap length c.left.ensures in
     let some : 0 < length (left c.loop.here) = grind (arith, nat_tests, same, c.is_empty.ensures, c.if-is_empty.false) in
-    let said = rw c.line.ensures.value at c.in_ok-check_event.ensures.said in (
+    let said = rw c.line.ensures.value at c.in_ok-check_event.ensures.said in
+    let ahead = c.loop.invariant.2 in (
       said_more c.loop.told.items k c.loop.world c.loop.here _ _ _ _ _ _ more some c.in-Ok.ensures.event said c.in_ok-check_event.ensures.world c.loop.invariant.0,
       found_next _ _ k c.loop.here _ _ _ more some c.in-Ok.ensures.event c.loop.invariant.1,
+      (
+        _,
+        rw c.line.ensures.value at (c.in_ok-check_event.ensures.latest ahead.0 ahead.1),
+        warned_more c.loop.warned.items ahead.0 c.loop.world c.loop.here k _ _ _ _ _ _ more some c.in-Ok.ensures.event
+            (rw c.line.ensures.value at (c.in_ok-check_event.ensures.ahead ahead.0 ahead.1)) c.in_ok-check_event.ensures.world ahead.2,
+      ),
     )
 
 pub returns-clause-said : goal.returns-clause-said
 returns-clause-said c =
     let none : c.args.most - c.loop.counter ≡ 0 = omega (arith, c.loop-test.false) in
     said_at_end c.loop.told.items c.loop.world c.loop.here _ _ none c.loop.invariant.0
+
+pub returns-clause-ahead : goal.returns-clause-ahead
+returns-clause-ahead c =
+    let none : c.args.most - c.loop.counter ≡ 0 = omega (arith, c.loop-test.false) in
+    let ahead = c.loop.invariant.2 in
+    warned_at_end c.loop.warned.items ahead.0 c.loop.world c.loop.here _ _ none ahead.2
 
 pub returns-clause-fault : goal.returns-clause-fault
 returns-clause-fault c =
