@@ -9,52 +9,69 @@ ghost use Rattle.metering_model.specs.Limits.{most_input_bytes};
 ghost use Rattle.metering_model.specs.Transcript.{line_count};
 ghost use Rattle.metering_model.specs.declared.Refusal.{Refusal};
 ghost use Rattle.input_sections.specs.declared.faults.ScheduleFault.{ScheduleFault};
+ghost use Rattle.input_sections.specs.Sections.{whole_of};
 ghost use Rattle.program_input.specs.Faults.{tells_of_reader, tells_of_writer};
 ghost use Rattle.fault_lines.specs.UnknownKeys.{unknown_from};
 ghost use Rattle.sheet_changes.specs.Changes.{two_sheets_in};
 ghost use Rattle.sheet_changes.specs.Checks.{IsCheckOf, said_of_two_sheets, warned_of_two_sheets};
 
-use crate::changes::nothing_behind;
+use crate::changes::two_sheets;
 use byte_text::line_count;
 use counted_io::{Sink, Source, write_all};
 use fault_lines::{put_fault, put_unknown_keys};
-use input_sections::{ScheduleFault, Unread, read_sheet};
+use input_sections::{ScheduleCode, ScheduleFault, Unread, read_section};
 use program_input::{PlayFault, read_input};
 use std::alloc::{AllocError, Global};
 
-/// Appends the keys of two sections that no reader takes. An error is an allocation failure.
-fn put_warnings(
+/// The first fault of the two sections and of what stands behind them, if there is one.
+fn take_sheets(alloc: Global, text: &[u8]) -> Result<(), ScheduleFault>
+    ensures taken { OnOk result (IsOk (two_sheets_in text.now)) }
+    ensures refused { IfErr result (λ fault. fault ≢ ScheduleFault.OutOfMemory → two_sheets_in text.now ≡ Err fault) }
+{
+    match two_sheets(alloc, text) {
+        Ok((_old, _new)) => Ok(()),
+        Err(fault) => Err(fault),
+    }
+}
+
+/// Appends the keys of two sections that no reader takes.
+fn put_unknown(
     alloc: Global,
     told: &mut Vec<u8>,
     old: &Unread<'_>,
     new: &Unread<'_>,
-) -> Result<(), ScheduleFault>
-    ensures told { OnOk result (told.new.items ≡ told.old.items ++ (unknown_from old.now ++ unknown_from new.now)) }
-    ensures memory { IfErr result (λ fault. fault ≡ ScheduleFault.OutOfMemory) }
+) -> Result<(), AllocError>
+    ensures { OnOk result (told.new.items ≡ told.old.items ++ (unknown_from old.now ++ unknown_from new.now)) }
 {
-    if put_unknown_keys(alloc, told, old).is_err() {
-        return Err(ScheduleFault::OutOfMemory);
-    }
-    if put_unknown_keys(alloc, told, new).is_err() {
-        return Err(ScheduleFault::OutOfMemory);
-    }
-    Ok(())
+    put_unknown_keys(alloc, told, old)?;
+    put_unknown_keys(alloc, told, new)
 }
 
-/// Appends the warnings where both sections are taken and nothing stands behind them; else their first fault is
-/// returned, and nothing is appended.
-fn put_taken(alloc: Global, told: &mut Vec<u8>, text: &[u8]) -> Result<(), ScheduleFault>
-    ensures taken { OnOk result (IsOk (two_sheets_in text.now)
-        × (told.new.items ≡ told.old.items ++ warned_of_two_sheets text.now)) }
-    ensures refused { IfErr result (λ fault. fault ≢ ScheduleFault.OutOfMemory
-        → (two_sheets_in text.now ≡ Err fault) × (told.new ≡ told.old)) }
+/// Appends those of two that are taken, of which the first begins a text.
+fn put_from(
+    alloc: Global,
+    told: &mut Vec<u8>,
+    text: &[u8],
+    old: &Unread<'_>,
+) -> Result<(), AllocError>
+    requires whole { whole_of text.now ≡ Ok old.now }
+    requires taken { IsOk (two_sheets_in text.now) }
+    ensures { OnOk result (told.new.items ≡ told.old.items ++ warned_of_two_sheets text.now) }
 {
-    let unread = Unread::whole(text)?;
-    let (_old, behind) = read_sheet(alloc, &unread)?;
-    let (_new, rest) = read_sheet(alloc, &behind)?;
-    match nothing_behind(&rest) {
-        Ok(()) => put_warnings(alloc, told, &unread, &behind),
-        Err(fault) => Err(fault),
+    match read_section(old, ScheduleCode::Sheet, b"sheet ", 200_000) {
+        Ok(section) => put_unknown(alloc, told, old, &section.rest),
+        Err(_) => Ok(()),
+    }
+}
+
+/// Appends what is warned of in a text of two sections that are taken.
+fn put_warnings(alloc: Global, told: &mut Vec<u8>, text: &[u8]) -> Result<(), AllocError>
+    requires { IsOk (two_sheets_in text.now) }
+    ensures { OnOk result (told.new.items ≡ told.old.items ++ warned_of_two_sheets text.now) }
+{
+    match Unread::whole(text) {
+        Ok(unread) => put_from(alloc, told, text, &unread),
+        Err(_) => Ok(()),
     }
 }
 
@@ -62,15 +79,19 @@ fn put_taken(alloc: Global, told: &mut Vec<u8>, text: &[u8]) -> Result<(), Sched
 /// the first has.
 fn put_check(alloc: Global, text: &[u8], told: &mut Vec<u8>) -> Result<u64, AllocError>
     requires { told.old.items ≡ [] }
-    ensures { IfOk result (λ count.
-        (told.new.items ≡ said_of_two_sheets text.now ++ warned_of_two_sheets text.now)
-        × (count ≡ line_count (said_of_two_sheets text.now))) }
+    ensures told { OnOk result (told.new.items ≡ said_of_two_sheets text.now ++ warned_of_two_sheets text.now) }
+    ensures count { IfOk result (λ count. count ≡ line_count (said_of_two_sheets text.now)) }
+    ensures ahead { IfOk result (λ count. count ≡ 0 → said_of_two_sheets text.now ≡ []) }
 {
-    match put_taken(alloc, told, text) {
-        Ok(()) => Ok(0),
+    match take_sheets(alloc, text) {
+        Ok(()) => {
+            put_warnings(alloc, told, text)?;
+            Ok(0)
+        }
         Err(fault) => {
             put_fault(alloc, told, text, fault)?;
-            Ok(line_count(told) as u64)
+            let count = line_count(told) as u64;
+            Ok(count)
         }
     }
 }
@@ -98,6 +119,8 @@ fn write_check<W: Sink>(alloc: Global, input: &[u8], writer: &mut W) -> Result<u
     ensures said { IfOk result (λ count. Appends (W.contents writer.old) (W.contents writer.new)
         (said_of_two_sheets input.now ++ warned_of_two_sheets input.now)
         × (count ≡ line_count (said_of_two_sheets input.now))) }
+    ensures ahead { result ≡ Ok 0 → (said_of_two_sheets input.now ≡ [])
+        × Appends (W.contents writer.old) (W.contents writer.new) (warned_of_two_sheets input.now) }
     ensures prefix { result ≡ Err PlayFault.Write
         → AppendsPrefix (W.contents writer.old) (W.contents writer.new)
         (said_of_two_sheets input.now ++ warned_of_two_sheets input.now) }
