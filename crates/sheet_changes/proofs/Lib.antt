@@ -8,6 +8,7 @@ mod RegionLaws
 mod LikenessLaws
 mod SaidLaws
 mod SortedLists
+mod CheckLaws
 mod ListedDays
 mod ListedLaws
 mod OneListing

@@ -66,7 +66,7 @@ left_behind text u v w old new fault whole first second behind =
     (ok_step_from (sheet_section v) _ (new, w) _ second
     (ap (λ r. r >>= λ (_ : Unit {0}). Ok (old, new)) behind)))
 
-too_long : (text : List ℕ) (fault : ScheduleFault) → 16_777_216 < length text → fault ≡ Refused TooLong 1 → two_sheets_in text ≡ Err fault
+pub too_long : (text : List ℕ) (fault : ScheduleFault) → 16_777_216 < length text → fault ≡ Refused TooLong 1 → two_sheets_in text ≡ Err fault
 unfolding two_sheets_in
 too_long text fault longer is =
     first_fails (whole_of text) _ fault (ap (λ b. holds_or b (Refused TooLong 1) >>= λ (_ : Unit {0}). Ok (record { text = text; from = 0; line = 1 })) (is_longer (length text) 16_777_216 longer) ∙ ap Err (sym is))

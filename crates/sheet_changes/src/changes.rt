@@ -54,7 +54,7 @@ fn nothing_behind(unread: &Unread<'_>) -> Result<(), ScheduleFault>
 
 /// The old sheet and the new one of an input, each in a section of its own.
 #[tactic(auto, unfolding(crate::specs::Changes::two_sheets_in))]
-fn two_sheets(alloc: Global, text: &[u8]) -> Result<(Sheet, Sheet), ScheduleFault>
+pub(crate) fn two_sheets(alloc: Global, text: &[u8]) -> Result<(Sheet, Sheet), ScheduleFault>
     ensures taken { IfOk result (λ both. two_sheets_in text.now ≡ Ok (both.0, both.1)) }
     ensures refused { IfErr result (λ fault. fault ≢ ScheduleFault.OutOfMemory → two_sheets_in text.now ≡ Err fault) }
     ensures rules { IfOk result (λ both. IsSheet both.0 × IsSheet both.1) }
