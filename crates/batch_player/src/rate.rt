@@ -1,10 +1,10 @@
 //! `focusd rate`: the file of one batch.
 
-ghost use Rattle.std.specs.Prelude.{◌≡◌, ◌≢◌, ◌≤◌, List, ℕ, [], Ok, Err, Some, None, IfOk, IfErr, IfSome, OnOk, drop, vec_len};
+ghost use Rattle.std.specs.Prelude.{◌+◌, ◌≡◌, ◌≢◌, ◌≤◌, List, ℕ, [], Ok, Err, Some, None, IfOk, IfErr, IfSome, OnOk, drop, vec_len};
 ghost use Rattle.std.specs.Arc.{arc_value};
-ghost use Rattle.std.specs.Io.KnownBytes.{Appends, Keeps, IsAtEnd};
-ghost use Rattle.metering_model.specs.Limits.{most_agents};
-ghost use Rattle.counted_io.specs.Counts.{Rises, count_after};
+ghost use Rattle.std.specs.Io.KnownBytes.{Appends, IsAtEnd};
+ghost use Rattle.metering_model.specs.Limits.{most_agents, most_input_bytes};
+ghost use Rattle.counted_io.specs.Counts.{count_after};
 ghost use Rattle.counted_io.specs.Reading.{ConsumesAtMost};
 ghost use Rattle.counted_io.specs.Writing.{AppendsPrefix};
 ghost use Rattle.metering_model.specs.Cut.{zero_cut};
@@ -61,15 +61,8 @@ pub fn rate_text<R: Source, W: Sink>(
     ensures section { (fault : ScheduleFault) → result ≡ Err (PlayFault.Schedule fault)
         → IfSome (R.remaining reader.old) (λ input. rated_file period input ≡ Err (PlayFault.Schedule fault)) }
     ensures plain_memory { result ≢ Err (PlayFault.Schedule ScheduleFault.OutOfMemory) }
-    ensures read_fault { result ≡ Err PlayFault.Read
-        → Rises (R.failed_calls reader.old) (R.failed_calls reader.new) }
-    ensures write_fault { result ≡ Err PlayFault.Write
-        → Rises (W.failed_calls writer.old) (W.failed_calls writer.new) }
-    ensures kept { IfErr result (λ fault. fault ≢ PlayFault.Write
-        → Keeps (W.contents writer.old) (W.contents writer.new)
-        × (W.failed_calls writer.new ≡ W.failed_calls writer.old)) }
     ensures untouched { IfErr result (λ fault. fault ≢ PlayFault.Write → writer.new ≡ writer.old) }
-    ensures read { ConsumesAtMost 16_777_217 (R.remaining reader.old) (R.remaining reader.new) }
+    ensures read { ConsumesAtMost (most_input_bytes + 1) (R.remaining reader.old) (R.remaining reader.new) }
 
     // With Ok nothing is left to read.
     ensures end { OnOk result (IsAtEnd (R.remaining reader.new)) }
@@ -108,8 +101,6 @@ fn rate_input_text<W: Sink>(
         → rated_file period input.items ≡ Err (PlayFault.Refused refusal) }
     ensures section { (fault : ScheduleFault) → result ≡ Err (PlayFault.Schedule fault)
         → (fault ≢ ScheduleFault.OutOfMemory) × (rated_file period input.items ≡ Err (PlayFault.Schedule fault)) }
-    ensures write_fault { result ≡ Err PlayFault.Write
-        → Rises (W.failed_calls writer.old) (W.failed_calls writer.new) }
     ensures kept { IfErr result (λ fault. fault ≢ PlayFault.Write → writer.new ≡ writer.old) }
     ensures writes { W.failed_calls writer.new
         ≡ count_after (tells_of_writer result) (W.failed_calls writer.old) }
@@ -145,8 +136,6 @@ pub fn rate_batch<W: Sink>(
         → file_by sheet.now issuer.now period input.items ≡ Err refusal }
     ensures memory { result ≡ Err PlayFault.OutOfMemory
         → journaled_in sheet.now issuer.now input.items ≡ Ok (batch_of input.items) }
-    ensures write_fault { result ≡ Err PlayFault.Write
-        → Rises (W.failed_calls writer.old) (W.failed_calls writer.new) }
     ensures kept { IfErr result (λ fault. fault ≢ PlayFault.Write → writer.new ≡ writer.old) }
 
     // `Write` comes of one failed call, and no other call fails.

@@ -4,6 +4,7 @@
 
 mod counting;
 mod devices;
+pub mod laws;
 mod reading;
 mod writing;
 

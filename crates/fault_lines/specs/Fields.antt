@@ -3,6 +3,7 @@ use Rattle.std.specs.Prelude.{◌≡◌, ℕ, ◌-◌, Bool, true, false, not, �
 use Rattle.std.specs.List.{slice_get}
 use Rattle.std.specs.Option.{is_some, option_and_then}
 use Rattle.std.specs.Result.{result_ok}
+use Rattle.metering_model.specs.Limits.{last_index, last_sequence}
 use Rattle.metering_model.specs.Batch.{is_empty, is_priced, is_text}
 use Rattle.metering_model.specs.BatchReading.{fields_in, is_same, kind_in, lines_in, tags_in, whole_in}
 use Rattle.metering_model.specs.Dates.{stamp_in}
@@ -76,7 +77,7 @@ reading_rules k start end account resource key value commitment tags region =
 
 abbrev pub amendment_rules : (seq index value : List ℕ) → List (RecordField × Bool)
 amendment_rules seq index value =
-    (field.Sequence, is_some (whole_in 1 1_000_000 seq)) ∷ (field.Index, is_some (whole_in 0 999 index))
+    (field.Sequence, is_some (whole_in 1 last_sequence seq)) ∷ (field.Index, is_some (whole_in 0 last_index index))
     ∷ (field.Value, is_some (result_ok (value_in value))) ∷ []
 
 -- none of a line that has no letter, or another number of fields

@@ -3,6 +3,7 @@ use Rattle.std.specs.Prelude.{ℕ, ◌+◌, ◌-◌, nat_le, if◌then◌else◌
 use Rattle.std.specs.Option.{is_some, option_and_then, option_map}
 use Rattle.std.specs.Str.{is_utf8}
 use Rattle.metering_model.specs.FirstFailure.{◌>>=◌, holds_or}
+use Rattle.metering_model.specs.Limits.{most_issuer_lines, most_sheet_lines}
 use Rattle.metering_model.specs.Batch.{Amends, Reads, Record}
 use Rattle.metering_model.specs.Dates.{day_of}
 use Rattle.metering_model.specs.declared.Refusal.{Refusal}
@@ -62,8 +63,8 @@ said_of words reader None = []
 
 -- of a section with a sheet or an issuer, which are the ones with readers of their own; of a text without a head what it is
 abbrev pub reason : List ℕ → ScheduleCode → ℕ → List ℕ
-reason text code.Sheet n = said_of sheet_fault_text sheet_of_text (section_on code.Sheet (codes "sheet ") 200_000 n text)
-reason text code.Issuer n = said_of issuer_fault_text issuer_of_text (section_on code.Issuer (codes "issuer ") 100 n text)
+reason text code.Sheet n = said_of sheet_fault_text sheet_of_text (section_on code.Sheet (codes "sheet ") most_sheet_lines n text)
+reason text code.Issuer n = said_of issuer_fault_text issuer_of_text (section_on code.Issuer (codes "issuer ") most_issuer_lines n text)
 reason text code.Head n = kind_words text
 reason text code.Nodes n = []
 reason text code.Agents n = []

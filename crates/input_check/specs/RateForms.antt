@@ -1,6 +1,7 @@
 -- Of which parts an input that is to be rated is joined, and what its sections are read as.
 use Rattle.std.specs.Prelude.{◌≡◌, ℕ, ◌≤◌, false, List, [], ◌++◌, length, Option, Some, None, Result, Ok, codes, IsTrue}
 use Rattle.std.specs.Str.{is_utf8}
+use Rattle.metering_model.specs.Limits.{most_input_bytes, most_issuer_lines, most_sheet_lines}
 use Rattle.metering_model.specs.Schedule.{TextLines, AreLines, lines_text, section_text}
 use Rattle.price_sheet.specs.SheetReading.{sheet_of_text}
 use Rattle.sheet_text.specs.Samples.{sample_issuer}
@@ -34,7 +35,7 @@ IsPart most word read missing None behind given = (begins_with word behind ≡ f
 -- The input joins these parts, and its sections are read as what is given.
 pub record IsRateForm (text : List ℕ) (given : RateInput) (f : RateForm) : Type 0 where
   pub joined : text ≡ rate_form_text f
-  pub short : length text ≤ 16_777_216
-  pub sheet : IsPart 200_000 (codes "sheet ") sheet_of_text default_sheet f.sheet (text_behind_sheet f) given.sheet
-  pub issuer : IsPart 100 (codes "issuer ") issuer_of_text sample_issuer f.issuer f.batch given.issuer
+  pub short : length text ≤ most_input_bytes
+  pub sheet : IsPart most_sheet_lines (codes "sheet ") sheet_of_text default_sheet f.sheet (text_behind_sheet f) given.sheet
+  pub issuer : IsPart most_issuer_lines (codes "issuer ") issuer_of_text sample_issuer f.issuer f.batch given.issuer
   pub batch : f.batch ≡ given.batch

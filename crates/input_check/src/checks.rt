@@ -1,8 +1,9 @@
 //! `focusd check`: what is wrong with an input.
 
-ghost use Rattle.std.specs.Prelude.{◌≡◌, ◌≢◌, ◌⊎◌, ◌++◌, ℕ, List, [], Ok, Err, IfOk, IfErr, OnOk};
+ghost use Rattle.std.specs.Prelude.{◌+◌, ◌≡◌, ◌≢◌, ◌⊎◌, ◌++◌, ℕ, List, [], Ok, Err, IfOk, IfErr, OnOk};
 ghost use Rattle.std.specs.Io.KnownBytes.{Appends, IsAtEnd};
-ghost use Rattle.counted_io.specs.Counts.{Rises, count_after};
+ghost use Rattle.metering_model.specs.Limits.{most_input_bytes};
+ghost use Rattle.counted_io.specs.Counts.{count_after};
 ghost use Rattle.counted_io.specs.Reading.{ConsumesAtMost};
 ghost use Rattle.counted_io.specs.Writing.{AppendsPrefix};
 ghost use Rattle.metering_model.specs.Transcript.{line_count};
@@ -45,8 +46,6 @@ fn write_said<W: Sink>(text: &[u8], count: u64, writer: &mut W) -> Result<u64, P
     ensures prefix { result ≡ Err PlayFault.Write
         → AppendsPrefix (W.contents writer.old) (W.contents writer.new) text.now }
     ensures fault { IfErr result (λ fault. fault ≡ PlayFault.Write) }
-    ensures write_fault { result ≡ Err PlayFault.Write
-        → Rises (W.failed_calls writer.old) (W.failed_calls writer.new) }
     ensures writes { W.failed_calls writer.new
         ≡ count_after (tells_of_writer result) (W.failed_calls writer.old) }
 {
@@ -70,8 +69,6 @@ fn write_faults<W: Sink>(
         → AppendsPrefix (W.contents writer.old) (W.contents writer.new) (written_of_input_as kind input.now) }
     ensures fault { IfErr result (λ fault. (fault ≡ PlayFault.Write) ⊎ (fault ≡ PlayFault.OutOfMemory)) }
     ensures memory { result ≡ Err PlayFault.OutOfMemory → writer.new ≡ writer.old }
-    ensures write_fault { result ≡ Err PlayFault.Write
-        → Rises (W.failed_calls writer.old) (W.failed_calls writer.new) }
     ensures writes { W.failed_calls writer.new
         ≡ count_after (tells_of_writer result) (W.failed_calls writer.old) }
 {
@@ -118,13 +115,9 @@ pub fn check_text_as<R: Source, W: Sink>(
     ensures untouched { IfErr result (λ fault. fault ≢ PlayFault.Write → writer.new ≡ writer.old) }
     ensures no_section { (fault : ScheduleFault) → result ≢ Err (PlayFault.Schedule fault) }
     ensures no_refusal { (refusal : Refusal) → result ≢ Err (PlayFault.Refused refusal) }
-    ensures read { ConsumesAtMost 16_777_217 (R.remaining reader.old) (R.remaining reader.new) }
+    ensures read { ConsumesAtMost (most_input_bytes + 1) (R.remaining reader.old) (R.remaining reader.new) }
 
     // `Read` and `Write` come of one failed call each, and no other call fails.
-    ensures read_fault { result ≡ Err PlayFault.Read
-        → Rises (R.failed_calls reader.old) (R.failed_calls reader.new) }
-    ensures write_fault { result ≡ Err PlayFault.Write
-        → Rises (W.failed_calls writer.old) (W.failed_calls writer.new) }
     ensures reads { R.failed_calls reader.new
         ≡ count_after (tells_of_reader result) (R.failed_calls reader.old) }
     ensures writes { W.failed_calls writer.new
@@ -163,13 +156,9 @@ pub fn check_text<R: Source, W: Sink>(
     ensures untouched { IfErr result (λ fault. fault ≢ PlayFault.Write → writer.new ≡ writer.old) }
     ensures no_section { (fault : ScheduleFault) → result ≢ Err (PlayFault.Schedule fault) }
     ensures no_refusal { (refusal : Refusal) → result ≢ Err (PlayFault.Refused refusal) }
-    ensures read { ConsumesAtMost 16_777_217 (R.remaining reader.old) (R.remaining reader.new) }
+    ensures read { ConsumesAtMost (most_input_bytes + 1) (R.remaining reader.old) (R.remaining reader.new) }
 
     // `Read` and `Write` come of one failed call each, and no other call fails.
-    ensures read_fault { result ≡ Err PlayFault.Read
-        → Rises (R.failed_calls reader.old) (R.failed_calls reader.new) }
-    ensures write_fault { result ≡ Err PlayFault.Write
-        → Rises (W.failed_calls writer.old) (W.failed_calls writer.new) }
     ensures reads { R.failed_calls reader.new
         ≡ count_after (tells_of_reader result) (R.failed_calls reader.old) }
     ensures writes { W.failed_calls writer.new

@@ -1,9 +1,9 @@
 //! The first file of a period in what a source gives.
 
-ghost use Rattle.std.specs.Prelude.{◌≡◌, ◌<◌, ◌≤◌, ℕ, List, [], Some, None, Ok, Err, IfOk, IfErr, IfSome, OnOk, OnErr};
+ghost use Rattle.std.specs.Prelude.{◌+◌, ◌≡◌, ◌<◌, ◌≤◌, ℕ, List, [], Some, None, Ok, Err, IfOk, IfErr, IfSome, OnOk, OnErr};
 ghost use Rattle.std.specs.Io.KnownBytes.{Appends, IsAtEnd};
 ghost use Rattle.metering_model.specs.Limits.{most_transcript_bytes};
-ghost use Rattle.counted_io.specs.Counts.{Rises, count_after};
+ghost use Rattle.counted_io.specs.Counts.{count_after};
 ghost use Rattle.counted_io.specs.Reading.{ConsumesAtMost};
 ghost use Rattle.period_file.specs.Faults.{tells_of_reader, tells_of_writer};
 ghost use Rattle.period_file.specs.Files.{AppendsFront, AppendsLess, AppendsPart, IsFileOf, IsRefusal, file_in};
@@ -59,7 +59,6 @@ fn copy_ahead<W: Sink>(unread: &mut Unread, writer: &mut W, most: u64) -> Result
     ensures stopped { OnErr result (StopsAhead most unread.old.bytes (W.contents writer.old) (W.contents writer.new)) }
     ensures fault { IfErr result (λ fault. fault ≡ FileFault.Write) }
     ensures read { unread.new.read ≡ unread.old.read }
-    ensures write_fault { OnErr result (Rises (W.failed_calls writer.old) (W.failed_calls writer.new)) }
     ensures count { W.failed_calls writer.new
         ≡ count_after (tells_of_writer result) (W.failed_calls writer.old) }
 {
@@ -90,7 +89,6 @@ fn copy_lines<S: Source, W: Sink>(
     ensures within { IfOk result (λ lacking. unread.new.read ≤ most_transcript_bytes) }
     ensures most { unread.new.read ≤ 4_294_967_297 }
     ensures copying { IfErr result (λ fault. IsOfCopying fault × IsBeyond fault unread.new.read) }
-    ensures write_fault { result ≡ Err FileFault.Write → Rises (W.failed_calls writer.old) (W.failed_calls writer.new) }
     ensures reads { S.failed_calls source.new
         ≡ count_after (tells_of_reader result) (S.failed_calls source.old) }
     ensures writes { W.failed_calls writer.new
@@ -158,10 +156,6 @@ pub fn file_text<R: Source, W: Sink>(
         (W.contents writer.old) (W.contents writer.new) }
 
     // `Read` and `Write` come of one failed call each, and no other call fails.
-    ensures read_fault { result ≡ Err FileFault.Read
-        → Rises (R.failed_calls reader.old) (R.failed_calls reader.new) }
-    ensures write_fault { result ≡ Err FileFault.Write
-        → Rises (W.failed_calls writer.old) (W.failed_calls writer.new) }
     ensures reads { R.failed_calls reader.new
         ≡ count_after (tells_of_reader result) (R.failed_calls reader.old) }
     ensures writes { W.failed_calls writer.new
@@ -169,7 +163,7 @@ pub fn file_text<R: Source, W: Sink>(
 
     // With Ok nothing is left to read.
     ensures end { OnOk result (IsAtEnd (R.remaining reader.new)) }
-    ensures read { ConsumesAtMost 4_294_967_297 (R.remaining reader.old) (R.remaining reader.new) }
+    ensures read { ConsumesAtMost (most_transcript_bytes + 1) (R.remaining reader.old) (R.remaining reader.new) }
 {
     let mut unread = Unread::new(alloc);
     let Some(count) = find_line_above(period, &mut unread, reader)? else {

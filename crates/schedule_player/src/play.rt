@@ -2,8 +2,8 @@
 
 ghost use Rattle.std.specs.Prelude.{◌≡◌, ◌≢◌, ◌+◌, ◌≤◌, ◌⊎◌, List, ℕ, All, Ok, Err, Some, IfOk, IfErr, IfSome, IsOk, OnOk};
 ghost use Rattle.std.specs.Io.KnownBytes.{Appends, IsAtEnd, Keeps};
-ghost use Rattle.metering_model.specs.Limits.{most_agents, most_nodes};
-ghost use Rattle.counted_io.specs.Counts.{Rises, count_after};
+ghost use Rattle.metering_model.specs.Limits.{most_agents, most_nodes, most_input_bytes};
+ghost use Rattle.counted_io.specs.Counts.{count_after};
 ghost use Rattle.counted_io.specs.Reading.{ConsumesAtMost};
 ghost use Rattle.counted_io.specs.Writing.{AppendsPrefix};
 ghost use Rattle.metering_model.specs.declared.Refusal.{Refusal};
@@ -65,7 +65,6 @@ fn play_schedule<W: Sink>(
         ⊎ AppendsFirst (W.contents writer.old) (W.contents writer.new)
         (opening schedule.entry.voters schedule.entry.observers schedule.entry.agents schedule.entry.sheet schedule.entry.issuer)
         schedule.entry.events.items }
-    ensures fault { result ≡ Err PlayFault.Write → Rises (W.failed_calls writer.old) (W.failed_calls writer.new) }
     ensures count { W.failed_calls writer.new ≡ count_after (tells_of_writer result) (W.failed_calls writer.old) }
     ensures others { (result ≢ Err PlayFault.Read) × ((fault : ScheduleFault) → result ≢ Err (PlayFault.Schedule fault))
         × ((refusal : Refusal) → result ≢ Err (PlayFault.Refused refusal)) }
@@ -103,8 +102,6 @@ fn play_input<W: Sink>(alloc: Global, input: &[u8], writer: &mut W) -> Result<()
         × IsPrefixOfTranscript (Some input.now) input.now text
         × Appends (W.contents writer.old) (W.contents writer.new) text }
     ensures want { result ≡ Err PlayFault.OutOfMemory → IsOk (group_in input.now) }
-    ensures write_fault { result ≡ Err PlayFault.Write
-        → Rises (W.failed_calls writer.old) (W.failed_calls writer.new) }
     ensures untouched { (fault : ScheduleFault) → result ≡ Err (PlayFault.Schedule fault) → writer.new ≡ writer.old }
     ensures writes { W.failed_calls writer.new
         ≡ count_after (tells_of_writer result) (W.failed_calls writer.old) }
@@ -142,14 +139,10 @@ pub fn play_text<R: Source, W: Sink>(
         × Appends (W.contents writer.old) (W.contents writer.new) text }
     ensures plain_memory { result ≢ Err (PlayFault.Schedule ScheduleFault.OutOfMemory) }
     ensures unrefused { (refusal : Refusal) → result ≢ Err (PlayFault.Refused refusal) }
-    ensures read_fault { result ≡ Err PlayFault.Read
-        → Rises (R.failed_calls reader.old) (R.failed_calls reader.new) }
-    ensures write_fault { result ≡ Err PlayFault.Write
-        → Rises (W.failed_calls writer.old) (W.failed_calls writer.new) }
     ensures untouched { IfErr result
         (λ fault. fault ≢ PlayFault.Write → fault ≢ PlayFault.OutOfMemory
         → writer.new ≡ writer.old) }
-    ensures read { ConsumesAtMost 16_777_217 (R.remaining reader.old) (R.remaining reader.new) }
+    ensures read { ConsumesAtMost (most_input_bytes + 1) (R.remaining reader.old) (R.remaining reader.new) }
 
     // With Ok nothing is left to read.
     ensures end { OnOk result (IsAtEnd (R.remaining reader.new)) }

@@ -117,8 +117,8 @@ agents_of bs = fold max 1 (map (λ b. (batch_of b.text).agent) bs)
 abbrev pub are_due : ℕ → ℕ → List Offered → Bool
 are_due base p bs = list_all (λ b. is_due base p (batch_of b.text)) bs
 
--- The last period in which a reading starts: no reading starts behind it, unless it is the last that a group has, and one starts in
--- it, unless it is the first.
+-- The last period in which a reading starts, and at most the last that a group has: no reading starts after it, unless it is that
+-- one; and one starts in it, or where it is that one in it or after it, unless it is the first.
 pub record IsLastStart (base : ℕ) (bs : List Offered) (p : ℕ) : Type 0 where
   pub within : p ≤ last_period
   pub none_behind : (p ≡ last_period) ⊎ (are_due base p bs ≡ true)

@@ -3,7 +3,7 @@
 ghost use Rattle.std.specs.Prelude.{◌≡◌, ◌≢◌, ◌⊎◌, ◌++◌, ◌+◌, ◌≤◌, ℕ, List, Ok, Err, IfOk, IfErr, OnOk, [], ◌∷◌, drop, length, map};
 ghost use Rattle.std.specs.Arc.{arc_value};
 ghost use Rattle.std.specs.Io.KnownBytes.{Appends, IsAtEnd};
-ghost use Rattle.counted_io.specs.Counts.{Rises, count_after};
+ghost use Rattle.counted_io.specs.Counts.{count_after};
 ghost use Rattle.counted_io.specs.Reading.{ConsumesAtMost};
 ghost use Rattle.counted_io.specs.Writing.{AppendsPrefix};
 ghost use Rattle.metering_model.specs.Limits.{most_input_bytes};
@@ -136,8 +136,6 @@ fn write_said<W: Sink>(said: &[u8], count: u64, writer: &mut W) -> Result<u64, P
     ensures prefix { result ≡ Err PlayFault.Write
         → AppendsPrefix (W.contents writer.old) (W.contents writer.new) said.now }
     ensures fault { IfErr result (λ fault. fault ≡ PlayFault.Write) }
-    ensures write_fault { result ≡ Err PlayFault.Write
-        → Rises (W.failed_calls writer.old) (W.failed_calls writer.new) }
     ensures writes { W.failed_calls writer.new
         ≡ count_after (tells_of_writer result) (W.failed_calls writer.old) }
 {
@@ -159,8 +157,6 @@ fn write_checked<W: Sink>(alloc: Global, input: &[u8], writer: &mut W) -> Result
         (said_of_input input.now ++ warned_of_input input.now) }
     ensures fault { IfErr result (λ fault. (fault ≡ PlayFault.Write) ⊎ (fault ≡ PlayFault.OutOfMemory)) }
     ensures memory { result ≡ Err PlayFault.OutOfMemory → writer.new ≡ writer.old }
-    ensures write_fault { result ≡ Err PlayFault.Write
-        → Rises (W.failed_calls writer.old) (W.failed_calls writer.new) }
     ensures writes { W.failed_calls writer.new
         ≡ count_after (tells_of_writer result) (W.failed_calls writer.old) }
 {
@@ -205,10 +201,6 @@ pub fn check_schedule_input<R: Source, W: Sink>(
     ensures end { result ≡ Ok 0 → IsAtEnd (R.remaining reader.new) }
 
     // `Read` and `Write` come of one failed call each, and no other call fails.
-    ensures read_fault { result ≡ Err PlayFault.Read
-        → Rises (R.failed_calls reader.old) (R.failed_calls reader.new) }
-    ensures write_fault { result ≡ Err PlayFault.Write
-        → Rises (W.failed_calls writer.old) (W.failed_calls writer.new) }
     ensures reads { R.failed_calls reader.new
         ≡ count_after (tells_of_reader result) (R.failed_calls reader.old) }
     ensures writes { W.failed_calls writer.new

@@ -4,7 +4,7 @@ ghost use Rattle.std.specs.Prelude.{◌≡◌, ◌≢◌, ◌⊎◌, ◌+◌, �
 ghost use Rattle.std.specs.Arc.{arc_value};
 ghost use Rattle.std.specs.Io.KnownBytes.{Appends, IsAtEnd};
 ghost use Rattle.std.specs.declared.alloc.Global.{Global};
-ghost use Rattle.counted_io.specs.Counts.{Rises, count_after};
+ghost use Rattle.counted_io.specs.Counts.{count_after};
 ghost use Rattle.counted_io.specs.Reading.{ConsumesAtMost};
 ghost use Rattle.counted_io.specs.Writing.{AppendsPrefix};
 ghost use Rattle.metering_model.specs.Limits.{last_period, most_agents, most_input_bytes, most_nodes};
@@ -206,8 +206,6 @@ fn input_of<R: Source>(alloc: Global, reader: &mut R) -> Result<Vec<u8>, WriteFa
     ensures section { (fault : ScheduleFault) → result ≡ Err (WriteFault.Section fault)
         → (fault ≡ ScheduleFault.Refused ScheduleCode.TooLong 1)
         × IfSome (R.remaining reader.old) (λ input. most_input_bytes < length input) }
-    ensures fault { result ≡ Err WriteFault.Read
-        → Rises (R.failed_calls reader.old) (R.failed_calls reader.new) }
     ensures taken { ConsumesAtMost (most_input_bytes + 1) (R.remaining reader.old) (R.remaining reader.new) }
     ensures count { R.failed_calls reader.new
         ≡ count_after (tells_of_reader result) (R.failed_calls reader.old) }
@@ -228,7 +226,6 @@ fn write_text<W: Sink>(text: &[u8], writer: &mut W) -> Result<(), WriteFault>
     ensures written { OnOk result (Appends (W.contents writer.old) (W.contents writer.new) text.now) }
     ensures prefix { OnErr result (AppendsPrefix (W.contents writer.old) (W.contents writer.new) text.now) }
     ensures fault { IfErr result (λ fault. fault ≡ WriteFault.Write) }
-    ensures write_fault { OnErr result (Rises (W.failed_calls writer.old) (W.failed_calls writer.new)) }
     ensures writes { W.failed_calls writer.new
         ≡ count_after (tells_of_writer result) (W.failed_calls writer.old) }
     ensures reads { tells_of_reader result ≡ false }
@@ -274,10 +271,6 @@ pub fn schedule_text<R: Source, W: Sink>(
     ensures taken { (result ≡ Err WriteFault.TooLong) ⊎ (result ≡ Err WriteFault.NotClosed)
         → IfSome (R.remaining reader.old) IsTaken }
     ensures plain_memory { result ≢ Err (WriteFault.Section ScheduleFault.OutOfMemory) }
-    ensures read_fault { result ≡ Err WriteFault.Read
-        → Rises (R.failed_calls reader.old) (R.failed_calls reader.new) }
-    ensures write_fault { result ≡ Err WriteFault.Write
-        → Rises (W.failed_calls writer.old) (W.failed_calls writer.new) }
     ensures untouched { IfErr result (λ fault. fault ≢ WriteFault.Write → writer.new ≡ writer.old) }
     ensures read { ConsumesAtMost (most_input_bytes + 1) (R.remaining reader.old) (R.remaining reader.new) }
 

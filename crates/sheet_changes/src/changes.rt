@@ -2,7 +2,7 @@
 
 ghost use Rattle.std.specs.Prelude.{◌≡◌, ◌≢◌, ◌↔◌, ◌+◌, [], ℕ, List, Ok, Err, IfOk, IfErr, IfSome, IsTrue, OnOk};
 ghost use Rattle.std.specs.Io.KnownBytes.{Appends, IsAtEnd};
-ghost use Rattle.counted_io.specs.Counts.{Rises, count_after};
+ghost use Rattle.counted_io.specs.Counts.{count_after};
 ghost use Rattle.counted_io.specs.Reading.{ConsumesAtMost};
 ghost use Rattle.counted_io.specs.Writing.{AppendsPrefix};
 ghost use Rattle.metering_model.specs.Limits.{most_input_bytes};
@@ -146,8 +146,6 @@ fn write_changes<W: Sink>(
     ensures untouched { IfErr result (λ fault. fault ≢ PlayFault.Write → writer.new ≡ writer.old) }
     ensures others { (result ≢ Err PlayFault.Read) × ((fault : ScheduleFault) → result ≢ Err (PlayFault.Schedule fault))
         × ((refusal : Refusal) → result ≢ Err (PlayFault.Refused refusal)) }
-    ensures write_fault { result ≡ Err PlayFault.Write
-        → Rises (W.failed_calls writer.old) (W.failed_calls writer.new) }
     ensures writes { W.failed_calls writer.new
         ≡ count_after (tells_of_writer result) (W.failed_calls writer.old) }
 {
@@ -179,8 +177,6 @@ fn compare_input<W: Sink>(
         → (fault ≢ ScheduleFault.OutOfMemory) × (two_sheets_in input.now ≡ Err fault) }
     ensures untouched { IfErr result (λ fault. fault ≢ PlayFault.Write → writer.new ≡ writer.old) }
     ensures others { (result ≢ Err PlayFault.Read) × ((refusal : Refusal) → result ≢ Err (PlayFault.Refused refusal)) }
-    ensures write_fault { result ≡ Err PlayFault.Write
-        → Rises (W.failed_calls writer.old) (W.failed_calls writer.new) }
     ensures writes { W.failed_calls writer.new
         ≡ count_after (tells_of_writer result) (W.failed_calls writer.old) }
 {
@@ -230,10 +226,6 @@ pub fn sheets_text<R: Source, W: Sink>(
     ensures end_unlike { result ≡ Err SheetsFault.Unlike → IsAtEnd (R.remaining reader.new) }
 
     // `Read` and `Write` come of one failed call each, and no other call fails.
-    ensures read_fault { result ≡ Err (SheetsFault.Input PlayFault.Read)
-        → Rises (R.failed_calls reader.old) (R.failed_calls reader.new) }
-    ensures write_fault { result ≡ Err (SheetsFault.Input PlayFault.Write)
-        → Rises (W.failed_calls writer.old) (W.failed_calls writer.new) }
     ensures reads { R.failed_calls reader.new
         ≡ count_after (tells_of_reader (of_input tt result)) (R.failed_calls reader.old) }
     ensures writes { W.failed_calls writer.new

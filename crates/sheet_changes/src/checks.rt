@@ -2,7 +2,7 @@
 
 ghost use Rattle.std.specs.Prelude.{◌≡◌, ◌≢◌, ◌⊎◌, ◌+◌, ◌++◌, ℕ, List, [], Ok, Err, IfOk, IfErr, IsOk, OnOk};
 ghost use Rattle.std.specs.Io.KnownBytes.{Appends, IsAtEnd};
-ghost use Rattle.counted_io.specs.Counts.{Rises, count_after};
+ghost use Rattle.counted_io.specs.Counts.{count_after};
 ghost use Rattle.counted_io.specs.Reading.{ConsumesAtMost};
 ghost use Rattle.counted_io.specs.Writing.{AppendsPrefix};
 ghost use Rattle.metering_model.specs.Limits.{most_input_bytes};
@@ -103,8 +103,6 @@ fn write_told<W: Sink>(told: &[u8], count: u64, writer: &mut W) -> Result<u64, P
     ensures prefix { result ≡ Err PlayFault.Write
         → AppendsPrefix (W.contents writer.old) (W.contents writer.new) told.now }
     ensures fault { IfErr result (λ fault. fault ≡ PlayFault.Write) }
-    ensures write_fault { result ≡ Err PlayFault.Write
-        → Rises (W.failed_calls writer.old) (W.failed_calls writer.new) }
     ensures writes { W.failed_calls writer.new
         ≡ count_after (tells_of_writer result) (W.failed_calls writer.old) }
 {
@@ -126,8 +124,6 @@ fn write_check<W: Sink>(alloc: Global, input: &[u8], writer: &mut W) -> Result<u
         (said_of_two_sheets input.now ++ warned_of_two_sheets input.now) }
     ensures fault { IfErr result (λ fault. (fault ≡ PlayFault.Write) ⊎ (fault ≡ PlayFault.OutOfMemory)) }
     ensures memory { result ≡ Err PlayFault.OutOfMemory → writer.new ≡ writer.old }
-    ensures write_fault { result ≡ Err PlayFault.Write
-        → Rises (W.failed_calls writer.old) (W.failed_calls writer.new) }
     ensures writes { W.failed_calls writer.new
         ≡ count_after (tells_of_writer result) (W.failed_calls writer.old) }
 {
@@ -173,10 +169,6 @@ pub fn check_two_sheets<R: Source, W: Sink>(
     ensures end { result ≡ Ok 0 → IsAtEnd (R.remaining reader.new) }
 
     // `Read` and `Write` come of one failed call each, and no other call fails.
-    ensures read_fault { result ≡ Err PlayFault.Read
-        → Rises (R.failed_calls reader.old) (R.failed_calls reader.new) }
-    ensures write_fault { result ≡ Err PlayFault.Write
-        → Rises (W.failed_calls writer.old) (W.failed_calls writer.new) }
     ensures reads { R.failed_calls reader.new
         ≡ count_after (tells_of_reader result) (R.failed_calls reader.old) }
     ensures writes { W.failed_calls writer.new

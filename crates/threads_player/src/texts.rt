@@ -2,7 +2,7 @@
 
 ghost use Rattle.std.specs.Prelude.{◌≡◌, ◌≢◌, Err, OnOk, IfOk, IfErr};
 ghost use Rattle.std.specs.Io.KnownBytes.{Appends};
-ghost use Rattle.counted_io.specs.Counts.{Rises, count_after};
+ghost use Rattle.counted_io.specs.Counts.{count_after};
 ghost use Rattle.counted_io.specs.Writing.{AppendsPrefix};
 ghost use Rattle.node_threads.specs.Runs.{Run as ModelRun};
 ghost use Rattle.threads_player.specs.Faults.{tells_of_writer};
@@ -52,8 +52,6 @@ pub fn threads_text<R: Threads + Wait + Sync, W: Sink>(
     ensures prefix { result ≡ Err ThreadsFault.Write → (run : ModelRun) × IsRunOf size run
         × AppendsPrefix (W.contents writer.old) (W.contents writer.new) (report_text run) }
     ensures refused { result ≡ Err ThreadsFault.Refused → IsSheetRefused }
-    ensures write_fault { result ≡ Err ThreadsFault.Write
-        → Rises (W.failed_calls writer.old) (W.failed_calls writer.new) }
     ensures untouched { IfErr result (λ fault. fault ≢ ThreadsFault.Write → writer.new ≡ writer.old) }
 
     // `Write` comes of one failed call, and no other call fails.

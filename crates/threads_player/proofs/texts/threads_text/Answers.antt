@@ -1,9 +1,6 @@
 use Rattle.std.proofs.Common.{rules}
 use Rattle.threads_player.proofs.texts.threads_text.Goals as goal
 
-pub returns-in_default-clause-write_fault : goal.returns-in_default-clause-write_fault
-returns-in_default-clause-write_fault g c = search rules
-
 pub returns-in_default-clause-writes : goal.returns-in_default-clause-writes
 returns-in_default-clause-writes g c = search rules
 
