@@ -5,7 +5,6 @@ use Rattle.counted_io.specs.declared.reading.Input.{Input}
 use Rattle.counted_io.specs.declared.reading.Input.TheVariants.{Whole, TooLong}
 use Rattle.counted_io.specs.declared.reading.ReadFault.{ReadFault}
 use Rattle.counted_io.specs.declared.reading.ReadFault.TheVariants.{Failed, OutOfMemory}
-use Rattle.counted_io.specs.Counts.{Rises}
 use Rattle.counted_io.specs.Reading.{EndsWithin, IsAnswer, is_device_fault}
 use Rattle.metering_model.specs.declared.Refusal.{Refusal}
 use Rattle.input_sections.specs.declared.faults.ScheduleCode.TheVariants as codes
@@ -35,12 +34,6 @@ section_read (Ok (Whole bytes)) limit known is fault told = absurd (cc)
 section_read (Ok TooLong) limit known is fault told = (sym (same_section _ fault told), is)
 section_read (Err Failed) limit known is fault told = absurd (cc)
 section_read (Err OutOfMemory) limit known is fault told = absurd (cc)
-
-pub fault_read : (r : Result Input ReadFault) (old new : ℕ) → (r ≡ Err Failed → Rises old new) → whole_input r ≡ Err Read → Rises old new
-fault_read (Ok (Whole bytes)) old new rises told = absurd (cc)
-fault_read (Ok TooLong) old new rises told = absurd (cc)
-fault_read (Err Failed) old new rises told = rises refl
-fault_read (Err OutOfMemory) old new rises told = absurd (cc)
 
 pub reader_told : (r : Result Input ReadFault) → is_device_fault r ≡ tells_of_reader (whole_input r)
 reader_told (Ok (Whole bytes)) = refl

@@ -1,6 +1,6 @@
 use Rattle.std.proofs.Common.{ap, ◌∙◌}
 use Rattle.counted_io.specs.Counts.{count_after}
-use Rattle.program_input.proofs.ReadInputs.{whole_read, end_read, section_read, fault_read, reader_told, no_write_told, no_refusal_told}
+use Rattle.program_input.proofs.ReadInputs.{whole_read, end_read, section_read, reader_told, no_write_told, no_refusal_told}
 use Rattle.program_input.proofs.inputs.read_input.Goals as goal
 
 pub returns-clause-whole : goal.returns-clause-whole
@@ -12,9 +12,6 @@ returns-clause-end g c = rw c.answer_of.ensures (end_read c.read_to_limit.result
 pub returns-clause-section : goal.returns-clause-section
 returns-clause-section g c =
     rw c.answer_of.ensures (section_read c.read_to_limit.result 16_777_216 (g.R.Source.remaining c.args.reader.now) c.read_to_limit.ensures.answer)
-
-pub returns-clause-fault : goal.returns-clause-fault
-returns-clause-fault g c = rw c.answer_of.ensures (fault_read c.read_to_limit.result _ _ c.read_to_limit.ensures.fault)
 
 pub returns-clause-count : goal.returns-clause-count
 returns-clause-count g c =
