@@ -7,6 +7,8 @@ pub mod Latest
 pub mod LatestKept
 pub mod AheadWalks
 pub mod UnknownLaws
+pub mod KeysOnLine
+pub mod CheckLaws
 mod WorkedKinds
 mod WorkedAhead
 mod WorkedUnknown

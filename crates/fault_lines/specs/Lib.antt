@@ -1,3 +1,4 @@
+pub mod Checked
 pub mod Fields
 pub mod TextKinds
 pub mod Told

@@ -14,7 +14,7 @@ use Rattle.sheet_text.specs.declared.names.Key.TheVariants as keys
 use Rattle.input_sections.specs.declared.faults.ScheduleCode.TheVariants as code
 use Rattle.input_sections.specs.declared.faults.ScheduleFault.{ScheduleFault}
 use Rattle.input_sections.specs.Sections.{Section, Unread, begins_with, section_in}
-use Rattle.fault_lines.specs.Told.{told_at}
+use Rattle.fault_lines.specs.Told.{from_line, told_at}
 
 -- ---- the keys that no reader takes
 
@@ -170,3 +170,7 @@ behind_sheet u (Err fault) = unknown_from_issuer u
 -- the section of a sheet, and that of an issuer, each where what is left begins with it
 unfoldable pub unknown_from : Unread → List ℕ
 unknown_from u = behind_sheet u (section_in code.Sheet (codes "sheet ") most_sheet_lines u)
+
+-- of the sections of a sheet and of an issuer that stand from a line of a text on, each where it is there
+unfoldable pub unknown_on : ℕ → List ℕ → List ℕ
+unknown_on n text = elim (from_line code.Sheet n text) [ Ok u ↦ unknown_from u | Err fault ↦ [] ]

@@ -3,6 +3,7 @@
 
 mod ahead;
 mod batches;
+mod checks;
 mod fields;
 pub mod laws;
 mod sections;
@@ -11,6 +12,7 @@ mod unknown_keys;
 
 pub use ahead::LatestDays;
 pub use batches::{put_at, put_refused_text};
+pub use checks::{Check, check_input};
 pub use fields::RecordField;
 pub use sections::put_fault;
-pub use unknown_keys::put_unknown_keys;
+pub use unknown_keys::{put_unknown_keys, put_unknown_on};

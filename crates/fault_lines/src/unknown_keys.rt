@@ -7,7 +7,7 @@ ghost use Rattle.toml.specs.Parse.{parse_document};
 ghost use Rattle.toml.specs.View.{table_view};
 ghost use Rattle.metering_model.specs.BatchReading.{lines_in};
 ghost use Rattle.sheet_text.specs.Keys.{rows_under};
-ghost use Rattle.fault_lines.specs.UnknownKeys.{behind_sheet, first_word, from_first, is_blank, is_key, is_of_key, is_taken, keys_left, opens_table, shown, stands_before_key, table_below, table_of, told_along, told_of_keys, told_of_section, told_unknown, unknown_from, unknown_from_issuer, unknown_in_issuer, unknown_in_sheet, up_to_first, with_key, with_rows, with_rows_under, with_table};
+ghost use Rattle.fault_lines.specs.UnknownKeys.{behind_sheet, first_word, from_first, is_blank, is_key, is_of_key, is_taken, keys_left, opens_table, shown, stands_before_key, table_below, table_of, told_along, told_of_keys, told_of_section, told_unknown, unknown_from, unknown_from_issuer, unknown_in_issuer, unknown_in_sheet, unknown_on, up_to_first, with_key, with_rows, with_rows_under, with_table};
 
 use crate::batches::put_place;
 use byte_text::{first_line, is_same, line_count};
@@ -499,5 +499,23 @@ pub fn put_unknown_keys(
             put_from_issuer(alloc, told, &section.rest)
         }
         Err(_) => put_from_issuer(alloc, told, unread),
+    }
+}
+
+/// Appends the keys that no reader takes, of the sections of a sheet and of an issuer that stand from a line on, counted from 1.
+pub fn put_unknown_on(
+    alloc: Global,
+    warned: &mut Vec<u8>,
+    text: &[u8],
+    line: u32,
+) -> Result<(), AllocError>
+    ensures { OnOk result (warned.new.items ≡ warned.old.items ++ unknown_on line text.now) }
+{
+    let Ok(whole) = Unread::whole(text) else {
+        return Ok(());
+    };
+    match whole.behind_lines(line.saturating_sub(1)) {
+        Some(unread) => put_unknown_keys(alloc, warned, &unread),
+        None => Ok(()),
     }
 }

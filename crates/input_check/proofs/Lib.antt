@@ -1,6 +1,5 @@
 pub mod SaidLaws
 pub mod FaultLoop
-pub mod LineLaws
 pub mod NeverWants
 pub mod RefusedLaws
 pub mod EventLines
@@ -11,7 +10,6 @@ pub mod ReasonLaws
 pub mod WarningLaws
 pub mod CountedBatches
 pub mod WarnedLaws
-pub mod WrittenLaws
 pub mod NothingSaid
 pub mod RatingForms
 pub mod EventWords

@@ -1,34 +1,23 @@
 -- What is said, case by case.
-use Rattle.std.proofs.Common.{◌≡◌, ℕ, suc, ◌-◌, ◌<◌, ◌≤◌, false, List, [], ◌∷◌, ◌++◌, length, take, drop, Some, None, Result, Ok, Err, OnOk, codes, refl, sym, ap, ◌∙◌, arith, append-nil, append_assoc}
-use Rattle.std.specs.Prelude.{nat_le}
-use Rattle.std.specs.Fmt.{digits}
-use Rattle.std.proofs.lemmas.Bool.Decides.{nat_tests}
+use Rattle.std.proofs.Common.{◌≡◌, ℕ, suc, ◌-◌, ◌<◌, ◌≤◌, List, [], ◌++◌, length, take, drop, Some, None, Result, Ok, Err, OnOk, refl, sym, ap, ◌∙◌, arith, append-nil, append_assoc}
 use Rattle.std.proofs.lemmas.List.{length-drop}
 use Rattle.std.proofs.Math.Seq.{take-append_seam}
 use Rattle.metering_model.specs.Batch.{Batch}
-use Rattle.metering_model.specs.FirstFailure.{◌>>=◌, holds_or}
 use Rattle.metering_model.specs.Schedule.{Planned, event_of}
 use Rattle.metering_model.specs.Sheet as model
 use Rattle.metering_model.specs.Step.{step}
 use Rattle.metering_model.specs.Transcript.{line_count}
 use Rattle.metering_model.specs.World.{World, opening}
 use Rattle.metering_model.specs.declared.Refusal.{Refusal}
-use Rattle.input_sections.specs.declared.faults.ScheduleCode.TheVariants as codes_of
 use Rattle.input_sections.specs.declared.faults.ScheduleFault.{ScheduleFault}
-use Rattle.input_sections.specs.declared.faults.ScheduleFault.TheVariants as section
-use Rattle.input_sections.specs.Sections.{Unread, left, whole_of}
+use Rattle.input_sections.specs.Sections.{Unread, left}
 use Rattle.input_sections.specs.RateInput.{rate_input_in}
-use Rattle.schedule_reader.specs.Schedules.{Preamble, event_in, events_in, group_in, preamble_in}
+use Rattle.schedule_reader.specs.Schedules.{Preamble, event_in, events_in, preamble_in}
 use Rattle.schedule_reader.proofs.EventLoop.{nonempty, empty}
 use Rattle.metering_model.specs.RatedAlone.{journaled_in}
-use Rattle.input_check.specs.declared.kinds.InputKind.{InputKind}
-use Rattle.input_check.specs.declared.kinds.InputKind.TheVariants as kind
 use Rattle.input_check.specs.Inner.Faults.{fault_of}
-use Rattle.input_check.specs.Checks.{said_behind, said_below, said_of_batch, said_of_events, said_of_input_as, said_of_journaled, said_of_rating, said_of_reply, said_of_schedule}
+use Rattle.input_check.specs.Checks.{said_behind, said_below, said_of_batch, said_of_events, said_of_journaled, said_of_rating, said_of_reply, said_of_schedule}
 use Rattle.fault_lines.specs.Told.{bad_index, said_of_fault, told_of_text}
-
-pub step_err : {A B E : Type 0} (r : Result A E) (f : A → Result B E) (e : E) → r ≡ Err e → (r >>= f) ≡ Err e
-step_err r f e is = ap (λ s. s >>= f) is
 
 -- ---- events
 
@@ -144,29 +133,6 @@ rated_badly text fault is =
       | Ok given ↦ said_of_batch given.sheet given.issuer (line_count (take (length text - length given.batch) text)) given.batch
       | Err fault ↦ said_of_fault text fault
     ]) is
-
--- ---- any input
-
-too_few : (m n : ℕ) → n < m → nat_le m n ≡ false
-too_few m n below = grind (arith, nat_tests)
-
-pub too_long : (text : List ℕ) → 16_777_216 < length text → whole_of text ≡ Err (section.Refused codes_of.TooLong 1)
-too_long text long = ap (λ b. holds_or b (section.Refused codes_of.TooLong 1) >>= λ _. let u : Unread = record { text = text; from = 0; line = 1 } in Ok u) (too_few (length text) 16_777_216 long)
-
--- of an input that is too long nothing else is said
-pub said_of_long : (k : InputKind) (text : List ℕ) → 16_777_216 < length text → said_of_input_as k text ≡ codes "line 1: L8" ++ 10 ∷ []
-unfolding said_of_schedule said_of_rating preamble_in group_in rate_input_in digits
-said_of_long k text long = by_kind k
-  where
-    preamble_too_long : whole_of text ≡ Err (section.Refused codes_of.TooLong 1) → preamble_in text ≡ Err (section.Refused codes_of.TooLong 1)
-    preamble_too_long is = step_err _ _ _ (step_err (whole_of text) _ _ is)
-
-    rating_too_long : whole_of text ≡ Err (section.Refused codes_of.TooLong 1) → said_of_rating text ≡ codes "line 1: L8" ++ 10 ∷ []
-    rating_too_long is = rated_badly text (section.Refused codes_of.TooLong 1) (step_err (whole_of text) _ _ is)
-
-    by_kind : (k : InputKind) → said_of_input_as k text ≡ codes "line 1: L8" ++ 10 ∷ []
-    by_kind kind.Play = ap (said_below text) (preamble_too_long (too_long text long))
-    by_kind kind.Rate = rating_too_long (too_long text long)
 
 -- ---- what holds of a call that ends well
 

@@ -9,41 +9,18 @@ use Rattle.metering_model.specs.Transcript.{line_count}
 use Rattle.metering_model.specs.World.{opening}
 use Rattle.metering_model.specs.declared.Refusal.{Refusal}
 use Rattle.input_sections.specs.RateInput.{RateInput, rate_input_in}
-use Rattle.input_sections.specs.Sections.{Unread, lines_left, section_of, whole_of}
-use Rattle.input_sections.specs.declared.faults.ScheduleCode.TheVariants as code
 use Rattle.input_sections.specs.declared.faults.ScheduleFault.{ScheduleFault}
 use Rattle.schedule_reader.specs.Schedules.{Preamble, ReadSchedule, events_in, preamble_in, schedule_in}
 use Rattle.schedule_reader.proofs.PreambleLaws.{behind, by_preamble, refused_behind, taken_behind}
 use Rattle.metering_model.specs.FirstFailure.{◌>>=◌}
 use Rattle.fault_lines.specs.Ahead.{ahead_of, ahead_of_all}
-use Rattle.fault_lines.specs.UnknownKeys.{unknown_from}
-use Rattle.fault_lines.proofs.SectionLaws.{line_at, no_line, no_whole}
+use Rattle.fault_lines.specs.UnknownKeys.{unknown_on}
 use Rattle.input_check.specs.Checks.{event_lines, lines_of_events}
 use Rattle.input_check.specs.Inner.Counted.{counted_of_events}
 use Rattle.input_check.specs.Inner.Faults.{fault_of}
-use Rattle.input_check.specs.Warnings.{if_taken, journaled_among, journaled_in_rating, journaled_in_schedule, unknown_on, warned_of_rating, warned_of_schedule}
+use Rattle.input_check.specs.Warnings.{if_taken, journaled_among, journaled_in_rating, journaled_in_schedule, warned_of_rating, warned_of_schedule}
 use Rattle.input_check.proofs.CountedBatches.{ahead_of_none, ahead_of_one, all_counted}
 use Rattle.input_check.proofs.SaidLaws.{above}
-
--- ---- the keys
-
-pub unknown_there : (n : ℕ) (text : List ℕ) (u v : Unread) → whole_of text ≡ Ok u → n - 1 ≤ length (lines_left u) → v ≡ (section_of (n - 1) u).rest
-    → unknown_on n text ≡ unknown_from v
-unfolding unknown_on
-unknown_there n text u v is enough rest =
-    ap (λ r. elim r [ Ok w ↦ unknown_from w | Err fault ↦ [] ]) (line_at code.Sheet n text u v is enough rest)
-
-pub unknown_nowhere : (n : ℕ) (text : List ℕ) (fault : ScheduleFault) → whole_of text ≡ Err fault → unknown_on n text ≡ []
-unfolding unknown_on
-unknown_nowhere n text fault is = ap (λ r. elim r [ Ok w ↦ unknown_from w | Err fault ↦ [] ]) (no_whole code.Sheet n text fault is)
-
-pub unknown_below : (n : ℕ) (text : List ℕ) (u : Unread) → whole_of text ≡ Ok u → length (lines_left u) < n - 1 → unknown_on n text ≡ []
-unfolding unknown_on
-unknown_below n text u is few = ap (λ r. elim r [ Ok w ↦ unknown_from w | Err fault ↦ [] ]) (no_line code.Sheet n text u is few)
-
--- nothing more was told
-pub still : (told more : List ℕ) → more ≡ [] → told ≡ told ++ more
-still told more none = sym (ap (λ t. told ++ t) none ∙ append-nil told)
 
 -- ---- a schedule
 

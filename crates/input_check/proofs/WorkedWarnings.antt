@@ -21,17 +21,16 @@ use Rattle.schedule_reader.specs.Schedules.{group_in, head_line, nodes_line, num
 use Rattle.metering_model.specs.RatedAlone.{journaled_in}
 use Rattle.fault_lines.specs.Fields.{fault_field}
 use Rattle.fault_lines.specs.Told.{from_line, section_on, said_of_text}
-use Rattle.input_check.specs.Checks.{said_of_events, said_of_schedule, said_of_batch, said_of_rating}
+use Rattle.input_check.specs.Checks.{said_of_events, said_of_input_as, said_of_schedule, said_of_batch, said_of_rating}
 use Rattle.fault_lines.specs.Ahead.{ahead_in, ahead_of, ahead_of_all}
-use Rattle.fault_lines.specs.UnknownKeys.{keys_left, told_along, told_of_section, unknown_from, unknown_from_issuer, unknown_in_issuer, unknown_in_sheet, with_rows, with_table}
+use Rattle.fault_lines.specs.UnknownKeys.{keys_left, told_along, told_of_section, unknown_from, unknown_from_issuer, unknown_in_issuer, unknown_in_sheet, unknown_on, with_rows, with_table}
 use Rattle.input_check.specs.Checks.{event_lines, lines_of_events}
-use Rattle.input_check.specs.Inputs.{written_of_input_as}
-use Rattle.input_check.specs.Warnings.{unknown_on, warned_of_rating, warned_of_schedule}
+use Rattle.input_check.specs.Warnings.{warned_of_input_as, warned_of_rating, warned_of_schedule}
 use Rattle.input_check.specs.declared.kinds.InputKind.{InputKind}
 use Rattle.input_check.specs.declared.kinds.InputKind.TheVariants as kind
 
 abbrev written : InputKind → List (List ℕ) → List ℕ
-written k ls = written_of_input_as k (lines_text ls)
+written k ls = said_of_input_as k (lines_text ls) ++ warned_of_input_as k (lines_text ls)
 
 -- ---- as which kind
 

@@ -1,3 +1,5 @@
 pub mod Faults
 pub mod Replies
 pub mod Counted
+pub mod SaidLines
+pub mod LongInputs

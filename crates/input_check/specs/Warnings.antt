@@ -7,13 +7,11 @@ use Rattle.metering_model.specs.Transcript.{line_count}
 use Rattle.metering_model.specs.World.{Reply, Journaled}
 use Rattle.metering_model.specs.declared.Refusal.{Refusal}
 use Rattle.batch_view.specs.Batches.{batch_of}
-use Rattle.input_sections.specs.declared.faults.ScheduleCode.TheVariants as code
 use Rattle.input_sections.specs.RateInput.{RateInput, rate_input_in}
 use Rattle.schedule_reader.specs.Schedules.{ReadSchedule, schedule_in}
 use Rattle.schedule_player.specs.Transcripts.{replies_to}
 use Rattle.fault_lines.specs.Ahead.{ahead_of_all}
-use Rattle.fault_lines.specs.Told.{from_line}
-use Rattle.fault_lines.specs.UnknownKeys.{unknown_from}
+use Rattle.fault_lines.specs.UnknownKeys.{unknown_on}
 use Rattle.input_check.specs.Checks.{event_lines}
 use Rattle.input_check.specs.declared.kinds.InputKind.{InputKind}
 use Rattle.input_check.specs.declared.kinds.InputKind.TheVariants as kind
@@ -51,12 +49,6 @@ if_taken lines (Err why) = []
 abbrev pub journaled_in_rating : List ℕ → RateInput → List (ℕ × Batch)
 journaled_in_rating text given =
     if_taken (line_count (take (length text - length given.batch) text)) (journaled_in given.sheet given.issuer given.batch)
-
--- ---- the keys that no reader takes
-
--- of the sections of a sheet and of an issuer that stand from a line on, each where it is there
-unfoldable pub unknown_on : ℕ → List ℕ → List ℕ
-unknown_on n text = elim (from_line code.Sheet n text) [ Ok u ↦ unknown_from u | Err fault ↦ [] ]
 
 -- ---- an input
 

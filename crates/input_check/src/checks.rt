@@ -1,6 +1,6 @@
 //! `focusd check`: what is wrong with an input.
 
-ghost use Rattle.std.specs.Prelude.{◌+◌, ◌≡◌, ◌≢◌, ◌⊎◌, ◌++◌, ℕ, List, [], Ok, Err, IfOk, IfErr, OnOk};
+ghost use Rattle.std.specs.Prelude.{◌+◌, ◌≡◌, ◌≢◌, ◌++◌, ℕ, List, [], Ok, Err, IfOk, IfErr, OnOk};
 ghost use Rattle.std.specs.Io.KnownBytes.{Appends, IsAtEnd};
 ghost use Rattle.metering_model.specs.Limits.{most_input_bytes};
 ghost use Rattle.counted_io.specs.Counts.{count_after};
@@ -11,15 +11,15 @@ ghost use Rattle.metering_model.specs.declared.Refusal.{Refusal};
 ghost use Rattle.input_sections.specs.declared.faults.ScheduleFault.{ScheduleFault};
 ghost use Rattle.schedule_player.specs.Faults.{tells_of_reader, tells_of_writer};
 ghost use Rattle.input_check.specs.Checks.{said_of_input_as};
-ghost use Rattle.input_check.specs.Inputs.{IsSaidAs, IsSaidOf, written_of_input_as};
+ghost use Rattle.input_check.specs.Inputs.{IsSaidAs, IsSaidOf};
 ghost use Rattle.input_check.specs.Warnings.{warned_of_input_as};
 
 use crate::events::check_schedule;
 use crate::kinds::{InputKind, kind_of};
 use crate::ratings::check_rating;
-use byte_text::line_count;
-use counted_io::{Sink, Source, write_all};
-use schedule_player::{PlayFault, read_input};
+use counted_io::{Sink, Source};
+use fault_lines::{Check, check_input};
+use schedule_player::PlayFault;
 use std::alloc::{AllocError, Global};
 
 /// Appends what is wrong with an input of a kind, a line for each thing, or nothing, and in another place what is warned of.
@@ -39,50 +39,62 @@ fn put_faults(
     }
 }
 
-/// Writes a text, of which so many lines are counted, and answers how many.
-fn write_said<W: Sink>(text: &[u8], count: u64, writer: &mut W) -> Result<u64, PlayFault>
-    ensures said { IfOk result
-        (λ answer. Appends (W.contents writer.old) (W.contents writer.new) text.now × (answer ≡ count)) }
-    ensures prefix { result ≡ Err PlayFault.Write
-        → AppendsPrefix (W.contents writer.old) (W.contents writer.new) text.now }
-    ensures fault { IfErr result (λ fault. fault ≡ PlayFault.Write) }
-    ensures writes { W.failed_calls writer.new
-        ≡ count_after (tells_of_writer result) (W.failed_calls writer.old) }
-{
-    match write_all(writer, text) {
-        Ok(()) => Ok(count),
-        Err(_) => Err(PlayFault::Write),
+/// What an input of a kind is checked as.
+#[derive(Clone, Copy)]
+struct OfKind {
+    kind: InputKind,
+}
+
+impl Check for OfKind {
+    ghost use Rattle.input_check.specs.Inner.LongInputs.{long_said_as};
+    ghost use Rattle.input_check.specs.Inner.SaidLines.{lines_said_as};
+
+    ghost said_of = { λ c. said_of_input_as c.kind };
+
+    ghost warned_of = { λ c. warned_of_input_as c.kind };
+
+    ghost lines = { λ c. lines_said_as c.kind };
+
+    ghost long = { λ c. long_said_as c.kind };
+
+    fn put(
+        &self,
+        alloc: Global,
+        input: &[u8],
+        told: &mut Vec<u8>,
+        warnings: &mut Vec<u8>,
+    ) -> Result<(), AllocError> {
+        put_faults(alloc, self.kind, input, told, warnings)
     }
 }
 
-/// Writes what is said of an input and then what is warned of, all at once: at want of memory nothing.
-fn write_faults<W: Sink>(
-    alloc: Global,
-    kind: InputKind,
-    input: &[u8],
-    writer: &mut W,
-) -> Result<u64, PlayFault>
-    ensures said { IfOk result
-        (λ count. Appends (W.contents writer.old) (W.contents writer.new) (written_of_input_as kind input.now)
-        × (count ≡ line_count (said_of_input_as kind input.now))) }
-    ensures prefix { result ≡ Err PlayFault.Write
-        → AppendsPrefix (W.contents writer.old) (W.contents writer.new) (written_of_input_as kind input.now) }
-    ensures fault { IfErr result (λ fault. (fault ≡ PlayFault.Write) ⊎ (fault ≡ PlayFault.OutOfMemory)) }
-    ensures memory { result ≡ Err PlayFault.OutOfMemory → writer.new ≡ writer.old }
-    ensures writes { W.failed_calls writer.new
-        ≡ count_after (tells_of_writer result) (W.failed_calls writer.old) }
-{
-    let mut said = Vec::new(alloc);
-    let mut warned = Vec::new(alloc);
-    if put_faults(alloc, kind, input, &mut said, &mut warned).is_err() {
-        return Err(PlayFault::OutOfMemory);
+/// What an input is checked as whose first line says its kind.
+#[derive(Clone, Copy)]
+struct OfFirstLine;
+
+impl Check for OfFirstLine {
+    ghost use Rattle.input_check.specs.Inputs.{said_of_input, warned_of_input};
+    ghost use Rattle.input_check.specs.Inner.LongInputs.{long_said};
+    ghost use Rattle.input_check.specs.Inner.SaidLines.{lines_said};
+
+    ghost said_of = { λ _. said_of_input };
+
+    ghost warned_of = { λ _. warned_of_input };
+
+    ghost lines = { λ _. lines_said };
+
+    ghost long = { λ _. long_said };
+
+    #[tactic(auto, unfolding(crate::specs::Inputs::said_of_input, crate::specs::Inputs::warned_of_input))]
+    fn put(
+        &self,
+        alloc: Global,
+        input: &[u8],
+        told: &mut Vec<u8>,
+        warnings: &mut Vec<u8>,
+    ) -> Result<(), AllocError> {
+        put_faults(alloc, kind_of(input), input, told, warnings)
     }
-    // A warning is no fault: it stands behind them, and is not counted.
-    let count = line_count(&said) as u64;
-    if said.extend_from_slice(&warned).is_err() {
-        return Err(PlayFault::OutOfMemory);
-    }
-    write_said(&said, count, writer)
 }
 
 /// Reads what `play` or `rate` would read, as the kind says, and writes what is wrong with it, a line for each thing, and then
@@ -123,11 +135,7 @@ pub fn check_text_as<R: Source, W: Sink>(
     ensures writes { W.failed_calls writer.new
         ≡ count_after (tells_of_writer result) (W.failed_calls writer.old) }
 {
-    match read_input(alloc, reader) {
-        Ok(input) => write_faults(alloc, kind, &input, writer),
-        Err(PlayFault::Schedule(_)) => write_said(b"line 1: L8\n", 1, writer),
-        Err(fault) => Err(fault),
-    }
+    check_input(alloc, &OfKind { kind }, reader, writer)
 }
 
 /// The same of the kind that the first line says: a text that begins with `SCHEDULE` is taken for a schedule, any other for what
@@ -164,12 +172,5 @@ pub fn check_text<R: Source, W: Sink>(
     ensures writes { W.failed_calls writer.new
         ≡ count_after (tells_of_writer result) (W.failed_calls writer.old) }
 {
-    match read_input(alloc, reader) {
-        Ok(input) => {
-            let kind = kind_of(&input);
-            write_faults(alloc, kind, &input, writer)
-        }
-        Err(PlayFault::Schedule(_)) => write_said(b"line 1: L8\n", 1, writer),
-        Err(fault) => Err(fault),
-    }
+    check_input(alloc, &OfFirstLine, reader, writer)
 }

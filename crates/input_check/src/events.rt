@@ -1,6 +1,7 @@
 //! The events of a schedule that are refused.
 
 ghost use Rattle.std.specs.Prelude.{◌≡◌, ◌≤◌, ◌+◌, [], ◌++◌, List, IfOk, OnOk};
+ghost use Rattle.metering_model.specs.Limits.{most_agents, most_nodes};
 ghost use Rattle.metering_model.specs.Batch.{Batch};
 ghost use Rattle.metering_model.specs.Schedule.{event_of};
 ghost use Rattle.metering_model.specs.Step.{step};
@@ -15,8 +16,8 @@ ghost use Rattle.input_check.specs.Inner.Counted.{counted_of_events, with_counte
 ghost use Rattle.input_check.specs.Inner.Faults.{fault_of};
 ghost use Rattle.input_check.specs.Inner.Replies.{IsBadIn, breaks_rule};
 
-use crate::warnings::{put_ahead_of, put_unknown_on};
-use fault_lines::{LatestDays, put_at, put_fault, put_refused_text};
+use crate::warnings::put_ahead_of;
+use fault_lines::{LatestDays, put_at, put_fault, put_refused_text, put_unknown_on};
 use input_sections::{ScheduleFault, Unread};
 use metering_model::Refusal;
 use schedule_player::{Reply, World, event_of, opening_world};
@@ -188,8 +189,8 @@ fn check_behind(
     told: &mut Vec<u8>,
     warned: &mut Vec<u8>,
 ) -> Result<Option<ScheduleFault>, AllocError>
-    requires nodes { (1 ≤ above.voters) × (above.voters + above.observers ≤ 99) }
-    requires agents { (1 ≤ above.agents) × (above.agents ≤ 64) }
+    requires nodes { (1 ≤ above.voters) × (above.voters + above.observers ≤ most_nodes) }
+    requires agents { (1 ≤ above.agents) × (above.agents ≤ most_agents) }
     ensures said { OnOk result (told.new.items ≡ told.old.items ++ said_of_events most
         (model.opening above.entry.voters above.entry.observers above.entry.agents above.entry.sheet above.entry.issuer) above.entry.rest) }
     ensures ahead { OnOk result (warned.new.items ≡ warned.old.items ++ ahead_of_all [] (counted_of_events most

@@ -20,7 +20,8 @@ ghost use Rattle.input_sections.specs.declared.faults.ScheduleFault.{ScheduleFau
 ghost use Rattle.std.specs.List.{list_any};
 ghost use Rattle.batch_player.specs.RateInput.{rated_file};
 ghost use Rattle.input_check.specs.Checks.{BeginsWhereCounted, IsFirstRefused, IsFirstRefusedIn, IsSaidOfSection, SaysWhatIsPlayed, SaysWhatIsRated, event_lines, refused_by, said_of_input_as};
-ghost use Rattle.input_check.specs.Warnings.{CountsWhatIsJournaled, journaled_among, unknown_on, warned_of_input_as};
+ghost use Rattle.fault_lines.specs.UnknownKeys.{unknown_on};
+ghost use Rattle.input_check.specs.Warnings.{CountsWhatIsJournaled, journaled_among, warned_of_input_as};
 ghost use Rattle.input_check.specs.declared.kinds.InputKind.{InputKind};
 ghost use Rattle.price_sheet.specs.SheetReading.{sheet_of_text};
 ghost use Rattle.sheet_text.specs.IssuerReading.{issuer_of_text};

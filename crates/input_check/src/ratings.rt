@@ -8,11 +8,10 @@ ghost use Rattle.input_check.specs.Warnings.{if_taken, warned_of_rating};
 ghost use Rattle.fault_lines.specs.Told.{bad_index};
 ghost use Rattle.input_check.specs.Checks.{said_of_batch, said_of_rating};
 
-use crate::warnings::put_unknown_on;
 use batch_player::first_refusal;
 use batch_view::BatchView;
 use byte_text::line_count;
-use fault_lines::{LatestDays, put_fault, put_refused_text};
+use fault_lines::{LatestDays, put_fault, put_refused_text, put_unknown_on};
 use input_sections::rate_input;
 use journal_rules::first_bad_alone;
 use metering_model::Refusal;

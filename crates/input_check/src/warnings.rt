@@ -6,31 +6,11 @@ ghost use Rattle.group_events.specs.Events.{event_of};
 ghost use Rattle.schedule_player.specs.Replies.{reply_of};
 ghost use Rattle.fault_lines.specs.Ahead.{AreLatest, ahead_of_all};
 ghost use Rattle.input_check.specs.Inner.Counted.{counted_of, handed_in, with_counted};
-ghost use Rattle.input_check.specs.Warnings.{unknown_on};
 
-use fault_lines::{LatestDays, put_unknown_keys};
+use fault_lines::LatestDays;
 use group_events::{Event, Offer};
-use input_sections::Unread;
 use schedule_player::Reply;
-use std::alloc::{AllocError, Global};
-
-/// Appends the keys that no reader takes, of the sections of a sheet and of an issuer that stand from a line on, counted from 1.
-pub(crate) fn put_unknown_on(
-    alloc: Global,
-    warned: &mut Vec<u8>,
-    text: &[u8],
-    line: u32,
-) -> Result<(), AllocError>
-    ensures { OnOk result (warned.new.items ≡ warned.old.items ++ unknown_on line text.now) }
-{
-    let Ok(whole) = Unread::whole(text) else {
-        return Ok(());
-    };
-    match whole.behind_lines(line.saturating_sub(1)) {
-        Some(unread) => put_unknown_keys(alloc, warned, &unread),
-        None => Ok(()),
-    }
-}
+use std::alloc::AllocError;
 
 /// Appends which readings are far ahead of the batch that an event hands in, which begins on a line.
 fn put_handed_in(

@@ -1,6 +1,7 @@
 use Rattle.std.proofs.Common.{◌≡◌, ◌++◌, length, rules, sym, ap, ◌∙◌, arith}
 use Rattle.input_check.proofs.SaidLaws.{both_on_ok, events_there, in_two_parts, no_events, no_schedule, on_ok, put_instead, taken_back}
-use Rattle.input_check.proofs.WarnedLaws.{events_warned, no_events_warned, no_preamble_warned, still}
+use Rattle.input_check.proofs.WarnedLaws.{events_warned, no_events_warned, no_preamble_warned}
+use Rattle.fault_lines.proofs.KeysOnLine.{still}
 use Rattle.input_check.proofs.events.check_schedule.Goals as goal
 
 pub returns-in-Err-clause-said : goal.returns-in-Err-clause-said

@@ -1,6 +1,7 @@
 use Rattle.std.proofs.Common.{◌≡◌, ◌++◌, List, ℕ, OnOk, sym, ap, subst, ◌∙◌}
 use Rattle.input_check.proofs.SaidLaws.{both_on_ok, in_two_parts, on_ok, rated_badly, rated_well}
-use Rattle.input_check.proofs.WarnedLaws.{no_rating_warned, rating_warned, still}
+use Rattle.input_check.proofs.WarnedLaws.{no_rating_warned, rating_warned}
+use Rattle.fault_lines.proofs.KeysOnLine.{still}
 use Rattle.input_check.proofs.ratings.check_rating.Goals as goal
 
 pub returns-in-Err-clause-said : goal.returns-in-Err-clause-said

@@ -3,7 +3,7 @@ use Rattle.group_events.specs.Events.{event_of}
 use Rattle.fault_lines.specs.Ahead.{AreLatest, ahead_of_all}
 use Rattle.input_check.specs.Inner.Counted.{with_counted}
 use Rattle.input_check.proofs.CountedBatches.{ahead_of_none, no_batch_journaled}
-use Rattle.input_check.proofs.WarnedLaws.{still}
+use Rattle.fault_lines.proofs.KeysOnLine.{still}
 use Rattle.input_check.proofs.warnings.put_ahead_of.Goals as goal
 
 pub returns-in_default : goal.returns-in_default

@@ -4,7 +4,7 @@ use Rattle.group_events.specs.Events.{event_of}
 use Rattle.fault_lines.specs.Ahead.{AreLatest, ahead_of_all}
 use Rattle.input_check.specs.Inner.Counted.{handed_in, with_counted}
 use Rattle.input_check.proofs.CountedBatches.{ahead_of_none, ahead_of_one, no_batch_handed_in}
-use Rattle.input_check.proofs.WarnedLaws.{still}
+use Rattle.fault_lines.proofs.KeysOnLine.{still}
 use Rattle.input_check.proofs.warnings.put_handed_in.Goals as goal
 
 pub returns-in-Good-clause-said : goal.returns-in-Good-clause-said

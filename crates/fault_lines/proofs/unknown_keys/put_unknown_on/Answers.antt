@@ -1,6 +1,6 @@
 use Rattle.std.proofs.Common.{◌≡◌, ◌++◌, ℕ, List, OnOk, sym, subst}
-use Rattle.input_check.proofs.WarnedLaws.{still, unknown_below, unknown_nowhere, unknown_there}
-use Rattle.input_check.proofs.warnings.put_unknown_on.Goals as goal
+use Rattle.fault_lines.proofs.KeysOnLine.{still, unknown_below, unknown_nowhere, unknown_there}
+use Rattle.fault_lines.proofs.unknown_keys.put_unknown_on.Goals as goal
 
 pub returns-in_default : goal.returns-in_default
 returns-in_default c = still c.args.warned.now.items _ (unknown_nowhere c.args.line c.args.text.now _ c.in_default.ensures.whole)

@@ -1,0 +1,139 @@
+//! What `check` does with an input, of whatever kind: all of it is read, and what is wrong with it is written, and then of what it is
+//! warned.
+
+ghost use Rattle.std.specs.Prelude.{◌≡◌, ◌≢◌, ◌⊎◌, ◌+◌, ◌++◌, ℕ, List, [], Ok, Err, IfOk, IfErr, OnOk};
+ghost use Rattle.std.specs.Io.KnownBytes.{Appends, IsAtEnd};
+ghost use Rattle.counted_io.specs.Counts.{count_after};
+ghost use Rattle.counted_io.specs.Reading.{ConsumesAtMost};
+ghost use Rattle.counted_io.specs.Writing.{AppendsPrefix};
+ghost use Rattle.metering_model.specs.Limits.{most_input_bytes};
+ghost use Rattle.metering_model.specs.Transcript.{line_count};
+ghost use Rattle.metering_model.specs.declared.Refusal.{Refusal};
+ghost use Rattle.input_sections.specs.declared.faults.ScheduleFault.{ScheduleFault};
+ghost use Rattle.program_input.specs.Faults.{tells_of_reader, tells_of_writer};
+ghost use Rattle.fault_lines.specs.Checked.{IsSaid, SaysLines, SaysTooLong};
+
+use byte_text::line_count;
+use counted_io::{Sink, Source, write_all};
+use program_input::{PlayFault, read_input};
+use std::alloc::{AllocError, Global};
+
+/// What an input is checked as.
+pub trait Check {
+    /// What is wrong with an input: a line for each thing, or nothing.
+    ghost said_of: { Self → List ℕ → List ℕ };
+
+    /// Of what it is warned: a line for each thing, or nothing.
+    ghost warned_of: { Self → List ℕ → List ℕ };
+
+    /// Whatever is said has a line.
+    ghost lines: { (c : Self) → SaysLines (said_of c) };
+
+    /// An input of more than 16,777,216 bytes is not read to its end, so of any such that alone is said.
+    ghost long: { (c : Self) → SaysTooLong (said_of c) (warned_of c) };
+
+    /// Appends what is wrong with an input to a text, and to another of what it is warned. An error is an allocation failure,
+    /// after which a part may have been appended.
+    fn put(
+        &self,
+        alloc: Global,
+        input: &[u8],
+        told: &mut Vec<u8>,
+        warnings: &mut Vec<u8>,
+    ) -> Result<(), AllocError>
+        ensures said { OnOk result (told.new.items ≡ told.old.items ++ said_of self.now input.now) }
+        ensures warned { OnOk result (warnings.new.items ≡ warnings.old.items ++ warned_of self.now input.now) };
+}
+
+/// Writes a text, of which so many lines are counted, and answers how many.
+fn write_said<W: Sink>(text: &[u8], count: u64, writer: &mut W) -> Result<u64, PlayFault>
+    ensures said { IfOk result
+        (λ answer. Appends (W.contents writer.old) (W.contents writer.new) text.now × (answer ≡ count)) }
+    ensures prefix { result ≡ Err PlayFault.Write
+        → AppendsPrefix (W.contents writer.old) (W.contents writer.new) text.now }
+    ensures fault { IfErr result (λ fault. fault ≡ PlayFault.Write) }
+    ensures writes { W.failed_calls writer.new
+        ≡ count_after (tells_of_writer result) (W.failed_calls writer.old) }
+{
+    match write_all(writer, text) {
+        Ok(()) => Ok(count),
+        Err(_) => Err(PlayFault::Write),
+    }
+}
+
+/// Writes what is said of an input and then of what it is warned, all at once: at want of memory nothing.
+fn write_checked<C: Check, W: Sink>(
+    alloc: Global,
+    check: &C,
+    input: &[u8],
+    writer: &mut W,
+) -> Result<u64, PlayFault>
+    ensures said { IfOk result
+        (λ count. Appends (W.contents writer.old) (W.contents writer.new)
+        (C.said_of check.now input.now ++ C.warned_of check.now input.now)
+        × (count ≡ line_count (C.said_of check.now input.now))) }
+    ensures prefix { result ≡ Err PlayFault.Write
+        → AppendsPrefix (W.contents writer.old) (W.contents writer.new)
+        (C.said_of check.now input.now ++ C.warned_of check.now input.now) }
+    ensures fault { IfErr result (λ fault. (fault ≡ PlayFault.Write) ⊎ (fault ≡ PlayFault.OutOfMemory)) }
+    ensures memory { result ≡ Err PlayFault.OutOfMemory → writer.new ≡ writer.old }
+    ensures writes { W.failed_calls writer.new
+        ≡ count_after (tells_of_writer result) (W.failed_calls writer.old) }
+{
+    let mut said = Vec::new(alloc);
+    let mut warned = Vec::new(alloc);
+    if check.put(alloc, input, &mut said, &mut warned).is_err() {
+        return Err(PlayFault::OutOfMemory);
+    }
+    // A warning is no fault: it stands behind them, and is not counted.
+    let count = line_count(&said) as u64;
+    if said.extend_from_slice(&warned).is_err() {
+        return Err(PlayFault::OutOfMemory);
+    }
+    write_said(&said, count, writer)
+}
+
+/// Reads an input, and writes what is wrong with it, a line for each thing, and then of what it is warned, all at once. It answers
+/// how many lines tell what is wrong.
+///
+/// At most 16,777,217 bytes are read. After `Write` a prefix of the lines was written, and after any other fault nothing.
+/// Neither `Schedule` nor `Refused` is ever answered.
+pub fn check_input<C: Check, R: Source, W: Sink>(
+    alloc: Global,
+    check: &C,
+    reader: &mut R,
+    writer: &mut W,
+) -> Result<u64, PlayFault>
+    // With Ok just what is said of the input was written, and behind it of what it is warned; the lines of the first are counted.
+    ensures said { IfOk result (λ count. (input said warned : List ℕ)
+        × IsSaid (C.said_of check.now) (C.warned_of check.now) (R.remaining reader.old) input said warned
+        × Appends (W.contents writer.old) (W.contents writer.new) (said ++ warned)
+        × (count ≡ line_count said)) }
+
+    // Where nothing is wrong, just the warnings were written, and nothing is left to read.
+    ensures ahead { result ≡ Ok 0 → (input warned : List ℕ)
+        × IsSaid (C.said_of check.now) (C.warned_of check.now) (R.remaining reader.old) input [] warned
+        × Appends (W.contents writer.old) (W.contents writer.new) warned }
+    ensures end { result ≡ Ok 0 → IsAtEnd (R.remaining reader.new) }
+
+    // After `Write` a prefix of it was, and never all of it.
+    ensures prefix { result ≡ Err PlayFault.Write → (input said warned : List ℕ)
+        × IsSaid (C.said_of check.now) (C.warned_of check.now) (R.remaining reader.old) input said warned
+        × AppendsPrefix (W.contents writer.old) (W.contents writer.new) (said ++ warned) }
+    ensures untouched { IfErr result (λ fault. fault ≢ PlayFault.Write → writer.new ≡ writer.old) }
+    ensures no_section { (fault : ScheduleFault) → result ≢ Err (PlayFault.Schedule fault) }
+    ensures no_refusal { (refusal : Refusal) → result ≢ Err (PlayFault.Refused refusal) }
+    ensures read { ConsumesAtMost (most_input_bytes + 1) (R.remaining reader.old) (R.remaining reader.new) }
+
+    // `Read` and `Write` come of one failed call each, and no other call fails.
+    ensures reads { R.failed_calls reader.new
+        ≡ count_after (tells_of_reader result) (R.failed_calls reader.old) }
+    ensures writes { W.failed_calls writer.new
+        ≡ count_after (tells_of_writer result) (W.failed_calls writer.old) }
+{
+    match read_input(alloc, reader) {
+        Ok(input) => write_checked(alloc, check, &input, writer),
+        Err(PlayFault::Schedule(_)) => write_said(b"line 1: L8\n", 1, writer),
+        Err(fault) => Err(fault),
+    }
+}
