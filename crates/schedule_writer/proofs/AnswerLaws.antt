@@ -1,7 +1,7 @@
 -- What a world answers to a text that is to be journaled, and what is told of it.
-use Rattle.std.proofs.Common.{◌≡◌, ℕ, ◌+◌, Bool, true, false, ◌&&◌, List, [], ◌++◌, length, take, Option, Some, None, Result, Ok, Err, refl, sym, ap, subst, ◌∙◌, inl, inr, nat_le, nat_lt}
+use Rattle.std.proofs.Common.{◌≡◌, ℕ, Bool, true, false, ◌&&◌, List, [], ◌++◌, length, Option, Some, None, Result, Ok, Err, refl, sym, ap, subst, ◌∙◌, inl, inr, nat_le, nat_lt}
 use Rattle.std.proofs.lemmas.List.{append-nil}
-use Rattle.std.specs.Prelude.{◌==◌, if◌then◌else◌, codes}
+use Rattle.std.specs.Prelude.{◌==◌, if◌then◌else◌}
 use Rattle.std.specs.Option.{option_map}
 use Rattle.metering_model.specs.Batch.{Batch}
 use Rattle.metering_model.specs.BatchReading.{batch_in}
@@ -10,7 +10,7 @@ use Rattle.metering_model.specs.Holding.{Position, placed, put}
 use Rattle.metering_model.specs.JournalRules.{first_broken, next_seq}
 use Rattle.metering_model.specs.Limits.{most_packets}
 use Rattle.metering_model.specs.Step.{Outcome, batch_of as offered, on_batch, or_bad_batch, or_refused, step, unless_broken}
-use Rattle.metering_model.specs.Transcript.{line, line_count, with_number}
+use Rattle.metering_model.specs.Transcript.{line}
 use Rattle.metering_model.specs.World.{World, Event, Good, Bad, Journal, Journaled, Reply, Refused, offer_of, with_packet, CarriesBatch}
 use Rattle.metering_model.specs.declared.BatchFault.{BatchFault}
 use Rattle.metering_model.specs.declared.BrokenRule.{BrokenRule}
@@ -19,14 +19,15 @@ use Rattle.metering_model.specs.declared.Refusal.{Refusal}
 use Rattle.metering_model.specs.declared.Refusal.TheVariants as refusal
 use Rattle.batch_view.proofs.BatchLemmas.{batch_of_is}
 use Rattle.journal_rules.specs.FirstBad.{first_bad}
-use Rattle.fault_lines.specs.Told.{bad_index, told_of_text, words_of, more_words, line_within}
+use Rattle.fault_lines.specs.Told.{bad_index, told_of_text}
 use Rattle.schedule_writer.specs.declared.faults.WriteFault.{WriteFault}
 use Rattle.schedule_writer.specs.declared.faults.WriteFault.TheVariants as written
 use Rattle.schedule_writer.specs.Checks.{told_of_answer}
-use Rattle.schedule_writer.specs.Inputs.{Offered, line_of}
+use Rattle.schedule_writer.specs.Inputs.{Offered}
 use Rattle.schedule_writer.specs.Refusals.{IsJournaled, answer_to, told_of_offered}
 use Rattle.schedule_writer.specs.Inner.Judged.{IsRefusedNow, IsRefusedOr}
 use Rattle.schedule_writer.specs.Inner.Lines.{IsAnswer, IsBadIn, is_of_rule}
+use Rattle.schedule_writer.specs.Inner.SaidLines.{is_line}
 
 -- ---- a journal
 
@@ -143,30 +144,6 @@ same_told w lines text bad refusal.NoAgent is = refl
 same_told w lines text bad refusal.Observer is = refl
 same_told w lines text bad (refusal.BadKept fault) is = refl
 same_told w lines text bad refusal.NotKept is = refl
-
--- what it says, behind the line
-abbrev saying : List ℕ → World → Offered → Refusal → List ℕ
-saying input w b why =
-    with_number (codes "line ") (line_count (take b.from input) + line_within (bad_index w.sheet w.journals b.text) why)
-    ++ codes ": " ++ (words_of why ++ more_words w.sheet b.text (bad_index w.sheet w.journals b.text) why)
-
--- it is one line
-pub is_line : (input : List ℕ) (w : World) (b : Offered) (why : Refusal) → (told : List ℕ) × (told_of_offered input w b why ≡ line told)
-is_line input w b refusal.BadTarget = (saying input w b refusal.BadTarget, refl)
-is_line input w b refusal.Unpriced = (saying input w b refusal.Unpriced, refl)
-is_line input w b (refusal.BadBatch fault) = (saying input w b (refusal.BadBatch fault), refl)
-is_line input w b (refusal.WrongSeq wanted) = (saying input w b (refusal.WrongSeq wanted), refl)
-is_line input w b refusal.NoPacket = (saying input w b refusal.NoPacket, refl)
-is_line input w b refusal.NoNode = (saying input w b refusal.NoNode, refl)
-is_line input w b (refusal.NotClosed learned) = (saying input w b (refusal.NotClosed learned), refl)
-is_line input w b (refusal.Missing agent seq) = (saying input w b (refusal.Missing agent seq), refl)
-is_line input w b refusal.AllClosed = (saying input w b refusal.AllClosed, refl)
-is_line input w b refusal.NoBallot = (saying input w b refusal.NoBallot, refl)
-is_line input w b refusal.WorldFull = (with_number (codes "line ") (line_of input b) ++ codes ": " ++ words_of refusal.WorldFull, refl)
-is_line input w b refusal.NoAgent = (saying input w b refusal.NoAgent, refl)
-is_line input w b refusal.Observer = (saying input w b refusal.Observer, refl)
-is_line input w b (refusal.BadKept fault) = (saying input w b (refusal.BadKept fault), refl)
-is_line input w b refusal.NotKept = (saying input w b refusal.NotKept, refl)
 
 -- ---- by the reply
 

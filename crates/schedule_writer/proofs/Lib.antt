@@ -4,9 +4,12 @@ pub mod AnswerLaws
 pub mod JournalLaws
 pub mod JudgedLaws
 pub mod CheckLaws
+pub mod CountedLaws
+pub mod WarningLaws
 pub mod PlanLaws
 pub mod Certificates
 pub mod ScheduleLaws
 mod WorkedInputs
 mod WorkedSchedules
+mod WorkedChecks
 mod FalseRuns

@@ -3,3 +3,5 @@ pub mod Stops
 pub mod Lines
 pub mod Judged
 pub mod Certified
+pub mod Counted
+pub mod SaidLines

@@ -1,48 +1,98 @@
-//! `focusd check --kind schedule`: what is wrong with an input that is to have a schedule.
+//! `focusd check --kind schedule`: what is wrong with an input that is to have a schedule, and what is odd.
 
-ghost use Rattle.std.specs.Prelude.{◌≡◌, ◌≢◌, ◌⊎◌, ◌++◌, ◌+◌, ◌≤◌, ℕ, List, Ok, Err, IfOk, IfErr, OnOk, [], ◌∷◌, drop, length, map};
-ghost use Rattle.std.specs.Arc.{arc_value};
+ghost use Rattle.std.specs.Prelude.{◌≡◌, ◌≢◌, ◌++◌, ◌+◌, ◌≤◌, ℕ, List, Ok, Err, IfOk, IfErr, OnOk, [], ◌∷◌, drop, length, map, take};
 ghost use Rattle.std.specs.Io.KnownBytes.{Appends, IsAtEnd};
 ghost use Rattle.counted_io.specs.Counts.{count_after};
 ghost use Rattle.counted_io.specs.Reading.{ConsumesAtMost};
 ghost use Rattle.counted_io.specs.Writing.{AppendsPrefix};
+ghost use Rattle.metering_model.specs.Batch.{Batch};
 ghost use Rattle.metering_model.specs.Limits.{most_input_bytes};
-ghost use Rattle.metering_model.specs.Step.{play};
+ghost use Rattle.metering_model.specs.RatedAlone as model;
+ghost use Rattle.metering_model.specs.Step.{play, step};
 ghost use Rattle.metering_model.specs.Transcript.{line_count};
-ghost use Rattle.metering_model.specs.World as model;
 ghost use Rattle.metering_model.specs.declared.Refusal.{Refusal};
 ghost use Rattle.input_sections.specs.declared.faults.ScheduleFault.{ScheduleFault};
 ghost use Rattle.input_sections.specs.RateInput.{rate_input_in};
+ghost use Rattle.fault_lines.specs.Ahead.{AreLatest, ahead_of_all};
 ghost use Rattle.schedule_player.specs.Faults.{tells_of_reader, tells_of_writer};
-ghost use Rattle.schedule_writer.specs.Checks.{IsSaidOf, said_of_input, told_of_batches, warned_of_input};
-ghost use Rattle.schedule_writer.specs.Refusals.{journal_of};
+ghost use Rattle.schedule_writer.specs.Checks.{IsSaidOf, if_journaled, journaled_of, said_of_input, told_of_answer, told_of_batches, warned_of_input};
+ghost use Rattle.schedule_writer.specs.Refusals.{answer_to, journal_of};
 ghost use Rattle.schedule_writer.specs.Inputs.{batches_of, item_at, item_length, items_in};
+ghost use Rattle.schedule_writer.specs.Inner.Counted.{with_journaled};
+ghost use Rattle.schedule_writer.specs.Inner.Plans.{offered_of};
+ghost use Rattle.schedule_writer.specs.Inner.SaidLines.{lines_said, said_of_long};
 
-use crate::inputs::{Item, item_at};
+use crate::inputs::{Item, Offered, item_at};
 use crate::judging::{read_offer, world_before};
 use crate::lines::journal_offered;
+use crate::warnings::put_ahead_of;
 use byte_text::line_count;
-use counted_io::{Sink, Source, write_all};
-use fault_lines::put_fault;
+use counted_io::{Sink, Source};
+use fault_lines::{Check, LatestDays, check_input, put_fault, put_unknown_on};
 use group_events::Event;
 use input_sections::{RateInput, rate_input};
-use schedule_player::{PlayFault, World, read_input};
+use schedule_player::{PlayFault, World};
 use std::alloc::{AllocError, Global};
 use std::sync::Arc;
 
-/// Appends what is told of the item that begins at a byte of the input, and answers how many bytes it has.
+/// Journals a batch below so many lines of the input, or appends why it is refused. Where it is journaled, its readings that are far ahead of those above it are appended
+/// to another text, and the batch is taken to these.
+fn check_offered(
+    alloc: Global,
+    world: &mut World,
+    input: &[u8],
+    above: usize,
+    offered: &Offered<'_>,
+    told: &mut Vec<u8>,
+    latest: &mut LatestDays,
+    warned: &mut Vec<u8>,
+) -> Result<(), AllocError>
+    requires from { offered.now.from ≤ length input.now }
+    requires above { above ≡ line_count (take offered.now.from input.now) }
+    ensures told { OnOk result (told.new.items ≡ told.old.items
+        ++ told_of_answer input.now world.old (offered_of offered.now) (answer_to world.old offered.now.text.now)) }
+    ensures ahead { (before : List Batch) → AreLatest latest.old before → OnOk result
+        (warned.new.items ≡ warned.old.items ++ ahead_of_all before
+        (if_journaled input.now (offered_of offered.now) (answer_to world.old offered.now.text.now))) }
+    ensures latest { (before : List Batch) → AreLatest latest.old before → OnOk result
+        (AreLatest latest.new (with_journaled
+        (if_journaled input.now (offered_of offered.now) (answer_to world.old offered.now.text.now)) before)) }
+    ensures world { OnOk result (world.new ≡ (step world.old (journal_of (offered_of offered.now))).1) }
+{
+    let offer = read_offer(alloc, offered.text)?;
+    let event = Event::Journal(offer);
+    let journaled = journal_offered(alloc, world, input, offered, Some(above), &event, told)?;
+    if journaled {
+        put_ahead_of(latest, warned, above, &event)
+    } else {
+        Ok(())
+    }
+}
+
+/// Appends what is told of the item that begins at a byte of the input, below so many lines, and what is odd of it, and answers how
+/// many bytes it has.
 fn check_item(
     alloc: Global,
     world: &mut World,
     input: &[u8],
     from: usize,
+    above: usize,
     told: &mut Vec<u8>,
+    latest: &mut LatestDays,
+    warned: &mut Vec<u8>,
 ) -> Result<usize, AllocError>
-    requires { from ≤ length input.now }
+    requires from { from ≤ length input.now }
+    requires above { above ≡ line_count (take from input.now) }
     ensures length { IfOk result (λ n. n ≡ item_length (drop from input.now)) }
     ensures next { IfOk result (λ n. from + n ≤ length input.now) }
     ensures told { OnOk result (told.new.items ≡ told.old.items
         ++ told_of_batches input.now world.old (batches_of (item_at input.now from ∷ []))) }
+    ensures ahead { (before : List Batch) → AreLatest latest.old before → OnOk result
+        (warned.new.items ≡ warned.old.items ++ ahead_of_all before
+        (journaled_of input.now world.old (batches_of (item_at input.now from ∷ [])))) }
+    ensures latest { (before : List Batch) → AreLatest latest.old before → OnOk result
+        (AreLatest latest.new (with_journaled
+        (journaled_of input.now world.old (batches_of (item_at input.now from ∷ []))) before)) }
     ensures world { OnOk result (world.new
         ≡ (play world.old (map journal_of (batches_of (item_at input.now from ∷ [])))).1) }
 {
@@ -50,47 +100,65 @@ fn check_item(
     match item {
         Item::Closes => Ok(length),
         Item::Offers(offered) => {
-            let offer = read_offer(alloc, offered.text)?;
-            let event = Event::Journal(offer);
-            journal_offered(alloc, world, input, &offered, &event, told)?;
+            check_offered(alloc, world, input, above, &offered, told, latest, warned)?;
             Ok(length)
         }
     }
 }
 
-/// Appends what is told of the items from a byte of the input on.
+/// How many lines stand above a later byte of the input, where so many stand above an earlier one.
+fn lines_more(input: &[u8], from: usize, to: usize, above: usize) -> usize
+    requires within { (from ≤ to) × (to ≤ length input.now) }
+    requires above { above ≡ line_count (take from input.now) }
+    ensures { result ≡ line_count (take to input.now) }
+{
+    above + line_count(&input[from..to])
+}
+
+/// Appends what is told of the items from a byte of the input on, and what is odd of them.
 fn check_items(
     alloc: Global,
     world: &mut World,
     input: &[u8],
     from: usize,
     told: &mut Vec<u8>,
+    warned: &mut Vec<u8>,
 ) -> Result<(), AllocError>
     requires { from ≤ length input.now }
-    ensures { OnOk result (told.new.items ≡ told.old.items
+    ensures told { OnOk result (told.new.items ≡ told.old.items
         ++ told_of_batches input.now world.old (batches_of (items_in (length input.now) input.now from))) }
+    ensures ahead { OnOk result (warned.new.items ≡ warned.old.items ++ ahead_of_all []
+        (journaled_of input.now world.old (batches_of (items_in (length input.now) input.now from)))) }
 {
+    let mut latest = LatestDays::none();
+    let mut above = line_count(&input[..from]);
     let mut here = from;
     for _ in 0..input.len() {
         if here == input.len() {
             return Ok(());
         }
-        here += check_item(alloc, world, input, here, told)?;
+        let next = here + check_item(alloc, world, input, here, above, told, &mut latest, warned)?;
+        above = lines_more(input, here, next, above);
+        here = next;
     }
     Ok(())
 }
 
-/// Appends what is told of the batches of an input whose sections were read.
+/// Appends what is told of the batches of an input whose sections were read, and which of their readings are far ahead.
 fn check_batches(
     alloc: Global,
     input: &[u8],
     given: RateInput,
     told: &mut Vec<u8>,
+    warned: &mut Vec<u8>,
 ) -> Result<(), AllocError>
     requires given { rate_input_in input.now
         ≡ Ok (record { sheet = given.sheet; issuer = given.issuer; batch = drop given.batch_from input.now }) }
     requires within { given.batch_from ≤ length input.now }
-    ensures { OnOk result (told.new.items ≡ told.old.items ++ said_of_input input.now) }
+    ensures told { OnOk result (told.new.items ≡ told.old.items ++ said_of_input input.now) }
+    ensures ahead { OnOk result (warned.new.items ≡ warned.old.items ++ ahead_of_all []
+        (journaled_of input.now (model.world_before given.sheet given.issuer)
+        (batches_of (items_in (length input.now) input.now given.batch_from)))) }
 {
     let RateInput {
         sheet,
@@ -104,65 +172,49 @@ fn check_batches(
         return Err(AllocError);
     };
     let mut world = world_before(alloc, &sheet, &issuer)?;
-    check_items(alloc, &mut world, input, batch_from, told)
+    check_items(alloc, &mut world, input, batch_from, told, warned)
 }
 
-/// Appends the refusals of an input.
-fn put_refusals(alloc: Global, input: &[u8], told: &mut Vec<u8>) -> Result<(), AllocError>
-    ensures { OnOk result (told.new.items ≡ told.old.items ++ said_of_input input.now) }
+/// Appends what is wrong with an input, and to another text what is odd: first the keys that no reader takes.
+fn put_said(
+    alloc: Global,
+    input: &[u8],
+    told: &mut Vec<u8>,
+    warned: &mut Vec<u8>,
+) -> Result<(), AllocError>
+    ensures said { OnOk result (told.new.items ≡ told.old.items ++ said_of_input input.now) }
+    ensures warned { OnOk result (warned.new.items ≡ warned.old.items ++ warned_of_input input.now) }
 {
     match rate_input(alloc, input) {
-        Ok(given) => check_batches(alloc, input, given, told),
+        Ok(given) => {
+            put_unknown_on(alloc, warned, input, 1)?;
+            check_batches(alloc, input, given, told, warned)
+        }
         Err(fault) => put_fault(alloc, told, input, fault),
     }
 }
 
-/// What is said of an input, and how many lines its refusals have.
-fn said_of(alloc: Global, input: &[u8]) -> Result<(Vec<u8>, u64), AllocError>
-    ensures said { IfOk result (λ r. r.0.items ≡ said_of_input input.now ++ warned_of_input input.now) }
-    ensures count { IfOk result (λ r. r.1 ≡ line_count (said_of_input input.now)) }
-    ensures ahead { IfOk result (λ r. r.1 ≡ 0 → said_of_input input.now ≡ []) }
-{
-    let mut said = Vec::new(alloc);
-    put_refusals(alloc, input, &mut said)?;
-    let count = line_count(&said) as u64;
-    Ok((said, count))
-}
+/// What is to have a schedule.
+#[derive(Clone, Copy, Drop)]
+struct ToSchedule;
 
-/// Writes what is said, and answers how many lines its refusals have.
-fn write_said<W: Sink>(said: &[u8], count: u64, writer: &mut W) -> Result<u64, PlayFault>
-    ensures said { IfOk result (λ lines. Appends (W.contents writer.old) (W.contents writer.new) said.now
-        × (lines ≡ count)) }
-    ensures prefix { result ≡ Err PlayFault.Write
-        → AppendsPrefix (W.contents writer.old) (W.contents writer.new) said.now }
-    ensures fault { IfErr result (λ fault. fault ≡ PlayFault.Write) }
-    ensures writes { W.failed_calls writer.new
-        ≡ count_after (tells_of_writer result) (W.failed_calls writer.old) }
-{
-    match write_all(writer, said) {
-        Ok(()) => Ok(count),
-        Err(_) => Err(PlayFault::Write),
-    }
-}
+impl Check for ToSchedule {
+    ghost said_of = { λ _. said_of_input };
 
-/// Writes what is said of an input, all at once: at want of memory nothing.
-fn write_checked<W: Sink>(alloc: Global, input: &[u8], writer: &mut W) -> Result<u64, PlayFault>
-    ensures said { IfOk result (λ count. Appends (W.contents writer.old) (W.contents writer.new)
-        (said_of_input input.now ++ warned_of_input input.now)
-        × (count ≡ line_count (said_of_input input.now))) }
-    ensures ahead { result ≡ Ok 0 → (said_of_input input.now ≡ [])
-        × Appends (W.contents writer.old) (W.contents writer.new) (warned_of_input input.now) }
-    ensures prefix { result ≡ Err PlayFault.Write
-        → AppendsPrefix (W.contents writer.old) (W.contents writer.new)
-        (said_of_input input.now ++ warned_of_input input.now) }
-    ensures fault { IfErr result (λ fault. (fault ≡ PlayFault.Write) ⊎ (fault ≡ PlayFault.OutOfMemory)) }
-    ensures memory { result ≡ Err PlayFault.OutOfMemory → writer.new ≡ writer.old }
-    ensures writes { W.failed_calls writer.new
-        ≡ count_after (tells_of_writer result) (W.failed_calls writer.old) }
-{
-    match said_of(alloc, input) {
-        Ok((said, count)) => write_said(&said, count, writer),
-        Err(_) => Err(PlayFault::OutOfMemory),
+    ghost warned_of = { λ _. warned_of_input };
+
+    ghost lines = { λ _. lines_said };
+
+    ghost long = { λ _. said_of_long };
+
+    fn put(
+        &self,
+        alloc: Global,
+        input: &[u8],
+        told: &mut Vec<u8>,
+        warnings: &mut Vec<u8>,
+    ) -> Result<(), AllocError> {
+        put_said(alloc, input, told, warnings)
     }
 }
 
@@ -206,9 +258,5 @@ pub fn check_schedule_input<R: Source, W: Sink>(
     ensures writes { W.failed_calls writer.new
         ≡ count_after (tells_of_writer result) (W.failed_calls writer.old) }
 {
-    match read_input(alloc, reader) {
-        Ok(input) => write_checked(alloc, &input, writer),
-        Err(PlayFault::Schedule(_)) => write_said(b"line 1: L8\n", 1, writer),
-        Err(fault) => Err(fault),
-    }
+    check_input(alloc, &ToSchedule, reader, writer)
 }

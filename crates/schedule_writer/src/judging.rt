@@ -147,6 +147,7 @@ fn judge(
         world,
         input,
         offered,
+        None,
         &Event::Journal(offer),
         &mut told,
     ) {

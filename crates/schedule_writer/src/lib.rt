@@ -12,6 +12,7 @@ mod judging;
 pub mod laws;
 mod lines;
 mod plans;
+mod warnings;
 mod writing;
 
 pub use asked::Request;

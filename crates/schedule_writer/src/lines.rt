@@ -1,8 +1,9 @@
 //! A batch is journaled, or it is told at which line of the input it is refused, and why.
 
-ghost use Rattle.std.specs.Prelude.{◌≡◌, ◌++◌, ◌≤◌, ℕ, true, false, IfOk, OnOk, MatchOption, length};
+ghost use Rattle.std.specs.Prelude.{◌≡◌, ◌++◌, ◌≤◌, ℕ, true, false, IfOk, IfSome, OnOk, MatchOption, length, take};
 ghost use Rattle.metering_model.specs.BatchReading.{batch_in};
 ghost use Rattle.metering_model.specs.Step.{step};
+ghost use Rattle.metering_model.specs.Transcript.{line_count};
 ghost use Rattle.metering_model.specs.World.{Journal, Refused, offer_of};
 ghost use Rattle.metering_model.specs.declared.BatchFault.{BatchFault};
 ghost use Rattle.metering_model.specs.declared.Refusal.{Refusal};
@@ -41,23 +42,37 @@ fn bad_record(world: &World, event: &Event, text: &[u8], refusal: Refusal) -> Op
     }
 }
 
+/// How many lines stand above a byte of the input, where that is not known.
+fn lines_above(input: &[u8], from: usize, known: Option<usize>) -> usize
+    requires from { from ≤ length input.now }
+    requires known { IfSome known (λ lines. lines ≡ line_count (take from input.now)) }
+    ensures { result ≡ line_count (take from input.now) }
+{
+    match known {
+        Some(lines) => lines,
+        None => line_count(&input[..from]),
+    }
+}
+
 /// Appends the line that is told of a refused batch, of which this is the first bad record, where it is refused for one.
 fn put_refusal(
     told: &mut Vec<u8>,
     world: &World,
     input: &[u8],
     offered: &Offered<'_>,
+    known: Option<usize>,
     bad: Option<u16>,
     refusal: Refusal,
 ) -> Result<(), AllocError>
     requires from { offered.now.from ≤ length input.now }
+    requires known { IfSome known (λ lines. lines ≡ line_count (take offered.now.from input.now)) }
     requires fault { (fault : BatchFault) → refusal ≡ Refusal.BadBatch fault
         → batch_in offered.now.text.now ≡ Err fault }
     requires bad { IsBadIn world.now offered.now.text.now refusal bad }
     ensures { OnOk result (told.new.items ≡ told.old.items
         ++ told_of_offered input.now world.now (offered_of offered.now) refusal) }
 {
-    let above = line_count(&input[..offered.from]);
+    let above = lines_above(input, offered.from, known);
     match refusal {
         Refusal::WorldFull => put_at(told, above as u128 + 1, refusal),
         _ => put_refused_text(told, above, world.sheet(), offered.text, bad, refusal),
@@ -76,16 +91,18 @@ fn refusal_of(reply: &Reply) -> Option<Refusal>
 }
 
 /// Journals a batch, and answers whether it was. Where it is refused the world stays as it was, and the line that tells so is
-/// appended.
+/// appended. How many lines of the input stand above the batch may be known; else they are counted where it is refused.
 pub(crate) fn journal_offered(
     alloc: Global,
     world: &mut World,
     input: &[u8],
     offered: &Offered<'_>,
+    known: Option<usize>,
     event: &Event,
     told: &mut Vec<u8>,
 ) -> Result<bool, AllocError>
     requires from { offered.now.from ≤ length input.now }
+    requires known { IfSome known (λ lines. lines ≡ line_count (take offered.now.from input.now)) }
     requires event { event_of event.now ≡ journal_of (offered_of offered.now) }
     ensures told { OnOk result (told.new.items ≡ told.old.items
         ++ told_of_answer input.now world.old (offered_of offered.now) (answer_to world.old offered.now.text.now)) }
@@ -99,7 +116,7 @@ pub(crate) fn journal_offered(
         None => Ok(true),
         Some(refusal) => {
             let bad = bad_record(world, event, offered.text, refusal);
-            put_refusal(told, world, input, offered, bad, refusal)?;
+            put_refusal(told, world, input, offered, known, bad, refusal)?;
             Ok(false)
         }
     }

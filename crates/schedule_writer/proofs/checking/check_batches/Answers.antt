@@ -1,11 +1,23 @@
-use Rattle.std.proofs.Common.{ap, ap₂, ◌∙◌, ◌++◌}
-use Rattle.std.proofs.lemmas.Result.{on_ok_weaker}
+use Rattle.std.proofs.Common.{ap, ap₂, ◌∙◌, ◌++◌, []}
 use Rattle.metering_model.specs.RatedAlone.{world_before}
-use Rattle.schedule_writer.proofs.CheckLaws.{said_of_given}
+use Rattle.fault_lines.specs.Ahead.{ahead_of_all}
+use Rattle.schedule_writer.specs.Checks.{journaled_of}
+use Rattle.schedule_writer.specs.Inputs.{batches_of, items_in}
+use Rattle.std.specs.Prelude.{length}
+use Rattle.schedule_writer.proofs.CheckLaws.{on_ok, said_of_given}
 use Rattle.schedule_writer.proofs.checking.check_batches.Goals as goal
 
-pub returns : goal.returns
-returns c =
+pub returns-clause-told : goal.returns-clause-told
+returns-clause-told c =
     let same = said_of_given c.args.input.now c.args.given.batch_from c.args.given.sheet c.args.given.issuer c.in_ok-world.world c.requires.within c.requires.given
     (c.in_ok-world.ensures ∙ ap₂ world_before c.in-Ok.ensures.ok c.in-Ok-new.ensures.ok) in
-    on_ok_weaker c.check_items.result (λ told. told ∙ ap (λ t. c.args.told.now.items ++ t) same) c.check_items.ensures
+    on_ok c.check_items.result (λ told. told ∙ ap (λ t. c.args.told.now.items ++ t) same) c.check_items.ensures.told
+
+pub returns-clause-ahead : goal.returns-clause-ahead
+returns-clause-ahead c =
+    let input = c.args.input.now in
+    let before = c.in_ok-world.ensures ∙ ap₂ world_before c.in-Ok.ensures.ok c.in-Ok-new.ensures.ok in
+    on_ok c.check_items.result
+    (λ ahead. ahead
+    ∙ ap (λ w. c.args.warned.now.items ++ ahead_of_all [] (journaled_of input w (batches_of (items_in (length input) input c.args.given.batch_from)))) before)
+    c.check_items.ensures.ahead

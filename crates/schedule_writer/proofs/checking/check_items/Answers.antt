@@ -1,8 +1,10 @@
 use Rattle.std.proofs.Common.{◌≡◌, ◌+◌, ◌-◌, ◌<◌, ◌≤◌, ◌∷◌, ◌++◌, suc, length, drop, sym, ap, ◌∙◌, arith}
 use Rattle.std.proofs.lemmas.List.{append-nil, length-drop}
-use Rattle.schedule_writer.specs.Checks.{told_of_batches}
+use Rattle.fault_lines.specs.Ahead.{ahead_of_all}
+use Rattle.schedule_writer.specs.Checks.{journaled_of, told_of_batches}
 use Rattle.schedule_writer.specs.Inputs.{batches_of, item_at, items_in}
 use Rattle.schedule_writer.proofs.CheckLaws.{told_more}
+use Rattle.schedule_writer.proofs.CountedLaws.{ahead_more, nothing_ahead}
 use Rattle.schedule_writer.proofs.ItemLaws.{item_next, items_end, items_none}
 use Rattle.schedule_writer.proofs.checking.check_items.Goals as goal
 
@@ -14,19 +16,28 @@ loop-preserved c =
     let drops = length-drop c.loop.here input in
     let some : 0 < length (drop c.loop.here input) = omega (arith, c.loop.invariant.here, c.if-here-input.false, drops) in
     let item = item_at input c.loop.here in
-    let rest = items_in k input (c.loop.here + c.in_ok-here.field-0) in
+    let rest = items_in k input (c.loop.here + c.in_ok-next.field-0) in
     let next : items_in (length input - c.loop.counter) input c.loop.here ≡ item ∷ rest
     = ap (λ n. items_in n input c.loop.here) more
-    ∙ (item_next k input c.loop.here some ∙ ap (λ n. item ∷ items_in k input (c.loop.here + n)) (sym c.in_ok-here.ensures.length)) in
+    ∙ (item_next k input c.loop.here some ∙ ap (λ n. item ∷ items_in k input (c.loop.here + n)) (sym c.in_ok-next.ensures.length)) in
+    let ahead = c.loop.invariant.ahead in
     record {
-      here = c.in_ok-here.ensures.next;
+      here = c.in_ok-next.ensures.next;
+      above = c.lines_more-above.ensures;
       told = told_more input _ c.loop.told.items c.check_item.new.told.items c.loop.world c.check_item.new.world item rest
-          (ap (λ is. c.loop.told.items ++ told_of_batches input c.loop.world (batches_of is)) (sym next) ∙ c.loop.invariant.told) c.in_ok-here.ensures.told
-          c.in_ok-here.ensures.world;
+          (ap (λ is. c.loop.told.items ++ told_of_batches input c.loop.world (batches_of is)) (sym next) ∙ c.loop.invariant.told) c.in_ok-next.ensures.told
+          c.in_ok-next.ensures.world;
+      ahead = (
+        _,
+        c.in_ok-next.ensures.latest ahead.0 ahead.1,
+        ahead_more input _ c.loop.warned.items c.check_item.new.warned.items ahead.0 c.loop.world c.check_item.new.world item rest
+            (ap (λ is. c.loop.warned.items ++ ahead_of_all ahead.0 (journaled_of input c.loop.world (batches_of is))) (sym next) ∙ ahead.2)
+            (c.in_ok-next.ensures.ahead ahead.0 ahead.1) c.in_ok-next.ensures.world,
+      );
     }
 
-pub returns-then-here-input : goal.returns-then-here-input
-returns-then-here-input c =
+pub returns-then-here-input-clause-told : goal.returns-then-here-input-clause-told
+returns-then-here-input-clause-told c =
     let input = c.args.input.now in
     let drops = length-drop c.loop.here input in
     let none : length (drop c.loop.here input) ≤ 0 = omega (arith, c.if-here-input.true, drops) in
@@ -34,10 +45,25 @@ returns-then-here-input c =
     ∙ (ap (λ is. c.loop.told.items ++ told_of_batches input c.loop.world (batches_of is)) (sym (items_end (length input - c.loop.counter) input c.loop.here none))
     ∙ c.loop.invariant.told)
 
-pub returns : goal.returns
-returns c =
+pub returns-then-here-input-clause-ahead : goal.returns-then-here-input-clause-ahead
+returns-then-here-input-clause-ahead c =
+    let input = c.args.input.now in
+    let drops = length-drop c.loop.here input in
+    let none : length (drop c.loop.here input) ≤ 0 = omega (arith, c.if-here-input.true, drops) in
+    let ahead = c.loop.invariant.ahead in
+    nothing_ahead input c.loop.warned.items _ ahead.0 c.loop.world _ (items_end (length input - c.loop.counter) input c.loop.here none) ahead.2
+
+pub returns-clause-told : goal.returns-clause-told
+returns-clause-told c =
     let input = c.args.input.now in
     let none : 0 ≡ length input - c.loop.counter = omega (arith, c.loop-test.false) in
     sym (append-nil c.loop.told.items)
     ∙ (ap (λ is. c.loop.told.items ++ told_of_batches input c.loop.world (batches_of is)) (sym (items_none input c.loop.here) ∙ ap (λ n. items_in n input c.loop.here) none)
     ∙ c.loop.invariant.told)
+
+pub returns-clause-ahead : goal.returns-clause-ahead
+returns-clause-ahead c =
+    let input = c.args.input.now in
+    let none : 0 ≡ length input - c.loop.counter = omega (arith, c.loop-test.false) in
+    let ahead = c.loop.invariant.ahead in
+    nothing_ahead input c.loop.warned.items _ ahead.0 c.loop.world _ (ap (λ n. items_in n input c.loop.here) (sym none) ∙ items_none input c.loop.here) ahead.2
