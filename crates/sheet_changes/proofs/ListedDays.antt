@@ -1,5 +1,5 @@
 -- The prices that are listed, one day more.
-use Rattle.std.proofs.Common.{◌≡◌, ℕ, List, [], ◌∷◌, ◌++◌, refl, ap, sym, ◌∙◌}
+use Rattle.std.proofs.Common.{ℕ, List, [], ◌∷◌, ◌++◌, refl, ap, sym, ◌∙◌}
 use Rattle.std.proofs.lemmas.List.{append-nil, append_assoc}
 use Rattle.metering_model.specs.Dates.{IsDayText}
 use Rattle.metering_model.specs.Sheet.{Sheet}

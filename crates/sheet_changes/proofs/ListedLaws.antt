@@ -1,7 +1,6 @@
 -- What is listed and what a likeness says agree.
-use Rattle.std.proofs.Common.{◌≡◌, ◌↔◌, ℕ, ◌<◌, ◌≤◌, ◌^◌, Bool, true, false, List, [], ◌∷◌, ◌++◌, length, Option, Some, None, ℤ, pos, ◌<ℤ◌, ◌≤ℤ◌, refl, sym, ap, subst, ◌∙◌, inl, inr, arith, Contains, option_map, decimal, zero, suc, codes, slice_index_or}
+use Rattle.std.proofs.Common.{◌≡◌, ◌↔◌, ℕ, ◌<◌, ◌≤◌, ◌^◌, true, List, [], ◌∷◌, ◌++◌, length, Option, Some, None, ℤ, pos, ◌<ℤ◌, ◌≤ℤ◌, refl, sym, ap, subst, ◌∙◌, inl, inr, arith, Contains, option_map, decimal, zero, suc, codes, slice_index_or}
 use Rattle.std.specs.Prelude.{All, IsTrue}
-use Rattle.std.specs.List.{flat_map}
 use Rattle.std.specs.Option.{is_some}
 use Rattle.std.proofs.lemmas.Bool.{cases_Bool, false≢true}
 use Rattle.std.proofs.lemmas.Fmt.{decimal_is_IsNumeral}
@@ -28,7 +27,7 @@ use Rattle.sheet_text.specs.Keys.{commitment_category_in, service_category_in}
 use Rattle.sheet_text.specs.Names.{key_name}
 use Rattle.sheet_text.specs.declared.names.Key.{Key}
 use Rattle.sheet_text.specs.declared.names.Key.TheVariants as keys
-use Rattle.sheet_changes.specs.FieldChanges.{ListsNoneBefore, PriceDay, changed, changed_keys, commitment_keys, commitment_lines, commitment_text, part, price_day, price_days, price_keys, price_lines, price_text, tabbed}
+use Rattle.sheet_changes.specs.FieldChanges.{ListsNoneBefore, PriceDay, changed, changed_keys, commitment_keys, commitment_lines, commitment_text, part, price_day, price_days, price_keys, price_lines, price_text}
 use Rattle.sheet_changes.specs.Inner.Compared.{Stays, StaysOn}
 use Rattle.sheet_changes.proofs.CommitmentLaws.{find_some, found, same_text}
 use Rattle.sheet_changes.proofs.FieldLines.{none_changed, one_changed}

@@ -1,8 +1,8 @@
 -- Of two sheets there is one listing.
-use Rattle.std.proofs.Common.{Ordering, Less, Equal, Greater, ◌≡◌, ◌≢◌, ℕ, zero, suc, ◌<◌, List, [], ◌∷◌, ◌++◌, ℤ, pos, refl, sym, ap, ap₂, subst, ◌∙◌, arith, inl, inr, ◌⊎◌, Contains}
-use Rattle.std.specs.Prelude.{All, unsigned_abs}
+use Rattle.std.proofs.Common.{Ordering, Less, ◌≡◌, ◌≢◌, ℕ, zero, suc, List, [], ◌∷◌, ◌++◌, ℤ, pos, refl, sym, ap, ap₂, subst, ◌∙◌, arith, inl, inr, ◌⊎◌, Contains}
+use Rattle.std.specs.Prelude.{unsigned_abs}
 use Rattle.std.specs.Cmp.{IsTotalOrder}
-use Rattle.std.specs.List.{AllByRecursion, flat_map}
+use Rattle.std.specs.List.{flat_map}
 use Rattle.std.specs.List.Sorted.{IsStrictlySortedBy}
 use Rattle.std.specs.Cmp.Lexicographic.{slice_cmp}
 use Rattle.std.specs.Ordering.{nat_cmp, ordering_reverse}

@@ -2,7 +2,7 @@
 use Rattle.std.proofs.Common.{◌≡◌, ◌↔◌, ℕ, ◌<◌, List, [], ◌∷◌, ◌++◌, length, Option, Some, None, Ok, Err, ℤ, refl, sym, ap, subst, ◌∙◌, arith, eq-eqb, eqb-true}
 use Rattle.std.specs.Prelude.{◌==◌, IsTrue, IfSome}
 use Rattle.std.proofs.lemmas.List.{append-nil, length-append}
-use Rattle.metering_model.specs.FirstFailure.{◌>>=◌, holds_or}
+use Rattle.metering_model.specs.FirstFailure.{◌>>=◌}
 use Rattle.metering_model.specs.Sheet.{Sheet}
 use Rattle.metering_model.specs.SheetRules.{IsSheet}
 use Rattle.metering_model.specs.Transcript.{line}
@@ -11,9 +11,9 @@ use Rattle.input_sections.specs.declared.faults.ScheduleCode.TheVariants.{TooLon
 use Rattle.input_sections.specs.declared.faults.ScheduleFault.{ScheduleFault}
 use Rattle.input_sections.specs.declared.faults.ScheduleFault.TheVariants.{Refused}
 use Rattle.input_sections.specs.Sections.{Unread, sheet_section, whole_of}
-use Rattle.program_input.proofs.FaultLaws.{first_fails, is_longer}
 use Rattle.sheet_changes.specs.Changes.{Likeness, IsLikeness, IsLikenessText, SaysChanges, StaysBefore, region_lines, two_sheets_in}
 use Rattle.sheet_changes.specs.Inner.Compared.{StaysBy, nothing_behind}
+use Rattle.sheet_changes.specs.Inner.SaidLines.{too_long}
 use Rattle.sheet_changes.specs.Regions.{unlike_regions}
 use Rattle.sheet_changes.proofs.LikenessLaws.{goes_on_by}
 use Rattle.sheet_changes.proofs.RegionLaws.{are_unlike, none_listed}
@@ -65,11 +65,6 @@ left_behind text u v w old new fault whole first second behind =
     (ok_step_from (sheet_section u) _ (old, v) _ first
     (ok_step_from (sheet_section v) _ (new, w) _ second
     (ap (λ r. r >>= λ (_ : Unit {0}). Ok (old, new)) behind)))
-
-pub too_long : (text : List ℕ) (fault : ScheduleFault) → 16_777_216 < length text → fault ≡ Refused TooLong 1 → two_sheets_in text ≡ Err fault
-unfolding two_sheets_in
-too_long text fault longer is =
-    first_fails (whole_of text) _ fault (ap (λ b. holds_or b (Refused TooLong 1) >>= λ (_ : Unit {0}). Ok (record { text = text; from = 0; line = 1 })) (is_longer (length text) 16_777_216 longer) ∙ ap Err (sym is))
 
 pub longer_input : (known : Option (List ℕ)) (fault : ScheduleFault) → IfSome known (λ input. 16_777_216 < length input) → fault ≡ Refused TooLong 1 → IfSome known (λ input. two_sheets_in input ≡ Err fault)
 longer_input None fault longer is = tt

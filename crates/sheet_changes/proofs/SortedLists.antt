@@ -1,5 +1,5 @@
 -- What a sort leaves once its repeats are gone: just what was there, each once, in order.
-use Rattle.std.proofs.Common.{Ordering, Less, Equal, Greater, ◌≡◌, ℕ, zero, suc, ◌<◌, Bool, true, ◌&&◌, List, [], ◌∷◌, ◌++◌, map, Bor, ℤ, refl, sym, ap, ap₂, subst, ◌∙◌, arith, Contains, IsPermutation}
+use Rattle.std.proofs.Common.{Ordering, Less, Equal, Greater, ◌≡◌, ℕ, zero, suc, Bool, true, ◌&&◌, List, [], ◌∷◌, ◌++◌, map, Bor, ℤ, refl, sym, ap, ap₂, subst, ◌∙◌, arith, Contains, IsPermutation}
 use Rattle.std.specs.Prelude.{All, nat_eq}
 use Rattle.std.specs.Cmp.{IsTotalOrder}
 use Rattle.std.specs.Cmp.Lexicographic.{pointwise, slice_cmp, texts_ties}
@@ -12,7 +12,7 @@ use Rattle.std.proofs.lemmas.List.Elements.{All-contains_itself, All-map, All-we
 use Rattle.std.proofs.lemmas.List.Kept.{Any-dedup, Contains-from_dedup, IsStrictlySortedBy-dedup}
 use Rattle.std.proofs.lemmas.List.Sorted.{Contains-permutation, IsPermutation-sym}
 use Rattle.std.proofs.lemmas.Map.Lookups.{CmpEqualImpliesEq, exact_bytes, exact_signed}
-use Rattle.sheet_changes.specs.FieldChanges.{AreSorted, PriceDay, price_day_cmp}
+use Rattle.sheet_changes.specs.FieldChanges.{AreSorted, price_day_cmp}
 use Rattle.sheet_changes.specs.Inner.Listed.{day_of_pair}
 
 pub mapped_there : {X Y : Type 0} (f : X → Y) (xs : List X) (x : X) → Contains xs x → Contains (map f xs) (f x)

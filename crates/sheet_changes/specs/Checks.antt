@@ -1,7 +1,8 @@
 -- What `check` says of the input of two sheets: what is wrong with it, and behind that which keys no reader takes.
-use Rattle.std.specs.Prelude.{◌≡◌, ℕ, List, [], ◌++◌, Option, Result, Ok, Err, IfSome}
+use Rattle.std.specs.Prelude.{ℕ, List, [], ◌++◌, Option, Result, Ok, Err}
 use Rattle.metering_model.specs.FirstFailure.{◌>>=◌}
 use Rattle.metering_model.specs.Sheet.{Sheet}
+use Rattle.fault_lines.specs.Checked.{IsSaid}
 use Rattle.fault_lines.specs.Told.{said_of_fault}
 use Rattle.fault_lines.specs.UnknownKeys.{unknown_from}
 use Rattle.input_sections.specs.declared.faults.ScheduleFault.{ScheduleFault}
@@ -33,7 +34,5 @@ unfoldable pub warned_of_two_sheets : List ℕ → List ℕ
 warned_of_two_sheets text = warned_of (beginnings_in text)
 
 -- What is said of an input and what is warned of, which is all that a reader gives where its bytes are known.
-pub record IsCheckOf (known : Option (List ℕ)) (input said warned : List ℕ) : Type 0 where
-  pub is_input : IfSome known (λ bytes. input ≡ bytes)
-  pub is_said : said ≡ said_of_two_sheets input
-  pub is_warned : warned ≡ warned_of_two_sheets input
+abbrev pub IsCheckOf : (known : Option (List ℕ)) (input said warned : List ℕ) → Type 0
+IsCheckOf = IsSaid said_of_two_sheets warned_of_two_sheets

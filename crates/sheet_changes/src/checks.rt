@@ -1,6 +1,6 @@
 //! `focusd check --kind sheets`: what is wrong with the input of two sheets.
 
-ghost use Rattle.std.specs.Prelude.{◌≡◌, ◌≢◌, ◌⊎◌, ◌+◌, ◌++◌, ℕ, List, [], Ok, Err, IfOk, IfErr, IsOk, OnOk};
+ghost use Rattle.std.specs.Prelude.{◌≡◌, ◌≢◌, ◌+◌, ◌++◌, ℕ, List, [], Ok, Err, IfOk, IfErr, IsOk, OnOk};
 ghost use Rattle.std.specs.Io.KnownBytes.{Appends, IsAtEnd};
 ghost use Rattle.counted_io.specs.Counts.{count_after};
 ghost use Rattle.counted_io.specs.Reading.{ConsumesAtMost};
@@ -14,13 +14,13 @@ ghost use Rattle.program_input.specs.Faults.{tells_of_reader, tells_of_writer};
 ghost use Rattle.fault_lines.specs.UnknownKeys.{unknown_from};
 ghost use Rattle.sheet_changes.specs.Changes.{two_sheets_in};
 ghost use Rattle.sheet_changes.specs.Checks.{IsCheckOf, said_of_two_sheets, warned_of_two_sheets};
+ghost use Rattle.sheet_changes.specs.Inner.SaidLines.{long_said, none_said};
 
 use crate::changes::two_sheets;
-use byte_text::line_count;
-use counted_io::{Sink, Source, write_all};
-use fault_lines::{put_fault, put_unknown_keys};
+use counted_io::{Sink, Source};
+use fault_lines::{Check, check_input, put_fault, put_unknown_keys};
 use input_sections::{ScheduleCode, ScheduleFault, Unread, read_section};
-use program_input::{PlayFault, read_input};
+use program_input::PlayFault;
 use std::alloc::{AllocError, Global};
 
 /// The first fault of the two sections and of what stands behind them, if there is one.
@@ -75,62 +75,29 @@ fn put_warnings(alloc: Global, told: &mut Vec<u8>, text: &[u8]) -> Result<(), Al
     }
 }
 
-/// Puts what is wrong with the two sections into an empty text, and behind it the warnings. It answers how many lines
-/// the first has.
-fn put_check(alloc: Global, text: &[u8], told: &mut Vec<u8>) -> Result<u64, AllocError>
-    requires { told.old.items ≡ [] }
-    ensures told { OnOk result (told.new.items ≡ said_of_two_sheets text.now ++ warned_of_two_sheets text.now) }
-    ensures count { IfOk result (λ count. count ≡ line_count (said_of_two_sheets text.now)) }
-    ensures ahead { IfOk result (λ count. count ≡ 0 → said_of_two_sheets text.now ≡ []) }
-{
-    match take_sheets(alloc, text) {
-        Ok(()) => {
-            put_warnings(alloc, told, text)?;
-            Ok(0)
-        }
-        Err(fault) => {
-            put_fault(alloc, told, text, fault)?;
-            let count = line_count(told) as u64;
-            Ok(count)
-        }
-    }
-}
+/// What an input of two sheets is checked as.
+struct TwoSheets;
 
-/// Writes what was told, which has so many lines of faults.
-fn write_told<W: Sink>(told: &[u8], count: u64, writer: &mut W) -> Result<u64, PlayFault>
-    ensures told { IfOk result (λ n. (n ≡ count)
-        × Appends (W.contents writer.old) (W.contents writer.new) told.now) }
-    ensures prefix { result ≡ Err PlayFault.Write
-        → AppendsPrefix (W.contents writer.old) (W.contents writer.new) told.now }
-    ensures fault { IfErr result (λ fault. fault ≡ PlayFault.Write) }
-    ensures writes { W.failed_calls writer.new
-        ≡ count_after (tells_of_writer result) (W.failed_calls writer.old) }
-{
-    match write_all(writer, told) {
-        Ok(()) => Ok(count),
-        Err(_) => Err(PlayFault::Write),
-    }
-}
+impl Check for TwoSheets {
+    ghost said_of = { λ _. said_of_two_sheets };
 
-/// Writes what is said and warned of an input, all at once: at want of memory nothing.
-fn write_check<W: Sink>(alloc: Global, input: &[u8], writer: &mut W) -> Result<u64, PlayFault>
-    ensures said { IfOk result (λ count. Appends (W.contents writer.old) (W.contents writer.new)
-        (said_of_two_sheets input.now ++ warned_of_two_sheets input.now)
-        × (count ≡ line_count (said_of_two_sheets input.now))) }
-    ensures ahead { result ≡ Ok 0 → (said_of_two_sheets input.now ≡ [])
-        × Appends (W.contents writer.old) (W.contents writer.new) (warned_of_two_sheets input.now) }
-    ensures prefix { result ≡ Err PlayFault.Write
-        → AppendsPrefix (W.contents writer.old) (W.contents writer.new)
-        (said_of_two_sheets input.now ++ warned_of_two_sheets input.now) }
-    ensures fault { IfErr result (λ fault. (fault ≡ PlayFault.Write) ⊎ (fault ≡ PlayFault.OutOfMemory)) }
-    ensures memory { result ≡ Err PlayFault.OutOfMemory → writer.new ≡ writer.old }
-    ensures writes { W.failed_calls writer.new
-        ≡ count_after (tells_of_writer result) (W.failed_calls writer.old) }
-{
-    let mut told = Vec::new(alloc);
-    match put_check(alloc, input, &mut told) {
-        Ok(count) => write_told(&told, count, writer),
-        Err(_) => Err(PlayFault::OutOfMemory),
+    ghost warned_of = { λ _. warned_of_two_sheets };
+
+    ghost lines = { λ _. none_said };
+
+    ghost long = { λ _. long_said };
+
+    fn put(
+        &self,
+        alloc: Global,
+        input: &[u8],
+        told: &mut Vec<u8>,
+        warnings: &mut Vec<u8>,
+    ) -> Result<(), AllocError> {
+        match take_sheets(alloc, input) {
+            Ok(()) => put_warnings(alloc, warnings, input),
+            Err(fault) => put_fault(alloc, told, input, fault),
+        }
     }
 }
 
@@ -174,9 +141,5 @@ pub fn check_two_sheets<R: Source, W: Sink>(
     ensures writes { W.failed_calls writer.new
         ≡ count_after (tells_of_writer result) (W.failed_calls writer.old) }
 {
-    match read_input(alloc, reader) {
-        Ok(input) => write_check(alloc, &input, writer),
-        Err(PlayFault::Schedule(_)) => write_told(b"line 1: L8\n", 1, writer),
-        Err(fault) => Err(fault),
-    }
+    check_input(alloc, &TwoSheets, reader, writer)
 }

@@ -1,4 +1,4 @@
-use Rattle.std.proofs.Common.{◌≡◌, ◌≢◌, rules}
+use Rattle.std.proofs.Common.{◌≢◌, rules}
 use Rattle.sheet_changes.proofs.FieldLines.{line_put}
 use Rattle.sheet_changes.proofs.fields.put_changed.Goals as goal
 

@@ -1,5 +1,5 @@
 use Rattle.std.proofs.Common.{◌≡◌, ◌+◌, [], ◌∷◌, ◌++◌, map, take, arith, sym, ap, subst, ◌∙◌}
-use Rattle.std.proofs.lemmas.List.{append_assoc, map-append, take_all, take_more}
+use Rattle.std.proofs.lemmas.List.{append_assoc, map-append, take_more}
 use Rattle.sheet_changes.specs.FieldChanges.{ListsPrices, price_lines}
 use Rattle.sheet_changes.specs.Inner.Listed.{day_of_pair}
 use Rattle.sheet_changes.proofs.ListedDays.{lists_more}
