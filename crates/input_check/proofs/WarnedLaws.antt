@@ -1,5 +1,5 @@
 -- What is warned of, case by case.
-use Rattle.std.proofs.Common.{◌≡◌, ℕ, ◌-◌, ◌<◌, ◌≤◌, List, [], ◌++◌, length, map, drop, take, Some, None, Result, Ok, Err, refl, sym, ap, ◌∙◌, append-nil}
+use Rattle.std.proofs.Common.{◌≡◌, ℕ, ◌≤◌, List, [], ◌++◌, length, map, drop, take, Some, None, Result, Ok, Err, refl, sym, ap, ◌∙◌}
 use Rattle.metering_model.specs.Batch.{Batch}
 use Rattle.metering_model.specs.RatedAlone.{journaled_in}
 use Rattle.metering_model.specs.Schedule.{Planned, event_of}

@@ -5,7 +5,8 @@ use Rattle.sheet_text.specs.Samples.{sample_issuer}
 use Rattle.batch_player.proofs.JournaledLaws.{no_batch}
 use Rattle.input_check.proofs.EventWords.{no_fault_alone}
 use Rattle.input_check.proofs.SaidLaws.{in_any_case, refused_batch, taken_batch}
-use Rattle.input_check.proofs.WarnedLaws.{refused_batch_warned, still, taken_batch_warned}
+use Rattle.fault_lines.proofs.KeysOnLine.{still}
+use Rattle.input_check.proofs.WarnedLaws.{refused_batch_warned, taken_batch_warned}
 use Rattle.input_check.proofs.ratings.check_batch.Goals as goal
 
 pub returns-in-Err-clause-said : goal.returns-in-Err-clause-said

@@ -1,6 +1,5 @@
-use Rattle.std.proofs.Common.{◌≡◌, ◌++◌, ℕ, List, OnOk, take, sym, ap, subst, ◌∙◌, rules}
+use Rattle.std.proofs.Common.{◌≡◌, ◌++◌, ℕ, List, OnOk, sym, ap, subst, ◌∙◌, rules}
 use Rattle.metering_model.specs.Batch.{Batch}
-use Rattle.metering_model.specs.Transcript.{line_count}
 use Rattle.metering_model.specs.World.{Refused}
 use Rattle.metering_model.specs.declared.Refusal.{Refusal}
 use Rattle.fault_lines.specs.Ahead.{AreLatest, ahead_of_all}
