@@ -18,8 +18,9 @@ def section(word, lines):
 
 
 REGIONS = ["[[region]]", 'id = "eu-1"', 'name = "Zürich, 1"']
-SHEETS = [section("sheet", [f'base = "{base}"', *sheet_lines()[1:], *REGIONS]) for base in ("2025-01", "2024-11", "2025-03")]
-ISSUED = section("issuer", [f"{key} = {toml(value)}" for key, value in ISSUER])
+ODD = ["[[zones]]", 'id = "z-1"']  # no reader takes this table
+SHEETS = [section("sheet", [f'base = "{base}"', *sheet_lines()[1:], *REGIONS, *odd]) for base, odd in (("2025-01", []), ("2024-11", []), ("2025-03", ODD))]
+ISSUED = section("issuer", [*(f"{key} = {toml(value)}" for key, value in ISSUER), 'note = "x"'])
 # What is taken where an input has no sheet, or no issuer.
 PLAIN = {"base": "2025-01"}
 SAMPLE = {"provider": "Sample Cloud", "publisher": "Sample Cloud", "issuer": "Sample Cloud Ltd", "account_id": "A-100",
@@ -61,12 +62,17 @@ def items_in(front, text):
             try:
                 world.journal(items[-1])
             except Refused as why:
-                code = re.fullmatch(r"(G1 V\d) line (\d+)|(G\d+).*", str(why))
-                within = int(code[2]) - 1 if code[2] else first_refused(world, items[-1]) if code[3] in ("G3", "G4") else 0
-                raise Refused(f"line {line + within}: {code[1] or code[3]}") from None
+                raise Refused(refused_at(world, items[-1], line, why)) from None
         line += items[-1].count(b"\n")
         text = text[size:]
     return items
+
+
+def refused_at(world, batch, line, why):
+    """What is told of a batch that the journals refuse: the line of the input, of which its head stands on this one, and the code."""
+    code = re.fullmatch(r"(G1 V\d) line (\d+)|(G\d+).*", str(why))
+    within = int(code[2]) - 1 if code[2] else first_refused(world, batch) if code[3] in ("G3", "G4") else 0
+    return f"line {line + within}: {code[1] or code[3]}"
 
 
 def first_refused(world, batch):
@@ -129,7 +135,7 @@ def some_input(rng):
     for _ in range(rng.randint(1, 6)):
         items += [CLOSE] * (rng.choice((1, 1, 2)) if rng.random() < often else 0)
         items.append(some_batch(rng, world, rng.choice(agents), month, KINDS if sheet else KINDS[-3:]))
-        month += rng.choice((-1, 0, 0, 1, 1, 2))
+        month += rng.choice((-1, 0, 0, 1, 1, 2, 2, 14))
     items += [CLOSE] * (rng.random() < often)
     return sheet + issuer, items, (rng.randint(1, 5), rng.choice((0, 0, 1, 2)), rng.choice((None, None, *range(6))))
 
