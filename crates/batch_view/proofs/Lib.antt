@@ -9,4 +9,5 @@ pub mod EntryLemmas
 pub mod AmendedLemmas
 pub mod NamedLemmas
 pub mod EntryLaws
+pub mod PackedLaws
 pub mod GivenLaws

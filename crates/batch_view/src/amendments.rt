@@ -6,8 +6,9 @@ ghost use Rattle.std.specs.List.Sorted.{IsPermutation, IsNonDecreasingBy};
 ghost use Rattle.batch_view.specs.Inner.Kept.{is_before};
 ghost use Rattle.batch_view.specs.Inner.Amended.{amendment_found, amendments_kept, rank, rank_of, IsSmall, Names, IsPointOf, IsLastNamed, entry_before};
 
-use crate::entries::{Entry, Found};
+use crate::entries::Found;
 use crate::owned::Amendment;
+use crate::packed::PackedEntry;
 use record_view::Stamp;
 use std::alloc::{AllocError, Global};
 
@@ -19,23 +20,20 @@ fn rank(seq: u32, index: u16, own: u16) -> u64
 }
 
 /// How many of the records are amendments.
-fn count_amendments(entries: &[Entry]) -> usize {
-    entries
-        .iter()
-        .filter(|entry| matches!(entry.found, Found::Amend { .. }))
-        .count()
+fn count_amendments(entries: &[PackedEntry]) -> usize {
+    entries.iter().filter(|entry| entry.is_amendment()).count()
 }
 
 /// The amendment that a record is, if it is one.
-fn amendment_at(entry: Entry, own: u16) -> Option<Amendment>
-    ensures is { result ≡ amendment_found own entry.value entry.found }
+fn amendment_at(entry: &PackedEntry, own: u16) -> Option<Amendment>
+    ensures is { result ≡ amendment_found own entry.now.value entry.now.found }
     ensures small { IfSome result IsSmall }
 {
-    match entry.found {
+    match entry.found() {
         Found::Amend { seq, index } => Some(Amendment {
             seq,
             index,
-            value: entry.value,
+            value: entry.value(),
             own,
         }),
         Found::Reading { .. } => None,
@@ -56,14 +54,18 @@ fn push_some(found: &mut Vec<Amendment>, amendment: Option<Amendment>) -> Result
 }
 
 /// The amendments among the records, in order.
-fn amendments_of(alloc: Global, entries: &[Entry], count: u16) -> Result<Vec<Amendment>, AllocError>
+fn amendments_of(
+    alloc: Global,
+    entries: &[PackedEntry],
+    count: u16,
+) -> Result<Vec<Amendment>, AllocError>
     requires { length entries.now ≡ count }
     ensures all { IfOk result (λ found. found.items ≡ amendments_kept entries.now) }
     ensures small { IfOk result (λ found. All IsSmall found.items) }
 {
     let mut found = Vec::with_capacity(alloc, count_amendments(entries))?;
     for own in 0..count {
-        push_some(&mut found, amendment_at(entries[usize::from(own)], own))?;
+        push_some(&mut found, amendment_at(&entries[usize::from(own)], own))?;
     }
     Ok(found)
 }
@@ -81,7 +83,7 @@ fn sort(amendments: &mut Vec<Amendment>)
 /// The amendments among the records, sorted by the position that each names, and then by their own index.
 pub(crate) fn sorted_amendments(
     alloc: Global,
-    entries: &[Entry],
+    entries: &[PackedEntry],
     count: u16,
 ) -> Result<Vec<Amendment>, AllocError>
     requires { length entries.now ≡ count }
@@ -135,12 +137,12 @@ fn later(latest: Option<Stamp>, start: Stamp) -> Stamp
 }
 
 /// The latest start of the readings, if there is one.
-pub(crate) fn latest_start(entries: &[Entry]) -> Option<Stamp>
+pub(crate) fn latest_start(entries: &[PackedEntry]) -> Option<Stamp>
     ensures { (moment : ℤ) → list_all (entry_before moment) entries.now ≡ is_before moment result }
 {
     let mut latest = None;
     for entry in entries {
-        if let Found::Reading { start, .. } = entry.found {
+        if let Found::Reading { start, .. } = entry.found() {
             latest = Some(later(latest, start));
         }
     }

@@ -9,9 +9,9 @@ ghost use Rattle.batch_view.specs.Batches.{batch_of, RecordsLeft};
 ghost use Rattle.batch_view.specs.Inner.Kept.{KeepsBatch};
 
 use crate::batch::{BatchView, kept_record};
-use crate::entries::Entry;
 use crate::first_fault::record_from;
 use crate::head::Head;
+use crate::packed::PackedEntry;
 use metering_model::Kind;
 use record_view::{Record, Stamp, Value};
 use std::marker::Model;
@@ -54,7 +54,12 @@ fn asked_of_record<'a>(what: &Record<'a>) -> Asked<'a>
 
 /// What is asked of the record at that index, from its entry.
 #[inline(always)]
-fn kept_asked<'a>(bytes: &'a [u8], head: Head, entries: &[Entry], index: u16) -> Option<Asked<'a>>
+fn kept_asked<'a>(
+    bytes: &'a [u8],
+    head: Head,
+    entries: &[PackedEntry],
+    index: u16,
+) -> Option<Asked<'a>>
     requires { KeepsBatch bytes.now head entries.now }
     ensures { option_map record_asked result ≡ option_map asked_in (slice_get (batch_of bytes.now).records index) }
 {
@@ -84,7 +89,7 @@ impl<'a> BatchView<'a> {
 pub struct AskedRecords<'a> {
     bytes: &'a [u8],
     head: Head,
-    kept: Option<&'a [Entry]>,
+    kept: Option<&'a [PackedEntry]>,
     index: u16,
     // Where the next line begins. Over kept entries it stays where it was.
     at: u32,

@@ -10,10 +10,11 @@ ghost use Rattle.batch_view.specs.Kept.{kind_in};
 ghost use Rattle.batch_view.specs.Inner.Given.{kind_found};
 ghost use Rattle.batch_view.specs.Inner.Kept.{KeepsBatch};
 
-use crate::entries::{Entry, Found, entry_at, record_of_entry};
+use crate::entries::{Found, entry_at, record_of_entry};
 use crate::first_fault::{check_batch, record_from};
 use crate::head::Head;
 use crate::lines::next_line;
+use crate::packed::PackedEntry;
 use metering_model::{BatchFault, Kind};
 use record_view::Record;
 use std::marker::Model;
@@ -23,7 +24,7 @@ use std::marker::Model;
 pub(crate) fn kept_record<'a>(
     bytes: &'a [u8],
     head: Head,
-    entries: &[Entry],
+    entries: &[PackedEntry],
     index: u16,
 ) -> Option<Record<'a>>
     requires { KeepsBatch bytes.now head entries.now }
@@ -49,12 +50,12 @@ fn kind_found(found: Found) -> Option<Kind>
 
 /// The kind of the reading at that index of bytes with this head, from its entry. (Bytes and head are for the proof
 /// alone.)
-fn kept_kind(_bytes: &[u8], _head: Head, entries: &[Entry], index: u16) -> Option<Kind>
+fn kept_kind(_bytes: &[u8], _head: Head, entries: &[PackedEntry], index: u16) -> Option<Kind>
     requires { KeepsBatch _bytes.now _head entries.now }
     ensures { result ≡ kind_in (batch_of _bytes.now) index }
 {
     match entry_at(entries, index) {
-        Some(entry) => kind_found(entry.found),
+        Some(entry) => kind_found(entry.found()),
         None => None,
     }
 }
@@ -64,7 +65,7 @@ fn kept_kind(_bytes: &[u8], _head: Head, entries: &[Entry], index: u16) -> Optio
 pub struct BatchView<'a> {
     pub(crate) bytes: &'a [u8],
     pub(crate) head: Head,
-    pub(crate) kept: Option<&'a [Entry]>,
+    pub(crate) kept: Option<&'a [PackedEntry]>,
 }
 
 impl<'a> Model for BatchView<'a> {
@@ -93,7 +94,11 @@ impl<'a> BatchView<'a> {
     }
 
     /// The view of a batch that was read before, over what is kept of its records.
-    pub(crate) fn with_entries(bytes: &'a [u8], head: Head, entries: &'a [Entry]) -> BatchView<'a>
+    pub(crate) fn with_entries(
+        bytes: &'a [u8],
+        head: Head,
+        entries: &'a [PackedEntry],
+    ) -> BatchView<'a>
         requires { KeepsBatch bytes.now head entries.now }
         ensures { result ≡ bytes.now }
     {
@@ -207,7 +212,7 @@ impl<'a> BatchView<'a> {
 pub struct Records<'a> {
     bytes: &'a [u8],
     head: Head,
-    kept: Option<&'a [Entry]>,
+    kept: Option<&'a [PackedEntry]>,
     index: u16,
     // Where the next line begins. Over kept entries it stays where it was.
     at: u32,

@@ -10,6 +10,7 @@ ghost use Rattle.batch_view.specs.Inner.Lines.{lines_from, first_record, IsBehin
 ghost use Rattle.batch_view.specs.Inner.Entries.{field_total, FitsRecord, IsEntryAt, KeepsRecord, AreEntries};
 
 use crate::lines::next_line;
+use crate::packed::PackedEntry;
 use metering_model::{BatchCode, BatchFault, Kind, Version};
 use record_view::{
     Numbers, Record, Span, Stamp, StampReader, Value, field_spans, kept_reading, read_exact,
@@ -31,16 +32,14 @@ pub(crate) enum Found {
     },
 }
 
-/// What is kept of a record: the spans of its nine fields, of ten with a region, or of an amendment's four, and its
-/// numbers.
+/// What is found of a record: the spans of its nine fields, of ten with a region, or of an amendment's four, and its
+/// numbers. It is kept as a [`PackedEntry`].
 #[derive(Clone, Copy)]
 pub(crate) struct Entry {
     pub(crate) spans: [Span; 10],
     pub(crate) value: Value,
     pub(crate) found: Found,
 }
-
-const _: () = prove!(size_of::<Entry>() <= 112);
 
 /// How many fields the record has, in a batch of that format.
 pub(crate) fn field_total(version: Version, found: Found) -> usize
@@ -57,7 +56,7 @@ pub(crate) fn field_total(version: Version, found: Found) -> usize
 }
 
 /// What is kept of the record at that index.
-pub(crate) fn entry_at(entries: &[Entry], index: u16) -> Option<&Entry>
+pub(crate) fn entry_at(entries: &[PackedEntry], index: u16) -> Option<&PackedEntry>
     ensures { MatchOption result (length entries.now ≤ index) (λ e. slice_get entries.now index ≡ Some e.now) }
 {
     let at = usize::from(index);
@@ -144,7 +143,7 @@ pub(crate) fn entry_from<'a>(
     text: &'a [u8],
     from: u32,
     stamps: &mut StampReader<'a>,
-) -> Result<(Entry, u32), BatchCode>
+) -> Result<(PackedEntry, u32), BatchCode>
     requires within { from ≤ length text.now }
     requires short { length text.now ≤ most_batch_bytes }
     ensures { MatchResult result
@@ -156,39 +155,38 @@ pub(crate) fn entry_from<'a>(
     };
     let next = line.to + 1;
     if let Some(entry) = plain_entry(version, text, line, stamps) {
-        return Ok((entry, next));
+        return Ok((PackedEntry::of(&entry), next));
     }
     match exact_entry(version, text, line) {
-        Ok(entry) => Ok((entry, next)),
+        Ok(entry) => Ok((PackedEntry::of(&entry), next)),
         Err(code) => Err(code),
     }
 }
 
 /// The record of an entry: its texts are lent from the entry's spans, and nothing is looked through.
 #[inline(always)]
-pub(crate) fn record_of_entry<'a>(version: Version, bytes: &'a [u8], entry: &Entry) -> Record<'a>
+pub(crate) fn record_of_entry<'a>(
+    version: Version,
+    bytes: &'a [u8],
+    entry: &PackedEntry,
+) -> Record<'a>
     requires { (line : Span) × IsEntryAt version bytes.now line entry.now }
     ensures { (line : Span) → IsEntryAt version bytes.now line entry.now → IsRecordAt version bytes.now line result }
 {
-    match entry.found {
-        Found::Reading {
-            kind,
-            start,
-            end,
-            ..
-        } => {
+    match entry.found() {
+        Found::Reading { kind, start, end } => {
             let numbers = Numbers {
                 kind,
                 start,
                 end,
-                value: entry.value,
+                value: entry.value(),
             };
-            kept_reading(version, bytes, &entry.spans, numbers)
+            kept_reading(version, bytes, &entry.spans(), numbers)
         }
         Found::Amend { seq, index } => Record::Amend {
             seq,
             index,
-            value: entry.value,
+            value: entry.value(),
         },
     }
 }

@@ -6,9 +6,10 @@ ghost use Rattle.metering_model.specs.Limits.{most_batch_bytes};
 ghost use Rattle.batch_view.specs.Inner.Lines.{BeginsWithHead, IsBehindLines};
 ghost use Rattle.batch_view.specs.Inner.Kept.{IfFault, KeepsEntries, KeepsBatch};
 
-use crate::entries::{Entry, entry_from};
+use crate::entries::entry_from;
 use crate::first_fault::short_head;
 use crate::head::Head;
+use crate::packed::PackedEntry;
 use metering_model::{BatchCode, BatchFault, Version};
 use record_view::StampReader;
 use std::alloc::Global;
@@ -29,7 +30,7 @@ fn keep_entries(
     text: &[u8],
     from: u32,
     count: u16,
-) -> Result<(Vec<Entry>, u32), Unkept>
+) -> Result<(Vec<PackedEntry>, u32), Unkept>
     requires behind { IsBehindLines text.now 1 from }
     requires short { length text.now ≤ most_batch_bytes }
     ensures { MatchResult result
@@ -65,7 +66,7 @@ pub(crate) fn keep_below(
     alloc: Global,
     bytes: &[u8],
     head: Head,
-) -> Result<(Head, Vec<Entry>), Unkept>
+) -> Result<(Head, Vec<PackedEntry>), Unkept>
     requires short { length bytes.now ≤ most_batch_bytes }
     requires begins { BeginsWithHead bytes.now head }
     ensures { MatchResult result
@@ -92,7 +93,7 @@ pub(crate) fn keep_below(
 }
 
 /// The head of the batch that these bytes are, and what is kept of its records.
-pub(crate) fn keep_batch(alloc: Global, bytes: &[u8]) -> Result<(Head, Vec<Entry>), Unkept>
+pub(crate) fn keep_batch(alloc: Global, bytes: &[u8]) -> Result<(Head, Vec<PackedEntry>), Unkept>
     ensures { MatchResult result
         (λ kept. KeepsBatch bytes.now kept.0 kept.1.items)
         (λ why. IfFault why (λ fault. batch_in bytes.now ≡ Err fault)) }

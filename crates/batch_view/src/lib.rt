@@ -5,6 +5,7 @@ pub use asked::{Asked, AskedReading, AskedRecords};
 pub use batch::{BatchView, Records};
 pub use metering_model::{BatchCode, BatchFault, Kind};
 pub use owned::{Amendment, Offer, OwnedBatch};
+pub use packed::Spans;
 pub use record_view::{Reading, Record};
 
 mod amendments;
@@ -17,3 +18,4 @@ mod head;
 mod keeping;
 mod lines;
 mod owned;
+mod packed;

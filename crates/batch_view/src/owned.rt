@@ -15,13 +15,14 @@ ghost use Rattle.batch_view.specs.Inner.Given.{HasReading, LacksReading};
 
 use crate::amendments::{is_before, last_amendment, latest_start, sorted_amendments};
 use crate::batch::BatchView;
-use crate::entries::{Entry, Found, entry_at, field_total};
+use crate::entries::{Found, entry_at, field_total};
 use crate::extents::first_batch;
 use crate::first_fault::check_batch;
 use crate::head::Head;
 use crate::keeping::{Unkept, keep_batch, keep_below};
+use crate::packed::{PackedEntry, Spans};
 use metering_model::BatchFault;
-use record_view::{Span, Stamp, Value};
+use record_view::{Stamp, Value};
 use std::alloc::{AllocError, AllocFailed, Global};
 use std::marker::Model;
 use std::sync::Arc;
@@ -46,7 +47,7 @@ pub struct Amendment {
 pub struct OwnedBatch {
     bytes: Vec<u8>,
     head: Head,
-    entries: Vec<Entry>,
+    entries: Vec<PackedEntry>,
     amendments: Vec<Amendment>,
     latest: Option<Stamp>,
 }
@@ -87,12 +88,12 @@ impl OwnedBatch {
 
     /// Where the fields of the record at that index stand, from left to right, in bytes from the beginning of the
     /// batch; None from the count on.
-    pub fn spans(&self, index: u16) -> Option<&[Span]>
+    pub fn spans(&self, index: u16) -> Option<Spans>
         ensures there { IsSome result ↔ (index < length (batch_of self.now).records) }
-        ensures spans { IfSome result (λ spans. AreFieldSpans self.now index spans.now) }
+        ensures spans { IfSome result (AreFieldSpans self.now index) }
     {
         let entry = entry_at(&self.entries, index)?;
-        Some(&entry.spans[..field_total(self.head.version, entry.found)])
+        Some(Spans::first(entry.spans(), field_total(self.head.version, entry.found())))
     }
 
     /// The amendments, by the position that each names, then by their own index.
@@ -132,8 +133,8 @@ impl OwnedBatch {
             return None;
         }
         let entry = entry_at(&self.entries, index)?;
-        match entry.found {
-            Found::Reading { .. } => Some(entry.value),
+        match entry.found() {
+            Found::Reading { .. } => Some(entry.value()),
             Found::Amend { .. } => None,
         }
     }
@@ -160,7 +161,7 @@ fn keep_parts(
     alloc: Global,
     bytes: Vec<u8>,
     head: Head,
-    entries: Vec<Entry>,
+    entries: Vec<PackedEntry>,
 ) -> Result<Arc<OwnedBatch>, Vec<u8>>
     requires { KeepsBatch bytes.items head entries.items }
     ensures shared { IfOk result (λ batch. arc_value batch ≡ bytes.items) }
@@ -187,7 +188,7 @@ fn keep_parts(
 fn offer_of(
     alloc: Global,
     bytes: Vec<u8>,
-    kept: Result<(Head, Vec<Entry>), Unkept>,
+    kept: Result<(Head, Vec<PackedEntry>), Unkept>,
 ) -> Result<Offer, AllocFailed<Vec<u8>>>
     requires { MatchResult kept
         (λ kept. KeepsBatch bytes.items kept.0 kept.1.items)

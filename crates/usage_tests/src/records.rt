@@ -180,7 +180,7 @@ fn is_nowhere(view: &BatchView<'_>, is_some: bool) -> bool {
 /// Whether the record at this index has so many spans.
 fn has_spans(kept: &OwnedBatch, index: u16, count: usize) -> bool {
     match kept.spans(index) {
-        Some(spans) => spans.len() == count,
+        Some(spans) => spans.as_slice().len() == count,
         None => false,
     }
 }
