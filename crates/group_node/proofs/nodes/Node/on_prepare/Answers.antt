@@ -1,4 +1,5 @@
-use Rattle.std.proofs.Common.{sym, subst}
+use Rattle.std.proofs.Common.{sym, subst, arith}
+use Rattle.std.proofs.lemmas.Grind.{elements}
 use Rattle.node_kept.specs.Kept.{IsKept}
 use Rattle.group_node.proofs.KeptLemmas.{promised_kept}
 use Rattle.group_node.proofs.nodes.Node.on_prepare.Goals as goal
@@ -13,3 +14,6 @@ invariant_of-self-2 c =
         attempt = c.self.invariant.1.attempt;
       },
     )
+
+pub returns-clause-does : goal.returns-clause-does
+returns-clause-does c = grind (arith, elements) steps 2000000
