@@ -1,4 +1,4 @@
-use Rattle.std.proofs.Common.{◌≡◌, ◌+◌, ◌≤◌, length, sym, ap, ◌∙◌, arith}
+use Rattle.std.proofs.Common.{◌≡◌, ◌+◌, ◌≤◌, length, sym, ap, ◌∙◌, arith, rules}
 use Rattle.std.specs.Arc.{arc_value}
 use Rattle.std.proofs.lemmas.Result.{err_from_is_err_and}
 use Rattle.metering_model.specs.Holding.{put}
@@ -40,3 +40,6 @@ loop-preserved c =
     reads_one_more c.args.text.now c.args.first c.args.agents c.args.count l.counter l.store c.put.new.self l.last.agent l.last.seq l.line l.rest.now b c.agent.result c.seq.result _ c.in_ok-batch.behind.now
     c.loop-test.true l.invariant c.in_ok-batch.ensures agent seq c.agent.ensures.range.0 few c.if-place-agents.false (sym c.comes_behind.ensures ∙ c.if-not-comes_behind.false)
     (when_ok c.put.result (◌≡◌ {A = Stored} c.put.new.self (record { agents = l.store.agents; batches = put l.store.batches b })) c.put.ensures.batches c.if-is_err.ensures.negation) below
+
+pub returns : goal.returns
+returns c = search rules
