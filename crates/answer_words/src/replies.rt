@@ -15,7 +15,8 @@ use std::alloc::AllocError;
 /// Appends the packet that carries a journaled batch. An error is an allocation failure, and may leave some of the
 /// words.
 pub fn put_journaled(line: &mut Vec<u8>, packet: u32) -> Result<(), AllocError>
-    ensures { OnOk result (line.new.items ≡ line.old.items ++ with_number (codes "journaled packet ") packet) }
+    ensures { OnOk result (line.new.items
+        ≡ line.old.items ++ with_number (codes "journaled packet ") packet) }
 {
     put_numbered(line, b"journaled packet ", u128::from(packet))
 }
@@ -37,7 +38,8 @@ pub fn put_delivered(
     learned: Option<Period>,
 ) -> Result<(), AllocError>
     ensures { OnOk result (line.new.items
-        ≡ line.old.items ++ (codes "delivered" ++ if_any (codes " sent ") sent ++ if_any (codes " learned ") learned)) }
+        ≡ line.old.items ++ (codes "delivered" ++ if_any (codes " sent ") sent
+        ++ if_any (codes " learned ") learned)) }
 {
     line.extend_from_slice(b"delivered")?;
     put_if_any(line, b" sent ", sent)?;
@@ -48,7 +50,8 @@ pub fn put_delivered(
 /// some of the words.
 pub fn put_started(line: &mut Vec<u8>, ballot: Ballot, packet: u32) -> Result<(), AllocError>
     ensures { OnOk result (line.new.items
-        ≡ line.old.items ++ (with_number (codes "started ballot ") ballot ++ with_number (codes " packet ") packet)) }
+        ≡ line.old.items ++ (with_number (codes "started ballot ") ballot
+        ++ with_number (codes " packet ") packet)) }
 {
     put_numbered(line, b"started ballot ", u128::from(ballot.number()))?;
     put_numbered(line, b" packet ", u128::from(packet))
@@ -65,7 +68,8 @@ pub fn put_restarted(line: &mut Vec<u8>) -> Result<(), AllocError>
 /// some of the words.
 pub fn put_exported(line: &mut Vec<u8>, period: Period, lines: usize) -> Result<(), AllocError>
     ensures { OnOk result (line.new.items
-        ≡ line.old.items ++ (with_number (codes "exported period ") period ++ with_number (codes " lines ") lines)) }
+        ≡ line.old.items ++ (with_number (codes "exported period ") period
+        ++ with_number (codes " lines ") lines)) }
 {
     put_numbered(line, b"exported period ", u128::from(period.number()))?;
     put_numbered(line, b" lines ", lines as u128)
@@ -73,14 +77,16 @@ pub fn put_exported(line: &mut Vec<u8>, period: Period, lines: usize) -> Result<
 
 /// Appends how many lines a kept text has. An error is an allocation failure, and may leave some of the words.
 pub fn put_kept(line: &mut Vec<u8>, lines: usize) -> Result<(), AllocError>
-    ensures { OnOk result (line.new.items ≡ line.old.items ++ with_number (codes "kept lines ") lines) }
+    ensures { OnOk result (line.new.items
+        ≡ line.old.items ++ with_number (codes "kept lines ") lines) }
 {
     put_numbered(line, b"kept lines ", lines as u128)
 }
 
 /// Appends why an event was refused. An error is an allocation failure, and may leave some of the words.
 pub fn put_refused(line: &mut Vec<u8>, refusal: Refusal) -> Result<(), AllocError>
-    ensures { OnOk result (line.new.items ≡ line.old.items ++ (codes "refused " ++ refusal_text refusal)) }
+    ensures { OnOk result (line.new.items
+        ≡ line.old.items ++ (codes "refused " ++ refusal_text refusal)) }
 {
     line.extend_from_slice(b"refused ")?;
     line.extend_from_slice(refusal_line(refusal).as_slice())

@@ -39,14 +39,17 @@ pub fn file_between(
         (rows sheet.now issuer.now store.now.batches period from.now to.now)) }
 
     // It is the file of the journals, of which the store has all up to the later cut.
-    ensures journals { (journals : Holding) → IsHolding journals → IsPartOf store.now.batches journals
+    ensures journals { (journals : Holding) → IsHolding journals
+        → IsPartOf store.now.batches journals
         → LacksNothingUpTo to.now store.now.batches journals
-        → IfOk result (λ text. text.items ≡ file (rows sheet.now issuer.now journals period from.now to.now)) }
+        → IfOk result (λ text. text.items
+        ≡ file (rows sheet.now issuer.now journals period from.now to.now)) }
 
     // Where what is charged is due for the period, and what was charged before for an earlier one.
     ensures starts { AreDueBetween sheet.now.base period store.now.batches from.now to.now
         → WereDueBefore sheet.now.base period store.now.batches from.now
-        → All StartsBeforeItsPeriodEnds (rows sheet.now issuer.now store.now.batches period from.now to.now) }
+        → All StartsBeforeItsPeriodEnds
+        (rows sheet.now issuer.now store.now.batches period from.now to.now) }
 {
     row_laws::laws::rows_stay();
     row_laws::laws::charges_start_before_their_periods_end();

@@ -57,12 +57,15 @@ pub fn rate_text<R: Source, W: Sink>(
         × IsFileOf (R.remaining reader.old) period input text
         × AppendsPrefix (W.contents writer.old) (W.contents writer.new) text }
     ensures refused { (refusal : Refusal) → result ≡ Err (PlayFault.Refused refusal)
-        → IfSome (R.remaining reader.old) (λ input. rated_file period input ≡ Err (PlayFault.Refused refusal)) }
+        → IfSome (R.remaining reader.old)
+        (λ input. rated_file period input ≡ Err (PlayFault.Refused refusal)) }
     ensures section { (fault : ScheduleFault) → result ≡ Err (PlayFault.Schedule fault)
-        → IfSome (R.remaining reader.old) (λ input. rated_file period input ≡ Err (PlayFault.Schedule fault)) }
+        → IfSome (R.remaining reader.old)
+        (λ input. rated_file period input ≡ Err (PlayFault.Schedule fault)) }
     ensures plain_memory { result ≢ Err (PlayFault.Schedule ScheduleFault.OutOfMemory) }
     ensures untouched { IfErr result (λ fault. fault ≢ PlayFault.Write → writer.new ≡ writer.old) }
-    ensures read { ConsumesAtMost (most_input_bytes + 1) (R.remaining reader.old) (R.remaining reader.new) }
+    ensures read { ConsumesAtMost (most_input_bytes + 1) (R.remaining reader.old)
+        (R.remaining reader.new) }
 
     // With Ok nothing is left to read.
     ensures end { OnOk result (IsAtEnd (R.remaining reader.new)) }
@@ -92,7 +95,8 @@ fn rate_input_text<W: Sink>(
     input: Vec<u8>,
     writer: &mut W,
 ) -> Result<(), PlayFault>
-    ensures file { OnOk result ((text : List ℕ) × IsFileOf (Some input.items) period input.items text
+    ensures file { OnOk result
+        ((text : List ℕ) × IsFileOf (Some input.items) period input.items text
         × Appends (W.contents writer.old) (W.contents writer.new) text) }
     ensures prefix { result ≡ Err PlayFault.Write
         → (text : List ℕ) × IsFileOf (Some input.items) period input.items text
@@ -100,7 +104,8 @@ fn rate_input_text<W: Sink>(
     ensures refused { (refusal : Refusal) → result ≡ Err (PlayFault.Refused refusal)
         → rated_file period input.items ≡ Err (PlayFault.Refused refusal) }
     ensures section { (fault : ScheduleFault) → result ≡ Err (PlayFault.Schedule fault)
-        → (fault ≢ ScheduleFault.OutOfMemory) × (rated_file period input.items ≡ Err (PlayFault.Schedule fault)) }
+        → (fault ≢ ScheduleFault.OutOfMemory)
+        × (rated_file period input.items ≡ Err (PlayFault.Schedule fault)) }
     ensures kept { IfErr result (λ fault. fault ≢ PlayFault.Write → writer.new ≡ writer.old) }
     ensures writes { W.failed_calls writer.new
         ≡ count_after (tells_of_writer result) (W.failed_calls writer.old) }
@@ -127,7 +132,8 @@ pub fn rate_batch<W: Sink>(
     input: Vec<u8>,
     writer: &mut W,
 ) -> Result<(), PlayFault>
-    ensures file { OnOk result ((text : List ℕ) × (file_by sheet.now issuer.now period input.items ≡ Ok text)
+    ensures file { OnOk result
+        ((text : List ℕ) × (file_by sheet.now issuer.now period input.items ≡ Ok text)
         × Appends (W.contents writer.old) (W.contents writer.new) text) }
     ensures prefix { result ≡ Err PlayFault.Write
         → (text : List ℕ) × (file_by sheet.now issuer.now period input.items ≡ Ok text)
@@ -158,7 +164,8 @@ pub fn rate_batch<W: Sink>(
 
 /// What is answered to a text for which there is no memory: why it is refused, if it is. None is taken to find out.
 fn fault_of_unkept(sheet: &Sheet, text: &[u8]) -> PlayFault
-    ensures refused { (refusal : Refusal) → result ≡ PlayFault.Refused refusal → (issuer : model.Issuer)
+    ensures refused { (refusal : Refusal) → result ≡ PlayFault.Refused refusal
+        → (issuer : model.Issuer)
         → journaled_in sheet.now issuer text.now ≡ Err refusal }
     ensures memory { result ≡ PlayFault.OutOfMemory → (issuer : model.Issuer)
         → journaled_in sheet.now issuer text.now ≡ Ok (batch_of text.now) }
@@ -183,7 +190,8 @@ fn file_of_batch(
     issuer: &Issuer,
     batch: Arc<OwnedBatch>,
 ) -> Result<Vec<u8>, PlayFault>
-    ensures file { IfOk result (λ text. file_by sheet.now issuer.now period (arc_value batch) ≡ Ok text.items) }
+    ensures file { IfOk result
+        (λ text. file_by sheet.now issuer.now period (arc_value batch) ≡ Ok text.items) }
     ensures refused { (refusal : Refusal) → result ≡ Err (PlayFault.Refused refusal)
         → file_by sheet.now issuer.now period (arc_value batch) ≡ Err refusal }
     ensures memory { result ≡ Err PlayFault.OutOfMemory
@@ -203,7 +211,8 @@ fn file_of_batch(
 /// Why a group of 64 agents in which nothing has happened does not journal the batch; None where it does.
 pub fn first_refusal(sheet: &Sheet, view: &BatchView<'_>) -> Option<Refusal>
     ensures taken { result ≡ None → ((batch_of view.now).seq ≡ 1)
-        × (first_broken sheet.now (put [] (batch_of view.now)) (placed (batch_of view.now)) ≡ None) }
+        × (first_broken sheet.now (put [] (batch_of view.now)) (placed (batch_of view.now))
+        ≡ None) }
     ensures journaled { result ≡ None → (issuer : model.Issuer)
         → journaled_in sheet.now issuer view.now ≡ Ok (batch_of view.now) }
     ensures refused { (refusal : Refusal) → result ≡ Some refusal → (issuer : model.Issuer)
@@ -232,7 +241,8 @@ fn file_of_journaled(
     requires first { (batch_of (arc_value batch)).seq ≡ 1 }
     requires fit { first_broken sheet.now (put [] (batch_of (arc_value batch)))
         (placed (batch_of (arc_value batch))) ≡ None }
-    ensures { IfOk result (λ text. file_by sheet.now issuer.now period (arc_value batch) ≡ Ok text.items) }
+    ensures { IfOk result (λ text. file_by sheet.now issuer.now period (arc_value batch)
+        ≡ Ok text.items) }
 {
     // For the proof alone: its clause says that the bytes are a batch.
     let _bytes = batch.bytes();
@@ -252,8 +262,10 @@ fn file_to_front(
 ) -> Result<Vec<u8>, AllocError>
     requires agents { store.now.agents ≡ most_agents }
     requires met { MeetsJournalRules sheet.now store.now.batches }
-    ensures { IfOk result (λ text. text.items ≡ file (rows sheet.now issuer.now store.now.batches period
-        (zero_cut most_agents) (front sheet.now.base store.now.batches (zero_cut most_agents) period))) }
+    ensures { IfOk result (λ text. text.items
+        ≡ file (rows sheet.now issuer.now store.now.batches period
+        (zero_cut most_agents) (front sheet.now.base store.now.batches
+        (zero_cut most_agents) period))) }
 {
     let from = Cut::zero(alloc, AGENTS)?;
     let to = store.due_front(alloc, &from, period, sheet.base_month())?;

@@ -45,7 +45,8 @@ impl Store {
     ) -> Result<Vec<RecordPlace>, AllocError>
         requires agents { length to.now ≡ self.now.agents }
         requires grows { IsAtLeast to.now from.now }
-        ensures { IfOk result (λ places. AreAmended self.now.batches from.now to.now (map position_of places.items)) }
+        ensures { IfOk result (λ places.
+            AreAmended self.now.batches from.now to.now (map position_of places.items)) }
     {
         let mut places = Vec::new(alloc);
         for agent in 1..self.agents() + 1 {

@@ -45,7 +45,8 @@ fn list_each(pairs: &mut BTreeSet<u64>, by: u32, amendments: &[Amendment]) -> Re
 
 /// Of the batches after a sequence and up to another that are listed as amending the first, the last.
 fn last_listed(pairs: &BTreeSet<u64>, seq: u32, upto: u32) -> Option<u32>
-    ensures { MatchOption result (NoneListed seq seq upto pairs.now.keys) (IsLastListed seq upto pairs.now.keys) }
+    ensures { MatchOption result (NoneListed seq seq upto pairs.now.keys)
+        (IsLastListed seq upto pairs.now.keys) }
 {
     if upto <= seq {
         return None;
@@ -105,7 +106,8 @@ impl Amenders {
     /// Of the batches after a sequence and up to another that are listed as amending the first, the last. Nothing is
     /// allocated.
     pub(crate) fn last(&self, seq: u32, upto: u32) -> Option<u32>
-        ensures { MatchOption result (NoneListed seq seq upto self.now) (IsLastListed seq upto self.now) }
+        ensures { MatchOption result (NoneListed seq seq upto self.now)
+            (IsLastListed seq upto self.now) }
     {
         match &self.pairs {
             Some(pairs) => last_listed(pairs, seq, upto),

@@ -54,7 +54,8 @@ impl IndexedShelf {
     /// The first batch from a sequence on.
     pub(crate) fn first_from(&self, seq: u32) -> Option<&OwnedBatch>
         ensures { MatchOption result (from_seq seq self.now ≡ [])
-            (λ b. from_seq seq self.now ≡ batch_of b.now ∷ from_seq ((batch_of b.now).seq + 1) self.now) }
+            (λ b. from_seq seq self.now
+            ≡ batch_of b.now ∷ from_seq ((batch_of b.now).seq + 1) self.now) }
     {
         self.shelf.first_from(seq)
     }

@@ -44,7 +44,8 @@ fn share_filed(
     last: u32,
 ) -> Result<BTreeMap<u32, Arc<OwnedBatch>>, AllocError>
     requires { AreFiled 1 filed.now.entries }
-    ensures { IfOk result (λ part. contents part.entries ≡ contents (filed_up_to last filed.now.entries)) }
+    ensures { IfOk result (λ part. contents part.entries
+        ≡ contents (filed_up_to last filed.now.entries)) }
 {
     let mut part = BTreeMap::new(alloc);
     for (seq, batch) in filed.range(..=last) {
@@ -84,7 +85,8 @@ impl Shelf {
     /// The first batch from a sequence on.
     pub(crate) fn first_from(&self, seq: u32) -> Option<&OwnedBatch>
         ensures { MatchOption result (from_seq seq self.now ≡ [])
-            (λ b. from_seq seq self.now ≡ batch_of b.now ∷ from_seq ((batch_of b.now).seq + 1) self.now) }
+            (λ b. from_seq seq self.now
+            ≡ batch_of b.now ∷ from_seq ((batch_of b.now).seq + 1) self.now) }
     {
         let first = seq.max(1);
         if first as usize <= self.whole.len() {

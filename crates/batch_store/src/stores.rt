@@ -61,9 +61,11 @@ impl Store {
     pub fn put(&mut self, batch: Arc<OwnedBatch>) -> Result<bool, AllocError>
         requires { (batch_of (arc_value batch)).agent ≤ self.old.agents }
         ensures added { IfOk result (λ added. IsTrue added
-            ↔ (held self.old.batches (batch_of (arc_value batch)).agent (batch_of (arc_value batch)).seq ≡ None)) }
+            ↔ (held self.old.batches (batch_of (arc_value batch)).agent
+            (batch_of (arc_value batch)).seq ≡ None)) }
         ensures batches { IfOk result (λ _. self.new
-            ≡ record { agents = self.old.agents; batches = put self.old.batches (batch_of (arc_value batch)) }) }
+            ≡ record { agents = self.old.agents; batches = put self.old.batches
+            (batch_of (arc_value batch)) }) }
         ensures kept { IfErr result (λ _. self.new ≡ self.old) }
     {
         let agent = batch.view().agent();
@@ -110,7 +112,8 @@ impl Store {
         requires from { 1 ≤ agent }
         requires to { agent ≤ self.now.agents }
         ensures absent { held self.now.batches agent result ≡ None }
-        ensures below { (seq : ℕ) → 1 ≤ seq → seq < result → is_some (held self.now.batches agent seq) ≡ true }
+        ensures below { (seq : ℕ) → 1 ≤ seq → seq < result
+            → is_some (held self.now.batches agent seq) ≡ true }
         ensures range { (1 ≤ result) × (result ≤ 1_000_001) }
     {
         self.shelves[usize::from(agent) - 1].first_absent()

@@ -26,8 +26,10 @@ impl Store {
     pub fn value_at(&self, place: RecordPlace, upto: u32) -> Option<Value>
         requires from { 1 ≤ place.agent }
         requires to { place.agent ≤ self.now.agents }
-        ensures there { IsSome result ↔ (is_some (reading_at self.now.batches (position_of place)) ≡ true) }
-        ensures value { IfSome result (λ value. value ≡ value_at self.now.batches (position_of place) upto) }
+        ensures there { IsSome result
+            ↔ (is_some (reading_at self.now.batches (position_of place)) ≡ true) }
+        ensures value { IfSome result
+            (λ value. value ≡ value_at self.now.batches (position_of place) upto) }
     {
         // For the proof alone: its clause says that the agents are 1 to 64, and their batches a holding.
         let _agents = self.agents();

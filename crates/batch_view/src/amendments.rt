@@ -128,7 +128,8 @@ pub(crate) fn last_amendment(sorted: &[Amendment], seq: u32, index: u16) -> Opti
 
 /// The later of a start and the latest one, if there was one.
 fn later(latest: Option<Stamp>, start: Stamp) -> Stamp
-    ensures { (moment : ℤ) → int_lt result moment ≡ (is_before moment latest && int_lt start moment) }
+    ensures { (moment : ℤ) → int_lt result moment
+        ≡ (is_before moment latest && int_lt start moment) }
 {
     match latest {
         Some(known) if start <= known => known,

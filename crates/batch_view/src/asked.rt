@@ -61,7 +61,8 @@ fn kept_asked<'a>(
     index: u16,
 ) -> Option<Asked<'a>>
     requires { KeepsBatch bytes.now head entries.now }
-    ensures { option_map record_asked result ≡ option_map asked_in (slice_get (batch_of bytes.now).records index) }
+    ensures { option_map record_asked result
+        ≡ option_map asked_in (slice_get (batch_of bytes.now).records index) }
 {
     match kept_record(bytes, head, entries, index) {
         Some(record) => Some(asked_of_record(&record)),

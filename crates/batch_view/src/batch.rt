@@ -29,7 +29,8 @@ pub(crate) fn kept_record<'a>(
 ) -> Option<Record<'a>>
     requires { KeepsBatch bytes.now head entries.now }
     ensures there { IsSome result ↔ (index < length (batch_of bytes.now).records) }
-    ensures record { IfSome result (λ r. slice_get (batch_of bytes.now).records index ≡ Some (record_of r)) }
+    ensures record { IfSome result
+        (λ r. slice_get (batch_of bytes.now).records index ≡ Some (record_of r)) }
     ensures lent { IfSome result (IsLentAt bytes.now index) }
 {
     match entry_at(entries, index) {
@@ -82,7 +83,8 @@ impl<'a> Model for BatchView<'a> {
 impl<'a> BatchView<'a> {
     /// The batch that these bytes are. An error is their first fault: from the top, and in a line from the left.
     pub fn parse(bytes: &'a [u8]) -> Result<BatchView<'a>, BatchFault>
-        ensures ok { IfOk result (λ view. (view ≡ bytes.now) × (batch_in bytes.now ≡ Ok (batch_of bytes.now))) }
+        ensures ok { IfOk result
+            (λ view. (view ≡ bytes.now) × (batch_in bytes.now ≡ Ok (batch_of bytes.now))) }
         ensures err { IfErr result (λ fault. batch_in bytes.now ≡ Err fault) }
     {
         let head = check_batch(bytes)?;
@@ -157,7 +159,8 @@ impl<'a> BatchView<'a> {
     /// The record at that index, counted from 0; None from the count on.
     pub fn record_at(&self, index: u16) -> Option<Record<'a>>
         ensures there { IsSome result ↔ (index < length (batch_of self.now).records) }
-        ensures record { IfSome result (λ r. slice_get (batch_of self.now).records index ≡ Some (record_of r)) }
+        ensures record { IfSome result
+            (λ r. slice_get (batch_of self.now).records index ≡ Some (record_of r)) }
         ensures lent { IfSome result (IsLentAt self.now index) }
     {
         match self.kept {
@@ -190,7 +193,8 @@ impl<'a> BatchView<'a> {
     /// The record at that index, looked for from the beginning.
     fn look_for(&self, index: u16) -> Option<Record<'a>>
         ensures there { IsSome result ↔ (index < length (batch_of self.now).records) }
-        ensures record { IfSome result (λ r. slice_get (batch_of self.now).records index ≡ Some (record_of r)) }
+        ensures record { IfSome result
+            (λ r. slice_get (batch_of self.now).records index ≡ Some (record_of r)) }
         ensures lent { IfSome result (IsLentAt self.now index) }
     {
         if index >= self.head.count {

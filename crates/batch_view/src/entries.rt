@@ -57,7 +57,8 @@ pub(crate) fn field_total(version: Version, found: Found) -> usize
 
 /// What is kept of the record at that index.
 pub(crate) fn entry_at(entries: &[PackedEntry], index: u16) -> Option<&PackedEntry>
-    ensures { MatchOption result (length entries.now ≤ index) (λ e. slice_get entries.now index ≡ Some e.now) }
+    ensures { MatchOption result (length entries.now ≤ index)
+        (λ e. slice_get entries.now index ≡ Some e.now) }
 {
     let at = usize::from(index);
     if at < entries.len() {
@@ -73,10 +74,12 @@ fn entry_of(version: Version, source: &[u8], line: Span, what: &Record<'_>) -> E
     requires ordered { line.from ≤ line.to }
     requires within { line.to ≤ length source.now }
     requires short { length source.now ≤ most_batch_bytes }
-    requires read { record_in version (fields_in (slice_range source.now line.from line.to)) ≡ Ok (record_of what.now) }
+    requires read { record_in version (fields_in (slice_range source.now line.from line.to))
+        ≡ Ok (record_of what.now) }
     requires lent { IsLentRecord source.now line what.now }
     ensures fits { FitsRecord result.found result.value (record_of what.now) }
-    ensures spans { take (field_total version result.found) result.spans ≡ spans_at source.now line }
+    ensures spans { take (field_total version result.found) result.spans
+        ≡ spans_at source.now line }
 {
     let spans = field_spans(version, source, line, what);
     match what {
@@ -128,7 +131,8 @@ fn exact_entry(version: Version, source: &[u8], line: Span) -> Result<Entry, Bat
     requires short { length source.now ≤ most_batch_bytes }
     ensures { MatchResult result
         (IsEntryAt version source.now line)
-        (λ code. record_in version (fields_in (slice_range source.now line.from line.to)) ≡ Err code) }
+        (λ code. record_in version (fields_in (slice_range source.now line.from line.to))
+        ≡ Err code) }
 {
     match read_exact(version, source, line) {
         Ok(record) => Ok(entry_of(version, source, line, &record)),
@@ -171,7 +175,8 @@ pub(crate) fn record_of_entry<'a>(
     entry: &PackedEntry,
 ) -> Record<'a>
     requires { (line : Span) × IsEntryAt version bytes.now line entry.now }
-    ensures { (line : Span) → IsEntryAt version bytes.now line entry.now → IsRecordAt version bytes.now line result }
+    ensures { (line : Span) → IsEntryAt version bytes.now line entry.now
+        → IsRecordAt version bytes.now line result }
 {
     match entry.found() {
         Found::Reading { kind, start, end } => {

@@ -26,7 +26,8 @@ fn first_head(text: &[u8]) -> Option<Head>
 
 /// The head of the batch that comes first, and how far it goes. The head line is read once.
 pub(crate) fn first_batch(text: &[u8]) -> Option<(Head, u32)>
-    ensures { MatchOption result (extent_in text.now ≡ None) (λ first. IsFirstBatch text.now first.0 first.1) }
+    ensures { MatchOption result (extent_in text.now ≡ None)
+        (λ first. IsFirstBatch text.now first.0 first.1) }
 {
     let front = &text[..text.len().min(MOST_BATCH_BYTES)];
     let head = first_head(front)?;

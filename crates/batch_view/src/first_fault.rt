@@ -61,7 +61,8 @@ fn check_records(version: Version, text: &[u8], from: u32, count: u16) -> Result
 
 /// The head of bytes that are not too long for a batch, or their first fault.
 pub(crate) fn short_head(bytes: &[u8]) -> Result<Head, BatchFault>
-    ensures { MatchResult result (λ head. (length bytes.now ≤ most_batch_bytes) × BeginsWithHead bytes.now head)
+    ensures { MatchResult result
+        (λ head. (length bytes.now ≤ most_batch_bytes) × BeginsWithHead bytes.now head)
         (λ fault. batch_in bytes.now ≡ Err fault) }
 {
     if bytes.len() > MOST_BATCH_BYTES {

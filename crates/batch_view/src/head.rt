@@ -82,7 +82,8 @@ pub(crate) fn head_of_line(text: &[u8], span: Span) -> Option<Head>
 /// The head of a text that is not too long, or its first fault.
 pub(crate) fn read_head(text: &[u8]) -> Result<Head, BatchFault>
     requires { length text.now ≤ most_batch_bytes }
-    ensures { MatchResult result (BeginsWithHead text.now) (λ fault. batch_in text.now ≡ Err fault) }
+    ensures { MatchResult result (BeginsWithHead text.now)
+        (λ fault. batch_in text.now ≡ Err fault) }
 {
     let fault = BatchFault {
         code: BatchCode::Head,

@@ -35,7 +35,8 @@ fn keep_entries(
     requires short { length text.now ≤ most_batch_bytes }
     ensures { MatchResult result
         (λ kept. KeepsEntries version text.now count kept.1 kept.0.items)
-        (λ why. IfFault why (λ fault. records_in version 2 count (drop 1 (lines_in text.now).lines) ≡ Err fault)) }
+        (λ why. IfFault why (λ fault. records_in version 2 count (drop 1 (lines_in text.now).lines)
+        ≡ Err fault)) }
 {
     let Ok(mut entries) = Vec::with_capacity(alloc, usize::from(count)) else {
         return Err(Unkept::NoMemory);

@@ -60,7 +60,8 @@ impl Model for OwnedBatch {
 
     ghost view = { λ b. b.bytes.items };
 
-    ghost invariant = { λ b. KeepsParts b.bytes.items b.head b.entries.items b.amendments.items b.latest };
+    ghost invariant = { λ b.
+        KeepsParts b.bytes.items b.head b.entries.items b.amendments.items b.latest };
 }
 
 impl OwnedBatch {
@@ -241,7 +242,8 @@ impl Offer {
     pub fn read_first(alloc: Global, text: &[u8]) -> Result<Option<(Offer, u32)>, AllocError>
         ensures answer { IfOk result (λ answer. MatchOption answer
             (extent_in text.now ≡ None)
-            (λ first. (extent_in text.now ≡ Some first.1) × IsOfferOf (take first.1 text.now) first.0)) }
+            (λ first. (extent_in text.now ≡ Some first.1)
+            × IsOfferOf (take first.1 text.now) first.0)) }
         ensures want { IfErr result
             (λ _. (n : ℕ) × (extent_in text.now ≡ Some n)
             × (batch_in (take n text.now) ≡ Ok (batch_of (take n text.now)))) }

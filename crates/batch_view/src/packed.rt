@@ -54,7 +54,9 @@ impl Model for PackedEntry {
 
     ghost Value = { Entry };
 
-    ghost view = { λ p. unpacked (ends_of p.first p.second p.third p.fourth p.fifth p.sixth p.seventh p.eighth) p.value p.packed };
+    ghost view = { λ p. unpacked
+        (ends_of p.first p.second p.third p.fourth p.fifth p.sixth p.seventh p.eighth) p.value
+        p.packed };
 }
 
 /// A place in a batch in two bytes.
@@ -96,7 +98,8 @@ impl PackedEntry {
     /// What is kept of an entry. It is the entry of the same record, where that one's line ends before byte 65,536.
     #[inline(always)]
     pub(crate) fn of(entry: &Entry) -> PackedEntry
-        ensures { (version : ModelVersion) (bytes : List ℕ) (line : ModelSpan) → line.to < most_batch_bytes
+        ensures { (version : ModelVersion) (bytes : List ℕ) (line : ModelSpan)
+            → line.to < most_batch_bytes
             → IsEntryAt version bytes line entry.now → IsEntryAt version bytes line result }
     {
         let [a, b, c, d, e, f, g, h, i, j] = entry.spans;

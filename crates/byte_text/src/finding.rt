@@ -95,7 +95,8 @@ pub fn is_same(left: &[u8], right: &[u8]) -> bool
 
 /// How many bytes the first `count` lines have, each with its line feed; None where the text has fewer lines.
 pub fn lines_length(text: &[u8], count: u32) -> Option<usize>
-    ensures { MatchOption result (length (lines_in text.now).lines < count) (IsPast text.now count) }
+    ensures { MatchOption result (length (lines_in text.now).lines < count)
+        (IsPast text.now count) }
 {
     let mut length = 0;
     for _ in 0..count {

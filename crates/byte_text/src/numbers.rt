@@ -12,7 +12,8 @@ use std::alloc::AllocError;
 pub fn put_number(text: &mut Vec<u8>, number: u128) -> Result<(), AllocError>
     ensures put { OnOk result (text.new.items ≡ text.old.items ++ decimal number) }
     ensures kept { OnErr result (text.new.items ≡ text.old.items) }
-    ensures full { OnErr result (vec_capacity text.old < vec_len text.old + length (decimal number)) }
+    ensures full { OnErr result
+        (vec_capacity text.old < vec_len text.old + length (decimal number)) }
     ensures capacity { vec_capacity text.old ≤ vec_capacity text.new }
 {
     text.extend_from_slice(Buffer::new().format(number).as_bytes())
@@ -23,7 +24,8 @@ pub fn put_number(text: &mut Vec<u8>, number: u128) -> Result<(), AllocError>
 pub fn put_numbered(text: &mut Vec<u8>, word: &[u8], number: u128) -> Result<(), AllocError>
     ensures put { OnOk result (text.new.items ≡ text.old.items ++ with_number word.now number) }
     ensures kept { OnErr result (text.new.items ≡ text.old.items) }
-    ensures full { OnErr result (vec_capacity text.old < vec_len text.old + length (with_number word.now number)) }
+    ensures full { OnErr result
+        (vec_capacity text.old < vec_len text.old + length (with_number word.now number)) }
     ensures capacity { vec_capacity text.old ≤ vec_capacity text.new }
 {
     let before = text.len();
@@ -40,7 +42,8 @@ pub fn put_numbered(text: &mut Vec<u8>, word: &[u8], number: u128) -> Result<(),
 pub fn put_if_any(text: &mut Vec<u8>, word: &[u8], number: Option<u32>) -> Result<(), AllocError>
     ensures put { OnOk result (text.new.items ≡ text.old.items ++ if_any word.now number) }
     ensures kept { OnErr result (text.new.items ≡ text.old.items) }
-    ensures full { OnErr result (vec_capacity text.old < vec_len text.old + length (if_any word.now number)) }
+    ensures full { OnErr result
+        (vec_capacity text.old < vec_len text.old + length (if_any word.now number)) }
     ensures capacity { vec_capacity text.old ≤ vec_capacity text.new }
 {
     match number {

@@ -21,7 +21,8 @@ pub(crate) fn commitment_columns<'a>(commitment: Option<&'a Commitment>) -> Comm
     ensures category { option_copied result.category
         ≡ option_map (λ c. commitment_category_text c.category) (option_copied commitment.entry) }
     ensures id { option_copied result.id ≡ option_map (λ c. c.id) (option_copied commitment.entry) }
-    ensures kind { option_copied result.kind ≡ option_map (λ c. c.kind) (option_copied commitment.entry) }
+    ensures kind { option_copied result.kind
+        ≡ option_map (λ c. c.kind) (option_copied commitment.entry) }
 {
     match commitment {
         Some(commitment) => CommitmentColumns {
@@ -54,7 +55,8 @@ pub(crate) fn commitment_status<'a>(kind: Kind, commitment: Option<&Commitment>)
 /// PricingCategory.
 pub(crate) fn pricing_category<'a>(kind: Kind, commitment: Option<&Commitment>) -> Option<&'a [u8]>
     ensures { option_copied result ≡ by_kind kind
-        (if is_some (option_copied commitment.entry) then Some (codes "Committed") else Some (codes "Standard"))
+        (if is_some (option_copied commitment.entry) then Some (codes "Committed") else Some
+        (codes "Standard"))
         (Some (codes "Standard")) None }
 {
     match kind {

@@ -33,13 +33,16 @@ pub(crate) fn price_columns<'a>(
     ensures service { result.service.now
         ≡ option_map_or (λ p. p.service) (option_copied price.entry) issuer.now.other_service }
     ensures service_category { result.service_category.now
-        ≡ option_map_or (λ p. service_category_text p.category) (option_copied price.entry) (codes "Other") }
+        ≡ option_map_or (λ p. service_category_text p.category) (option_copied price.entry)
+        (codes "Other") }
     ensures sku { option_copied result.sku ≡ option_map (λ p. p.sku) (option_copied price.entry) }
-    ensures price_id { option_copied result.price_id ≡ option_map (λ p. p.price_id) (option_copied price.entry) }
+    ensures price_id { option_copied result.price_id
+        ≡ option_map (λ p. p.price_id) (option_copied price.entry) }
     ensures pricing_unit { option_copied result.pricing_unit
         ≡ option_map (λ p. p.pricing_unit) (option_copied price.entry) }
     ensures list { result.list ≡ option_map (λ p. p.list) (option_copied price.entry) }
-    ensures contracted { result.contracted ≡ option_map (λ p. p.contracted) (option_copied price.entry) }
+    ensures contracted { result.contracted
+        ≡ option_map (λ p. p.contracted) (option_copied price.entry) }
 {
     match price {
         Some(price) => PriceColumns {

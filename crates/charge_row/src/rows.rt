@@ -57,7 +57,8 @@ fn charge(
 ) -> Rated
     requires was { is_priced kind ≡ true → pos 0 ≤ℤ was }
     requires value { is_priced kind ≡ true → pos 0 ≤ℤ now }
-    ensures { result ≡ charge (priced_kind kind) (option_copied price.entry) (option_copied commitment.entry) was now }
+    ensures { result ≡ charge (priced_kind kind) (option_copied price.entry)
+        (option_copied commitment.entry) was now }
 {
     let Some(kind) = priced_kind(kind) else {
         return rate_flat(was, now);
@@ -154,10 +155,12 @@ pub fn row<'a>(
     requires was { is_priced reading.now.kind ≡ true → pos 0 ≤ℤ was }
     requires value { is_priced reading.now.kind ≡ true → pos 0 ≤ℤ now }
     requires near { IsNamed sheet.now (option_copied near.id) (option_copied near.name) }
-    ensures row { (period : ℕ) → ArePeriodTexts sheet.now.base period billing.now.start_text billing.now.end_text
+    ensures row { (period : ℕ)
+        → ArePeriodTexts sheet.now.base period billing.now.start_text billing.now.end_text
         → model_row result
         ≡ row sheet.now billing.now.issuer.now (model_reading reading.now) period class was now }
-    ensures named { IsNamed sheet.now (option_copied result.region_id) (option_copied result.region_name) }
+    ensures named { IsNamed sheet.now (option_copied result.region_id)
+        (option_copied result.region_name) }
 {
     let price = price_of(sheet, reading);
     let commitment = commitment_of(sheet, reading);

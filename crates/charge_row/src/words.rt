@@ -33,7 +33,8 @@ pub(crate) fn category_text<'a>(kind: Kind) -> &'a [u8]
 
 /// FOCUS's ChargeFrequency.
 pub(crate) fn frequency_text<'a>(kind: Kind) -> &'a [u8]
-    ensures { result.now ≡ by_kind kind (codes "Usage-Based") (codes "One-Time") (codes "One-Time") }
+    ensures { result.now ≡ by_kind kind (codes "Usage-Based") (codes "One-Time")
+        (codes "One-Time") }
 {
     match kind {
         Kind::Usage => b"Usage-Based",

@@ -99,10 +99,12 @@ impl Write for FakeWriter {
 
     fn write(&mut self, bytes: &[u8]) -> io::Result<usize>
         ensures bound { WritesAtMost result bytes.now }
-        ensures appended { WriteAppends (Some self.old.taken.items) (Some self.new.taken.items) result bytes.now }
+        ensures appended { WriteAppends (Some self.old.taken.items)
+            (Some self.new.taken.items) result bytes.now }
         ensures calls { self.new.calls ≡ next_count self.old.calls }
         ensures failing { IsTrue (is_call self.old.failing self.new.calls) → IsErr result }
-        ensures count { IfOk result (λ count. count ≡ carried_unless (is_since self.old.full_from self.new.calls)
+        ensures count { IfOk result
+            (λ count. count ≡ carried_unless (is_since self.old.full_from self.new.calls)
             self.old.byte_by_byte (length bytes.now)) }
 
         // Another call fails only for want of memory.
@@ -239,7 +241,8 @@ impl Read for FakeReader<'_> {
             (known_unless_pausing self.new.pausing self.new.rest.now) result room.new }
         ensures calls { self.new.calls ≡ next_count self.old.calls }
         ensures failing { is_err result ≡ is_call self.old.failing self.new.calls }
-        ensures count { IfOk result (λ count. count ≡ carried_unless (is_call self.old.pausing self.new.calls)
+        ensures count { IfOk result
+            (λ count. count ≡ carried_unless (is_call self.old.pausing self.new.calls)
             self.old.byte_by_byte (min (length self.old.rest.now) (length room.old))) }
         ensures given { IfOk result (λ count. room.new
             ≡ take count self.old.rest.now ++ drop count room.old) }

@@ -41,7 +41,8 @@ pub fn write_all<S: Sink>(sink: &mut S, bytes: &[u8]) -> Result<(), Failed>
 
     // An error comes only from a failed call, and that is the only one.
     ensures fault { OnErr result (Rises (S.failed_calls sink.old) (S.failed_calls sink.new)) }
-    ensures count { S.failed_calls sink.new ≡ count_after (is_err result) (S.failed_calls sink.old) }
+    ensures count { S.failed_calls sink.new
+        ≡ count_after (is_err result) (S.failed_calls sink.old) }
 {
     let mut sent = 0;
     while sent < bytes.len() {
@@ -57,7 +58,8 @@ fn write_some<S: Sink>(sink: &mut S, bytes: &[u8]) -> Result<usize, Failed>
     ensures appended { IfOk result
         (λ taken. Appends (S.contents sink.old) (S.contents sink.new) (take taken bytes.now)) }
     ensures kept { OnErr result (Keeps (S.contents sink.old) (S.contents sink.new)) }
-    ensures count { S.failed_calls sink.new ≡ count_after (is_err result) (S.failed_calls sink.old) }
+    ensures count { S.failed_calls sink.new
+        ≡ count_after (is_err result) (S.failed_calls sink.old) }
 {
     match sink.write(bytes) {
         Ok(0) => Err(Failed),

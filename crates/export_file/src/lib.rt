@@ -39,7 +39,8 @@ pub trait ExportFile {
         sink: &mut W,
     ) -> Result<(), CsvFault>
         requires { IsSync R.row }
-        ensures written { OnOk result (Appends (W.contents sink.old) (W.contents sink.new) (file_of (taken self.now))) }
+        ensures written { OnOk result
+            (Appends (W.contents sink.old) (W.contents sink.new) (file_of (taken self.now))) }
         ensures prefix { result ≡ Err CsvFault.Write
             → AppendsPrefix (W.contents sink.old) (W.contents sink.new) (file_of (taken self.now)) }
         ensures fault { result ≡ Err CsvFault.Write
@@ -58,7 +59,8 @@ pub trait ExportFile {
 /// The rows of the file, batch by batch.
 fn batches_of(alloc: Global, snapshot: &Snapshot) -> Result<RowsBetween<'_>, AllocError>
     ensures { IfOk result (λ batches. joined batches
-        ≡ rows snapshot.now.sheet snapshot.now.issuer snapshot.now.batches snapshot.now.period snapshot.now.from snapshot.now.to) }
+        ≡ rows snapshot.now.sheet snapshot.now.issuer snapshot.now.batches snapshot.now.period
+        snapshot.now.from snapshot.now.to) }
 {
     let to = snapshot.to();
     rows_between(

@@ -79,7 +79,8 @@ fn part_lines(
 impl Room {
     /// Makes the lines of the part of that number, as far as there is memory.
     fn fill(&mut self, alloc: Global, batches: &RowsBetween<'_>, size: usize, k: usize)
-        ensures { IsTrue self.new.is_made → self.new.text.items ≡ batch_lines (part_of batches.now size k) }
+        ensures { IsTrue self.new.is_made
+            → self.new.text.items ≡ batch_lines (part_of batches.now size k) }
     {
         match part_lines(alloc, batches, size, k) {
             Ok(text) => {
@@ -117,14 +118,16 @@ fn fill_rooms(
     size: usize,
 )
     ensures len { length rooms.new ≡ length rooms.old }
-    ensures each { (k : ℕ) (d : Room) → k < length rooms.old → IsTrue (slice_index_or rooms.new k d).is_made
+    ensures each { (k : ℕ) (d : Room) → k < length rooms.old
+        → IsTrue (slice_index_or rooms.new k d).is_made
         → (slice_index_or rooms.new k d).text.items ≡ batch_lines (part_of batches.now size k) }
 {
     par_for_each_mut(
         rt,
         rooms,
         |k: usize, room: &mut Room|
-            ensures { IsTrue room.new.is_made → room.new.text.items ≡ batch_lines (part_of batches.entry.now size k) }
+            ensures { IsTrue room.new.is_made
+                → room.new.text.items ≡ batch_lines (part_of batches.entry.now size k) }
         { room.fill(alloc, batches, size, k) },
     );
 }
@@ -161,11 +164,14 @@ fn lines_in_rooms(
 /// Writes the header line, and then the texts of the rooms in order.
 fn write_rooms<W: Sink>(sink: &mut W, rooms: &[Room]) -> Result<(), Failed>
     ensures written { OnOk result
-        (Appends (W.contents sink.old) (W.contents sink.new) (header_line ++ 10 ∷ texts_in rooms.now)) }
+        (Appends (W.contents sink.old) (W.contents sink.new)
+        (header_line ++ 10 ∷ texts_in rooms.now)) }
     ensures prefix { OnErr result
-        (AppendsPrefix (W.contents sink.old) (W.contents sink.new) (header_line ++ 10 ∷ texts_in rooms.now)) }
+        (AppendsPrefix (W.contents sink.old) (W.contents sink.new)
+        (header_line ++ 10 ∷ texts_in rooms.now)) }
     ensures fault { OnErr result (Rises (W.failed_calls sink.old) (W.failed_calls sink.new)) }
-    ensures count { W.failed_calls sink.new ≡ count_after (is_err result) (W.failed_calls sink.old) }
+    ensures count { W.failed_calls sink.new
+        ≡ count_after (is_err result) (W.failed_calls sink.old) }
 {
     write_all(sink, header_text())?;
     for i in 0..rooms.len() {

@@ -36,11 +36,13 @@ pub trait ExportRows {
         ensures written { OnOk result
             (Appends (W.contents sink.old) (W.contents sink.new) (file_of (exported self.now))) }
         ensures prefix { result ≡ Err CsvFault.Write
-            → AppendsPrefix (W.contents sink.old) (W.contents sink.new) (file_of (exported self.now)) }
+            → AppendsPrefix (W.contents sink.old) (W.contents sink.new)
+            (file_of (exported self.now)) }
         ensures fault { result ≡ Err CsvFault.Write
             → Rises (W.failed_calls sink.old) (W.failed_calls sink.new) }
         ensures memory { result ≡ Err CsvFault.OutOfMemory
-            → AppendsSome (W.contents sink.old) (W.contents sink.new) (file_of (exported self.now)) }
+            → AppendsSome (W.contents sink.old) (W.contents sink.new)
+            (file_of (exported self.now)) }
         ensures count { W.failed_calls sink.new
             ≡ count_after (is_sink_fault result) (W.failed_calls sink.old) };
 }

@@ -81,10 +81,13 @@ fn put_record(
     above: Option<i32>,
     asked: &Asked<'_>,
 ) -> Result<Option<i32>, AllocError>
-    ensures told { (r : ModelRecord) (days : List ℤ) → slice_get (batch_of batch.now).records index ≡ Some r
+    ensures told { (r : ModelRecord) (days : List ℤ)
+        → slice_get (batch_of batch.now).records index ≡ Some r
         → record_asked asked.now ≡ asked_in r → above ≡ latest days
-        → OnOk result (told.new.items ≡ told.old.items ++ told_of_record (lines + 2 + index) days r) }
-    ensures latest { (r : ModelRecord) (days : List ℤ) → record_asked asked.now ≡ asked_in r → above ≡ latest days
+        → OnOk result (told.new.items
+        ≡ told.old.items ++ told_of_record (lines + 2 + index) days r) }
+    ensures latest { (r : ModelRecord) (days : List ℤ) → record_asked asked.now ≡ asked_in r
+        → above ≡ latest days
         → IfOk result (λ now. now ≡ latest (start_day r ++ days)) }
 {
     match asked {
@@ -108,9 +111,11 @@ fn put_batch(
     above: Option<i32>,
 ) -> Result<Option<i32>, AllocError>
     ensures told { (days : List ℤ) → above ≡ latest days
-        → OnOk result (told.new.items ≡ told.old.items ++ ahead_in (lines + 2) days (batch_of batch.now).records) }
+        → OnOk result (told.new.items
+        ≡ told.old.items ++ ahead_in (lines + 2) days (batch_of batch.now).records) }
     ensures latest { (days : List ℤ) → above ≡ latest days
-        → IfOk result (λ now. now ≡ latest (flat_map start_day (batch_of batch.now).records ++ days)) }
+        → IfOk result (λ now. now
+        ≡ latest (flat_map start_day (batch_of batch.now).records ++ days)) }
 {
     // For the proof alone: its clause says that a batch has at most 1,000 records.
     let _count = batch.count();
@@ -160,7 +165,8 @@ impl LatestDays {
         batch: &BatchView<'_>,
     ) -> Result<(), AllocError>
         ensures said { (journaled : List Batch) → AreLatest self.old journaled
-            → OnOk result (told.new.items ≡ told.old.items ++ ahead_of journaled lines (batch_of batch.now)) }
+            → OnOk result (told.new.items
+            ≡ told.old.items ++ ahead_of journaled lines (batch_of batch.now)) }
         ensures kept { (journaled : List Batch) → AreLatest self.old journaled
             → OnOk result (AreLatest self.new (batch_of batch.now ∷ journaled)) }
     {

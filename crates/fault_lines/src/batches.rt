@@ -38,7 +38,8 @@ fn put_words(told: &mut Vec<u8>, refusal: Refusal) -> Result<(), AllocError>
 
 /// Appends the line of the input on which something is wrong, and a colon.
 pub(crate) fn put_place(told: &mut Vec<u8>, line: u128) -> Result<(), AllocError>
-    ensures { OnOk result (told.new.items ≡ told.old.items ++ (with_number (codes "line ") line ++ codes ": ")) }
+    ensures { OnOk result (told.new.items
+        ≡ told.old.items ++ (with_number (codes "line ") line ++ codes ": ")) }
 {
     put_numbered(told, b"line ", line)?;
     told.extend_from_slice(b": ")
@@ -83,7 +84,8 @@ fn put_lacking(told: &mut Vec<u8>, sheet: &Sheet, reading: &Reading<'_>) -> Resu
 
 /// Appends what is told of a bad record: an amendment's target, or what a reading lacks.
 fn put_record(told: &mut Vec<u8>, sheet: &Sheet, what: &Record<'_>) -> Result<(), AllocError>
-    ensures { OnOk result (told.new.items ≡ told.old.items ++ record_words sheet.now (Some (record_of what.now))) }
+    ensures { OnOk result (told.new.items
+        ≡ told.old.items ++ record_words sheet.now (Some (record_of what.now))) }
 {
     match what {
         Record::Amend { seq, index, .. } => {
@@ -132,8 +134,10 @@ fn put_more(
     bad: Option<u16>,
     refusal: Refusal,
 ) -> Result<(), AllocError>
-    requires { (fault : BatchFault) → refusal ≡ Refusal.BadBatch fault → batch_in text.now ≡ Err fault }
-    ensures { OnOk result (told.new.items ≡ told.old.items ++ more_words sheet.now text.now bad refusal) }
+    requires { (fault : BatchFault) → refusal ≡ Refusal.BadBatch fault
+        → batch_in text.now ≡ Err fault }
+    ensures { OnOk result (told.new.items
+        ≡ told.old.items ++ more_words sheet.now text.now bad refusal) }
 {
     match refusal {
         Refusal::BadBatch(fault) => put_batch_words(told, text, fault),
@@ -169,8 +173,10 @@ pub fn put_refused_text(
     bad: Option<u16>,
     refusal: Refusal,
 ) -> Result<(), AllocError>
-    requires { (fault : BatchFault) → refusal ≡ Refusal.BadBatch fault → batch_in text.now ≡ Err fault }
-    ensures { OnOk result (told.new.items ≡ told.old.items ++ told_of_text lines sheet.now text.now bad refusal) }
+    requires { (fault : BatchFault) → refusal ≡ Refusal.BadBatch fault
+        → batch_in text.now ≡ Err fault }
+    ensures { OnOk result (told.new.items
+        ≡ told.old.items ++ told_of_text lines sheet.now text.now bad refusal) }
 {
     let within = line_within(bad, refusal);
     put_place(told, lines as u128 + u128::from(within))?;

@@ -42,13 +42,15 @@ pub trait Check {
         warnings: &mut Vec<u8>,
     ) -> Result<(), AllocError>
         ensures said { OnOk result (told.new.items ≡ told.old.items ++ said_of self.now input.now) }
-        ensures warned { OnOk result (warnings.new.items ≡ warnings.old.items ++ warned_of self.now input.now) };
+        ensures warned { OnOk result
+            (warnings.new.items ≡ warnings.old.items ++ warned_of self.now input.now) };
 }
 
 /// Writes a text, of which so many lines are counted, and answers how many.
 fn write_said<W: Sink>(text: &[u8], count: u64, writer: &mut W) -> Result<u64, PlayFault>
     ensures said { IfOk result
-        (λ answer. Appends (W.contents writer.old) (W.contents writer.new) text.now × (answer ≡ count)) }
+        (λ answer. Appends (W.contents writer.old) (W.contents writer.new) text.now
+        × (answer ≡ count)) }
     ensures prefix { result ≡ Err PlayFault.Write
         → AppendsPrefix (W.contents writer.old) (W.contents writer.new) text.now }
     ensures fault { IfErr result (λ fault. fault ≡ PlayFault.Write) }
@@ -75,7 +77,8 @@ fn write_checked<C: Check, W: Sink>(
     ensures prefix { result ≡ Err PlayFault.Write
         → AppendsPrefix (W.contents writer.old) (W.contents writer.new)
         (C.said_of check.now input.now ++ C.warned_of check.now input.now) }
-    ensures fault { IfErr result (λ fault. (fault ≡ PlayFault.Write) ⊎ (fault ≡ PlayFault.OutOfMemory)) }
+    ensures fault { IfErr result
+        (λ fault. (fault ≡ PlayFault.Write) ⊎ (fault ≡ PlayFault.OutOfMemory)) }
     ensures memory { result ≡ Err PlayFault.OutOfMemory → writer.new ≡ writer.old }
     ensures writes { W.failed_calls writer.new
         ≡ count_after (tells_of_writer result) (W.failed_calls writer.old) }
@@ -106,24 +109,28 @@ pub fn check_input<C: Check, R: Source, W: Sink>(
 ) -> Result<u64, PlayFault>
     // With Ok just what is said of the input was written, and behind it of what it is warned; the lines of the first are counted.
     ensures said { IfOk result (λ count. (input said warned : List ℕ)
-        × IsSaid (C.said_of check.now) (C.warned_of check.now) (R.remaining reader.old) input said warned
+        × IsSaid (C.said_of check.now) (C.warned_of check.now)
+        (R.remaining reader.old) input said warned
         × Appends (W.contents writer.old) (W.contents writer.new) (said ++ warned)
         × (count ≡ line_count said)) }
 
     // Where nothing is wrong, just the warnings were written, and nothing is left to read.
     ensures ahead { result ≡ Ok 0 → (input warned : List ℕ)
-        × IsSaid (C.said_of check.now) (C.warned_of check.now) (R.remaining reader.old) input [] warned
+        × IsSaid (C.said_of check.now) (C.warned_of check.now)
+        (R.remaining reader.old) input [] warned
         × Appends (W.contents writer.old) (W.contents writer.new) warned }
     ensures end { result ≡ Ok 0 → IsAtEnd (R.remaining reader.new) }
 
     // After `Write` a prefix of it was, and never all of it.
     ensures prefix { result ≡ Err PlayFault.Write → (input said warned : List ℕ)
-        × IsSaid (C.said_of check.now) (C.warned_of check.now) (R.remaining reader.old) input said warned
+        × IsSaid (C.said_of check.now) (C.warned_of check.now)
+        (R.remaining reader.old) input said warned
         × AppendsPrefix (W.contents writer.old) (W.contents writer.new) (said ++ warned) }
     ensures untouched { IfErr result (λ fault. fault ≢ PlayFault.Write → writer.new ≡ writer.old) }
     ensures no_section { (fault : ScheduleFault) → result ≢ Err (PlayFault.Schedule fault) }
     ensures no_refusal { (refusal : Refusal) → result ≢ Err (PlayFault.Refused refusal) }
-    ensures read { ConsumesAtMost (most_input_bytes + 1) (R.remaining reader.old) (R.remaining reader.new) }
+    ensures read { ConsumesAtMost (most_input_bytes + 1) (R.remaining reader.old)
+        (R.remaining reader.new) }
 
     // `Read` and `Write` come of one failed call each, and no other call fails.
     ensures reads { R.failed_calls reader.new

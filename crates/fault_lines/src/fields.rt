@@ -175,7 +175,8 @@ fn amendment_field(line: &[u8]) -> Option<RecordField>
 /// The field of a line that breaks its rule first, where the line is refused with this code.
 fn fault_field(code: BatchCode, line: &[u8]) -> Option<RecordField>
     requires { is_of_field code ≡ true }
-    ensures { (version : Version) → record_in version (fields_in line.now) ≡ Err code → result ≡ fault_field line.now }
+    ensures { (version : Version) → record_in version (fields_in line.now) ≡ Err code
+        → result ≡ fault_field line.now }
 {
     let Some(fields) = reading_fields(line) else {
         return amendment_field(line);
@@ -191,7 +192,8 @@ fn fault_field(code: BatchCode, line: &[u8]) -> Option<RecordField>
 
 /// The line of a text of that number, counted from 1, without its line feed; None where the text has no such line.
 pub(crate) fn line_at(text: &[u8], number: u32) -> Option<&[u8]>
-    ensures { MatchOption result (line_at text.now number ≡ None) (λ line. line_at text.now number ≡ Some line.now) }
+    ensures { MatchOption result (line_at text.now number ≡ None)
+        (λ line. line_at text.now number ≡ Some line.now) }
 {
     let at = lines_length(text, number.saturating_sub(1))?;
     let (_, behind) = text.split_at(at);

@@ -47,7 +47,8 @@ fn put_not_text(told: &mut Vec<u8>) -> Result<(), AllocError>
 
 /// Appends why a text is no sheet, behind a space.
 fn put_sheet_words(told: &mut Vec<u8>, fault: SheetFault) -> Result<(), AllocError>
-    ensures { OnOk result (told.new.items ≡ told.old.items ++ (codes " " ++ sheet_fault_text fault)) }
+    ensures { OnOk result (told.new.items
+        ≡ told.old.items ++ (codes " " ++ sheet_fault_text fault)) }
 {
     told.extend_from_slice(b" ")?;
     put_sheet_fault(told, fault)
@@ -55,7 +56,8 @@ fn put_sheet_words(told: &mut Vec<u8>, fault: SheetFault) -> Result<(), AllocErr
 
 /// Appends what the reader of a sheet says of a text.
 fn put_sheet_answer(alloc: Global, told: &mut Vec<u8>, text: &str) -> Result<(), AllocError>
-    ensures { OnOk result (told.new.items ≡ told.old.items ++ said_by sheet_fault_text (sheet_of_text text.now)) }
+    ensures { OnOk result (told.new.items
+        ≡ told.old.items ++ said_by sheet_fault_text (sheet_of_text text.now)) }
 {
     match Sheet::read(alloc, text) {
         Ok(_) => Ok(()),
@@ -66,7 +68,8 @@ fn put_sheet_answer(alloc: Global, told: &mut Vec<u8>, text: &str) -> Result<(),
 
 /// Appends what is wrong with the text of a sheet.
 fn put_sheet_reason(alloc: Global, told: &mut Vec<u8>, section: &[u8]) -> Result<(), AllocError>
-    ensures { OnOk result (told.new.items ≡ told.old.items ++ said_of_text sheet_fault_text sheet_of_text section.now) }
+    ensures { OnOk result (told.new.items
+        ≡ told.old.items ++ said_of_text sheet_fault_text sheet_of_text section.now) }
 {
     match str::from_utf8(section) {
         Ok(text) => put_sheet_answer(alloc, told, text),
@@ -76,7 +79,8 @@ fn put_sheet_reason(alloc: Global, told: &mut Vec<u8>, section: &[u8]) -> Result
 
 /// Appends why a text is no issuer, behind a space.
 fn put_issuer_words(told: &mut Vec<u8>, fault: IssuerFault) -> Result<(), AllocError>
-    ensures { OnOk result (told.new.items ≡ told.old.items ++ (codes " " ++ issuer_fault_text fault)) }
+    ensures { OnOk result (told.new.items
+        ≡ told.old.items ++ (codes " " ++ issuer_fault_text fault)) }
 {
     told.extend_from_slice(b" ")?;
     put_issuer_fault(told, fault)
@@ -84,7 +88,8 @@ fn put_issuer_words(told: &mut Vec<u8>, fault: IssuerFault) -> Result<(), AllocE
 
 /// Appends what the reader of an issuer says of a text.
 fn put_issuer_answer(alloc: Global, told: &mut Vec<u8>, text: &str) -> Result<(), AllocError>
-    ensures { OnOk result (told.new.items ≡ told.old.items ++ said_by issuer_fault_text (issuer_of_text text.now)) }
+    ensures { OnOk result (told.new.items
+        ≡ told.old.items ++ said_by issuer_fault_text (issuer_of_text text.now)) }
 {
     match Issuer::read(alloc, text) {
         Ok(_) => Ok(()),

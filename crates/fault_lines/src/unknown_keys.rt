@@ -101,7 +101,8 @@ fn add_key<'a>(
     found: &mut Vec<UnknownKey<'a>>,
     name: &'a [u8],
 ) -> Result<(), AllocError>
-    ensures { OnOk result (found.new.items ≡ with_key taken.now table.now found.old.items name.now) }
+    ensures { OnOk result (found.new.items
+        ≡ with_key taken.now table.now found.old.items name.now) }
 {
     if is_taken(taken, name) || is_found(table, name, found) || found.len() >= MOST_UNKNOWN_KEYS {
         return Ok(());
@@ -118,7 +119,8 @@ fn add_table<'a>(
     found: &mut Vec<UnknownKey<'a>>,
     members: &'a Table,
 ) -> Result<(), AllocError>
-    ensures { OnOk result (found.new.items ≡ with_table taken.now table.now found.old.items (table_view members.now)) }
+    ensures { OnOk result (found.new.items
+        ≡ with_table taken.now table.now found.old.items (table_view members.now)) }
 {
     for (key, _) in members.iter() {
         add_key(taken, table, found, key.as_bytes())?;
@@ -152,7 +154,8 @@ fn add_rows_under<'a>(
     found: &mut Vec<UnknownKey<'a>>,
     members: &'a Table,
 ) -> Result<(), AllocError>
-    ensures { OnOk result (found.new.items ≡ with_rows_under key taken.now found.old.items (table_view members.now)) }
+    ensures { OnOk result (found.new.items
+        ≡ with_rows_under key taken.now found.old.items (table_view members.now)) }
 {
     match rows_under(alloc, members, key) {
         Ok(rows) => add_rows(taken, key.name().as_bytes(), found, &rows),
@@ -322,7 +325,8 @@ fn put_unknown(told: &mut Vec<u8>, line: u128, key: &UnknownKey<'_>) -> Result<(
 
 /// Appends it of each of the keys.
 fn put_each(told: &mut Vec<u8>, line: u128, keys: &[UnknownKey<'_>]) -> Result<(), AllocError>
-    ensures { OnOk result (told.new.items ≡ told.old.items ++ flat_map (told_unknown line) keys.now) }
+    ensures { OnOk result (told.new.items
+        ≡ told.old.items ++ flat_map (told_unknown line) keys.now) }
 {
     for key in keys {
         put_unknown(told, line, key)?;
@@ -365,7 +369,8 @@ fn put_along(
 ) -> Result<(), AllocError>
     ensures told { OnOk result (told.new.items ≡ told.old.items
         ++ told_along (opening + 1) [] keys.old.items (lines_in text.now).lines) }
-    ensures left { OnOk result (keys.new.items ≡ keys_left [] keys.old.items (lines_in text.now).lines) }
+    ensures left { OnOk result
+        (keys.new.items ≡ keys_left [] keys.old.items (lines_in text.now).lines) }
 {
     let mut rest = text;
     let mut table: &[u8] = b"";
@@ -397,7 +402,8 @@ fn put_keys(
     text: &[u8],
     keys: Vec<UnknownKey<'_>>,
 ) -> Result<(), AllocError>
-    ensures { OnOk result (told.new.items ≡ told.old.items ++ told_of_keys opening (lines_in text.now).lines keys.entry.items) }
+    ensures { OnOk result (told.new.items
+        ≡ told.old.items ++ told_of_keys opening (lines_in text.now).lines keys.entry.items) }
 {
     if keys.as_slice().is_empty() {
         return Ok(());
@@ -434,7 +440,8 @@ fn put_of_sheet(
     opening: u32,
     section: &[u8],
 ) -> Result<(), AllocError>
-    ensures { OnOk result (told.new.items ≡ told.old.items ++ told_of_section unknown_in_sheet opening section.now) }
+    ensures { OnOk result (told.new.items
+        ≡ told.old.items ++ told_of_section unknown_in_sheet opening section.now) }
 {
     let Ok(text) = str::from_utf8(section) else {
         return Ok(());
@@ -456,7 +463,8 @@ fn put_of_issuer(
     opening: u32,
     section: &[u8],
 ) -> Result<(), AllocError>
-    ensures { OnOk result (told.new.items ≡ told.old.items ++ told_of_section unknown_in_issuer opening section.now) }
+    ensures { OnOk result (told.new.items
+        ≡ told.old.items ++ told_of_section unknown_in_issuer opening section.now) }
 {
     let Ok(text) = str::from_utf8(section) else {
         return Ok(());

@@ -38,7 +38,8 @@ pub(crate) fn make_piece(
 
 /// Appends pieces, one after the other. At an allocation failure the text is as before, or has some of them after it.
 pub(crate) fn put_pieces(text: &mut Vec<u8>, pieces: &[&[u8]]) -> Result<(), AllocError>
-    ensures put { OnOk result (text.new.items ≡ text.old.items ++ flat_map (λ t. t) (map (λ p. p.now) pieces.now)) }
+    ensures put { OnOk result
+        (text.new.items ≡ text.old.items ++ flat_map (λ t. t) (map (λ p. p.now) pieces.now)) }
     ensures begins { OnErr result (BeginsWith text.new.items text.old.items) }
 {
     for piece in pieces {

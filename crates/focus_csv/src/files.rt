@@ -65,7 +65,8 @@ fn put_batch<'a>(
     text: &mut Vec<u8>,
 ) -> Result<(), AllocError>
     requires { k < length batches.now }
-    ensures put { OnOk result (text.new.items ≡ text.old.items ++ flat_map row_text (slice_index_or batches.now k [])) }
+    ensures put { OnOk result
+        (text.new.items ≡ text.old.items ++ flat_map row_text (slice_index_or batches.now k [])) }
     ensures begins { OnErr result (BeginsWith text.new.items text.old.items) }
 {
     let mut walk = batches.walk(k);
@@ -153,7 +154,8 @@ pub fn write_rows<W: Sink>(
     batches: &RowsBetween<'_>,
     sink: &mut W,
 ) -> Result<(), CsvFault>
-    ensures written { OnOk result (Appends (W.contents sink.old) (W.contents sink.new) (file (joined batches.now))) }
+    ensures written { OnOk result
+        (Appends (W.contents sink.old) (W.contents sink.new) (file (joined batches.now))) }
     ensures prefix { result ≡ Err CsvFault.Write
         → AppendsPrefix (W.contents sink.old) (W.contents sink.new) (file (joined batches.now)) }
     ensures fault { result ≡ Err CsvFault.Write

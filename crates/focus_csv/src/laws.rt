@@ -20,7 +20,8 @@ pub fn a_file_is_written_in_parts()
     ensures next { (written part : List Row) →
         file written ++ flat_map row_text part ≡ file (written ++ part) }
     ensures whole { (parts : List (List Row)) →
-        (header_line ++ 10 ∷ []) ++ flat_map (flat_map row_text) parts ≡ file (flat_map (λ part. part) parts) }
+        (header_line ++ 10 ∷ []) ++ flat_map (flat_map row_text) parts
+        ≡ file (flat_map (λ part. part) parts) }
 {}
 
 /// A reader of CSV with its usual settings gives of every file the 38 names, and then just the fields of
@@ -48,6 +49,7 @@ pub fn tags_are_json()
     ensures read { (ts : List Tag) → IsTrue (list_all (λ t. is_text t.key && is_text t.value) ts)
         → IsTrue (keys_rise ts)
         → read (json_object ts) ≡ Some (tag_data ts) }
-    ensures field { (row : FocusRow) → (compact_text (tag_data (model_row row).tags) ≡ json_object (model_row row).tags)
+    ensures field { (row : FocusRow)
+        → (compact_text (tag_data (model_row row).tags) ≡ json_object (model_row row).tags)
         × (read (json_object (model_row row).tags) ≡ Some (tag_data (model_row row).tags)) }
 {}

@@ -25,7 +25,8 @@ pub(crate) fn put_lines(
     rows: &[FocusRow<'_>],
     text: &mut Vec<u8>,
 ) -> Result<(), AllocError>
-    ensures put { OnOk result (text.new.items ≡ text.old.items ++ flat_map row_text (map model_row rows.now)) }
+    ensures put { OnOk result
+        (text.new.items ≡ text.old.items ++ flat_map row_text (map model_row rows.now)) }
     ensures begins { OnErr result (BeginsWith text.new.items text.old.items) }
 {
     if rows.is_empty() {

@@ -63,8 +63,10 @@ impl LinePieces {
         before: &FocusRow<'_>,
         row: &FocusRow<'_>,
     ) -> Result<(), AllocError>
-        requires { IsTrue is_held → self.old.tags.items ≡ behind (json_object (model_row before.now).tags ∷ []) }
-        ensures tags { OnOk result (self.new.tags.items ≡ behind (json_object (model_row row.now).tags ∷ [])) }
+        requires { IsTrue is_held
+            → self.old.tags.items ≡ behind (json_object (model_row before.now).tags ∷ []) }
+        ensures tags { OnOk result
+            (self.new.tags.items ≡ behind (json_object (model_row row.now).tags ∷ [])) }
         ensures numbers { self.new.numbers ≡ self.old.numbers }
         ensures texts { self.new.texts ≡ self.old.texts }
         ensures held { self.new.are_held ≡ self.old.are_held }
@@ -97,7 +99,8 @@ impl LinePieces {
 
     /// All pieces but the first number.
     fn behind_first(&self) -> [&[u8]; PIECES]
-        ensures { (r : Row) → AreOf self.now r → map (λ p. p.now) result ≡ map behind (line_runs r) }
+        ensures { (r : Row) → AreOf self.now r
+            → map (λ p. p.now) result ≡ map behind (line_runs r) }
     {
         [
             self.texts.billing.as_slice(),
@@ -125,7 +128,8 @@ impl LinePieces {
 
     /// Appends the line. At an allocation failure the text is as before, or has some of the line after it.
     fn append(&self, text: &mut Vec<u8>) -> Result<(), AllocError>
-        ensures put { OnOk result ((r : Row) → AreOf self.now r → text.new.items ≡ text.old.items ++ row_text r) }
+        ensures put { OnOk result
+            ((r : Row) → AreOf self.now r → text.new.items ≡ text.old.items ++ row_text r) }
         ensures begins { OnErr result (BeginsWith text.new.items text.old.items) }
     {
         text.extend_from_slice(self.numbers.billed_cost.as_bytes())?;
@@ -136,7 +140,8 @@ impl LinePieces {
 
     /// Appends the line. At an allocation failure the text is as before.
     pub(crate) fn put(&self, text: &mut Vec<u8>) -> Result<(), AllocError>
-        ensures put { OnOk result ((r : Row) → AreOf self.now r → text.new.items ≡ text.old.items ++ row_text r) }
+        ensures put { OnOk result
+            ((r : Row) → AreOf self.now r → text.new.items ≡ text.old.items ++ row_text r) }
         ensures kept { OnErr result (text.new.items ≡ text.old.items) }
     {
         let begin = text.len();

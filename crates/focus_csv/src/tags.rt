@@ -83,7 +83,8 @@ fn put_odd_tag(
     requires key { IsTrue (is_text key.now) }
     requires value { IsTrue (is_text value.now) }
     ensures { OnOk result (piece.new.items
-        ≡ piece.old.items ++ (front.now ++ doubled (json_member (record { key = key.now; value = value.now })))) }
+        ≡ piece.old.items ++ (front.now
+        ++ doubled (json_member (record { key = key.now; value = value.now })))) }
 {
     piece.extend_from_slice(front)?;
     put_string(odd, piece, key)?;
@@ -107,7 +108,8 @@ fn put_tag(
     requires value { IsTrue (is_text value.now) }
     requires plain { IsTrue is_plain → (is_odd key.now ≡ false) × (is_odd value.now ≡ false) }
     ensures { OnOk result (piece.new.items
-        ≡ piece.old.items ++ (front.now ++ doubled (json_member (record { key = key.now; value = value.now })))) }
+        ≡ piece.old.items ++ (front.now
+        ++ doubled (json_member (record { key = key.now; value = value.now })))) }
 {
     if is_plain {
         put_plain_tag(piece, begin, key, value)?;
@@ -125,7 +127,8 @@ pub(crate) fn set_tags(
     piece: &mut Vec<u8>,
     tags: Tags<'_>,
 ) -> Result<(), AllocError>
-    ensures { OnOk result (piece.new.items ≡ behind (json_object (map tag_of (lent_tags tags.entry)) ∷ [])) }
+    ensures { OnOk result (piece.new.items
+        ≡ behind (json_object (map tag_of (lent_tags tags.entry)) ∷ [])) }
 {
     piece.clear();
     let is_plain = !is_odd(tags.text());

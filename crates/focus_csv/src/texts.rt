@@ -188,7 +188,8 @@ fn set_category(
     before: &FocusRow<'_>,
     row: &FocusRow<'_>,
 ) -> Result<(), AllocError>
-    requires { IsTrue are_held → piece.old.items ≡ behind (category_columns (model_row before.now)) }
+    requires { IsTrue are_held
+        → piece.old.items ≡ behind (category_columns (model_row before.now)) }
     ensures { OnOk result (piece.new.items ≡ behind (category_columns (model_row row.now))) }
 {
     if are_held && before.pricing_category == row.pricing_category {
@@ -263,7 +264,8 @@ fn set_resource(
     before: &FocusRow<'_>,
     row: &FocusRow<'_>,
 ) -> Result<(), AllocError>
-    requires { IsTrue are_held → piece.old.items ≡ behind (resource_columns (model_row before.now)) }
+    requires { IsTrue are_held
+        → piece.old.items ≡ behind (resource_columns (model_row before.now)) }
     ensures { OnOk result (piece.new.items ≡ behind (resource_columns (model_row row.now))) }
 {
     if are_held && before.resource_id == row.resource_id {

@@ -58,7 +58,8 @@ pub fn write_file<W: Sink>(
     ensures written { OnOk result
         (Appends (W.contents sink.old) (W.contents sink.new) (file (map model_row rows.now))) }
     ensures prefix { result ≡ Err CsvFault.Write
-        → AppendsPrefix (W.contents sink.old) (W.contents sink.new) (file (map model_row rows.now)) }
+        → AppendsPrefix (W.contents sink.old) (W.contents sink.new)
+        (file (map model_row rows.now)) }
     ensures fault { result ≡ Err CsvFault.Write
         → Rises (W.failed_calls sink.old) (W.failed_calls sink.new) }
     ensures count { W.failed_calls sink.new

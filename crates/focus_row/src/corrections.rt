@@ -52,7 +52,8 @@ impl<'a> BetweenCuts<'a> {
         requires upto { upto ≤ last_of self.now.to place.agent }
         requires within { place.seq ≤ last_of self.now.to place.agent }
         ensures value { result ≡ value_at self.now.batches (position_of place) upto }
-        ensures not_negative { (r : ModelReading) → reading_at self.now.batches (position_of place) ≡ Some r
+        ensures not_negative { (r : ModelReading)
+            → reading_at self.now.batches (position_of place) ≡ Some r
             → is_priced r.kind ≡ true → pos 0 ≤ℤ result }
     {
         self.store.value_at(place, upto).unwrap()
@@ -69,13 +70,15 @@ impl<'a> BetweenCuts<'a> {
         requires near { IsNamed self.now.sheet (option_copied near.id) (option_copied near.name) }
         requires from { 1 ≤ place.agent }
         requires to { place.agent ≤ self.now.agents }
-        requires there { reading_at self.now.batches (position_of place) ≡ Some (model_reading reading.now) }
+        requires there { reading_at self.now.batches (position_of place)
+            ≡ Some (model_reading reading.now) }
         requires within { place.seq ≤ last_of self.now.to place.agent }
         ensures row { model_row result
             ≡ row self.now.sheet self.now.issuer (model_reading reading.now) self.now.period New
             (pos 0)
             (value_at self.now.batches (position_of place) (last_of self.now.to place.agent)) }
-        ensures named { IsNamed self.now.sheet (option_copied result.region_id) (option_copied result.region_name) }
+        ensures named { IsNamed self.now.sheet (option_copied result.region_id)
+            (option_copied result.region_name) }
     {
         let nothing = Value::new(0).unwrap();
         let now = self.value(place, self.to.get(place.agent));
@@ -100,7 +103,8 @@ impl<'a> BetweenCuts<'a> {
         requires near { IsNamed self.now.sheet (option_copied near.id) (option_copied near.name) }
         requires from { 1 ≤ place.agent }
         requires to { place.agent ≤ self.now.agents }
-        requires there { reading_at self.now.batches (position_of place) ≡ Some (model_reading reading.now) }
+        requires there { reading_at self.now.batches (position_of place)
+            ≡ Some (model_reading reading.now) }
         requires within { place.seq ≤ last_of self.now.from place.agent }
         ensures row { option_map model_row result
             ≡ row_of_reading self.now.sheet self.now.issuer self.now.batches self.now.period
@@ -142,7 +146,8 @@ impl<'a> BetweenCuts<'a> {
         requires near { IsNamed self.now.sheet (option_copied near.id) (option_copied near.name) }
         requires from { 1 ≤ place.agent }
         requires to { place.agent ≤ self.now.agents }
-        requires there { reading_at self.now.batches (position_of place) ≡ Some (model_reading reading.now) }
+        requires there { reading_at self.now.batches (position_of place)
+            ≡ Some (model_reading reading.now) }
         requires within { place.seq ≤ last_of self.now.from place.agent }
         ensures row { OnOk result
             (map model_row rows.new.items ≡ map model_row rows.old.items
@@ -173,7 +178,8 @@ impl<'a> BetweenCuts<'a> {
         requires near { AreNamed self.now.sheet rows.old.items }
         requires from { 1 ≤ place.agent }
         requires to { place.agent ≤ self.now.agents }
-        requires there { record_at self.now.batches (position_of place) ≡ Some (record_of what.now) }
+        requires there { record_at self.now.batches (position_of place)
+            ≡ Some (record_of what.now) }
         requires within { place.seq ≤ last_of self.now.to place.agent }
         ensures row { OnOk result
             (map model_row rows.new.items ≡ map model_row rows.old.items
@@ -218,14 +224,16 @@ impl<'a> BetweenCuts<'a> {
         ensures rows { IfOk result
             (λ to. map model_row rows.new.items
             ++ rows_behind self.now agent seq to (batch_of batch.now)
-            ≡ map model_row rows.old.items ++ rows_behind self.now agent seq from (batch_of batch.now)) }
+            ≡ map model_row rows.old.items
+            ++ rows_behind self.now agent seq from (batch_of batch.now)) }
         ensures within { IfOk result (λ to. to ≤ length (batch_of batch.now).records) }
         ensures ends { IfOk result
             (λ to. (to ≡ length (batch_of batch.now).records) ⊎ (limit ≤ length rows.new.items)) }
         ensures further { IfOk result
             (λ to. from < length (batch_of batch.now).records → length rows.old.items < limit
             → from < to) }
-        ensures most { IfOk result (λ _. length rows.old.items ≤ limit → length rows.new.items ≤ limit) }
+        ensures most { IfOk result
+            (λ _. length rows.old.items ≤ limit → length rows.new.items ≤ limit) }
         ensures begins { BeginsWith rows.new.items rows.old.items }
     {
         let count = batch.count();

@@ -58,7 +58,8 @@ impl<'a> BetweenCuts<'a> {
         requires to { agent ≤ self.now.agents }
         requires first { 1 ≤ seq }
         requires within { seq ≤ last_of self.now.to agent }
-        ensures { IfOk result (λ rows. map model_row rows.items ≡ rows_of_batch self.now agent seq) }
+        ensures { IfOk result (λ rows. map model_row rows.items
+            ≡ rows_of_batch self.now agent seq) }
     {
         let batch = self.store.batch_at(agent, seq);
         let Ok(mut rows) = Vec::with_capacity(alloc, self.room_for(agent, seq, batch.count()))
@@ -75,8 +76,10 @@ impl<'a> BetweenCuts<'a> {
         requires to { agent ≤ self.now.agents }
         ensures within { IfSome result
             (λ next. (seq ≤ next) × (next ≤ last_of self.now.to agent) × (next ≤ last_sequence)) }
-        ensures some { IfSome result (λ next. rows_left self.now agent next ≡ rows_left self.now agent seq) }
-        ensures none { IfNone result (rows_left self.now (agent + 1) 1 ≡ rows_left self.now agent seq) }
+        ensures some { IfSome result
+            (λ next. rows_left self.now agent next ≡ rows_left self.now agent seq) }
+        ensures none { IfNone result
+            (rows_left self.now (agent + 1) 1 ≡ rows_left self.now agent seq) }
     {
         let from = self.from.get(agent);
         if let Some(named) = next_named(&self.amended, agent, seq) {
@@ -94,9 +97,11 @@ impl<'a> BetweenCuts<'a> {
     fn next_stop(&self, agent: u8, seq: u32) -> Option<(u8, u32)>
         requires from { 1 ≤ agent }
         requires first { 1 ≤ seq }
-        ensures agent { IfSome result (λ stop. (agent ≤ stop.0) × (stop.0 ≤ self.now.agents) × (stop.0 ≤ most_agents)) }
+        ensures agent { IfSome result
+            (λ stop. (agent ≤ stop.0) × (stop.0 ≤ self.now.agents) × (stop.0 ≤ most_agents)) }
         ensures seq { IfSome result
-            (λ stop. (1 ≤ stop.1) × (stop.1 ≤ last_sequence) × (stop.1 ≤ last_of self.now.to stop.0)) }
+            (λ stop. (1 ≤ stop.1) × (stop.1 ≤ last_sequence)
+            × (stop.1 ≤ last_of self.now.to stop.0)) }
         ensures behind { IfSome result (λ stop. stop.0 ≡ agent → seq ≤ stop.1) }
         ensures some { IfSome result
             (λ stop. rows_of_batch self.now stop.0 stop.1 ++ rows_left self.now stop.0 (stop.1 + 1)
@@ -116,7 +121,8 @@ impl<'a> BetweenCuts<'a> {
 
     /// The batches that may have rows, in journal order.
     pub(crate) fn places(&self, alloc: Global) -> Result<Vec<BatchPlace>, AllocError>
-        ensures all { IfOk result (λ places. flat_map (rows_of_place self.now) places.items ≡ rows_left self.now 1 1) }
+        ensures all { IfOk result
+            (λ places. flat_map (rows_of_place self.now) places.items ≡ rows_left self.now 1 1) }
         ensures within { IfOk result (λ places. All (IsWithin self.now) places.items) }
     {
         let mut places = Vec::new(alloc);

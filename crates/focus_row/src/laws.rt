@@ -19,15 +19,18 @@ pub fn totals()
         (at : Position) (r : Reading) →
         IsHolding h → IsGrowing agents cuts → reading_at h at ≡ Some r →
         model.totals (rows_of_place sheet issuer h agents cuts at)
-        ≡ amounts_of (charged_at_once sheet r (value_at h at (last_of (last_cut agents cuts) at.agent))) }
+        ≡ amounts_of (charged_at_once sheet r
+        (value_at h at (last_of (last_cut agents cuts) at.agent))) }
 {
     row_laws::laws::totals();
 }
 
 /// A part of a holding has the rows of the whole, where it lacks nothing of it up to the later cut.
 pub fn rows_stay()
-    ensures { (sheet : Sheet) (issuer : Issuer) (part whole : Holding) (period : ℕ) (from to : Cut) →
-        IsHolding part → IsHolding whole → IsPartOf part whole → LacksNothingUpTo to part whole → IsAtLeast to from →
+    ensures { (sheet : Sheet) (issuer : Issuer) (part whole : Holding) (period : ℕ)
+        (from to : Cut) →
+        IsHolding part → IsHolding whole → IsPartOf part whole → LacksNothingUpTo to part whole
+        → IsAtLeast to from →
         rows sheet issuer part period from to ≡ rows sheet issuer whole period from to }
 {
     row_laws::laws::rows_stay();

@@ -56,7 +56,8 @@ pub fn rows_of<'a>(
         → (first_missing store.now.batches to.now ≡ None)
         × (first_broken sheet.now (up_to to.now store.now.batches)
         (records_in_order (up_to to.now store.now.batches)) ≡ Some rule) }
-    ensures memory { result ≡ Err RowFault.OutOfMemory → (first_missing store.now.batches to.now ≡ None)
+    ensures memory { result ≡ Err RowFault.OutOfMemory
+        → (first_missing store.now.batches to.now ≡ None)
         × MeetsJournalRules sheet.now (up_to to.now store.now.batches) }
 {
     // For the proof alone: its clause says that the agents are 1 to 64, and their batches a holding.

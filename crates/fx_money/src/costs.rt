@@ -56,7 +56,8 @@ impl Cost {
     /// Appends the one spelling of the cost: units of the currency, with at most twelve places. An error is an
     /// allocation failure: it comes only where the spare capacity is too small, and leaves the text as it was.
     pub fn write_to(&self, text: &mut String) -> Result<(), AllocError>
-        ensures ok { OnOk result (string_bytes text.new ≡ string_bytes text.old ++ spelling 12 self.now) }
+        ensures ok { OnOk result
+            (string_bytes text.new ≡ string_bytes text.old ++ spelling 12 self.now) }
         ensures err { OnErr result (string_bytes text.new ≡ string_bytes text.old) }
         ensures full { OnErr result
             (string_capacity text.old < string_len text.old + length (spelling 12 self.now)) }

@@ -51,7 +51,8 @@ impl Delta {
     /// Appends the one spelling of the difference, with at most six places. An error is an allocation failure: it comes
     /// only where the spare capacity is too small, and leaves the text as it was.
     pub fn write_to(&self, text: &mut String) -> Result<(), AllocError>
-        ensures ok { OnOk result (string_bytes text.new ≡ string_bytes text.old ++ spelling 6 self.now) }
+        ensures ok { OnOk result
+            (string_bytes text.new ≡ string_bytes text.old ++ spelling 6 self.now) }
         ensures err { OnErr result (string_bytes text.new ≡ string_bytes text.old) }
         ensures full { OnErr result
             (string_capacity text.old < string_len text.old + length (spelling 6 self.now)) }

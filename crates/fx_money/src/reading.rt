@@ -132,7 +132,8 @@ fn leading(text: &[u8], most: usize) -> (u64, usize)
     requires { most ≤ 12 }
     ensures within { result.1 ≤ length text.now }
     ensures few { result.1 ≤ most }
-    ensures stops { result.1 < most → result.1 < length text.now → is_digit (slice_index text.now result.1) ≡ false }
+    ensures stops { result.1 < most → result.1 < length text.now
+        → is_digit (slice_index text.now result.1) ≡ false }
     ensures digits { IsTrue (list_all is_digit (take result.1 text.now)) }
     ensures number { result.0 ≡ number_of (take result.1 text.now) }
     ensures small { result.0 < 10 ^ result.1 }
@@ -170,7 +171,8 @@ fn usual_decimals(decimals: &[u8]) -> Option<u64>
     ensures some { IfSome result (λ n. 0 < length decimals.now) }
     ensures value { IfSome result (λ n. n ≡ worth_of 6 decimals.now) }
     ensures small { IfSome result (λ n. n < 10 ^ 6) }
-    ensures given { IsTrue (is_decimal_part 6 decimals.now) → 0 < length decimals.now → IsSome result }
+    ensures given { IsTrue (is_decimal_part 6 decimals.now) → 0 < length decimals.now
+        → IsSome result }
 {
     let (part, few) = leading(decimals, PLACES);
     if few == 0 || few < decimals.len() || decimals[few - 1] == b'0' {
@@ -184,7 +186,8 @@ fn usual_decimals(decimals: &[u8]) -> Option<u64>
 #[inline(always)]
 fn usual_magnitude(body: &[u8]) -> Option<u64>
     ensures value { IfSome result (λ n. magnitude_in 6 body.now ≡ Some n) }
-    ensures given { length (before_first is_point body.now) ≤ 12 → result ≡ magnitude_in 6 body.now }
+    ensures given { length (before_first is_point body.now) ≤ 12
+        → result ≡ magnitude_in 6 body.now }
 {
     let (whole, many) = leading(body, 12);
     if many == 0 || (many > 1 && body[0] == b'0') {

@@ -16,7 +16,8 @@ pub fn runs()
         IsLegal (opening voters observers agents sheet issuer) history reached →
         HoldsAfter voters observers agents sheet issuer (map (λ e. e.event) history)
         (map (λ e. e.reply) history) reached }
-    ensures holds { (voters observers agents : ℕ) (sheet : Sheet) (issuer : Issuer) (events : List Event) →
+    ensures holds { (voters observers agents : ℕ) (sheet : Sheet) (issuer : Issuer)
+        (events : List Event) →
         HoldsAfter voters observers agents sheet issuer events
         (play (opening voters observers agents sheet issuer) events).0
         (play (opening voters observers agents sheet issuer) events).1 }

@@ -55,7 +55,8 @@ impl World {
         requires nodes_to { voters + observers ≤ most_nodes }
         requires agents_from { 1 ≤ agents }
         requires agents_to { agents ≤ most_agents }
-        ensures { IfOk result (λ world. world ≡ opening voters observers agents (arc_value sheet) (arc_value issuer)) }
+        ensures { IfOk result (λ world. world
+            ≡ opening voters observers agents (arc_value sheet) (arc_value issuer)) }
     {
         // For the proof alone: its clause says that the month may be a base month.
         let _ = sheet.base_month();
@@ -73,7 +74,8 @@ impl World {
 
     /// Packets, ballots, cuts and holdings keep the limits that every run keeps. The call does nothing.
     pub fn limits(&self)
-        ensures { (observers : ℕ) × KeepsLimits (voter_count self.now) observers self.now.agents self.now }
+        ensures { (observers : ℕ)
+            × KeepsLimits (voter_count self.now) observers self.now.agents self.now }
     {
         self.reached();
     }
@@ -93,15 +95,20 @@ impl World {
     /// was. So does an error, which is an allocation failure. An answered export is of one of the chosen cuts and of
     /// the one before it. A node is revived from no text but that of what it keeps now.
     pub fn step(&mut self, alloc: Global, event: &Event) -> Result<Reply, AllocError>
-        ensures ok { IfOk result (λ reply. (reply_of reply, self.new) ≡ step self.old (event_of event.now)) }
+        ensures ok { IfOk result
+            (λ reply. (reply_of reply, self.new) ≡ step self.old (event_of event.now)) }
         ensures err { OnErr result (self.new ≡ self.old) }
-        ensures refused { IfOk result (λ reply. is_refused (reply_of reply) ≡ true → self.new ≡ self.old) }
-        ensures exported { IfOk result (λ reply. is_exported (reply_of reply) ≡ true → self.new ≡ self.old) }
-        ensures kept { IfOk result (λ reply. is_kept_text (reply_of reply) ≡ true → self.new ≡ self.old) }
+        ensures refused { IfOk result
+            (λ reply. is_refused (reply_of reply) ≡ true → self.new ≡ self.old) }
+        ensures exported { IfOk result
+            (λ reply. is_exported (reply_of reply) ≡ true → self.new ≡ self.old) }
+        ensures kept { IfOk result
+            (λ reply. is_kept_text (reply_of reply) ≡ true → self.new ≡ self.old) }
         ensures others { (node : ℕ) (n : Node) (offer : KeptOffer)
             → event_of event.now ≡ Revive node offer → slice_get self.old.nodes node ≡ Some n →
             offer ≢ KeptGood (kept_text (kept_now self.old n)) →
-            IfOk result (λ reply. (reply_of reply ≡ Refused (refusal_of_other offer)) × (self.new ≡ self.old)) }
+            IfOk result (λ reply. (reply_of reply ≡ Refused (refusal_of_other offer))
+            × (self.new ≡ self.old)) }
         ensures exports { IfOk result (λ reply. AreExportsOf self.new (reply_of reply ∷ [])) }
         ensures group { IsSameGroup self.old self.new }
         ensures grows { ListGrows self.old self.new }

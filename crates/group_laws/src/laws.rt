@@ -19,7 +19,8 @@ ghost use Rattle.group_laws.specs.Revivals.{refusal_of_other};
 /// are one growing list, and each export is of one of them and of the one before it. A run's list is a prefix of the
 /// list of each run that goes on from it.
 pub fn runs()
-    ensures holds { (voters observers agents : ℕ) (sheet : Sheet) (issuer : Issuer) (events : List Event) →
+    ensures holds { (voters observers agents : ℕ) (sheet : Sheet) (issuer : Issuer)
+        (events : List Event) →
         HoldsAfter voters observers agents sheet issuer events
         (play (opening voters observers agents sheet issuer) events).0
         (play (opening voters observers agents sheet issuer) events).1 }
@@ -38,8 +39,10 @@ pub fn runs()
 /// After every list of events packets, votes, attempts, tallies and learned lists are within their limits, and what a
 /// node holds is a part of the journals.
 pub fn every_run_keeps_its_limits()
-    ensures holds { (voters observers agents : ℕ) (sheet : Sheet) (issuer : Issuer) (events : List Event) →
-        KeepsLimits voters observers agents (play (opening voters observers agents sheet issuer) events).1 }
+    ensures holds { (voters observers agents : ℕ) (sheet : Sheet) (issuer : Issuer)
+        (events : List Event) →
+        KeepsLimits voters observers agents
+        (play (opening voters observers agents sheet issuer) events).1 }
 {}
 
 /// Without what happens at its observers a group has the same journals, and its voters keep, try and count the same:
@@ -47,12 +50,16 @@ pub fn every_run_keeps_its_limits()
 /// for a full world; and after some events, none at an observer, with the same chosen cuts and the same replies, but
 /// for the numbers of packets and for what a full world refused.
 pub fn observers_change_nothing()
-    ensures follows { (voters observers agents : ℕ) (sheet : Sheet) (issuer : Issuer) (events others : List Event) →
-        without voters [] 0 events (play (opening voters observers agents sheet issuer) events).0 ≡ Some others →
-        All (λ r. r ≢ Refused WorldFull) (play (opening voters observers agents sheet issuer) events).0 →
+    ensures follows { (voters observers agents : ℕ) (sheet : Sheet) (issuer : Issuer)
+        (events others : List Event) →
+        without voters [] 0 events (play (opening voters observers agents sheet issuer) events).0
+        ≡ Some others →
+        All (λ r. r ≢ Refused WorldFull)
+        (play (opening voters observers agents sheet issuer) events).0 →
         IsFollowed voters (play (opening voters observers agents sheet issuer) events).1
         (play (opening voters 0 agents sheet issuer) others).1 }
-    ensures all { (voters observers agents : ℕ) (sheet : Sheet) (issuer : Issuer) (events : List Event) →
+    ensures all { (voters observers agents : ℕ) (sheet : Sheet) (issuer : Issuer)
+        (events : List Event) →
         CanBeDoneAlone voters events (opening voters observers agents sheet issuer)
         (opening voters 0 agents sheet issuer) }
 {}
@@ -63,7 +70,8 @@ pub fn observers_change_nothing()
 pub fn a_revival_is_a_restart()
     ensures restarts { (voters observers agents : ℕ) (sheet : Sheet) (issuer : Issuer)
         (events : List Event) (node : ℕ) (offer : KeptOffer) →
-        (step (play (opening voters observers agents sheet issuer) events).1 (Revive node offer)).0 ≡ Restarted →
+        (step (play (opening voters observers agents sheet issuer) events).1 (Revive node offer)).0
+        ≡ Restarted →
         step (play (opening voters observers agents sheet issuer) events).1 (Revive node offer)
         ≡ step (play (opening voters observers agents sheet issuer) events).1 (Restart node) }
     ensures has_text { (voters observers agents : ℕ) (sheet : Sheet) (issuer : Issuer)
@@ -79,7 +87,8 @@ pub fn a_revival_is_a_restart()
         (Revive node (KeptGood (kept_text
         (kept_now (play (opening voters observers agents sheet issuer) events).1 n))))
         ≡ step (play (opening voters observers agents sheet issuer) events).1 (Restart node) }
-    ensures others { (w : World) (node : ℕ) (n : Node) (offer : KeptOffer) → slice_get w.nodes node ≡ Some n →
+    ensures others { (w : World) (node : ℕ) (n : Node) (offer : KeptOffer)
+        → slice_get w.nodes node ≡ Some n →
         offer ≢ KeptGood (kept_text (kept_now w n)) →
         step w (Revive node offer) ≡ (Refused (refusal_of_other offer), w) }
 {}

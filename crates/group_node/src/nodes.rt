@@ -50,7 +50,8 @@ impl Node {
         requires voters { voters ≤ most_nodes }
         requires from { 1 ≤ agents }
         requires to { agents ≤ most_agents }
-        ensures { IfOk result (λ node. node ≡ record { voters = voters; agents = agents; node = wake new_kept }) }
+        ensures { IfOk result (λ node. node
+            ≡ record { voters = voters; agents = agents; node = wake new_kept }) }
     {
         let store = Store::new(alloc, agents)?;
         let kept = Parts {
@@ -84,7 +85,9 @@ impl Node {
 
     /// Drops the attempt and the tally, as a node does that wakes. What it keeps stays.
     pub fn restart(&mut self, alloc: Global)
-        ensures { self.new ≡ record { voters = self.old.voters; agents = self.old.agents; node = wake self.old.node.kept } }
+        ensures { self.new
+            ≡ record { voters = self.old.voters; agents = self.old.agents; node = wake
+            self.old.node.kept } }
     {
         self.attempt = None;
         self.tally = Tally::new(alloc, self.voters);
@@ -100,7 +103,8 @@ impl Node {
 
     /// Whether this is what the node keeps over a restart.
     pub fn keeps(&self, kept: &Kept) -> bool
-        ensures same { IsTrue result ↔ (kept.now ≡ record { agents = self.now.agents; kept = self.now.node.kept }) }
+        ensures same { IsTrue result
+            ↔ (kept.now ≡ record { agents = self.now.agents; kept = self.now.node.kept }) }
         ensures text { HasText kept.now }
     {
         kept.parts().same(&self.kept)
@@ -153,7 +157,8 @@ impl Node {
 
     /// The cut that the node has learned for a period; None where it has learned none.
     pub fn learned(&self, period: u16) -> Option<&Arc<Cut>>
-        ensures { option_map arc_value (option_copied result) ≡ slice_get self.now.node.kept.learned period }
+        ensures { option_map arc_value (option_copied result)
+            ≡ slice_get self.now.node.kept.learned period }
     {
         let kept = &self.kept;
         kept.learned.get(usize::from(period))
@@ -161,7 +166,8 @@ impl Node {
 
     /// The batches that the node holds.
     pub fn store(&self) -> &Store
-        ensures { result.now ≡ record { agents = self.now.agents; batches = self.now.node.kept.holding } }
+        ensures { result.now
+            ≡ record { agents = self.now.agents; batches = self.now.node.kept.holding } }
     {
         let kept = &self.kept;
         &kept.store

@@ -32,7 +32,8 @@ fn count_promise(attempt: &mut Attempt, from: u8, vote: Option<Vote>)
 impl Node {
     /// The cut that the node has learned last.
     fn last_learned(&self) -> Option<&Arc<Cut>>
-        ensures cut { option_map arc_value (option_copied result) ≡ last_or None self.now.node.kept.learned }
+        ensures cut { option_map arc_value (option_copied result)
+            ≡ last_or None self.now.node.kept.learned }
         ensures size { IfSome result (λ cut. length (arc_value cut.now) ≡ self.now.agents) }
     {
         let kept = &self.kept;

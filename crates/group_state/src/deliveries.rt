@@ -85,7 +85,8 @@ impl GroupState {
     /// allocation failure, and leaves the world as it was.
     pub fn deliver(&mut self, alloc: Global, packet: u32, node: u8) -> Result<Reply, AllocError>
         requires reached { IsReached self.old }
-        ensures ok { IfOk result (λ reply. (reply_of reply, self.new) ≡ step self.old (Deliver packet node)) }
+        ensures ok { IfOk result
+            (λ reply. (reply_of reply, self.new) ≡ step self.old (Deliver packet node)) }
         ensures err { OnErr result (self.new ≡ self.old) }
     {
         if let Some(refusal) = self.delivery_refusal(packet, node) {

@@ -22,7 +22,8 @@ use std::sync::Arc;
 fn cut_before(alloc: Global, node: &Node, agents: u8, period: u16) -> Result<Arc<Cut>, AllocError>
     requires from { 1 ≤ agents }
     requires to { agents ≤ most_agents }
-    ensures { IfOk result (λ cut. arc_value cut ≡ cut_before agents node.now.node.kept.learned period) }
+    ensures { IfOk result (λ cut. arc_value cut
+        ≡ cut_before agents node.now.node.kept.learned period) }
 {
     let before = if period == 0 {
         None
@@ -95,7 +96,8 @@ impl GroupState {
     /// Replies with what [`GroupState::snapshot`] returns. An error is an allocation failure.
     pub fn export(&self, alloc: Global, node: u8, period: u16) -> Result<Reply, AllocError>
         requires reached { IsReached self.now }
-        ensures { IfOk result (λ reply. (reply_of reply, self.now) ≡ step self.now (Export node period)) }
+        ensures { IfOk result (λ reply. (reply_of reply, self.now)
+            ≡ step self.now (Export node period)) }
     {
         match self.snapshot(alloc, node, period)? {
             Ok(snapshot) => Ok(Reply::Exported(snapshot)),

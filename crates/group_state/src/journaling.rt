@@ -75,7 +75,8 @@ impl GroupState {
     /// The rule of the journals that a batch breaks, which they have not.
     fn broken_rule(&self, batch: &BatchView<'_>) -> Option<BrokenRule>
         requires agent { (batch_of batch.now).agent ≤ self.now.agents }
-        requires new { held self.now.journals (batch_of batch.now).agent (batch_of batch.now).seq ≡ None }
+        requires new { held self.now.journals (batch_of batch.now).agent (batch_of batch.now).seq
+            ≡ None }
         ensures { result ≡ first_broken self.now.sheet (put self.now.journals (batch_of batch.now))
             (placed (batch_of batch.now)) }
     {
@@ -127,7 +128,8 @@ impl GroupState {
     /// The index of the first bad record of a batch that its journal lacks.
     fn first_bad(&self, batch: &BatchView<'_>) -> Option<u16>
         requires agent { (batch_of batch.now).agent ≤ self.now.agents }
-        requires new { held self.now.journals (batch_of batch.now).agent (batch_of batch.now).seq ≡ None }
+        requires new { held self.now.journals (batch_of batch.now).agent (batch_of batch.now).seq
+            ≡ None }
         ensures { result ≡ option_map (λ p. p.index)
             (first_bad self.now.sheet (put self.now.journals (batch_of batch.now))
             (placed (batch_of batch.now))) }
@@ -182,7 +184,8 @@ impl GroupState {
     /// allocation failure, and leaves the world as it was.
     pub fn journal(&mut self, offer: &Offer) -> Result<Reply, AllocError>
         requires reached { IsReached self.old }
-        ensures ok { IfOk result (λ reply. (reply_of reply, self.new) ≡ step self.old (Journal (offer_of offer.now))) }
+        ensures ok { IfOk result
+            (λ reply. (reply_of reply, self.new) ≡ step self.old (Journal (offer_of offer.now))) }
         ensures err { OnErr result (self.new ≡ self.old) }
     {
         let batch = match offer {

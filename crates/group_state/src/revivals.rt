@@ -26,7 +26,8 @@ impl GroupState {
     /// Why a node is not revived from what was offered, if it is not.
     fn revival_refusal(&self, node: u8, offer: &KeptOffer) -> Option<Refusal>
         requires reached { IsReached self.now }
-        ensures { MatchOption result (step self.now (Revive node (kept_offer offer.now)) ≡ step self.now (Restart node))
+        ensures { MatchOption result
+            (step self.now (Revive node (kept_offer offer.now)) ≡ step self.now (Restart node))
             (λ refusal. on_revival self.now node (kept_offer offer.now) ≡ Err refusal) }
     {
         let Some(kept_by) = self.node(node) else {

@@ -70,7 +70,8 @@ impl GroupState {
     /// A voter begins a ballot that no node has used before, and asks for promises. An error is an allocation failure,
     /// and leaves the world as it was.
     pub fn start(&mut self, node: u8) -> Result<Reply, AllocError>
-        ensures ok { IfOk result (λ reply. (reply_of reply, self.new) ≡ step self.old (Start node)) }
+        ensures ok { IfOk result
+            (λ reply. (reply_of reply, self.new) ≡ step self.old (Start node)) }
         ensures err { OnErr result (self.new ≡ self.old) }
     {
         let period = match self.period_to_begin(node) {

@@ -80,7 +80,8 @@ impl GroupState {
         requires nodes_to { voters + observers ≤ most_nodes }
         requires agents_from { 1 ≤ agents }
         requires agents_to { agents ≤ most_agents }
-        ensures { IfOk result (λ state. state ≡ opening voters observers agents (arc_value sheet) (arc_value issuer)) }
+        ensures { IfOk result (λ state. state
+            ≡ opening voters observers agents (arc_value sheet) (arc_value issuer)) }
     {
         let journals = Store::new(alloc, agents)?;
         let made = new_nodes(alloc, voters + observers, voters, agents)?;
@@ -110,8 +111,10 @@ impl GroupState {
 
     /// The node of that number.
     pub(crate) fn node(&self, node: u8) -> Option<&Node>
-        ensures node { option_map (λ n. n.node) (option_copied result) ≡ slice_get self.now.nodes node }
-        ensures member { IfSome result (λ n. IsMember (voter_count self.now) self.now.agents n.now) }
+        ensures node { option_map (λ n. n.node) (option_copied result)
+            ≡ slice_get self.now.nodes node }
+        ensures member { IfSome result
+            (λ n. IsMember (voter_count self.now) self.now.agents n.now) }
     {
         self.nodes.get(usize::from(node))
     }

@@ -15,7 +15,8 @@ impl GroupState {
     /// allocation failure.
     pub fn step(&mut self, alloc: Global, event: &Event) -> Result<Reply, AllocError>
         requires reached { IsReached self.old }
-        ensures ok { IfOk result (λ reply. (reply_of reply, self.new) ≡ step self.old (event_of event.now)) }
+        ensures ok { IfOk result
+            (λ reply. (reply_of reply, self.new) ≡ step self.old (event_of event.now)) }
         ensures err { OnErr result (self.new ≡ self.old) }
     {
         match event {

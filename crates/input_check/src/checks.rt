@@ -31,7 +31,8 @@ fn put_faults(
     warned: &mut Vec<u8>,
 ) -> Result<(), AllocError>
     ensures said { OnOk result (told.new.items ≡ told.old.items ++ said_of_input_as kind text.now) }
-    ensures warned { OnOk result (warned.new.items ≡ warned.old.items ++ warned_of_input_as kind text.now) }
+    ensures warned { OnOk result
+        (warned.new.items ≡ warned.old.items ++ warned_of_input_as kind text.now) }
 {
     match kind {
         InputKind::Play => check_schedule(alloc, text, told, warned),
@@ -127,7 +128,8 @@ pub fn check_text_as<R: Source, W: Sink>(
     ensures untouched { IfErr result (λ fault. fault ≢ PlayFault.Write → writer.new ≡ writer.old) }
     ensures no_section { (fault : ScheduleFault) → result ≢ Err (PlayFault.Schedule fault) }
     ensures no_refusal { (refusal : Refusal) → result ≢ Err (PlayFault.Refused refusal) }
-    ensures read { ConsumesAtMost (most_input_bytes + 1) (R.remaining reader.old) (R.remaining reader.new) }
+    ensures read { ConsumesAtMost (most_input_bytes + 1) (R.remaining reader.old)
+        (R.remaining reader.new) }
 
     // `Read` and `Write` come of one failed call each, and no other call fails.
     ensures reads { R.failed_calls reader.new
@@ -164,7 +166,8 @@ pub fn check_text<R: Source, W: Sink>(
     ensures untouched { IfErr result (λ fault. fault ≢ PlayFault.Write → writer.new ≡ writer.old) }
     ensures no_section { (fault : ScheduleFault) → result ≢ Err (PlayFault.Schedule fault) }
     ensures no_refusal { (refusal : Refusal) → result ≢ Err (PlayFault.Refused refusal) }
-    ensures read { ConsumesAtMost (most_input_bytes + 1) (R.remaining reader.old) (R.remaining reader.new) }
+    ensures read { ConsumesAtMost (most_input_bytes + 1) (R.remaining reader.old)
+        (R.remaining reader.new) }
 
     // `Read` and `Write` come of one failed call each, and no other call fails.
     ensures reads { R.failed_calls reader.new

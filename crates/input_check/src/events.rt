@@ -48,7 +48,8 @@ fn put_refused(
     refusal: Refusal,
 ) -> Result<(), AllocError>
     requires lines { HasWholeLines planned.now }
-    requires refused { (step world.now (event_of (planned_of planned.now))).0 ≡ model.Refused refusal }
+    requires refused { (step world.now (event_of (planned_of planned.now))).0
+        ≡ model.Refused refusal }
     requires bad { IsBadIn world.now (planned_of planned.now) refusal bad }
     ensures { OnOk result (told.new.items ≡ told.old.items
         ++ said_of_refused line world.now (planned_of planned.now) refusal) }
@@ -124,12 +125,15 @@ fn check_event(
         (step world.old (event_of (planned_of planned.now))).0) }
     ensures ahead { (journaled : List Batch) → AreLatest latest.old journaled → OnOk result
         (warned.new.items ≡ warned.old.items ++ ahead_of_all journaled
-        (if_journaled line (planned_of planned.now) (step world.old (event_of (planned_of planned.now))).0)) }
+        (if_journaled line (planned_of planned.now)
+        (step world.old (event_of (planned_of planned.now))).0)) }
     ensures latest { (journaled : List Batch) → AreLatest latest.old journaled → OnOk result
         (AreLatest latest.new (with_counted
-        (if_journaled line (planned_of planned.now) (step world.old (event_of (planned_of planned.now))).0)
+        (if_journaled line (planned_of planned.now)
+        (step world.old (event_of (planned_of planned.now))).0)
         journaled)) }
-    ensures world { OnOk result (world.new ≡ (step world.old (event_of (planned_of planned.now))).1) }
+    ensures world { OnOk result
+        (world.new ≡ (step world.old (event_of (planned_of planned.now))).1) }
 {
     let event = event_of(alloc, planned)?;
     let reply = world.step(alloc, &event)?;
@@ -152,7 +156,8 @@ fn check_events(
     told: &mut Vec<u8>,
     warned: &mut Vec<u8>,
 ) -> Result<Option<ScheduleFault>, AllocError>
-    ensures said { OnOk result (told.new.items ≡ told.old.items ++ said_of_events most world.old unread.entry) }
+    ensures said { OnOk result
+        (told.new.items ≡ told.old.items ++ said_of_events most world.old unread.entry) }
     ensures ahead { OnOk result (warned.new.items
         ≡ warned.old.items ++ ahead_of_all [] (counted_of_events most world.old unread.entry)) }
     ensures fault { IfOk result (λ fault. fault ≡ fault_of (events_in most unread.entry)) }
@@ -192,9 +197,12 @@ fn check_behind(
     requires nodes { (1 ≤ above.voters) × (above.voters + above.observers ≤ most_nodes) }
     requires agents { (1 ≤ above.agents) × (above.agents ≤ most_agents) }
     ensures said { OnOk result (told.new.items ≡ told.old.items ++ said_of_events most
-        (model.opening above.entry.voters above.entry.observers above.entry.agents above.entry.sheet above.entry.issuer) above.entry.rest) }
-    ensures ahead { OnOk result (warned.new.items ≡ warned.old.items ++ ahead_of_all [] (counted_of_events most
-        (model.opening above.entry.voters above.entry.observers above.entry.agents above.entry.sheet above.entry.issuer) above.entry.rest)) }
+        (model.opening above.entry.voters above.entry.observers above.entry.agents above.entry.sheet
+        above.entry.issuer) above.entry.rest) }
+    ensures ahead { OnOk result
+        (warned.new.items ≡ warned.old.items ++ ahead_of_all [] (counted_of_events most
+        (model.opening above.entry.voters above.entry.observers above.entry.agents above.entry.sheet
+        above.entry.issuer) above.entry.rest)) }
     ensures fault { IfOk result (λ fault. fault ≡ fault_of (events_in most above.entry.rest)) }
 {
     let Preamble {
@@ -218,7 +226,8 @@ pub(crate) fn check_schedule(
     warned: &mut Vec<u8>,
 ) -> Result<(), AllocError>
     ensures said { OnOk result (told.new.items ≡ told.old.items ++ said_of_schedule text.now) }
-    ensures warned { OnOk result (warned.new.items ≡ warned.old.items ++ warned_of_schedule text.now) }
+    ensures warned { OnOk result
+        (warned.new.items ≡ warned.old.items ++ warned_of_schedule text.now) }
 {
     let above = match Preamble::read(alloc, text) {
         Ok(above) => above,

@@ -39,7 +39,8 @@ pub fn what_is_said_is_what_is_refused()
         → SaysWhatIsRated text (rated_file period text) (said_of_input_as InputKind.Rate text) }
     ensures played { (text : List ℕ)
         → SaysWhatIsPlayed text (schedule_in text) (said_of_input_as InputKind.Play text) }
-    ensures lines { (text : List ℕ) (read : ReadSchedule) (schedule : Schedule) → IsReadOf text read schedule
+    ensures lines { (text : List ℕ) (read : ReadSchedule) (schedule : Schedule)
+        → IsReadOf text read schedule
         → BeginsWhereCounted schedule (event_lines text) }
     ensures journaled { (sheet : Sheet) (issuer : Issuer) (text : List ℕ) (rule : BrokenRule)
         → journaled_in sheet issuer text ≡ Err (refused_by rule)
@@ -67,16 +68,21 @@ pub fn nothing_is_refused_for_a_warning()
         → warned_of_input_as InputKind.Rate text ≡ [] }
     ensures no_schedule { (text : List ℕ) (fault : ScheduleFault) → schedule_in text ≡ Err fault
         → warned_of_input_as InputKind.Play text ≡ [] }
-    ensures ahead { (text : List ℕ) (s : ReadSchedule) → schedule_in text ≡ Ok s → warned_of_input_as InputKind.Play text
-        ≡ unknown_on 4 text ++ ahead_of_all [] (journaled_among (event_lines text) s.events (replies_to s s.events)) }
-    ensures counted { (lines : List ℕ) (events : List Planned) (replies : List Reply) → CountsWhatIsJournaled lines events replies }
+    ensures ahead { (text : List ℕ) (s : ReadSchedule) → schedule_in text ≡ Ok s
+        → warned_of_input_as InputKind.Play text
+        ≡ unknown_on 4 text ++ ahead_of_all []
+        (journaled_among (event_lines text) s.events (replies_to s s.events)) }
+    ensures counted { (lines : List ℕ) (events : List Planned) (replies : List Reply)
+        → CountsWhatIsJournaled lines events replies }
 {}
 
 /// What is told behind the code of a section, wherever it stands, is what the reader of its sheet or of its issuer says of the text of
 /// its lines.
 pub fn each_reason_is_of_its_section()
-    ensures sheet { IsSaidOfSection ScheduleCode.Sheet (codes "sheet ") most_sheet_lines sheet_fault_text sheet_of_text }
-    ensures issuer { IsSaidOfSection ScheduleCode.Issuer (codes "issuer ") most_issuer_lines issuer_fault_text issuer_of_text }
+    ensures sheet { IsSaidOfSection ScheduleCode.Sheet
+        (codes "sheet ") most_sheet_lines sheet_fault_text sheet_of_text }
+    ensures issuer { IsSaidOfSection ScheduleCode.Issuer
+        (codes "issuer ") most_issuer_lines issuer_fault_text issuer_of_text }
 {}
 
 /// An input that is to be rated is read as a sheet, an issuer and a batch exactly where it joins the sections of these, each where

@@ -66,7 +66,8 @@ pub(crate) fn check_rating(
     warned: &mut Vec<u8>,
 ) -> Result<(), AllocError>
     ensures said { OnOk result (told.new.items ≡ told.old.items ++ said_of_rating text.now) }
-    ensures warned { OnOk result (warned.new.items ≡ warned.old.items ++ warned_of_rating text.now) }
+    ensures warned { OnOk result
+        (warned.new.items ≡ warned.old.items ++ warned_of_rating text.now) }
 {
     let given = match rate_input(alloc, text) {
         Ok(given) => given,

@@ -20,7 +20,8 @@ fn put_handed_in(
     event: &Event,
 ) -> Result<(), AllocError>
     ensures said { (journaled : List Batch) → AreLatest latest.old journaled → OnOk result
-        (warned.new.items ≡ warned.old.items ++ ahead_of_all journaled (handed_in line (event_of event.now))) }
+        (warned.new.items ≡ warned.old.items
+        ++ ahead_of_all journaled (handed_in line (event_of event.now))) }
     ensures kept { (journaled : List Batch) → AreLatest latest.old journaled → OnOk result
         (AreLatest latest.new (with_counted (handed_in line (event_of event.now)) journaled)) }
 {
@@ -41,10 +42,13 @@ pub(crate) fn put_ahead_of(
     event: &Event,
     reply: &Reply,
 ) -> Result<(), AllocError>
-    ensures said { (journaled : List Batch) → AreLatest latest.old journaled → OnOk result (warned.new.items
-        ≡ warned.old.items ++ ahead_of_all journaled (counted_of line (event_of event.now) (reply_of reply.now))) }
+    ensures said { (journaled : List Batch) → AreLatest latest.old journaled
+        → OnOk result (warned.new.items
+        ≡ warned.old.items ++ ahead_of_all journaled
+        (counted_of line (event_of event.now) (reply_of reply.now))) }
     ensures kept { (journaled : List Batch) → AreLatest latest.old journaled → OnOk result
-        (AreLatest latest.new (with_counted (counted_of line (event_of event.now) (reply_of reply.now)) journaled)) }
+        (AreLatest latest.new (with_counted
+        (counted_of line (event_of event.now) (reply_of reply.now)) journaled)) }
 {
     match reply {
         Reply::Journaled { .. } => put_handed_in(latest, warned, line, event),

@@ -76,8 +76,10 @@ pub fn rate_input(alloc: Global, text: &[u8]) -> Result<RateInput, ScheduleFault
     ensures taken { IfOk result (λ r. rate_input_in text.now
         ≡ Ok (record { sheet = r.sheet; issuer = r.issuer; batch = drop r.batch_from text.now })) }
     ensures within { IfOk result (λ r. r.batch_from ≤ length text.now) }
-    ensures refused { IfErr result (λ fault. fault ≢ ScheduleFault.OutOfMemory → rate_input_in text.now ≡ Err fault) }
-    ensures want { IfErr result (λ fault. fault ≡ ScheduleFault.OutOfMemory → IsOk (whole_of text.now)) }
+    ensures refused { IfErr result
+        (λ fault. fault ≢ ScheduleFault.OutOfMemory → rate_input_in text.now ≡ Err fault) }
+    ensures want { IfErr result
+        (λ fault. fault ≡ ScheduleFault.OutOfMemory → IsOk (whole_of text.now)) }
     ensures rules { IfOk result (λ r. IsSheet r.sheet × IsIssuer r.issuer) }
 {
     let unread = Unread::whole(text)?;

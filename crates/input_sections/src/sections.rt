@@ -45,7 +45,8 @@ pub fn lines_below<'a>(
     ensures section { MatchResult result
         (λ s. (count ≤ length (lines_left below.now))
         × (section_of count below.now ≡ record { text = s.text.now; rest = s.rest }))
-        (λ fault. (length (lines_left below.now) < count) × (fault ≡ ScheduleFault.Refused ScheduleCode.Lines line)) }
+        (λ fault. (length (lines_left below.now) < count)
+        × (fault ≡ ScheduleFault.Refused ScheduleCode.Lines line)) }
     ensures text { IfOk result (λ s. s.rest.text ≡ below.now.text) }
 {
     let Some(rest) = below.behind_lines(count) else {
@@ -74,7 +75,8 @@ pub fn read_section<'a>(
 ) -> Result<Section<'a>, ScheduleFault>
     requires { most ≤ 1_000_000 }
     ensures section { MatchResult result
-        (λ s. section_in code word.now most unread.now ≡ Ok (record { text = s.text.now; rest = s.rest }))
+        (λ s. section_in code word.now most unread.now
+        ≡ Ok (record { text = s.text.now; rest = s.rest }))
         (λ fault. section_in code word.now most unread.now ≡ Err fault) }
     ensures text { IfOk result (λ s. s.rest.text ≡ unread.now.text) }
     ensures want { IfErr result (λ fault. fault ≢ ScheduleFault.OutOfMemory) }
@@ -125,8 +127,10 @@ fn sheet_of(alloc: Global, text: &[u8], line: u32) -> Result<Sheet, ScheduleFaul
         (λ sheet. read_as sheet_of_text (ScheduleFault.Refused ScheduleCode.Sheet line) text.now
         ≡ Ok sheet) }
     ensures refused { IfErr result (λ fault. fault ≢ ScheduleFault.OutOfMemory
-        → read_as sheet_of_text (ScheduleFault.Refused ScheduleCode.Sheet line) text.now ≡ Err fault) }
-    ensures want { IfErr result (λ fault. fault ≡ ScheduleFault.OutOfMemory → IsUtf8 text.now × ¬ IsBlank text.now) }
+        → read_as sheet_of_text (ScheduleFault.Refused ScheduleCode.Sheet line) text.now
+        ≡ Err fault) }
+    ensures want { IfErr result
+        (λ fault. fault ≡ ScheduleFault.OutOfMemory → IsUtf8 text.now × ¬ IsBlank text.now) }
     ensures rules { IfOk result IsSheet }
 {
     let Ok(text) = str::from_utf8(text) else {
@@ -147,7 +151,8 @@ fn issuer_of(alloc: Global, text: &[u8], line: u32) -> Result<Issuer, ScheduleFa
         (λ issuer. read_as issuer_of_text (ScheduleFault.Refused ScheduleCode.Issuer line) text.now
         ≡ Ok issuer) }
     ensures refused { IfErr result (λ fault. fault ≢ ScheduleFault.OutOfMemory
-        → read_as issuer_of_text (ScheduleFault.Refused ScheduleCode.Issuer line) text.now ≡ Err fault) }
+        → read_as issuer_of_text (ScheduleFault.Refused ScheduleCode.Issuer line) text.now
+        ≡ Err fault) }
     ensures want { IfErr result (λ fault. fault ≡ ScheduleFault.OutOfMemory → IsUtf8 text.now) }
     ensures rules { IfOk result IsIssuer }
 {
@@ -172,7 +177,8 @@ pub fn read_sheet<'a>(
     unread: &Unread<'a>,
 ) -> Result<(Sheet, Unread<'a>), ScheduleFault>
     ensures taken { IfOk result (λ r. sheet_section unread.now ≡ Ok (r.0, r.1)) }
-    ensures refused { IfErr result (λ fault. fault ≢ ScheduleFault.OutOfMemory → sheet_section unread.now ≡ Err fault) }
+    ensures refused { IfErr result
+        (λ fault. fault ≢ ScheduleFault.OutOfMemory → sheet_section unread.now ≡ Err fault) }
     ensures want { IfErr result (λ fault. fault ≡ ScheduleFault.OutOfMemory
         → HasText (λ text. IsUtf8 text × ¬ IsBlank text)
         (section_in ScheduleCode.Sheet (codes "sheet ") most_sheet_lines unread.now)) }
@@ -195,7 +201,8 @@ pub fn read_issuer<'a>(
     ensures refused { IfErr result
         (λ fault. fault ≢ ScheduleFault.OutOfMemory → issuer_section unread.now ≡ Err fault) }
     ensures want { IfErr result (λ fault. fault ≡ ScheduleFault.OutOfMemory
-        → HasText IsUtf8 (section_in ScheduleCode.Issuer (codes "issuer ") most_issuer_lines unread.now)) }
+        → HasText IsUtf8 (section_in ScheduleCode.Issuer
+        (codes "issuer ") most_issuer_lines unread.now)) }
     ensures rules { IfOk result (λ r. IsIssuer r.0) }
     ensures text { IfOk result (λ r. r.1.text ≡ unread.now.text) }
 {

@@ -34,14 +34,16 @@ impl<'a> Model for Unread<'a> {
       line = u.line;
     } };
 
-    ghost invariant = { λ u. (length u.text.now ≤ most_input_bytes) × (u.from ≤ length u.text.now) × (u.line ≤ u.from + 1)
+    ghost invariant = { λ u. (length u.text.now ≤ most_input_bytes) × (u.from ≤ length u.text.now)
+        × (u.line ≤ u.from + 1)
         × (u.line ≡ 1 + line_count (take u.from u.text.now)) };
 }
 
 impl<'a> Unread<'a> {
     /// All of a text. One of more than 16,777,216 bytes is refused with L8 at line 1. Never OutOfMemory.
     pub fn whole(text: &'a [u8]) -> Result<Unread<'a>, ScheduleFault>
-        ensures whole { MatchResult result (λ u. whole_of text.now ≡ Ok u) (λ fault. whole_of text.now ≡ Err fault) }
+        ensures whole { MatchResult result (λ u. whole_of text.now ≡ Ok u)
+            (λ fault. whole_of text.now ≡ Err fault) }
         ensures want { IfErr result (λ fault. fault ≢ ScheduleFault.OutOfMemory) }
     {
         if text.len() > MOST_BYTES {
@@ -116,7 +118,8 @@ impl<'a> Unread<'a> {
     /// What is left after so many lines; None where fewer are left.
     pub fn behind_lines(&self, count: u32) -> Option<Unread<'a>>
         ensures { MatchOption result (length (lines_left self.now) < count)
-            (λ rest. (count ≤ length (lines_left self.now)) × (rest ≡ (section_of count self.now).rest)) }
+            (λ rest. (count ≤ length (lines_left self.now))
+            × (rest ≡ (section_of count self.now).rest)) }
     {
         let length = lines_length(self.left(), count)?;
         Some(Unread {
@@ -130,7 +133,8 @@ impl<'a> Unread<'a> {
 /// What stands after the word, where the text begins with it; else None.
 pub fn behind_word<'a>(text: &'a [u8], word: &[u8]) -> Option<&'a [u8]>
     ensures { MatchOption result (begins_with word.now text.now ≡ false)
-        (λ rest. (begins_with word.now text.now ≡ true) × (rest.now ≡ drop (length word.now) text.now)) }
+        (λ rest. (begins_with word.now text.now ≡ true)
+        × (rest.now ≡ drop (length word.now) text.now)) }
 {
     if text.len() < word.len() {
         return None;

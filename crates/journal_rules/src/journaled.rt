@@ -54,7 +54,8 @@ impl<'a> Model for Journaled<'a> {
 
     ghost invariant = { λ j.
         ((batch_of j.batch.now).agent ≤ (stored_in (option_copied j.store)).agents)
-        × (held (put (stored_in (option_copied j.store)).batches (batch_of j.batch.now)) (batch_of j.batch.now).agent (batch_of j.batch.now).seq
+        × (held (put (stored_in (option_copied j.store)).batches (batch_of j.batch.now))
+        (batch_of j.batch.now).agent (batch_of j.batch.now).seq
         ≡ Some (batch_of j.batch.now)) };
 }
 
@@ -104,7 +105,8 @@ impl<'a> Journaled<'a> {
     fn broken_by(&self, sheet: &Sheet, place: RecordPlace, what: &Asked<'_>) -> Option<BrokenRule>
         requires from { 1 ≤ place.agent }
         requires to { place.agent ≤ self.now.agents }
-        ensures { result ≡ broken_by sheet.now self.now.batches (position_of place) (record_asked what.now) }
+        ensures { result ≡ broken_by sheet.now self.now.batches (position_of place)
+            (record_asked what.now) }
     {
         match what {
             Asked::Reading(reading) => {
@@ -131,7 +133,8 @@ impl<'a> Journaled<'a> {
 
     /// The index of the first bad record of the batch, and the rule that it breaks.
     pub(crate) fn first_bad(&self, sheet: &Sheet) -> Option<(u16, BrokenRule)>
-        ensures rule { option_map (λ r. r.1) result ≡ first_broken sheet.now self.now.batches (placed self.now.batch) }
+        ensures rule { option_map (λ r. r.1) result
+            ≡ first_broken sheet.now self.now.batches (placed self.now.batch) }
         ensures index { option_map (λ r. r.0) result
             ≡ option_map (λ p. p.index)
             (first_bad sheet.now self.now.batches (placed self.now.batch)) }

@@ -21,7 +21,8 @@ use rating::Sheet;
 /// itself.
 pub fn first_broken(store: &Store, sheet: &Sheet, batch: &BatchView<'_>) -> Option<BrokenRule>
     requires agent { (batch_of batch.now).agent ≤ store.now.agents }
-    requires new { held store.now.batches (batch_of batch.now).agent (batch_of batch.now).seq ≡ None }
+    requires new { held store.now.batches (batch_of batch.now).agent (batch_of batch.now).seq
+        ≡ None }
     ensures { result ≡ first_broken sheet.now (put store.now.batches (batch_of batch.now))
         (placed (batch_of batch.now)) }
 {
@@ -36,7 +37,8 @@ pub fn first_broken(store: &Store, sheet: &Sheet, batch: &BatchView<'_>) -> Opti
 
 /// The rule that the first bad record of a batch breaks, in journals that have this batch alone; None where none does.
 pub fn first_broken_alone(sheet: &Sheet, batch: &BatchView<'_>) -> Option<BrokenRule>
-    ensures { result ≡ first_broken sheet.now (put [] (batch_of batch.now)) (placed (batch_of batch.now)) }
+    ensures { result ≡ first_broken sheet.now (put [] (batch_of batch.now))
+        (placed (batch_of batch.now)) }
 {
     // For the proof alone: its clause says that the agent is one of 64.
     let _agent = batch.agent();
@@ -47,7 +49,8 @@ pub fn first_broken_alone(sheet: &Sheet, batch: &BatchView<'_>) -> Option<Broken
 /// taken.
 pub fn first_bad(store: &Store, sheet: &Sheet, batch: &BatchView<'_>) -> Option<(u16, BrokenRule)>
     requires agent { (batch_of batch.now).agent ≤ store.now.agents }
-    requires new { held store.now.batches (batch_of batch.now).agent (batch_of batch.now).seq ≡ None }
+    requires new { held store.now.batches (batch_of batch.now).agent (batch_of batch.now).seq
+        ≡ None }
     ensures rule { option_map (λ r. r.1) result
         ≡ first_broken sheet.now (put store.now.batches (batch_of batch.now))
         (placed (batch_of batch.now)) }

@@ -14,7 +14,8 @@ use rating::is_priced;
 
 /// Whether the batch has a reading at the index that takes the value: no priced one has a negative value.
 pub(crate) fn has_fit_target(batch: &BatchView<'_>, index: u16, value: Value) -> bool
-    ensures { result ≡ is_fit_target value (option_and_then reading_of (slice_get (batch_of batch.now).records index)) }
+    ensures { result ≡ is_fit_target value
+        (option_and_then reading_of (slice_get (batch_of batch.now).records index)) }
 {
     match batch.kind_at(index) {
         Some(kind) => !is_priced(kind) || value.millionths() >= 0,

@@ -33,10 +33,12 @@ pub fn numbers_are_read_as_they_are_spelled()
 /// A number of magnitude below 10^64 units has one spelling, which is the computed one, and a text spells at most one
 /// number.
 pub fn numbers_have_one_spelling()
-    ensures spelled { (places : ℕ) (n : ℤ) → unsigned_abs n < 10 ^ 64 → Spells places (spelling places n) n }
+    ensures spelled { (places : ℕ) (n : ℤ) → unsigned_abs n < 10 ^ 64
+        → Spells places (spelling places n) n }
     ensures unique { (places : ℕ) (text : List ℕ) (n : ℤ) → unsigned_abs n < 10 ^ 64 →
         Spells places text n → text ≡ spelling places n }
-    ensures one_number { (places : ℕ) (text : List ℕ) (m n : ℤ) → Spells places text m → Spells places text n → m ≡ n }
+    ensures one_number { (places : ℕ) (text : List ℕ) (m n : ℤ) → Spells places text m
+        → Spells places text n → m ≡ n }
 {}
 
 /// Reading a month, a day or a stamp returns the number that the calendar gives it.
@@ -59,7 +61,8 @@ pub fn what_is_kept_is_read_where_its_parts_are_joined()
     ensures joined { (text : List ℕ) (k : KeptAmong) → (kept_in text ≡ Ok k) ↔ IsKeptText text k }
     ensures back { (k : KeptAmong) → HasText k → kept_in (kept_text k) ≡ Ok k }
     ensures one { (k l : KeptAmong) → HasText k → HasText l → kept_text k ≡ kept_text l → k ≡ l }
-    ensures few { (h : Holding) → IsHolding h → All (λ b. b.agent ≤ most_agents) h → length h ≤ most_batches }
+    ensures few { (h : Holding) → IsHolding h → All (λ b. b.agent ≤ most_agents) h
+        → length h ≤ most_batches }
 {}
 
 /// For `per` above 0, a pricing quantity is the value divided by `per`, rounded half to even, and no other number is.
@@ -75,7 +78,8 @@ pub fn holdings_are_maps()
         held (put h b) b.agent b.seq ≡ Some (unwrap_or (held h b.agent b.seq) b) }
     ensures others { (h : Holding) (b : Batch) (agent seq : ℕ) → IsHolding h →
         is_batch_at agent seq b ≡ false → held (put h b) agent seq ≡ held h agent seq }
-    ensures there { (h : Holding) (b c : Batch) → IsHolding h → held h b.agent b.seq ≡ Some c → put h b ≡ h }
+    ensures there { (h : Holding) (b c : Batch) → IsHolding h → held h b.agent b.seq ≡ Some c
+        → put h b ≡ h }
     ensures cuts { (h : Holding) (cut : Cut) → IsHolding h → IsHolding (up_to cut h) }
 {}
 
@@ -87,7 +91,8 @@ pub fn parts_of_holdings_agree_where_they_lack_nothing()
     ensures grown { (h : Holding) (b : Batch) → IsHolding h → IsPartOf h (put h b) }
     ensures stays { (h k : Holding) (b : Batch) → IsHolding h → IsPartOf h k →
         held k b.agent b.seq ≡ Some b → IsPartOf (put h b) k }
-    ensures agree { (h k : Holding) (cut : Cut) → IsPartOf h k → LacksNothingUpTo cut h k → AgreeUpTo cut h k }
+    ensures agree { (h k : Holding) (cut : Cut) → IsPartOf h k → LacksNothingUpTo cut h k
+        → AgreeUpTo cut h k }
     ensures part { (h : Holding) (cut : Cut) → IsPartOf (up_to cut h) h }
     ensures lacks_nothing { (h : Holding) (cut : Cut) → LacksNothingUpTo cut (up_to cut h) h }
 {}
@@ -97,11 +102,15 @@ pub fn parts_of_holdings_agree_where_they_lack_nothing()
 /// agrees with the whole up to the cut.
 pub fn what_is_missing_up_to_a_cut_is_the_least_absent()
     ensures nothing { (h : Holding) (cut : Cut) → (first_missing h cut ≡ None)
-        ↔ ((agent seq : ℕ) → 0 < seq → seq ≤ last_of cut agent → is_some (held h agent seq) ≡ true) }
-    ensures absent { (h : Holding) (cut : Cut) (agent seq : ℕ) → first_missing h cut ≡ Some (agent, seq) →
+        ↔ ((agent seq : ℕ) → 0 < seq → seq ≤ last_of cut agent
+        → is_some (held h agent seq) ≡ true) }
+    ensures absent { (h : Holding) (cut : Cut) (agent seq : ℕ)
+        → first_missing h cut ≡ Some (agent, seq) →
         (0 < seq) × (seq ≤ last_of cut agent) × (held h agent seq ≡ None) }
-    ensures least { (h : Holding) (cut : Cut) (agent seq : ℕ) → first_missing h cut ≡ Some (agent, seq) →
-        (a s : ℕ) → (a < agent) ⊎ ((a ≡ agent) × (s < seq)) → 0 < s → s ≤ last_of cut a → is_some (held h a s) ≡ true }
+    ensures least { (h : Holding) (cut : Cut) (agent seq : ℕ)
+        → first_missing h cut ≡ Some (agent, seq) →
+        (a s : ℕ) → (a < agent) ⊎ ((a ≡ agent) × (s < seq)) → 0 < s → s ≤ last_of cut a
+        → is_some (held h a s) ≡ true }
     ensures agree { (h k : Holding) (cut : Cut) → IsHolding h → IsHolding k → IsPartOf h k →
         first_missing h cut ≡ None → AgreeUpTo cut h k }
 {}
@@ -115,7 +124,8 @@ pub fn cuts_are_ordered()
     ensures each { (a b : Cut) (agent : ℕ) → IsAtLeast b a → last_of a agent ≤ last_of b agent }
     ensures each_is_enough { (a b : Cut) → length a ≡ length b →
         ((agent : ℕ) → last_of a agent ≤ last_of b agent) → IsAtLeast b a }
-    ensures was_put { (cut : Cut) (i seq : ℕ) → i < length cut → last_of (slice_set cut i seq) (i + 1) ≡ seq }
+    ensures was_put { (cut : Cut) (i seq : ℕ) → i < length cut
+        → last_of (slice_set cut i seq) (i + 1) ≡ seq }
     ensures others { (cut : Cut) (i seq agent : ℕ) → (agent ≡ i + 1 → ⊥) →
         last_of (slice_set cut i seq) agent ≡ last_of cut agent }
 {}
@@ -127,7 +137,8 @@ pub fn what_agrees_up_to_a_cut_is_charged_alike()
     ensures values { (h k : Holding) (to : Cut) (at : Position) (upto : ℕ) →
         IsHolding h → IsHolding k → AgreeUpTo to h k →
         upto ≤ last_of to at.agent → value_at h at upto ≡ value_at k at upto }
-    ensures placed { (sheet : Sheet) (issuer : Issuer) (h k : Holding) (period : ℕ) (from to : Cut) →
+    ensures placed { (sheet : Sheet) (issuer : Issuer) (h k : Holding) (period : ℕ)
+        (from to : Cut) →
         IsHolding h → IsHolding k → AgreeUpTo to h k → IsAtLeast to from →
         placed_rows sheet issuer h period from to ≡ placed_rows sheet issuer k period from to }
     ensures rows { (sheet : Sheet) (issuer : Issuer) (h k : Holding) (period : ℕ) (from to : Cut) →
@@ -157,7 +168,8 @@ pub fn journals_keep_their_rules()
     ensures below_next { (sheet : Sheet) (h : Holding) (agent seq : ℕ) (b : Batch) →
         MeetsJournalRules sheet h → held h agent seq ≡ Some b → seq < next_seq h agent }
     ensures all_below_next { (sheet : Sheet) (h : Holding) (agent seq : ℕ) →
-        MeetsJournalRules sheet h → 0 < seq → seq < next_seq h agent → is_some (held h agent seq) ≡ true }
+        MeetsJournalRules sheet h → 0 < seq → seq < next_seq h agent
+        → is_some (held h agent seq) ≡ true }
     ensures cuts { (sheet : Sheet) (h : Holding) (cut : Cut) → MeetsJournalRules sheet h
         → MeetsJournalRules sheet (up_to cut h) }
 {}
@@ -165,13 +177,16 @@ pub fn journals_keep_their_rules()
 /// A front is at least the cut that it is taken of, each batch in between is held and due, and for no agent does this
 /// hold up to a greater sequence. A part of a holding has no greater front than the whole.
 pub fn a_front_goes_on_from_its_cut()
-    ensures grows { (base period : ℕ) (h : Holding) (cut : Cut) → IsAtLeast (front base h cut period) cut }
+    ensures grows { (base period : ℕ) (h : Holding) (cut : Cut)
+        → IsAtLeast (front base h cut period) cut }
     ensures due { (base period : ℕ) (h : Holding) (cut : Cut)
         → AreDueBetween base period h cut (front base h cut period) }
-    ensures greatest { (base period : ℕ) (h : Holding) (cut : Cut) (agent seq : ℕ) → 1 ≤ agent → agent ≤ length cut →
+    ensures greatest { (base period : ℕ) (h : Holding) (cut : Cut) (agent seq : ℕ) → 1 ≤ agent
+        → agent ≤ length cut →
         ((s : ℕ) → last_of cut agent < s → s ≤ seq → IsDueAt base period h agent s) →
         seq ≤ last_of (front base h cut period) agent }
-    ensures size { (base period : ℕ) (h : Holding) (cut : Cut) → length (front base h cut period) ≡ length cut }
+    ensures size { (base period : ℕ) (h : Holding) (cut : Cut)
+        → length (front base h cut period) ≡ length cut }
     ensures parts { (base period : ℕ) (h k : Holding) (cut : Cut) → IsPartOf h k →
         IsAtLeast (front base k cut period) (front base h cut period) }
 {}
@@ -182,18 +197,23 @@ pub fn rows_between_two_cuts_have_their_places()
     ensures apart { (sheet : Sheet) (issuer : Issuer) (h : Holding) (period : ℕ) (from to : Cut)
         (k l : ℕ) (x y : PlacedRow) →
         IsHolding h → slice_get (placed_rows sheet issuer h period from to) k ≡ Some x →
-        slice_get (placed_rows sheet issuer h period from to) l ≡ Some y → x.place ≡ y.place → k ≡ l }
-    ensures new { (sheet : Sheet) (issuer : Issuer) (h : Holding) (period : ℕ) (from to : Cut) (k : ℕ) (x : PlacedRow) →
-        slice_get (placed_rows sheet issuer h period from to) k ≡ Some x → x.row.charge_class ≡ None →
+        slice_get (placed_rows sheet issuer h period from to) l ≡ Some y → x.place ≡ y.place
+        → k ≡ l }
+    ensures new { (sheet : Sheet) (issuer : Issuer) (h : Holding) (period : ℕ) (from to : Cut)
+        (k : ℕ) (x : PlacedRow) →
+        slice_get (placed_rows sheet issuer h period from to) k ≡ Some x
+        → x.row.charge_class ≡ None →
         (last_of from x.place.agent < x.place.seq) × (x.place.seq ≤ last_of to x.place.agent) }
     ensures each { (sheet : Sheet) (issuer : Issuer) (h : Holding) (period : ℕ) (from to : Cut)
         (at : Position) (r : Reading) →
         reading_at h at ≡ Some r → last_of from at.agent < at.seq → at.seq ≤ last_of to at.agent →
-        (k : ℕ) × (x : PlacedRow) × (slice_get (placed_rows sheet issuer h period from to) k ≡ Some x)
+        (k : ℕ) × (x : PlacedRow)
+        × (slice_get (placed_rows sheet issuer h period from to) k ≡ Some x)
         × (x.row.charge_class ≡ None) × (x.place ≡ at) }
     ensures batches { (sheet : Sheet) (issuer : Issuer) (h : Holding) (period : ℕ) (from to : Cut) →
         placed_rows sheet issuer h period from to
-        ≡ flat_map (λ b. filter_map (placed_row sheet issuer h period from to) (placed b)) (up_to to h) }
+        ≡ flat_map (λ b. filter_map (placed_row sheet issuer h period from to) (placed b))
+        (up_to to h) }
 {}
 
 /// Playing one more event at the end is one more step from the world that the run leaves. Playing two lists one after
@@ -233,7 +253,8 @@ pub fn values_and_prices_are_read_back()
 /// has begun. A row that begins after the day changes nothing.
 pub fn the_price_in_force_is_the_latest_that_has_begun()
     ensures has_begun { (sheet : Sheet) (sku : List ℕ) (day : ℤ) (p : PriceRow) →
-        price_in_force sheet sku day ≡ Some p → Contains sheet.prices p × (p.sku ≡ sku) × (p.from ≤ℤ day) }
+        price_in_force sheet sku day ≡ Some p → Contains sheet.prices p × (p.sku ≡ sku)
+        × (p.from ≤ℤ day) }
     ensures latest { (sheet : Sheet) (sku : List ℕ) (day : ℤ) (p : PriceRow) →
         price_in_force sheet sku day ≡ Some p →
         All (λ q. q.sku ≡ sku → q.from ≤ℤ day → q.from ≤ℤ p.from) sheet.prices }
@@ -241,8 +262,10 @@ pub fn the_price_in_force_is_the_latest_that_has_begun()
         IsSheet sheet → price_in_force sheet sku day ≡ Some p →
         All (λ q. q.sku ≡ sku → q.from ≡ p.from → q ≡ p) sheet.prices }
     ensures none { (sheet : Sheet) (sku : List ℕ) (day : ℤ) →
-        (price_in_force sheet sku day ≡ None) ↔ All (λ q. q.sku ≡ sku → day <ℤ q.from) sheet.prices }
-    ensures later { (sheet : Sheet) (before after : List PriceRow) (q : PriceRow) (sku : List ℕ) (day : ℤ) →
+        (price_in_force sheet sku day ≡ None)
+        ↔ All (λ q. q.sku ≡ sku → day <ℤ q.from) sheet.prices }
+    ensures later { (sheet : Sheet) (before after : List PriceRow) (q : PriceRow) (sku : List ℕ)
+        (day : ℤ) →
         day <ℤ q.from →
         price_in_force (record sheet { prices = before ++ q ∷ after }) sku day
         ≡ price_in_force (record sheet { prices = before ++ after }) sku day }
@@ -271,7 +294,9 @@ pub fn values_keep_their_limits()
 pub fn amounts_keep_their_limits()
     ensures charges { (sheet : Sheet) (r : Reading) (was now : ℤ) →
         IsSheet sheet → unsigned_abs was < value_limit → unsigned_abs now < value_limit →
-        AreWithinLimits (amounts_of (charge (priced_kind r.kind) (price_of sheet r) (commitment_of sheet r) was now)) }
+        AreWithinLimits (amounts_of
+        (charge (priced_kind r.kind) (price_of sheet r) (commitment_of sheet r) was now)) }
     ensures rows { (sheet : Sheet) (issuer : Issuer) (h : Holding) (period : ℕ) (from to : Cut) →
-        IsHolding h → IsSheet sheet → All (λ x. AreWithinLimits (amounts_in x)) (rows sheet issuer h period from to) }
+        IsHolding h → IsSheet sheet
+        → All (λ x. AreWithinLimits (amounts_in x)) (rows sheet issuer h period from to) }
 {}

@@ -136,7 +136,8 @@ fn may_do(plan: &Plan, who: Worker, event: &Event) -> bool
 
 /// Whether each entry is one that the plan lets its worker bring about.
 fn are_allowed(plan: &Plan, history: &[Entry]) -> bool
-    ensures { IsTrue result ↔ ((index : ℕ) (e : ModelEntry) → slice_get (map entry_of history.now) index ≡ Some e
+    ensures { IsTrue result ↔
+        ((index : ℕ) (e : ModelEntry) → slice_get (map entry_of history.now) index ≡ Some e
         → may_do (plan_of plan.now) e.who e.event ≡ true) }
 {
     for entry in history {
@@ -149,7 +150,8 @@ fn are_allowed(plan: &Plan, history: &[Entry]) -> bool
 
 /// Whether a log is that of the worker whose place it has, and has just what this worker did and had to do.
 fn is_log_at(history: &[Entry], plan: &Plan, place: usize, log: &Log) -> bool
-    ensures { IsTrue result ↔ IsLogAt (plan_of plan.now) (map entry_of history.now) place (log_of log.now) }
+    ensures { IsTrue result ↔ IsLogAt (plan_of plan.now) (map entry_of history.now) place
+        (log_of log.now) }
 {
     if !is_worker_at(log.who, plan.journals.len(), place) {
         return false;
@@ -166,7 +168,8 @@ fn is_log_at(history: &[Entry], plan: &Plan, place: usize, log: &Log) -> bool
 
 /// Whether each log is right at its place.
 fn are_right(history: &[Entry], plan: &Plan, logs: &[Log]) -> bool
-    ensures { IsTrue result ↔ ((place : ℕ) (log : ModelLog) → slice_get (map log_of logs.now) place ≡ Some log
+    ensures { IsTrue result ↔
+        ((place : ℕ) (log : ModelLog) → slice_get (map log_of logs.now) place ≡ Some log
         → IsLogAt (plan_of plan.now) (map entry_of history.now) place log) }
 {
     for (place, log) in logs.iter().enumerate() {
@@ -179,7 +182,8 @@ fn are_right(history: &[Entry], plan: &Plan, logs: &[Log]) -> bool
 
 /// Whether there are as many logs as the plan has workers.
 fn is_one_each(plan: &Plan, logs: &[Log]) -> bool
-    ensures { IsTrue result ↔ (length logs.now ≡ length plan.now.journals.items + node_total (plan_of plan.now)) }
+    ensures { IsTrue result ↔
+        (length logs.now ≡ length plan.now.journals.items + node_total (plan_of plan.now)) }
 {
     let agents = plan.journals.len();
     agents <= logs.len() && logs.len() - agents == plan.nodes()
@@ -189,7 +193,8 @@ impl Book {
     /// Whether the book was opened for the plan's group.
     fn is_opened_for(&self, plan: &Plan) -> bool
         ensures { IsTrue result ↔ (opened self.now
-            ≡ opening (plan_of plan.now).voters (plan_of plan.now).observers (length (plan_of plan.now).journals)
+            ≡ opening (plan_of plan.now).voters (plan_of plan.now).observers
+            (length (plan_of plan.now).journals)
             (plan_of plan.now).sheet (plan_of plan.now).issuer) }
     {
         self.voters == plan.voters

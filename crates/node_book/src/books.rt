@@ -54,7 +54,9 @@ impl Model for Book {
       world = b.world;
     } };
 
-    ghost invariant = { λ b. IsLegal (opening b.voters b.observers b.agents (arc_value b.sheet) (arc_value b.issuer)) (map entry_of b.history.items) b.world };
+    ghost invariant = { λ b.
+        IsLegal (opening b.voters b.observers b.agents (arc_value b.sheet) (arc_value b.issuer))
+        (map entry_of b.history.items) b.world };
 }
 
 impl Book {
@@ -106,8 +108,10 @@ impl Book {
     /// The history is legal, and the headline holds of its replies. The call does nothing.
     pub fn legal(&self)
         ensures history { IsLegal (opened self.now) self.now.history self.now.world }
-        ensures headline { HoldsAfter self.now.voters self.now.observers self.now.agents self.now.sheet self.now.issuer
-            (map (λ e. e.event) self.now.history) (map (λ e. e.reply) self.now.history) self.now.world }
+        ensures headline { HoldsAfter self.now.voters self.now.observers self.now.agents
+            self.now.sheet self.now.issuer
+            (map (λ e. e.event) self.now.history)
+            (map (λ e. e.reply) self.now.history) self.now.world }
     {
         // For the proof alone: with the field comes what the type keeps of it.
         let _ = &self.history;
@@ -126,7 +130,8 @@ impl Book {
               reply =
                   (step self.old.world (event_of event)).0;
             } ∷ []) }
-        ensures world { IfOk result (λ _. self.new.world ≡ (step self.old.world (event_of event)).1) }
+        ensures world { IfOk result
+            (λ _. self.new.world ≡ (step self.old.world (event_of event)).1) }
         ensures refused { IfOk result
             (λ receipt. is_refused (told_of receipt).reply ≡ true
             → self.new.world ≡ self.old.world) }
@@ -138,7 +143,8 @@ impl Book {
             → self.new.world ≡ self.old.world) }
         ensures group { opened self.new ≡ opened self.old }
         ensures receipt { IfOk result (λ receipt. told_of receipt
-            ≡ record { index = length self.old.history; reply = (step self.old.world (event_of event)).0 }) }
+            ≡ record { index = length self.old.history; reply =
+            (step self.old.world (event_of event)).0 }) }
         ensures err { OnErr result (self.new ≡ self.old) }
     {
         self.history.reserve(1)?;

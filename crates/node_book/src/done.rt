@@ -132,7 +132,8 @@ impl Done {
 
     /// Whether it is of the entry at that place, with that reply. Nothing is allocated.
     pub(crate) fn is_of(&self, index: usize, reply: &Reply) -> bool
-        ensures { IsTrue result ↔ (self.now ≡ record { index = index; reply = reply_of reply.now }) }
+        ensures { IsTrue result ↔
+            (self.now ≡ record { index = index; reply = reply_of reply.now }) }
     {
         self.receipt.index == index && self.receipt.reply.same(reply)
     }
@@ -149,7 +150,8 @@ impl Done {
 
     /// Whether its reply is no export of a period from that one on.
     pub(crate) fn is_within(&self, periods: u16) -> bool
-        ensures { IsTrue result ↔ ((period : ℕ) → periods ≤ period → is_export_of period self.now.reply ≡ false) }
+        ensures { IsTrue result ↔
+            ((period : ℕ) → periods ≤ period → is_export_of period self.now.reply ≡ false) }
     {
         match &self.receipt.reply {
             Reply::Exported(snapshot) => snapshot.period().number() < periods,

@@ -37,7 +37,9 @@ struct HeadFields<'a> {
 fn head_fields(line: &[u8]) -> Option<HeadFields<'_>>
     ensures { MatchOption result
         (kept_head_in (fields_in line.now) ≡ Err KeptCode.Head)
-        (λ f. fields_in line.now ≡ f.version.now ∷ f.agents.now ∷ f.round.now ∷ f.learned.now ∷ f.promised.now ∷ f.ballot.now ∷ f.batches.now ∷ []) }
+        (λ f. fields_in line.now
+        ≡ f.version.now ∷ f.agents.now ∷ f.round.now ∷ f.learned.now ∷ f.promised.now ∷ f.ballot.now
+        ∷ f.batches.now ∷ []) }
 {
     let (version, rest) = split_at_bar(line)?;
     let (agents, rest) = split_at_bar(rest)?;

@@ -88,7 +88,8 @@ fn read_batch<'a>(
 ) -> Result<(Arc<OwnedBatch>, &'a [u8]), KeptFault>
     ensures { MatchResult result
         (λ read. IsNextOf text.now (batch_of (arc_value read.0)) read.1.now)
-        (λ fault. IfTold fault (λ f. at_kept_line line (next_batch (lines_in text.now).lines) ≡ Err f)) }
+        (λ fault. IfTold fault (λ f. at_kept_line line (next_batch (lines_in text.now).lines)
+        ≡ Err f)) }
 {
     let fault = KeptFault::Refused {
         code: KeptCode::Batch,
@@ -134,8 +135,10 @@ fn read_batches<'a>(
     requires to { agents ≤ most_agents }
     requires first { first ≤ 100_000 }
     ensures { MatchResult result
-        (λ read. AreBatchesOf text.now first agents count read.0.batches read.1 read.2.now × (read.0.agents ≡ agents))
-        (λ fault. IfTold fault (λ f. batches_in first agents None count (lines_in text.now).lines ≡ Err f)) }
+        (λ read. AreBatchesOf text.now first agents count read.0.batches read.1 read.2.now
+        × (read.0.agents ≡ agents))
+        (λ fault. IfTold fault (λ f. batches_in first agents None count (lines_in text.now).lines
+        ≡ Err f)) }
 {
     let Ok(mut store) = Store::new(alloc, agents) else {
         return Err(KeptFault::OutOfMemory);
@@ -202,7 +205,8 @@ fn read_parts(alloc: Global, text: &[u8], head: Head) -> Result<Parts, KeptFault
     requires to { head.agents ≤ most_agents }
     requires learned { head.learned ≤ most_periods }
     ensures { MatchResult result
-        (λ parts. kept_below (lines_in text.now).lines (lines_in text.now).rest (head_of head) ≡ Ok parts)
+        (λ parts. kept_below (lines_in text.now).lines (lines_in text.now).rest (head_of head)
+        ≡ Ok parts)
         (λ fault. IfTold fault (λ f. kept_below (lines_in text.now).lines (lines_in text.now).rest
         (head_of head) ≡ Err f)) }
 {

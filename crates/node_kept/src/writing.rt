@@ -59,7 +59,8 @@ fn put_cut(text: &mut Vec<u8>, cut: &Cut) -> Result<(), AllocError>
 
 /// Appends the lines of cuts.
 fn put_cuts(text: &mut Vec<u8>, cuts: &[Arc<Cut>]) -> Result<(), AllocError>
-    ensures { IfOk result (λ _. text.new.items ≡ text.old.items ++ flat_map cut_text (map arc_value cuts.now)) }
+    ensures { IfOk result (λ _. text.new.items
+        ≡ text.old.items ++ flat_map cut_text (map arc_value cuts.now)) }
 {
     for cut in cuts {
         put_cut(text, cut)?;
@@ -94,7 +95,8 @@ fn size_of(mut batches: Batches<'_>) -> (u32, usize)
 
 /// Appends the lines of batches.
 fn put_batches(text: &mut Vec<u8>, mut batches: Batches<'_>) -> Result<(), AllocError>
-    ensures { IfOk result (λ _. text.new.items ≡ text.old.items ++ flat_map batch_text batches.entry) }
+    ensures { IfOk result (λ _. text.new.items
+        ≡ text.old.items ++ flat_map batch_text batches.entry) }
 {
     while let Some(batch) = batches.next() {
         text.extend_from_slice(batch.bytes())?;
@@ -111,7 +113,8 @@ fn put_head_of(
 ) -> Result<(), AllocError>
     requires agents { agents ≡ parts.now.agents }
     requires batches { batches ≡ length parts.now.kept.holding }
-    ensures { IfOk result (λ _. text.new.items ≡ text.old.items ++ line_of_fields (kept_head_fields parts.now)) }
+    ensures { IfOk result (λ _. text.new.items
+        ≡ text.old.items ++ line_of_fields (kept_head_fields parts.now)) }
 {
     let numbers = [
         u64::from(agents),

@@ -35,10 +35,13 @@ pub fn run_group<R: Threads + Wait + Sync, G: Gate + Sync>(
     ensures plan { IfOk result (λ run. run.plan ≡ plan_of plan) }
     ensures agree { IfOk result (λ run. Agree run.book (plan_of plan) run.logs) }
     ensures files { IfOk result (λ run. FilesAgree run.logs) }
-    ensures history { IfOk result (λ run. IsLegal (opened run.book) run.book.history run.book.world) }
+    ensures history { IfOk result
+        (λ run. IsLegal (opened run.book) run.book.history run.book.world) }
     ensures headline { IfOk result
-        (λ run. HoldsAfter run.book.voters run.book.observers run.book.agents run.book.sheet run.book.issuer
-        (map (λ e. e.event) run.book.history) (map (λ e. e.reply) run.book.history) run.book.world) }
+        (λ run. HoldsAfter run.book.voters run.book.observers run.book.agents run.book.sheet
+        run.book.issuer
+        (map (λ e. e.event) run.book.history)
+        (map (λ e. e.reply) run.book.history) run.book.world) }
 {
     let Ok((desk, reports)) = open(alloc, &plan) else {
         return Err(RunFault::OutOfMemory);

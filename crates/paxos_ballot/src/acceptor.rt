@@ -66,7 +66,8 @@ impl Acceptor {
     pub fn on_prepare(&mut self, ballot: Ballot) -> PrepareStep
         ensures answer { result ≡ (if is_above ballot self.old.promised then Promise else Silent) }
         ensures state { self.new ≡
-            (if is_above ballot self.old.promised then after_prepare ballot self.old else self.old) }
+            (if is_above ballot self.old.promised then after_prepare ballot self.old else self.old)
+            }
     {
         if let Some(promised) = self.promised {
             if ballot.number() <= promised.number() {
@@ -82,7 +83,8 @@ impl Acceptor {
     pub fn on_accept(&mut self, vote: Vote) -> bool
         ensures answer { result ≡ is_not_below vote.ballot self.old.promised }
         ensures state { self.new ≡
-            (if is_not_below vote.ballot self.old.promised then after_accept vote self.old else self.old) }
+            (if is_not_below vote.ballot self.old.promised then after_accept vote self.old else
+            self.old) }
     {
         if let Some(promised) = self.promised {
             if vote.ballot.number() < promised.number() {

@@ -25,7 +25,8 @@ impl Model for Attempt {
 
     ghost Value = { model.Attempt };
 
-    ghost view = { λ a. record { ballot = a.ballot; promising = a.promising; told = a.told; sent = a.sent } };
+    ghost view = { λ a.
+        record { ballot = a.ballot; promising = a.promising; told = a.told; sent = a.sent } };
 }
 
 /// What a promise leads to.

@@ -7,7 +7,8 @@ ghost use Rattle.metering_model.specs.Ballot.{Nodes, ballot_of, has_majority};
 pub fn ballots_differ_and_rise()
     ensures differ { (nodes r s i j : ℕ) → i < nodes → j < nodes
         → ballot_of r i nodes ≡ ballot_of s j nodes → (r ≡ s) × (i ≡ j) }
-    ensures rise { (nodes r s i j : ℕ) → i < nodes → r < s → ballot_of r i nodes < ballot_of s j nodes }
+    ensures rise { (nodes r s i j : ℕ) → i < nodes → r < s
+        → ballot_of r i nodes < ballot_of s j nodes }
 {}
 
 /// Any two majorities of the nodes have a node in common.

@@ -49,11 +49,13 @@ impl Tally {
         requires { from < self.old.nodes }
         ensures nodes { self.new.nodes ≡ self.old.nodes }
         ensures accepting { OnOk result
-            (self.new.accepting ≡ with_accepted self.old.nodes from vote.ballot self.old.accepting) }
+            (self.new.accepting
+            ≡ with_accepted self.old.nodes from vote.ballot self.old.accepting) }
         ensures cut { IfOk result
             (λ cut. option_map arc_value cut
             ≡ (if has_majority self.old.nodes
-            (accepting_at self.old.nodes vote.ballot self.new.accepting) then Some vote.cut else None)) }
+            (accepting_at self.old.nodes vote.ballot self.new.accepting) then Some vote.cut else
+            None)) }
         ensures unchanged { OnErr result (self.new ≡ self.old) }
     {
         let ballot = vote.ballot.number();

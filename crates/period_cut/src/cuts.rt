@@ -17,7 +17,8 @@ const LAST_SEQUENCE: u32 = 1_000_000;
 
 /// Appends sequences, joined by `|`. Where an allocation fails some of that may stand after what was there.
 fn put_entries(text: &mut Vec<u8>, entries: &[u32]) -> Result<(), AllocError>
-    ensures put { OnOk result (text.new.items ≡ text.old.items ++ join_with_byte 124 (map decimal entries.now)) }
+    ensures put { OnOk result
+        (text.new.items ≡ text.old.items ++ join_with_byte 124 (map decimal entries.now)) }
     ensures behind { OnErr result (HasBehind text.old.items text.new.items) }
 {
     let Some((first, others)) = entries.split_first() else {
@@ -108,7 +109,8 @@ impl Cut {
 
     /// Appends its line, without a line feed. An error is an allocation failure, and leaves the text as it was.
     pub fn put(&self, text: &mut Vec<u8>) -> Result<(), AllocError>
-        ensures put { OnOk result (text.new.items ≡ text.old.items ++ join_with_byte 124 (map decimal self.now)) }
+        ensures put { OnOk result
+            (text.new.items ≡ text.old.items ++ join_with_byte 124 (map decimal self.now)) }
         ensures kept { OnErr result (text.new.items ≡ text.old.items) }
     {
         let before = text.len();

@@ -51,7 +51,8 @@ fn take_told<S: Source>(
     source: &mut S,
 ) -> Result<Option<Option<u64>>, FileFault>
     requires { unread.old.read ≤ most_transcript_bytes }
-    ensures takes { (taken : List ℕ) × Takes unread.old.bytes unread.new.bytes unread.old.read unread.new.read
+    ensures takes { (taken : List ℕ)
+        × Takes unread.old.bytes unread.new.bytes unread.old.read unread.new.read
         (S.remaining source.old) (S.remaining source.new) taken }
     ensures told { (told : Option ℕ) → result ≡ Ok (Some told) → TakesTold words.now told
         unread.old.bytes unread.new.bytes unread.old.read unread.new.read
@@ -81,7 +82,8 @@ pub(crate) fn next_told<S: Source>(
     source: &mut S,
 ) -> Result<Option<Option<u64>>, FileFault>
     requires { unread.old.read ≤ most_transcript_bytes }
-    ensures takes { (taken : List ℕ) × Takes unread.old.bytes unread.new.bytes unread.old.read unread.new.read
+    ensures takes { (taken : List ℕ)
+        × Takes unread.old.bytes unread.new.bytes unread.old.read unread.new.read
         (S.remaining source.old) (S.remaining source.new) taken }
     ensures told { (told : Option ℕ) → result ≡ Ok (Some told) → TakesTold words.now told
         unread.old.bytes unread.new.bytes unread.old.read unread.new.read

@@ -31,7 +31,8 @@ fn find_line_above<S: Source>(
     ensures none { result ≡ Ok None
         → EndsUntold period unread.old.bytes unread.old.read unread.new.read
         (S.remaining source.old) (S.remaining source.new) }
-    ensures takes { (taken : List ℕ) × Takes unread.old.bytes unread.new.bytes unread.old.read unread.new.read
+    ensures takes { (taken : List ℕ)
+        × Takes unread.old.bytes unread.new.bytes unread.old.read unread.new.read
         (S.remaining source.old) (S.remaining source.new) taken }
     ensures within { IfOk result (λ found. unread.new.read ≤ most_transcript_bytes) }
     ensures most { unread.new.read ≤ 4_294_967_297 }
@@ -54,9 +55,11 @@ fn find_line_above<S: Source>(
 fn copy_ahead<W: Sink>(unread: &mut Unread, writer: &mut W, most: u64) -> Result<u64, FileFault>
     ensures copied { IfOk result (λ count. CopiesAhead count unread.old.bytes unread.new.bytes
         (W.contents writer.old) (W.contents writer.new)) }
-    ensures some { IfOk result (λ count. (end : ℕ) → IsLineAt unread.old.bytes end → 0 < most → 0 < count) }
+    ensures some { IfOk result
+        (λ count. (end : ℕ) → IsLineAt unread.old.bytes end → 0 < most → 0 < count) }
     ensures few { IfOk result (λ count. count ≤ most) }
-    ensures stopped { OnErr result (StopsAhead most unread.old.bytes (W.contents writer.old) (W.contents writer.new)) }
+    ensures stopped { OnErr result
+        (StopsAhead most unread.old.bytes (W.contents writer.old) (W.contents writer.new)) }
     ensures fault { IfErr result (λ fault. fault ≡ FileFault.Write) }
     ensures read { unread.new.read ≡ unread.old.read }
     ensures count { W.failed_calls writer.new
@@ -81,11 +84,15 @@ fn copy_lines<S: Source, W: Sink>(
     ensures copied { IfOk result (λ lacking. Copies count lacking unread.old.bytes unread.new.bytes
         unread.old.read unread.new.read (S.remaining source.old) (S.remaining source.new)
         (W.contents writer.old) (W.contents writer.new)) }
-    ensures ended { IfOk result (λ lacking. 0 < lacking → IsEnded unread.new.bytes (S.remaining source.new)) }
+    ensures ended { IfOk result
+        (λ lacking. 0 < lacking → IsEnded unread.new.bytes (S.remaining source.new)) }
     ensures stopped { OnErr result (Stops count unread.old.bytes unread.old.read unread.new.read
-        (S.remaining source.old) (S.remaining source.new) (W.contents writer.old) (W.contents writer.new)) }
-    ensures short { result ≡ Err FileFault.Write → StopsShort count unread.old.bytes unread.old.read unread.new.read
-        (S.remaining source.old) (S.remaining source.new) (W.contents writer.old) (W.contents writer.new) }
+        (S.remaining source.old) (S.remaining source.new) (W.contents writer.old)
+        (W.contents writer.new)) }
+    ensures short { result ≡ Err FileFault.Write
+        → StopsShort count unread.old.bytes unread.old.read unread.new.read
+        (S.remaining source.old) (S.remaining source.new) (W.contents writer.old)
+        (W.contents writer.new) }
     ensures within { IfOk result (λ lacking. unread.new.read ≤ most_transcript_bytes) }
     ensures most { unread.new.read ≤ 4_294_967_297 }
     ensures copying { IfErr result (λ fault. IsOfCopying fault × IsBeyond fault unread.new.read) }
@@ -137,7 +144,8 @@ pub fn file_text<R: Source, W: Sink>(
     writer: &mut W,
 ) -> Result<(), FileFault>
     // With Ok just the period's first file was written.
-    ensures file { OnOk result ((input file : List ℕ) × IsFileOf (R.remaining reader.old) period input file
+    ensures file { OnOk result
+        ((input file : List ℕ) × IsFileOf (R.remaining reader.old) period input file
         × Appends (W.contents writer.old) (W.contents writer.new) file) }
 
     // Each refusal is that of the input.
@@ -163,7 +171,8 @@ pub fn file_text<R: Source, W: Sink>(
 
     // With Ok nothing is left to read.
     ensures end { OnOk result (IsAtEnd (R.remaining reader.new)) }
-    ensures read { ConsumesAtMost (most_transcript_bytes + 1) (R.remaining reader.old) (R.remaining reader.new) }
+    ensures read { ConsumesAtMost (most_transcript_bytes + 1) (R.remaining reader.old)
+        (R.remaining reader.new) }
 {
     let mut unread = Unread::new(alloc);
     let Some(count) = find_line_above(period, &mut unread, reader)? else {

@@ -60,7 +60,8 @@ pub(crate) fn read_ahead<S: Source>(
     ensures takes { Takes unread.old.bytes unread.new.bytes unread.old.read unread.new.read
         (S.remaining source.old) (S.remaining source.new) [] }
     ensures enough { result ≡ Ok true → wanted ≤ length unread.new.bytes }
-    ensures ended { result ≡ Ok false → (length unread.new.bytes < wanted) × IsAtEnd (S.remaining source.new) }
+    ensures ended { result ≡ Ok false → (length unread.new.bytes < wanted)
+        × IsAtEnd (S.remaining source.new) }
     ensures within { IfOk result (λ enough. unread.new.read ≤ most_transcript_bytes) }
     ensures most { unread.new.read ≤ 4_294_967_297 }
     ensures reading { IfErr result (λ fault. IsOfReading fault × IsBeyond fault unread.new.read) }
@@ -100,11 +101,14 @@ fn take_part(unread: &mut Unread) -> bool
 /// whether the line ended.
 pub(crate) fn pass_line<S: Source>(unread: &mut Unread, source: &mut S) -> Result<bool, FileFault>
     requires { unread.old.read ≤ most_transcript_bytes }
-    ensures takes { (taken : List ℕ) × Takes unread.old.bytes unread.new.bytes unread.old.read unread.new.read
+    ensures takes { (taken : List ℕ)
+        × Takes unread.old.bytes unread.new.bytes unread.old.read unread.new.read
         (S.remaining source.old) (S.remaining source.new) taken }
-    ensures line { result ≡ Ok true → TakesLine unread.old.bytes unread.new.bytes unread.old.read unread.new.read
+    ensures line { result ≡ Ok true
+        → TakesLine unread.old.bytes unread.new.bytes unread.old.read unread.new.read
         (S.remaining source.old) (S.remaining source.new) }
-    ensures ended { result ≡ Ok false → TakesPart unread.old.bytes [] unread.old.read unread.new.read
+    ensures ended { result ≡ Ok false
+        → TakesPart unread.old.bytes [] unread.old.read unread.new.read
         (S.remaining source.old) (S.remaining source.new) × IsAtEnd (S.remaining source.new) }
     ensures within { IfOk result (λ passed. unread.new.read ≤ most_transcript_bytes) }
     ensures most { unread.new.read ≤ 4_294_967_297 }

@@ -106,7 +106,8 @@ fn read_behind<S: Source>(
     ensures front { take length bytes.new.items ≡ take length bytes.old.items }
     ensures length { vec_len bytes.new ≡ length + unwrap_or (result_ok result) 0 }
     ensures bound { vec_len bytes.new ≤ vec_len bytes.old }
-    ensures consumed { Consumes (S.remaining source.old) (S.remaining source.new) (drop length bytes.new.items) }
+    ensures consumed { Consumes (S.remaining source.old) (S.remaining source.new)
+        (drop length bytes.new.items) }
     ensures end { result ≡ Ok 0 → IsAtEnd (S.remaining source.new) }
     ensures fault { IfErr result (λ fault. fault ≡ FileFault.Read) }
     ensures count { S.failed_calls source.new

@@ -69,7 +69,8 @@ fn next_commitment(
     table: &Table,
 ) -> Result<Commitment, SheetFault>
     requires few { length rows.now < most_sheet_rows }
-    ensures taken { IfOk result (λ row. next_commitment prices.now rows.now (table_view table.now) ≡ Ok row) }
+    ensures taken { IfOk result
+        (λ row. next_commitment prices.now rows.now (table_view table.now) ≡ Ok row) }
     ensures new { IfOk result (λ row. list_any (has_same_id row) rows.now ≡ false) }
     ensures refused { IfErr result (λ fault. fault ≢ SheetFault.OutOfMemory
         → next_commitment prices.now rows.now (table_view table.now) ≡ Err fault) }

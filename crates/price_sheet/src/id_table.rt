@@ -93,7 +93,8 @@ impl<R: Named + Drop> IdTable<R> {
 
 /// The row at the place of an id, where it has one.
 fn row_placed<'a, R>(rows: &'a [R], places: &IndexMap<Vec<u8>, u16>, id: &[u8]) -> Option<&'a R>
-    ensures { option_copied result ≡ option_and_then (slice_get rows.now) (found_at id.now places.now.entries) }
+    ensures { option_copied result
+        ≡ option_and_then (slice_get rows.now) (found_at id.now places.now.entries) }
 {
     match places.get(id) {
         Some(place) => rows.get(*place as usize),

@@ -45,7 +45,8 @@ impl PriceIndex {
 
     // The first start of a SKU.
     fn put_first(&mut self, alloc: Global, sku: &[u8], start: Start) -> Result<(), AllocError>
-        ensures { OnOk result (Puts sku.now (start ∷ []) self.old.starts.entries self.new.starts.entries) }
+        ensures { OnOk result (Puts sku.now
+            (start ∷ []) self.old.starts.entries self.new.starts.entries) }
     {
         let key = Vec::from_slice(alloc, sku)?;
         let starts = Starts::one(alloc, start)?;
@@ -54,7 +55,8 @@ impl PriceIndex {
     }
 
     fn put(&mut self, alloc: Global, sku: &[u8], start: Start) -> Result<(), AllocError>
-        ensures { OnOk result (Puts sku.now (with_start (starts_of (found_at sku.now self.old.starts.entries)) start)
+        ensures { OnOk result (Puts sku.now
+            (with_start (starts_of (found_at sku.now self.old.starts.entries)) start)
             self.old.starts.entries self.new.starts.entries) }
     {
         match self.starts.get_mut(sku) {

@@ -52,7 +52,8 @@ impl PriceTable {
     /// The rows of the tables, in order.
     pub(crate) fn read(alloc: Global, tables: &[&Table]) -> Result<PriceTable, SheetFault>
         requires { length tables.now ≤ most_sheet_rows }
-        ensures taken { IfOk result (λ rows. prices_in [] (map (λ t. table_view t.now) tables.now) ≡ Ok rows) }
+        ensures taken { IfOk result
+            (λ rows. prices_in [] (map (λ t. table_view t.now) tables.now) ≡ Ok rows) }
         ensures refused { IfErr result (λ fault. fault ≢ SheetFault.OutOfMemory
             → prices_in [] (map (λ t. table_view t.now) tables.now) ≡ Err fault) }
     {

@@ -16,7 +16,8 @@ use toml::Table;
 /// The regions of the tables, in order.
 pub(crate) fn read_regions(alloc: Global, tables: &[&Table]) -> Result<IdTable<Region>, SheetFault>
     requires { length tables.now ≤ most_sheet_rows }
-    ensures taken { IfOk result (λ rows. regions_in [] (map (λ t. table_view t.now) tables.now) ≡ Ok rows) }
+    ensures taken { IfOk result
+        (λ rows. regions_in [] (map (λ t. table_view t.now) tables.now) ≡ Ok rows) }
     ensures refused { IfErr result (λ fault. fault ≢ SheetFault.OutOfMemory
         → regions_in [] (map (λ t. table_view t.now) tables.now) ≡ Err fault) }
 {

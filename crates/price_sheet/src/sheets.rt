@@ -54,7 +54,8 @@ impl Sheet {
     #[tactic(auto, unfolding(crate::specs::SheetReading::sheet_of_text))]
     pub fn read(alloc: Global, text: &str) -> Result<Sheet, SheetFault>
         ensures taken { IfOk result (λ sheet. sheet_of_text text.now ≡ Ok sheet) }
-        ensures refused { IfErr result (λ fault. fault ≢ SheetFault.OutOfMemory → sheet_of_text text.now ≡ Err fault) }
+        ensures refused { IfErr result
+            (λ fault. fault ≢ SheetFault.OutOfMemory → sheet_of_text text.now ≡ Err fault) }
         ensures want { IfErr result (λ fault. fault ≡ SheetFault.OutOfMemory → ¬ IsBlank text.now) }
         ensures rules { IfOk result IsSheet }
     {
@@ -117,9 +118,11 @@ impl Sheet {
         region_tables: &[&Table],
     ) -> Result<Sheet, SheetFault>
         requires base { IsBaseMonth base }
-        requires few { (length price_tables.now ≤ most_sheet_rows) × (length commitment_tables.now ≤ most_sheet_rows)
+        requires few { (length price_tables.now ≤ most_sheet_rows)
+            × (length commitment_tables.now ≤ most_sheet_rows)
             × (length region_tables.now ≤ most_sheet_rows) }
-        ensures taken { IfOk result (λ sheet. sheet_of_rows base (map (λ t. table_view t.now) price_tables.now)
+        ensures taken { IfOk result
+            (λ sheet. sheet_of_rows base (map (λ t. table_view t.now) price_tables.now)
             (map (λ t. table_view t.now) commitment_tables.now)
             (map (λ t. table_view t.now) region_tables.now) ≡ Ok sheet) }
         ensures refused { IfErr result (λ fault. fault ≢ SheetFault.OutOfMemory

@@ -41,7 +41,8 @@ pub fn read_input<R: Source>(alloc: Global, reader: &mut R) -> Result<Vec<u8>, P
     ensures section { (fault : ScheduleFault) → result ≡ Err (PlayFault.Schedule fault)
         → (fault ≡ ScheduleFault.Refused ScheduleCode.TooLong 1)
         × IfSome (R.remaining reader.old) (λ input. most_input_bytes < length input) }
-    ensures taken { ConsumesAtMost (most_input_bytes + 1) (R.remaining reader.old) (R.remaining reader.new) }
+    ensures taken { ConsumesAtMost (most_input_bytes + 1) (R.remaining reader.old)
+        (R.remaining reader.new) }
     ensures count { R.failed_calls reader.new
         ≡ count_after (tells_of_reader result) (R.failed_calls reader.old) }
     ensures no_write { result ≢ Err PlayFault.Write }

@@ -159,7 +159,8 @@ pub(crate) fn amendment_behind<'a>(letter: &[u8], rest: Field<'_>) -> Result<Rec
     requires placed { IsPlaced (lent rest) }
     requires letter { is_same letter.now (codes "X") ≡ true }
     ensures ok { IfOk result (λ r. (version : Version) →
-        record_in version (letter.now ∷ texts_of (parts_at 124 (lent rest.entry))) ≡ Ok (record_of r)) }
+        record_in version (letter.now ∷ texts_of (parts_at 124 (lent rest.entry)))
+        ≡ Ok (record_of r)) }
     ensures err { IfErr result (λ e. (version : Version) →
         record_in version (letter.now ∷ texts_of (parts_at 124 (lent rest.entry))) ≡ Err e) }
     ensures places { IfOk result (λ r. (letter : LentText) →

@@ -70,8 +70,10 @@ pub(crate) fn read_stamps<'a>(
     end: &'a [u8],
     stamps: &mut StampReader<'a>,
 ) -> Result<(Stamp, Stamp), BatchCode>
-    ensures ok { IfOk result (λ stamps. (stamp_step start.now ≡ Ok stamps.0) × (stamp_step end.now ≡ Ok stamps.1)) }
-    ensures err { IfErr result (λ e. (s t : ℤ) → stamp_step start.now ≡ Ok s → stamp_step end.now ≡ Ok t → ⊥) }
+    ensures ok { IfOk result
+        (λ stamps. (stamp_step start.now ≡ Ok stamps.0) × (stamp_step end.now ≡ Ok stamps.1)) }
+    ensures err { IfErr result
+        (λ e. (s t : ℤ) → stamp_step start.now ≡ Ok s → stamp_step end.now ≡ Ok t → ⊥) }
 {
     match stamps.read_both(start, end) {
         Some(stamps) => Ok(stamps),

@@ -233,7 +233,8 @@ pub(crate) fn key_end(text: &[u8], end: usize) -> usize
 #[inline(always)]
 pub(crate) fn split_plain<'a>(whole: Field<'a>) -> Option<(Field<'a>, Field<'a>)>
     requires { IsPlaced (lent whole) }
-    ensures parts { IfSome result (λ p. parts_at 124 (lent whole.entry) ≡ lent p.0 ∷ parts_at 124 (lent p.1)) }
+    ensures parts { IfSome result
+        (λ p. parts_at 124 (lent whole.entry) ≡ lent p.0 ∷ parts_at 124 (lent p.1)) }
     ensures plain { IfSome result (λ p. IsTrue (is_plain p.0.text.now)) }
     ensures placed { IfSome result (λ p. IsPlaced (lent p.0) × IsPlaced (lent p.1)) }
     ensures none { IfNone result (IsTrue (is_plain_line whole.entry.text.now)
@@ -250,7 +251,8 @@ pub(crate) fn split_plain<'a>(whole: Field<'a>) -> Option<(Field<'a>, Field<'a>)
 #[inline(always)]
 pub(crate) fn split_letter<'a>(whole: Field<'a>) -> Option<(Field<'a>, Field<'a>)>
     requires { IsPlaced (lent whole) }
-    ensures parts { IfSome result (λ p. parts_at 124 (lent whole.entry) ≡ lent p.0 ∷ parts_at 124 (lent p.1)) }
+    ensures parts { IfSome result
+        (λ p. parts_at 124 (lent whole.entry) ≡ lent p.0 ∷ parts_at 124 (lent p.1)) }
     ensures placed { IfSome result (λ p. IsPlaced (lent p.1)) }
     ensures none { IfNone result ((first second : LentText) (others : List LentText) →
         parts_at 124 (lent whole.entry) ≡ first ∷ second ∷ others → length first.text ≢ 1) }
@@ -268,9 +270,11 @@ pub(crate) fn split_stamp<'a>(whole: Field<'a>) -> Option<(Field<'a>, Field<'a>)
         → parts_at 124 (lent whole.entry) ≡ lent p.0 ∷ parts_at 124 (lent p.1)) }
     ensures placed { IfSome result (λ p. IsPlaced (lent p.1)) }
     ensures none { IfNone result ((first second : LentText) (others : List LentText) →
-        parts_at 124 (lent whole.entry) ≡ first ∷ second ∷ others → IsTrue (is_some (stamp_in first.text)) → ⊥) }
+        parts_at 124 (lent whole.entry) ≡ first ∷ second ∷ others
+        → IsTrue (is_some (stamp_in first.text)) → ⊥) }
     ensures first { IfSome result (λ p. (first second : LentText) (others : List LentText) →
-        parts_at 124 (lent whole.entry) ≡ first ∷ second ∷ others → IsTrue (is_some (stamp_in first.text))
+        parts_at 124 (lent whole.entry) ≡ first ∷ second ∷ others
+        → IsTrue (is_some (stamp_in first.text))
         → first.text ≡ p.0.text.now) }
 {
     if whole.text.len() <= 20 || whole.text[20] != b'|' {

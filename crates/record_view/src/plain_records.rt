@@ -27,7 +27,8 @@ use metering_model::{BatchCode, Version};
 #[inline(always)]
 fn plain_fields<'a>(rest: Field<'a>) -> Option<ReadingFields<'a>>
     requires { IsPlaced (lent rest) }
-    ensures parts { IfSome result (λ f. HaveStamps f → parts_at 124 (lent rest.entry) ≡ reading_parts f) }
+    ensures parts { IfSome result
+        (λ f. HaveStamps f → parts_at 124 (lent rest.entry) ≡ reading_parts f) }
     ensures plain { IfSome result ArePlainFields }
     ensures none { IfNone result (IsPlainRest rest.entry.text.now → ⊥) }
     ensures stamps { IfSome result (λ f. IsPlainRest rest.entry.text.now → HaveStamps f) }
@@ -66,7 +67,8 @@ fn plain_reading<'a>(
     requires { ArePlainFields plain.now }
     ensures stamps { OnOk result (HaveStamps plain.now) }
     ensures ok { IfOk result (λ r. record_of_reading letter.now plain.now ≡ Ok (record_of r)) }
-    ensures err { IfErr result (λ e. (r : model.Record) → record_of_reading letter.now plain.now ≢ Ok r) }
+    ensures err { IfErr result
+        (λ e. (r : model.Record) → record_of_reading letter.now plain.now ≢ Ok r) }
     ensures lent { IfOk result (λ r. record_texts r ≡ field_texts plain.now) }
 {
     let kind = read_kind(letter)?;
@@ -128,7 +130,8 @@ pub(crate) fn plain_behind<'a>(
     requires placed { IsPlaced (lent rest) }
     requires letter { is_same letter.now (codes "X") ≡ false }
     ensures ok { IfSome result (λ r.
-        record_in version (letter.now ∷ texts_of (parts_at 124 (lent rest.entry))) ≡ Ok (record_of r)) }
+        record_in version (letter.now ∷ texts_of (parts_at 124 (lent rest.entry)))
+        ≡ Ok (record_of r)) }
     ensures places { IfSome result (λ r. (letter : LentText) →
         record_texts r ≡ lent_fields (letter ∷ parts_at 124 (lent rest.entry))) }
     ensures lent { IfSome result (λ r. (source : List ℕ) (from to : ℕ) →

@@ -82,9 +82,11 @@ pub fn read_plain<'a>(
     requires ordered { span.from ≤ span.to }
     requires within { span.to ≤ length source.now }
     ensures ok { IfSome result (λ r.
-        record_in version (fields_in (slice_range source.now span.from span.to)) ≡ Ok (record_of r)) }
+        record_in version (fields_in (slice_range source.now span.from span.to))
+        ≡ Ok (record_of r)) }
     ensures lent { IfSome result (IsLentRecord source.now span) }
-    ensures all { IfNone result (IsPlainReading version (slice_range source.now span.from span.to) → ⊥) }
+    ensures all { IfNone result
+        (IsPlainReading version (slice_range source.now span.from span.to) → ⊥) }
 {
     let (letter, rest) = split_letter(field_at(source, span))?;
     if is_amendment(letter.text) {
@@ -105,7 +107,8 @@ pub fn read_exact<'a>(
     requires within { span.to ≤ length source.now }
     requires short { length source.now ≤ most_batch_bytes }
     ensures ok { IfOk result (λ r.
-        record_in version (fields_in (slice_range source.now span.from span.to)) ≡ Ok (record_of r)) }
+        record_in version (fields_in (slice_range source.now span.from span.to))
+        ≡ Ok (record_of r)) }
     ensures err { IfErr result (λ e.
         record_in version (fields_in (slice_range source.now span.from span.to)) ≡ Err e) }
     ensures lent { IfOk result (IsLentRecord source.now span) }
@@ -137,7 +140,8 @@ pub fn read_record<'a>(
     requires within { span.to ≤ length source.now }
     requires short { length source.now ≤ most_batch_bytes }
     ensures ok { IfOk result (λ r.
-        record_in version (fields_in (slice_range source.now span.from span.to)) ≡ Ok (record_of r)) }
+        record_in version (fields_in (slice_range source.now span.from span.to))
+        ≡ Ok (record_of r)) }
     ensures err { IfErr result (λ e.
         record_in version (fields_in (slice_range source.now span.from span.to)) ≡ Err e) }
     ensures lent { IfOk result (IsLentRecord source.now span) }

@@ -71,7 +71,8 @@ pub(crate) fn before_region<'a>(
 fn fault_before(letter: &[u8], front: Field<'_>, region: BatchCode) -> BatchCode
     requires placed { IsPlaced (lent front) }
     requires letter { is_same letter.now (codes "X") ≡ false }
-    ensures { result ≡ first_fault (record_in B1 (letter.now ∷ texts_of (parts_at 124 (lent front.entry)))) region }
+    ensures { result ≡ first_fault
+        (record_in B1 (letter.now ∷ texts_of (parts_at 124 (lent front.entry)))) region }
 {
     match plain_record(letter, front, &mut StampReader::new()) {
         Some(_) => region,

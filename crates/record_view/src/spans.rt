@@ -64,7 +64,8 @@ pub fn field_spans(version: Version, source: &[u8], line: Span, what: &Record<'_
     requires ordered { line.from ≤ line.to }
     requires within { line.to ≤ length source.now }
     requires short { length source.now ≤ most_batch_bytes }
-    requires read { record_in version (fields_in (slice_range source.now line.from line.to)) ≡ Ok (record_of what.now) }
+    requires read { record_in version (fields_in (slice_range source.now line.from line.to))
+        ≡ Ok (record_of what.now) }
     requires lent { IsLentRecord source.now line what.now }
     ensures { take (field_count version what.now) result ≡ spans_at source.now line }
 {

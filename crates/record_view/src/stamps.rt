@@ -21,8 +21,10 @@ impl<'a> KnownStamps<'a> {
     /// The stamps, where these texts are the ones that they were read in.
     #[inline(always)]
     fn of(&self, first: &[u8], second: &[u8]) -> Option<(Stamp, Stamp)>
-        ensures known { IfSome result (λ stamps. Some stamps ≡ option_zip (stamp_in first.now) (stamp_in second.now)) }
-        ensures none { IfNone result ((first.now ≡ self.now.first.now) × (second.now ≡ self.now.second.now) → ⊥) }
+        ensures known { IfSome result
+            (λ stamps. Some stamps ≡ option_zip (stamp_in first.now) (stamp_in second.now)) }
+        ensures none { IfNone result
+            ((first.now ≡ self.now.first.now) × (second.now ≡ self.now.second.now) → ⊥) }
     {
         if first == self.first && second == self.second {
             Some((self.start, self.end))

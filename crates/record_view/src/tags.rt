@@ -161,7 +161,8 @@ pub(crate) fn are_plain_tags(text: Field<'_>) -> bool
     requires { IsPlaced (lent text) }
     ensures tags { IsTrue result → IsTrue (are_tags text.entry.text.now) }
     ensures bars { IsTrue result → list_any (λ c. c == 124) text.entry.text.now ≡ false }
-    ensures all { IsTrue (is_plain text.entry.text.now) → IsTrue (are_tags text.entry.text.now) → IsTrue result }
+    ensures all { IsTrue (is_plain text.entry.text.now) → IsTrue (are_tags text.entry.text.now)
+        → IsTrue result }
 {
     if text.text.is_empty() {
         true
@@ -205,7 +206,8 @@ impl<'a> Tags<'a> {
     /// The tags that a text is, if it is empty or tags.
     pub(crate) fn read(text: Field<'a>) -> Option<Tags<'a>>
         requires { IsPlaced (lent text) }
-        ensures read { option_map (λ t. map tag_of (lent_tags t)) result ≡ tags_in text.entry.text.now }
+        ensures read { option_map (λ t. map tag_of (lent_tags t)) result
+            ≡ tags_in text.entry.text.now }
         ensures tags { OnSome result (IsTrue (are_tags text.entry.text.now)) }
         ensures lent { IfSome result (λ t. lent_tags t ≡ tags_at (lent text.entry)) }
     {

@@ -21,7 +21,8 @@ fn is_text_in_step<const LANES: usize>(text: &[u8]) -> bool
 #[inline(always)]
 fn behind_steps<const LANES: usize>(text: &[u8]) -> Option<&[u8]>
     requires { (0 < LANES) × (LANES ≤ 64) }
-    ensures { MatchOption result (is_text text.now ≡ false) (λ rest. is_text text.now ≡ is_text rest.now) }
+    ensures { MatchOption result (is_text text.now ≡ false)
+        (λ rest. is_text text.now ≡ is_text rest.now) }
 {
     let mut rest = text;
     while rest.len() >= LANES {

@@ -33,19 +33,23 @@ pub fn totals()
         (at : Position) (r : Reading) →
         IsHolding h → IsGrowing agents cuts → reading_at h at ≡ Some r →
         model.totals (rows_of_place sheet issuer h agents cuts at)
-        ≡ amounts_of (charged_at_once sheet r (value_at h at (last_of (last_cut agents cuts) at.agent))) }
+        ≡ amounts_of (charged_at_once sheet r
+        (value_at h at (last_of (last_cut agents cuts) at.agent))) }
 {}
 
 /// A part of a holding has the rows of the whole, where it lacks nothing of it up to the later cut.
 pub fn rows_stay()
-    ensures { (sheet : Sheet) (issuer : Issuer) (part whole : Holding) (period : ℕ) (from to : Cut) →
-        IsHolding part → IsHolding whole → IsPartOf part whole → LacksNothingUpTo to part whole → IsAtLeast to from →
+    ensures { (sheet : Sheet) (issuer : Issuer) (part whole : Holding) (period : ℕ)
+        (from to : Cut) →
+        IsHolding part → IsHolding whole → IsPartOf part whole → LacksNothingUpTo to part whole
+        → IsAtLeast to from →
         rows sheet issuer part period from to ≡ rows sheet issuer whole period from to }
 {}
 
 /// In one period a place has at most one row: where the later cut reaches it, that of the reading there.
 pub fn a_place_has_at_most_one_row_a_period()
-    ensures at_most { (sheet : Sheet) (issuer : Issuer) (h : Holding) (period : ℕ) (from to : Cut) (at : Position) →
+    ensures at_most { (sheet : Sheet) (issuer : Issuer) (h : Holding) (period : ℕ) (from to : Cut)
+        (at : Position) →
         IsHolding h → length (at_place at (placed_rows sheet issuer h period from to)) ≤ 1 }
     ensures which { (sheet : Sheet) (issuer : Issuer) (h : Holding) (period : ℕ) (from to : Cut)
         (at : Position) (r : Reading) →
@@ -53,8 +57,10 @@ pub fn a_place_has_at_most_one_row_a_period()
         at_place at (placed_rows sheet issuer h period from to)
         ≡ (if nat_le at.seq (last_of to at.agent) then option_to_list
         (row_of_reading sheet issuer h period from to at r) else []) }
-    ensures no_reading { (sheet : Sheet) (issuer : Issuer) (h : Holding) (period : ℕ) (from to : Cut) (at : Position) →
-        IsHolding h → reading_at h at ≡ None → at_place at (placed_rows sheet issuer h period from to) ≡ [] }
+    ensures no_reading { (sheet : Sheet) (issuer : Issuer) (h : Holding) (period : ℕ)
+        (from to : Cut) (at : Position) →
+        IsHolding h → reading_at h at ≡ None
+        → at_place at (placed_rows sheet issuer h period from to) ≡ [] }
 {}
 
 /// Over growing cuts, a reading up to the last cut is charged as new exactly once: in the period whose cut is the first
@@ -73,7 +79,8 @@ pub fn each_reading_is_new_once()
         (at : Position) (r : Reading) →
         IsHolding h → IsAtLeast to from → reading_at h at ≡ Some r →
         length (filter is_new (at_place at (placed_rows sheet issuer h period from to)))
-        ≡ (if nat_lt (last_of from at.agent) at.seq && nat_le at.seq (last_of to at.agent) then 1 else 0) }
+        ≡ (if nat_lt (last_of from at.agent) at.seq
+        && nat_le at.seq (last_of to at.agent) then 1 else 0) }
 {}
 
 /// Over growing cuts, the rows of all files together add up to what each reading up to the last cut would be charged
@@ -91,7 +98,8 @@ pub fn a_file_has_one_line_for_each_row()
     ensures { (sheet : Sheet) (issuer : Issuer) (h : Holding) (period : ℕ) (from to : Cut) →
         IsHolding h → IsSheet sheet → IsIssuer issuer →
         lines_in (file (rows sheet issuer h period from to))
-        ≡ record { lines = header_line ∷ map line_of_row (rows sheet issuer h period from to); rest = [] } }
+        ≡ record { lines = header_line
+        ∷ map line_of_row (rows sheet issuer h period from to); rest = [] } }
 {}
 
 /// Over growing cuts, where sheet and issuer meet their rules, the numbers of the first column, read back from the
@@ -110,14 +118,17 @@ pub fn charges_start_before_their_periods_end()
         IsHolding h → IsBaseMonth sheet.base → IsPeriod period →
         AreDueBetween sheet.base period h from to → WereDueBefore sheet.base period h from →
         All StartsBeforeItsPeriodEnds (rows sheet issuer h period from to) }
-    ensures periods { (sheet : Sheet) (issuer : Issuer) (h : Holding) (agents : ℕ) (cuts : List Cut) →
-        IsHolding h → IsBaseMonth sheet.base → length cuts ≤ most_periods → AreDueOver sheet.base h agents cuts →
+    ensures periods { (sheet : Sheet) (issuer : Issuer) (h : Holding) (agents : ℕ)
+        (cuts : List Cut) →
+        IsHolding h → IsBaseMonth sheet.base → length cuts ≤ most_periods
+        → AreDueOver sheet.base h agents cuts →
         All StartsBeforeItsPeriodEnds (all_rows (files sheet issuer h agents cuts)) }
 {}
 
 /// The file of a period is of the rows between its cut and the one before it, which is zero before the first.
 pub fn each_file_is_between_two_cuts()
-    ensures { (sheet : Sheet) (issuer : Issuer) (h : Holding) (agents : ℕ) (cuts : List Cut) (period : ℕ) (to : Cut) →
+    ensures { (sheet : Sheet) (issuer : Issuer) (h : Holding) (agents : ℕ) (cuts : List Cut)
+        (period : ℕ) (to : Cut) →
         slice_get cuts period ≡ Some to →
         slice_get (files sheet issuer h agents cuts) period
         ≡ Some (rows sheet issuer h period (cut_before agents cuts period) to) }
@@ -137,7 +148,8 @@ pub fn unit_prices_times_quantities_are_costs()
     ensures list { (sheet : Sheet) (issuer : Issuer) (h : Holding) (period : ℕ) (from to : Cut) →
         All (λ x. IsPriceTimesQuantity x.list_unit_price x.pricing_quantity x.list_cost)
         (rows sheet issuer h period from to) }
-    ensures contracted { (sheet : Sheet) (issuer : Issuer) (h : Holding) (period : ℕ) (from to : Cut) →
+    ensures contracted { (sheet : Sheet) (issuer : Issuer) (h : Holding) (period : ℕ)
+        (from to : Cut) →
         All (λ x. IsPriceTimesQuantity x.contracted_unit_price x.pricing_quantity x.contracted_cost)
         (rows sheet issuer h period from to) }
 {}
@@ -147,21 +159,30 @@ pub fn unit_prices_times_quantities_are_costs()
 /// one, and PricingCategory just on usage and purchases.
 pub fn columns_are_null_together()
     ensures price { (sheet : Sheet) (issuer : Issuer) (h : Holding) (period : ℕ) (from to : Cut) →
-        All (λ x. PriceColumnsAre (is_some x.pricing_quantity) x) (rows sheet issuer h period from to) }
-    ensures consumed { (sheet : Sheet) (issuer : Issuer) (h : Holding) (period : ℕ) (from to : Cut) →
-        All (λ x. is_some x.consumed_quantity ≡ is_some x.consumed_unit) (rows sheet issuer h period from to) }
-    ensures commitment { (sheet : Sheet) (issuer : Issuer) (h : Holding) (period : ℕ) (from to : Cut) →
-        All (λ x. CommitmentColumnsAre (is_some x.commitment_discount_id) x) (rows sheet issuer h period from to) }
+        All (λ x. PriceColumnsAre (is_some x.pricing_quantity) x)
+        (rows sheet issuer h period from to) }
+    ensures consumed { (sheet : Sheet) (issuer : Issuer) (h : Holding) (period : ℕ)
+        (from to : Cut) →
+        All (λ x. is_some x.consumed_quantity ≡ is_some x.consumed_unit)
+        (rows sheet issuer h period from to) }
+    ensures commitment { (sheet : Sheet) (issuer : Issuer) (h : Holding) (period : ℕ)
+        (from to : Cut) →
+        All (λ x. CommitmentColumnsAre (is_some x.commitment_discount_id) x)
+        (rows sheet issuer h period from to) }
     ensures named { (sheet : Sheet) (issuer : Issuer) (h : Holding) (period : ℕ) (from to : Cut) →
         All (λ x. is_some x.commitment_discount_id ≡ true → (is_usage x || is_purchase x) ≡ true)
         (rows sheet issuer h period from to) }
     ensures status { (sheet : Sheet) (issuer : Issuer) (h : Holding) (period : ℕ) (from to : Cut) →
-        All (λ x. is_some x.commitment_discount_status ≡ (is_usage x && is_some x.commitment_discount_id))
+        All (λ x. is_some x.commitment_discount_status
+        ≡ (is_usage x && is_some x.commitment_discount_id))
         (rows sheet issuer h period from to) }
-    ensures category { (sheet : Sheet) (issuer : Issuer) (h : Holding) (period : ℕ) (from to : Cut) →
-        All (λ x. is_some x.pricing_category ≡ (is_usage x || is_purchase x)) (rows sheet issuer h period from to) }
+    ensures category { (sheet : Sheet) (issuer : Issuer) (h : Holding) (period : ℕ)
+        (from to : Cut) →
+        All (λ x. is_some x.pricing_category ≡ (is_usage x || is_purchase x))
+        (rows sheet issuer h period from to) }
     ensures region { (sheet : Sheet) (issuer : Issuer) (h : Holding) (period : ℕ) (from to : Cut) →
-        All (λ x. is_some x.region_id ≡ is_some x.region_name) (rows sheet issuer h period from to) }
+        All (λ x. is_some x.region_id ≡ is_some x.region_name)
+        (rows sheet issuer h period from to) }
 {}
 
 /// Where the journals meet their rules, just usage and purchases have the columns that a price gives, and just usage
@@ -169,8 +190,10 @@ pub fn columns_are_null_together()
 pub fn usage_and_purchases_have_their_price()
     ensures price { (sheet : Sheet) (issuer : Issuer) (h : Holding) (period : ℕ) (from to : Cut)
         → MeetsJournalRules sheet h →
-        All (λ x. PriceColumnsAre (is_usage x || is_purchase x) x) (rows sheet issuer h period from to) }
-    ensures consumed { (sheet : Sheet) (issuer : Issuer) (h : Holding) (period : ℕ) (from to : Cut) →
+        All (λ x. PriceColumnsAre (is_usage x || is_purchase x) x)
+        (rows sheet issuer h period from to) }
+    ensures consumed { (sheet : Sheet) (issuer : Issuer) (h : Holding) (period : ℕ)
+        (from to : Cut) →
         MeetsJournalRules sheet h
         → All (λ x. is_some x.consumed_quantity ≡ is_usage x)
         (rows sheet issuer h period from to) }
@@ -182,11 +205,13 @@ pub fn usage_and_purchases_have_their_price()
 pub fn commitments_are_billed_where_they_are_bought()
     ensures billed { (sheet : Sheet) (issuer : Issuer) (h : Holding) (period : ℕ) (from to : Cut)
         → MeetsJournalRules sheet h →
-        All (λ x. x.billed_cost ≡ (if is_usage x && is_some x.commitment_discount_id then pos 0 else x.contracted_cost))
+        All (λ x. x.billed_cost ≡
+        (if is_usage x && is_some x.commitment_discount_id then pos 0 else x.contracted_cost))
         (rows sheet issuer h period from to) }
     ensures bought { (sheet : Sheet) (issuer : Issuer) (h : Holding) (period : ℕ) (from to : Cut)
         → MeetsJournalRules sheet h →
-        All (λ x. is_purchase x ≡ true → is_some x.commitment_discount_id ≡ true → x.effective_cost ≡ pos 0)
+        All (λ x. is_purchase x ≡ true → is_some x.commitment_discount_id ≡ true
+        → x.effective_cost ≡ pos 0)
         (rows sheet issuer h period from to) }
     ensures used { (sheet : Sheet) (issuer : Issuer) (h : Holding) (period : ℕ) (from to : Cut) →
         All (λ x. (id : List ℕ) (q : ℤ) →

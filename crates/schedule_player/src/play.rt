@@ -59,14 +59,19 @@ fn play_schedule<W: Sink>(
     requires lines { All HasWholeLines schedule.events.items }
     ensures played { OnOk result (Appends (W.contents writer.old) (W.contents writer.new)
         (transcript (replies_to (read_of schedule.entry) (read_of schedule.entry).events))) }
-    ensures prefix { result ≡ Err PlayFault.Write → AppendsPrefix (W.contents writer.old) (W.contents writer.new)
+    ensures prefix { result ≡ Err PlayFault.Write
+        → AppendsPrefix (W.contents writer.old) (W.contents writer.new)
         (transcript (replies_to (read_of schedule.entry) (read_of schedule.entry).events)) }
-    ensures memory { result ≡ Err PlayFault.OutOfMemory → Keeps (W.contents writer.old) (W.contents writer.new)
+    ensures memory { result ≡ Err PlayFault.OutOfMemory
+        → Keeps (W.contents writer.old) (W.contents writer.new)
         ⊎ AppendsFirst (W.contents writer.old) (W.contents writer.new)
-        (opening schedule.entry.voters schedule.entry.observers schedule.entry.agents schedule.entry.sheet schedule.entry.issuer)
+        (opening schedule.entry.voters schedule.entry.observers schedule.entry.agents
+        schedule.entry.sheet schedule.entry.issuer)
         schedule.entry.events.items }
-    ensures count { W.failed_calls writer.new ≡ count_after (tells_of_writer result) (W.failed_calls writer.old) }
-    ensures others { (result ≢ Err PlayFault.Read) × ((fault : ScheduleFault) → result ≢ Err (PlayFault.Schedule fault))
+    ensures count { W.failed_calls writer.new
+        ≡ count_after (tells_of_writer result) (W.failed_calls writer.old) }
+    ensures others { (result ≢ Err PlayFault.Read)
+        × ((fault : ScheduleFault) → result ≢ Err (PlayFault.Schedule fault))
         × ((refusal : Refusal) → result ≢ Err (PlayFault.Refused refusal)) }
 {
     let Schedule {
@@ -92,9 +97,11 @@ fn play_schedule<W: Sink>(
 
 /// Plays the schedule that an input is, and writes its transcript.
 fn play_input<W: Sink>(alloc: Global, input: &[u8], writer: &mut W) -> Result<(), PlayFault>
-    ensures transcript { OnOk result ((text : List ℕ) × IsTranscriptOf (Some input.now) input.now text
+    ensures transcript { OnOk result
+        ((text : List ℕ) × IsTranscriptOf (Some input.now) input.now text
         × Appends (W.contents writer.old) (W.contents writer.new) text) }
-    ensures prefix { result ≡ Err PlayFault.Write → (text : List ℕ) × IsTranscriptOf (Some input.now) input.now text
+    ensures prefix { result ≡ Err PlayFault.Write → (text : List ℕ)
+        × IsTranscriptOf (Some input.now) input.now text
         × AppendsPrefix (W.contents writer.old) (W.contents writer.new) text }
     ensures section { (fault : ScheduleFault) → result ≡ Err (PlayFault.Schedule fault)
         → (fault ≢ ScheduleFault.OutOfMemory) × (schedule_in input.now ≡ Err fault) }
@@ -102,7 +109,8 @@ fn play_input<W: Sink>(alloc: Global, input: &[u8], writer: &mut W) -> Result<()
         × IsPrefixOfTranscript (Some input.now) input.now text
         × Appends (W.contents writer.old) (W.contents writer.new) text }
     ensures want { result ≡ Err PlayFault.OutOfMemory → IsOk (group_in input.now) }
-    ensures untouched { (fault : ScheduleFault) → result ≡ Err (PlayFault.Schedule fault) → writer.new ≡ writer.old }
+    ensures untouched { (fault : ScheduleFault) → result ≡ Err (PlayFault.Schedule fault)
+        → writer.new ≡ writer.old }
     ensures writes { W.failed_calls writer.new
         ≡ count_after (tells_of_writer result) (W.failed_calls writer.old) }
     ensures no_read { result ≢ Err PlayFault.Read }
@@ -142,7 +150,8 @@ pub fn play_text<R: Source, W: Sink>(
     ensures untouched { IfErr result
         (λ fault. fault ≢ PlayFault.Write → fault ≢ PlayFault.OutOfMemory
         → writer.new ≡ writer.old) }
-    ensures read { ConsumesAtMost (most_input_bytes + 1) (R.remaining reader.old) (R.remaining reader.new) }
+    ensures read { ConsumesAtMost (most_input_bytes + 1) (R.remaining reader.old)
+        (R.remaining reader.new) }
 
     // With Ok nothing is left to read.
     ensures end { OnOk result (IsAtEnd (R.remaining reader.new)) }

@@ -30,7 +30,8 @@ fn play_event(
     ensures text { OnOk result
         (lines.new.text ≡ lines.old.text
         ++ reply_text (step world.old (event_of (planned_of planned.now))).0) }
-    ensures world { OnOk result (world.new ≡ (step world.old (event_of (planned_of planned.now))).1) }
+    ensures world { OnOk result
+        (world.new ≡ (step world.old (event_of (planned_of planned.now))).1) }
     ensures kept { OnErr result (lines.new.text ≡ lines.old.text) }
     ensures held { OnOk result (IsHeldOf world.new lines.new.held) }
 
@@ -51,13 +52,15 @@ fn write_many<W: Sink>(lines: &mut ReplyLines, writer: &mut W) -> Result<(), Fai
     ensures written { OnOk result
         ((written : List ℕ) × (written ++ lines.new.text ≡ lines.old.text)
         × Appends (W.contents writer.old) (W.contents writer.new) written) }
-    ensures prefix { OnErr result (AppendsPrefix (W.contents writer.old) (W.contents writer.new) lines.old.text) }
+    ensures prefix { OnErr result
+        (AppendsPrefix (W.contents writer.old) (W.contents writer.new) lines.old.text) }
     ensures held { lines.new.held ≡ lines.old.held }
 
     // Fewer bytes wait than are many.
     ensures few { OnOk result (length lines.new.text < 65_536) }
     ensures fault { OnErr result (Rises (W.failed_calls writer.old) (W.failed_calls writer.new)) }
-    ensures count { W.failed_calls writer.new ≡ count_after (is_err result) (W.failed_calls writer.old) }
+    ensures count { W.failed_calls writer.new
+        ≡ count_after (is_err result) (W.failed_calls writer.old) }
 {
     if lines.are_many() {
         lines.write(writer)
@@ -88,7 +91,8 @@ fn play_on<W: Sink>(
         (AppendsPrefix (W.contents writer.old) (W.contents writer.new)
         (text_of world.old (events_of events.now))) }
     ensures fault { OnErr result (Rises (W.failed_calls writer.old) (W.failed_calls writer.new)) }
-    ensures count { W.failed_calls writer.new ≡ count_after (is_err result) (W.failed_calls writer.old) }
+    ensures count { W.failed_calls writer.new
+        ≡ count_after (is_err result) (W.failed_calls writer.old) }
 {
     for (done, planned) in events.iter().enumerate() {
         let Ok(()) = play_event(alloc, world, planned, lines) else {
@@ -116,7 +120,8 @@ pub(crate) fn play_events<W: Sink>(
         (AppendsPrefix (W.contents writer.old) (W.contents writer.new)
         (text_of world (events_of events.now))) }
     ensures fault { OnErr result (Rises (W.failed_calls writer.old) (W.failed_calls writer.new)) }
-    ensures count { W.failed_calls writer.new ≡ count_after (is_err result) (W.failed_calls writer.old) }
+    ensures count { W.failed_calls writer.new
+        ≡ count_after (is_err result) (W.failed_calls writer.old) }
 {
     let mut world = world;
     let mut lines = ReplyLines::new(alloc);

@@ -93,8 +93,10 @@ fn hold(
     file: &mut Vec<u8>,
 ) -> Result<(), AllocError>
     requires { FitsReply (told held.old line.old.items file.old.items) (reply_of reply.now) }
-    ensures text { OnOk result (line.new.items ++ file.new.items ≡ reply_text (reply_of reply.now)) }
-    ensures held { OnOk result (told held.new line.new.items file.new.items ≡ told_of (reply_of reply.now)) }
+    ensures text { OnOk result
+        (line.new.items ++ file.new.items ≡ reply_text (reply_of reply.now)) }
+    ensures held { OnOk result
+        (told held.new line.new.items file.new.items ≡ told_of (reply_of reply.now)) }
 {
     if is_export_of(*held, reply) {
         return Ok(());
@@ -123,7 +125,8 @@ impl ReplyLines {
     /// Puts the text of one more reply after those that wait. Where an allocation fails, nothing of it waits.
     pub(crate) fn add(&mut self, alloc: Global, reply: &Reply) -> Result<(), AllocError>
         requires fits { FitsReply self.old.held (reply_of reply.now) }
-        ensures added { OnOk result (self.new.text ≡ self.old.text ++ reply_text (reply_of reply.now)) }
+        ensures added { OnOk result
+            (self.new.text ≡ self.old.text ++ reply_text (reply_of reply.now)) }
         ensures held { OnOk result (self.new.held ≡ told_of (reply_of reply.now)) }
         ensures kept { OnErr result (self.new.text ≡ self.old.text) }
     {
@@ -146,12 +149,16 @@ impl ReplyLines {
     ///
     /// An error comes of one failed call of the writer: a prefix went out that is not all of it.
     pub(crate) fn write<W: Sink>(&mut self, writer: &mut W) -> Result<(), Failed>
-        ensures written { OnOk result (Appends (W.contents writer.old) (W.contents writer.new) self.old.text) }
+        ensures written { OnOk result
+            (Appends (W.contents writer.old) (W.contents writer.new) self.old.text) }
         ensures none_wait { OnOk result (self.new.text ≡ []) }
         ensures held { self.new.held ≡ self.old.held }
-        ensures prefix { OnErr result (AppendsPrefix (W.contents writer.old) (W.contents writer.new) self.old.text) }
-        ensures fault { OnErr result (Rises (W.failed_calls writer.old) (W.failed_calls writer.new)) }
-        ensures count { W.failed_calls writer.new ≡ count_after (is_err result) (W.failed_calls writer.old) }
+        ensures prefix { OnErr result
+            (AppendsPrefix (W.contents writer.old) (W.contents writer.new) self.old.text) }
+        ensures fault { OnErr result
+            (Rises (W.failed_calls writer.old) (W.failed_calls writer.new)) }
+        ensures count { W.failed_calls writer.new
+            ≡ count_after (is_err result) (W.failed_calls writer.old) }
     {
         write_all(writer, &self.lines)?;
         write_all(writer, waiting(self.waits, &self.file))?;

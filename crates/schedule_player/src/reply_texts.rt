@@ -50,7 +50,8 @@ fn put_words(
 ) -> Result<(), AllocError>
     requires line { line.old.items ≡ [] }
     requires file { file.old.items ≡ [] }
-    ensures { OnOk result ((line.new.items ++ 10 ∷ []) ++ file.new.items ≡ reply_text (reply_of reply.now)) }
+    ensures { OnOk result ((line.new.items ++ 10 ∷ []) ++ file.new.items
+        ≡ reply_text (reply_of reply.now)) }
 {
     match reply {
         Reply::Journaled { packet } => replies::put_journaled(line, *packet),

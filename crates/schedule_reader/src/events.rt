@@ -52,7 +52,8 @@ fn delivery<'a>(line: &'a [u8]) -> Option<Planned<'a>>
 }
 
 fn start<'a>(line: &'a [u8]) -> Option<Planned<'a>>
-    ensures event { option_map planned_of result ≡ option_map PlansStart (one_behind (codes "start ") last_node line.now) }
+    ensures event { option_map planned_of result
+        ≡ option_map PlansStart (one_behind (codes "start ") last_node line.now) }
     ensures lines { IfSome result HasWholeLines }
 {
     let node = one_behind(line, b"start ", LAST_NODE)?;
@@ -60,7 +61,8 @@ fn start<'a>(line: &'a [u8]) -> Option<Planned<'a>>
 }
 
 fn restart<'a>(line: &'a [u8]) -> Option<Planned<'a>>
-    ensures event { option_map planned_of result ≡ option_map PlansRestart (one_behind (codes "restart ") last_node line.now) }
+    ensures event { option_map planned_of result
+        ≡ option_map PlansRestart (one_behind (codes "restart ") last_node line.now) }
     ensures lines { IfSome result HasWholeLines }
 {
     let node = one_behind(line, b"restart ", LAST_NODE)?;
@@ -69,7 +71,8 @@ fn restart<'a>(line: &'a [u8]) -> Option<Planned<'a>>
 
 fn export<'a>(line: &'a [u8]) -> Option<Planned<'a>>
     ensures event { option_map planned_of result
-        ≡ option_map (λ n. PlansExport n.0 n.1) (two_behind (codes "export ") last_node last_period line.now) }
+        ≡ option_map (λ n. PlansExport n.0 n.1)
+        (two_behind (codes "export ") last_node last_period line.now) }
     ensures lines { IfSome result HasWholeLines }
 {
     let (node, period) = two_behind(line, b"export ", LAST_NODE, LAST_PERIOD)?;
@@ -80,7 +83,8 @@ fn export<'a>(line: &'a [u8]) -> Option<Planned<'a>>
 }
 
 fn keep<'a>(line: &'a [u8]) -> Option<Planned<'a>>
-    ensures event { option_map planned_of result ≡ option_map PlansKeep (one_behind (codes "keep ") last_node line.now) }
+    ensures event { option_map planned_of result
+        ≡ option_map PlansKeep (one_behind (codes "keep ") last_node line.now) }
     ensures lines { IfSome result HasWholeLines }
 {
     let node = one_behind(line, b"keep ", LAST_NODE)?;
@@ -199,7 +203,8 @@ pub(crate) fn events_in<'a>(
     unread: Unread<'a>,
     most: usize,
 ) -> Result<Vec<Planned<'a>>, ScheduleFault>
-    ensures taken { IfOk result (λ events. events_in most unread.entry ≡ Ok (map planned_of events.items)) }
+    ensures taken { IfOk result
+        (λ events. events_in most unread.entry ≡ Ok (map planned_of events.items)) }
     ensures lines { IfOk result (λ events. All HasWholeLines events.items) }
     ensures refused { IfErr result
         (λ fault. fault ≢ ScheduleFault.OutOfMemory → events_in most unread.entry ≡ Err fault) }

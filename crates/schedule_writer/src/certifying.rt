@@ -24,7 +24,8 @@ use std::sync::Arc;
 
 /// Keeps the batch of an event that was taken, if it has one: the journals are looked at when a file is shown.
 fn keep_batch(journals: &mut Store, event: &Event) -> Result<(), Stop>
-    ensures { OnOk result (journals.new.batches ≡ journals_behind journals.old.batches (offered_event event.now)) }
+    ensures { OnOk result (journals.new.batches
+        ≡ journals_behind journals.old.batches (offered_event event.now)) }
 {
     let Event::Journal(Offer::Good(batch)) = event else {
         return Ok(());
@@ -58,7 +59,8 @@ fn do_event(
         (λ next. behind (plan_of plan.now) seen world.old.journals
         (step world.old (event_of (planned_of planned.now))).0 (planned_of planned.now)
         ≡ Some next) }
-    ensures world { OnOk result (world.new ≡ (step world.old (event_of (planned_of planned.now))).1) }
+    ensures world { OnOk result
+        (world.new ≡ (step world.old (event_of (planned_of planned.now))).1) }
     ensures journals { OnOk result (journals.new.batches ≡ world.new.journals) }
 {
     let Ok(event) = event_of(alloc, planned) else {
@@ -87,7 +89,8 @@ fn do_events(
     requires last { plan.now.last ≤ last_period }
     requires same { journals.old.batches ≡ world.old.journals }
     ensures { IfOk result
-        (λ seen. IsDone (plan_of plan.now) nothing_seen seen world.old (events_in most unread.entry)) }
+        (λ seen. IsDone (plan_of plan.now) nothing_seen seen world.old
+        (events_in most unread.entry)) }
 {
     let mut seen = Seen {
         journaled: 0,
@@ -119,7 +122,8 @@ fn read_above<'a>(
     text: &'a [u8],
 ) -> Result<Preamble<'a>, Stop>
     ensures taken { IfOk result (λ p. preamble_in text.now
-        ≡ Ok (record { voters = p.voters; observers = p.observers; agents = p.agents; sheet = p.sheet; issuer = p.issuer; rest = p.rest })) }
+        ≡ Ok (record { voters = p.voters; observers = p.observers; agents = p.agents; sheet =
+        p.sheet; issuer = p.issuer; rest = p.rest })) }
     ensures group { IfOk result
         (λ p. (p.voters ≡ plan.now.voters) × (p.observers ≡ plan.now.observers)
         × (p.agents ≡ agents)) }
@@ -150,7 +154,8 @@ pub(crate) fn certify(
     text: &[u8],
 ) -> Result<(), Stop>
     requires voters { 1 ≤ plan.now.voters }
-    requires nodes { (plan.now.nodes ≡ plan.now.voters + plan.now.observers) × (plan.now.nodes ≤ most_nodes) }
+    requires nodes { (plan.now.nodes ≡ plan.now.voters + plan.now.observers)
+        × (plan.now.nodes ≤ most_nodes) }
     requires last { plan.now.last ≤ last_period }
     requires agents { (1 ≤ agents) × (agents ≤ most_agents) }
     ensures { OnOk result (IsCertified (plan_of plan.now)

@@ -50,14 +50,18 @@ fn check_offered(
     requires from { offered.now.from ≤ length input.now }
     requires above { above ≡ line_count (take offered.now.from input.now) }
     ensures told { OnOk result (told.new.items ≡ told.old.items
-        ++ told_of_answer input.now world.old (offered_of offered.now) (answer_to world.old offered.now.text.now)) }
+        ++ told_of_answer input.now world.old (offered_of offered.now)
+        (answer_to world.old offered.now.text.now)) }
     ensures ahead { (before : List Batch) → AreLatest latest.old before → OnOk result
         (warned.new.items ≡ warned.old.items ++ ahead_of_all before
-        (if_journaled input.now (offered_of offered.now) (answer_to world.old offered.now.text.now))) }
+        (if_journaled input.now (offered_of offered.now)
+        (answer_to world.old offered.now.text.now))) }
     ensures latest { (before : List Batch) → AreLatest latest.old before → OnOk result
         (AreLatest latest.new (with_journaled
-        (if_journaled input.now (offered_of offered.now) (answer_to world.old offered.now.text.now)) before)) }
-    ensures world { OnOk result (world.new ≡ (step world.old (journal_of (offered_of offered.now))).1) }
+        (if_journaled input.now (offered_of offered.now)
+        (answer_to world.old offered.now.text.now)) before)) }
+    ensures world { OnOk result
+        (world.new ≡ (step world.old (journal_of (offered_of offered.now))).1) }
 {
     let offer = read_offer(alloc, offered.text)?;
     let event = Event::Journal(offer);
@@ -126,9 +130,11 @@ fn check_items(
 ) -> Result<(), AllocError>
     requires { from ≤ length input.now }
     ensures told { OnOk result (told.new.items ≡ told.old.items
-        ++ told_of_batches input.now world.old (batches_of (items_in (length input.now) input.now from))) }
+        ++ told_of_batches input.now world.old
+        (batches_of (items_in (length input.now) input.now from))) }
     ensures ahead { OnOk result (warned.new.items ≡ warned.old.items ++ ahead_of_all []
-        (journaled_of input.now world.old (batches_of (items_in (length input.now) input.now from)))) }
+        (journaled_of input.now world.old
+        (batches_of (items_in (length input.now) input.now from)))) }
 {
     let mut latest = LatestDays::none();
     let mut above = line_count(&input[..from]);
@@ -153,7 +159,8 @@ fn check_batches(
     warned: &mut Vec<u8>,
 ) -> Result<(), AllocError>
     requires given { rate_input_in input.now
-        ≡ Ok (record { sheet = given.sheet; issuer = given.issuer; batch = drop given.batch_from input.now }) }
+        ≡ Ok (record { sheet = given.sheet; issuer = given.issuer; batch = drop given.batch_from
+        input.now }) }
     requires within { given.batch_from ≤ length input.now }
     ensures told { OnOk result (told.new.items ≡ told.old.items ++ said_of_input input.now) }
     ensures ahead { OnOk result (warned.new.items ≡ warned.old.items ++ ahead_of_all []
@@ -183,7 +190,8 @@ fn put_said(
     warned: &mut Vec<u8>,
 ) -> Result<(), AllocError>
     ensures said { OnOk result (told.new.items ≡ told.old.items ++ said_of_input input.now) }
-    ensures warned { OnOk result (warned.new.items ≡ warned.old.items ++ warned_of_input input.now) }
+    ensures warned { OnOk result
+        (warned.new.items ≡ warned.old.items ++ warned_of_input input.now) }
 {
     match rate_input(alloc, input) {
         Ok(given) => {
@@ -247,7 +255,8 @@ pub fn check_schedule_input<R: Source, W: Sink>(
     ensures untouched { IfErr result (λ fault. fault ≢ PlayFault.Write → writer.new ≡ writer.old) }
     ensures no_section { (fault : ScheduleFault) → result ≢ Err (PlayFault.Schedule fault) }
     ensures no_refusal { (refusal : Refusal) → result ≢ Err (PlayFault.Refused refusal) }
-    ensures read { ConsumesAtMost (most_input_bytes + 1) (R.remaining reader.old) (R.remaining reader.new) }
+    ensures read { ConsumesAtMost (most_input_bytes + 1) (R.remaining reader.old)
+        (R.remaining reader.new) }
 
     // Where nothing is wrong, nothing is left to read.
     ensures end { result ≡ Ok 0 → IsAtEnd (R.remaining reader.new) }

@@ -85,7 +85,8 @@ fn with_batch(sheet: &Sheet, asked: Asked, batch: &OwnedBatch) -> Asked
     requires agents { (1 ≤ asked.agents) × (asked.agents ≤ most_agents) }
     ensures agents { result.agents ≡ max asked.agents (batch_of batch.now).agent }
     ensures last { IsLaterStart sheet.now.base (batch_of batch.now) asked.last result.last }
-    ensures within { (result.last ≤ last_period) × (1 ≤ result.agents) × (result.agents ≤ most_agents) }
+    ensures within { (result.last ≤ last_period) × (1 ≤ result.agents)
+        × (result.agents ≤ most_agents) }
 {
     Asked {
         agents: asked.agents.max(batch.view().agent()),
@@ -101,7 +102,8 @@ fn asked_too(sheet: &Sheet, asked: Asked, offer: &Offer) -> Asked
         → result.agents ≡ max asked.agents (batch_of text).agent }
     ensures last { (text : List ℕ) (b : Batch) → IsOfferOf text offer.now → batch_in text ≡ Ok b
         → IsLaterStart sheet.now.base (batch_of text) asked.last result.last }
-    ensures within { (result.last ≤ last_period) × (1 ≤ result.agents) × (result.agents ≤ most_agents) }
+    ensures within { (result.last ≤ last_period) × (1 ≤ result.agents)
+        × (result.agents ≤ most_agents) }
 {
     match offer {
         Offer::Good(batch) => with_batch(sheet, asked, batch),
@@ -111,7 +113,8 @@ fn asked_too(sheet: &Sheet, asked: Asked, offer: &Offer) -> Asked
 
 /// A line without its line feed, as why a schedule is refused.
 fn refused(told: Vec<u8>) -> WriteFault
-    ensures { (text : List ℕ) → told.items ≡ line text → IsRefusedOr (λ words. words ≡ text) result }
+    ensures { (text : List ℕ) → told.items ≡ line text
+        → IsRefusedOr (λ words. words ≡ text) result }
 {
     let mut told = told;
     told.pop();
@@ -131,11 +134,16 @@ fn judge(
     requires last { asked.last ≤ last_period }
     requires agents { (1 ≤ asked.agents) × (asked.agents ≤ most_agents) }
     ensures journaled { OnOk result (IsJournaled (answer_to world.old offered.now.text.now)) }
-    ensures world { OnOk result (world.new ≡ (step world.old (journal_of (offered_of offered.now))).1) }
-    ensures agents { IfOk result (λ r. r.agents ≡ max asked.agents (batch_of offered.now.text.now).agent) }
-    ensures last { IfOk result (λ r. IsLaterStart sheet.now.base (batch_of offered.now.text.now) asked.last r.last) }
-    ensures within { IfOk result (λ r. (r.last ≤ last_period) × (1 ≤ r.agents) × (r.agents ≤ most_agents)) }
-    ensures refused { IfErr result (IsRefusedOr (IsRefusedNow input.now world.old (offered_of offered.now))) }
+    ensures world { OnOk result
+        (world.new ≡ (step world.old (journal_of (offered_of offered.now))).1) }
+    ensures agents { IfOk result
+        (λ r. r.agents ≡ max asked.agents (batch_of offered.now.text.now).agent) }
+    ensures last { IfOk result
+        (λ r. IsLaterStart sheet.now.base (batch_of offered.now.text.now) asked.last r.last) }
+    ensures within { IfOk result
+        (λ r. (r.last ≤ last_period) × (1 ≤ r.agents) × (r.agents ≤ most_agents)) }
+    ensures refused { IfErr result
+        (IsRefusedOr (IsRefusedNow input.now world.old (offered_of offered.now))) }
 {
     let Ok(offer) = read_offer(alloc, offered.text) else {
         return Err(WriteFault::OutOfMemory);
@@ -163,7 +171,8 @@ pub(crate) fn world_before(
     sheet: &Arc<Sheet>,
     issuer: &Arc<Issuer>,
 ) -> Result<World, AllocError>
-    ensures { IfOk result (λ world. world ≡ world_before (arc_value sheet.now) (arc_value issuer.now)) }
+    ensures { IfOk result (λ world. world
+        ≡ world_before (arc_value sheet.now) (arc_value issuer.now)) }
 {
     World::new(
         alloc,
@@ -183,7 +192,8 @@ fn put_batch<'a>(
 ) -> Result<(), WriteFault>
     ensures batches { OnOk result (map offered_of items.new.batches.items
         ≡ map offered_of items.old.batches.items ++ offered_of offered.entry ∷ []) }
-    ensures count { OnOk result (length items.new.batches.items ≡ length items.old.batches.items + 1) }
+    ensures count { OnOk result
+        (length items.new.batches.items ≡ length items.old.batches.items + 1) }
     ensures closes { OnOk result (items.new.closes.items ≡ items.old.closes.items) }
     ensures asked { OnOk result (items.new.asked ≡ asked) }
     ensures fault { IfErr result (λ fault. fault ≡ WriteFault.OutOfMemory) }
@@ -214,9 +224,12 @@ fn take_item<'a>(
     ensures count { OnOk result (length items.new.batches.items
         ≡ length items.old.batches.items + length (batches_of (item_at input.now from ∷ []))) }
     ensures closes { OnOk result (items.new.closes.items
-        ≡ items.old.closes.items ++ closes_from (length items.old.batches.items) (item_at input.now from ∷ [])) }
+        ≡ items.old.closes.items
+        ++ closes_from (length items.old.batches.items) (item_at input.now from ∷ [])) }
     ensures judged { (issuer : model.Issuer)
-        → IsJudged sheet.now issuer (map offered_of items.old.batches.items) world.old items.old.asked.agents items.old.asked.last
+        → IsJudged sheet.now issuer
+        (map offered_of items.old.batches.items) world.old items.old.asked.agents
+        items.old.asked.last
         → OnOk result (IsJudged sheet.now issuer (map offered_of items.new.batches.items) world.new
         items.new.asked.agents items.new.asked.last) }
     ensures refused { IfErr result (IsRefusedOr (IsRefusedHere input.now from world.old)) }
@@ -247,14 +260,17 @@ pub(crate) fn read_items<'a>(
     requires { from ≤ length input.now }
     ensures batches { IfOk result (λ r. map offered_of r.batches.items
         ≡ batches_of (items_in (length input.now) input.now from)) }
-    ensures closes { IfOk result (λ r. r.closes.items ≡ closes_of (items_in (length input.now) input.now from)) }
+    ensures closes { IfOk result
+        (λ r. r.closes.items ≡ closes_of (items_in (length input.now) input.now from)) }
     ensures taken { IfOk result (λ r. All IsJournaled
-        (answers_to (arc_value sheet.now) (arc_value issuer.now) (map offered_of r.batches.items))) }
+        (answers_to (arc_value sheet.now) (arc_value issuer.now)
+        (map offered_of r.batches.items))) }
     ensures asked { IfOk result (λ r. IsAskedBy
         (arc_value sheet.now).base (map offered_of r.batches.items) r.asked.agents r.asked.last) }
     ensures within { IfOk result (λ r. IsAskedWithin r.asked.agents r.asked.last) }
     ensures refused { IfErr result (IsRefusedOr (IsRefusedAmong
-        input.now (arc_value sheet.now) (arc_value issuer.now) (batches_of (items_in (length input.now) input.now from)))) }
+        input.now (arc_value sheet.now) (arc_value issuer.now)
+        (batches_of (items_in (length input.now) input.now from)))) }
 {
     let Ok(mut world) = world_before(alloc, sheet, issuer) else {
         return Err(WriteFault::OutOfMemory);

@@ -28,6 +28,8 @@ pub fn what_is_journaled_counts_for_a_warning()
         → warned_of_input input ≡ [] }
     ensures told { (input : List ℕ) (given : RateInput) → rate_input_in input ≡ Ok given
         → warned_of_input input ≡ unknown_on 1 input ++ ahead_of_all []
-        (journaled_of input (world_before given.sheet given.issuer) (batches_of (items_of input given))) }
-    ensures counted { (input : List ℕ) (w : World) (bs : List Offered) → CountsWhatIsJournaled input w bs }
+        (journaled_of input (world_before given.sheet given.issuer)
+        (batches_of (items_of input given))) }
+    ensures counted { (input : List ℕ) (w : World) (bs : List Offered)
+        → CountsWhatIsJournaled input w bs }
 {}

@@ -82,7 +82,8 @@ fn put_refusal(
 /// Why a reply to a journal refuses, or None where the batch was journaled.
 fn refusal_of(reply: &Reply) -> Option<Refusal>
     requires { IsAnswer (reply_of reply.now) }
-    ensures { MatchOption result (IsJournaled (reply_of reply.now)) (λ why. reply_of reply.now ≡ Refused why) }
+    ensures { MatchOption result (IsJournaled (reply_of reply.now))
+        (λ why. reply_of reply.now ≡ Refused why) }
 {
     match reply {
         Reply::Refused(refusal) => Some(*refusal),
@@ -105,9 +106,12 @@ pub(crate) fn journal_offered(
     requires known { IfSome known (λ lines. lines ≡ line_count (take offered.now.from input.now)) }
     requires event { event_of event.now ≡ journal_of (offered_of offered.now) }
     ensures told { OnOk result (told.new.items ≡ told.old.items
-        ++ told_of_answer input.now world.old (offered_of offered.now) (answer_to world.old offered.now.text.now)) }
-    ensures world { OnOk result (world.new ≡ (step world.old (journal_of (offered_of offered.now))).1) }
-    ensures journaled { IfOk result (λ is. is ≡ true → IsJournaled (answer_to world.old offered.now.text.now)) }
+        ++ told_of_answer input.now world.old (offered_of offered.now)
+        (answer_to world.old offered.now.text.now)) }
+    ensures world { OnOk result
+        (world.new ≡ (step world.old (journal_of (offered_of offered.now))).1) }
+    ensures journaled { IfOk result
+        (λ is. is ≡ true → IsJournaled (answer_to world.old offered.now.text.now)) }
     ensures refused { IfOk result (λ is. is ≡ false
         → (why : Refusal) × (answer_to world.old offered.now.text.now ≡ Refused why)) }
 {

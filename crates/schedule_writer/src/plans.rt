@@ -129,7 +129,8 @@ impl<'a> Plan<'a> {
 
     /// What was done with one more batch.
     fn with_batch(&self, seen: Seen, text: &[u8]) -> Option<Seen>
-        ensures { result ≡ (if is_next (plan_of self.now) seen text.now then Some (one_more_batch seen) else None) }
+        ensures { result ≡ (if is_next (plan_of self.now) seen text.now then Some
+            (one_more_batch seen) else None) }
     {
         if !self.is_next(seen, text) {
             return None;
@@ -145,7 +146,8 @@ impl<'a> Plan<'a> {
     /// What was done with one more ballot.
     fn with_ballot(&self, seen: Seen) -> Option<Seen>
         requires { self.now.last ≤ last_period }
-        ensures { result ≡ (if nat_le seen.ballots self.now.last then Some (one_more_ballot seen) else None) }
+        ensures { result ≡ (if nat_le seen.ballots self.now.last then Some
+            (one_more_ballot seen) else None) }
     {
         if seen.ballots > self.last {
             return None;
@@ -195,7 +197,8 @@ impl<'a> Plan<'a> {
         requires nodes { self.now.nodes ≤ most_nodes }
         requires last { self.now.last ≤ last_period }
         ensures { IfOk result (λ next. next ≡ behind_taken
-            (plan_of self.now) seen journals.now.batches (reply_of reply.now) (PlansExport node period)) }
+            (plan_of self.now) seen journals.now.batches (reply_of reply.now)
+            (PlansExport node period)) }
     {
         if !self.is_turn(seen, node, period) {
             return Ok(None);
@@ -220,7 +223,8 @@ impl<'a> Plan<'a> {
         requires last { self.now.last ≤ last_period }
         requires whole { HasWholeLines event.now }
         ensures { IfOk result (λ next. next ≡ behind
-            (plan_of self.now) seen journals.now.batches (reply_of reply.now) (planned_of event.now)) }
+            (plan_of self.now) seen journals.now.batches (reply_of reply.now)
+            (planned_of event.now)) }
     {
         if !self.is_good(reply) {
             return Ok(None);

@@ -19,7 +19,8 @@ pub(crate) fn put_ahead_of(
     event: &Event,
 ) -> Result<(), AllocError>
     ensures said { (before : List Batch) → AreLatest latest.old before → OnOk result
-        (warned.new.items ≡ warned.old.items ++ ahead_of_all before (handed_in lines (event_of event.now))) }
+        (warned.new.items ≡ warned.old.items
+        ++ ahead_of_all before (handed_in lines (event_of event.now))) }
     ensures kept { (before : List Batch) → AreLatest latest.old before → OnOk result
         (AreLatest latest.new (with_journaled (handed_in lines (event_of event.now)) before)) }
 {

@@ -93,7 +93,8 @@ fn certified_text(
     batch_from: usize,
 ) -> Result<Vec<u8>, Stop>
     requires voters { 1 ≤ plan.now.voters }
-    requires nodes { (plan.now.nodes ≡ plan.now.voters + plan.now.observers) × (plan.now.nodes ≤ most_nodes) }
+    requires nodes { (plan.now.nodes ≡ plan.now.voters + plan.now.observers)
+        × (plan.now.nodes ≤ most_nodes) }
     requires last { plan.now.last ≤ last_period }
     requires agents { (1 ≤ agents) × (agents ≤ most_agents) }
     ensures { IfOk result (λ text. IsCertified (plan_of plan.now)
@@ -119,9 +120,11 @@ fn schedule_with(
 ) -> Result<Vec<u8>, WriteFault>
     requires request { IsRequest request }
     requires within { IsAskedWithin asked.agents asked.last }
-    requires read { IsReadInput input.now sheet.now issuer.now (map offered_of batches.now) closes.now }
+    requires read { IsReadInput input.now sheet.now issuer.now
+        (map offered_of batches.now) closes.now }
     requires asked { IsAskedBy sheet.now.base (map offered_of batches.now) asked.agents asked.last }
-    ensures schedule { IfOk result (λ text. IsScheduleOf request (Some input.now) input.now text.items) }
+    ensures schedule { IfOk result
+        (λ text. IsScheduleOf request (Some input.now) input.now text.items) }
     ensures fault { IfErr result IsUncertain }
 {
     let through = asked_for(request.through, asked.last);
@@ -153,9 +156,11 @@ fn schedule_of(
 ) -> Result<Vec<u8>, WriteFault>
     requires request { IsRequest request }
     requires given { rate_input_in input.now
-        ≡ Ok (record { sheet = given.sheet; issuer = given.issuer; batch = drop given.batch_from input.now }) }
+        ≡ Ok (record { sheet = given.sheet; issuer = given.issuer; batch = drop given.batch_from
+        input.now }) }
     requires within { given.batch_from ≤ length input.now }
-    ensures schedule { IfOk result (λ text. IsScheduleOf request (Some input.now) input.now text.items) }
+    ensures schedule { IfOk result
+        (λ text. IsScheduleOf request (Some input.now) input.now text.items) }
     ensures fault { IfErr result (IsFaultOf input.now) }
 {
     let RateInput {
@@ -189,7 +194,8 @@ fn schedule_of(
 /// The schedule for an input.
 fn schedule_for_input(alloc: Global, request: Request, input: &[u8]) -> Result<Vec<u8>, WriteFault>
     requires request { IsRequest request }
-    ensures schedule { IfOk result (λ text. IsScheduleOf request (Some input.now) input.now text.items) }
+    ensures schedule { IfOk result
+        (λ text. IsScheduleOf request (Some input.now) input.now text.items) }
     ensures fault { IfErr result (IsFaultOf input.now) }
 {
     match rate_input(alloc, input) {
@@ -206,7 +212,8 @@ fn input_of<R: Source>(alloc: Global, reader: &mut R) -> Result<Vec<u8>, WriteFa
     ensures section { (fault : ScheduleFault) → result ≡ Err (WriteFault.Section fault)
         → (fault ≡ ScheduleFault.Refused ScheduleCode.TooLong 1)
         × IfSome (R.remaining reader.old) (λ input. most_input_bytes < length input) }
-    ensures taken { ConsumesAtMost (most_input_bytes + 1) (R.remaining reader.old) (R.remaining reader.new) }
+    ensures taken { ConsumesAtMost (most_input_bytes + 1) (R.remaining reader.old)
+        (R.remaining reader.new) }
     ensures count { R.failed_calls reader.new
         ≡ count_after (tells_of_reader result) (R.failed_calls reader.old) }
     ensures no_write { result ≢ Err WriteFault.Write }
@@ -223,8 +230,10 @@ fn input_of<R: Source>(alloc: Global, reader: &mut R) -> Result<Vec<u8>, WriteFa
 
 /// Writes a text.
 fn write_text<W: Sink>(text: &[u8], writer: &mut W) -> Result<(), WriteFault>
-    ensures written { OnOk result (Appends (W.contents writer.old) (W.contents writer.new) text.now) }
-    ensures prefix { OnErr result (AppendsPrefix (W.contents writer.old) (W.contents writer.new) text.now) }
+    ensures written { OnOk result
+        (Appends (W.contents writer.old) (W.contents writer.new) text.now) }
+    ensures prefix { OnErr result
+        (AppendsPrefix (W.contents writer.old) (W.contents writer.new) text.now) }
     ensures fault { IfErr result (λ fault. fault ≡ WriteFault.Write) }
     ensures writes { W.failed_calls writer.new
         ≡ count_after (tells_of_writer result) (W.failed_calls writer.old) }
@@ -272,7 +281,8 @@ pub fn schedule_text<R: Source, W: Sink>(
         → IfSome (R.remaining reader.old) IsTaken }
     ensures plain_memory { result ≢ Err (WriteFault.Section ScheduleFault.OutOfMemory) }
     ensures untouched { IfErr result (λ fault. fault ≢ WriteFault.Write → writer.new ≡ writer.old) }
-    ensures read { ConsumesAtMost (most_input_bytes + 1) (R.remaining reader.old) (R.remaining reader.new) }
+    ensures read { ConsumesAtMost (most_input_bytes + 1) (R.remaining reader.old)
+        (R.remaining reader.new) }
 
     // With Ok nothing is left to read.
     ensures end { OnOk result (IsAtEnd (R.remaining reader.new)) }

@@ -56,7 +56,8 @@ fn nothing_behind(unread: &Unread<'_>) -> Result<(), ScheduleFault>
 #[tactic(auto, unfolding(crate::specs::Changes::two_sheets_in))]
 pub(crate) fn two_sheets(alloc: Global, text: &[u8]) -> Result<(Sheet, Sheet), ScheduleFault>
     ensures taken { IfOk result (λ both. two_sheets_in text.now ≡ Ok (both.0, both.1)) }
-    ensures refused { IfErr result (λ fault. fault ≢ ScheduleFault.OutOfMemory → two_sheets_in text.now ≡ Err fault) }
+    ensures refused { IfErr result
+        (λ fault. fault ≢ ScheduleFault.OutOfMemory → two_sheets_in text.now ≡ Err fault) }
     ensures rules { IfOk result (λ both. IsSheet both.0 × IsSheet both.1) }
 {
     let unread = Unread::whole(text)?;
@@ -141,10 +142,12 @@ fn write_changes<W: Sink>(
     ensures said { IfOk result (λ stays. (IsTrue stays ↔ StaysBefore asked.before old.now new.now)
         × (text : List ℕ) × SaysAll asked.all old.now new.now text
         × Appends (W.contents writer.old) (W.contents writer.new) text) }
-    ensures prefix { result ≡ Err PlayFault.Write → (text : List ℕ) × SaysAll asked.all old.now new.now text
+    ensures prefix { result ≡ Err PlayFault.Write → (text : List ℕ)
+        × SaysAll asked.all old.now new.now text
         × AppendsPrefix (W.contents writer.old) (W.contents writer.new) text }
     ensures untouched { IfErr result (λ fault. fault ≢ PlayFault.Write → writer.new ≡ writer.old) }
-    ensures others { (result ≢ Err PlayFault.Read) × ((fault : ScheduleFault) → result ≢ Err (PlayFault.Schedule fault))
+    ensures others { (result ≢ Err PlayFault.Read)
+        × ((fault : ScheduleFault) → result ≢ Err (PlayFault.Schedule fault))
         × ((refusal : Refusal) → result ≢ Err (PlayFault.Refused refusal)) }
     ensures writes { W.failed_calls writer.new
         ≡ count_after (tells_of_writer result) (W.failed_calls writer.old) }
@@ -176,7 +179,8 @@ fn compare_input<W: Sink>(
     ensures section { (fault : ScheduleFault) → result ≡ Err (PlayFault.Schedule fault)
         → (fault ≢ ScheduleFault.OutOfMemory) × (two_sheets_in input.now ≡ Err fault) }
     ensures untouched { IfErr result (λ fault. fault ≢ PlayFault.Write → writer.new ≡ writer.old) }
-    ensures others { (result ≢ Err PlayFault.Read) × ((refusal : Refusal) → result ≢ Err (PlayFault.Refused refusal)) }
+    ensures others { (result ≢ Err PlayFault.Read)
+        × ((refusal : Refusal) → result ≢ Err (PlayFault.Refused refusal)) }
     ensures writes { W.failed_calls writer.new
         ≡ count_after (tells_of_writer result) (W.failed_calls writer.old) }
 {
@@ -201,25 +205,33 @@ pub fn sheets_text<R: Source, W: Sink>(
 ) -> Result<(), SheetsFault>
     // With Ok just what is said of the two sheets was written, and all stays that was asked for.
     ensures said { OnOk result ((old new : model.Sheet) × (text : List ℕ)
-        × IsSaidOf (R.remaining reader.old) asked.all old new text × StaysBefore asked.before old new
+        × IsSaidOf (R.remaining reader.old) asked.all old new text
+        × StaysBefore asked.before old new
         × Appends (W.contents writer.old) (W.contents writer.new) text) }
 
     // With `Unlike` it was written too, and not all stays.
     ensures unlike { result ≡ Err SheetsFault.Unlike
-        → (old new : model.Sheet) × (text : List ℕ) × IsSaidOf (R.remaining reader.old) asked.all old new text
-        × (¬ StaysBefore asked.before old new) × Appends (W.contents writer.old) (W.contents writer.new) text }
+        → (old new : model.Sheet) × (text : List ℕ)
+        × IsSaidOf (R.remaining reader.old) asked.all old new text
+        × (¬ StaysBefore asked.before old new)
+        × Appends (W.contents writer.old) (W.contents writer.new) text }
 
     // After `Write` a prefix of it was, and never all of it.
     ensures prefix { result ≡ Err (SheetsFault.Input PlayFault.Write)
-        → (old new : model.Sheet) × (text : List ℕ) × IsSaidOf (R.remaining reader.old) asked.all old new text
+        → (old new : model.Sheet) × (text : List ℕ)
+        × IsSaidOf (R.remaining reader.old) asked.all old new text
         × AppendsPrefix (W.contents writer.old) (W.contents writer.new) text }
-    ensures section { (fault : ScheduleFault) → result ≡ Err (SheetsFault.Input (PlayFault.Schedule fault))
+    ensures section { (fault : ScheduleFault)
+        → result ≡ Err (SheetsFault.Input (PlayFault.Schedule fault))
         → IfSome (R.remaining reader.old) (λ input. two_sheets_in input ≡ Err fault) }
-    ensures plain_memory { result ≢ Err (SheetsFault.Input (PlayFault.Schedule ScheduleFault.OutOfMemory)) }
-    ensures unrefused { (refusal : Refusal) → result ≢ Err (SheetsFault.Input (PlayFault.Refused refusal)) }
+    ensures plain_memory { result
+        ≢ Err (SheetsFault.Input (PlayFault.Schedule ScheduleFault.OutOfMemory)) }
+    ensures unrefused { (refusal : Refusal)
+        → result ≢ Err (SheetsFault.Input (PlayFault.Refused refusal)) }
     ensures untouched { IfErr result (λ fault. fault ≢ SheetsFault.Unlike
         → fault ≢ SheetsFault.Input PlayFault.Write → writer.new ≡ writer.old) }
-    ensures read { ConsumesAtMost (most_input_bytes + 1) (R.remaining reader.old) (R.remaining reader.new) }
+    ensures read { ConsumesAtMost (most_input_bytes + 1) (R.remaining reader.old)
+        (R.remaining reader.new) }
 
     // With Ok and with `Unlike` nothing is left to read.
     ensures end { OnOk result (IsAtEnd (R.remaining reader.new)) }

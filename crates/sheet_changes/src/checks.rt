@@ -26,7 +26,8 @@ use std::alloc::{AllocError, Global};
 /// The first fault of the two sections and of what stands behind them, if there is one.
 fn take_sheets(alloc: Global, text: &[u8]) -> Result<(), ScheduleFault>
     ensures taken { OnOk result (IsOk (two_sheets_in text.now)) }
-    ensures refused { IfErr result (λ fault. fault ≢ ScheduleFault.OutOfMemory → two_sheets_in text.now ≡ Err fault) }
+    ensures refused { IfErr result
+        (λ fault. fault ≢ ScheduleFault.OutOfMemory → two_sheets_in text.now ≡ Err fault) }
 {
     match two_sheets(alloc, text) {
         Ok((_old, _new)) => Ok(()),
@@ -41,7 +42,8 @@ fn put_unknown(
     old: &Unread<'_>,
     new: &Unread<'_>,
 ) -> Result<(), AllocError>
-    ensures { OnOk result (told.new.items ≡ told.old.items ++ (unknown_from old.now ++ unknown_from new.now)) }
+    ensures { OnOk result (told.new.items
+        ≡ told.old.items ++ (unknown_from old.now ++ unknown_from new.now)) }
 {
     put_unknown_keys(alloc, told, old)?;
     put_unknown_keys(alloc, told, new)
@@ -130,7 +132,8 @@ pub fn check_two_sheets<R: Source, W: Sink>(
     ensures untouched { IfErr result (λ fault. fault ≢ PlayFault.Write → writer.new ≡ writer.old) }
     ensures no_section { (fault : ScheduleFault) → result ≢ Err (PlayFault.Schedule fault) }
     ensures no_refusal { (refusal : Refusal) → result ≢ Err (PlayFault.Refused refusal) }
-    ensures read { ConsumesAtMost (most_input_bytes + 1) (R.remaining reader.old) (R.remaining reader.new) }
+    ensures read { ConsumesAtMost (most_input_bytes + 1) (R.remaining reader.old)
+        (R.remaining reader.new) }
 
     // Where nothing is wrong, nothing is left to read.
     ensures end { result ≡ Ok 0 → IsAtEnd (R.remaining reader.new) }

@@ -109,7 +109,8 @@ pub(crate) fn put_changed(
     new: &[u8],
 ) -> Result<(), AllocError>
     ensures { OnOk result (text.new.items
-        ≡ text.old.items ++ changed (map (λ part. part.now) named.now ++ key.now ∷ []) old.now new.now) }
+        ≡ text.old.items ++ changed
+        (map (λ part. part.now) named.now ++ key.now ∷ []) old.now new.now) }
 {
     if old == new {
         return Ok(());
@@ -143,7 +144,8 @@ fn put_key<R: Keyed>(
 ) -> Result<(), AllocError>
     ensures { OnOk result (text.new.items
         ≡ text.old.items ++ changed (map (λ part. part.now) named.now ++ key_name key ∷ [])
-        (part (R.said key) (option_copied old.entry)) (part (R.said key) (option_copied new.entry))) }
+        (part (R.said key) (option_copied old.entry))
+        (part (R.said key) (option_copied new.entry))) }
 {
     let before = said_of(alloc, old, key)?;
     let after = said_of(alloc, new, key)?;

@@ -34,10 +34,13 @@ pub fn listed()
 /// Where all stays that was asked for before a day, the file of an export, of a period that ends by then, is the same
 /// bytes under the new sheet.
 pub fn closed_months()
-    ensures files { (voters observers agents : ℕ) (old new : Sheet) (issuer : Issuer) (events : List Event) (day : ℤ)
+    ensures files { (voters observers agents : ℕ) (old new : Sheet) (issuer : Issuer)
+        (events : List Event) (day : ℤ)
         → StaysBefore (Some day) old new
-        → (s : Snapshot) → Contains (play (opening voters observers agents old issuer) events).0 (Exported s)
-        → period_end old.base s.period ≤ℤ day_start day → file_of (record s { sheet = new }) ≡ file_of s }
+        → (s : Snapshot) → Contains (play (opening voters observers agents old issuer) events).0
+        (Exported s)
+        → period_end old.base s.period ≤ℤ day_start day
+        → file_of (record s { sheet = new }) ≡ file_of s }
 {
     sheet_laws::laws::months();
 }

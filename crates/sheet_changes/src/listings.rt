@@ -37,7 +37,8 @@ fn put_price(
     at: &(&[u8], Day),
 ) -> Result<(), AllocError>
     ensures { OnOk result ((date : List ℕ) × IsDayText date at.now.1
-        × (text.new.items ≡ text.old.items ++ price_lines old.now new.now (day_of_pair at.now) date)) }
+        × (text.new.items ≡ text.old.items
+        ++ price_lines old.now new.now (day_of_pair at.now) date)) }
 {
     let (sku, day) = *at;
     let date = day_text(day);
@@ -59,7 +60,8 @@ fn put_prices(
     new: &Sheet,
     days: &[(&[u8], Day)],
 ) -> Result<(), AllocError>
-    ensures { OnOk result ((prices : List ℕ) × ListsPrices old.now new.now (map day_of_pair days.now) prices
+    ensures { OnOk result ((prices : List ℕ)
+        × ListsPrices old.now new.now (map day_of_pair days.now) prices
         × (text.new.items ≡ text.old.items ++ prices)) }
 {
     for at in days {
@@ -76,7 +78,8 @@ fn put_commitment(
     new: &Sheet,
     id: &[u8],
 ) -> Result<(), AllocError>
-    ensures { OnOk result (text.new.items ≡ text.old.items ++ commitment_lines old.now new.now id.now) }
+    ensures { OnOk result (text.new.items
+        ≡ text.old.items ++ commitment_lines old.now new.now id.now) }
 {
     put_keys(
         alloc,
@@ -114,7 +117,8 @@ fn put_name(
 ) -> Result<(), AllocError>
     ensures { OnOk result (text.new.items ≡ text.old.items
         ++ changed (codes "region" ∷ id.now ∷ [])
-        (part (λ name. name) (option_copied old.entry)) (part (λ name. name) (option_copied new.entry))) }
+        (part (λ name. name) (option_copied old.entry))
+        (part (λ name. name) (option_copied new.entry))) }
 {
     let had = match old {
         Some(name) => name,

@@ -66,7 +66,8 @@ pub(crate) fn commitment_ids<'a>(
     new: &'a Sheet,
 ) -> Result<Vec<&'a [u8]>, AllocError>
     ensures { IfOk result (λ ids.
-        AreSorted (slice_cmp nat_cmp) (commitment_ids old.now new.now) (map (λ id. id.now) ids.items)) }
+        AreSorted (slice_cmp nat_cmp) (commitment_ids old.now new.now)
+        (map (λ id. id.now) ids.items)) }
 {
     let mut ids = Vec::new(alloc);
     add_commitments(&mut ids, old.commitments())?;

@@ -54,7 +54,8 @@ fn put_renamed(
 
 /// Appends the lines of those regions that the old sheet lacks.
 fn put_added(text: &mut Vec<u8>, regions: &[Region], old: &Sheet) -> Result<(), AllocError>
-    ensures { OnOk result (text.new.items ≡ text.old.items ++ lines_of (is_added old.now) regions.now) }
+    ensures { OnOk result (text.new.items
+        ≡ text.old.items ++ lines_of (is_added old.now) regions.now) }
 {
     for region in regions {
         if is_added(old, region) {
@@ -67,7 +68,8 @@ fn put_added(text: &mut Vec<u8>, regions: &[Region], old: &Sheet) -> Result<(), 
 /// Appends a line for each region that the two sheets do not name alike: those of the old sheet in its order, then
 /// those that the new one alone has.
 pub(crate) fn put_regions(text: &mut Vec<u8>, old: &Sheet, new: &Sheet) -> Result<(), AllocError>
-    ensures { OnOk result (text.new.items ≡ text.old.items ++ region_lines (unlike_regions old.now new.now)) }
+    ensures { OnOk result (text.new.items
+        ≡ text.old.items ++ region_lines (unlike_regions old.now new.now)) }
 {
     put_renamed(text, old.regions(), old, new)?;
     put_added(text, new.regions(), old)

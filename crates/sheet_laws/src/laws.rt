@@ -43,12 +43,14 @@ pub fn runs()
     // refused so under the new one if none is under the old.
     ensures priced { (voters observers agents : ℕ) (old new : Sheet) (issuer : Issuer)
         (events : List Event) → new.base ≡ old.base →
-        PricesAllOf old new → AreAllPriced (play (opening voters observers agents old issuer) events).0 →
+        PricesAllOf old new → AreAllPriced
+        (play (opening voters observers agents old issuer) events).0 →
         AreAllPriced (play (opening voters observers agents new issuer) events).0 }
 
     // Without the events that were refused so a run leads to the same world, and its replies are the others.
     ensures left_out { (w : World) (events : List Event) →
-        play w (events_kept events (play w events).0) ≡ (replies_kept (play w events).0, (play w events).1) }
+        play w (events_kept events (play w events).0)
+        ≡ (replies_kept (play w events).0, (play w events).1) }
 {}
 
 /// The files of months that end by a day stay as they were under a sheet that goes on from that day, if it names the
@@ -57,13 +59,16 @@ pub fn months()
     // The file of an export of such a month is the same bytes under the new sheet.
     ensures files { (voters observers agents : ℕ) (old new : Sheet) (issuer : Issuer)
         (events : List Event) (day : ℤ) → GoesOnFrom day old new →
-        (s : Snapshot) → Contains (play (opening voters observers agents old issuer) events).0 (Exported s) →
+        (s : Snapshot) → Contains (play (opening voters observers agents old issuer) events).0
+        (Exported s) →
         period_end old.base s.period ≤ℤ day_start day → NamesAllAlike old new s.batches →
         file_of (record s { sheet = new }) ≡ file_of s }
 
     // Exports have their regions named alike where all batches that were journaled have them so.
-    ensures named { (voters observers agents : ℕ) (old new : Sheet) (issuer : Issuer) (events : List Event) →
-        NamesAllAlike old new (play (opening voters observers agents old issuer) events).1.journals →
+    ensures named { (voters observers agents : ℕ) (old new : Sheet) (issuer : Issuer)
+        (events : List Event) →
+        NamesAllAlike old new (play
+        (opening voters observers agents old issuer) events).1.journals →
         (s : Snapshot) → Contains (play (opening voters observers agents old issuer) events).0
         (Exported s) → NamesAllAlike old new s.batches }
 
@@ -79,7 +84,8 @@ pub fn months()
         (Exported s) → s.period ≡ period → NamesAllAlike old new s.batches) →
         (shown : List ℕ) →
         Shows (transcript (play (opening voters observers agents old issuer) events).0) period shown
-        ↔ Shows (transcript (play (opening voters observers agents new issuer) events).0) period shown }
+        ↔ Shows (transcript (play
+        (opening voters observers agents new issuer) events).0) period shown }
     ensures same { (voters observers agents : ℕ) (old new : Sheet) (issuer : Issuer)
         (events : List Event) (day : ℤ) → IsSheet old → IsSheet new → IsIssuer issuer
         → GoesOnFrom day old new →
@@ -90,7 +96,8 @@ pub fn months()
         (Exported s) → s.period ≡ period → NamesAllAlike old new s.batches) →
         (one two : List ℕ) →
         Shows (transcript (play (opening voters observers agents old issuer) events).0) period one →
-        Shows (transcript (play (opening voters observers agents new issuer) events).0) period two → one ≡ two }
+        Shows (transcript (play (opening voters observers agents new issuer) events).0) period two
+        → one ≡ two }
 
     // Then the transcripts are the same bytes, if all that is exported is of such months.
     ensures transcripts { (voters observers agents : ℕ) (old new : Sheet) (issuer : Issuer)
@@ -113,7 +120,8 @@ pub fn months()
         ((s : Snapshot) → Contains (play (opening voters observers agents old issuer) events).0
         (Exported s) → s.period ≡ period → NamesAllAlike old new s.batches) →
         (shown : List ℕ) →
-        Shows (transcript (play (opening voters observers agents old issuer) events).0) period shown →
+        Shows (transcript
+        (play (opening voters observers agents old issuer) events).0) period shown →
         Shows (transcript (play (opening voters observers agents new issuer)
         (events_kept events (play (opening voters observers agents old issuer) events).0
         ++ more)).0) period shown }
@@ -146,7 +154,8 @@ pub fn rows()
     ensures all { (day : ℤ) (old new : Sheet) → GoesOnFrom day old new
         → (issuer : Issuer) (h : Holding) (period : ℕ) (from to : Cut) →
         MeetsJournalRules old (up_to to h) →
-        ((at : Position) (r : Reading) → reading_at (up_to to h) at ≡ Some r → IsPricedBefore day r) →
+        ((at : Position) (r : Reading) → reading_at (up_to to h) at ≡ Some r
+        → IsPricedBefore day r) →
         NamesAllAlike old new (up_to to h) →
         model.rows new issuer h period from to ≡ model.rows old issuer h period from to }
 {}
@@ -160,7 +169,8 @@ pub fn rated()
         journaled_in old issuer text ≢ Err Unpriced → journaled_in new issuer text ≢ Err Unpriced →
         journaled_in new issuer text ≡ journaled_in old issuer text }
     ensures priced { (old new : Sheet) (issuer : Issuer) (text : List ℕ) → PricesAllOf old new →
-        journaled_in old issuer text ≢ Err Unpriced → journaled_in new issuer text ≡ journaled_in old issuer text }
+        journaled_in old issuer text ≢ Err Unpriced
+        → journaled_in new issuer text ≡ journaled_in old issuer text }
     ensures files { (day : ℤ) (old new : Sheet) → GoesOnFrom day old new
         → (issuer : Issuer) (text : List ℕ) (period : ℕ) →
         journaled_in old issuer text ≢ Err Unpriced → journaled_in new issuer text ≢ Err Unpriced →

@@ -221,7 +221,8 @@ fn tables_in<'a>(alloc: Global, key: Key, values: &'a Array) -> Result<Vec<&'a T
 /// The tables of an array of at most 10,000 tables.
 #[tactic(auto, unfolding(crate::specs::Keys::rows_in))]
 fn rows_in<'a>(alloc: Global, key: Key, value: &'a Value) -> Result<Vec<&'a Table>, KeyFault>
-    ensures gives { Gives (λ rows. map (λ t. table_view t.now) rows.items) result (rows_in key (view value.now)) }
+    ensures gives { Gives (λ rows. map (λ t. table_view t.now) rows.items) result
+        (rows_in key (view value.now)) }
     ensures few { IfOk result (λ rows. length rows.items ≤ most_sheet_rows) }
 {
     let Some(values) = value.as_array() else {

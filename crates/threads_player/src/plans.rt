@@ -47,7 +47,8 @@ fn plan_with(alloc: Global, size: Size, sheet: Sheet) -> Result<Plan, AllocError
 pub(crate) fn plan(alloc: Global, size: Size) -> Result<Plan, ThreadsFault>
     ensures voters { IfOk result (λ plan. (plan_of plan).voters ≡ size.nodes) }
     ensures observers { IfOk result (λ plan. (plan_of plan).observers ≡ 0) }
-    ensures sheet { IfOk result (λ plan. sheet_of_text sample_sheet_text ≡ Ok (plan_of plan).sheet) }
+    ensures sheet { IfOk result
+        (λ plan. sheet_of_text sample_sheet_text ≡ Ok (plan_of plan).sheet) }
     ensures issuer { IfOk result (λ plan. (plan_of plan).issuer ≡ sample_issuer) }
     ensures journals { IfOk result (λ plan. (plan_of plan).journals ≡ journals_of size) }
     ensures periods { IfOk result (λ plan. (plan_of plan).periods ≡ size.periods) }

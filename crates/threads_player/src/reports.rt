@@ -22,7 +22,8 @@ fn lines_in(done: &Done) -> usize
 
 /// How many lines the first file of a period has in a log, if there is one: whatever comes behind, it is the first.
 fn first_lines(done: &[Done], period: u16) -> Option<usize>
-    ensures { MatchOption result ((rest : List Told) → lines_of period (done.now ++ rest) ≡ lines_of period rest)
+    ensures { MatchOption result
+        ((rest : List Told) → lines_of period (done.now ++ rest) ≡ lines_of period rest)
         (λ lines. (rest : List Told) → lines_of period (done.now ++ rest) ≡ lines) }
 {
     for one in done {
@@ -76,7 +77,8 @@ fn receipts_in(logs: &[Log]) -> u128
 
 /// Appends what is told of a period.
 fn put_period(text: &mut Vec<u8>, logs: &[Log], period: u16) -> Result<(), AllocError>
-    ensures { OnOk result (text.new.items ≡ text.old.items ++ period_text (told_in (map log_of logs.now)) period) }
+    ensures { OnOk result (text.new.items
+        ≡ text.old.items ++ period_text (told_in (map log_of logs.now)) period) }
 {
     put_numbered(text, b"period ", u128::from(period))?;
     put_numbered(text, b" lines ", lines_of(logs, period) as u128)?;
@@ -88,7 +90,8 @@ fn put_period(text: &mut Vec<u8>, logs: &[Log], period: u16) -> Result<(), Alloc
 /// Appends what is told of each period below that one.
 fn put_periods(text: &mut Vec<u8>, logs: &[Log], periods: u16) -> Result<(), AllocError>
     ensures { OnOk result (text.new.items
-        ≡ text.old.items ++ flat_map (period_text (told_in (map log_of logs.now))) (range_with_len 0 periods)) }
+        ≡ text.old.items ++ flat_map (period_text (told_in (map log_of logs.now)))
+        (range_with_len 0 periods)) }
 {
     for period in 0..periods {
         put_period(text, logs, period)?;

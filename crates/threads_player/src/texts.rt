@@ -52,7 +52,8 @@ pub fn threads_text<R: Threads + Wait + Sync, W: Sink>(
     ensures prefix { result ≡ Err ThreadsFault.Write → (run : ModelRun) × IsRunOf size run
         × AppendsPrefix (W.contents writer.old) (W.contents writer.new) (report_text run) }
     ensures refused { result ≡ Err ThreadsFault.Refused → IsSheetRefused }
-    ensures untouched { IfErr result (λ fault. fault ≢ ThreadsFault.Write → writer.new ≡ writer.old) }
+    ensures untouched { IfErr result
+        (λ fault. fault ≢ ThreadsFault.Write → writer.new ≡ writer.old) }
 
     // `Write` comes of one failed call, and no other call fails.
     ensures writes { W.failed_calls writer.new

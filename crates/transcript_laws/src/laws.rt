@@ -37,19 +37,22 @@ pub fn a_longer_transcript_shows_the_same_files()
         (period : ℕ) (shown : List ℕ)
         → Shows (transcript (play
         (opening voters observers agents sheet issuer) events).0) period shown →
-        Shows (transcript (play (opening voters observers agents sheet issuer) (events ++ more)).0) period shown }
+        Shows (transcript (play (opening voters observers agents sheet issuer)
+        (events ++ more)).0) period shown }
     ensures torn { (voters observers agents : ℕ) (sheet : Sheet) (issuer : Issuer)
         (events : List Event) → IsSheet sheet → IsIssuer issuer →
         (front rest : List ℕ) → transcript
         (play (opening voters observers agents sheet issuer) events).0 ≡ front ++ rest →
         (period : ℕ) (shown : List ℕ) → Shows front period shown →
-        Shows (transcript (play (opening voters observers agents sheet issuer) events).0) period shown }
+        Shows (transcript
+        (play (opening voters observers agents sheet issuer) events).0) period shown }
     ensures whole_lines { (voters observers agents : ℕ) (sheet : Sheet) (issuer : Issuer)
         (events : List Event) → IsSheet sheet → IsIssuer issuer →
         (front rest : List ℕ) → transcript
         (play (opening voters observers agents sheet issuer) events).0 ≡ front ++ rest →
         (period : ℕ) (shown : List ℕ) → Shows (lines_text (lines_in front).lines) period shown →
-        Shows (transcript (play (opening voters observers agents sheet issuer) events).0) period shown }
+        Shows (transcript
+        (play (opening voters observers agents sheet issuer) events).0) period shown }
 {}
 
 /// The first file of a period, cut out of a transcript or of any prefix of it, is the period's file. Where only a part
@@ -60,7 +63,8 @@ pub fn what_is_cut_out_is_the_periods_file()
         (events : List Event) (text : List ℕ) → IsSheet sheet → IsIssuer issuer →
         (holds : HoldsOfBytes voters observers agents sheet issuer events text)
         → (front rest : List ℕ) → text ≡ front ++ rest →
-        (period : ℕ) (shown : List ℕ) → first_file period front ≡ WholeFile shown → IsPeriodsFile holds period shown }
+        (period : ℕ) (shown : List ℕ) → first_file period front ≡ WholeFile shown
+        → IsPeriodsFile holds period shown }
     ensures torn { (voters observers agents : ℕ) (sheet : Sheet) (issuer : Issuer)
         (events : List Event) (text : List ℕ) → IsSheet sheet → IsIssuer issuer →
         (holds : HoldsOfBytes voters observers agents sheet issuer events text)
