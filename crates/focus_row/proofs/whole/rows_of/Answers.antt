@@ -1,4 +1,4 @@
-use Rattle.std.proofs.Common.{sym, ◌∙◌}
+use Rattle.std.proofs.Common.{sym, ◌∙◌, rules}
 use Rattle.journal_rules.proofs.RuleLaws.{rules_met}
 use Rattle.focus_row.proofs.whole.rows_of.Goals as goal
 
@@ -27,3 +27,6 @@ returns-clause-memory c is = (
   rules_met c.args.store.now.batches c.args.to.now c.agents-agents.ensures.stored.is_holding (sym c.first_missing.ensures ∙ c.in_default.is) c.args.sheet.now
       (sym c.first_broken_up_to.ensures ∙ c.in_default-first_broken_up_to.is),
 )
+
+pub returns-clause-missing : goal.returns-clause-missing
+returns-clause-missing c = search rules

@@ -1,4 +1,4 @@
-use Rattle.std.proofs.Common.{length, ap, ◌∙◌, arith}
+use Rattle.std.proofs.Common.{length, ap, ◌∙◌, arith, rules}
 use Rattle.focus_row.proofs.walk.BatchRows.next_rows.Goals as goal
 
 -- the rows are none before the first of them is put
@@ -10,3 +10,6 @@ returns-clause-most c =
 -- what was put before memory was refused is taken out again
 pub returns-in_default-clause-empty : goal.returns-in_default-clause-empty
 returns-in_default-clause-empty c = cc
+
+pub returns-clause-rows : goal.returns-clause-rows
+returns-clause-rows c = search rules
