@@ -1,5 +1,5 @@
 -- One more line.
-use Rattle.std.proofs.Common.{◌++◌, ap, ◌∙◌, append_assoc}
+use Rattle.std.proofs.Common.{◌++◌, ap, ◌∙◌, append_assoc, rules}
 use Rattle.metering_model.specs.File.{row_text}
 use Rattle.focus_row.specs.Rows.{model_row}
 use Rattle.focus_csv.proofs.BeginningLaws.{on_err}
@@ -23,3 +23,6 @@ returns-in_err-set-clause-begins c = on_err c.from_residual.result (_, c.loop-i.
 
 pub returns-in_err-put-clause-begins : goal.returns-in_err-put-clause-begins
 returns-in_err-put-clause-begins c = on_err c.from_residual-in_err-put.result (_, c.in_err-put.ensures.kept ∙ c.loop-i.invariant.text)
+
+pub loop-i-init : goal.loop-i-init
+loop-i-init c = search rules

@@ -1,0 +1,6 @@
+-- Where it was.
+use Rattle.std.proofs.Common.{rules}
+use Rattle.focus_csv.proofs.texts.set_region.Goals as goal
+
+pub returns : goal.returns
+returns c = search rules
