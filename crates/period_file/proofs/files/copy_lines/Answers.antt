@@ -26,3 +26,6 @@ loop-lacking-preserved g c = record {
   short = rw c.copy_ahead.ensures.read c.in_ok-line_end.ensures.within;
   quiet = (search rules, search rules);
 }
+
+pub returns-clause-copied : goal.returns-clause-copied
+returns-clause-copied g c = search rules
