@@ -1,4 +1,4 @@
-use Rattle.std.proofs.Common.{◌≡◌, ◌++◌, ℕ, List, OnOk, refl, sym, ap, ◌∙◌, subst}
+use Rattle.std.proofs.Common.{◌≡◌, ◌++◌, ℕ, List, OnOk, refl, sym, ap, ◌∙◌, subst, rules}
 use Rattle.metering_model.specs.Batch.{Batch}
 use Rattle.metering_model.specs.Schedule.{PlansJournal, event_of, lines_text}
 use Rattle.metering_model.specs.Step.{step}
@@ -34,3 +34,6 @@ returns-clause-latest c = λ journaled latest.
     let same = counted_there c.args.line c.args.world.now (planned_of c.args.planned.now) _ _ _ c.in_ok-event.ensures c.in_ok-reply.ensures.ok in
     subst (λ (xs : List (ℕ × Batch)). OnOk c.put_ahead_of.result (AreLatest c.put_ahead_of.new.latest (with_counted xs journaled))) same
     (c.put_ahead_of.ensures.kept journaled latest)
+
+pub returns-clause-said : goal.returns-clause-said
+returns-clause-said c = search rules
