@@ -1,0 +1,2 @@
+mod WorkedPackets
+mod WorkedFaults

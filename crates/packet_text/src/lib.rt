@@ -1,0 +1,2 @@
+//! What nodes of a group send one another, as lines of text.
+#![tactic(auto)]
