@@ -1,2 +1,7 @@
+pub mod OptionSteps
+pub mod SentNumbers
+pub mod SentPackets
+pub mod PacketLaws
+pub mod PacketLengths
 mod WorkedPackets
 mod WorkedFaults
