@@ -3,5 +3,7 @@ pub mod SentNumbers
 pub mod SentPackets
 pub mod PacketLaws
 pub mod PacketLengths
+pub mod Fields
+pub mod Pieces
 mod WorkedPackets
 mod WorkedFaults

@@ -1,1 +1,2 @@
 pub mod PacketText
+pub mod Inner

@@ -2,3 +2,11 @@
 #![tactic(auto)]
 
 pub mod laws;
+mod numbers;
+mod packets;
+mod reading;
+mod writing;
+
+pub use packets::GroupPacket;
+pub use reading::read_packet;
+pub use writing::put_packet;

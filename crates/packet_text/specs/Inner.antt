@@ -1,0 +1,4 @@
+-- Words of private functions and proofs.
+pub mod Heads
+pub mod Pieces
+pub mod Unread

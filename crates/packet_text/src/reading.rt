@@ -1,0 +1,334 @@
+//! Packets, read from their text.
+
+ghost use Rattle.std.specs.Prelude.{◌≡◌, ℕ, ◌≤◌, List, [], ◌∷◌, length, None, Some, Ok, IfOk, IfSome, IsTrue, MatchOption, MatchResult};
+ghost use Rattle.std.specs.Arc.{arc_value};
+ghost use Rattle.std.specs.Option.{option_map};
+ghost use Rattle.std.specs.Result.{result_ok};
+ghost use Rattle.metering_model.specs.BatchReading.{batch_in, fields_in, whole_in};
+ghost use Rattle.metering_model.specs.Limits.{most_journal_lines};
+ghost use Rattle.batch_view.specs.Batches.{batch_of};
+ghost use Rattle.group_node.specs.Packets.{packet_of};
+ghost use Rattle.packet_text.specs.PacketText.{HasPacketText, accept_in, accepted_in, batch_packet_in, decided_in, is_group, line_packet_in, packet_in, prepare_in, promise_in, sent_cut_in, sent_vote_in, some_vote_in, word_packet_in};
+ghost use Rattle.packet_text.specs.Inner.Heads.{HasHead, HasNoHead};
+ghost use Rattle.packet_text.specs.Inner.Unread.{IfNoPacket};
+
+use crate::numbers::{count_fields, is_group, read_ballot, read_lines, read_node, read_period};
+use crate::packets::GroupPacket;
+use batch_view::{Offer, OwnedBatch};
+use byte_text::{Line, first_line, is_same, split_at_bar};
+use group_node::Packet;
+use paxos_ballot::Vote;
+use period_cut::Cut;
+use std::alloc::{AllocError, Global};
+use std::sync::Arc;
+
+/// A batch has no more bytes.
+const MOST_BATCH_BYTES: usize = 65_536;
+
+/// Why nothing is read.
+#[derive(Clone, Copy, Drop)]
+enum Unread {
+    /// The text is none of a packet.
+    NoPacket,
+    /// Out of memory.
+    NoMemory,
+}
+
+/// Two fields, and what stands behind them.
+#[derive(Clone, Copy)]
+struct Two<'a> {
+    first: &'a [u8],
+    second: &'a [u8],
+    rest: &'a [u8],
+}
+
+/// The first two fields, if others stand behind them.
+fn two_fields(fields: &[u8]) -> Option<Two<'_>>
+    ensures { MatchOption result
+        (length (fields_in fields.now) ≤ 2)
+        (λ two. fields_in fields.now ≡ two.first.now ∷ two.second.now ∷ fields_in two.rest.now) }
+{
+    let (first, rest) = split_at_bar(fields)?;
+    let (second, rest) = split_at_bar(rest)?;
+    Some(Two {
+        first,
+        second,
+        rest,
+    })
+}
+
+/// The cut of as many agents as there are fields.
+fn read_cut(alloc: Global, fields: &[u8]) -> Result<Arc<Cut>, Unread>
+    ensures { MatchResult result
+        (λ cut. sent_cut_in (fields_in fields.now) ≡ Some (arc_value cut))
+        (λ why. IfNoPacket why (sent_cut_in (fields_in fields.now) ≡ None)) }
+{
+    let Some(agents) = count_fields(fields) else {
+        return Err(Unread::NoPacket);
+    };
+    match Cut::read(alloc, fields, agents) {
+        Ok(Some(cut)) => match Arc::new(alloc, cut) {
+            Ok(cut) => Ok(cut),
+            Err(_) => Err(Unread::NoMemory),
+        },
+        Ok(None) => Err(Unread::NoPacket),
+        Err(_) => Err(Unread::NoMemory),
+    }
+}
+
+/// A vote from its ballot and its cut.
+fn read_some_vote(alloc: Global, ballot: &[u8], cut: &[u8]) -> Result<Vote, Unread>
+    ensures { MatchResult result
+        (λ vote. some_vote_in ballot.now (fields_in cut.now) ≡ Some vote)
+        (λ why. IfNoPacket why (some_vote_in ballot.now (fields_in cut.now) ≡ None)) }
+{
+    let ballot = read_ballot(ballot).ok_or(Unread::NoPacket)?;
+    let cut = read_cut(alloc, cut)?;
+    Ok(Vote { ballot, cut })
+}
+
+/// The vote that a promise tells, if it tells one.
+fn read_vote(alloc: Global, fields: &[u8]) -> Result<Option<Vote>, Unread>
+    ensures { MatchResult result
+        (λ vote. sent_vote_in (fields_in fields.now) ≡ Some vote)
+        (λ why. IfNoPacket why (sent_vote_in (fields_in fields.now) ≡ None)) }
+{
+    match split_at_bar(fields) {
+        Some((ballot, cut)) => match read_some_vote(alloc, ballot, cut) {
+            Ok(vote) => Ok(Some(vote)),
+            Err(why) => Err(why),
+        },
+        None if is_same(fields, b"0") => Ok(None),
+        None => Err(Unread::NoPacket),
+    }
+}
+
+/// A Prepare from its numbers.
+fn read_prepare(numbers: &[u8]) -> Option<Packet>
+    ensures { option_map packet_of result ≡ prepare_in (fields_in numbers.now) }
+{
+    let (period, ballot) = split_at_bar(numbers)?;
+    if split_at_bar(ballot).is_some() {
+        return None;
+    }
+    Some(Packet::Prepare {
+        period: read_period(period)?,
+        ballot: read_ballot(ballot)?,
+    })
+}
+
+/// A Promise from its numbers and its vote.
+fn read_promise(alloc: Global, numbers: &[u8]) -> Result<Packet, Unread>
+    ensures { MatchResult result
+        (λ packet. promise_in (fields_in numbers.now) ≡ Some (packet_of packet))
+        (λ why. IfNoPacket why (promise_in (fields_in numbers.now) ≡ None)) }
+{
+    let (from, rest) = split_at_bar(numbers).ok_or(Unread::NoPacket)?;
+    let two = two_fields(rest).ok_or(Unread::NoPacket)?;
+    let from = read_node(from).ok_or(Unread::NoPacket)?;
+    let period = read_period(two.first).ok_or(Unread::NoPacket)?;
+    let ballot = read_ballot(two.second).ok_or(Unread::NoPacket)?;
+    let vote = read_vote(alloc, two.rest)?;
+    Ok(Packet::Promise {
+        from,
+        period,
+        ballot,
+        vote,
+    })
+}
+
+/// An Accept from its numbers and its cut.
+fn read_accept(alloc: Global, numbers: &[u8]) -> Result<Packet, Unread>
+    ensures { MatchResult result
+        (λ packet. accept_in (fields_in numbers.now) ≡ Some (packet_of packet))
+        (λ why. IfNoPacket why (accept_in (fields_in numbers.now) ≡ None)) }
+{
+    let two = two_fields(numbers).ok_or(Unread::NoPacket)?;
+    let period = read_period(two.first).ok_or(Unread::NoPacket)?;
+    let ballot = read_ballot(two.second).ok_or(Unread::NoPacket)?;
+    let cut = read_cut(alloc, two.rest)?;
+    Ok(Packet::Accept {
+        period,
+        ballot,
+        cut,
+    })
+}
+
+/// An Accepted from its numbers and its cut.
+fn read_accepted(alloc: Global, numbers: &[u8]) -> Result<Packet, Unread>
+    ensures { MatchResult result
+        (λ packet. accepted_in (fields_in numbers.now) ≡ Some (packet_of packet))
+        (λ why. IfNoPacket why (accepted_in (fields_in numbers.now) ≡ None)) }
+{
+    let (from, rest) = split_at_bar(numbers).ok_or(Unread::NoPacket)?;
+    let two = two_fields(rest).ok_or(Unread::NoPacket)?;
+    let from = read_node(from).ok_or(Unread::NoPacket)?;
+    let period = read_period(two.first).ok_or(Unread::NoPacket)?;
+    let ballot = read_ballot(two.second).ok_or(Unread::NoPacket)?;
+    let cut = read_cut(alloc, two.rest)?;
+    Ok(Packet::Accepted {
+        from,
+        period,
+        ballot,
+        cut,
+    })
+}
+
+/// A Decided from its period and its cut.
+fn read_decided(alloc: Global, numbers: &[u8]) -> Result<Packet, Unread>
+    ensures { MatchResult result
+        (λ packet. decided_in (fields_in numbers.now) ≡ Some (packet_of packet))
+        (λ why. IfNoPacket why (decided_in (fields_in numbers.now) ≡ None)) }
+{
+    let (period, cut) = split_at_bar(numbers).ok_or(Unread::NoPacket)?;
+    let period = read_period(period).ok_or(Unread::NoPacket)?;
+    let cut = read_cut(alloc, cut)?;
+    Ok(Packet::Decided { period, cut })
+}
+
+/// The packet of that word that is one line.
+fn read_line_packet(alloc: Global, word: &[u8], numbers: &[u8]) -> Result<Packet, Unread>
+    ensures { MatchResult result
+        (λ packet. line_packet_in word.now (fields_in numbers.now) ≡ Some (packet_of packet))
+        (λ why. IfNoPacket why (line_packet_in word.now (fields_in numbers.now) ≡ None)) }
+{
+    if is_same(word, b"prepare") {
+        return read_prepare(numbers).ok_or(Unread::NoPacket);
+    }
+    if is_same(word, b"promise") {
+        return read_promise(alloc, numbers);
+    }
+    if is_same(word, b"accept") {
+        return read_accept(alloc, numbers);
+    }
+    if is_same(word, b"accepted") {
+        return read_accepted(alloc, numbers);
+    }
+    if is_same(word, b"decided") {
+        return read_decided(alloc, numbers);
+    }
+    Err(Unread::NoPacket)
+}
+
+/// The batch that these bytes are. They are copied once.
+fn read_batch(alloc: Global, bytes: &[u8]) -> Result<Arc<OwnedBatch>, Unread>
+    ensures { MatchResult result
+        (λ batch. (arc_value batch ≡ bytes.now) × (batch_in bytes.now ≡ Ok (batch_of bytes.now)))
+        (λ why. IfNoPacket why (result_ok (batch_in bytes.now) ≡ None)) }
+{
+    if bytes.len() > MOST_BATCH_BYTES {
+        return Err(Unread::NoPacket);
+    }
+    let Ok(copied) = Vec::from_slice(alloc, bytes) else {
+        return Err(Unread::NoMemory);
+    };
+    match Offer::read(alloc, copied) {
+        Ok(Offer::Good(batch)) => Ok(batch),
+        Ok(Offer::Bad(_)) => Err(Unread::NoPacket),
+        Err(_) => Err(Unread::NoMemory),
+    }
+}
+
+/// How many lines are said to follow, if nothing else is said.
+fn read_count(numbers: &[u8]) -> Option<u16>
+    ensures { MatchOption result
+        ((below : List ℕ) → batch_packet_in (fields_in numbers.now) below ≡ None)
+        (λ lines. (fields_in numbers.now ≡ numbers.now ∷ []) × (whole_in 1 most_journal_lines numbers.now ≡ Some lines)) }
+{
+    if split_at_bar(numbers).is_some() {
+        return None;
+    }
+    read_lines(numbers)
+}
+
+/// The batch that stands below its line, which says how many lines it has.
+fn read_batch_packet(alloc: Global, numbers: &[u8], below: &[u8]) -> Result<Packet, Unread>
+    ensures { MatchResult result
+        (λ packet. batch_packet_in (fields_in numbers.now) below.now ≡ Some (packet_of packet))
+        (λ why. IfNoPacket why (batch_packet_in (fields_in numbers.now) below.now ≡ None)) }
+{
+    let lines = read_count(numbers).ok_or(Unread::NoPacket)?;
+    let batch = read_batch(alloc, below)?;
+    if lines != 1 + batch.view().count() {
+        return Err(Unread::NoPacket);
+    }
+    Ok(Packet::Batch(batch))
+}
+
+/// The packet of that word, with this below its line.
+fn read_word_packet(
+    alloc: Global,
+    word: &[u8],
+    numbers: &[u8],
+    below: &[u8],
+) -> Result<Packet, Unread>
+    ensures { MatchResult result
+        (λ packet. word_packet_in word.now (fields_in numbers.now) below.now ≡ Some (packet_of packet))
+        (λ why. IfNoPacket why (word_packet_in word.now (fields_in numbers.now) below.now ≡ None)) }
+{
+    if is_same(word, b"batch") {
+        return read_batch_packet(alloc, numbers, below);
+    }
+    if !below.is_empty() {
+        return Err(Unread::NoPacket);
+    }
+    read_line_packet(alloc, word, numbers)
+}
+
+/// The group's name, the packet's word, and its numbers.
+#[derive(Clone, Copy)]
+struct Head<'a> {
+    name: &'a [u8],
+    word: &'a [u8],
+    numbers: &'a [u8],
+}
+
+/// The head of a packet's line, if it is of the format, and the name may be a group's.
+fn read_head(line: &[u8]) -> Option<Head<'_>>
+    ensures { MatchOption result
+        (HasNoHead (fields_in line.now))
+        (λ head. HasHead (fields_in line.now) head.name.now head.word.now (fields_in head.numbers.now)) }
+{
+    let (version, rest) = split_at_bar(line)?;
+    if !is_same(version, b"P1") {
+        return None;
+    }
+    let two = two_fields(rest)?;
+    if !is_group(two.first) {
+        return None;
+    }
+    Some(Head {
+        name: two.first,
+        word: two.second,
+        numbers: two.rest,
+    })
+}
+
+/// The name of a group, copied.
+fn copied(name: &[u8]) -> Line
+    requires { IsTrue (is_group name.now) }
+    ensures { result ≡ name.now }
+{
+    let mut line = Line::new();
+    line.put(name);
+    line
+}
+
+/// The packet whose text this is, with the name of its group; `None` where the text is not just that of one. An error
+/// is an allocation failure.
+pub fn read_packet(alloc: Global, text: &[u8]) -> Result<Option<GroupPacket>, AllocError>
+    ensures read { IfOk result (λ read. read ≡ packet_in text.now) }
+    ensures limits { IfOk result (λ read. IfSome read (λ p. HasPacketText p.group p.packet)) }
+{
+    let Some((line, below)) = first_line(text) else {
+        return Ok(None);
+    };
+    let Some(head) = read_head(line) else {
+        return Ok(None);
+    };
+    match read_word_packet(alloc, head.word, head.numbers, below) {
+        Ok(packet) => Ok(Some(GroupPacket::of(copied(head.name), packet))),
+        Err(Unread::NoPacket) => Ok(None),
+        Err(Unread::NoMemory) => Err(AllocError),
+    }
+}
