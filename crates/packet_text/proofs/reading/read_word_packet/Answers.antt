@@ -1,0 +1,7 @@
+-- Nothing stands below a packet that is one line.
+use Rattle.std.proofs.Common.{arith}
+use Rattle.std.proofs.lemmas.Grind.{common_steps}
+use Rattle.packet_text.proofs.reading.read_word_packet.Goals as goal
+
+pub returns : goal.returns
+returns c = grind (arith, common_steps)
