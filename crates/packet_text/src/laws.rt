@@ -11,13 +11,15 @@ pub fn packets_are_read_where_they_are_written()
         packet_in (packet_text group packet) ≡ Some (record { group = group; packet = packet }) }
     ensures joined { (text : List ℕ) (read : GroupPacket) → packet_in text ≡ Some read →
         (text ≡ packet_text read.group read.packet) × HasPacketText read.group read.packet }
-    ensures one { (group other : List ℕ) (p q : Packet) → HasPacketText group p → HasPacketText other q →
+    ensures one { (group other : List ℕ) (p q : Packet) → HasPacketText group p
+        → HasPacketText other q →
         packet_text group p ≡ packet_text other q → (group ≡ other) × (p ≡ q) }
 {}
 
 /// A packet that is one line has at most 578 bytes, its line feed among them, and any packet at most 65,583.
 pub fn texts_of_packets_are_short()
-    ensures lines { (group : List ℕ) (packet : Packet) → HasPacketText group packet → is_line packet ≡ true →
+    ensures lines { (group : List ℕ) (packet : Packet) → HasPacketText group packet
+        → is_line packet ≡ true →
         length (packet_text group packet) ≤ most_line_bytes }
     ensures all { (group : List ℕ) (packet : Packet) → HasPacketText group packet →
         length (packet_text group packet) ≤ most_packet_bytes }

@@ -233,7 +233,8 @@ fn read_batch(alloc: Global, bytes: &[u8]) -> Result<Arc<OwnedBatch>, Unread>
 fn read_count(numbers: &[u8]) -> Option<u16>
     ensures { MatchOption result
         ((below : List ℕ) → batch_packet_in (fields_in numbers.now) below ≡ None)
-        (λ lines. (fields_in numbers.now ≡ numbers.now ∷ []) × (whole_in 1 most_journal_lines numbers.now ≡ Some lines)) }
+        (λ lines. (fields_in numbers.now ≡ numbers.now ∷ [])
+        × (whole_in 1 most_journal_lines numbers.now ≡ Some lines)) }
 {
     if split_at_bar(numbers).is_some() {
         return None;
@@ -263,7 +264,8 @@ fn read_word_packet(
     below: &[u8],
 ) -> Result<Packet, Unread>
     ensures { MatchResult result
-        (λ packet. word_packet_in word.now (fields_in numbers.now) below.now ≡ Some (packet_of packet))
+        (λ packet. word_packet_in word.now (fields_in numbers.now) below.now
+        ≡ Some (packet_of packet))
         (λ why. IfNoPacket why (word_packet_in word.now (fields_in numbers.now) below.now ≡ None)) }
 {
     if is_same(word, b"batch") {
@@ -287,7 +289,8 @@ struct Head<'a> {
 fn read_head(line: &[u8]) -> Option<Head<'_>>
     ensures { MatchOption result
         (HasNoHead (fields_in line.now))
-        (λ head. HasHead (fields_in line.now) head.name.now head.word.now (fields_in head.numbers.now)) }
+        (λ head. HasHead (fields_in line.now) head.name.now head.word.now
+        (fields_in head.numbers.now)) }
 {
     let (version, rest) = split_at_bar(line)?;
     if !is_same(version, b"P1") {

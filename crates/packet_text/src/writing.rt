@@ -105,7 +105,8 @@ fn put_accepted(
     cut: &Cut,
 ) -> Result<(), AllocError>
     ensures put { OnOk result (text.new.items ≡ text.old.items
-        ++ barred (codes "accepted" ∷ decimal from ∷ decimal period ∷ decimal ballot ∷ map decimal cut.now)) }
+        ++ barred (codes "accepted" ∷ decimal from ∷ decimal period ∷ decimal ballot
+        ∷ map decimal cut.now)) }
     ensures behind { OnErr result (HasBehind text.old.items text.new.items) }
 {
     put_numbered(text, b"|accepted|", u128::from(from))?;
@@ -165,7 +166,8 @@ fn put_fields(text: &mut Vec<u8>, packet: &Packet) -> Result<(), AllocError>
 
 /// Appends what stands below a packet's line.
 fn put_below(text: &mut Vec<u8>, packet: &Packet) -> Result<(), AllocError>
-    ensures put { OnOk result (text.new.items ≡ text.old.items ++ text_below (packet_of packet.now)) }
+    ensures put { OnOk result
+        (text.new.items ≡ text.old.items ++ text_below (packet_of packet.now)) }
     ensures behind { OnErr result (HasBehind text.old.items text.new.items) }
 {
     match packet {
