@@ -1,4 +1,4 @@
-use Rattle.std.proofs.Common.{◌-◌, take, sym, ap, ◌∙◌}
+use Rattle.std.proofs.Common.{◌-◌, take, sym, ap, ◌∙◌, rules}
 use Rattle.input_sections.proofs.SectionLaws.{section_is}
 use Rattle.input_sections.proofs.sections.lines_below.Goals as goal
 
@@ -10,3 +10,6 @@ returns-clause-section c =
       section_is c.args.count below rest.rest c.from.result c.from-2.result rest.ensures.1 c.from.ensures.value c.from-2.ensures.value
           ∙ ap (λ t. record { text = take (c.from.result - c.from-2.result) t; rest = rest.rest }) (sym c.left-left.ensures),
     )
+
+pub returns-in_default-clause-section : goal.returns-in_default-clause-section
+returns-in_default-clause-section c = search rules
