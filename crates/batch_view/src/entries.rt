@@ -1,4 +1,4 @@
-//! What is kept of each record, made when a batch is read.
+//! What is found of each record when a batch is read, and the record of what was kept of it.
 
 ghost use Rattle.std.specs.Prelude.{◌≡◌, ◌≤◌, ◌+◌, length, take, drop, slice_range, Ok, Err, IsOk, IfOk, IfErr, MatchResult, MatchOption, IfSome};
 ghost use Rattle.std.specs.List.{slice_get};
@@ -68,7 +68,7 @@ pub(crate) fn entry_at(entries: &[PackedEntry], index: u16) -> Option<&PackedEnt
     }
 }
 
-/// What is kept of a record that was read from that line.
+/// What is found of a record that was read from that line.
 #[inline(always)]
 fn entry_of(version: Version, source: &[u8], line: Span, what: &Record<'_>) -> Entry
     requires ordered { line.from ≤ line.to }
@@ -103,7 +103,7 @@ fn entry_of(version: Version, source: &[u8], line: Span, what: &Record<'_>) -> E
     }
 }
 
-/// What is kept of the reading of plain bytes that a line is. None says nothing of the line.
+/// What is found of the reading of plain bytes that a line is. None says nothing of the line.
 #[inline(always)]
 fn plain_entry<'a>(
     version: Version,
@@ -122,7 +122,7 @@ fn plain_entry<'a>(
     }
 }
 
-/// What is kept of the record that a line is, or the rule that its first bad field breaks. Apart, so that the path of a
+/// What is found of the record that a line is, or the rule that its first bad field breaks. Apart, so that the path of a
 /// plain reading stays short.
 #[inline(never)]
 fn exact_entry(version: Version, source: &[u8], line: Span) -> Result<Entry, BatchCode>

@@ -12,7 +12,8 @@ use metering_model::Kind;
 use record_view::{Span, Stamp, Value};
 use std::marker::Model;
 
-/// What a record is, and where its line begins. Of a reading the last two fields end at `tags` and at `region`.
+/// What a record is, and where its line begins. Of a reading the ninth field ends at `tags`, and the tenth, where its format has
+/// one, at `region`.
 #[derive(Clone, Copy)]
 enum Packed {
     Reading {
@@ -151,12 +152,6 @@ impl PackedEntry {
             } => Found::Reading { kind, start, end },
             Packed::Amend { index, seq, .. } => Found::Amend { seq, index },
         }
-    }
-
-    /// Whether the record is an amendment.
-    #[inline(always)]
-    pub(crate) fn is_amendment(&self) -> bool {
-        matches!(self.packed, Packed::Amend { .. })
     }
 
     /// Where its fields stand.

@@ -12,6 +12,8 @@ mod kept;
 #[cfg(test)]
 mod limits;
 #[cfg(test)]
+mod packets;
+#[cfg(test)]
 mod revivals;
 #[cfg(test)]
 mod samples;

@@ -1,4 +1,4 @@
--- What nodes send one another, as lines of text: the one text that a packet of a group has, and what a text is read as.
+-- What nodes and agents send, as lines of text: the one text that a packet of a group has, and what a text is read as.
 use Rattle.std.specs.Prelude.{ℕ, ◌+◌, ◌≤◌, ◌==◌, ◌&&◌, ◌||◌, Bool, true, false, nat_le, if◌then◌else◌, List, [], ◌∷◌, ◌++◌, length, map, All, IsTrue, Option, Some, None, codes, decimal}
 use Rattle.std.specs.List.{list_all}
 use Rattle.std.specs.Option.{option_map}
@@ -13,7 +13,7 @@ use Rattle.metering_model.specs.Ballot.{Vote}
 use Rattle.metering_model.specs.World.{Packet, CarriesBatch, Prepare, Promise, Accept, Accepted, Decided}
 use Rattle.metering_model.specs.KeptText.{IsBallotNumber, cut_in, text_of_lines}
 
--- a packet, and the name of the group whose nodes send it
+-- a packet, and the name of the group in which it is sent
 pub record GroupPacket : Type 0 where
   pub group : List ℕ
   pub packet : Packet
@@ -71,7 +71,8 @@ abbrev pub IsSentVote : Option Vote → Type 0
 IsSentVote None = Unit {0}
 IsSentVote (Some v) = IsBallotNumber v.ballot × IsSentCut v.cut
 
--- Each number is within its limits; nodes are numbered from 0. What the numbers are to one another is not asked.
+-- Each number is within its limits, and a batch is well-formed; nodes are numbered from 0. What the numbers of a packet are to
+-- one another is not asked else.
 abbrev pub IsSent : Packet → Type 0
 IsSent (CarriesBatch b) = IsWellFormed b
 IsSent (Prepare period ballot) = IsPeriod period × IsBallotNumber ballot
@@ -80,7 +81,7 @@ IsSent (Accept period ballot cut) = IsPeriod period × IsBallotNumber ballot × 
 IsSent (Accepted from period ballot cut) = (from ≤ last_node) × IsPeriod period × IsBallotNumber ballot × IsSentCut cut
 IsSent (Decided period cut) = IsPeriod period × IsSentCut cut
 
--- The packet may be written as one of the group: the name is one, and each number is within its limits.
+-- The packet may be written as one of the group: the name is one, each number is within its limits, and a batch is well-formed.
 pub record HasPacketText (name : List ℕ) (p : Packet) : Type 0 where
   pub group : IsTrue (is_group name)
   pub packet : IsSent p

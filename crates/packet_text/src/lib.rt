@@ -1,4 +1,4 @@
-//! What nodes of a group send one another, as lines of text.
+//! What nodes and agents of a group send, as lines of text.
 #![tactic(auto)]
 
 pub mod laws;
@@ -7,6 +7,7 @@ mod packets;
 mod reading;
 mod writing;
 
+pub use numbers::is_group;
 pub use packets::GroupPacket;
 pub use reading::read_packet;
 pub use writing::put_packet;

@@ -31,7 +31,7 @@ fn are_group_bytes(name: &[u8]) -> bool
 }
 
 /// Whether the text may be a group's name: 1 to 32 bytes, of which each is a letter, a digit or `-`.
-pub(crate) fn is_group(name: &[u8]) -> bool
+pub fn is_group(name: &[u8]) -> bool
     ensures { result ≡ is_group name.now }
 {
     !name.is_empty() && name.len() <= MOST_GROUP_BYTES && are_group_bytes(name)

@@ -7,7 +7,7 @@ use byte_text::Line;
 use group_node::Packet;
 use std::marker::Model;
 
-/// A packet, and the name of the group whose nodes send it.
+/// A packet, and the name of the group in which it is sent.
 #[derive(Drop)]
 pub struct GroupPacket {
     name: Line,

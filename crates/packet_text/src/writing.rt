@@ -22,6 +22,7 @@ fn put_cut(text: &mut Vec<u8>, cut: &Cut) -> Result<(), AllocError>
     ensures put { OnOk result (text.new.items ≡ text.old.items ++ barred (map decimal cut.now)) }
     ensures behind { OnErr result (HasBehind text.old.items text.new.items) }
 {
+    // For the proof alone: its clause says that there is an entry.
     cut.agents();
     text.push(b'|')?;
     cut.put(text)
