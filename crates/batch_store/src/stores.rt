@@ -64,8 +64,10 @@ impl Store {
             ↔ (held self.old.batches (batch_of (arc_value batch)).agent
             (batch_of (arc_value batch)).seq ≡ None)) }
         ensures batches { IfOk result (λ _. self.new
-            ≡ record { agents = self.old.agents; batches = put self.old.batches
-            (batch_of (arc_value batch)) }) }
+            ≡ record {
+              agents = self.old.agents;
+              batches = put self.old.batches (batch_of (arc_value batch));
+            }) }
         ensures kept { IfErr result (λ _. self.new ≡ self.old) }
     {
         let agent = batch.view().agent();

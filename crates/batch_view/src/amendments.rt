@@ -21,7 +21,10 @@ fn rank(seq: u32, index: u16, own: u16) -> u64
 
 /// How many of the records are amendments.
 fn count_amendments(entries: &[PackedEntry]) -> usize {
-    entries.iter().filter(|entry| matches!(entry.found(), Found::Amend { .. })).count()
+    entries
+        .iter()
+        .filter(|entry| matches!(entry.found(), Found::Amend { .. }))
+        .count()
 }
 
 /// The amendment that a record is, if it is one.

@@ -86,8 +86,11 @@ impl Node {
     /// Drops the attempt and the tally, as a node does that wakes. What it keeps stays.
     pub fn restart(&mut self, alloc: Global)
         ensures { self.new
-            ≡ record { voters = self.old.voters; agents = self.old.agents; node = wake
-            self.old.node.kept } }
+            ≡ record {
+              voters = self.old.voters;
+              agents = self.old.agents;
+              node = wake self.old.node.kept;
+            } }
     {
         self.attempt = None;
         self.tally = Tally::new(alloc, self.voters);

@@ -127,8 +127,7 @@ impl Book {
             ≡ self.old.history ++ record {
               who = who;
               event = event_of event;
-              reply =
-                  (step self.old.world (event_of event)).0;
+              reply = (step self.old.world (event_of event)).0;
             } ∷ []) }
         ensures world { IfOk result
             (λ _. self.new.world ≡ (step self.old.world (event_of event)).1) }
@@ -143,8 +142,10 @@ impl Book {
             → self.new.world ≡ self.old.world) }
         ensures group { opened self.new ≡ opened self.old }
         ensures receipt { IfOk result (λ receipt. told_of receipt
-            ≡ record { index = length self.old.history; reply =
-            (step self.old.world (event_of event)).0 }) }
+            ≡ record {
+              index = length self.old.history;
+              reply = (step self.old.world (event_of event)).0;
+            }) }
         ensures err { OnErr result (self.new ≡ self.old) }
     {
         self.history.reserve(1)?;

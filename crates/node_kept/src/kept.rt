@@ -32,8 +32,12 @@ impl Model for Parts {
 
     ghost view = { λ p. record {
       agents = p.store.agents;
-      kept = record { round = p.round; learned = map arc_value p.learned.items; acceptor =
-        p.acceptor; holding = p.store.batches };
+      kept = record {
+        round = p.round;
+        learned = map arc_value p.learned.items;
+        acceptor = p.acceptor;
+        holding = p.store.batches;
+      };
     } };
 }
 

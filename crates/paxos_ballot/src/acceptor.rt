@@ -66,8 +66,8 @@ impl Acceptor {
     pub fn on_prepare(&mut self, ballot: Ballot) -> PrepareStep
         ensures answer { result ≡ (if is_above ballot self.old.promised then Promise else Silent) }
         ensures state { self.new ≡
-            (if is_above ballot self.old.promised then after_prepare ballot self.old else self.old)
-            }
+            (if is_above ballot self.old.promised then after_prepare ballot self.old
+            else self.old) }
     {
         if let Some(promised) = self.promised {
             if ballot.number() <= promised.number() {

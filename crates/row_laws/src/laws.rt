@@ -98,8 +98,10 @@ pub fn a_file_has_one_line_for_each_row()
     ensures { (sheet : Sheet) (issuer : Issuer) (h : Holding) (period : ℕ) (from to : Cut) →
         IsHolding h → IsSheet sheet → IsIssuer issuer →
         lines_in (file (rows sheet issuer h period from to))
-        ≡ record { lines = header_line
-        ∷ map line_of_row (rows sheet issuer h period from to); rest = [] } }
+        ≡ record {
+          lines = header_line ∷ map line_of_row (rows sheet issuer h period from to);
+          rest = [];
+        } }
 {}
 
 /// Over growing cuts, where sheet and issuer meet their rules, the numbers of the first column, read back from the

@@ -127,8 +127,14 @@ impl<'a> Preamble<'a> {
     #[tactic(auto, unfolding(crate::specs::Schedules::preamble_in))]
     pub fn read(alloc: Global, text: &'a [u8]) -> Result<Preamble<'a>, ScheduleFault>
         ensures taken { IfOk result (λ p. preamble_in text.now
-            ≡ Ok (record { voters = p.voters; observers = p.observers; agents = p.agents; sheet =
-            p.sheet; issuer = p.issuer; rest = p.rest })) }
+            ≡ Ok (record {
+              voters = p.voters;
+              observers = p.observers;
+              agents = p.agents;
+              sheet = p.sheet;
+              issuer = p.issuer;
+              rest = p.rest;
+            })) }
         ensures refused { IfErr result
             (λ fault. fault ≢ ScheduleFault.OutOfMemory → preamble_in text.now ≡ Err fault) }
         ensures want { IfErr result
@@ -158,15 +164,27 @@ impl<'a> Schedule<'a> {
     /// Refused is the first fault by line. OutOfMemory comes only of a text whose numbers of nodes and agents are read.
     pub fn read(alloc: Global, text: &'a [u8]) -> Result<Schedule<'a>, ScheduleFault>
         ensures taken { IfOk result (λ s. schedule_in text.now
-            ≡ Ok (record { voters = s.voters; observers = s.observers; agents = s.agents; sheet =
-            s.sheet; issuer = s.issuer; events = map planned_of s.events.items })) }
+            ≡ Ok (record {
+              voters = s.voters;
+              observers = s.observers;
+              agents = s.agents;
+              sheet = s.sheet;
+              issuer = s.issuer;
+              events = map planned_of s.events.items;
+            })) }
         ensures refused { IfErr result
             (λ fault. fault ≢ ScheduleFault.OutOfMemory → schedule_in text.now ≡ Err fault) }
         ensures want { IfErr result
             (λ fault. fault ≡ ScheduleFault.OutOfMemory → IsOk (group_in text.now)) }
         ensures form { IfOk result (λ s. IsRead text.now
-            (record { voters = s.voters; observers = s.observers; agents = s.agents; sheet =
-            s.sheet; issuer = s.issuer; events = map planned_of s.events.items })) }
+            (record {
+              voters = s.voters;
+              observers = s.observers;
+              agents = s.agents;
+              sheet = s.sheet;
+              issuer = s.issuer;
+              events = map planned_of s.events.items;
+            })) }
         ensures lines { IfOk result (λ s. All HasWholeLines s.events.items) }
         ensures rules { IfOk result (λ s. IsSheet s.sheet × IsIssuer s.issuer) }
     {

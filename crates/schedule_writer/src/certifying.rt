@@ -122,8 +122,14 @@ fn read_above<'a>(
     text: &'a [u8],
 ) -> Result<Preamble<'a>, Stop>
     ensures taken { IfOk result (λ p. preamble_in text.now
-        ≡ Ok (record { voters = p.voters; observers = p.observers; agents = p.agents; sheet =
-        p.sheet; issuer = p.issuer; rest = p.rest })) }
+        ≡ Ok (record {
+          voters = p.voters;
+          observers = p.observers;
+          agents = p.agents;
+          sheet = p.sheet;
+          issuer = p.issuer;
+          rest = p.rest;
+        })) }
     ensures group { IfOk result
         (λ p. (p.voters ≡ plan.now.voters) × (p.observers ≡ plan.now.observers)
         × (p.agents ≡ agents)) }

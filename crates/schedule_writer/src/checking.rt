@@ -159,8 +159,11 @@ fn check_batches(
     warned: &mut Vec<u8>,
 ) -> Result<(), AllocError>
     requires given { rate_input_in input.now
-        ≡ Ok (record { sheet = given.sheet; issuer = given.issuer; batch = drop given.batch_from
-        input.now }) }
+        ≡ Ok (record {
+          sheet = given.sheet;
+          issuer = given.issuer;
+          batch = drop given.batch_from input.now;
+        }) }
     requires within { given.batch_from ≤ length input.now }
     ensures told { OnOk result (told.new.items ≡ told.old.items ++ said_of_input input.now) }
     ensures ahead { OnOk result (warned.new.items ≡ warned.old.items ++ ahead_of_all []

@@ -156,8 +156,11 @@ fn schedule_of(
 ) -> Result<Vec<u8>, WriteFault>
     requires request { IsRequest request }
     requires given { rate_input_in input.now
-        ≡ Ok (record { sheet = given.sheet; issuer = given.issuer; batch = drop given.batch_from
-        input.now }) }
+        ≡ Ok (record {
+          sheet = given.sheet;
+          issuer = given.issuer;
+          batch = drop given.batch_from input.now;
+        }) }
     requires within { given.batch_from ≤ length input.now }
     ensures schedule { IfOk result
         (λ text. IsScheduleOf request (Some input.now) input.now text.items) }

@@ -7,9 +7,11 @@ use Rattle.batch_view.proofs.entries.record_of_entry.Goals as goal
 
 pub kept_reading-requires : goal.kept_reading-requires
 kept_reading-requires c =
-    let n : Numbers = record { kind = c.in-Reading.kind; start = c.in-Reading.start; end = c.in-Reading.end; value = c.value.result } in
-    (c.requires.0, subst (λ spans. IsReadingOn c.args.version c.args.bytes.now spans n c.requires.0) (sym c.spans.ensures)
-    (reading_on c.args.version c.args.bytes.now c.requires.0 c.args.entry.now n c.requires.1 (sym c.found.ensures ∙ c.in-Reading.is) c.value.ensures))
+    let n : Numbers = record { kind = c.in-Reading.kind; start = c.in-Reading.start; end = c.in-Reading.end; value = c.value.result } in (
+      c.requires.0,
+      subst (λ spans. IsReadingOn c.args.version c.args.bytes.now spans n c.requires.0) (sym c.spans.ensures)
+          (reading_on c.args.version c.args.bytes.now c.requires.0 c.args.entry.now n c.requires.1 (sym c.found.ensures ∙ c.in-Reading.is) c.value.ensures),
+    )
 
 pub returns-in-Reading : goal.returns-in-Reading
 returns-in-Reading c = λ line at.
