@@ -12,7 +12,7 @@ use Rattle.metering_model.specs.World.{Packet}
 use Rattle.metering_model.proofs.FieldLaws.{same_read}
 use Rattle.metering_model.proofs.LineLaws.{bars_lack, line_lacks_feed}
 use Rattle.metering_model.proofs.Splitting.{ended, cut_first, cut_join, join_cut, lines_give_back}
-use Rattle.packet_text.specs.PacketText.{GroupPacket, HasPacketText, is_group, packet_fields, packet_in, packet_of_fields, packet_of_lines, packet_text, text_below}
+use Rattle.packet_text.specs.PacketText.{GroupPacket, HasPacketText, is_first_stored, is_group, is_stored_head, may_take_memory, packet_fields, packet_in, packet_of_fields, packet_of_lines, packet_text, text_below}
 use Rattle.packet_text.proofs.OptionSteps.{step_iff, test_iff}
 use Rattle.packet_text.proofs.SentNumbers.{group_is_inner}
 use Rattle.packet_text.proofs.SentPackets.{fields_are_inner, own_packet_in, own_packet_written, word_packet_read}
@@ -41,6 +41,10 @@ line_first l below h =
 pub at_first_line : (text line below : List ℕ) → lines_in text ≡ with_line line (lines_in below) → packet_in text ≡ packet_of_fields (fields_in line) below
 at_first_line text line below e =
     ap (λ (ls : Lines). packet_of_lines ls.lines ls.rest) e ∙ ap (packet_of_fields (fields_in line)) (lines_give_back below)
+
+-- whether a text asks for memory is told by its first line
+pub stored_at_first_line : (text line below : List ℕ) → lines_in text ≡ with_line line (lines_in below) → may_take_memory text ≡ is_stored_head (fields_in line)
+stored_at_first_line text line below e = ap (λ (ls : Lines). is_first_stored ls.lines) e
 
 pub text_by_line : (group : List ℕ) (p : Packet) → packet_text group p ≡ packet_line group p ++ 10 ∷ text_below p
 text_by_line group p = append_assoc (packet_line group p) (10 ∷ []) (text_below p)

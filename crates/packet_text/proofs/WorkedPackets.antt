@@ -1,5 +1,5 @@
 -- Packets at work: the text of each form, and what it is read as.
-use Rattle.std.specs.Prelude.{◌≡◌, ℕ, List, [], ◌∷◌, length, replicate, Option, Some, None, pos, codes, refl}
+use Rattle.std.specs.Prelude.{◌≡◌, ℕ, true, false, List, [], ◌∷◌, length, replicate, Option, Some, None, pos, codes, refl}
 use Rattle.std.specs.Fmt.{digits}
 use Rattle.metering_model.specs.declared.Version.TheVariants.{B1}
 use Rattle.metering_model.specs.Batch.{Amends}
@@ -7,7 +7,7 @@ use Rattle.metering_model.specs.NumberText.{worth_of, decimals_of}
 use Rattle.metering_model.specs.World.{Packet, CarriesBatch, Prepare, Promise, Accept, Accepted, Decided}
 use Rattle.metering_model.specs.Transcript.{line}
 use Rattle.metering_model.specs.Schedule.{lines_text}
-use Rattle.packet_text.specs.PacketText.{GroupPacket, packet_text, packet_in, most_line_bytes}
+use Rattle.packet_text.specs.PacketText.{GroupPacket, packet_text, packet_in, may_take_memory, most_line_bytes}
 
 abbrev group : List ℕ
 group = codes "prod-EU1"
@@ -115,3 +115,20 @@ a_cut_of_64_agents_read = refl
 the_longest_line : length (packet_text (replicate 32 97) (Promise 98 1199 990098 (Some (record { ballot = 990098; cut = replicate 64 1000000 })))) ≡ most_line_bytes
 unfolding digits
 the_longest_line = refl
+
+-- ---- memory
+
+a_batch_may_take_memory : may_take_memory (line (codes "P1|g|batch|2")) ≡ true
+a_batch_may_take_memory = refl
+
+a_decided_may_take_memory : may_take_memory (line (codes "P1|g|decided|0|0")) ≡ true
+a_decided_may_take_memory = refl
+
+a_prepare_takes_none : may_take_memory (line (codes "P1|g|prepare|0|1")) ≡ false
+a_prepare_takes_none = refl
+
+another_word_takes_none : may_take_memory (line (codes "P1|g|Decided|0|0")) ≡ false
+another_word_takes_none = refl
+
+no_line_takes_none : may_take_memory (codes "P1|g|decided|0|0") ≡ false
+no_line_takes_none = refl

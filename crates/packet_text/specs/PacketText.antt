@@ -220,3 +220,24 @@ packet_of_lines (l ∷ ls) rest = packet_of_fields (fields_in l) (text_of_lines 
 -- the packet whose text this is, and its group
 abbrev pub packet_in : List ℕ → Option GroupPacket
 packet_in text = packet_of_lines (lines_in text).lines (lines_in text).rest
+
+-- ---- memory
+
+-- the word of a packet that has a batch or a cut, or may have one: each but that of a Prepare
+abbrev pub is_stored_word : List ℕ → Bool
+is_stored_word word =
+    is_same word (codes "batch") || is_same word (codes "promise") || is_same word (codes "accept") || is_same word (codes "accepted")
+    || is_same word (codes "decided")
+
+-- the format, a group's name, and such a word, whatever follows
+abbrev pub is_stored_head : List (List ℕ) → Bool
+is_stored_head (version ∷ name ∷ word ∷ numbers) = is_same version (codes "P1") && is_group name && is_stored_word word
+is_stored_head _ = false
+
+abbrev pub is_first_stored : List (List ℕ) → Bool
+is_first_stored [] = false
+is_first_stored (l ∷ ls) = is_stored_head (fields_in l)
+
+-- The text's first line begins as that of such a packet: no other is read with memory of its own.
+abbrev pub may_take_memory : List ℕ → Bool
+may_take_memory text = is_first_stored (lines_in text).lines

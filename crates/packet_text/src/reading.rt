@@ -1,6 +1,6 @@
 //! Packets, read from their text.
 
-ghost use Rattle.std.specs.Prelude.{◌≡◌, ℕ, ◌≤◌, List, [], ◌∷◌, length, None, Some, Ok, IfOk, IfSome, IsTrue, MatchOption, MatchResult};
+ghost use Rattle.std.specs.Prelude.{◌≡◌, ℕ, ◌≤◌, List, [], ◌∷◌, length, None, Some, Ok, IfErr, IfOk, IfSome, IsTrue, MatchOption, MatchResult, OnErr};
 ghost use Rattle.std.specs.Arc.{arc_value};
 ghost use Rattle.std.specs.Option.{option_map};
 ghost use Rattle.std.specs.Result.{result_ok};
@@ -8,9 +8,9 @@ ghost use Rattle.metering_model.specs.BatchReading.{batch_in, fields_in, whole_i
 ghost use Rattle.metering_model.specs.Limits.{most_journal_lines};
 ghost use Rattle.batch_view.specs.Batches.{batch_of};
 ghost use Rattle.group_node.specs.Packets.{packet_of};
-ghost use Rattle.packet_text.specs.PacketText.{HasPacketText, accept_in, accepted_in, batch_packet_in, decided_in, is_group, line_packet_in, packet_in, prepare_in, promise_in, sent_cut_in, sent_vote_in, some_vote_in, word_packet_in};
+ghost use Rattle.packet_text.specs.PacketText.{HasPacketText, accept_in, accepted_in, batch_packet_in, decided_in, is_group, is_stored_word, line_packet_in, may_take_memory, packet_in, prepare_in, promise_in, sent_cut_in, sent_vote_in, some_vote_in, word_packet_in};
 ghost use Rattle.packet_text.specs.Inner.Heads.{HasHead, HasNoHead};
-ghost use Rattle.packet_text.specs.Inner.Unread.{IfNoPacket};
+ghost use Rattle.packet_text.specs.Inner.Unread.{IfNoMemory, IfNoPacket};
 
 use crate::numbers::{count_fields, is_group, read_ballot, read_lines, read_node, read_period};
 use crate::packets::GroupPacket;
@@ -188,9 +188,10 @@ fn read_decided(alloc: Global, numbers: &[u8]) -> Result<Packet, Unread>
 
 /// The packet of that word that is one line.
 fn read_line_packet(alloc: Global, word: &[u8], numbers: &[u8]) -> Result<Packet, Unread>
-    ensures { MatchResult result
+    ensures read { MatchResult result
         (λ packet. line_packet_in word.now (fields_in numbers.now) ≡ Some (packet_of packet))
         (λ why. IfNoPacket why (line_packet_in word.now (fields_in numbers.now) ≡ None)) }
+    ensures want { IfErr result (λ why. IfNoMemory why (IsTrue (is_stored_word word.now))) }
 {
     if is_same(word, b"prepare") {
         return read_prepare(numbers).ok_or(Unread::NoPacket);
@@ -263,10 +264,11 @@ fn read_word_packet(
     numbers: &[u8],
     below: &[u8],
 ) -> Result<Packet, Unread>
-    ensures { MatchResult result
+    ensures read { MatchResult result
         (λ packet. word_packet_in word.now (fields_in numbers.now) below.now
         ≡ Some (packet_of packet))
         (λ why. IfNoPacket why (word_packet_in word.now (fields_in numbers.now) below.now ≡ None)) }
+    ensures want { IfErr result (λ why. IfNoMemory why (IsTrue (is_stored_word word.now))) }
 {
     if is_same(word, b"batch") {
         return read_batch_packet(alloc, numbers, below);
@@ -318,10 +320,11 @@ fn copied(name: &[u8]) -> Line
 }
 
 /// The packet whose text this is, with the name of its group; `None` where the text is not just that of one. An error
-/// is an allocation failure.
+/// is an allocation failure, and comes only of a text that begins as a packet other than a Prepare.
 pub fn read_packet(alloc: Global, text: &[u8]) -> Result<Option<GroupPacket>, AllocError>
     ensures read { IfOk result (λ read. read ≡ packet_in text.now) }
     ensures limits { IfOk result (λ read. IfSome read (λ p. HasPacketText p.group p.packet)) }
+    ensures want { OnErr result (IsTrue (may_take_memory text.now)) }
 {
     let Some((line, below)) = first_line(text) else {
         return Ok(None);

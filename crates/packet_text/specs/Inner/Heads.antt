@@ -1,7 +1,7 @@
 -- The head of a packet's line: what is read of its fields, whatever stands below it.
 use Rattle.std.specs.Prelude.{◌≡◌, ℕ, List, Option, Some, None, IsTrue}
 use Rattle.metering_model.specs.World.{Packet}
-use Rattle.packet_text.specs.PacketText.{GroupPacket, ◌>>=◌, is_group, word_packet_in, packet_of_fields}
+use Rattle.packet_text.specs.PacketText.{GroupPacket, ◌>>=◌, is_group, is_stored_head, is_stored_word, word_packet_in, packet_of_fields}
 
 -- what was read as a packet, as one of the group of that name
 abbrev pub of_group : List ℕ → Option Packet → Option GroupPacket
@@ -12,4 +12,5 @@ HasNoHead fields = (below : List ℕ) → packet_of_fields fields below ≡ None
 
 pub record HasHead (fields : List (List ℕ)) (name word : List ℕ) (numbers : List (List ℕ)) : Type 0 where
   pub is_name : IsTrue (is_group name)
+  pub stored : is_stored_head fields ≡ is_stored_word word
   pub read : (below : List ℕ) → packet_of_fields fields below ≡ of_group name (word_packet_in word numbers below)

@@ -1,7 +1,7 @@
 use Rattle.std.proofs.Common.{Some, sym, ap, ◌∙◌}
 use Rattle.group_node.specs.Packets.{packet_of}
 use Rattle.packet_text.specs.Inner.Heads.{of_group}
-use Rattle.packet_text.proofs.PacketLaws.{at_first_line, packet_read}
+use Rattle.packet_text.proofs.PacketLaws.{at_first_line, packet_read, stored_at_first_line}
 use Rattle.packet_text.proofs.Fields.{of_parts}
 use Rattle.packet_text.proofs.reading.read_packet.Goals as goal
 
@@ -11,14 +11,20 @@ returns-in-Ok c =
     let name = c.in-Some-read_head.head.name.now in
     let below = c.in-Some.below.now in
     let first = at_first_line text c.in-Some.line.now below c.in-Some.ensures in
-    let is = first ∙ c.in-Some-read_head.ensures.read below ∙ ap (of_group name) c.in-Ok.ensures in
+    let is = first ∙ c.in-Some-read_head.ensures.read below ∙ ap (of_group name) c.in-Ok.ensures.read in
     let parts = ap Some (of_parts c.of.result name (packet_of c.in-Ok.packet) (c.of.ensures.group ∙ c.copied.ensures) c.of.ensures.packet) in
-    record { read = parts ∙ sym is; limits = (packet_read text c.of.result (is ∙ sym parts)).1 }
+    record { read = parts ∙ sym is; limits = (packet_read text c.of.result (is ∙ sym parts)).1; want = tt }
 
 pub returns-in-Err-NoPacket : goal.returns-in-Err-NoPacket
 returns-in-Err-NoPacket c =
     let name = c.in-Some-read_head.head.name.now in
     let below = c.in-Some.below.now in
     let first = at_first_line c.args.text.now c.in-Some.line.now below c.in-Some.ensures in
-    let none = rw c.in-Err-NoPacket.field-0-is at c.in-Err-NoPacket.ensures in
-    record { read = sym (first ∙ c.in-Some-read_head.ensures.read below ∙ ap (of_group name) none); limits = tt }
+    let none = rw c.in-Err-NoPacket.field-0-is at c.in-Err-NoPacket.ensures.read in
+    record { read = sym (first ∙ c.in-Some-read_head.ensures.read below ∙ ap (of_group name) none); limits = tt; want = tt }
+
+pub returns-in-Err-NoMemory : goal.returns-in-Err-NoMemory
+returns-in-Err-NoMemory c =
+    let first = stored_at_first_line c.args.text.now c.in-Some.line.now c.in-Some.below.now c.in-Some.ensures in
+    let word = rw c.in-Err-NoMemory.field-0-is at c.in-Err-NoMemory.ensures.want in
+    record { read = tt; limits = tt; want = first ∙ c.in-Some-read_head.ensures.stored ∙ word }
