@@ -3,7 +3,9 @@ pub mod SentNumbers
 pub mod SentPackets
 pub mod PacketLaws
 pub mod PacketLengths
+pub mod FirstPackets
 pub mod Fields
 pub mod Pieces
 mod WorkedPackets
 mod WorkedFaults
+mod WorkedStreams

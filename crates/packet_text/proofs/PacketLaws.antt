@@ -31,7 +31,7 @@ first_of_parts l [] some = absurd (omega (arith, some))
 first_of_parts l (p ∷ ps) some = refl
 
 -- a line that ends at the first line feed
-line_first : (l below : List ℕ) → lacks 10 l ≡ true → lines_in (l ++ 10 ∷ below) ≡ with_line l (lines_in below)
+pub line_first : (l below : List ℕ) → lacks 10 l ≡ true → lines_in (l ++ 10 ∷ below) ≡ with_line l (lines_in below)
 line_first l below h =
     let ps = slice_split (λ (c : ℕ). c == 10) below in
     let count = length-slice_split (λ (c : ℕ). c == 10) below in
@@ -52,10 +52,10 @@ text_by_line group p = append_assoc (packet_line group p) (10 ∷ []) (text_belo
 -- ---- from reading
 
 -- fields that are read are a packet's, and so is what stands below them
-abbrev AreOf : List (List ℕ) → List ℕ → GroupPacket → Type 0
+abbrev pub AreOf : List (List ℕ) → List ℕ → GroupPacket → Type 0
 AreOf fs below r = (fs ≡ line_fields r.group r.packet) × (below ≡ text_below r.packet) × HasPacketText r.group r.packet
 
-fields_read : (fs : List (List ℕ)) (below : List ℕ) (r : GroupPacket) → packet_of_fields fs below ≡ Some r → AreOf fs below r
+pub fields_read : (fs : List (List ℕ)) (below : List ℕ) (r : GroupPacket) → packet_of_fields fs below ≡ Some r → AreOf fs below r
 fields_read [] below r h = absurd (none-some r h)
 fields_read (version ∷ []) below r h = absurd (none-some r h)
 fields_read (version ∷ name ∷ []) below r h = absurd (none-some r h)
@@ -91,7 +91,7 @@ abbrev read_as : List ℕ → Packet → Option GroupPacket
 read_as group p = Some (record { group = group; packet = p })
 
 -- the fields behind the group's name are read by themselves
-own_fields : (group : List ℕ) (fs : List (List ℕ)) (below : List ℕ) (p : Packet) → is_group group ≡ true → own_packet_in fs below ≡ Some p → packet_of_fields (codes "P1" ∷ group ∷ fs) below ≡ read_as group p
+pub own_fields : (group : List ℕ) (fs : List (List ℕ)) (below : List ℕ) (p : Packet) → is_group group ≡ true → own_packet_in fs below ≡ Some p → packet_of_fields (codes "P1" ∷ group ∷ fs) below ≡ read_as group p
 own_fields group [] below p g h = absurd (none-some p h)
 own_fields group (word ∷ numbers) below p g h = simp (g, h)
 

@@ -1,5 +1,5 @@
 -- What nodes and agents send, as lines of text: the one text that a packet of a group has, and what a text is read as.
-use Rattle.std.specs.Prelude.{ℕ, ◌+◌, ◌≤◌, ◌==◌, ◌&&◌, ◌||◌, Bool, true, false, nat_le, if◌then◌else◌, List, [], ◌∷◌, ◌++◌, length, map, All, IsTrue, Option, Some, None, codes, decimal}
+use Rattle.std.specs.Prelude.{ℕ, ◌+◌, ◌≤◌, ◌==◌, ◌&&◌, ◌||◌, Bool, true, false, nat_le, if◌then◌else◌, List, [], ◌∷◌, ◌++◌, length, map, take, drop, All, IsTrue, Option, Some, None, unwrap_or, codes, decimal}
 use Rattle.std.specs.List.{list_all}
 use Rattle.std.specs.Option.{option_map}
 use Rattle.std.specs.Result.{result_ok}
@@ -220,6 +220,27 @@ packet_of_lines (l ∷ ls) rest = packet_of_fields (fields_in l) (text_of_lines 
 -- the packet whose text this is, and its group
 abbrev pub packet_in : List ℕ → Option GroupPacket
 packet_in text = packet_of_lines (lines_in text).lines (lines_in text).rest
+
+-- ---- the first packet of a text
+
+-- how many lines are said to stand below that of a packet: for a batch its number, else none
+abbrev pub lines_said : List (List ℕ) → ℕ
+lines_said (version ∷ name ∷ word ∷ lines ∷ numbers) = if is_same word (codes "batch") then unwrap_or (whole_in 1 most_journal_lines lines) 0 else 0
+lines_said _ = 0
+
+-- the packet of these fields with so many lines below, and the text behind those
+abbrev pub packet_and_rest : ℕ → List (List ℕ) → List (List ℕ) → List ℕ → Option (GroupPacket × List ℕ)
+packet_and_rest lines fields ls rest = do
+  p ← packet_of_fields fields (text_of_lines (take lines ls))
+  Some (p, text_of_lines (drop lines ls) ++ rest)
+
+abbrev pub first_packet_of_lines : List (List ℕ) → List ℕ → Option (GroupPacket × List ℕ)
+first_packet_of_lines [] rest = None
+first_packet_of_lines (l ∷ ls) rest = packet_and_rest (lines_said (fields_in l)) (fields_in l) ls rest
+
+-- The packet that a text's first line is, with as many lines below as that line says, and what stands behind them.
+abbrev pub first_packet_in : List ℕ → Option (GroupPacket × List ℕ)
+first_packet_in text = first_packet_of_lines (lines_in text).lines (lines_in text).rest
 
 -- ---- memory
 

@@ -1,8 +1,8 @@
 //! What ties the texts of packets to one another. Each law is a function with an empty body.
 
-ghost use Rattle.std.specs.Prelude.{◌≡◌, ◌↔◌, ℕ, ◌≤◌, true, List, length, Some};
+ghost use Rattle.std.specs.Prelude.{◌≡◌, ◌≢◌, ◌↔◌, ℕ, ◌≤◌, true, List, [], ◌++◌, length, Some, None};
 ghost use Rattle.metering_model.specs.World.{Packet};
-ghost use Rattle.packet_text.specs.PacketText.{GroupPacket, HasPacketText, is_line, most_line_bytes, most_packet_bytes, packet_in, packet_text};
+ghost use Rattle.packet_text.specs.PacketText.{GroupPacket, HasPacketText, first_packet_in, is_line, most_line_bytes, most_packet_bytes, packet_in, packet_text};
 
 /// What may be written is read back from its text. A text that is read is just the text of what it is read as, which
 /// may be written. Two that may be written and have one text are equal: the same packet, of the same group.
@@ -23,4 +23,28 @@ pub fn texts_of_packets_are_short()
         length (packet_text group packet) ≤ most_line_bytes }
     ensures all { (group : List ℕ) (packet : Packet) → HasPacketText group packet →
         length (packet_text group packet) ≤ most_packet_bytes }
+{}
+
+/// A stream of packets is cut in one way. Of a packet's text with any text behind it the packet is read, and what is
+/// behind; of a piece of it, which breaks off before its end, nothing. What is read as the first packet of a text may
+/// be written, and its text stands there first. No text begins with those of two packets. A text is a packet's just
+/// where that packet is its first, and nothing is behind.
+pub fn texts_of_packets_end_by_themselves()
+    ensures first { (group : List ℕ) (packet : Packet) (rest : List ℕ)
+        → HasPacketText group packet →
+        first_packet_in (packet_text group packet ++ rest)
+        ≡ Some (record { group = group; packet = packet }, rest) }
+    ensures pieces { (group : List ℕ) (packet : Packet) (piece rest : List ℕ)
+        → HasPacketText group packet → packet_text group packet ≡ piece ++ rest → rest ≢ [] →
+        first_packet_in piece ≡ None }
+    ensures joined { (text : List ℕ) (read : GroupPacket) (rest : List ℕ)
+        → first_packet_in text ≡ Some (read, rest) →
+        (text ≡ packet_text read.group read.packet ++ rest)
+        × HasPacketText read.group read.packet }
+    ensures apart { (group other : List ℕ) (p q : Packet) (rest more : List ℕ)
+        → HasPacketText group p → HasPacketText other q →
+        packet_text group p ++ rest ≡ packet_text other q ++ more →
+        (group ≡ other) × (p ≡ q) × (rest ≡ more) }
+    ensures alone { (text : List ℕ) (read : GroupPacket) →
+        (packet_in text ≡ Some read) ↔ (first_packet_in text ≡ Some (read, [])) }
 {}
