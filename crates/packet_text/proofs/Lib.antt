@@ -4,6 +4,7 @@ pub mod SentPackets
 pub mod PacketLaws
 pub mod PacketLengths
 pub mod FirstPackets
+pub mod SentByRuns
 pub mod Fields
 pub mod Pieces
 mod WorkedPackets
