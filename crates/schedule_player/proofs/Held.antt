@@ -7,7 +7,7 @@ use Rattle.metering_model.specs.World.{World, Snapshot, Reply, Journaled, Delive
 use Rattle.metering_model.specs.Transcript.{reply_text}
 use Rattle.group_core.specs.Headline.{AreExportsOf, ExportsStay, IsExportOf}
 use Rattle.group_core.proofs.Worlds.{same_exports}
-use Rattle.schedule_player.specs.Inner.Held.{FitsReply, IsHeldOf, ToldExport, exported_period, is_same_period, told, told_of}
+use Rattle.schedule_player.specs.Inner.Held.{FitsReply, IsHeldOf, ToldExport, exported_period, held_with, is_same_period, told, told_of}
 
 -- a reply that is an export of the period that is at hand
 pub record IsAtHand (held : Option ℕ) (reply : Reply) : Type 0 where
@@ -51,17 +51,21 @@ module _ (w v : World) (reply : Reply) (stay : ExportsStay w v) (all : AreExport
       let eq : h.0 ≡ s = same_exports v h.0 s (stay h.0 h.1) (there s is) (h.2 ∙ same) in
       sym h.3 ∙ (ap (λ t. reply_text (Exported t)) eq ∙ ap reply_text (sym is))
 
-  pub held_after : (new : Option ToldExport) → new ≡ told_of reply → IsHeldOf v new
-  held_after new e = subst (IsHeldOf v) (sym e) (by_reply reply refl)
+  pub held_still : (held : Option ToldExport) → IsHeldOf w held → IsHeldOf v held
+  held_still None h = tt
+  held_still (Some x) h = (h.0, stay h.0 h.1, h.2, h.3)
+
+  pub held_after : (old new : Option ToldExport) → IsHeldOf w old → new ≡ held_with old reply → IsHeldOf v new
+  held_after old new h e = subst (IsHeldOf v) (sym e) (by_reply reply refl)
     where
-      by_reply : (r : Reply) → reply ≡ r → IsHeldOf v (told_of r)
-      by_reply (Journaled packet) is = tt
-      by_reply (Delivered sent learned) is = tt
-      by_reply (Started ballot packet) is = tt
-      by_reply Restarted is = tt
+      by_reply : (r : Reply) → reply ≡ r → IsHeldOf v (held_with old r)
+      by_reply (Journaled packet) is = held_still old h
+      by_reply (Delivered sent learned) is = held_still old h
+      by_reply (Started ballot packet) is = held_still old h
+      by_reply Restarted is = held_still old h
       by_reply (Exported s) is = (s, there s is, refl, refl)
       by_reply (KeptText text) is = tt
-      by_reply (Refused why) is = tt
+      by_reply (Refused why) is = held_still old h
 
 pub on_ok_then : {T E A B : Type 0} (r : Result T E) → (A → B) → OnOk r A → OnOk r B
 on_ok_then (Ok x) f a = f a

@@ -1,15 +1,15 @@
-//! The lines of replies that wait to be written. An export that comes next after one of the same period is not rendered
-//! again.
+//! The lines of replies that wait to be written. An export is not rendered again while that of its period is at hand: the last
+//! one, whatever other replies came since, but for a kept text.
 
-ghost use Rattle.std.specs.Prelude.{◌≡◌, ◌↔◌, ◌≤◌, ◌++◌, [], false, length, None, IsTrue, OnOk, OnErr, is_err};
+ghost use Rattle.std.specs.Prelude.{◌≡◌, ◌↔◌, ◌≤◌, ◌++◌, [], true, false, length, None, IsTrue, OnOk, OnErr, is_err};
 ghost use Rattle.std.specs.Io.KnownBytes.{Appends};
 ghost use Rattle.counted_io.specs.Counts.{Rises, count_after};
 ghost use Rattle.counted_io.specs.Writing.{AppendsPrefix};
 ghost use Rattle.metering_model.specs.Transcript.{reply_text};
 ghost use Rattle.group_events.specs.Replies.{reply_of};
-ghost use Rattle.schedule_player.specs.Inner.Held.{FitsReply, exported_period, is_same_period, told, told_of, waiting};
+ghost use Rattle.schedule_player.specs.Inner.Held.{FitsReply, exported_period, has_file, held_with, is_same_period, told, told_of, waiting};
 
-use crate::reply_texts::set_words;
+use crate::reply_texts::{has_file, set_file, set_line};
 use counted_io::{Failed, Sink, write_all};
 use group_events::{Period, Reply};
 use std::alloc::{AllocError, Global};
@@ -20,12 +20,15 @@ const MANY_BYTES: usize = 65_536;
 
 /// What a transcript says of some replies, one after the other, which waits to be written.
 ///
-/// The buffers are used again. The file of the last reply stands by itself, so that its lines are counted before the
-/// line above it is made, and none of them is copied. It stays when it was written: the next export of its period is
-/// the same, at whatever node, so that its text is at hand.
+/// The buffers are used again. A file stands by itself, so that its lines are counted before the line above it is made,
+/// and none of them is copied. It stays when it was written, until another file comes: the next export of its period is
+/// the same, at whatever node and however late, so that its text is at hand.
 #[derive(Drop)]
 pub(crate) struct ReplyLines {
     lines: Vec<u8>,
+    /// The line of the last reply without a file.
+    words: Vec<u8>,
+    /// The line of the last reply with a file, and this file.
     line: Vec<u8>,
     file: Vec<u8>,
     /// Whether the file waits after the lines.
@@ -84,6 +87,17 @@ fn is_export_of(period: Option<Period>, reply: &Reply) -> bool
     }
 }
 
+/// Puts the line of a reply without a file after other lines, from a buffer of its own.
+fn add_line(words: &mut Vec<u8>, lines: &mut Vec<u8>, reply: &Reply) -> Result<(), AllocError>
+    requires { has_file (reply_of reply.now) ≡ false }
+    ensures added { OnOk result
+        (lines.new.items ≡ lines.old.items ++ reply_text (reply_of reply.now)) }
+    ensures kept { OnErr result (lines.new.items ≡ lines.old.items) }
+{
+    set_line(words, reply)?;
+    lines.extend_from_slice(words)
+}
+
 /// Makes a line and a file those of a reply. Where they are of an export of the same period, they are its own.
 fn hold(
     alloc: Global,
@@ -92,7 +106,8 @@ fn hold(
     line: &mut Vec<u8>,
     file: &mut Vec<u8>,
 ) -> Result<(), AllocError>
-    requires { FitsReply (told held.old line.old.items file.old.items) (reply_of reply.now) }
+    requires there { has_file (reply_of reply.now) ≡ true }
+    requires fits { FitsReply (told held.old line.old.items file.old.items) (reply_of reply.now) }
     ensures text { OnOk result
         (line.new.items ++ file.new.items ≡ reply_text (reply_of reply.now)) }
     ensures held { OnOk result
@@ -102,7 +117,7 @@ fn hold(
         return Ok(());
     }
     *held = None;
-    set_words(alloc, reply, line, file)?;
+    set_file(alloc, reply, line, file)?;
     *held = exported(reply);
     Ok(())
 }
@@ -115,6 +130,7 @@ impl ReplyLines {
     {
         ReplyLines {
             lines: Vec::new(alloc),
+            words: Vec::new(alloc),
             line: Vec::new(alloc),
             file: Vec::new(alloc),
             waits: false,
@@ -127,10 +143,13 @@ impl ReplyLines {
         requires fits { FitsReply self.old.held (reply_of reply.now) }
         ensures added { OnOk result
             (self.new.text ≡ self.old.text ++ reply_text (reply_of reply.now)) }
-        ensures held { OnOk result (self.new.held ≡ told_of (reply_of reply.now)) }
+        ensures held { OnOk result (self.new.held ≡ held_with self.old.held (reply_of reply.now)) }
         ensures kept { OnErr result (self.new.text ≡ self.old.text) }
     {
         join_file(&mut self.lines, &mut self.waits, &self.file)?;
+        if !has_file(reply) {
+            return add_line(&mut self.words, &mut self.lines, reply);
+        }
         hold(alloc, reply, &mut self.held, &mut self.line, &mut self.file)?;
         self.lines.extend_from_slice(&self.line)?;
         self.waits = true;

@@ -1,5 +1,5 @@
 -- What waits to be written, and the reply whose text is at hand.
-use Rattle.std.specs.Prelude.{◌≡◌, ◌==◌, ℕ, if◌then◌else◌, Bool, false, List, [], ◌++◌, Option, Some, None, IfSome}
+use Rattle.std.specs.Prelude.{◌≡◌, ◌==◌, ℕ, if◌then◌else◌, Bool, true, false, List, [], ◌++◌, Option, Some, None, IfSome}
 use Rattle.std.specs.Option.{option_map}
 use Rattle.metering_model.specs.World.{World, Snapshot, Reply, Journaled, Delivered, Started, Restarted, Exported, KeptText, Refused}
 use Rattle.metering_model.specs.Transcript.{reply_text}
@@ -50,3 +50,17 @@ is_same_period (Some p) (Some q) = p == q
 -- what is told of a reply, if it is an export
 abbrev pub told_of : Reply → Option ToldExport
 told_of reply = option_map (λ p. record { period = p; text = reply_text reply }) (exported_period reply)
+
+-- whether a file or a kept text stands after the line of a reply
+abbrev pub has_file : Reply → Bool
+has_file (Journaled packet) = false
+has_file (Delivered sent learned) = false
+has_file (Started ballot packet) = false
+has_file Restarted = false
+has_file (Exported s) = true
+has_file (KeptText text) = true
+has_file (Refused why) = false
+
+-- What is at hand after a reply: a file takes the place of the last one, and what has none leaves it.
+abbrev pub held_with : Option ToldExport → Reply → Option ToldExport
+held_with held reply = if has_file reply then told_of reply else held

@@ -12,4 +12,4 @@ returns-clause-text c = search rules
 
 pub returns-clause-held : goal.returns-clause-held
 returns-clause-held c =
-    on_ok_then c.add.result (held_after c.args.world.now c.step.new.self (reply_of c.in_ok-reply.reply) c.step.ensures.stay c.in_ok-reply.ensures.exports c.add.new.self.held) c.add.ensures.held
+    on_ok_then c.add.result (held_after c.args.world.now c.step.new.self (reply_of c.in_ok-reply.reply) c.step.ensures.stay c.in_ok-reply.ensures.exports c.args.lines.now.held c.add.new.self.held c.requires.held) c.add.ensures.held
