@@ -1,5 +1,5 @@
-//! The lines of replies that wait to be written. An export is not rendered again while that of its period is at hand: the last
-//! one, whatever other replies came since, but for a kept text.
+//! The lines of replies that wait to be written. The file of the last export is at hand until another file or a kept text comes,
+//! and an export of its period is not rendered again.
 
 ghost use Rattle.std.specs.Prelude.{◌≡◌, ◌↔◌, ◌≤◌, ◌++◌, [], true, false, length, None, IsTrue, OnOk, OnErr, is_err};
 ghost use Rattle.std.specs.Io.KnownBytes.{Appends};
@@ -20,15 +20,15 @@ const MANY_BYTES: usize = 65_536;
 
 /// What a transcript says of some replies, one after the other, which waits to be written.
 ///
-/// The buffers are used again. A file stands by itself, so that its lines are counted before the line above it is made,
-/// and none of them is copied. It stays when it was written, until another file comes: the next export of its period is
-/// the same, at whatever node and however late, so that its text is at hand.
+/// The buffers are used again. A file, or a kept text, stands by itself, so that its lines are counted before the line
+/// above it is made. It stays when it was written, until another one comes: a later export of its period is the same, at
+/// whatever node, so that its text is at hand.
 #[derive(Drop)]
 pub(crate) struct ReplyLines {
     lines: Vec<u8>,
     /// The line of the last reply without a file.
     words: Vec<u8>,
-    /// The line of the last reply with a file, and this file.
+    /// The line of the last reply with a file or a kept text, and this.
     line: Vec<u8>,
     file: Vec<u8>,
     /// Whether the file waits after the lines.
