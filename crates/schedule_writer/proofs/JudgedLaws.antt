@@ -18,7 +18,7 @@ use Rattle.batch_view.specs.Batches.{batch_of}
 use Rattle.schedule_writer.specs.declared.judging.Asked.{Asked}
 use Rattle.schedule_writer.specs.Inputs.{Offered, Offers, IsLastStart, agents_of, are_due, batches_of, item_length, items_in}
 use Rattle.schedule_writer.specs.Refusals.{IsJournaled, answer_to, answers_to, journal_of, world_behind}
-use Rattle.schedule_writer.specs.Inner.Judged.{IsJudged, IsLaterStart, IsRefusedAmong, IsRefusedHere, IsRefusedNow}
+use Rattle.schedule_writer.specs.Inner.Judged.{IsAskedToo, IsJudged, IsLaterStart, IsRefusedAmong, IsRefusedHere, IsRefusedNow}
 use Rattle.schedule_writer.proofs.ItemLaws.{item_next}
 
 -- ---- the world
@@ -103,16 +103,16 @@ last_more base p q bs b last later = record { within = later.within; none_behind
 
 -- ---- one batch more
 
-pub judged_more : (sheet : Sheet) (issuer : Issuer) (bs : List Offered) (b : Offered) (w v : World) (agents last more later : ℕ) → IsJudged sheet issuer bs w agents last
-    → IsJournaled (answer_to w b.text) → v ≡ (step w (journal_of b)).1 → more ≡ max agents (batch_of b.text).agent
-    → IsLaterStart sheet.base (batch_of b.text) last later → IsJudged sheet issuer (bs ++ b ∷ []) v more later
-judged_more sheet issuer bs b w v agents last more later so journaled after are is =
+pub judged_more : (sheet : Sheet) (issuer : Issuer) (bs : List Offered) (b : Offered) (w v : World) (asked more : Asked)
+    → IsJudged sheet issuer bs w asked.agents asked.last → IsJournaled (answer_to w b.text) → v ≡ (step w (journal_of b)).1
+    → IsAskedToo sheet.base (batch_of b.text) asked more → IsJudged sheet issuer (bs ++ b ∷ []) v more.agents more.last
+judged_more sheet issuer bs b w v asked more so journaled after too =
     record {
       world = world_more sheet issuer w v bs b so.world after;
       taken = taken_more sheet issuer w bs b so.world so.taken journaled;
       asked = record {
-        are_agents = are ∙ (ap (λ n. max n (batch_of b.text).agent) so.asked.are_agents ∙ agents_more bs b);
-        is_last = last_more sheet.base last later bs b so.asked.is_last is;
+        are_agents = too.agents ∙ (ap (λ n. max n (batch_of b.text).agent) so.asked.are_agents ∙ agents_more bs b);
+        is_last = last_more sheet.base asked.last more.last bs b so.asked.is_last too.last;
       };
     }
 
@@ -151,10 +151,9 @@ refused_here input sheet issuer all found k most here w agents last more some so
     refused_among input sheet issuer all found (batches_of rest) is.batch w agents last told (sym so ∙ ap (λ is. found ++ batches_of is) next) judged is.refused
 
 -- with one batch more that was put behind the others
-pub judged_put : (sheet : Sheet) (issuer : Issuer) (bs cs : List Offered) (b : Offered) (w v : World) (agents last : ℕ) (asked put : Asked)
-    → IsJudged sheet issuer bs w agents last → IsJournaled (answer_to w b.text) → v ≡ (step w (journal_of b)).1 → asked.agents ≡ max agents (batch_of b.text).agent
-    → IsLaterStart sheet.base (batch_of b.text) last asked.last → cs ≡ bs ++ b ∷ [] → put ≡ asked → IsJudged sheet issuer cs v put.agents put.last
-judged_put sheet issuer bs cs b w v agents last asked put so journaled after are is more same =
+pub judged_put : (sheet : Sheet) (issuer : Issuer) (bs cs : List Offered) (b : Offered) (w v : World) (asked more put : Asked)
+    → IsJudged sheet issuer bs w asked.agents asked.last → IsJournaled (answer_to w b.text) → v ≡ (step w (journal_of b)).1
+    → IsAskedToo sheet.base (batch_of b.text) asked more → cs ≡ bs ++ b ∷ [] → put ≡ more → IsJudged sheet issuer cs v put.agents put.last
+judged_put sheet issuer bs cs b w v asked more put so journaled after too behind same =
     subst (λ (a : Asked). IsJudged sheet issuer cs v a.agents a.last) (sym same)
-    (subst (λ xs. IsJudged sheet issuer xs v asked.agents asked.last) (sym more)
-    (judged_more sheet issuer bs b w v agents last asked.agents asked.last so journaled after are is))
+    (subst (λ xs. IsJudged sheet issuer xs v more.agents more.last) (sym behind) (judged_more sheet issuer bs b w v asked more so journaled after too))

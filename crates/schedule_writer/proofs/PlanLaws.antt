@@ -122,10 +122,6 @@ certified plan text p voters observers agents sheet issuer last above has_voters
     record {
       schedule = record { voters = p.voters; observers = p.observers; agents = p.agents; sheet = p.sheet; issuer = p.issuer; events = done.events };
       is_read = taken_behind text p done.events above done.is_read;
-      has_voters = has_voters;
-      has_observers = has_observers;
-      has_agents = has_agents;
-      by_sheet = by_sheet;
-      by_issuer = by_issuer;
+      group = record { has_voters = has_voters; has_observers = has_observers; has_agents = has_agents; by_sheet = by_sheet; by_issuer = by_issuer };
       done = done.done ∙ ap Some all;
     }

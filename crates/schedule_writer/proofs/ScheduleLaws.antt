@@ -89,11 +89,11 @@ scheduled request input text plan issuer agents last asked read by voters observ
       is_given = read.is_given;
       schedule = certified.schedule;
       is_read = certified.is_read;
-      voters = certified.has_voters ∙ voters;
-      observers = certified.has_observers ∙ observers;
-      agents = certified.has_agents ∙ (by.are_agents ∙ ap agents_of read.batches);
-      sheet = certified.by_sheet ∙ sym read.by_sheet;
-      issuer = certified.by_issuer ∙ sym read.by_issuer;
+      voters = certified.group.has_voters ∙ voters;
+      observers = certified.group.has_observers ∙ observers;
+      agents = certified.group.has_agents ∙ (by.are_agents ∙ ap agents_of read.batches);
+      sheet = certified.group.by_sheet ∙ sym read.by_sheet;
+      issuer = certified.group.by_issuer ∙ sym read.by_issuer;
       last = plan.last;
       through = record {
         asked = asked;
@@ -104,8 +104,9 @@ scheduled request input text plan issuer agents last asked read by voters observ
             ∙ ap (λ n. max asked (least_last request.through n (closes_of items))) (sym (length-map plan.batches.now offered_of) ∙ ap length read.batches));
       };
       closes = closes_each (plan_of plan) certified.schedule items plan.last
-          (nodes ∙ (ap (λ n. n + request.observers) (sym (certified.has_voters ∙ voters)) ∙ ap (λ n. certified.schedule.voters + n) (sym (certified.has_observers ∙ observers))))
-          refl (ap (λ (s : Sheet). s.base) (sym certified.by_sheet)) (ap (map (λ b. b.text)) read.batches) read.are_closes certified.done;
+          (nodes ∙ (ap (λ n. n + request.observers) (sym (certified.group.has_voters ∙ voters))
+          ∙ ap (λ n. certified.schedule.voters + n) (sym (certified.group.has_observers ∙ observers))))
+          refl (ap (λ (s : Sheet). s.base) (sym certified.group.by_sheet)) (ap (map (λ b. b.text)) read.batches) read.are_closes certified.done;
     }
 
 -- ---- what is refused, or not

@@ -9,7 +9,7 @@ ghost use Rattle.group_events.specs.Events.{event_of as offered_event};
 ghost use Rattle.schedule_reader.specs.Events.{HasWholeLines, planned_of};
 ghost use Rattle.schedule_reader.specs.Schedules.{events_in, preamble_in};
 ghost use Rattle.schedule_writer.specs.Inner.Certified.{IsCertified};
-ghost use Rattle.schedule_writer.specs.Inner.Plans.{IsDone, behind, journals_behind, nothing_seen, plan_of};
+ghost use Rattle.schedule_writer.specs.Inner.Plans.{IsDone, IsWithinGroup, behind, journals_behind, nothing_seen, plan_of};
 
 use crate::faults::Stop;
 use crate::plans::{Plan, Seen};
@@ -51,8 +51,7 @@ fn do_event(
     seen: Seen,
     planned: &Planned<'_>,
 ) -> Result<Seen, Stop>
-    requires nodes { plan.now.nodes ≤ most_nodes }
-    requires last { plan.now.last ≤ last_period }
+    requires plan { IsWithinGroup plan.now }
     requires whole { HasWholeLines planned.now }
     requires same { journals.old.batches ≡ world.old.journals }
     ensures seen { IfOk result
@@ -85,8 +84,7 @@ fn do_events(
     unread: Unread<'_>,
     most: usize,
 ) -> Result<Seen, Stop>
-    requires nodes { plan.now.nodes ≤ most_nodes }
-    requires last { plan.now.last ≤ last_period }
+    requires plan { IsWithinGroup plan.now }
     requires same { journals.old.batches ≡ world.old.journals }
     ensures { IfOk result
         (λ seen. IsDone (plan_of plan.now) nothing_seen seen world.old

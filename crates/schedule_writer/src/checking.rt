@@ -1,6 +1,6 @@
 //! `focusd check --kind schedule`: what is wrong with an input that is to have a schedule, and what is odd.
 
-ghost use Rattle.std.specs.Prelude.{◌≡◌, ◌≢◌, ◌++◌, ◌+◌, ◌≤◌, ℕ, List, Ok, Err, IfOk, IfErr, OnOk, [], ◌∷◌, drop, length, map, take};
+ghost use Rattle.std.specs.Prelude.{◌≡◌, ◌≢◌, ◌++◌, ◌+◌, ◌≤◌, ℕ, List, Some, Ok, Err, IfOk, IfErr, OnOk, [], ◌∷◌, length, map, take};
 ghost use Rattle.std.specs.Io.KnownBytes.{Appends, IsAtEnd};
 ghost use Rattle.counted_io.specs.Counts.{count_after};
 ghost use Rattle.counted_io.specs.Reading.{ConsumesAtMost};
@@ -12,15 +12,15 @@ ghost use Rattle.metering_model.specs.Step.{play, step};
 ghost use Rattle.metering_model.specs.Transcript.{line_count};
 ghost use Rattle.metering_model.specs.declared.Refusal.{Refusal};
 ghost use Rattle.input_sections.specs.declared.faults.ScheduleFault.{ScheduleFault};
-ghost use Rattle.input_sections.specs.RateInput.{rate_input_in};
 ghost use Rattle.fault_lines.specs.Ahead.{AreLatest, ahead_of_all};
 ghost use Rattle.schedule_player.specs.Faults.{tells_of_reader, tells_of_writer};
 ghost use Rattle.schedule_writer.specs.Checks.{IsSaidOf, if_journaled, journaled_of, said_of_input, told_of_answer, told_of_batches, warned_of_input};
 ghost use Rattle.schedule_writer.specs.Refusals.{answer_to, journal_of};
-ghost use Rattle.schedule_writer.specs.Inputs.{batches_of, item_at, item_length, items_in};
+ghost use Rattle.schedule_writer.specs.Inputs.{batches_of, item_at, items_in};
 ghost use Rattle.schedule_writer.specs.Inner.Counted.{with_journaled};
 ghost use Rattle.schedule_writer.specs.Inner.Plans.{offered_of};
 ghost use Rattle.schedule_writer.specs.Inner.SaidLines.{lines_said, said_of_long};
+ghost use Rattle.schedule_writer.specs.Inner.Walks.{IsGiven, IsItemLength, IsPlace};
 
 use crate::inputs::{Item, Offered, item_at};
 use crate::judging::{read_offer, world_before};
@@ -47,8 +47,7 @@ fn check_offered(
     latest: &mut LatestDays,
     warned: &mut Vec<u8>,
 ) -> Result<(), AllocError>
-    requires from { offered.now.from ≤ length input.now }
-    requires above { above ≡ line_count (take offered.now.from input.now) }
+    requires { IsPlace input.now offered.now.from (Some above) }
     ensures told { OnOk result (told.new.items ≡ told.old.items
         ++ told_of_answer input.now world.old (offered_of offered.now)
         (answer_to world.old offered.now.text.now)) }
@@ -85,10 +84,8 @@ fn check_item(
     latest: &mut LatestDays,
     warned: &mut Vec<u8>,
 ) -> Result<usize, AllocError>
-    requires from { from ≤ length input.now }
-    requires above { above ≡ line_count (take from input.now) }
-    ensures length { IfOk result (λ n. n ≡ item_length (drop from input.now)) }
-    ensures next { IfOk result (λ n. from + n ≤ length input.now) }
+    requires { IsPlace input.now from (Some above) }
+    ensures length { IfOk result (IsItemLength input.now from) }
     ensures told { OnOk result (told.new.items ≡ told.old.items
         ++ told_of_batches input.now world.old (batches_of (item_at input.now from ∷ []))) }
     ensures ahead { (before : List Batch) → AreLatest latest.old before → OnOk result
@@ -158,13 +155,7 @@ fn check_batches(
     told: &mut Vec<u8>,
     warned: &mut Vec<u8>,
 ) -> Result<(), AllocError>
-    requires given { rate_input_in input.now
-        ≡ Ok (record {
-          sheet = given.sheet;
-          issuer = given.issuer;
-          batch = drop given.batch_from input.now;
-        }) }
-    requires within { given.batch_from ≤ length input.now }
+    requires { IsGiven input.now given.sheet given.issuer given.batch_from }
     ensures told { OnOk result (told.new.items ≡ told.old.items ++ said_of_input input.now) }
     ensures ahead { OnOk result (warned.new.items ≡ warned.old.items ++ ahead_of_all []
         (journaled_of input.now (model.world_before given.sheet given.issuer)

@@ -1,8 +1,9 @@
 //! What stands behind the sections of an input: batches, and lines that close a period.
 
-ghost use Rattle.std.specs.Prelude.{◌≡◌, ◌+◌, ◌<◌, ◌≤◌, drop, length};
-ghost use Rattle.schedule_writer.specs.Inputs.{head_text, item_at, item_length, lacks_head, offered_length};
+ghost use Rattle.std.specs.Prelude.{◌≡◌, ◌<◌, ◌≤◌, length};
+ghost use Rattle.schedule_writer.specs.Inputs.{head_text, item_at, lacks_head, offered_length};
 ghost use Rattle.schedule_writer.specs.Inner.Plans.{BeginsAt, item_of};
+ghost use Rattle.schedule_writer.specs.Inner.Walks.{IsItemLength};
 
 use batch_view::{BatchCode, BatchView};
 use byte_text::find_byte;
@@ -68,8 +69,7 @@ pub(crate) fn item_at<'a>(input: &'a [u8], from: usize) -> (Item<'a>, usize)
     requires { from ≤ length input.now }
     ensures item { item_of result.0 ≡ item_at input.now from }
     ensures from { BeginsAt result.0 from }
-    ensures length { result.1 ≡ item_length (drop from input.now) }
-    ensures within { from + result.1 ≤ length input.now }
+    ensures length { IsItemLength input.now from result.1 }
 {
     let left = &input[from..];
     if behind_word(left, b"close\n").is_some() {

@@ -1,21 +1,22 @@
 //! Whether the journals take the batches, and what these ask of a group.
 
-ghost use Rattle.std.specs.Prelude.{◌≡◌, ◌≤◌, ◌+◌, ◌++◌, ◌∷◌, [], ℕ, List, All, IfErr, IfOk, OnOk, Ok, map, max, length, drop};
+ghost use Rattle.std.specs.Prelude.{◌≡◌, ◌≤◌, ◌+◌, ◌++◌, ◌∷◌, [], ℕ, List, All, IfErr, IfOk, OnOk, Ok, map, length};
 ghost use Rattle.std.specs.Arc.{arc_value};
 ghost use Rattle.metering_model.specs.Batch.{Batch};
 ghost use Rattle.metering_model.specs.BatchReading.{batch_in};
 ghost use Rattle.metering_model.specs.Front.{is_due};
-ghost use Rattle.metering_model.specs.Limits.{last_period, most_agents};
+ghost use Rattle.metering_model.specs.Limits.{last_period};
 ghost use Rattle.metering_model.specs.RatedAlone.{world_before};
 ghost use Rattle.metering_model.specs.Sheet as model;
 ghost use Rattle.metering_model.specs.Step.{step};
 ghost use Rattle.metering_model.specs.Transcript.{line};
 ghost use Rattle.batch_view.specs.Batches.{batch_of};
 ghost use Rattle.group_events.specs.Offers.{IsOfferOf};
-ghost use Rattle.schedule_writer.specs.Inputs.{batches_of, closes_from, closes_of, item_at, item_length, items_in};
+ghost use Rattle.schedule_writer.specs.Inputs.{batches_of, item_at, items_in};
 ghost use Rattle.schedule_writer.specs.Refusals.{IsJournaled, answer_to, answers_to, journal_of};
-ghost use Rattle.schedule_writer.specs.Inner.Judged.{IsAskedBy, IsAskedWithin, IsJudged, IsLaterStart, IsRefusedAmong, IsRefusedHere, IsRefusedNow, IsRefusedOr};
+ghost use Rattle.schedule_writer.specs.Inner.Judged.{IsAskedBy, IsAskedToo, IsAskedWithin, IsJudged, IsLaterStart, IsRefusedAmong, IsRefusedHere, IsRefusedNow, IsRefusedOr};
 ghost use Rattle.schedule_writer.specs.Inner.Plans.{offered_of};
+ghost use Rattle.schedule_writer.specs.Inner.Walks.{IsFoundOf, IsFoundToo, IsItemLength};
 
 use crate::faults::WriteFault;
 use crate::inputs::{Item, Offered, item_at};
@@ -81,12 +82,8 @@ fn later_start(sheet: &Sheet, batch: &OwnedBatch, before: u16) -> u16
 
 /// What one more batch asks too.
 fn with_batch(sheet: &Sheet, asked: Asked, batch: &OwnedBatch) -> Asked
-    requires last { asked.last ≤ last_period }
-    requires agents { (1 ≤ asked.agents) × (asked.agents ≤ most_agents) }
-    ensures agents { result.agents ≡ max asked.agents (batch_of batch.now).agent }
-    ensures last { IsLaterStart sheet.now.base (batch_of batch.now) asked.last result.last }
-    ensures within { (result.last ≤ last_period) × (1 ≤ result.agents)
-        × (result.agents ≤ most_agents) }
+    requires { IsAskedWithin asked.agents asked.last }
+    ensures { IsAskedToo sheet.now.base (batch_of batch.now) asked result }
 {
     Asked {
         agents: asked.agents.max(batch.view().agent()),
@@ -96,14 +93,10 @@ fn with_batch(sheet: &Sheet, asked: Asked, batch: &OwnedBatch) -> Asked
 
 /// What is asked with one more offer, where it is a batch.
 fn asked_too(sheet: &Sheet, asked: Asked, offer: &Offer) -> Asked
-    requires last { asked.last ≤ last_period }
-    requires agents { (1 ≤ asked.agents) × (asked.agents ≤ most_agents) }
-    ensures agents { (text : List ℕ) (b : Batch) → IsOfferOf text offer.now → batch_in text ≡ Ok b
-        → result.agents ≡ max asked.agents (batch_of text).agent }
-    ensures last { (text : List ℕ) (b : Batch) → IsOfferOf text offer.now → batch_in text ≡ Ok b
-        → IsLaterStart sheet.now.base (batch_of text) asked.last result.last }
-    ensures within { (result.last ≤ last_period) × (1 ≤ result.agents)
-        × (result.agents ≤ most_agents) }
+    requires { IsAskedWithin asked.agents asked.last }
+    ensures asked { (text : List ℕ) (b : Batch) → IsOfferOf text offer.now → batch_in text ≡ Ok b
+        → IsAskedToo sheet.now.base (batch_of text) asked result }
+    ensures within { IsAskedWithin result.agents result.last }
 {
     match offer {
         Offer::Good(batch) => with_batch(sheet, asked, batch),
@@ -131,17 +124,12 @@ fn judge(
     asked: Asked,
 ) -> Result<Asked, WriteFault>
     requires from { offered.now.from ≤ length input.now }
-    requires last { asked.last ≤ last_period }
-    requires agents { (1 ≤ asked.agents) × (asked.agents ≤ most_agents) }
+    requires within { IsAskedWithin asked.agents asked.last }
     ensures journaled { OnOk result (IsJournaled (answer_to world.old offered.now.text.now)) }
     ensures world { OnOk result
         (world.new ≡ (step world.old (journal_of (offered_of offered.now))).1) }
-    ensures agents { IfOk result
-        (λ r. r.agents ≡ max asked.agents (batch_of offered.now.text.now).agent) }
-    ensures last { IfOk result
-        (λ r. IsLaterStart sheet.now.base (batch_of offered.now.text.now) asked.last r.last) }
-    ensures within { IfOk result
-        (λ r. (r.last ≤ last_period) × (1 ≤ r.agents) × (r.agents ≤ most_agents)) }
+    ensures asked { IfOk result
+        (IsAskedToo sheet.now.base (batch_of offered.now.text.now) asked) }
     ensures refused { IfErr result
         (IsRefusedOr (IsRefusedNow input.now world.old (offered_of offered.now))) }
 {
@@ -216,16 +204,8 @@ fn take_item<'a>(
 ) -> Result<usize, WriteFault>
     requires from { from ≤ length input.now }
     requires within { IsAskedWithin items.old.asked.agents items.old.asked.last }
-    ensures length { IfOk result (λ n. n ≡ item_length (drop from input.now)) }
-    ensures next { IfOk result (λ n. from + n ≤ length input.now) }
-    ensures within { OnOk result (IsAskedWithin items.new.asked.agents items.new.asked.last) }
-    ensures batches { OnOk result (map offered_of items.new.batches.items
-        ≡ map offered_of items.old.batches.items ++ batches_of (item_at input.now from ∷ [])) }
-    ensures count { OnOk result (length items.new.batches.items
-        ≡ length items.old.batches.items + length (batches_of (item_at input.now from ∷ []))) }
-    ensures closes { OnOk result (items.new.closes.items
-        ≡ items.old.closes.items
-        ++ closes_from (length items.old.batches.items) (item_at input.now from ∷ [])) }
+    ensures length { IfOk result (IsItemLength input.now from) }
+    ensures found { OnOk result (IsFoundToo (item_at input.now from) items.old items.new) }
     ensures judged { (issuer : model.Issuer)
         → IsJudged sheet.now issuer
         (map offered_of items.old.batches.items) world.old items.old.asked.agents
@@ -258,10 +238,7 @@ pub(crate) fn read_items<'a>(
     from: usize,
 ) -> Result<Items<'a>, WriteFault>
     requires { from ≤ length input.now }
-    ensures batches { IfOk result (λ r. map offered_of r.batches.items
-        ≡ batches_of (items_in (length input.now) input.now from)) }
-    ensures closes { IfOk result
-        (λ r. r.closes.items ≡ closes_of (items_in (length input.now) input.now from)) }
+    ensures found { IfOk result (IsFoundOf (items_in (length input.now) input.now from)) }
     ensures taken { IfOk result (λ r. All IsJournaled
         (answers_to (arc_value sheet.now) (arc_value issuer.now)
         (map offered_of r.batches.items))) }

@@ -1,6 +1,6 @@
 //! A batch is journaled, or it is told at which line of the input it is refused, and why.
 
-ghost use Rattle.std.specs.Prelude.{◌≡◌, ◌++◌, ◌≤◌, ℕ, true, false, IfOk, IfSome, OnOk, MatchOption, length, take};
+ghost use Rattle.std.specs.Prelude.{◌≡◌, ◌++◌, true, false, IfOk, OnOk, MatchOption, take};
 ghost use Rattle.metering_model.specs.BatchReading.{batch_in};
 ghost use Rattle.metering_model.specs.Step.{step};
 ghost use Rattle.metering_model.specs.Transcript.{line_count};
@@ -13,6 +13,7 @@ ghost use Rattle.schedule_writer.specs.Checks.{told_of_answer};
 ghost use Rattle.schedule_writer.specs.Refusals.{IsJournaled, answer_to, journal_of, told_of_offered};
 ghost use Rattle.schedule_writer.specs.Inner.Lines.{IsAnswer, IsBadIn, is_of_rule};
 ghost use Rattle.schedule_writer.specs.Inner.Plans.{offered_of};
+ghost use Rattle.schedule_writer.specs.Inner.Walks.{IsPlace};
 
 use crate::inputs::Offered;
 use byte_text::line_count;
@@ -44,8 +45,7 @@ fn bad_record(world: &World, event: &Event, text: &[u8], refusal: Refusal) -> Op
 
 /// How many lines stand above a byte of the input, where that is not known.
 fn lines_above(input: &[u8], from: usize, known: Option<usize>) -> usize
-    requires from { from ≤ length input.now }
-    requires known { IfSome known (λ lines. lines ≡ line_count (take from input.now)) }
+    requires { IsPlace input.now from known }
     ensures { result ≡ line_count (take from input.now) }
 {
     match known {
@@ -64,8 +64,7 @@ fn put_refusal(
     bad: Option<u16>,
     refusal: Refusal,
 ) -> Result<(), AllocError>
-    requires from { offered.now.from ≤ length input.now }
-    requires known { IfSome known (λ lines. lines ≡ line_count (take offered.now.from input.now)) }
+    requires place { IsPlace input.now offered.now.from known }
     requires fault { (fault : BatchFault) → refusal ≡ Refusal.BadBatch fault
         → batch_in offered.now.text.now ≡ Err fault }
     requires bad { IsBadIn world.now offered.now.text.now refusal bad }
@@ -102,8 +101,7 @@ pub(crate) fn journal_offered(
     event: &Event,
     told: &mut Vec<u8>,
 ) -> Result<bool, AllocError>
-    requires from { offered.now.from ≤ length input.now }
-    requires known { IfSome known (λ lines. lines ≡ line_count (take offered.now.from input.now)) }
+    requires place { IsPlace input.now offered.now.from known }
     requires event { event_of event.now ≡ journal_of (offered_of offered.now) }
     ensures told { OnOk result (told.new.items ≡ told.old.items
         ++ told_of_answer input.now world.old (offered_of offered.now)

@@ -7,7 +7,7 @@ ghost use Rattle.metering_model.specs.Schedule.{PlansExport};
 ghost use Rattle.metering_model.specs.Limits.{last_period, most_nodes};
 ghost use Rattle.group_events.specs.Replies.{reply_of};
 ghost use Rattle.schedule_reader.specs.Events.{HasWholeLines, planned_of};
-ghost use Rattle.schedule_writer.specs.Inner.Plans.{all_seen, behind, behind_taken, due_for, is_file_of, is_good, is_next, is_turn, one_more_ballot, one_more_batch, one_more_file, plan_of};
+ghost use Rattle.schedule_writer.specs.Inner.Plans.{IsWithinGroup, all_seen, behind, behind_taken, due_for, is_file_of, is_good, is_next, is_turn, one_more_ballot, one_more_batch, one_more_file, plan_of};
 
 use crate::faults::Stop;
 use crate::inputs::Offered;
@@ -194,8 +194,7 @@ impl<'a> Plan<'a> {
         period: u16,
         reply: &Reply,
     ) -> Result<Option<Seen>, Stop>
-        requires nodes { self.now.nodes ≤ most_nodes }
-        requires last { self.now.last ≤ last_period }
+        requires { IsWithinGroup self.now }
         ensures { IfOk result (λ next. next ≡ behind_taken
             (plan_of self.now) seen journals.now.batches (reply_of reply.now)
             (PlansExport node period)) }
@@ -219,8 +218,7 @@ impl<'a> Plan<'a> {
         event: &Planned<'_>,
         reply: &Reply,
     ) -> Result<Option<Seen>, Stop>
-        requires nodes { self.now.nodes ≤ most_nodes }
-        requires last { self.now.last ≤ last_period }
+        requires plan { IsWithinGroup self.now }
         requires whole { HasWholeLines event.now }
         ensures { IfOk result (λ next. next ≡ behind
             (plan_of self.now) seen journals.now.batches (reply_of reply.now)

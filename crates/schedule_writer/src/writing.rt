@@ -1,6 +1,6 @@
 //! `focusd schedule`: from batches to a schedule that closes their months.
 
-ghost use Rattle.std.specs.Prelude.{◌≡◌, ◌≢◌, ◌⊎◌, ◌+◌, ◌<◌, ◌≤◌, ℕ, List, Some, Ok, Err, IfOk, IfErr, IfSome, OnOk, OnErr, false, drop, length, map, max, unwrap_or, Vec};
+ghost use Rattle.std.specs.Prelude.{◌≡◌, ◌≢◌, ◌⊎◌, ◌+◌, ◌≤◌, ℕ, List, Some, Ok, Err, IfOk, IfErr, IfSome, OnOk, OnErr, false, map, max, unwrap_or, Vec};
 ghost use Rattle.std.specs.Arc.{arc_value};
 ghost use Rattle.std.specs.Io.KnownBytes.{Appends, IsAtEnd};
 ghost use Rattle.std.specs.declared.alloc.Global.{Global};
@@ -8,7 +8,6 @@ ghost use Rattle.counted_io.specs.Counts.{count_after};
 ghost use Rattle.counted_io.specs.Reading.{ConsumesAtMost};
 ghost use Rattle.counted_io.specs.Writing.{AppendsPrefix};
 ghost use Rattle.metering_model.specs.Limits.{last_period, most_agents, most_input_bytes, most_nodes};
-ghost use Rattle.input_sections.specs.declared.faults.ScheduleCode.{ScheduleCode};
 ghost use Rattle.input_sections.specs.declared.faults.ScheduleFault.{ScheduleFault};
 ghost use Rattle.input_sections.specs.RateInput.{rate_input_in};
 ghost use Rattle.schedule_writer.specs.Faults.{tells_of_reader, tells_of_writer};
@@ -17,8 +16,9 @@ ghost use Rattle.schedule_writer.specs.Refusals.{IsRefusedAt, IsTaken};
 ghost use Rattle.schedule_writer.specs.Requests.{IsRequest};
 ghost use Rattle.schedule_writer.specs.Schedules.{IsScheduleOf};
 ghost use Rattle.schedule_writer.specs.Inner.Certified.{IsCertified};
-ghost use Rattle.schedule_writer.specs.Inner.Judged.{IsAskedBy, IsAskedWithin, IsFaultOf, IsReadInput, IsUncertain};
+ghost use Rattle.schedule_writer.specs.Inner.Judged.{IsAskedBy, IsAskedWithin, IsFaultOf, IsReadInput, IsUncertain, IsUnread};
 ghost use Rattle.schedule_writer.specs.Inner.Plans.{offered_of, plan_of};
+ghost use Rattle.schedule_writer.specs.Inner.Walks.{IsGiven};
 
 use crate::asked::Request;
 use crate::certifying::certify;
@@ -155,13 +155,7 @@ fn schedule_of(
     given: RateInput,
 ) -> Result<Vec<u8>, WriteFault>
     requires request { IsRequest request }
-    requires given { rate_input_in input.now
-        ≡ Ok (record {
-          sheet = given.sheet;
-          issuer = given.issuer;
-          batch = drop given.batch_from input.now;
-        }) }
-    requires within { given.batch_from ≤ length input.now }
+    requires given { IsGiven input.now given.sheet given.issuer given.batch_from }
     ensures schedule { IfOk result
         (λ text. IsScheduleOf request (Some input.now) input.now text.items) }
     ensures fault { IfErr result (IsFaultOf input.now) }
@@ -212,16 +206,11 @@ fn input_of<R: Source>(alloc: Global, reader: &mut R) -> Result<Vec<u8>, WriteFa
     ensures whole { IfOk result
         (λ bytes. IfSome (R.remaining reader.old) (λ input. bytes.items ≡ input)) }
     ensures end { OnOk result (IsAtEnd (R.remaining reader.new)) }
-    ensures section { (fault : ScheduleFault) → result ≡ Err (WriteFault.Section fault)
-        → (fault ≡ ScheduleFault.Refused ScheduleCode.TooLong 1)
-        × IfSome (R.remaining reader.old) (λ input. most_input_bytes < length input) }
+    ensures fault { IfErr result (IsUnread (R.remaining reader.old)) }
     ensures taken { ConsumesAtMost (most_input_bytes + 1) (R.remaining reader.old)
         (R.remaining reader.new) }
     ensures count { R.failed_calls reader.new
         ≡ count_after (tells_of_reader result) (R.failed_calls reader.old) }
-    ensures no_write { result ≢ Err WriteFault.Write }
-    ensures no_refusal { (told : Vec ℕ Global) → result ≢ Err (WriteFault.Refused told) }
-    ensures no_stop { (result ≢ Err WriteFault.TooLong) × (result ≢ Err WriteFault.NotClosed) }
 {
     match read_input(alloc, reader) {
         Ok(input) => Ok(input),

@@ -1,14 +1,16 @@
 -- What is found of batches that are journaled in turn.
-use Rattle.std.specs.Prelude.{◌≡◌, ◌<◌, ◌≤◌, ◌⊎◌, ℕ, false, true, List, ◌∷◌, ◌++◌, All, Ok, Err, ⊤}
+use Rattle.std.specs.Prelude.{◌≡◌, ◌<◌, ◌≤◌, ◌⊎◌, ℕ, false, true, max, List, ◌∷◌, ◌++◌, All, length, Option, IfSome, Ok, Err, ⊤}
 use Rattle.metering_model.specs.Batch.{Batch}
 use Rattle.metering_model.specs.Front.{is_due}
-use Rattle.metering_model.specs.Limits.{last_period, most_agents}
+use Rattle.metering_model.specs.Limits.{last_period, most_agents, most_input_bytes}
 use Rattle.metering_model.specs.Sheet.{Sheet, Issuer}
 use Rattle.metering_model.specs.Transcript.{line}
 use Rattle.metering_model.specs.World.{World, Refused}
 use Rattle.metering_model.specs.declared.Refusal.{Refusal}
+use Rattle.input_sections.specs.declared.faults.ScheduleCode.TheVariants as code
 use Rattle.input_sections.specs.declared.faults.ScheduleFault.TheVariants as section
 use Rattle.input_sections.specs.RateInput.{RateInput, rate_input_in}
+use Rattle.schedule_writer.specs.declared.judging.Asked.{Asked}
 use Rattle.schedule_writer.specs.declared.faults.WriteFault.{WriteFault}
 use Rattle.schedule_writer.specs.declared.faults.WriteFault.TheVariants as fault
 use Rattle.schedule_writer.specs.Inputs.{IsLastStart, Offered, Offers, agents_of, batches_of, closes_of, item_at, items_of}
@@ -24,6 +26,13 @@ pub record IsLaterStart (base : ℕ) (b : Batch) (before last : ℕ) : Type 0 wh
 -- what is asked is within the limits of a group
 abbrev pub IsAskedWithin : (agents last : ℕ) → Type 0
 IsAskedWithin agents last = (last ≤ last_period) × (1 ≤ agents) × (agents ≤ most_agents)
+
+-- What one batch more asks too: its agent, where that is greater, and the last period in which one of its readings starts, where that is
+-- later. It is still within the limits.
+pub record IsAskedToo (base : ℕ) (b : Batch) (asked more : Asked) : Type 0 where
+  pub agents : more.agents ≡ max asked.agents b.agent
+  pub last : IsLaterStart base b asked.last more.last
+  pub within : IsAskedWithin more.agents more.last
 
 -- what these batches ask of a group: the greatest agent, and the last period in which a reading starts
 pub record IsAskedBy (base : ℕ) (bs : List Offered) (agents last : ℕ) : Type 0 where
@@ -62,6 +71,13 @@ abbrev pub IsRefusedOr : (List ℕ → Type 0) → WriteFault → Type 0
 IsRefusedOr so (fault.Refused told) = so told.items
 IsRefusedOr so fault.OutOfMemory = ⊤
 IsRefusedOr so other = ⊥
+
+-- The fault is one of reading an input whose bytes are these, where they are known: no section of it is refused, but that it is too long.
+abbrev pub IsUnread : Option (List ℕ) → WriteFault → Type 0
+IsUnread known fault.Read = ⊤
+IsUnread known (fault.Section told) = (told ≡ section.Refused code.TooLong 1) × IfSome known (λ input. most_input_bytes < length input)
+IsUnread known fault.OutOfMemory = ⊤
+IsUnread known other = ⊥
 
 -- the fault is none of the input
 abbrev pub IsUncertain : WriteFault → Type 0

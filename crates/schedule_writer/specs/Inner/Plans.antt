@@ -1,11 +1,12 @@
 -- What a schedule is to journal and to close, and what it has done so far.
-use Rattle.std.specs.Prelude.{◌≡◌, ℕ, ◌+◌, ◌==◌, ◌&&◌, Bool, true, false, not, nat_le, nat_lt, if◌then◌else◌, ⊤, List, [], ◌∷◌, length, map, Option, Some, None, Result, Ok}
+use Rattle.std.specs.Prelude.{◌≡◌, ◌≤◌, ℕ, ◌+◌, ◌==◌, ◌&&◌, Bool, true, false, not, nat_le, nat_lt, if◌then◌else◌, ⊤, List, [], ◌∷◌, length, map, Option, Some, None, Result, Ok}
 use Rattle.std.specs.List.{slice_index_or}
 use Rattle.std.specs.Option.{option_and_then, option_map_or}
 use Rattle.batch_view.specs.Batches.{batch_of}
 use Rattle.metering_model.specs.BatchReading.{is_same}
 use Rattle.metering_model.specs.Front.{front}
 use Rattle.metering_model.specs.Holding.{Holding, put}
+use Rattle.metering_model.specs.Limits.{last_period, most_nodes}
 use Rattle.metering_model.specs.Schedule.{Planned, PlansJournal, PlansDelivery, PlansStart, PlansRestart, PlansExport, PlansKeep, PlansRevival, event_of, lines_text}
 use Rattle.metering_model.specs.Step.{step}
 use Rattle.metering_model.specs.World.{World, Event, Journal, Good, Reply, Exported}
@@ -39,6 +40,11 @@ pub record Plan : Type 0 where
   pub base : ℕ
   pub batches : List (List ℕ)
   pub closes : List ℕ
+
+-- no more nodes, and no later period, than a group has
+pub record IsWithinGroup (p : LentPlan) : Type 0 where
+  pub nodes : p.nodes ≤ most_nodes
+  pub last : p.last ≤ last_period
 
 abbrev pub plan_of : LentPlan → Plan
 plan_of p = record {

@@ -9,7 +9,7 @@ use Rattle.schedule_writer.proofs.checking.check_batches.Goals as goal
 
 pub returns-clause-told : goal.returns-clause-told
 returns-clause-told c =
-    let same = said_of_given c.args.input.now c.args.given.batch_from c.args.given.sheet c.args.given.issuer c.in_ok-world.world c.requires.within c.requires.given
+    let same = said_of_given c.args.input.now c.args.given.batch_from c.args.given.sheet c.args.given.issuer c.in_ok-world.world c.requires.within c.requires.is_read
     (c.in_ok-world.ensures ∙ ap₂ world_before c.in-Ok.ensures.ok c.in-Ok-new.ensures.ok) in
     on_ok c.check_items.result (λ told. told ∙ ap (λ t. c.args.told.now.items ++ t) same) c.check_items.ensures.told
 

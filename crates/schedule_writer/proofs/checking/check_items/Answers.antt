@@ -14,16 +14,15 @@ loop-preserved c =
     let k = length input - (c.loop.counter + 1) in
     let more : length input - c.loop.counter ≡ suc k = omega (arith, c.loop-test.true) in
     let drops = length-drop c.loop.here input in
-    let some : 0 < length (drop c.loop.here input) = omega (arith, c.loop.invariant.here, c.if-here-input.false, drops) in
+    let some : 0 < length (drop c.loop.here input) = omega (arith, c.loop.invariant.place.within, c.if-here-input.false, drops) in
     let item = item_at input c.loop.here in
     let rest = items_in k input (c.loop.here + c.in_ok-next.field-0) in
     let next : items_in (length input - c.loop.counter) input c.loop.here ≡ item ∷ rest
     = ap (λ n. items_in n input c.loop.here) more
-    ∙ (item_next k input c.loop.here some ∙ ap (λ n. item ∷ items_in k input (c.loop.here + n)) (sym c.in_ok-next.ensures.length)) in
+    ∙ (item_next k input c.loop.here some ∙ ap (λ n. item ∷ items_in k input (c.loop.here + n)) (sym c.in_ok-next.ensures.length.is_length)) in
     let ahead = c.loop.invariant.ahead in
     record {
-      here = c.in_ok-next.ensures.next;
-      above = c.lines_more-above.ensures;
+      place = record { within = c.in_ok-next.ensures.length.within; above = c.lines_more-above.ensures };
       told = told_more input _ c.loop.told.items c.check_item.new.told.items c.loop.world c.check_item.new.world item rest
           (ap (λ is. c.loop.told.items ++ told_of_batches input c.loop.world (batches_of is)) (sym next) ∙ c.loop.invariant.told) c.in_ok-next.ensures.told
           c.in_ok-next.ensures.world;

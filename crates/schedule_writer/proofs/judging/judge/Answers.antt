@@ -7,19 +7,12 @@ use Rattle.schedule_writer.specs.Inner.Plans.{offered_of}
 use Rattle.schedule_writer.proofs.AnswerLaws.{journaled_is_batch, refused_now}
 use Rattle.schedule_writer.proofs.judging.judge.Goals as goal
 
-pub returns-in-Ok-true-clause-agents : goal.returns-in-Ok-true-clause-agents
-returns-in-Ok-true-clause-agents c =
+pub returns-in-Ok-true-clause-asked : goal.returns-in-Ok-true-clause-asked
+returns-in-Ok-true-clause-asked c =
     let text = c.args.offered.now.text.now in
     let journaled : IsJournaled (answer_to c.args.world.now text) = search rules in
     let read = journaled_is_batch c.args.world.now text journaled in
-    c.asked_too-more.ensures.agents text read.0 c.in-Ok.ensures read.1
-
-pub returns-in-Ok-true-clause-last : goal.returns-in-Ok-true-clause-last
-returns-in-Ok-true-clause-last c =
-    let text = c.args.offered.now.text.now in
-    let journaled : IsJournaled (answer_to c.args.world.now text) = search rules in
-    let read = journaled_is_batch c.args.world.now text journaled in
-    c.asked_too-more.ensures.last text read.0 c.in-Ok.ensures read.1
+    c.asked_too-more.ensures.asked text read.0 c.in-Ok.ensures read.1
 
 pub returns-in-Ok-false-clause-refused : goal.returns-in-Ok-false-clause-refused
 returns-in-Ok-false-clause-refused c =

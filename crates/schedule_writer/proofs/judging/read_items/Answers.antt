@@ -22,16 +22,16 @@ loop-preserved c =
     let new = c.take_item.new.items.batches.items in
     let next : items_in (length input - c.loop.counter) input c.loop.here ≡ item ∷ rest
     = ap (λ n. items_in n input c.loop.here) more
-    ∙ (item_next k input c.loop.here some ∙ ap (λ n. item ∷ items_in k input (c.loop.here + n)) (sym c.in_ok-here.ensures.length)) in
+    ∙ (item_next k input c.loop.here some ∙ ap (λ n. item ∷ items_in k input (c.loop.here + n)) (sym c.in_ok-here.ensures.length.is_length)) in
     record {
-      here = c.in_ok-here.ensures.next;
+      here = c.in_ok-here.ensures.length.within;
       batches = batches_more _ (map offered_of old) (map offered_of new) item rest
-          (ap (λ is. map offered_of old ++ batches_of is) (sym next) ∙ c.loop.invariant.batches) c.in_ok-here.ensures.batches;
+          (ap (λ is. map offered_of old ++ batches_of is) (sym next) ∙ c.loop.invariant.batches) c.in_ok-here.ensures.found.batches;
       closes = closes_more _ c.loop.items.closes.items c.take_item.new.items.closes.items (length old) (length new) item rest
-          (ap (λ is. c.loop.items.closes.items ++ closes_from (length old) is) (sym next) ∙ c.loop.invariant.closes) c.in_ok-here.ensures.closes
-          c.in_ok-here.ensures.count;
+          (ap (λ is. c.loop.items.closes.items ++ closes_from (length old) is) (sym next) ∙ c.loop.invariant.closes) c.in_ok-here.ensures.found.closes
+          c.in_ok-here.ensures.found.count;
       judged = (rw c.deref.ensures at c.in_ok-here.ensures.judged) (arc_value c.args.issuer.now) c.loop.invariant.judged;
-      within = c.in_ok-here.ensures.within;
+      within = c.in_ok-here.ensures.found.within;
     }
 
 pub returns-in_err-here-clause-refused : goal.returns-in_err-here-clause-refused
@@ -49,38 +49,27 @@ returns-in_err-here-clause-refused c =
     _ c.in_err-here.ensures.refused in
     search (rules, plain)
 
-pub returns-then-here-input-clause-batches : goal.returns-then-here-input-clause-batches
-returns-then-here-input-clause-batches c =
+pub returns-then-here-input-clause-found : goal.returns-then-here-input-clause-found
+returns-then-here-input-clause-found c =
     let input = c.args.input.now in
     let found = map offered_of c.loop.items.batches.items in
     let drops = length-drop c.loop.here input in
     let none : length (drop c.loop.here input) ≤ 0 = omega (arith, c.if-here-input.true, drops) in
-    sym (append-nil found)
-    ∙ (ap (λ is. found ++ batches_of is) (sym (items_end (length input - c.loop.counter) input c.loop.here none)) ∙ c.loop.invariant.batches)
+    let no_more = items_end (length input - c.loop.counter) input c.loop.here none in
+    record {
+      batches = sym (append-nil found) ∙ (ap (λ is. found ++ batches_of is) (sym no_more) ∙ c.loop.invariant.batches);
+      closes = sym (append-nil c.loop.items.closes.items)
+          ∙ (ap (λ is. c.loop.items.closes.items ++ closes_from (length c.loop.items.batches.items) is) (sym no_more) ∙ c.loop.invariant.closes);
+    }
 
-pub returns-then-here-input-clause-closes : goal.returns-then-here-input-clause-closes
-returns-then-here-input-clause-closes c =
-    let input = c.args.input.now in
-    let found = c.loop.items.closes.items in
-    let drops = length-drop c.loop.here input in
-    let none : length (drop c.loop.here input) ≤ 0 = omega (arith, c.if-here-input.true, drops) in
-    sym (append-nil found)
-    ∙ (ap (λ is. found ++ closes_from (length c.loop.items.batches.items) is) (sym (items_end (length input - c.loop.counter) input c.loop.here none))
-    ∙ c.loop.invariant.closes)
-
-pub returns-clause-batches : goal.returns-clause-batches
-returns-clause-batches c =
+pub returns-clause-found : goal.returns-clause-found
+returns-clause-found c =
     let input = c.args.input.now in
     let found = map offered_of c.loop.items.batches.items in
     let none : 0 ≡ length input - c.loop.counter = omega (arith, c.loop-test.false) in
-    sym (append-nil found)
-    ∙ (ap (λ is. found ++ batches_of is) (sym (items_none input c.loop.here) ∙ ap (λ n. items_in n input c.loop.here) none) ∙ c.loop.invariant.batches)
-
-pub returns-clause-closes : goal.returns-clause-closes
-returns-clause-closes c =
-    let input = c.args.input.now in
-    let found = c.loop.items.closes.items in
-    let none : 0 ≡ length input - c.loop.counter = omega (arith, c.loop-test.false) in
-    sym (append-nil found)
-    ∙ (ap (λ is. found ++ closes_from (length c.loop.items.batches.items) is) (sym (items_none input c.loop.here) ∙ ap (λ n. items_in n input c.loop.here) none)
-    ∙ c.loop.invariant.closes)
+    let no_more = sym (items_none input c.loop.here) ∙ ap (λ n. items_in n input c.loop.here) none in
+    record {
+      batches = sym (append-nil found) ∙ (ap (λ is. found ++ batches_of is) no_more ∙ c.loop.invariant.batches);
+      closes = sym (append-nil c.loop.items.closes.items)
+          ∙ (ap (λ is. c.loop.items.closes.items ++ closes_from (length c.loop.items.batches.items) is) no_more ∙ c.loop.invariant.closes);
+    }

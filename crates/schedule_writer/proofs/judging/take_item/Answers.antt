@@ -9,5 +9,5 @@ returns-in_ok-put_batch-in-Offers-clause-judged c = λ issuer so.
     let new = c.put_batch.new.items in
     let asked = c.in_ok-asked-in-Offers.ensures in
     judged_put c.args.sheet.now issuer (map offered_of old.batches.items) (map offered_of new.batches.items) (offered_of c.in-Offers.offered) c.args.world.now
-    c.judge.new.world old.asked.agents old.asked.last c.in_ok-asked-in-Offers.asked new.asked so asked.journaled asked.world asked.agents asked.last
+    c.judge.new.world old.asked c.in_ok-asked-in-Offers.asked new.asked so asked.journaled asked.world asked.asked
     c.in_ok-put_batch-in-Offers.ensures.batches c.in_ok-put_batch-in-Offers.ensures.asked

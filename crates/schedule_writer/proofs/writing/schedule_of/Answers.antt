@@ -9,29 +9,29 @@ pub schedule_with-requires-clause-read : goal.schedule_with-requires-clause-read
 schedule_with-requires-clause-read c =
     let input = c.args.input.now in
     let from = c.args.given.batch_from in
-    let same = items_behind input from c.args.given.sheet c.args.given.issuer c.requires.within in
+    let same = items_behind input from c.args.given.sheet c.args.given.issuer c.requires.given.within in
     record {
       given = record { sheet = c.args.given.sheet; issuer = c.args.given.issuer; batch = drop from input };
-      is_given = c.requires.given;
+      is_given = c.requires.given.is_read;
       by_sheet = sym (c.deref.ensures ∙ c.in-Ok.ensures.ok);
       by_issuer = sym (c.deref-2.ensures ∙ c.in-Ok-new.ensures.ok);
-      batches = ap (map offered_of) c.deref-3.ensures.value ∙ (c.in-Ok-read_items.ensures.batches ∙ ap batches_of same);
-      are_closes = c.deref-4.ensures.value ∙ (c.in-Ok-read_items.ensures.closes ∙ ap (closes_from 0) same);
+      batches = ap (map offered_of) c.deref-3.ensures.value ∙ (c.in-Ok-read_items.ensures.found.batches ∙ ap batches_of same);
+      are_closes = c.deref-4.ensures.value ∙ (c.in-Ok-read_items.ensures.found.closes ∙ ap (closes_from 0) same);
     }
 
 pub returns-in-Err-clause-fault : goal.returns-in-Err-clause-fault
 returns-in-Err-clause-fault c =
     let input = c.args.input.now in
     let from = c.args.given.batch_from in
-    let same = items_behind input from c.args.given.sheet c.args.given.issuer c.requires.within in
-    refused_fault input (record { sheet = c.args.given.sheet; issuer = c.args.given.issuer; batch = drop from input }) _ _ _ _ c.requires.given (sym c.in-Ok.ensures.ok)
+    let same = items_behind input from c.args.given.sheet c.args.given.issuer c.requires.given.within in
+    refused_fault input (record { sheet = c.args.given.sheet; issuer = c.args.given.issuer; batch = drop from input }) _ _ _ _ c.requires.given.is_read (sym c.in-Ok.ensures.ok)
     (sym c.in-Ok-new.ensures.ok) (ap batches_of same) c.in-Err.ensures.refused
 
 pub returns-clause-fault : goal.returns-clause-fault
 returns-clause-fault c =
     let input = c.args.input.now in
     let from = c.args.given.batch_from in
-    let same = items_behind input from c.args.given.sheet c.args.given.issuer c.requires.within in
-    let taken = is_taken input (record { sheet = c.args.given.sheet; issuer = c.args.given.issuer; batch = drop from input }) _ _ _ c.requires.given
-    (sym c.in-Ok.ensures.ok) (sym c.in-Ok-new.ensures.ok) (c.in-Ok-read_items.ensures.batches ∙ ap batches_of same) c.in-Ok-read_items.ensures.taken in
+    let same = items_behind input from c.args.given.sheet c.args.given.issuer c.requires.given.within in
+    let taken = is_taken input (record { sheet = c.args.given.sheet; issuer = c.args.given.issuer; batch = drop from input }) _ _ _ c.requires.given.is_read
+    (sym c.in-Ok.ensures.ok) (sym c.in-Ok-new.ensures.ok) (c.in-Ok-read_items.ensures.found.batches ∙ ap batches_of same) c.in-Ok-read_items.ensures.taken in
     IfErr-weaker c.schedule_with.result _ _ (uncertain input taken) c.schedule_with.ensures.fault

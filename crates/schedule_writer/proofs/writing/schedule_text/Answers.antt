@@ -1,8 +1,9 @@
-use Rattle.std.proofs.Common.{rules}
-use Rattle.schedule_writer.proofs.KnownLaws.{longer_input}
+use Rattle.std.proofs.Common.{◌≡◌, rules}
+use Rattle.schedule_writer.specs.declared.faults.WriteFault.TheVariants.{Section}
+use Rattle.schedule_writer.proofs.KnownLaws.{unread_section}
 use Rattle.schedule_writer.proofs.writing.schedule_text.Goals as goal
 
 pub returns-in_err-input-clause-section : goal.returns-in_err-input-clause-section
 returns-in_err-input-clause-section g c = λ fault is.
-    let told = c.in_err-input.ensures.section fault (search rules) in
-    longer_input (g.R.Source.remaining c.args.reader.now) fault told.1 told.0
+    let same : c.in_err-input.field-0.0 ≡ Section fault = search rules in
+    unread_section (g.R.Source.remaining c.args.reader.now) c.in_err-input.field-0.0 fault c.in_err-input.ensures.fault same
