@@ -6,47 +6,37 @@ use Rattle.metering_model.specs.Schedule.{lines_text}
 use Rattle.transcript_laws.specs.FirstFiles.{told_behind, words_above}
 use Rattle.transcript_laws.proofs.TextLaws.{lines_append, whole_both}
 use Rattle.transcript_laws.proofs.FirstFileLaws.{first_behind, untold_first}
-use Rattle.period_file.specs.Inner.Reading.{Takes, TakesTold, Passes, Finds}
-use Rattle.period_file.proofs.Taking.{takes_nothing, takes_on}
-
-pub passes_nothing : (period : ℕ) (b : List ℕ) (r : ℕ) (l : Option (List ℕ)) → Passes period b b r r l l
-passes_nothing period b r l = record { lines = []; whole = refl; none = refl; takes = takes_nothing b r l }
+use Rattle.period_file.specs.Inner.Reading.{Takes, TakesTold, Passes, Finds, IsTold}
+use Rattle.period_file.proofs.Taking.{takes_on}
 
 pub none_of : (told : Option ℕ) → is_some told ≡ false → told ≡ None
 none_of None untrue = refl
 none_of (Some n) untrue = absurd (cc)
 
-module _ (period : ℕ) (a b c : List ℕ) (r s t : ℕ) (l m n : Option (List ℕ)) (it : Passes period a b r s l m) (words : List ℕ) (same : words ≡ words_above period) where
+module _ {period : ℕ} {a b : List ℕ} {r s : ℕ} {l m : Option (List ℕ)} (it : Passes period a b r s l m) {words : List ℕ} (same : words ≡ words_above period) where
   -- the next line is no such line
-  pub passes_told : (told : Option ℕ) → told ≡ None → TakesTold words told b c s t m n → Passes period a c r t l n
+  pub passes_told : (told : Option ℕ) {c : List ℕ} {t : ℕ} {n : Option (List ℕ)} → told ≡ None → TakesTold words told b c s t m n → Passes period a c r t l n
   passes_told (Some count) is next = absurd (cc)
-  passes_told None is next =
-      let own : lines_text (next.text ∷ []) ≡ line next.text = append-nil (line next.text) in
-      let together : lines_text (it.lines ++ next.text ∷ []) ≡ lines_text it.lines ++ line next.text = lines_append it.lines (next.text ∷ []) ∙ ap (λ t. lines_text it.lines ++ t) own in
+  passes_told None {c} {t} {n} is next =
+      let text = next.taken.text in
+      let own : lines_text (text ∷ []) ≡ line text = append-nil (line text) in
+      let together : lines_text (it.lines ++ text ∷ []) ≡ lines_text it.lines ++ line text = lines_append it.lines (text ∷ []) ∙ ap (λ t. lines_text it.lines ++ t) own in
       record {
-        lines = it.lines ++ next.text ∷ [];
-        whole = whole_both it.lines (next.text ∷ []) it.whole (and_from _ _ next.lacks_feed refl);
-        none = first_behind period it.lines (next.text ∷ []) it.none ∙ untold_first period next.text [] (ap (λ w. told_behind w next.text) (sym same) ∙ next.is_told);
-        takes = subst (Takes a c r t l n) (sym together) (takes_on a b c r s t l m n (lines_text it.lines) (line next.text) it.takes next.takes);
+        lines = it.lines ++ text ∷ [];
+        untold = record {
+          whole = whole_both it.lines (text ∷ []) it.untold.whole (and_from _ _ next.taken.lacks_feed refl);
+          none = first_behind period it.lines (text ∷ []) it.untold.none ∙ untold_first period text [] (ap (λ w. told_behind w text) (sym same) ∙ next.is_told);
+        };
+        takes = subst (Takes a c r t l n) (sym together) (takes_on it.takes next.taken.takes);
       }
 
   -- it is one
-  pub finds_told : (told : Option ℕ) (count : ℕ) → told ≡ Some count → TakesTold words told b c s t m n → Finds period count a c r t l n
-  finds_told None count is next = absurd (cc)
-  finds_told (Some k) count is next =
-      let equal : k ≡ count = cc in
-      record {
-        lines = it.lines;
-        whole = it.whole;
-        none = it.none;
-        above = next.text;
-        lacks_feed = next.lacks_feed;
-        number = next.is_told.0;
-        is_told = ap (λ w. told_behind w next.text) (sym same) ∙ next.is_told.1;
-        is_count = sym equal ∙ next.is_told.2;
-        takes = takes_on a b c r s t l m n (lines_text it.lines) (line next.text) it.takes next.takes;
-      }
-
-  -- whatever was taken
-  pub passes_taken : (taken : List ℕ) × Takes b c s t m n taken → (taken : List ℕ) × Takes a c r t l n taken
-  passes_taken next = (lines_text it.lines ++ next.0, takes_on a b c r s t l m n (lines_text it.lines) next.0 it.takes next.1)
+  pub finds_told : {told : Option ℕ} {c : List ℕ} {t : ℕ} {n : Option (List ℕ)} (count : ℕ) → told ≡ Some count → TakesTold words told b c s t m n → Finds period count a c r t l n
+  finds_told {told} count is next = record {
+    lines = it.lines;
+    untold = it.untold;
+    above = next.taken.text;
+    lacks_feed = next.taken.lacks_feed;
+    is_told = subst (λ (w : List ℕ). IsTold (Some count) (told_behind w next.taken.text)) same (subst (λ (o : Option ℕ). IsTold o (told_behind words next.taken.text)) is next.is_told);
+    takes = takes_on it.takes next.taken.takes;
+  }

@@ -1,9 +1,9 @@
 -- Reading on, and taking what was read: one after the other, and from a text's front.
-use Rattle.std.proofs.Common.{◌≡◌, ℕ, ◌+◌, ◌≤◌, true, List, [], ◌∷◌, ◌++◌, length, take, drop, Option, Some, None, refl, sym, ap, ◌∙◌, arith, append_assoc, append-nil, subst, Result, Ok, Err, OnOk, OnErr, IfErr}
+use Rattle.std.proofs.Common.{◌≡◌, ℕ, ◌+◌, ◌≤◌, true, List, [], ◌∷◌, ◌++◌, length, take, drop, Option, Some, None, refl, sym, ap, ◌∙◌, arith, append_assoc, append-nil, subst, Result, Ok, Err, OnOk, OnErr}
 use Rattle.std.specs.List.{position}
 use Rattle.std.specs.Prelude.{◌==◌}
 use Rattle.std.specs.Io.KnownBytes.{Appends}
-use Rattle.std.proofs.KnownBytes.{Consumes-nil, Consumes-trans, Appends-nil, Appends-trans}
+use Rattle.std.proofs.KnownBytes.{Consumes-trans, Appends-trans}
 use Rattle.std.proofs.lemmas.Bool.{and_parts, and_from}
 use Rattle.std.proofs.lemmas.List.{length-append, length-take-le, take-append-drop, length-drop}
 use Rattle.std.proofs.Math.Seq.{drop-append_seam, take-append_seam}
@@ -16,46 +16,51 @@ use Rattle.byte_text.proofs.LineLemmas.{lines_at_feed, lines_without_feed}
 use Rattle.counted_io.specs.Writing.{AppendsSome, AppendsPrefix}
 use Rattle.counted_io.proofs.Prefixes.{prefix_behind}
 use Rattle.transcript_laws.proofs.TextLaws.{are_whole, lines_append, lines_in_whole, rest_in_lacks, whole_both}
-use Rattle.period_file.specs.Inner.Reading.{Takes, IsLineAt, AreInFront, CopiesAhead, StopsAhead, Copies, Stops, StopsShort}
+use Rattle.period_file.specs.Inner.Reading.{Takes, IsLineAt, AreInFront, CopiesAhead, StopsAhead, Copies, Stops}
 
 -- ---- bytes that came, and those that were taken
 
-pub takes_nothing : (b : List ℕ) (r : ℕ) (l : Option (List ℕ)) → Takes b b r r l l []
-takes_nothing b r l = record { came = []; consumed = Consumes-nil l; joined = append-nil b; counted = omega arith }
+module _ {a b : List ℕ} {r s : ℕ} {l m : Option (List ℕ)} {xs : List ℕ} (it : Takes a b r s l m xs) where
+  pub takes_on : {c : List ℕ} {t : ℕ} {n : Option (List ℕ)} {ys : List ℕ} → Takes b c s t m n ys → Takes a c r t l n (xs ++ ys)
+  takes_on {c} {t} {n} {ys} next = record {
+    came = it.came ++ next.came;
+    consumed = Consumes-trans l m n it.came next.came it.consumed next.consumed;
+    joined =
+        sym (append_assoc a it.came next.came) ∙ ap (λ u. u ++ next.came) it.joined ∙ append_assoc xs b next.came
+        ∙ ap (λ u. xs ++ u) next.joined ∙ sym (append_assoc xs ys c);
+    counted = let first = it.counted in let second = next.counted in omega (arith, first, second, length-append it.came next.came);
+  }
 
-pub takes_on : (a b c : List ℕ) (r s t : ℕ) (l m n : Option (List ℕ)) (xs ys : List ℕ) → Takes a b r s l m xs → Takes b c s t m n ys → Takes a c r t l n (xs ++ ys)
-takes_on a b c r s t l m n xs ys one two = record {
-  came = one.came ++ two.came;
-  consumed = Consumes-trans l m n one.came two.came one.consumed two.consumed;
-  joined =
-      sym (append_assoc a one.came two.came) ∙ ap (λ u. u ++ two.came) one.joined ∙ append_assoc xs b two.came
-      ∙ ap (λ u. xs ++ u) two.joined ∙ sym (append_assoc xs ys c);
-  counted = let first = one.counted in let second = two.counted in omega (arith, first, second, length-append one.came two.came);
-}
+  -- more is read, and nothing taken
+  pub reads_on : {c : List ℕ} {t : ℕ} {n : Option (List ℕ)} → Takes b c s t m n [] → Takes a c r t l n xs
+  reads_on {c} {t} {n} next = subst (Takes a c r t l n) (append-nil xs) (takes_on next)
 
--- some of what is ahead is taken
-pub takes_front : (a b c : List ℕ) (r s : ℕ) (l m : Option (List ℕ)) (xs ys : List ℕ) → Takes a b r s l m xs → b ≡ ys ++ c → Takes a c r s l m (xs ++ ys)
-takes_front a b c r s l m xs ys it is = record {
-  came = it.came;
-  consumed = it.consumed;
-  joined = it.joined ∙ ap (λ u. xs ++ u) is ∙ sym (append_assoc xs ys c);
-  counted = it.counted;
-}
+  -- some of what is ahead is taken
+  pub takes_front : (c ys : List ℕ) → b ≡ ys ++ c → Takes a c r s l m (xs ++ ys)
+  takes_front c ys is = record {
+    came = it.came;
+    consumed = it.consumed;
+    joined = it.joined ∙ ap (λ u. xs ++ u) is ∙ sym (append_assoc xs ys c);
+    counted = it.counted;
+  }
 
--- or all
-pub takes_all : (a b : List ℕ) (r s : ℕ) (l m : Option (List ℕ)) (xs : List ℕ) → Takes a b r s l m xs → Takes a [] r s l m (xs ++ b)
-takes_all a b r s l m xs it = takes_front a b [] r s l m xs b it (sym (append-nil b))
+  -- or all
+  pub takes_all : Takes a [] r s l m (xs ++ b)
+  takes_all = takes_front [] b (sym (append-nil b))
 
--- where nothing is taken, what came is behind
-pub came_behind : (a b : List ℕ) (r s : ℕ) (l m : Option (List ℕ)) (it : Takes a b r s l m []) → b ≡ a ++ it.came
-came_behind a b r s l m it = sym it.joined
+  -- or a line that ends there
+  pub takes_line : {c : List ℕ} {s' : ℕ} (ends : (end : ℕ) × IsLineAt b end × (c ≡ drop (end + 1) b)) → s' ≡ s → Takes a c r s' l m (xs ++ line (take ends.0 b))
+  takes_line {c} {s'} ends same =
+      let text = take ends.0 b in
+      subst (λ (x : ℕ). Takes a c r x l m (xs ++ line text)) (sym same) (takes_front c (line text) (ends.1.split ∙ ap (λ t. line text ++ t) (sym ends.2)))
 
-pub read_more : (a b : List ℕ) (r s : ℕ) (l m : Option (List ℕ)) → Takes a b r s l m [] → length a + s ≡ length b + r
-read_more a b r s l m it =
-    let size = ap length (came_behind a b r s l m it) in
-    let sum = length-append a it.came in
-    let counted = it.counted in
-    omega (arith, size, sum, counted)
+  -- what came was read, whatever was taken
+  pub only_read : Takes a (a ++ it.came) r s l m []
+  only_read = record { came = it.came; consumed = it.consumed; joined = refl; counted = it.counted }
+
+  -- whatever is taken then
+  pub taken_on : {c : List ℕ} {t : ℕ} {n : Option (List ℕ)} → (taken : List ℕ) × Takes b c s t m n taken → (taken : List ℕ) × Takes a c r t l n taken
+  taken_on next = (xs ++ next.0, takes_on next.1)
 
 -- ---- the first line
 
@@ -95,21 +100,7 @@ line_behind text n i few front it =
       split = whole ∙ sym (append_assoc l (10 ∷ []) rest) ∙ ap (λ t. line t ++ rest) (sym is_front) ∙ ap (λ t. line (take (n + i) text) ++ t) (sym is_rest);
     }
 
--- where neither has one, none of it has
-pub no_line_behind : (text : List ℕ) (n : ℕ) → lacks 10 (take n text) ≡ true → lacks 10 (drop n text) ≡ true → lacks 10 text ≡ true
-no_line_behind text n front back = ap (lacks 10) (sym (take-append-drop n text)) ∙ list_all_both _ (take n text) (drop n text) front back
-
--- all that was ahead before more came is the front of what is ahead then
-pub front_scanned : (a b : List ℕ) (r s : ℕ) (l m : Option (List ℕ)) → Takes a b r s l m [] → lacks 10 a ≡ true → (length a ≤ length b) × (lacks 10 (take (length a) b) ≡ true)
-front_scanned a b r s l m it whole =
-    let is = came_behind a b r s l m it in
-    let size = ap length is ∙ length-append a it.came in
-    (omega (arith, size), ap (lacks 10) (ap (take (length a)) is ∙ take-append_seam a it.came) ∙ whole)
-
 -- ---- lines at the front
-
-pub none_in_front : (text : List ℕ) → AreInFront text 0 0
-none_in_front text = record { lines = []; whole = refl; counted = refl; within = omega arith; split = refl; size = refl }
 
 pub one_more_in_front : (text : List ℕ) (count at i : ℕ) → AreInFront text count at → IsLineAt (drop at text) i → AreInFront text (count + 1) (at + (i + 1))
 one_more_in_front text count at i here next =
@@ -136,67 +127,63 @@ one_more_in_front text count at i here next =
     and_one : (l : List ℕ) → lacks 10 l ≡ true → are_whole (l ∷ []) ≡ true
     and_one l h = and_from _ _ h refl
 
-pub front_is : (text : List ℕ) (count at : ℕ) (it : AreInFront text count at) → take at text ≡ lines_text it.lines
-front_is text count at it = ap (take at) it.split ∙ ap (λ k. take k (lines_text it.lines ++ drop at text)) (sym it.size) ∙ take-append_seam (lines_text it.lines) (drop at text)
-
 -- ---- what was written
 
 pub some_of_prefix : (old new : Option (List ℕ)) (xs : List ℕ) → AppendsPrefix old new xs → AppendsSome old new xs
 some_of_prefix old new xs it = let short = it.1 in (it.0, omega (arith, short), it.2)
 
-pub some_of_nothing : (old : Option (List ℕ)) (xs : List ℕ) → AppendsSome old old xs
-some_of_nothing old xs = (0, omega arith, Appends-nil old)
+pub some_of_all : (old new : Option (List ℕ)) (xs : List ℕ) → Appends old new xs → AppendsSome old new xs
+some_of_all old new xs it = (length xs, omega arith, subst (Appends old new) (sym (ap (take (length xs)) (sym (append-nil xs)) ∙ take-append_seam xs [])) it)
 
 -- ---- copying on
 
-pub copies_nothing : (asked : ℕ) (b : List ℕ) (r : ℕ) (l w : Option (List ℕ)) → Copies asked asked b b r r l l w w
-copies_nothing asked b r l w = record { lines = []; whole = refl; counted = omega arith; takes = takes_nothing b r l; appended = Appends-nil w }
-
-pub copies_on : (asked lacking count : ℕ) (a b c d : List ℕ) (r s t : ℕ) (l m n u v w : Option (List ℕ)) → Copies asked lacking a b r s l m u v → Takes b c s t m n [] → CopiesAhead count c d v w → count ≤ lacking
-    → (rest : ℕ) → rest + count ≡ lacking → Copies asked rest a d r t l n u w
-copies_on asked lacking count a b c d r s t l m n u v w before reads ahead few rest is = record {
-  lines = before.lines ++ ahead.lines;
-  whole = whole_both before.lines ahead.lines before.whole ahead.whole;
-  counted = let sum = length-append before.lines ahead.lines in let one = before.counted in let two = ahead.counted in omega (arith, sum, one, two, is);
-  takes =
-      subst (Takes a d r t l n) (ap (λ t. t ++ lines_text ahead.lines) (append-nil (lines_text before.lines)) ∙ sym (lines_append before.lines ahead.lines))
-      (takes_front a c d r t l n (lines_text before.lines ++ []) (lines_text ahead.lines) (takes_on a b c r s t l m n (lines_text before.lines) [] before.takes reads) ahead.split);
-  appended =
-      subst (Appends u w) (sym (lines_append before.lines ahead.lines)) (Appends-trans u v w (lines_text before.lines) (lines_text ahead.lines) before.appended ahead.appended);
+-- reading on copies nothing
+pub copies_read : {asked lacking : ℕ} {a b c : List ℕ} {r s t : ℕ} {l m n u v : Option (List ℕ)} → Copies asked lacking a b r s l m u v → Takes b c s t m n [] → Copies asked lacking a c r t l n u v
+copies_read it reads = record {
+  lines = it.lines;
+  whole = it.whole;
+  counted = it.counted;
+  takes = reads_on it.takes reads;
+  appended = it.appended;
 }
 
--- it stops where a read fails
-pub stops_at_read : (asked lacking : ℕ) (a b c : List ℕ) (r s t : ℕ) (l m n u v : Option (List ℕ)) → Copies asked lacking a b r s l m u v → Takes b c s t m n [] → Stops asked a r t l n u v
-stops_at_read asked lacking a b c r s t l m n u v before reads = record {
-  lines = before.lines;
-  rest = c;
-  whole = before.whole;
-  few = let counted = before.counted in omega (arith, counted);
-  takes = subst (Takes a c r t l n) (append-nil (lines_text before.lines)) (takes_on a b c r s t l m n (lines_text before.lines) [] before.takes reads);
-  appended = (length (lines_text before.lines), omega arith, subst (Appends u v) (sym (take_whole (lines_text before.lines))) before.appended);
-}
-  where
-    take_whole : (xs : List ℕ) → take (length xs) xs ≡ xs
-    take_whole xs = ap (take (length xs)) (sym (append-nil xs)) ∙ take-append_seam xs []
+module _ {asked lacking : ℕ} {a b : List ℕ} {r s : ℕ} {l m u v : Option (List ℕ)} (it : Copies asked lacking a b r s l m u v) where
+  pub copies_on : {count rest : ℕ} {c : List ℕ} {w : Option (List ℕ)} → CopiesAhead count b c v w → rest + count ≡ lacking → Copies asked rest a c r s l m u w
+  copies_on {count} {rest} {c} {w} ahead is = record {
+    lines = it.lines ++ ahead.lines;
+    whole = whole_both it.lines ahead.lines it.whole ahead.whole;
+    counted = let sum = length-append it.lines ahead.lines in let one = it.counted in let two = ahead.counted in omega (arith, sum, one, two, is);
+    takes = subst (Takes a c r s l m) (sym (lines_append it.lines ahead.lines)) (takes_front it.takes c (lines_text ahead.lines) ahead.split);
+    appended =
+        subst (Appends u w) (sym (lines_append it.lines ahead.lines)) (Appends-trans u v w (lines_text it.lines) (lines_text ahead.lines) it.appended ahead.appended);
+  }
 
--- or a write
-pub stops_at_write : (asked lacking : ℕ) (a b c : List ℕ) (r s t : ℕ) (l m n u v w : Option (List ℕ)) → Copies asked lacking a b r s l m u v → Takes b c s t m n [] → StopsAhead lacking c v w
-    → StopsShort asked a r t l n u w
-stops_at_write asked lacking a b c r s t l m n u v w before reads ahead = record {
-  lines = before.lines ++ ahead.lines;
-  rest = ahead.rest;
-  whole = whole_both before.lines ahead.lines before.whole ahead.whole;
-  few = let sum = length-append before.lines ahead.lines in let one = before.counted in let two = ahead.few in omega (arith, sum, one, two);
-  takes =
-      subst (Takes a ahead.rest r t l n) (ap (λ t. t ++ lines_text ahead.lines) (append-nil (lines_text before.lines)) ∙ sym (lines_append before.lines ahead.lines))
-      (takes_front a c ahead.rest r t l n (lines_text before.lines ++ []) (lines_text ahead.lines) (takes_on a b c r s t l m n (lines_text before.lines) [] before.takes reads) ahead.split);
-  appended =
-      subst (AppendsPrefix u w) (sym (lines_append before.lines ahead.lines))
-      (prefix_behind u v w (lines_text before.lines) (lines_text ahead.lines) before.appended ahead.appended);
-}
+  -- it stops where a read fails
+  pub stops_at_read : Stops AppendsSome asked a r s l m u v
+  stops_at_read = record {
+    lines = it.lines;
+    rest = b;
+    whole = it.whole;
+    few = let counted = it.counted in omega (arith, counted);
+    takes = it.takes;
+    appended = some_of_all u v (lines_text it.lines) it.appended;
+  }
+
+  -- or a write
+  pub stops_at_write : {w : Option (List ℕ)} → StopsAhead lacking b v w → Stops AppendsPrefix asked a r s l m u w
+  stops_at_write {w} ahead = record {
+    lines = it.lines ++ ahead.lines;
+    rest = ahead.rest;
+    whole = whole_both it.lines ahead.lines it.whole ahead.whole;
+    few = let sum = length-append it.lines ahead.lines in let one = it.counted in let two = ahead.few in omega (arith, sum, one, two);
+    takes = subst (Takes a ahead.rest r s l m) (sym (lines_append it.lines ahead.lines)) (takes_front it.takes ahead.rest (lines_text ahead.lines) ahead.split);
+    appended =
+        subst (AppendsPrefix u w) (sym (lines_append it.lines ahead.lines))
+        (prefix_behind u v w (lines_text it.lines) (lines_text ahead.lines) it.appended ahead.appended);
+  }
 
 -- short of all, it is some of it
-pub stops_some : {asked : ℕ} {a : List ℕ} {r t : ℕ} {l n u w : Option (List ℕ)} → StopsShort asked a r t l n u w → Stops asked a r t l n u w
+pub stops_some : {asked : ℕ} {a : List ℕ} {r t : ℕ} {l n u w : Option (List ℕ)} → Stops AppendsPrefix asked a r t l n u w → Stops AppendsSome asked a r t l n u w
 stops_some {asked} {a} {r} {t} {l} {n} {u} {w} it = record {
   lines = it.lines;
   rest = it.rest;
@@ -206,28 +193,14 @@ stops_some {asked} {a} {r} {t} {l} {n} {u} {w} it = record {
   appended = some_of_prefix u w (lines_text it.lines) it.appended;
 }
 
--- reading on copies nothing
-pub copies_read : (asked lacking : ℕ) (a b c : List ℕ) (r s t : ℕ) (l m n u v : Option (List ℕ)) → Copies asked lacking a b r s l m u v → Takes b c s t m n [] → Copies asked lacking a c r t l n u v
-copies_read asked lacking a b c r s t l m n u v before reads = record {
-  lines = before.lines;
-  whole = before.whole;
-  counted = before.counted;
-  takes = subst (Takes a c r t l n) (append-nil (lines_text before.lines)) (takes_on a b c r s t l m n (lines_text before.lines) [] before.takes reads);
-  appended = before.appended;
-}
-
 -- ---- dropping what was read
 
-pub drops_on : (a b c e : List ℕ) (r s s' t k : ℕ) (l m n : Option (List ℕ)) → (dropped : List ℕ) × Takes a b r s l m dropped → c ≡ drop k b → s' ≡ s → Takes c e s' t m n []
-    → (dropped : List ℕ) × Takes a e r t l n dropped
-drops_on a b c e r s s' t k l m n before is same reads =
+pub drops_on : {a b c e : List ℕ} {r s s' t : ℕ} {l m n : Option (List ℕ)} → (taken : List ℕ) × Takes a b r s l m taken → (k : ℕ) → c ≡ drop k b → s' ≡ s → Takes c e s' t m n []
+    → (taken : List ℕ) × Takes a e r t l n taken
+drops_on {a} {b} {c} {e} {r} {s} {s'} {t} {l} {m} {n} it k is same reads =
     let parts : b ≡ take k b ++ c = sym (take-append-drop k b) ∙ ap (λ u. take k b ++ u) (sym is) in
-    let cut = takes_front a b c r s l m before.0 (take k b) before.1 parts in
     let more : Takes c e s t m n [] = subst (λ (x : ℕ). Takes c e x t m n []) same reads in
-    ((before.0 ++ take k b) ++ [], takes_on a c e r s t l m n (before.0 ++ take k b) [] cut more)
-
-pub drops_all : (a e : List ℕ) (r t : ℕ) (l n : Option (List ℕ)) → (dropped : List ℕ) × Takes a e r t l n dropped → (dropped : List ℕ) × Takes a [] r t l n dropped
-drops_all a e r t l n it = (it.0 ++ e, takes_all a e r t l n it.0 it.1)
+    (it.0 ++ take k b, reads_on (takes_front it.1 c (take k b) parts) more)
 
 -- ---- answers that are results
 
@@ -238,7 +211,3 @@ on_err (Err e) p = p
 pub on_ok_both : {T E P Q S : Type 0} (r : Result T E) → OnOk r P → OnOk r Q → (P → Q → S) → OnOk r S
 on_ok_both (Ok x) p q f = f p q
 on_ok_both (Err e) p q f = tt
-
-pub if_err_weaker : {T E : Type 0} (r : Result T E) (P Q : E → Type 0) → IfErr r P → ((e : E) → P e → Q e) → IfErr r Q
-if_err_weaker (Ok x) P Q p f = tt
-if_err_weaker (Err e) P Q p f = f e p

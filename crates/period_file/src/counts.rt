@@ -1,11 +1,10 @@
 //! The line above a file, and the number of lines that it says.
 
-ghost use Rattle.std.specs.Prelude.{◌≡◌, ◌≤◌, ℕ, List, Option, Some, None, Ok, IfOk, IfErr};
+ghost use Rattle.std.specs.Prelude.{◌≡◌, ◌≤◌, ℕ, List, Option, Some, None, Ok};
 ghost use Rattle.metering_model.specs.Limits.{most_transcript_bytes};
-ghost use Rattle.counted_io.specs.Counts.{count_after};
 ghost use Rattle.transcript_laws.specs.FirstFiles.{told_behind, words_above};
-ghost use Rattle.period_file.specs.Faults.{tells_of_reader};
-ghost use Rattle.period_file.specs.Inner.Reading.{EndsUntold, IsBeyond, IsOfReading, IsTold, Takes, TakesTold};
+ghost use Rattle.period_file.specs.Inner.Calls.{ReadsWithin};
+ghost use Rattle.period_file.specs.Inner.Reading.{EndsUntold, IsTold, Takes, TakesTold};
 
 use crate::faults::FileFault;
 use crate::lines::{line_end, pass_line, read_ahead};
@@ -43,37 +42,6 @@ pub(crate) fn told_behind(words: &[u8], line: &[u8]) -> Option<u64>
     }
 }
 
-/// Takes the next line, for which all of it is read first, and returns what it tells after these words: None where no
-/// line is left.
-fn take_told<S: Source>(
-    words: &[u8],
-    unread: &mut Unread,
-    source: &mut S,
-) -> Result<Option<Option<u64>>, FileFault>
-    requires { unread.old.read ≤ most_transcript_bytes }
-    ensures takes { (taken : List ℕ)
-        × Takes unread.old.bytes unread.new.bytes unread.old.read unread.new.read
-        (S.remaining source.old) (S.remaining source.new) taken }
-    ensures told { (told : Option ℕ) → result ≡ Ok (Some told) → TakesTold words.now told
-        unread.old.bytes unread.new.bytes unread.old.read unread.new.read
-        (S.remaining source.old) (S.remaining source.new) }
-    ensures none { (period : ℕ) → result ≡ Ok None
-        → EndsUntold period unread.old.bytes unread.old.read unread.new.read
-        (S.remaining source.old) (S.remaining source.new) }
-    ensures within { IfOk result (λ told. unread.new.read ≤ most_transcript_bytes) }
-    ensures most { unread.new.read ≤ 4_294_967_297 }
-    ensures reading { IfErr result (λ fault. IsOfReading fault × IsBeyond fault unread.new.read) }
-    ensures count { S.failed_calls source.new
-        ≡ count_after (tells_of_reader result) (S.failed_calls source.old) }
-{
-    let Some(end) = line_end(unread, source)? else {
-        return Ok(None);
-    };
-    let told = told_behind(words, &unread.ahead()[..end]);
-    unread.take(end + 1);
-    Ok(Some(told))
-}
-
 /// Takes the next line, and returns what it tells after these words: None where no line is left that could tell
 /// something. Only a line that begins with them is kept until it ends.
 pub(crate) fn next_told<S: Source>(
@@ -91,17 +59,19 @@ pub(crate) fn next_told<S: Source>(
     ensures none { (period : ℕ) → words.now ≡ words_above period → result ≡ Ok None
         → EndsUntold period unread.old.bytes unread.old.read unread.new.read
         (S.remaining source.old) (S.remaining source.new) }
-    ensures within { IfOk result (λ told. unread.new.read ≤ most_transcript_bytes) }
-    ensures most { unread.new.read ≤ 4_294_967_297 }
-    ensures reading { IfErr result (λ fault. IsOfReading fault × IsBeyond fault unread.new.read) }
-    ensures count { S.failed_calls source.new
-        ≡ count_after (tells_of_reader result) (S.failed_calls source.old) }
+    ensures reads { ReadsWithin result unread.new.read (S.failed_calls source.old)
+        (S.failed_calls source.new) }
 {
     if !read_ahead(words.len(), unread, source)? {
         return Ok(None);
     }
     if is_same(&unread.ahead()[..words.len()], words) {
-        return take_told(words, unread, source);
+        let Some(end) = line_end(unread, source)? else {
+            return Ok(None);
+        };
+        let told = told_behind(words, &unread.ahead()[..end]);
+        unread.take(end + 1);
+        return Ok(Some(told));
     }
     if pass_line(unread, source)? {
         Ok(Some(None))

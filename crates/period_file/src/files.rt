@@ -1,13 +1,15 @@
 //! The first file of a period in what a source gives.
 
-ghost use Rattle.std.specs.Prelude.{◌+◌, ◌≡◌, ◌<◌, ◌≤◌, ℕ, List, [], Some, None, Ok, Err, IfOk, IfErr, IfSome, OnOk, OnErr};
+ghost use Rattle.std.specs.Prelude.{◌+◌, ◌≡◌, ◌<◌, ◌≤◌, ℕ, List, Some, None, Ok, Err, IfOk, IfErr, IfSome, OnOk, OnErr};
 ghost use Rattle.std.specs.Io.KnownBytes.{Appends, IsAtEnd};
 ghost use Rattle.metering_model.specs.Limits.{most_transcript_bytes};
 ghost use Rattle.counted_io.specs.Counts.{count_after};
 ghost use Rattle.counted_io.specs.Reading.{ConsumesAtMost};
+ghost use Rattle.counted_io.specs.Writing.{AppendsPrefix, AppendsSome};
 ghost use Rattle.period_file.specs.Faults.{tells_of_reader, tells_of_writer};
 ghost use Rattle.period_file.specs.Files.{AppendsFront, AppendsLess, AppendsPart, IsFileOf, IsRefusal, file_in};
-ghost use Rattle.period_file.specs.Inner.Reading.{Copies, CopiesAhead, EndsUntold, Finds, IsBeyond, IsEnded, IsLineAt, IsOfCopying, IsOfReading, Stops, StopsAhead, StopsShort, Takes};
+ghost use Rattle.period_file.specs.Inner.Calls.{CopiesWithin, ReadsWithin};
+ghost use Rattle.period_file.specs.Inner.Reading.{Copies, CopiesAhead, EndsUntold, Finds, IsEnded, IsShareOf, Stops, StopsAhead, Takes};
 
 use crate::counts::{next_told, words_above};
 use crate::faults::FileFault;
@@ -34,11 +36,8 @@ fn find_line_above<S: Source>(
     ensures takes { (taken : List ℕ)
         × Takes unread.old.bytes unread.new.bytes unread.old.read unread.new.read
         (S.remaining source.old) (S.remaining source.new) taken }
-    ensures within { IfOk result (λ found. unread.new.read ≤ most_transcript_bytes) }
-    ensures most { unread.new.read ≤ 4_294_967_297 }
-    ensures reading { IfErr result (λ fault. IsOfReading fault × IsBeyond fault unread.new.read) }
-    ensures count { S.failed_calls source.new
-        ≡ count_after (tells_of_reader result) (S.failed_calls source.old) }
+    ensures reads { ReadsWithin result unread.new.read (S.failed_calls source.old)
+        (S.failed_calls source.new) }
 {
     let words = words_above(period);
     loop {
@@ -55,9 +54,7 @@ fn find_line_above<S: Source>(
 fn copy_ahead<W: Sink>(unread: &mut Unread, writer: &mut W, most: u64) -> Result<u64, FileFault>
     ensures copied { IfOk result (λ count. CopiesAhead count unread.old.bytes unread.new.bytes
         (W.contents writer.old) (W.contents writer.new)) }
-    ensures some { IfOk result
-        (λ count. (end : ℕ) → IsLineAt unread.old.bytes end → 0 < most → 0 < count) }
-    ensures few { IfOk result (λ count. count ≤ most) }
+    ensures share { IfOk result (IsShareOf most unread.old.bytes) }
     ensures stopped { OnErr result
         (StopsAhead most unread.old.bytes (W.contents writer.old) (W.contents writer.new)) }
     ensures fault { IfErr result (λ fault. fault ≡ FileFault.Write) }
@@ -86,20 +83,14 @@ fn copy_lines<S: Source, W: Sink>(
         (W.contents writer.old) (W.contents writer.new)) }
     ensures ended { IfOk result
         (λ lacking. 0 < lacking → IsEnded unread.new.bytes (S.remaining source.new)) }
-    ensures stopped { OnErr result (Stops count unread.old.bytes unread.old.read unread.new.read
-        (S.remaining source.old) (S.remaining source.new) (W.contents writer.old)
-        (W.contents writer.new)) }
-    ensures short { result ≡ Err FileFault.Write
-        → StopsShort count unread.old.bytes unread.old.read unread.new.read
-        (S.remaining source.old) (S.remaining source.new) (W.contents writer.old)
-        (W.contents writer.new) }
-    ensures within { IfOk result (λ lacking. unread.new.read ≤ most_transcript_bytes) }
-    ensures most { unread.new.read ≤ 4_294_967_297 }
-    ensures copying { IfErr result (λ fault. IsOfCopying fault × IsBeyond fault unread.new.read) }
-    ensures reads { S.failed_calls source.new
-        ≡ count_after (tells_of_reader result) (S.failed_calls source.old) }
-    ensures writes { W.failed_calls writer.new
-        ≡ count_after (tells_of_writer result) (W.failed_calls writer.old) }
+    ensures stopped { OnErr result (Stops AppendsSome count unread.old.bytes
+        unread.old.read unread.new.read (S.remaining source.old) (S.remaining source.new)
+        (W.contents writer.old) (W.contents writer.new)) }
+    ensures short { result ≡ Err FileFault.Write → Stops AppendsPrefix count unread.old.bytes
+        unread.old.read unread.new.read (S.remaining source.old) (S.remaining source.new)
+        (W.contents writer.old) (W.contents writer.new) }
+    ensures calls { CopiesWithin result unread.new.read (S.failed_calls source.old)
+        (S.failed_calls source.new) (W.failed_calls writer.old) (W.failed_calls writer.new) }
 {
     let mut lacking = count;
     while lacking > 0 {
@@ -114,14 +105,12 @@ fn copy_lines<S: Source, W: Sink>(
 /// Reads all that follows, and drops it.
 fn drop_rest<S: Source>(unread: &mut Unread, source: &mut S) -> Result<(), FileFault>
     requires { unread.old.read ≤ most_transcript_bytes }
-    ensures taken { (dropped : List ℕ) × Takes unread.old.bytes [] unread.old.read unread.new.read
-        (S.remaining source.old) (S.remaining source.new) dropped }
+    ensures takes { (taken : List ℕ)
+        × Takes unread.old.bytes unread.new.bytes unread.old.read unread.new.read
+        (S.remaining source.old) (S.remaining source.new) taken }
     ensures end { OnOk result (IsAtEnd (S.remaining source.new)) }
-    ensures within { OnOk result (unread.new.read ≤ most_transcript_bytes) }
-    ensures most { unread.new.read ≤ 4_294_967_297 }
-    ensures reading { IfErr result (λ fault. IsOfReading fault × IsBeyond fault unread.new.read) }
-    ensures count { S.failed_calls source.new
-        ≡ count_after (tells_of_reader result) (S.failed_calls source.old) }
+    ensures reads { ReadsWithin result unread.new.read (S.failed_calls source.old)
+        (S.failed_calls source.new) }
 {
     loop {
         let length = unread.ahead().len();

@@ -1,12 +1,11 @@
 //! Lines of what a source gives.
 
-ghost use Rattle.std.specs.Prelude.{◌≡◌, ◌+◌, ◌<◌, ◌≤◌, ℕ, List, [], length, drop, true, false, Ok, IfOk, IfErr, MatchOption};
+ghost use Rattle.std.specs.Prelude.{◌≡◌, ◌+◌, ◌<◌, ◌≤◌, ℕ, List, [], length, drop, true, false, Ok, IfOk, MatchOption};
 ghost use Rattle.std.specs.Io.KnownBytes.{IsAtEnd};
 ghost use Rattle.metering_model.specs.Limits.{most_transcript_bytes};
-ghost use Rattle.counted_io.specs.Counts.{count_after};
 ghost use Rattle.metering_model.specs.Batch.{lacks};
-ghost use Rattle.period_file.specs.Faults.{tells_of_reader};
-ghost use Rattle.period_file.specs.Inner.Reading.{AreInFront, IsBeyond, IsEnded, IsLineAt, IsOfReading, Takes, TakesLine, TakesPart};
+ghost use Rattle.period_file.specs.Inner.Calls.{ReadsWithin};
+ghost use Rattle.period_file.specs.Inner.Reading.{AreInFront, IsEnded, IsLineAt, IsShareOf, Takes, TakesLine, TakesPart};
 
 use crate::faults::FileFault;
 use crate::unread::Unread;
@@ -30,11 +29,8 @@ pub(crate) fn line_end<S: Source>(
         (S.remaining source.old) (S.remaining source.new) [] }
     ensures found { IfOk result (λ found. MatchOption found
         (IsEnded unread.new.bytes (S.remaining source.new)) (IsLineAt unread.new.bytes)) }
-    ensures within { IfOk result (λ end. unread.new.read ≤ most_transcript_bytes) }
-    ensures most { unread.new.read ≤ 4_294_967_297 }
-    ensures reading { IfErr result (λ fault. IsOfReading fault × IsBeyond fault unread.new.read) }
-    ensures count { S.failed_calls source.new
-        ≡ count_after (tells_of_reader result) (S.failed_calls source.old) }
+    ensures reads { ReadsWithin result unread.new.read (S.failed_calls source.old)
+        (S.failed_calls source.new) }
 {
     let mut scanned = 0;
     loop {
@@ -62,11 +58,8 @@ pub(crate) fn read_ahead<S: Source>(
     ensures enough { result ≡ Ok true → wanted ≤ length unread.new.bytes }
     ensures ended { result ≡ Ok false → (length unread.new.bytes < wanted)
         × IsAtEnd (S.remaining source.new) }
-    ensures within { IfOk result (λ enough. unread.new.read ≤ most_transcript_bytes) }
-    ensures most { unread.new.read ≤ 4_294_967_297 }
-    ensures reading { IfErr result (λ fault. IsOfReading fault × IsBeyond fault unread.new.read) }
-    ensures count { S.failed_calls source.new
-        ≡ count_after (tells_of_reader result) (S.failed_calls source.old) }
+    ensures reads { ReadsWithin result unread.new.read (S.failed_calls source.old)
+        (S.failed_calls source.new) }
 {
     while unread.ahead().len() < wanted {
         let is_more = unread.fill(source)?;
@@ -110,11 +103,8 @@ pub(crate) fn pass_line<S: Source>(unread: &mut Unread, source: &mut S) -> Resul
     ensures ended { result ≡ Ok false
         → TakesPart unread.old.bytes [] unread.old.read unread.new.read
         (S.remaining source.old) (S.remaining source.new) × IsAtEnd (S.remaining source.new) }
-    ensures within { IfOk result (λ passed. unread.new.read ≤ most_transcript_bytes) }
-    ensures most { unread.new.read ≤ 4_294_967_297 }
-    ensures reading { IfErr result (λ fault. IsOfReading fault × IsBeyond fault unread.new.read) }
-    ensures count { S.failed_calls source.new
-        ≡ count_after (tells_of_reader result) (S.failed_calls source.old) }
+    ensures reads { ReadsWithin result unread.new.read (S.failed_calls source.old)
+        (S.failed_calls source.new) }
 {
     loop {
         if take_part(unread) {
@@ -131,8 +121,7 @@ pub(crate) fn pass_line<S: Source>(unread: &mut Unread, source: &mut S) -> Resul
 /// them, where the text has no more.
 pub(crate) fn lines_in_front(text: &[u8], most: u64) -> (usize, u64)
     ensures lines { AreInFront text.now result.1 result.0 }
-    ensures few { result.1 ≤ most }
-    ensures some { (end : ℕ) → IsLineAt text.now end → 0 < most → 0 < result.1 }
+    ensures share { IsShareOf most text.now result.1 }
 {
     let mut at = 0;
     let mut count = 0;

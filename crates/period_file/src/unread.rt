@@ -1,12 +1,13 @@
 //! Bytes that were read and not yet taken.
 
-ghost use Rattle.std.specs.Prelude.{◌≡◌, ◌+◌, ◌<◌, ◌≤◌, [], length, take, drop, vec_len, true, false, Ok, IfOk, IfErr, OnErr, unwrap_or};
-ghost use Rattle.std.specs.Io.KnownBytes.{Consumes, IsAtEnd, Keeps};
+ghost use Rattle.std.specs.Prelude.{◌≡◌, ◌+◌, ◌<◌, ◌≤◌, [], length, take, drop, vec_len, true, false, Ok, IfErr, unwrap_or};
+ghost use Rattle.std.specs.Io.KnownBytes.{IsAtEnd};
 ghost use Rattle.std.specs.Result.{result_ok};
 ghost use Rattle.metering_model.specs.Limits.{most_transcript_bytes};
 ghost use Rattle.counted_io.specs.Counts.{count_after};
 ghost use Rattle.period_file.specs.Faults.{tells_of_reader};
-ghost use Rattle.period_file.specs.Inner.Reading.{Takes, IsOfReading, IsBeyond};
+ghost use Rattle.period_file.specs.Inner.Calls.{ReadsInto, ReadsWithin, StandsBehind};
+ghost use Rattle.period_file.specs.Inner.Reading.{Takes};
 
 use crate::faults::FileFault;
 use counted_io::Source;
@@ -57,24 +58,6 @@ fn drop_front(bytes: &mut Vec<u8>, count: usize)
     bytes.truncate(length);
 }
 
-/// One read into room.
-fn read_some<S: Source>(source: &mut S, room: &mut [u8]) -> Result<usize, FileFault>
-    requires { 0 < length room.old }
-    ensures bound { IfOk result (λ came. came ≤ length room.new) }
-    ensures consumed { IfOk result (λ came. Consumes (S.remaining source.old)
-        (S.remaining source.new) (take came room.new)) }
-    ensures end { IfOk result (λ came. came ≡ 0 → IsAtEnd (S.remaining source.new)) }
-    ensures kept { OnErr result (Keeps (S.remaining source.old) (S.remaining source.new)) }
-    ensures fault { IfErr result (λ fault. fault ≡ FileFault.Read) }
-    ensures count { S.failed_calls source.new
-        ≡ count_after (tells_of_reader result) (S.failed_calls source.old) }
-{
-    match source.read(room) {
-        Ok(came) => Ok(came),
-        Err(_) => Err(FileFault::Read),
-    }
-}
-
 /// One read after the first bytes, into the room that follows them.
 fn read_room<S: Source>(
     source: &mut S,
@@ -84,16 +67,13 @@ fn read_room<S: Source>(
     requires { length < vec_len bytes.old }
     ensures front { take length bytes.new.items ≡ take length bytes.old.items }
     ensures length { vec_len bytes.new ≡ vec_len bytes.old }
-    ensures within { IfOk result (λ came. length + came ≤ vec_len bytes.new) }
-    ensures consumed { IfOk result (λ came. Consumes (S.remaining source.old)
-        (S.remaining source.new) (take came (drop length bytes.new.items))) }
-    ensures end { IfOk result (λ came. came ≡ 0 → IsAtEnd (S.remaining source.new)) }
-    ensures kept { OnErr result (Keeps (S.remaining source.old) (S.remaining source.new)) }
-    ensures fault { IfErr result (λ fault. fault ≡ FileFault.Read) }
-    ensures count { S.failed_calls source.new
-        ≡ count_after (tells_of_reader result) (S.failed_calls source.old) }
+    ensures reads { ReadsInto result (drop length bytes.new.items) (S.remaining source.old)
+        (S.remaining source.new) (S.failed_calls source.old) (S.failed_calls source.new) }
 {
-    read_some(source, &mut bytes[length..])
+    match source.read(&mut bytes[length..]) {
+        Ok(came) => Ok(came),
+        Err(_) => Err(FileFault::Read),
+    }
 }
 
 /// One read after the first bytes, into the room that follows them. What the source does not fill goes.
@@ -103,11 +83,8 @@ fn read_behind<S: Source>(
     length: usize,
 ) -> Result<usize, FileFault>
     requires { length < vec_len bytes.old }
-    ensures front { take length bytes.new.items ≡ take length bytes.old.items }
-    ensures length { vec_len bytes.new ≡ length + unwrap_or (result_ok result) 0 }
-    ensures bound { vec_len bytes.new ≤ vec_len bytes.old }
-    ensures consumed { Consumes (S.remaining source.old) (S.remaining source.new)
-        (drop length bytes.new.items) }
+    ensures stands { StandsBehind length bytes.old.items bytes.new.items
+        (unwrap_or (result_ok result) 0) (S.remaining source.old) (S.remaining source.new) }
     ensures end { result ≡ Ok 0 → IsAtEnd (S.remaining source.new) }
     ensures fault { IfErr result (λ fault. fault ≡ FileFault.Read) }
     ensures count { S.failed_calls source.new
@@ -161,11 +138,8 @@ impl Unread {
             (S.remaining source.old) (S.remaining source.new) [] }
         ensures more { result ≡ Ok true → length self.old.bytes < length self.new.bytes }
         ensures end { result ≡ Ok false → (self.new ≡ self.old) × IsAtEnd (S.remaining source.new) }
-        ensures within { IfOk result (λ more. self.new.read ≤ most_transcript_bytes) }
-        ensures most { self.new.read ≤ 4_294_967_297 }
-        ensures reading { IfErr result (λ fault. IsOfReading fault × IsBeyond fault self.new.read) }
-        ensures count { S.failed_calls source.new
-            ≡ count_after (tells_of_reader result) (S.failed_calls source.old) }
+        ensures reads { ReadsWithin result self.new.read (S.failed_calls source.old)
+            (S.failed_calls source.new) }
     {
         let most = (BLOCK as u64).min(MOST_BYTES + 1 - self.read) as usize;
         drop_front(&mut self.bytes, self.from);

@@ -2,14 +2,11 @@
 use Rattle.std.specs.Prelude.{◌≡◌, ℕ, ◌+◌, ◌<◌, ◌≤◌, min, true, List, ◌++◌, length, take, drop, Option, Some, None}
 use Rattle.std.specs.List.{list_all}
 use Rattle.std.specs.Io.KnownBytes.{Appends, Consumes, IsAtEnd}
-use Rattle.metering_model.specs.Limits.{most_transcript_bytes}
-use Rattle.counted_io.specs.Writing.{AppendsPrefix, AppendsSome}
+use Rattle.counted_io.specs.Writing.{AppendsPrefix}
 use Rattle.metering_model.specs.Batch.{lacks}
 use Rattle.metering_model.specs.Transcript.{line}
 use Rattle.metering_model.specs.Schedule.{TextLines, lines_text}
 use Rattle.transcript_laws.specs.FirstFiles.{NoFile, first_file, first_of_lines, lines_told, told_behind}
-use Rattle.period_file.specs.declared.faults.FileFault.{FileFault}
-use Rattle.period_file.specs.declared.faults.FileFault.TheVariants as fault
 
 -- bytes that were read and not yet taken, and how many were read in all
 pub record Ahead : Type 0 where
@@ -39,28 +36,6 @@ pub record TakesLine (ahead rest : List ℕ) (read read' : ℕ) (left left' : Op
 abbrev pub IsEnded : List ℕ → Option (List ℕ) → Type 0
 IsEnded rest left = (lacks 10 rest ≡ true) × IsAtEnd left
 
--- a device's fault, want of memory, or too long an input
-abbrev pub IsOfReading : FileFault → Type 0
-IsOfReading fault.NoFile = ⊥
-IsOfReading fault.Torn = ⊥
-IsOfReading fault.TooLong = Unit {0}
-IsOfReading fault.Read = Unit {0}
-IsOfReading fault.Write = ⊥
-IsOfReading fault.OutOfMemory = Unit {0}
-
--- the same, or a failed write
-abbrev pub IsOfCopying : FileFault → Type 0
-IsOfCopying fault.NoFile = ⊥
-IsOfCopying fault.Torn = ⊥
-IsOfCopying fault.TooLong = Unit {0}
-IsOfCopying fault.Read = Unit {0}
-IsOfCopying fault.Write = Unit {0}
-IsOfCopying fault.OutOfMemory = Unit {0}
-
--- where too long an input is told, so much of it was read
-abbrev pub IsBeyond : FileFault → ℕ → Type 0
-IsBeyond told read = told ≡ fault.TooLong → most_transcript_bytes < read
-
 -- ---- lines
 
 -- a line ends at that byte
@@ -78,17 +53,20 @@ pub record AreInFront (text : List ℕ) (count at : ℕ) : Type 0 where
   pub split : text ≡ lines_text lines ++ drop at text
   pub size : length (lines_text lines) ≡ at
 
+-- At most so many lines, and at least one where a line ends in the text and one is asked for.
+pub record IsShareOf (most : ℕ) (text : List ℕ) (count : ℕ) : Type 0 where
+  pub few : count ≤ most
+  pub some : (end : ℕ) → IsLineAt text end → 0 < most → 0 < count
+
 -- what is told of a line: the number, or where that is great another that is too great
 abbrev pub IsTold : Option ℕ → Option ℕ → Type 0
 IsTold (Some count) told = (number : ℕ) × (told ≡ Some number) × (count ≡ min 4_294_967_297 number)
 IsTold None told = told ≡ None
 
--- A line was taken, and its line feed, and that is told of it behind these words.
+-- A line was taken, and that is told of it behind these words.
 pub record TakesTold (words : List ℕ) (told : Option ℕ) (ahead rest : List ℕ) (read read' : ℕ) (left left' : Option (List ℕ)) : Type 0 where
-  pub text : List ℕ
-  pub lacks_feed : lacks 10 text ≡ true
-  pub is_told : IsTold told (told_behind words text)
-  pub takes : Takes ahead rest read read' left left' (line text)
+  pub taken : TakesLine ahead rest read read' left left'
+  pub is_told : IsTold told (told_behind words taken.text)
 
 -- All was read, and no line from the bytes ahead on stands above a file of the period.
 pub record EndsUntold (period : ℕ) (ahead : List ℕ) (read read' : ℕ) (left left' : Option (List ℕ)) : Type 0 where
@@ -98,23 +76,24 @@ pub record EndsUntold (period : ℕ) (ahead : List ℕ) (read read' : ℕ) (left
   pub end : IsAtEnd left'
   pub none : first_file period (ahead ++ came) ≡ NoFile
 
--- Lines were taken, and none of them stands above a file of the period.
+-- Whole lines, of which none stands above a file of the period.
+pub record AreUntold (period : ℕ) (lines : TextLines) : Type 0 where
+  pub whole : list_all (lacks 10) lines ≡ true
+  pub none : first_of_lines period lines ≡ NoFile
+
+-- Such lines were taken.
 pub record Passes (period : ℕ) (ahead rest : List ℕ) (read read' : ℕ) (left left' : Option (List ℕ)) : Type 0 where
   pub lines : TextLines
-  pub whole : list_all (lacks 10) lines ≡ true
-  pub none : first_of_lines period lines ≡ NoFile
+  pub untold : AreUntold period lines
   pub takes : Takes ahead rest read read' left left' (lines_text lines)
 
--- Then one was, which does, and tells that so many follow.
+-- Then one that does was taken, and it tells that so many lines follow.
 pub record Finds (period count : ℕ) (ahead rest : List ℕ) (read read' : ℕ) (left left' : Option (List ℕ)) : Type 0 where
   pub lines : TextLines
-  pub whole : list_all (lacks 10) lines ≡ true
-  pub none : first_of_lines period lines ≡ NoFile
+  pub untold : AreUntold period lines
   pub above : List ℕ
   pub lacks_feed : lacks 10 above ≡ true
-  pub number : ℕ
-  pub is_told : lines_told period above ≡ Some number
-  pub is_count : count ≡ min 4_294_967_297 number
+  pub is_told : IsTold (Some count) (lines_told period above)
   pub takes : Takes ahead rest read read' left left' (lines_text lines ++ line above)
 
 -- So many of the lines ahead were written, and taken.
@@ -142,20 +121,11 @@ pub record Copies (asked lacking : ℕ) (ahead rest : List ℕ) (read read' : �
   pub takes : Takes ahead rest read read' left left' (lines_text lines)
   pub appended : Appends old new (lines_text lines)
 
--- Copying stopped: of lines that were read, at most as many as were asked for, a prefix was written.
-pub record Stops (asked : ℕ) (ahead : List ℕ) (read read' : ℕ) (left left' : Option (List ℕ)) (old new : Option (List ℕ)) : Type 0 where
+-- Copying stopped: of lines that were read, at most as many as were asked for, so much was written as `Appended` says.
+pub record Stops (Appended : Option (List ℕ) → Option (List ℕ) → List ℕ → Type 0) (asked : ℕ) (ahead : List ℕ) (read read' : ℕ) (left left' : Option (List ℕ)) (old new : Option (List ℕ)) : Type 0 where
   pub lines : TextLines
   pub rest : List ℕ
   pub whole : list_all (lacks 10) lines ≡ true
   pub few : length lines ≤ asked
   pub takes : Takes ahead rest read read' left left' (lines_text lines)
-  pub appended : AppendsSome old new (lines_text lines)
-
--- Copying stopped at a write: of such lines a prefix was written, and not all of them.
-pub record StopsShort (asked : ℕ) (ahead : List ℕ) (read read' : ℕ) (left left' : Option (List ℕ)) (old new : Option (List ℕ)) : Type 0 where
-  pub lines : TextLines
-  pub rest : List ℕ
-  pub whole : list_all (lacks 10) lines ≡ true
-  pub few : length lines ≤ asked
-  pub takes : Takes ahead rest read read' left left' (lines_text lines)
-  pub appended : AppendsPrefix old new (lines_text lines)
+  pub appended : Appended old new (lines_text lines)
