@@ -1,0 +1,71 @@
+-- Fields of an increment's line that are too many or too few, and what its word chooses.
+use Rattle.std.proofs.Common.{◌≡◌, ℕ, zero, suc, ◌≤◌, Bool, true, false, cond, List, [], ◌∷◌, length, Option, Some, None, codes, refl, sym, ap, ap₂, subst, ◌∙◌, arith}
+use Rattle.std.specs.Option.{option_map}
+use Rattle.metering_model.specs.Limits.{last_ballot, last_period}
+use Rattle.metering_model.specs.Ballot.{Vote}
+use Rattle.metering_model.specs.BatchReading.{fields_in, is_same, whole_in}
+use Rattle.metering_model.specs.KeptText.{ballot_numbered}
+use Rattle.packet_text.proofs.Fields.{some_field}
+use Rattle.log_text.specs.LogText.{Increment, SetsBallots, acceptor_of, ballots_in, learned_in, line_increment_in, round_in, vote_in}
+use Rattle.log_text.specs.Inner.Reading.{AreBallots, IsPromise, vote_of_fields}
+use Rattle.log_text.proofs.KeptSteps.{promise_within}
+
+-- nothing stands behind a round
+round_alone_by : (f : List ℕ) (fs : List (List ℕ)) → 1 ≤ length fs → round_in (f ∷ fs) ≡ None
+round_alone_by f [] some = absurd (omega (arith, some))
+round_alone_by f (g ∷ gs) some = refl
+
+pub round_alone : (f t : List ℕ) → round_in (f ∷ fields_in t) ≡ None
+round_alone f t = round_alone_by f (fields_in t) (some_field t)
+
+-- the ballot 0 has no cut
+zero_by : (agents : ℕ) (fs : List (List ℕ)) → 1 ≤ length fs → vote_in agents zero fs ≡ None
+zero_by agents [] some = absurd (omega (arith, some))
+zero_by agents (f ∷ fs) some = refl
+
+pub zero_vote : (agents n : ℕ) (t : List ℕ) → ballot_numbered n ≡ None → vote_in agents n (fields_in t) ≡ None
+zero_vote agents zero t none = zero_by agents (fields_in t) (some_field t)
+zero_vote agents (suc n) t none = absurd (cc)
+
+-- ---- by word
+
+abbrev by_word : (agents : ℕ) (fs : List (List ℕ)) (round ballot learned : Bool) → Option Increment
+by_word agents fs round ballot learned = cond round (round_in fs) (cond ballot (ballots_in agents fs) (cond learned (learned_in agents fs) None))
+
+module _ (agents : ℕ) (word : List ℕ) (fs : List (List ℕ)) (no_round : is_same word (codes "round") ≡ false) where
+  pub by_ballot : is_same word (codes "ballot") ≡ true → line_increment_in agents (word ∷ fs) ≡ ballots_in agents fs
+  by_ballot is = ap₂ (λ r b. by_word agents fs r b (is_same word (codes "learned"))) no_round is
+
+  pub by_learned : is_same word (codes "ballot") ≡ false → is_same word (codes "learned") ≡ true → line_increment_in agents (word ∷ fs) ≡ learned_in agents fs
+  by_learned no_ballot is = ap₂ (λ r b. by_word agents fs r b (is_same word (codes "learned"))) no_round no_ballot ∙ ap (λ l. cond l (learned_in agents fs) None) is
+
+-- ---- a promise and a vote
+
+abbrev votes_of : (agents n p : ℕ) (fs : List (List ℕ)) → Option ℕ → Option Increment
+votes_of agents n p fs o = elim o [ None ↦ None | Some b ↦ option_map (λ vote. SetsBallots n (acceptor_of p vote)) (vote_in agents b fs) ]
+
+abbrev by_promise : (agents n : ℕ) (ballot : List ℕ) (fs : List (List ℕ)) → Option ℕ → Option Increment
+by_promise agents n ballot fs o = elim o [ None ↦ None | Some p ↦ votes_of agents n p fs (whole_in 0 last_ballot ballot) ]
+
+abbrev by_period : (agents : ℕ) (promised ballot : List ℕ) (fs : List (List ℕ)) → Option ℕ → Option Increment
+by_period agents promised ballot fs o = elim o [ None ↦ None | Some n ↦ by_promise agents n ballot fs (whole_in 0 last_ballot promised) ]
+
+votes_same : (agents n p : ℕ) (fs : List (List ℕ)) (o : Option ℕ) → votes_of agents n p fs o ≡ option_map (λ v. SetsBallots n (acceptor_of p v)) (elim o [ None ↦ None | Some b ↦ vote_in agents b fs ])
+votes_same agents n p fs None = refl
+votes_same agents n p fs (Some b) = refl
+
+ballots_by : (agents n p : ℕ) (period promised : List ℕ) (fs : List (List ℕ)) → Some n ≡ whole_in 0 last_period period → Some p ≡ whole_in 0 last_ballot promised
+    → ballots_in agents (period ∷ promised ∷ fs) ≡ option_map (λ v. SetsBallots n (acceptor_of p v)) (vote_of_fields agents fs)
+ballots_by agents n p period promised [] is_n is_p = refl
+ballots_by agents n p period promised (f ∷ fs) is_n is_p =
+    ap (by_period agents promised f fs) (sym is_n) ∙ ap (by_promise agents n f fs) (sym is_p) ∙ votes_same agents n p fs (whole_in 0 last_ballot f)
+
+pub are_ballots : (agents n p : ℕ) (promise : Option ℕ) (fields rest vote : List (List ℕ)) (period promised : List ℕ) → fields ≡ period ∷ rest → rest ≡ promised ∷ vote
+    → Some n ≡ whole_in 0 last_period period → Some p ≡ whole_in 0 last_ballot promised → p ≤ last_ballot → promise ≡ ballot_numbered p → AreBallots agents fields n promise vote
+are_ballots agents n p promise fields rest vote period promised e1 e2 is_n is_p low is = record {
+  read =
+      ap (ballots_in agents) (e1 ∙ ap (λ fs. period ∷ fs) e2)
+      ∙ ballots_by agents n p period promised vote is_n is_p
+      ∙ ap (λ (q : Option ℕ). option_map (λ (v : Option Vote). SetsBallots n (record { promised = q; vote = v })) (vote_of_fields agents vote)) (sym is);
+  is_promise = subst IsPromise (sym is) (promise_within p low);
+}

@@ -1,0 +1,234 @@
+//! What a step adds to what is kept.
+
+ghost use Rattle.std.specs.Prelude.{◌≡◌, ◌≤◌, true, false, length, MatchResult};
+ghost use Rattle.std.specs.Arc.{arc_value};
+ghost use Rattle.std.specs.Option.{option_copied};
+ghost use Rattle.metering_model.specs.Ballot.{is_not_below};
+ghost use Rattle.metering_model.specs.BatchReading.{is_same};
+ghost use Rattle.metering_model.specs.Dates.{IsPeriod};
+ghost use Rattle.metering_model.specs.Limits.{most_rounds};
+ghost use Rattle.batch_store.specs.Batches.{batch_of};
+ghost use Rattle.node_kept.specs.Kept.{IsKept};
+ghost use Rattle.log_text.specs.LogText.{BeginsRound, Learns, SetsBallots, Takes, among_with, ballots_go_on, goes_on, is_promised, is_same_vote, is_vote_at, lines_of_increment};
+ghost use Rattle.log_text.specs.Inner.Reading.{IfNotThere, IsWithin, taken_of};
+
+use batch_store::{Cut, OwnedBatch};
+use node_kept::Parts;
+use paxos_ballot::{Acceptor, Ballot, Vote};
+use std::sync::Arc;
+
+/// What a step adds to what is kept. Nothing of it is copied.
+#[derive(Clone, Copy)]
+pub enum Increment<'a> {
+    /// The round of that number was begun.
+    Round(u16),
+    /// A promise or a vote was made in the period of that number, the first that is not learned: this is what is promised
+    /// and accepted now.
+    Ballots(u16, &'a Acceptor),
+    /// The cut of the period of that number was learned.
+    Learned(u16, &'a Cut),
+    /// A batch was taken.
+    Batch(&'a OwnedBatch),
+}
+
+/// What was read of a log as what a step added.
+#[derive(Drop)]
+pub(crate) enum Taken {
+    Round(u16),
+    Ballots(u16, Acceptor),
+    Learned(u16, Arc<Cut>),
+    Batch(Arc<OwnedBatch>),
+}
+
+/// Why nothing is read.
+#[derive(Clone, Copy, Drop)]
+pub(crate) enum Unread {
+    /// Nothing of the kind stands there.
+    NotThere,
+    /// Out of memory.
+    NoMemory,
+}
+
+impl Taken {
+    /// How many lines it has.
+    pub(crate) fn lines(&self) -> u64
+        ensures value { result ≡ lines_of_increment (taken_of self.now) }
+        ensures most { result ≤ 1_002 }
+    {
+        match self {
+            Taken::Batch(batch) => 2 + u64::from(batch.view().count()),
+            _ => 1,
+        }
+    }
+}
+
+/// What is kept when the round was begun, if that is the next one.
+fn with_round(parts: Parts, round: u16) -> Result<Parts, Unread>
+    requires kept { IsKept parts }
+    requires most { round ≤ most_rounds }
+    ensures { MatchResult result
+        (λ next. (goes_on (BeginsRound round) parts ≡ true)
+        × (next ≡ among_with (BeginsRound round) parts) × IsKept next)
+        (λ why. IfNotThere why (goes_on (BeginsRound round) parts ≡ false)) }
+{
+    if round != parts.round + 1 {
+        return Err(Unread::NotThere);
+    }
+    Ok(Parts {
+        round,
+        learned: parts.learned,
+        acceptor: parts.acceptor,
+        store: parts.store,
+    })
+}
+
+/// Whether both are the same cut.
+fn is_same_cut(one: &Cut, two: &Cut) -> bool
+    ensures { result ≡ is_same one.now two.now }
+{
+    one.same(two)
+}
+
+/// Whether both are the same vote, or none.
+fn is_same_vote(one: Option<&Vote>, two: Option<&Vote>) -> bool
+    ensures { result ≡ is_same_vote (option_copied one.entry) (option_copied two.entry) }
+{
+    match (one, two) {
+        (Some(one), Some(two)) => {
+            one.ballot.number() == two.ballot.number() && is_same_cut(&one.cut, &two.cut)
+        }
+        (None, None) => true,
+        _ => false,
+    }
+}
+
+/// Whether that ballot is not below the one promised.
+fn is_not_below(ballot: Ballot, promised: Option<Ballot>) -> bool
+    ensures { result ≡ is_not_below ballot promised }
+{
+    match promised {
+        Some(promised) => promised.number() <= ballot.number(),
+        None => true,
+    }
+}
+
+/// Whether that ballot is the one promised.
+fn is_promised(ballot: Ballot, promised: Option<Ballot>) -> bool
+    ensures { result ≡ is_promised ballot promised }
+{
+    match promised {
+        Some(promised) => ballot.number() == promised.number(),
+        None => false,
+    }
+}
+
+/// Whether it is a vote at that ballot.
+fn is_vote_at(ballot: Ballot, vote: Option<&Vote>) -> bool
+    ensures { result ≡ is_vote_at ballot (option_copied vote.entry) }
+{
+    match vote {
+        Some(vote) => vote.ballot.number() == ballot.number(),
+        None => false,
+    }
+}
+
+/// Whether promise and vote go on from those before: neither is taken back, and one of them is new.
+fn ballots_go_on(old: &Acceptor, new: &Acceptor) -> bool
+    ensures { result ≡ ballots_go_on old.now new.now }
+{
+    let Some(ballot) = new.promised() else {
+        return false;
+    };
+    let same = is_same_vote(old.vote(), new.vote());
+    is_not_below(ballot, old.promised())
+        && (same || is_vote_at(ballot, new.vote()))
+        && !(is_promised(ballot, old.promised()) && same)
+}
+
+/// What is kept when a promise or a vote was made in that period, if it goes on from those before.
+fn with_ballots(parts: Parts, period: u16, acceptor: Acceptor) -> Result<Parts, Unread>
+    requires kept { IsKept parts }
+    requires limits { IsWithin parts.agents (SetsBallots period acceptor) }
+    ensures { MatchResult result
+        (λ next. (goes_on (SetsBallots period acceptor) parts ≡ true)
+        × (next ≡ among_with (SetsBallots period acceptor) parts) × IsKept next)
+        (λ why. IfNotThere why (goes_on (SetsBallots period acceptor) parts ≡ false)) }
+{
+    if usize::from(period) != parts.learned.len() || !ballots_go_on(&parts.acceptor, &acceptor) {
+        return Err(Unread::NotThere);
+    }
+    Ok(Parts {
+        round: parts.round,
+        learned: parts.learned,
+        acceptor,
+        store: parts.store,
+    })
+}
+
+/// What is kept when the period's cut was learned, if that is the next one: promise and vote are of the period behind.
+fn with_cut(parts: Parts, period: u16, cut: Arc<Cut>) -> Result<Parts, Unread>
+    requires kept { IsKept parts }
+    requires period { IsPeriod period }
+    requires agents { length (arc_value cut) ≡ parts.agents }
+    ensures { MatchResult result
+        (λ next. (goes_on (Learns period (arc_value cut)) parts ≡ true)
+        × (next ≡ among_with (Learns period (arc_value cut)) parts) × IsKept next)
+        (λ why. IfNotThere why (goes_on (Learns period (arc_value cut)) parts ≡ false)) }
+{
+    if usize::from(period) != parts.learned.len() {
+        return Err(Unread::NotThere);
+    }
+    let mut learned = parts.learned;
+    if learned.push(cut).is_err() {
+        return Err(Unread::NoMemory);
+    }
+    Ok(Parts {
+        round: parts.round,
+        learned,
+        acceptor: Acceptor::new(),
+        store: parts.store,
+    })
+}
+
+/// What is kept when a batch was taken, if it is of an agent that there is, and was not there.
+fn with_batch(parts: Parts, batch: Arc<OwnedBatch>) -> Result<Parts, Unread>
+    requires kept { IsKept parts }
+    ensures { MatchResult result
+        (λ next. (goes_on (Takes (batch_of (arc_value batch))) parts ≡ true)
+        × (next ≡ among_with (Takes (batch_of (arc_value batch))) parts) × IsKept next)
+        (λ why. IfNotThere why (goes_on (Takes (batch_of (arc_value batch))) parts ≡ false)) }
+{
+    let mut store = parts.store;
+    if batch.view().agent() > store.agents() {
+        return Err(Unread::NotThere);
+    }
+    let Ok(added) = store.put(batch) else {
+        return Err(Unread::NoMemory);
+    };
+    if !added {
+        return Err(Unread::NotThere);
+    }
+    Ok(Parts {
+        round: parts.round,
+        learned: parts.learned,
+        acceptor: parts.acceptor,
+        store,
+    })
+}
+
+/// What is kept when this was added, if it goes on from what is kept.
+pub(crate) fn kept_with(parts: Parts, taken: Taken) -> Result<Parts, Unread>
+    requires kept { IsKept parts }
+    requires limits { IsWithin parts.agents (taken_of taken) }
+    ensures { MatchResult result
+        (λ next. (goes_on (taken_of taken) parts ≡ true)
+        × (next ≡ among_with (taken_of taken) parts) × IsKept next)
+        (λ why. IfNotThere why (goes_on (taken_of taken) parts ≡ false)) }
+{
+    match taken {
+        Taken::Round(round) => with_round(parts, round),
+        Taken::Ballots(period, acceptor) => with_ballots(parts, period, acceptor),
+        Taken::Learned(period, cut) => with_cut(parts, period, cut),
+        Taken::Batch(batch) => with_batch(parts, batch),
+    }
+}
