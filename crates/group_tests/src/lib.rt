@@ -12,6 +12,8 @@ mod kept;
 #[cfg(test)]
 mod limits;
 #[cfg(test)]
+mod logs;
+#[cfg(test)]
 mod packets;
 #[cfg(test)]
 mod revivals;
