@@ -8,10 +8,6 @@ use Rattle.period_file.proofs.files.file_text.Given as given
 use Rattle.period_file.proofs.files.file_text.Goals.{In-Some}
 use Rattle.period_file.proofs.files.file_text.Goals as goal
 
--- the line above the file was found, in all that was read
-above : (g : given.Over) (c : In-Some g) → Finds c.args.period c.in-Some.count [] c.find_line_above.new.unread.bytes 0 c.find_line_above.new.unread.read (g.R.Source.remaining c.args.reader.now) (g.R.Source.remaining c.find_line_above.new.source)
-above g c = rw (c.new-unread.ensures.bytes, c.new-unread.ensures.read) at (c.in_ok-count.ensures.found c.in-Some.count (ap Ok c.in-Some.is))
-
 pub returns-in_err-count-clause-refused : goal.returns-in_err-count-clause-refused
 returns-in_err-count-clause-refused g c =
     let p = err_from_is_err_and c.from_residual.result c.from_residual.ensures.1 in
@@ -24,6 +20,10 @@ returns-in_err-count-clause-front g c = on_err c.from_residual.result (any_front
 pub returns-in_default-clause-refused : goal.returns-in_default-clause-refused
 returns-in_default-clause-refused g c = λ refusal.
     none_answer (rw (c.new-unread.ensures.bytes, c.new-unread.ensures.read) at (c.in_ok-count.ensures.none (ap Ok c.in_default.is))) c.in_ok-count.ensures.reads.within
+
+-- the line above the file was found, in all that was read
+above : (g : given.Over) (c : In-Some g) → Finds c.args.period c.in-Some.count [] c.find_line_above.new.unread.bytes 0 c.find_line_above.new.unread.read (g.R.Source.remaining c.args.reader.now) (g.R.Source.remaining c.find_line_above.new.source)
+above g c = rw (c.new-unread.ensures.bytes, c.new-unread.ensures.read) at (c.in_ok-count.ensures.found c.in-Some.count (ap Ok c.in-Some.is))
 
 pub returns-in_err-lacking-clause-refused : goal.returns-in_err-lacking-clause-refused
 returns-in_err-lacking-clause-refused g c =
