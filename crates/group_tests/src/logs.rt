@@ -10,8 +10,18 @@ const LOG: &[u8] = b"G1|prod-eu|node|2|3|1|2\nround|1\nballot|0|5|0\nballot|0|5|
 
 const KEPT: &[u8] = b"G1|prod-eu|node|2|3|1|2\nkept 4\nK1|2|1|1|7|0|1\n1|0\nB1|2|1|1\nX|1|0|1.5\n";
 
-/// The increments of a round, a promise without a vote, a learned cut and a batch, as they are written.
+/// The increments of its round, its promise without a vote, its learned cut, and of a batch.
 const STEPS: &[u8] = b"round|1\nballot|1|7|0\nlearned|0|1|0\nbatch 2\nB1|2|1|1\nX|1|0|1.5\n";
+
+/// A log of a node that keeps a vote, and the increments of its round, of this and of a batch.
+const VOTED: &[u8] = b"G1|g|node|0|3|0|2\nkept 2\nK1|2|3|0|5|5|0\n1|0\n";
+
+const VOTED_STEPS: &[u8] = b"round|3\nballot|1|5|5|1|0\nbatch 2\nB1|2|1|1\nX|1|0|1.5\n";
+
+/// A log of an agent, and the log that begins with what is kept.
+const AGENT: &[u8] = b"G1|g|agent|2|3|0|2\nbatch 1\nB1|2|1|0\n";
+
+const AGENT_KEPT: &[u8] = b"G1|g|agent|2|3|0|2\nkept 2\nK1|2|0|0|0|0|1\nB1|2|1|0\n";
 
 const BATCH: &[u8] = b"B1|2|1|1\nX|1|0|1.5\n";
 
@@ -66,12 +76,23 @@ fn are_written(alloc: Global, log: &Log, text: &[u8]) -> bool {
     written.as_slice() == text
 }
 
-/// Whether a log is read, and goes on from what is kept.
-fn comes_back(alloc: Global, text: &[u8]) -> bool {
+/// Whether a log is read, and written as these.
+fn comes_back(alloc: Global, text: &[u8], kept: &[u8], steps: &[u8]) -> bool {
     match read_again(alloc, text) {
-        Ok(log) => is_written(alloc, &log, KEPT) && are_written(alloc, &log, STEPS),
+        Ok(log) => is_written(alloc, &log, kept) && are_written(alloc, &log, steps),
         Err(_) => false,
     }
+}
+
+/// Whether each of the logs above is.
+fn all_come_back(alloc: Global) -> bool {
+    comes_back(alloc, LOG, KEPT, STEPS)
+        && comes_back(alloc, KEPT, KEPT, STEPS)
+        && comes_back(alloc, VOTED, VOTED, VOTED_STEPS)
+        && match read_again(alloc, AGENT) {
+            Ok(log) => is_written(alloc, &log, AGENT_KEPT),
+            Err(_) => false,
+        }
 }
 
 /// Whether a text is refused there, for that.
@@ -91,8 +112,7 @@ fn is_refused(alloc: Global, text: &[u8], code: LogCode, line: u64) -> bool {
 #[test]
 fn a_log_comes_back_as_what_is_kept(rt: HostRuntime) {
     let alloc = rt.alloc();
-    assert!(rt; comes_back(alloc, LOG));
-    assert!(rt; comes_back(alloc, KEPT));
+    assert!(rt; all_come_back(alloc));
     assert!(rt; is_refused(alloc, b"G1|g|node|4|3|1|2\n", LogCode::Head, 1));
     assert!(rt;
         is_refused(
@@ -120,9 +140,8 @@ fn a_log_comes_back_as_what_is_kept(rt: HostRuntime) {
     );
 }
 
-/// The same where an allocation fails.
+/// They come back where an allocation fails too.
 #[test]
 fn a_refused_growth_of_a_log_that_is_read_and_written(rt: HostRuntime) {
-    assert!(rt; comes_back(rt.alloc(), LOG));
-    assert!(rt; comes_back(rt.alloc(), KEPT));
+    assert!(rt; all_come_back(rt.alloc()));
 }

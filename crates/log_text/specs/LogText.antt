@@ -132,7 +132,8 @@ ballots_go_on old new = elim new.promised [
 ]
 
 -- Whether it goes on from what is kept. Rounds are begun, and periods learned, one after the other; a promise or a vote is of the first
--- period that is not learned; and a batch is taken once, of an agent that there is. So nothing that is written twice is read twice.
+-- period that is not learned; and a batch is taken once, of an agent that there is. So a line that is written
+-- twice in a row is refused.
 abbrev pub goes_on : Increment → KeptAmong → Bool
 goes_on (BeginsRound round) k = round == k.kept.round + 1
 goes_on (SetsBallots period acceptor) k = (period == length k.kept.learned) && ballots_go_on k.kept.acceptor acceptor
