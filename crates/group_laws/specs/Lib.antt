@@ -3,3 +3,4 @@ pub mod EveryRun
 pub mod Observers
 pub mod Alone
 pub mod Revivals
+pub mod OwnBatches

@@ -1,19 +1,21 @@
 //! The headline over every list of events, and what the bodies of a group rest on.
 
-ghost use Rattle.std.specs.Prelude.{◌≡◌, ◌≢◌, ℕ, ◌≤◌, List, [], ◌++◌, map, Some, All, slice_get};
+ghost use Rattle.std.specs.Prelude.{◌≡◌, ◌≢◌, ℕ, ◌≤◌, List, [], ◌++◌, map, Some, Ok, All, slice_get};
 ghost use Rattle.metering_model.specs.Limits.{most_agents, most_nodes};
 ghost use Rattle.metering_model.specs.Sheet.{Sheet, Issuer};
 ghost use Rattle.metering_model.specs.Cut.{Cut};
 ghost use Rattle.metering_model.specs.declared.Refusal.TheVariants.{WorldFull};
-ghost use Rattle.metering_model.specs.World.{World, Node, Event, Restart, Revive, KeptOffer, KeptGood, Restarted, Refused, opening};
+ghost use Rattle.metering_model.specs.Batch.{Batch};
+ghost use Rattle.metering_model.specs.World.{World, Node, Event, Journal, Offer, Restart, Revive, KeptOffer, KeptGood, Restarted, Refused, opening};
 ghost use Rattle.metering_model.specs.KeptText.{HasText, kept_text};
-ghost use Rattle.metering_model.specs.Step.{kept_now, step, play};
+ghost use Rattle.metering_model.specs.Step.{batch_of, kept_now, step, play};
 ghost use Rattle.metering_model.specs.History.{Entry, IsLegal};
 ghost use Rattle.group_laws.specs.Headline.{IsPrefixOf, AreTheCuts, HoldsAfter};
 ghost use Rattle.group_laws.specs.EveryRun.{KeepsLimits};
 ghost use Rattle.group_laws.specs.Observers.{without, IsFollowed};
 ghost use Rattle.group_laws.specs.Alone.{CanBeDoneAlone};
 ghost use Rattle.group_laws.specs.Revivals.{refusal_of_other};
+ghost use Rattle.group_laws.specs.OwnBatches.{own, with_own};
 
 /// The headline: after every list of events, and after every history that one thread could have made, the chosen cuts
 /// are one growing list, and each export is of one of them and of the one before it. A run's list is a prefix of the
@@ -91,4 +93,21 @@ pub fn a_revival_is_a_restart()
         → slice_get w.nodes node ≡ Some n →
         offer ≢ KeptGood (kept_text (kept_now w n)) →
         step w (Revive node offer) ≡ (Refused (refusal_of_other offer), w) }
+{}
+
+/// What comes of a batch hangs on its agent's own batches alone: in a run, the same is replied where the journals have
+/// no others, and after it that agent's journal is the same. The journals of other agents stay.
+pub fn an_agent_journals_by_itself()
+    ensures replies { (voters observers agents : ℕ) (sheet : Sheet) (issuer : Issuer)
+        (events : List Event) (offer : Offer) (b : Batch) → batch_of offer ≡ Ok b →
+        (step (with_own b.agent (play (opening voters observers agents sheet issuer) events).1)
+        (Journal offer)).0
+        ≡ (step (play (opening voters observers agents sheet issuer) events).1 (Journal offer)).0 }
+    ensures journals { (voters observers agents : ℕ) (sheet : Sheet) (issuer : Issuer)
+        (events : List Event) (offer : Offer) (b : Batch) → batch_of offer ≡ Ok b →
+        (step (with_own b.agent (play (opening voters observers agents sheet issuer) events).1)
+        (Journal offer)).1.journals ≡ own b.agent (step
+        (play (opening voters observers agents sheet issuer) events).1 (Journal offer)).1.journals }
+    ensures others { (w : World) (offer : Offer) (b : Batch) (agent : ℕ) → batch_of offer ≡ Ok b →
+        b.agent ≢ agent → own agent (step w (Journal offer)).1.journals ≡ own agent w.journals }
 {}
