@@ -30,7 +30,7 @@ set_same [] i x = refl
 set_same (y ∷ xs) zero x = refl
 set_same (y ∷ xs) (suc i) x = set_same xs i x
 
-set_other : {A : Type 0} (xs : List A) (i j : ℕ) (x : A) → (j ≡ i → ⊥) → slice_get (slice_set xs i x) j ≡ slice_get xs j
+pub set_other : {A : Type 0} (xs : List A) (i j : ℕ) (x : A) → (j ≡ i → ⊥) → slice_get (slice_set xs i x) j ≡ slice_get xs j
 set_other [] i j x differs = refl
 set_other (y ∷ xs) zero zero x differs = absurd (differs refl)
 set_other (y ∷ xs) zero (suc j) x differs = refl
@@ -38,7 +38,7 @@ set_other (y ∷ xs) (suc i) zero x differs = refl
 set_other (y ∷ xs) (suc i) (suc j) x differs = set_other xs i j x (λ same. differs (ap (λ k. suc k) same))
 
 -- what is alike at a place stays so where both are set alike
-set_alike : {A : Type 0} (xs ys : List A) (i j : ℕ) (x : A) → slice_get ys j ≡ slice_get xs j → slice_get (slice_set ys i x) j ≡ slice_get (slice_set xs i x) j
+pub set_alike : {A : Type 0} (xs ys : List A) (i j : ℕ) (x : A) → slice_get ys j ≡ slice_get xs j → slice_get (slice_set ys i x) j ≡ slice_get (slice_set xs i x) j
 set_alike xs ys i j x alike = by_test (j == i) refl
   where
     here : slice_get ys j ≡ slice_get xs j → j ≡ i → slice_get (slice_set ys i x) j ≡ slice_get (slice_set xs i x) j

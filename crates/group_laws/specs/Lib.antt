@@ -4,3 +4,4 @@ pub mod Observers
 pub mod Alone
 pub mod Revivals
 pub mod OwnBatches
+pub mod OneNode

@@ -1,12 +1,12 @@
 //! The headline over every list of events, and what the bodies of a group rest on.
 
-ghost use Rattle.std.specs.Prelude.{◌≡◌, ◌≢◌, ℕ, ◌≤◌, List, [], ◌++◌, map, Some, Ok, All, slice_get};
+ghost use Rattle.std.specs.Prelude.{◌≡◌, ◌≢◌, ℕ, ◌≤◌, List, [], ◌++◌, map, Some, Ok, All, true, slice_get};
 ghost use Rattle.metering_model.specs.Limits.{most_agents, most_nodes};
 ghost use Rattle.metering_model.specs.Sheet.{Sheet, Issuer};
 ghost use Rattle.metering_model.specs.Cut.{Cut};
 ghost use Rattle.metering_model.specs.declared.Refusal.TheVariants.{WorldFull};
 ghost use Rattle.metering_model.specs.Batch.{Batch};
-ghost use Rattle.metering_model.specs.World.{World, Node, Event, Journal, Offer, Restart, Revive, KeptOffer, KeptGood, Restarted, Refused, opening};
+ghost use Rattle.metering_model.specs.World.{World, Node, Event, Deliver, Journal, Offer, Restart, Revive, KeptOffer, KeptGood, Restarted, Refused, opening};
 ghost use Rattle.metering_model.specs.KeptText.{HasText, kept_text};
 ghost use Rattle.metering_model.specs.Step.{batch_of, kept_now, step, play};
 ghost use Rattle.metering_model.specs.History.{Entry, IsLegal};
@@ -16,6 +16,7 @@ ghost use Rattle.group_laws.specs.Observers.{without, IsFollowed};
 ghost use Rattle.group_laws.specs.Alone.{CanBeDoneAlone};
 ghost use Rattle.group_laws.specs.Revivals.{refusal_of_other};
 ghost use Rattle.group_laws.specs.OwnBatches.{own, with_own};
+ghost use Rattle.group_laws.specs.OneNode.{HaveTheNode, ActsAlike, ChangesJust, is_its_own, is_at};
 
 /// The headline: after every list of events, and after every history that one thread could have made, the chosen cuts
 /// are one growing list, and each export is of one of them and of the one before it. A run's list is a prefix of the
@@ -110,4 +111,17 @@ pub fn an_agent_journals_by_itself()
         (play (opening voters observers agents sheet issuer) events).1 (Journal offer)).1.journals }
     ensures others { (w : World) (offer : Offer) (b : Batch) (agent : ℕ) → batch_of offer ≡ Ok b →
         b.agent ≢ agent → own agent (step w (Journal offer)).1.journals ≡ own agent w.journals }
+{}
+
+/// A node acts by itself: where two worlds of one group have the same node and room for a packet more, the same packet
+/// under any number, and any other event at the node, is answered alike but for a packet's number, and leaves the node the
+/// same and sends the same. What happens at a node changes no other node, and no journal.
+pub fn a_node_acts_by_itself()
+    ensures delivered { (w v : World) (i k l : ℕ) → HaveTheNode i w v →
+        slice_get v.packets l ≡ slice_get w.packets k →
+        ActsAlike i w v (step w (Deliver k i)) (step v (Deliver l i)) }
+    ensures asked { (w v : World) (i : ℕ) (e : Event) → HaveTheNode i w v →
+        is_its_own i e ≡ true → ActsAlike i w v (step w e) (step v e) }
+    ensures changes { (w : World) (i : ℕ) (e : Event) → is_at i e ≡ true →
+        ChangesJust i w (step w e) }
 {}
