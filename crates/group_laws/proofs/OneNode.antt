@@ -2,7 +2,7 @@
 use Rattle.std.proofs.Common.{◌≡◌, ℕ, ◌+◌, ◌<◌, Bool, true, false, List, [], ◌∷◌, length, refl, sym, subst, ◌∙◌, Option, Some, None, Result, Ok, Err, unwrap_or, nat_lt}
 use Rattle.std.specs.Prelude.{slice_get, ok_or}
 use Rattle.std.proofs.lemmas.Bool.{cond-true, lt-ltb, eqb-true}
-use Rattle.std.proofs.Math.Seq.{drop-append_seam, drop-length}
+use Rattle.std.proofs.Math.Seq.{drop-append_seam, drop-length, take-append_seam, take-length}
 use Rattle.metering_model.specs.FirstFailure.{◌>>=◌, holds_or}
 use Rattle.metering_model.specs.Limits.{most_packets, most_periods, most_rounds}
 use Rattle.metering_model.specs.declared.Refusal.{Refusal}
@@ -181,16 +181,16 @@ module _ (i : ℕ) (w : World) where
   Just = ChangesJust i w
 
   just_stays : (r : Reply) → Just (r, w)
-  just_stays r = record { sheet = refl; issuer = refl; agents = refl; votes = refl; journals = refl; others = λ j apart. refl }
+  just_stays r = record { sheet = refl; issuer = refl; agents = refl; votes = refl; journals = refl; packets = take-length w.packets; others = λ j apart. refl }
 
   just_then : {A : Type 0} (x : Result A Refusal) (f : A → Result Outcome Refusal) → ((a : A) → Just (or_refused w (f a))) → Just (or_refused w (x >>= f))
   just_then (Err e) f each = just_stays (Refused e)
   just_then (Ok a) f each = each a
 
   just_does : (n : Node) (sends : Option Packet) (reply : Option ℕ → Reply) → Just (or_refused w (done w i n sends reply))
-  just_does n None reply = record { sheet = refl; issuer = refl; agents = refl; votes = refl; journals = refl; others = λ j apart. set_other w.nodes i j n apart }
+  just_does n None reply = record { sheet = refl; issuer = refl; agents = refl; votes = refl; journals = refl; packets = take-length w.packets; others = λ j apart. set_other w.nodes i j n apart }
   just_does n (Some p) reply = just_then (next_packet w) (λ k. Ok (reply (Some k), with_packet p (with_node_at i n w))) (λ k.
-      record { sheet = refl; issuer = refl; agents = refl; votes = refl; journals = refl; others = λ j apart. set_other w.nodes i j n apart })
+      record { sheet = refl; issuer = refl; agents = refl; votes = refl; journals = refl; packets = take-append_seam w.packets (p ∷ []); others = λ j apart. set_other w.nodes i j n apart })
 
   just_delivers : (h : Handled) → Just (or_refused w (after_delivery w i h))
   just_delivers h = by_sent h.sends

@@ -1,5 +1,5 @@
 -- What a node acts by: what it keeps and tries, the packet that it gets, and its group's size, sheet and issuer.
-use Rattle.std.specs.Prelude.{◌≡◌, ℕ, ◌==◌, ◌<◌, Bool, false, length, drop, slice_get}
+use Rattle.std.specs.Prelude.{◌≡◌, ℕ, ◌==◌, ◌<◌, Bool, false, length, drop, take, slice_get}
 use Rattle.std.specs.Option.{option_map}
 use Rattle.metering_model.specs.Limits.{most_packets}
 use Rattle.metering_model.specs.World.{World, Event, Journal, Deliver, Start, Restart, Export, Keep, Revive, Reply, Journaled, Delivered, Started, Restarted, Exported, KeptText, Refused, voter_count}
@@ -51,11 +51,12 @@ is_at i (Export node period) = node == i
 is_at i (Keep node) = node == i
 is_at i (Revive node offer) = node == i
 
--- Nothing but that node and the packets is another than before.
+-- Nothing but that node is another than before, and no packet is gone.
 pub record ChangesJust (i : ℕ) (w : World) (outcome : Outcome) : Type 0 where
   pub sheet : outcome.1.sheet ≡ w.sheet
   pub issuer : outcome.1.issuer ≡ w.issuer
   pub agents : outcome.1.agents ≡ w.agents
   pub votes : voter_count outcome.1 ≡ voter_count w
   pub journals : outcome.1.journals ≡ w.journals
+  pub packets : take (length w.packets) outcome.1.packets ≡ w.packets
   pub others : (j : ℕ) → (j ≡ i → ⊥) → slice_get outcome.1.nodes j ≡ slice_get w.nodes j

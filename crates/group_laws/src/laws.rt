@@ -115,7 +115,7 @@ pub fn an_agent_journals_by_itself()
 
 /// A node acts by itself: where two worlds of one group have the same node and room for a packet more, the same packet
 /// under any number, and any other event at the node, is answered alike but for a packet's number, and leaves the node the
-/// same and sends the same. What happens at a node changes no other node, and no journal.
+/// same and sends the same. What happens at a node changes no other node, no journal and no older packet.
 pub fn a_node_acts_by_itself()
     ensures delivered { (w v : World) (i k l : ℕ) → HaveTheNode i w v →
         slice_get v.packets l ≡ slice_get w.packets k →
