@@ -15,7 +15,9 @@ use Rattle.metering_model.specs.KeptText.{KeptAmong, kept_text}
 use Rattle.metering_model.specs.World.{World, Node, Packet, Prepare, Event, Journal, Deliver, Start, Restart, Export, Keep, Revive, Reply, Delivered, Started, Restarted, Exported, KeptText, Refused, Snapshot, voter_count, votes, current_period, wake, with_node_at, with_packet, next_packet}
 use Rattle.metering_model.specs.Deliveries.{Handled, handled}
 use Rattle.metering_model.specs.Step.{Outcome, after_delivery, started_node, snapshot, unless_missing, first_missing, cut_before, kept_of, kept_now, or_refused, step}
-use Rattle.group_laws.specs.OneNode.{HaveTheNode, ActsAlike, ChangesJust, unnumbered, is_its_own, is_at}
+use Rattle.group_laws.specs.Alone.{unnumbered}
+use Rattle.group_laws.specs.OneNode.{AgreeAtNode, SameStepAt, ChangesOnlyNode, is_input_at, is_at}
+use Rattle.group_laws.proofs.Steps.{length-slice_set}
 use Rattle.group_laws.proofs.WithoutObservers.{set_alike, set_other}
 
 -- what becomes of a world whose node sends a packet, or none
@@ -33,7 +35,7 @@ module _ (i : ℕ) (w : World) (journals : Holding) (packets : List Packet) (nod
   other = record w { journals = journals; packets = packets; nodes = nodes }
 
   abbrev Alike : Outcome → Outcome → Type 0
-  Alike = ActsAlike i w other
+  Alike = SameStepAt i w other
 
   stays : (r : Reply) → slice_get nodes i ≡ slice_get w.nodes i → Alike (r, w) (r, other)
   stays r same = record { reply = refl; node = same; sent = drop-length packets ∙ sym (drop-length w.packets) }
@@ -134,7 +136,7 @@ module _ (i : ℕ) (w : World) (journals : Holding) (packets : List Packet) (nod
       by_test false = refused NotKept same
       by_test true = does (wake k.kept) None (λ s. Restarted) (λ k l. refl) room room_too same
 
-  asked : (e : Event) → is_its_own i e ≡ true → length w.packets < most_packets → length packets < most_packets → slice_get nodes i ≡ slice_get w.nodes i → Alike (step w e) (step other e)
+  asked : (e : Event) → is_input_at i e ≡ true → length w.packets < most_packets → length packets < most_packets → slice_get nodes i ≡ slice_get w.nodes i → Alike (step w e) (step other e)
   asked (Journal offer) at room room_too same = absurd (cc)
   asked (Deliver packet node) at room room_too same = absurd (cc)
   asked (Start node) at room room_too same =
@@ -159,38 +161,38 @@ module _ (i : ℕ) (w : World) (journals : Holding) (packets : List Packet) (nod
 -- ---- any two worlds
 
 -- the other world is this one, but for what a node doesn't see
-as_other : (i : ℕ) (w v : World) → HaveTheNode i w v → v ≡ other i w v.journals v.packets v.nodes
-as_other i w v h = by_parts v.sheet v.issuer v.agents (voter_count v) h.sheet h.issuer h.agents h.votes
+as_other : (i : ℕ) (w v : World) → AgreeAtNode i w v → v ≡ other i w v.journals v.packets v.nodes
+as_other i w v h = by_parts v.sheet v.issuer v.agents (voter_count v) h.sheet h.issuer h.agents h.voters
   where
     by_parts : (sheet : Sheet) (issuer : Issuer) (agents voters : ℕ) → sheet ≡ w.sheet → issuer ≡ w.issuer → agents ≡ w.agents → voters ≡ voter_count w
         → record { sheet = sheet; issuer = issuer; agents = agents; journals = v.journals; packets = v.packets; voters = voters; nodes = v.nodes } ≡ other i w v.journals v.packets v.nodes
     by_parts sheet issuer agents voters a b c d = cc
 
-pub delivered_alike : (w v : World) (i k l : ℕ) → HaveTheNode i w v → slice_get v.packets l ≡ slice_get w.packets k → ActsAlike i w v (step w (Deliver k i)) (step v (Deliver l i))
+pub delivered_alike : (w v : World) (i k l : ℕ) → AgreeAtNode i w v → slice_get v.packets l ≡ slice_get w.packets k → SameStepAt i w v (step w (Deliver k i)) (step v (Deliver l i))
 delivered_alike w v i k l h sent =
-    subst (λ x. ActsAlike i w x (step w (Deliver k i)) (step x (Deliver l i))) (sym (as_other i w v h)) (delivery i w v.journals v.packets v.nodes k l sent h.room h.room_too h.node)
+    subst (λ x. SameStepAt i w x (step w (Deliver k i)) (step x (Deliver l i))) (sym (as_other i w v h)) (delivery i w v.journals v.packets v.nodes k l sent h.room h.room_too h.node)
 
-pub asked_alike : (w v : World) (i : ℕ) (e : Event) → HaveTheNode i w v → is_its_own i e ≡ true → ActsAlike i w v (step w e) (step v e)
+pub asked_alike : (w v : World) (i : ℕ) (e : Event) → AgreeAtNode i w v → is_input_at i e ≡ true → SameStepAt i w v (step w e) (step v e)
 asked_alike w v i e h at =
-    subst (λ x. ActsAlike i w x (step w e) (step x e)) (sym (as_other i w v h)) (asked i w v.journals v.packets v.nodes e at h.room h.room_too h.node)
+    subst (λ x. SameStepAt i w x (step w e) (step x e)) (sym (as_other i w v h)) (asked i w v.journals v.packets v.nodes e at h.room h.room_too h.node)
 
 -- ---- what stays
 
 module _ (i : ℕ) (w : World) where
   abbrev Just : Outcome → Type 0
-  Just = ChangesJust i w
+  Just = ChangesOnlyNode i w
 
   just_stays : (r : Reply) → Just (r, w)
-  just_stays r = record { sheet = refl; issuer = refl; agents = refl; votes = refl; journals = refl; packets = take-length w.packets; others = λ j apart. refl }
+  just_stays r = record { sheet = refl; issuer = refl; agents = refl; voters = refl; journals = refl; count = refl; packets = take-length w.packets; others = λ j apart. refl }
 
   just_then : {A : Type 0} (x : Result A Refusal) (f : A → Result Outcome Refusal) → ((a : A) → Just (or_refused w (f a))) → Just (or_refused w (x >>= f))
   just_then (Err e) f each = just_stays (Refused e)
   just_then (Ok a) f each = each a
 
   just_does : (n : Node) (sends : Option Packet) (reply : Option ℕ → Reply) → Just (or_refused w (done w i n sends reply))
-  just_does n None reply = record { sheet = refl; issuer = refl; agents = refl; votes = refl; journals = refl; packets = take-length w.packets; others = λ j apart. set_other w.nodes i j n apart }
+  just_does n None reply = record { sheet = refl; issuer = refl; agents = refl; voters = refl; journals = refl; count = length-slice_set w.nodes i n; packets = take-length w.packets; others = λ j apart. set_other w.nodes i j n apart }
   just_does n (Some p) reply = just_then (next_packet w) (λ k. Ok (reply (Some k), with_packet p (with_node_at i n w))) (λ k.
-      record { sheet = refl; issuer = refl; agents = refl; votes = refl; journals = refl; packets = take-append_seam w.packets (p ∷ []); others = λ j apart. set_other w.nodes i j n apart })
+      record { sheet = refl; issuer = refl; agents = refl; voters = refl; journals = refl; count = length-slice_set w.nodes i n; packets = take-append_seam w.packets (p ∷ []); others = λ j apart. set_other w.nodes i j n apart })
 
   just_delivers : (h : Handled) → Just (or_refused w (after_delivery w i h))
   just_delivers h = by_sent h.sends
@@ -211,19 +213,19 @@ module _ (i : ℕ) (w : World) where
       just_does (started_node (voter_count w) (ballot_of (n.kept.round + 1) i (voter_count w)) n) (Some (Prepare (current_period n) (ballot_of (n.kept.round + 1) i (voter_count w))))
       (λ s. Started (ballot_of (n.kept.round + 1) i (voter_count w)) (unwrap_or s 0)))))
 
-pub changes_just : (w : World) (i : ℕ) (e : Event) → is_at i e ≡ true → ChangesJust i w (step w e)
+pub changes_just : (w : World) (i : ℕ) (e : Event) → is_at i e ≡ true → ChangesOnlyNode i w (step w e)
 changes_just w i (Journal offer) at = absurd (cc)
 changes_just w i (Deliver packet node) at =
-    subst (λ j. ChangesJust i w (step w (Deliver packet j))) (sym (eqb-true node i at))
+    subst (λ j. ChangesOnlyNode i w (step w (Deliver packet j))) (sym (eqb-true node i at))
     (just_then i w (ok_or (slice_get w.packets packet) NoPacket) (λ p. ok_or (slice_get w.nodes i) NoNode >>= λ n. after_delivery w i (handled w i n p)) (λ p.
     just_at i w (λ n. after_delivery w i (handled w i n p)) (λ n. just_delivers i w (handled w i n p))))
-changes_just w i (Start node) at = subst (λ j. ChangesJust i w (step w (Start j))) (sym (eqb-true node i at)) (just_at i w _ (just_starts i w))
+changes_just w i (Start node) at = subst (λ j. ChangesOnlyNode i w (step w (Start j))) (sym (eqb-true node i at)) (just_at i w _ (just_starts i w))
 changes_just w i (Restart node) at =
-    subst (λ j. ChangesJust i w (step w (Restart j))) (sym (eqb-true node i at)) (just_at i w _ (λ n. just_does i w (wake n.kept) None (λ s. Restarted)))
+    subst (λ j. ChangesOnlyNode i w (step w (Restart j))) (sym (eqb-true node i at)) (just_at i w _ (λ n. just_does i w (wake n.kept) None (λ s. Restarted)))
 changes_just w i (Export node period) at =
-    subst (λ j. ChangesJust i w (step w (Export j period))) (sym (eqb-true node i at)) (just_then i w (snapshot w i period) (λ x. Ok (Exported x, w)) (λ x. just_stays i w (Exported x)))
+    subst (λ j. ChangesOnlyNode i w (step w (Export j period))) (sym (eqb-true node i at)) (just_then i w (snapshot w i period) (λ x. Ok (Exported x, w)) (λ x. just_stays i w (Exported x)))
 changes_just w i (Keep node) at =
-    subst (λ j. ChangesJust i w (step w (Keep j))) (sym (eqb-true node i at)) (just_at i w _ (λ n. just_stays i w (KeptText (kept_text (kept_now w n)))))
+    subst (λ j. ChangesOnlyNode i w (step w (Keep j))) (sym (eqb-true node i at)) (just_at i w _ (λ n. just_stays i w (KeptText (kept_text (kept_now w n)))))
 changes_just w i (Revive node offer) at =
-    subst (λ j. ChangesJust i w (step w (Revive j offer))) (sym (eqb-true node i at))
+    subst (λ j. ChangesOnlyNode i w (step w (Revive j offer))) (sym (eqb-true node i at))
     (just_at i w _ (λ n. just_then i w (kept_of offer) _ (λ k. just_then i w (holds_or (is_same (kept_text k) (kept_text (kept_now w n))) NotKept) _ (λ _. just_does i w (wake k.kept) None (λ s. Restarted)))))

@@ -7,7 +7,8 @@ use Rattle.metering_model.specs.NumberText.{worth_of, decimals_of}
 use Rattle.metering_model.specs.World.{World, Event, Journal, Deliver, Start, Restart, Good, Accept, Delivered, opening}
 use Rattle.metering_model.specs.Step.{play, step}
 use Rattle.metering_model.proofs.Samples.{sheet_0, issuer_1}
-use Rattle.group_laws.specs.OneNode.{HaveTheNode, ActsAlike, unnumbered}
+use Rattle.group_laws.specs.Alone.{unnumbered}
+use Rattle.group_laws.specs.OneNode.{AgreeAtNode, SameStepAt}
 use Rattle.group_laws.proofs.OneNode.{delivered_alike}
 
 abbrev first : Event
@@ -26,15 +27,15 @@ one = after (Start 0 ∷ Deliver 0 0 ∷ [])
 abbrev other : World
 other = after (first ∷ second ∷ Start 0 ∷ Deliver 2 0 ∷ [])
 
-it_is_the_same_node : HaveTheNode 0 one other
+it_is_the_same_node : AgreeAtNode 0 one other
 unfolding days_from_civil day_count days_of_years days_of_months worth_of decimals_of digits
-it_is_the_same_node = record { sheet = refl; issuer = refl; agents = refl; votes = refl; node = refl; room = omega arith; room_too = omega arith }
+it_is_the_same_node = record { sheet = refl; issuer = refl; agents = refl; voters = refl; node = refl; room = omega arith; room_too = omega arith }
 
 it_is_the_same_packet : slice_get other.packets 3 ≡ slice_get one.packets 1
 unfolding days_from_civil day_count days_of_years days_of_months worth_of decimals_of digits
 it_is_the_same_packet = refl
 
-so_it_acts_alike : ActsAlike 0 one other (step one (Deliver 1 0)) (step other (Deliver 3 0))
+so_it_acts_alike : SameStepAt 0 one other (step one (Deliver 1 0)) (step other (Deliver 3 0))
 so_it_acts_alike = delivered_alike one other 0 1 3 it_is_the_same_node it_is_the_same_packet
 
 -- it proposes its cut in both, under the number that comes next there
@@ -47,6 +48,6 @@ unfolding days_from_civil day_count days_of_years days_of_months worth_of decima
 what_it_sends = refl
 
 -- a false world: in it the node restarted, and so has no ballot to propose at
-it_does_not_act_alike : unnumbered (step (after (first ∷ second ∷ Start 0 ∷ Deliver 2 0 ∷ Restart 0 ∷ [])) (Deliver 3 0)).0 ≡ Delivered None None
+restarted_it_sends_nothing : unnumbered (step (after (first ∷ second ∷ Start 0 ∷ Deliver 2 0 ∷ Restart 0 ∷ [])) (Deliver 3 0)).0 ≡ Delivered None None
 unfolding days_from_civil day_count days_of_years days_of_months worth_of decimals_of digits
-it_does_not_act_alike = refl
+restarted_it_sends_nothing = refl

@@ -3,5 +3,6 @@ pub mod EveryRun
 pub mod Observers
 pub mod Alone
 pub mod Revivals
-pub mod OwnBatches
+pub mod OneAgent
 pub mod OneNode
+pub mod SentPackets

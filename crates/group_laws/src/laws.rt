@@ -1,9 +1,10 @@
 //! The headline over every list of events, and what the bodies of a group rest on.
 
-ghost use Rattle.std.specs.Prelude.{◌≡◌, ◌≢◌, ℕ, ◌≤◌, List, [], ◌++◌, map, Some, Ok, All, true, slice_get};
+ghost use Rattle.std.specs.Prelude.{◌≡◌, ◌≢◌, ℕ, ◌≤◌, List, [], ◌++◌, map, Some, Ok, Err, All, true, slice_get};
 ghost use Rattle.metering_model.specs.Limits.{most_agents, most_nodes};
 ghost use Rattle.metering_model.specs.Sheet.{Sheet, Issuer};
 ghost use Rattle.metering_model.specs.Cut.{Cut};
+ghost use Rattle.metering_model.specs.declared.Refusal.{Refusal};
 ghost use Rattle.metering_model.specs.declared.Refusal.TheVariants.{WorldFull};
 ghost use Rattle.metering_model.specs.Batch.{Batch};
 ghost use Rattle.metering_model.specs.World.{World, Node, Event, Deliver, Journal, Offer, Restart, Revive, KeptOffer, KeptGood, Restarted, Refused, opening};
@@ -15,8 +16,9 @@ ghost use Rattle.group_laws.specs.EveryRun.{KeepsLimits};
 ghost use Rattle.group_laws.specs.Observers.{without, IsFollowed};
 ghost use Rattle.group_laws.specs.Alone.{CanBeDoneAlone};
 ghost use Rattle.group_laws.specs.Revivals.{refusal_of_other};
-ghost use Rattle.group_laws.specs.OwnBatches.{own, with_own};
-ghost use Rattle.group_laws.specs.OneNode.{HaveTheNode, ActsAlike, ChangesJust, is_its_own, is_at};
+ghost use Rattle.group_laws.specs.OneAgent.{AgreeAtAgent, SameJournalOf, ChangesOnlyAgent};
+ghost use Rattle.group_laws.specs.SentPackets.{SendsAsTold, told_number};
+ghost use Rattle.group_laws.specs.OneNode.{AgreeAtNode, SameStepAt, ChangesOnlyNode, is_input_at, is_at};
 
 /// The headline: after every list of events, and after every history that one thread could have made, the chosen cuts
 /// are one growing list, and each export is of one of them and of the one before it. A run's list is a prefix of the
@@ -96,32 +98,34 @@ pub fn a_revival_is_a_restart()
         step w (Revive node offer) ≡ (Refused (refusal_of_other offer), w) }
 {}
 
-/// What comes of a batch hangs on its agent's own batches alone: in a run, the same is replied where the journals have
-/// no others, and after it that agent's journal is the same. The journals of other agents stay.
+/// An agent journals by itself: in any two worlds with the same sheet, as many agents, the same batches of that agent
+/// and room for a packet more, a batch of it gets the same reply but for its packet's number, adds the same to that
+/// agent's batches, and is sent alike. All else stays, and so does all where the bytes are no batch.
 pub fn an_agent_journals_by_itself()
-    ensures replies { (voters observers agents : ℕ) (sheet : Sheet) (issuer : Issuer)
-        (events : List Event) (offer : Offer) (b : Batch) → batch_of offer ≡ Ok b →
-        (step (with_own b.agent (play (opening voters observers agents sheet issuer) events).1)
-        (Journal offer)).0
-        ≡ (step (play (opening voters observers agents sheet issuer) events).1 (Journal offer)).0 }
-    ensures journals { (voters observers agents : ℕ) (sheet : Sheet) (issuer : Issuer)
-        (events : List Event) (offer : Offer) (b : Batch) → batch_of offer ≡ Ok b →
-        (step (with_own b.agent (play (opening voters observers agents sheet issuer) events).1)
-        (Journal offer)).1.journals ≡ own b.agent (step
-        (play (opening voters observers agents sheet issuer) events).1 (Journal offer)).1.journals }
-    ensures others { (w : World) (offer : Offer) (b : Batch) (agent : ℕ) → batch_of offer ≡ Ok b →
-        b.agent ≢ agent → own agent (step w (Journal offer)).1.journals ≡ own agent w.journals }
+    ensures journaled { (w v : World) (offer : Offer) (b : Batch) → batch_of offer ≡ Ok b →
+        AgreeAtAgent b.agent w v →
+        SameJournalOf b.agent w v (step w (Journal offer)) (step v (Journal offer)) }
+    ensures changes { (w : World) (offer : Offer) (b : Batch) → batch_of offer ≡ Ok b →
+        ChangesOnlyAgent b.agent w (step w (Journal offer)) }
+    ensures bad { (w : World) (offer : Offer) (refusal : Refusal) → batch_of offer ≡ Err refusal →
+        step w (Journal offer) ≡ (Refused refusal, w) }
 {}
 
-/// A node acts by itself: where two worlds of one group have the same node and room for a packet more, the same packet
-/// under any number, and any other event at the node, is answered alike but for a packet's number, and leaves the node the
-/// same and sends the same. What happens at a node changes no other node, no journal and no older packet.
+/// A node acts by itself: in any two worlds with the same sheet and issuer, as many voters and agents, the same node of
+/// a number, if any, and room for a packet more, the same packet under whatever number, and any other event at that node,
+/// gets the same reply but for a packet's number, leaves the node the same and sends the same. All else stays.
 pub fn a_node_acts_by_itself()
-    ensures delivered { (w v : World) (i k l : ℕ) → HaveTheNode i w v →
+    ensures delivered { (w v : World) (i k l : ℕ) → AgreeAtNode i w v →
         slice_get v.packets l ≡ slice_get w.packets k →
-        ActsAlike i w v (step w (Deliver k i)) (step v (Deliver l i)) }
-    ensures asked { (w v : World) (i : ℕ) (e : Event) → HaveTheNode i w v →
-        is_its_own i e ≡ true → ActsAlike i w v (step w e) (step v e) }
+        SameStepAt i w v (step w (Deliver k i)) (step v (Deliver l i)) }
+    ensures inputs { (w v : World) (i : ℕ) (e : Event) → AgreeAtNode i w v →
+        is_input_at i e ≡ true → SameStepAt i w v (step w e) (step v e) }
     ensures changes { (w : World) (i : ℕ) (e : Event) → is_at i e ≡ true →
-        ChangesJust i w (step w e) }
+        ChangesOnlyNode i w (step w e) }
+{}
+
+/// One packet more is sent just where the reply tells its number, which is the next one. Those before it stay.
+pub fn a_reply_tells_what_was_sent()
+    ensures sent { (w : World) (e : Event) →
+        SendsAsTold w (step w e).1 (told_number (step w e).0) }
 {}
