@@ -1,5 +1,6 @@
 pub mod Counts
 pub mod Counted
 pub mod Devices
+pub mod Inner
 pub mod Reading
 pub mod Writing

@@ -1,11 +1,11 @@
 //! Devices over memory for tests: a writer and a reader that fail at the calls that a test names.
 //!
 //! Calls are counted from 1. Wrap one as `Counted::new(..)` where a sink or a source is required.
-ghost use Rattle.std.specs.Prelude.{◌≡◌, ◌<◌, ◌+◌, ◌++◌, ◌⊎◌, length, take, drop, min, Some, None, true, false, vec_len, vec_capacity, IsTrue, IsErr, IfOk, OnErr, is_err};
+ghost use Rattle.std.specs.Prelude.{◌≡◌, ◌<◌, ◌+◌, ◌⊎◌, length, Some, None, true, false, vec_len, vec_capacity, IsTrue, IsErr, IfOk, OnErr, is_err};
 ghost use Rattle.std.specs.Io.{ReadsAtMost, WritesAtMost};
 ghost use Rattle.std.specs.Io.KnownBytes.{Keeps, ReadConsumes, WriteAppends};
 ghost use Rattle.counted_io.specs.Counts.{next_count};
-ghost use Rattle.counted_io.specs.Devices.{carried, carried_unless, is_call, is_since, known_unless_pausing};
+ghost use Rattle.counted_io.specs.Devices.{GivesInto, IsReaderCalled, IsWriterCalled, carried, carried_unless, is_call, is_since, known_unless_pausing};
 
 use std::io;
 use std::io::{ErrorKind, Read, Write};
@@ -101,7 +101,7 @@ impl Write for FakeWriter {
         ensures bound { WritesAtMost result bytes.now }
         ensures appended { WriteAppends (Some self.old.taken.items)
             (Some self.new.taken.items) result bytes.now }
-        ensures calls { self.new.calls ≡ next_count self.old.calls }
+        ensures called { IsWriterCalled self.old self.new }
         ensures failing { IsTrue (is_call self.old.failing self.new.calls) → IsErr result }
         ensures count { IfOk result
             (λ count. count ≡ carried_unless (is_since self.old.full_from self.new.calls)
@@ -110,9 +110,6 @@ impl Write for FakeWriter {
         // Another call fails only for want of memory.
         ensures fault { OnErr result (IsTrue (is_call self.old.failing self.new.calls)
             ⊎ (vec_capacity self.old.taken < vec_len self.old.taken + length bytes.now)) }
-        ensures told_failing { self.new.failing ≡ self.old.failing }
-        ensures told_full { self.new.full_from ≡ self.old.full_from }
-        ensures told_bytes { self.new.byte_by_byte ≡ self.old.byte_by_byte }
     {
         self.calls = self.calls.saturating_add(1);
         if is_call(self.failing, self.calls) {
@@ -239,18 +236,10 @@ impl Read for FakeReader<'_> {
         ensures bound { ReadsAtMost result room.new }
         ensures consumed { ReadConsumes (known_unless_pausing self.old.pausing self.old.rest.now)
             (known_unless_pausing self.new.pausing self.new.rest.now) result room.new }
-        ensures calls { self.new.calls ≡ next_count self.old.calls }
+        ensures called { IsReaderCalled self.old self.new }
         ensures failing { is_err result ≡ is_call self.old.failing self.new.calls }
-        ensures count { IfOk result
-            (λ count. count ≡ carried_unless (is_call self.old.pausing self.new.calls)
-            self.old.byte_by_byte (min (length self.old.rest.now) (length room.old))) }
-        ensures given { IfOk result (λ count. room.new
-            ≡ take count self.old.rest.now ++ drop count room.old) }
-        ensures rest { IfOk result (λ count. self.new.rest.now ≡ drop count self.old.rest.now) }
+        ensures gives { IfOk result (GivesInto self.old self.new room.old room.new) }
         ensures kept { OnErr result (self.new.rest.now ≡ self.old.rest.now) }
-        ensures told_failing { self.new.failing ≡ self.old.failing }
-        ensures told_pausing { self.new.pausing ≡ self.old.pausing }
-        ensures told_bytes { self.new.byte_by_byte ≡ self.old.byte_by_byte }
     {
         self.calls = self.calls.saturating_add(1);
         if is_call(self.failing, self.calls) {

@@ -1,9 +1,10 @@
 //! Sources, and reading a whole input up to a limit.
-ghost use Rattle.std.specs.Prelude.{◌≡◌, ℕ, ◌+◌, ◌<◌, ◌≤◌, List, Option, None, length, take, drop, vec_len, OnOk, OnErr, IfOk, IfErr, IfSome, is_err};
+ghost use Rattle.std.specs.Prelude.{◌≡◌, ℕ, ◌+◌, ◌<◌, ◌≤◌, List, Option, None, length, take, vec_len, OnOk, OnErr, IfOk, IfSome, is_err};
 ghost use Rattle.std.specs.Io.{ReadsAtMost};
 ghost use Rattle.std.specs.Io.KnownBytes.{Consumes, IsAtEnd, Keeps, ReadConsumes};
 ghost use Rattle.counted_io.specs.Counts.{Rises, count_after};
 ghost use Rattle.counted_io.specs.Reading.{ConsumesAtMost, EndsWithin, IsAnswer, is_device_fault};
+ghost use Rattle.counted_io.specs.Inner.Blocks.{CameBehind, LacksBytes};
 
 use std::alloc::{AllocError, Global};
 use std::io;
@@ -92,15 +93,11 @@ fn read_block<S: Source>(
     filled: usize,
     most: usize,
 ) -> Result<usize, ReadFault>
-    requires within { filled ≤ vec_len bytes.old }
-    requires bounded { vec_len bytes.old ≤ most }
-    requires more { filled < most }
+    requires { LacksBytes filled most bytes.old }
     ensures bounded { vec_len bytes.new ≤ most }
-    ensures within { IfOk result (λ count. filled + count ≤ vec_len bytes.new) }
     ensures before { take filled bytes.new.items ≡ take filled bytes.old.items }
-    ensures consumed { IfOk result (λ count. Consumes (S.remaining source.old)
-        (S.remaining source.new) (take count (drop filled bytes.new.items))) }
-    ensures end { IfOk result (λ count. count ≡ 0 → IsAtEnd (S.remaining source.new)) }
+    ensures came { IfOk result
+        (CameBehind filled bytes.new (S.remaining source.old) (S.remaining source.new)) }
     ensures err { OnErr result (Keeps (S.remaining source.old) (S.remaining source.new)) }
     ensures count { S.failed_calls source.new
         ≡ count_after (is_device_fault result) (S.failed_calls source.old) }
@@ -114,9 +111,7 @@ fn read_block<S: Source>(
 // Makes room behind the `filled` bytes, and only where none is left, so that each byte of it is
 // cleared once, however few bytes a read gives.
 fn make_room(bytes: &mut Vec<u8>, filled: usize, most: usize) -> Result<(), AllocError>
-    requires within { filled ≤ vec_len bytes.old }
-    requires bounded { vec_len bytes.old ≤ most }
-    requires more { filled < most }
+    requires { LacksBytes filled most bytes.old }
     ensures bounded { vec_len bytes.new ≤ most }
     ensures room { OnOk result (filled < vec_len bytes.new) }
     ensures before { take filled bytes.new.items ≡ take filled bytes.old.items }

@@ -10,7 +10,7 @@ loop-filled-preserved g c =
       within = search rules;
       bounded = search rules;
       consumed = rw (take-add c.loop-filled.filled c.in_ok-count.count c.read_block.new.bytes.items, came.before)
-          (Consumes-trans _ _ _ _ _ c.loop-filled.invariant.consumed came.consumed);
+          (Consumes-trans _ _ _ _ _ c.loop-filled.invariant.consumed came.came.consumed);
       quiet = search rules;
     }
 
