@@ -10,8 +10,8 @@ use Rattle.metering_model.specs.declared.Refusal.{Refusal}
 use Rattle.input_sections.specs.declared.faults.ScheduleCode.TheVariants as codes
 use Rattle.input_sections.specs.declared.faults.ScheduleFault.{ScheduleFault}
 use Rattle.input_sections.specs.declared.faults.ScheduleFault.TheVariants as sections
-use Rattle.program_input.specs.declared.faults.PlayFault.TheVariants.{Read, Schedule, Write, Refused}
-use Rattle.program_input.specs.Faults.{tells_of_reader}
+use Rattle.program_input.specs.declared.faults.PlayFault.TheVariants.{Schedule, Write, Refused}
+use Rattle.program_input.specs.Faults.{EndsInReading, tells_of_reader}
 use Rattle.program_input.specs.Inner.Inputs.{whole_input}
 use Rattle.program_input.proofs.FaultLaws.{same_section}
 
@@ -41,14 +41,17 @@ reader_told (Ok TooLong) = refl
 reader_told (Err Failed) = refl
 reader_told (Err OutOfMemory) = refl
 
-pub no_write_told : (r : Result Input ReadFault) → whole_input r ≢ Err Write
+no_write_told : (r : Result Input ReadFault) → whole_input r ≢ Err Write
 no_write_told (Ok (Whole bytes)) told = absurd (cc)
 no_write_told (Ok TooLong) told = absurd (cc)
 no_write_told (Err Failed) told = absurd (cc)
 no_write_told (Err OutOfMemory) told = absurd (cc)
 
-pub no_refusal_told : (r : Result Input ReadFault) (refusal : Refusal) → whole_input r ≢ Err (Refused refusal)
+no_refusal_told : (r : Result Input ReadFault) (refusal : Refusal) → whole_input r ≢ Err (Refused refusal)
 no_refusal_told (Ok (Whole bytes)) refusal told = absurd (cc)
 no_refusal_told (Ok TooLong) refusal told = absurd (cc)
 no_refusal_told (Err Failed) refusal told = absurd (cc)
 no_refusal_told (Err OutOfMemory) refusal told = absurd (cc)
+
+pub reads_alone : (r : Result Input ReadFault) → EndsInReading (whole_input r)
+reads_alone r = record { no_write = no_write_told r; no_refusal = no_refusal_told r }

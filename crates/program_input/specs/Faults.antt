@@ -1,5 +1,6 @@
 -- What the faults of the calls below come to, and which answers tell of a failed call.
-use Rattle.std.specs.Prelude.{Bool, true, false, Result, Ok, Err}
+use Rattle.std.specs.Prelude.{◌≢◌, Bool, true, false, Result, Ok, Err}
+use Rattle.metering_model.specs.declared.Refusal.{Refusal}
 use Rattle.counted_io.specs.declared.reading.ReadFault.{ReadFault}
 use Rattle.counted_io.specs.declared.reading.ReadFault.TheVariants as reading
 use Rattle.input_sections.specs.declared.faults.ScheduleFault.{ScheduleFault}
@@ -33,3 +34,8 @@ tells_of_writer (Err (Schedule fault)) = false
 tells_of_writer (Err Write) = true
 tells_of_writer (Err OutOfMemory) = false
 tells_of_writer (Err (Refused refusal)) = false
+
+-- The answer of a call that reads alone: it tells of no failed call of a writer, and refuses no batch.
+pub record EndsInReading {A : Type 0} (answer : Result A PlayFault) : Type 0 where
+  pub no_write : answer ≢ Err Write
+  pub no_refusal : (refusal : Refusal) → answer ≢ Err (Refused refusal)

@@ -1,14 +1,13 @@
 //! All of an input, which a schedule and a batch have alike.
 
-ghost use Rattle.std.specs.Prelude.{◌+◌, ◌≡◌, ◌≢◌, ◌<◌, Err, length, IfOk, IfSome, OnOk};
+ghost use Rattle.std.specs.Prelude.{◌+◌, ◌≡◌, ◌<◌, Err, length, IfOk, IfSome, OnOk};
 ghost use Rattle.std.specs.Io.KnownBytes.{IsAtEnd};
 ghost use Rattle.metering_model.specs.Limits.{most_input_bytes};
 ghost use Rattle.counted_io.specs.Counts.{count_after};
 ghost use Rattle.counted_io.specs.Reading.{ConsumesAtMost};
-ghost use Rattle.metering_model.specs.declared.Refusal.{Refusal};
 ghost use Rattle.input_sections.specs.declared.faults.ScheduleFault.{ScheduleFault};
 ghost use Rattle.program_input.specs.Inner.Inputs.{whole_input};
-ghost use Rattle.program_input.specs.Faults.{tells_of_reader};
+ghost use Rattle.program_input.specs.Faults.{EndsInReading, tells_of_reader};
 
 use crate::PlayFault;
 use counted_io::{Input, ReadFault, Source, read_to_limit};
@@ -45,8 +44,7 @@ pub fn read_input<R: Source>(alloc: Global, reader: &mut R) -> Result<Vec<u8>, P
         (R.remaining reader.new) }
     ensures count { R.failed_calls reader.new
         ≡ count_after (tells_of_reader result) (R.failed_calls reader.old) }
-    ensures no_write { result ≢ Err PlayFault.Write }
-    ensures no_refusal { (refusal : Refusal) → result ≢ Err (PlayFault.Refused refusal) }
+    ensures no_other { EndsInReading result }
 {
     answer_of(read_to_limit(alloc, reader, MOST_BYTES))
 }

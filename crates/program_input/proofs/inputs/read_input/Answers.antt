@@ -1,6 +1,6 @@
 use Rattle.std.proofs.Common.{ap, ◌∙◌}
 use Rattle.counted_io.specs.Counts.{count_after}
-use Rattle.program_input.proofs.ReadInputs.{whole_read, end_read, section_read, reader_told, no_write_told, no_refusal_told}
+use Rattle.program_input.proofs.ReadInputs.{whole_read, end_read, section_read, reader_told, reads_alone}
 use Rattle.program_input.proofs.inputs.read_input.Goals as goal
 
 pub returns-clause-whole : goal.returns-clause-whole
@@ -18,8 +18,5 @@ returns-clause-count g c =
     rw c.answer_of.ensures
     (c.read_to_limit.ensures.count ∙ ap (λ told. count_after told (g.R.Source.failed_calls c.args.reader.now)) (reader_told c.read_to_limit.result))
 
-pub returns-clause-no_write : goal.returns-clause-no_write
-returns-clause-no_write g c = rw c.answer_of.ensures (no_write_told c.read_to_limit.result)
-
-pub returns-clause-no_refusal : goal.returns-clause-no_refusal
-returns-clause-no_refusal g c = rw c.answer_of.ensures (no_refusal_told c.read_to_limit.result)
+pub returns-clause-no_other : goal.returns-clause-no_other
+returns-clause-no_other g c = rw c.answer_of.ensures (reads_alone c.read_to_limit.result)
