@@ -9,6 +9,7 @@ use Rattle.std.proofs.lemmas.Bool.{and_parts, and_from, ne_eqb, eq-eqb, eqb-true
 use Rattle.std.proofs.lemmas.Nat.{pow-add}
 use Rattle.std.proofs.Math.Nat.{mul-lt-mul_of_pos_right, pow-suc, pow-le-pow_right}
 use Rattle.metering_model.specs.NumberText.{is_digit, is_point, is_whole_part, is_decimal_part, ends_in, number_of, worth_of, units_of, is_unsigned, magnitude_in}
+use Rattle.fx_money.specs.Inner.Leading.{AreLeading}
 use Rattle.fx_money.proofs.Decimals.{power_positive}
 use Rattle.fx_money.proofs.Digits.{IsDigit-from_test, number_after, worth_none}
 
@@ -166,13 +167,7 @@ pub record HasUsual (t : List ℕ) (many : ℕ) : Type 0 where
   pub behind : many < length t → many + 1 < length t
   pub decimals : is_decimal_part 6 (drop (many + 1) t) ≡ true
 
--- so many of the first bytes are digits, and no more, up to twelve
-pub record AreLeading (t : List ℕ) (many : ℕ) : Type 0 where
-  pub within : many ≤ length t
-  pub digits : list_all is_digit (take many t) ≡ true
-  pub stops : many < 12 → many < length t → is_digit (get_or t many 0) ≡ false
-
-module _ (t : List ℕ) (many : ℕ) (leads : AreLeading t many) (short : length (before_first is_point t) ≤ 12) (number : is_unsigned 6 t ≡ true) where
+module _ (t : List ℕ) (many : ℕ) (leads : AreLeading t 12 many) (short : length (before_first is_point t) ≤ 12) (number : is_unsigned 6 t ≡ true) where
   abbrev place : ℕ
   place = position_or_len is_point t
 

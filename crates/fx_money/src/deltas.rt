@@ -3,7 +3,7 @@
 ghost use Rattle.std.specs.Prelude.{◌≡◌, ◌+◌, ◌<◌, ◌≤◌, ◌++◌, length, Some, None, unsigned_abs, string_bytes, string_len, string_capacity, IfOk, OnOk, OnErr};
 ghost use Rattle.metering_model.specs.NumberText.{delta_limit, spelling};
 
-use crate::writing::append_millionths;
+use crate::writing::{append_millionths, millionths_text};
 use std::alloc::{AllocError, Global};
 use std::marker::Model;
 
@@ -65,8 +65,6 @@ impl Delta {
     pub fn write(&self, alloc: Global) -> Result<String, AllocError>
         ensures { IfOk result (λ text. string_bytes text ≡ spelling 6 self.now) }
     {
-        let mut text = String::new(alloc);
-        self.write_to(&mut text)?;
-        Ok(text)
+        millionths_text(alloc, self.0.is_negative(), self.0.unsigned_abs())
     }
 }

@@ -4,7 +4,7 @@ ghost use Rattle.std.specs.Prelude.{◌≡◌, ◌+◌, ◌<◌, ◌≤◌, ◌+
 ghost use Rattle.metering_model.specs.NumberText.{price_limit, price_in, spelling};
 
 use crate::reading::magnitude;
-use crate::writing::append_millionths;
+use crate::writing::{append_millionths, millionths_text};
 use metering_model::NumberFault;
 use std::alloc::{AllocError, Global};
 use std::marker::Model;
@@ -77,8 +77,6 @@ impl Price {
     pub fn write(&self, alloc: Global) -> Result<String, AllocError>
         ensures { IfOk result (λ text. string_bytes text ≡ spelling 6 (pos self.now)) }
     {
-        let mut text = String::new(alloc);
-        self.write_to(&mut text)?;
-        Ok(text)
+        millionths_text(alloc, false, self.0)
     }
 }

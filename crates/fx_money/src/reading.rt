@@ -1,8 +1,9 @@
 //! Decimals of six places, read without taking memory: each text is looked at where it stands.
 
-ghost use Rattle.std.specs.Prelude.{◌≡◌, ◌-◌, ◌<◌, ◌≤◌, ◌^◌, IsTrue, IfOk, IfSome, IsSome, Some, MatchOption, false, position, length, take, slice_index};
+ghost use Rattle.std.specs.Prelude.{◌≡◌, ◌-◌, ◌<◌, ◌≤◌, ◌^◌, IsTrue, IfOk, IfSome, IsSome, Some, MatchOption, false, position, length, take};
 ghost use Rattle.std.specs.List.{list_all, before_first, after_first};
 ghost use Rattle.metering_model.specs.NumberText.{is_digit, is_point, is_whole_part, is_decimal_part, ends_in, number_of, worth_of, units_of, magnitude_in, negated, not_negated, value_limit, value_within, value_in};
+ghost use Rattle.fx_money.specs.Inner.Leading.{AreLeading};
 ghost use Rattle.fx_money.specs.Inner.Limits.{below_limit};
 
 use crate::{MILLION, PLACES, VALUE_LIMIT};
@@ -130,11 +131,7 @@ fn exact_magnitude(body: &[u8], limit: u64) -> Result<u64, NumberFault>
 #[inline(always)]
 fn leading(text: &[u8], most: usize) -> (u64, usize)
     requires { most ≤ 12 }
-    ensures within { result.1 ≤ length text.now }
-    ensures few { result.1 ≤ most }
-    ensures stops { result.1 < most → result.1 < length text.now
-        → is_digit (slice_index text.now result.1) ≡ false }
-    ensures digits { IsTrue (list_all is_digit (take result.1 text.now)) }
+    ensures leads { AreLeading text.now most result.1 }
     ensures number { result.0 ≡ number_of (take result.1 text.now) }
     ensures small { result.0 < 10 ^ result.1 }
 {

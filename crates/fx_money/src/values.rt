@@ -5,7 +5,7 @@ ghost use Rattle.metering_model.specs.NumberText.{value_limit, value_in, spellin
 
 use crate::VALUE_LIMIT;
 use crate::reading::signed;
-use crate::writing::append_millionths;
+use crate::writing::{append_millionths, millionths_text};
 use metering_model::NumberFault;
 use std::alloc::{AllocError, Global};
 use std::marker::Model;
@@ -76,8 +76,6 @@ impl Value {
     pub fn write(&self, alloc: Global) -> Result<String, AllocError>
         ensures { IfOk result (λ text. string_bytes text ≡ spelling 6 self.now) }
     {
-        let mut text = String::new(alloc);
-        self.write_to(&mut text)?;
-        Ok(text)
+        millionths_text(alloc, self.0.is_negative(), self.0.unsigned_abs())
     }
 }

@@ -1,13 +1,13 @@
 //! The one spelling of a number, made on the stack and then appended at once.
 
-ghost use Rattle.std.specs.Prelude.{◌≡◌, ◌+◌, ◌/◌, ◌%◌, ◌^◌, ◌<◌, ◌≤◌, [], ◌∷◌, ◌++◌, length, decimal, string_bytes, string_len, string_capacity, OnOk, OnErr};
+ghost use Rattle.std.specs.Prelude.{◌≡◌, ◌+◌, ◌/◌, ◌%◌, ◌^◌, ◌<◌, ◌≤◌, [], ◌∷◌, ◌++◌, length, decimal, string_bytes, string_len, string_capacity, IfOk, OnOk, OnErr};
 ghost use Rattle.metering_model.specs.NumberText.{point_text, decimals_of};
 ghost use Rattle.fx_money.specs.Inner.Parts.{text_of_parts};
 ghost use Rattle.fx_money.specs.Inner.Cuts.{IsCutTo};
 
 use crate::{MILLION, PLACES};
 use itoa::write_digits;
-use std::alloc::AllocError;
+use std::alloc::{AllocError, Global};
 use std::marker::Model;
 
 /// A minus, 20 digits, a point and 12 decimals.
@@ -196,4 +196,18 @@ pub(crate) fn append_millionths(
         magnitude % MILLION,
         PLACES,
     )
+}
+
+/// The text of a number of millionths by its sign and its magnitude. An error is an allocation failure.
+pub(crate) fn millionths_text(
+    alloc: Global,
+    minus: bool,
+    magnitude: u64,
+) -> Result<String, AllocError>
+    ensures { IfOk result (λ text. string_bytes text
+        ≡ text_of_parts minus (magnitude / 10 ^ 6) (magnitude % 10 ^ 6) 6) }
+{
+    let mut text = String::new(alloc);
+    append_millionths(&mut text, minus, magnitude)?;
+    Ok(text)
 }

@@ -3,7 +3,7 @@ use Rattle.std.proofs.Common.{◌*◌, ◌+◌, length, length-drop, sym, ap, ap
 use Rattle.std.proofs.lemmas.Bool.{eqb-false, eqb-true, ltb-true, false≢true}
 use Rattle.std.proofs.lemmas.List.{take_rest}
 use Rattle.metering_model.specs.NumberText.{is_decimal_part}
-use Rattle.fx_money.proofs.Usual.{HasWhole, below_power, magnitude_whole, magnitude_parts, no_magnitude, AreLeading, has_usual}
+use Rattle.fx_money.proofs.Usual.{HasWhole, below_power, magnitude_whole, magnitude_parts, no_magnitude, has_usual}
 use Rattle.fx_money.proofs.reading.usual_magnitude.Goals.{then-many-gt1, else-many-gt1, then-many-eq0-via-then-many-eq0, then-many-eq0-via-else-many-eq0+then-body-eq48}
 use Rattle.fx_money.proofs.reading.usual_magnitude.Goals as goal
 
@@ -22,8 +22,8 @@ returns-then-many-body-clause-value c =
     let many = c.leading-whole.result.1 in
     let whole : HasWhole t many = record {
       some = omega arith;
-      within = c.leading-whole.ensures.within;
-      digits = c.leading-whole.ensures.digits;
+      within = c.leading-whole.ensures.leads.within;
+      digits = c.leading-whole.ensures.leads.digits;
       first = λ more zero. elim c.if-many-gt1.branch [
         | then-many-gt1 w ↦ eqb-false _ _ (sym w.value-is ∙ c.if-body-eq48.false) zero
         | else-many-gt1 w ↦ absurd (omega arith)
@@ -37,8 +37,8 @@ returns-clause-value c =
     let many = c.leading-whole.result.1 in
     let whole : HasWhole t many = record {
       some = omega arith;
-      within = c.leading-whole.ensures.within;
-      digits = c.leading-whole.ensures.digits;
+      within = c.leading-whole.ensures.leads.within;
+      digits = c.leading-whole.ensures.leads.digits;
       first = λ more zero. elim c.if-many-gt1.branch [
         | then-many-gt1 w ↦ eqb-false _ _ (sym w.value-is ∙ c.if-body-eq48.false) zero
         | else-many-gt1 w ↦ absurd (omega arith)
@@ -57,10 +57,8 @@ pub returns-then-many-eq0-clause-given : goal.returns-then-many-eq0-clause-given
 returns-then-many-eq0-clause-given c = λ short.
     let t = c.args.body.now in
     let many = c.leading-whole.result.1 in
-    let ensures = c.leading-whole.ensures in
-    let leads : AreLeading t many = record { within = ensures.within; digits = ensures.digits; stops = λ few. ensures.stops few } in
     sym (no_magnitude t (λ number.
-    let usual = has_usual t many leads short number in
+    let usual = has_usual t many c.leading-whole.ensures.leads short number in
     elim c.then-many-eq0.branch [
       | then-many-eq0-via-then-many-eq0 w ↦ omega (arith, usual.some)
       | then-many-eq0-via-else-many-eq0+then-body-eq48 w ↦ elim w.if-many-gt1.branch [
@@ -73,20 +71,16 @@ pub returns-then-body-many-ne46-clause-given : goal.returns-then-body-many-ne46-
 returns-then-body-many-ne46-clause-given c = λ short.
     let t = c.args.body.now in
     let many = c.leading-whole.result.1 in
-    let ensures = c.leading-whole.ensures in
-    let leads : AreLeading t many = record { within = ensures.within; digits = ensures.digits; stops = λ few. ensures.stops few } in
     sym (no_magnitude t (λ number.
-    let usual = has_usual t many leads short number in
+    let usual = has_usual t many c.leading-whole.ensures.leads short number in
     omega (arith, usual.point)))
 
 pub returns-in_err-part-clause-given : goal.returns-in_err-part-clause-given
 returns-in_err-part-clause-given c = λ short.
     let t = c.args.body.now in
     let many = c.leading-whole.result.1 in
-    let ensures = c.leading-whole.ensures in
-    let leads : AreLeading t many = record { within = ensures.within; digits = ensures.digits; stops = λ few. ensures.stops few } in
     c.from_residual.ensures ∙ sym (no_magnitude t (λ number.
-    let usual = has_usual t many leads short number in
+    let usual = has_usual t many c.leading-whole.ensures.leads short number in
     let rest = take_rest t (many + 1) in
     let decimals = ap (is_decimal_part 6) rest ∙ usual.decimals in
     false≢true (c.in_err-part.ensures.given decimals (omega (arith, usual.behind (omega arith), length-drop (many + 1) t, ap length rest)))))
