@@ -13,7 +13,7 @@ use Rattle.metering_model.proofs.BatchLaws.{batch_read}
 use Rattle.metering_model.specs.FirstFailure.{◌>>=◌, holds_or}
 use Rattle.record_view.specs.Lent.{record_of}
 use Rattle.batch_view.specs.Batches.{batch_of, IsLentAt, GivesNext}
-use Rattle.batch_view.specs.Inner.Lines.{lines_from, first_record, head_line, HasNoLine, IsBehindLines, LendsRecord, BeginsWithHead, IsHeadOf}
+use Rattle.batch_view.specs.Inner.Lines.{AreBatch, lines_from, first_record, head_line, HasNoLine, IsBehindLines, LendsRecord, BeginsWithHead, IsHeadOf}
 use Rattle.batch_view.specs.declared.head.Head.{Head}
 use Rattle.record_view.specs.declared.records.Record.{Record as LentRecord}
 use Rattle.batch_view.proofs.LineLemmas.{one_more_line}
@@ -113,8 +113,7 @@ is_batch bytes h rs end short begins good behind last =
     let batch = by_end bytes h rs short begins good ∙ ap (λ b. at_line (h.count + 2) (holds_or b Count) >>= (λ _. Ok (whole h rs))) read in
     let is = batch_of_is bytes (whole h rs) batch in
     record {
-      short = short;
-      batch = batch ∙ ap Ok (sym is);
+      are = record { short = short; batch = batch ∙ ap Ok (sym is) };
       version = sym (ap (λ b. b.version) is);
       agent = sym (ap (λ b. b.agent) is);
       seq = sym (ap (λ b. b.seq) is);
@@ -144,9 +143,9 @@ pub record There (bytes : List ℕ) (index : ℕ) : Type 0 where
   pub got : slice_get (batch_of bytes).records index ≡ Some one
   pub left : drop index (batch_of bytes).records ≡ one ∷ drop (index + 1) (batch_of bytes).records
 
-pub there : (bytes : List ℕ) (index : ℕ) → length bytes ≤ 65_536 → batch_in bytes ≡ Ok (batch_of bytes) → index < length (batch_of bytes).records → There bytes index
-there bytes index short batch within =
-    let all = records_of_batch bytes (batch_of bytes) batch short in
+pub there : (bytes : List ℕ) (index : ℕ) → AreBatch bytes → index < length (batch_of bytes).records → There bytes index
+there bytes index are within =
+    let all = records_of_batch bytes (batch_of bytes) are.batch are.short in
     let many = length-records_in (batch_of bytes).version 2 all.0 (drop 1 (lines_in bytes).lines) (batch_of bytes).records all.1 in
     let r = record_at (batch_of bytes).version 2 all.0 index (drop 1 (lines_in bytes).lines) (batch_of bytes).records all.1 (omega arith) in
     let next : 1 + index ≡ index + 1 = omega arith in
@@ -159,18 +158,17 @@ there bytes index short batch within =
     }
 
 -- what stands at a record's line can be read
-pub never_fails : (version : Version) (bytes : List ℕ) (index at : ℕ) (code : BatchCode) → version ≡ (batch_of bytes).version → length bytes ≤ 65_536
-    → batch_in bytes ≡ Ok (batch_of bytes) → index < length (batch_of bytes).records → IsBehindLines bytes (index + 1) at
+pub never_fails : (version : Version) (bytes : List ℕ) (index at : ℕ) (code : BatchCode) → version ≡ (batch_of bytes).version → AreBatch bytes → index < length (batch_of bytes).records → IsBehindLines bytes (index + 1) at
     → first_record version (lines_from bytes at).lines ≡ Err code → ⊥
-never_fails version bytes index at code format short batch within behind fault =
-    let good = (there bytes index short batch within).read in
+never_fails version bytes index at code format are within behind fault =
+    let good = (there bytes index are within).read in
     let bad : first_record (batch_of bytes).version (drop (index + 1) (lines_in bytes).lines) ≡ Err code =
     ap (λ v. first_record v (drop (index + 1) (lines_in bytes).lines)) (sym format) ∙ ap (first_record version) (sym behind.lines) ∙ fault in
     cc
 
-pub never_lacks : (version : Version) (bytes : List ℕ) (index at : ℕ) → version ≡ (batch_of bytes).version → length bytes ≤ 65_536 → batch_in bytes ≡ Ok (batch_of bytes) → index < length (batch_of bytes).records → IsBehindLines bytes (index + 1) at → HasNoLine bytes at → ⊥
-never_lacks version bytes index at format short batch within behind none =
-    never_fails version bytes index at Count format short batch within behind (ap (λ ls. first_record version ls.lines) none)
+pub never_lacks : (version : Version) (bytes : List ℕ) (index at : ℕ) → version ≡ (batch_of bytes).version → AreBatch bytes → index < length (batch_of bytes).records → IsBehindLines bytes (index + 1) at → HasNoLine bytes at → ⊥
+never_lacks version bytes index at format are within behind none =
+    never_fails version bytes index at Count format are within behind (ap (λ ls. first_record version ls.lines) none)
 
 -- What a record that was read at its line is of the batch.
 pub record IsRecordOf (bytes : List ℕ) (index : ℕ) (r : LentRecord) (next : ℕ) : Type 0 where
@@ -179,11 +177,10 @@ pub record IsRecordOf (bytes : List ℕ) (index : ℕ) (r : LentRecord) (next : 
   pub lent : IsLentAt bytes index r
   pub behind : IsBehindLines bytes (index + 2) next
 
-pub record_read : (version : Version) (bytes : List ℕ) (index at : ℕ) (r : LentRecord) (next : ℕ) → version ≡ (batch_of bytes).version → length bytes ≤ 65_536
-    → batch_in bytes ≡ Ok (batch_of bytes) → index < length (batch_of bytes).records → IsBehindLines bytes (index + 1) at → LendsRecord version bytes at r next
+pub record_read : (version : Version) (bytes : List ℕ) (index at : ℕ) (r : LentRecord) (next : ℕ) → version ≡ (batch_of bytes).version → AreBatch bytes → index < length (batch_of bytes).records → IsBehindLines bytes (index + 1) at → LendsRecord version bytes at r next
     → IsRecordOf bytes index r next
-record_read version bytes index at r next format short batch within behind lends =
-    let stands = there bytes index short batch within in
+record_read version bytes index at r next format are within behind lends =
+    let stands = there bytes index are within in
     let line = one_more_line bytes (index + 1) at lends.span behind lends.is_line in
     let read : first_record (batch_of bytes).version (drop (index + 1) (lines_in bytes).lines) ≡ Ok (record_of r) =
     ap (λ v. first_record v (drop (index + 1) (lines_in bytes).lines)) (sym format) ∙ ap (first_record version) line.left ∙ lends.record_is in
@@ -197,12 +194,12 @@ record_read version bytes index at r next format short batch within behind lends
     }
 
 -- a record that is looked up is the first that is left
-pub gives_there : (bytes : List ℕ) (index : ℕ) (o : Option LentRecord) → length bytes ≤ 65_536 → batch_in bytes ≡ Ok (batch_of bytes) → index < length (batch_of bytes).records
+pub gives_there : (bytes : List ℕ) (index : ℕ) (o : Option LentRecord) → AreBatch bytes → index < length (batch_of bytes).records
     → (IsSome o ↔ (index < length (batch_of bytes).records)) → IfSome o (λ r. slice_get (batch_of bytes).records index ≡ Some (record_of r)) → IfSome o (IsLentAt bytes index)
     → GivesNext (record { bytes = bytes; index = index }) o (record { bytes = bytes; index = index + 1 })
-gives_there bytes index None short batch within there_is got lent = absurd (false≢true (there_is.1 within))
-gives_there bytes index (Some r) short batch within there_is got lent =
-    let stands = there bytes index short batch within in
+gives_there bytes index None are within there_is got lent = absurd (false≢true (there_is.1 within))
+gives_there bytes index (Some r) are within there_is got lent =
+    let stands = there bytes index are within in
     let same : stands.one ≡ record_of r = let one = stands.got in let other : slice_get (batch_of bytes).records index ≡ Some (record_of r) = got in cc in
     record { first = stands.left ∙ ap (λ x. x ∷ drop (index + 1) (batch_of bytes).records) same; lent = lent; walk = refl }
 
@@ -216,7 +213,7 @@ pub record HeadLimits (h : Head) : Type 0 where
 
 pub head_limits : (bytes : List ℕ) (h : Head) → IsHeadOf bytes h → HeadLimits h
 head_limits bytes h is =
-    let b = batch_read bytes (batch_of bytes) is.batch in
+    let b = batch_read bytes (batch_of bytes) is.are.batch in
     record {
       agent = (omega (arith, is.agent, b.agent.0), omega (arith, is.agent, b.agent.1));
       seq = (omega (arith, is.seq, b.seq.0), omega (arith, is.seq, b.seq.1));

@@ -42,7 +42,7 @@ pub entry_of : (bytes : List ℕ) (h : Head) (es : List Entry) (index : ℕ) (e 
 entry_of bytes h es index e kept is =
     let entry = kept.entries.each index e is in
     let within = slice_get_within es index e is in
-    let stands = there bytes index kept.head.short kept.head.batch (omega (arith, within, kept.entries.many)) in
+    let stands = there bytes index kept.head.are (omega (arith, within, kept.entries.many)) in
     let good = stands.read in
     let same : stands.one ≡ entry.at.what = let format = kept.head.version in let read = entry.stands in cc in
     record { entry = entry; got = stands.got ∙ ap Some same }

@@ -1,5 +1,5 @@
 -- What is kept of an entry in few bytes is an entry of the same record.
-use Rattle.std.proofs.Common.{◌≡◌, ℕ, suc, zero, ◌+◌, ◌<◌, ◌≤◌, List, [], ◌∷◌, ◌++◌, length, take, map, All, slice_index_or, refl, sym, ap, ap₂, subst, ◌∙◌, arith, ℤ, true, false, Ok, Option, Some, None, slice_range}
+use Rattle.std.proofs.Common.{◌≡◌, ℕ, suc, zero, ◌+◌, ◌<◌, ◌≤◌, List, [], ◌∷◌, ◌++◌, length, take, map, slice_index_or, refl, sym, ap, ap₂, subst, ◌∙◌, arith, ℤ, true, Ok, Option, Some, None, slice_range}
 use Rattle.std.proofs.lemmas.Bool.{false≢true}
 use Rattle.metering_model.specs.BatchReading.{record_in, fields_in}
 use Rattle.std.proofs.lemmas.List.{length-map}

@@ -1,13 +1,13 @@
 //! What is found of each record when a batch is read, and the record of what was kept of it.
 
-ghost use Rattle.std.specs.Prelude.{◌≡◌, ◌≤◌, ◌+◌, length, take, drop, slice_range, Ok, Err, IsOk, IfOk, IfErr, MatchResult, MatchOption, IfSome};
+ghost use Rattle.std.specs.Prelude.{◌≡◌, ◌≤◌, length, take, slice_range, Err, MatchResult, MatchOption, IfSome};
 ghost use Rattle.std.specs.List.{slice_get};
-ghost use Rattle.metering_model.specs.BatchReading.{batch_in, lines_in, records_in, record_in, fields_in};
+ghost use Rattle.metering_model.specs.BatchReading.{record_in, fields_in};
 ghost use Rattle.metering_model.specs.Limits.{most_batch_bytes};
-ghost use Rattle.record_view.specs.Lent.{record_of, IsLentRecord};
+ghost use Rattle.record_view.specs.Lent.{record_of};
 ghost use Rattle.record_view.specs.Spans.{spans_at, IsRecordAt};
-ghost use Rattle.batch_view.specs.Inner.Lines.{lines_from, first_record, IsBehindLines, IsHeadOf};
-ghost use Rattle.batch_view.specs.Inner.Entries.{field_total, FitsRecord, IsEntryAt, KeepsRecord, AreEntries};
+ghost use Rattle.batch_view.specs.Inner.Lines.{lines_from, first_record};
+ghost use Rattle.batch_view.specs.Inner.Entries.{field_total, FitsRecord, IsEntryAt, KeepsRecord};
 
 use crate::lines::next_line;
 use crate::packed::PackedEntry;
@@ -74,9 +74,7 @@ fn entry_of(version: Version, source: &[u8], line: Span, what: &Record<'_>) -> E
     requires ordered { line.from ≤ line.to }
     requires within { line.to ≤ length source.now }
     requires short { length source.now ≤ most_batch_bytes }
-    requires read { record_in version (fields_in (slice_range source.now line.from line.to))
-        ≡ Ok (record_of what.now) }
-    requires lent { IsLentRecord source.now line what.now }
+    requires read { IsRecordAt version source.now line what.now }
     ensures fits { FitsRecord result.found result.value (record_of what.now) }
     ensures spans { take (field_total version result.found) result.spans
         ≡ spans_at source.now line }

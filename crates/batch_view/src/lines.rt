@@ -1,6 +1,6 @@
 //! Where the lines of a text stand.
 
-ghost use Rattle.std.specs.Prelude.{◌≡◌, ◌==◌, ◌≤◌, length, MatchOption};
+ghost use Rattle.std.specs.Prelude.{◌≤◌, length, MatchOption};
 ghost use Rattle.metering_model.specs.Limits.{most_batch_bytes};
 ghost use Rattle.batch_view.specs.Inner.Lines.{IsFirstLine, HasNoLine};
 

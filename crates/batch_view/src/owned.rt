@@ -1,9 +1,8 @@
 //! Batches that keep their bytes.
 
-ghost use Rattle.std.specs.Prelude.{◌≡◌, ◌↔◌, ◌<◌, ℕ, length, take, Ok, Err, IfOk, IfErr, IfSome, IsSome, IsTrue, None, Some, MatchOption, MatchResult};
+ghost use Rattle.std.specs.Prelude.{◌≡◌, ◌↔◌, ◌<◌, ℕ, length, take, Ok, Err, IfOk, IfErr, IfSome, IsSome, None, Some, MatchOption, MatchResult};
 ghost use Rattle.std.specs.Arc.{arc_value};
-ghost use Rattle.std.specs.List.{list_all, slice_get};
-ghost use Rattle.metering_model.specs.Batch.{Record};
+ghost use Rattle.std.specs.List.{list_all};
 ghost use Rattle.metering_model.specs.BatchReading.{batch_in};
 ghost use Rattle.metering_model.specs.Front.{starts_before};
 ghost use Rattle.batch_view.specs.Batches.{batch_of};

@@ -33,6 +33,8 @@ enum Packed {
 
 /// What is kept of a record: where its line begins, where its fields end, and its numbers. Fields stand one byte apart, so
 /// where they begin need not be kept. A batch has at most 65,536 bytes, and a field ends before the last of them.
+///
+/// The ends are eight fields and no array, so that the view is a list that is written out, and no index is asked.
 #[derive(Drop)]
 pub(crate) struct PackedEntry {
     first: u16,

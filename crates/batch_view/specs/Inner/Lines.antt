@@ -57,10 +57,14 @@ pub record BeginsWithHead (text : List ℕ) (h : Head) : Type 0 where
   pub head : head_in (fields_in head_text) ≡ Ok (head_line h)
   pub behind : IsBehindLines text 1 h.records_from
 
--- The bytes are a batch, and these are the format and the numbers of its head.
-pub record IsHeadOf (bytes : List ℕ) (h : Head) : Type 0 where
+-- The bytes are a batch, and no longer than one may be.
+pub record AreBatch (bytes : List ℕ) : Type 0 where
   pub short : length bytes ≤ most_batch_bytes
   pub batch : batch_in bytes ≡ Ok (batch_of bytes)
+
+-- The bytes are a batch, and these are the format and the numbers of its head.
+pub record IsHeadOf (bytes : List ℕ) (h : Head) : Type 0 where
+  pub are : AreBatch bytes
   pub version : h.version ≡ (batch_of bytes).version
   pub agent : h.agent ≡ (batch_of bytes).agent
   pub seq : h.seq ≡ (batch_of bytes).seq

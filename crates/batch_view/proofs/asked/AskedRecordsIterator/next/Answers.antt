@@ -15,7 +15,7 @@ pub returns-in-Some-clause-steps : goal.returns-in-Some-clause-steps
 returns-in-Some-clause-steps c =
     let head = c.self.invariant.view.head in
     let within : c.self.inside.index < length (batch_of c.self.inside.bytes.now).records = omega (arith, head.count, c.self.invariant.within) in
-    rw (← c.self.view_is) (asked_there c.self.inside.bytes.now c.self.inside.index c.kept_asked-asked.result head.short head.batch within c.kept_asked-asked.ensures)
+    rw (← c.self.view_is) (asked_there c.self.inside.bytes.now c.self.inside.index c.kept_asked-asked.result head.are within c.kept_asked-asked.ensures)
 
 pub invariant_of-self-in-Ok : goal.invariant_of-self-in-Ok
 invariant_of-self-in-Ok c =
@@ -32,4 +32,4 @@ returns-in-Err-clause-steps c =
     let head = c.self.invariant.view.head in
     let within : c.self.inside.index < length (batch_of c.self.inside.bytes.now).records = omega (arith, head.count, c.self.invariant.within) in
     let behind = behind c.self.inside.bytes.now c.self.inside.head c.self.inside.kept c.self.inside.index c.self.inside.at c.self.invariant c.if-self-end.false c.in_default.is in
-    absurd (never_fails c.self.inside.head.version c.self.inside.bytes.now c.self.inside.index c.self.inside.at c.in-Err.field-0 head.version head.short head.batch within behind c.in-Err.ensures)
+    absurd (never_fails c.self.inside.head.version c.self.inside.bytes.now c.self.inside.index c.self.inside.at c.in-Err.field-0 head.version head.are within behind c.in-Err.ensures)

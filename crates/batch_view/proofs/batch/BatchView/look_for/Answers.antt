@@ -12,13 +12,13 @@ loop-preserved c =
 pub returns-in_err-at-clause-there : goal.returns-in_err-at-clause-there
 returns-in_err-at-clause-there c =
     let within : c.loop.counter < length (batch_of c.self.inside.bytes.now).records = omega (arith, c.self.invariant.head.count, c.if-index-self.false, c.loop-test.true) in
-    absurd (never_lacks c.self.inside.head.version c.self.inside.bytes.now c.loop.counter c.loop.at c.self.invariant.head.version c.self.invariant.head.short c.self.invariant.head.batch within c.loop.invariant c.in_err-at.ensures)
+    absurd (never_lacks c.self.inside.head.version c.self.inside.bytes.now c.loop.counter c.loop.at c.self.invariant.head.version c.self.invariant.head.are within c.loop.invariant c.in_err-at.ensures)
 
 read : (c : goal.In-Ok) → IsRecordOf c.self.inside.bytes.now c.args.index c.in-Ok.record c.in-Ok.field-0-1
 read c =
     let same : c.loop.counter ≡ c.args.index = omega (arith, c.loop.auto.counter-end, c.loop-test.false) in
     let within : c.args.index < length (batch_of c.self.inside.bytes.now).records = omega (arith, c.self.invariant.head.count, c.if-index-self.false) in
-    record_read c.self.inside.head.version c.self.inside.bytes.now c.args.index c.loop.at c.in-Ok.record c.in-Ok.field-0-1 c.self.invariant.head.version c.self.invariant.head.short c.self.invariant.head.batch within (subst (λ n. IsBehindLines c.self.inside.bytes.now (n + 1) c.loop.at) same c.loop.invariant) c.in-Ok.ensures
+    record_read c.self.inside.head.version c.self.inside.bytes.now c.args.index c.loop.at c.in-Ok.record c.in-Ok.field-0-1 c.self.invariant.head.version c.self.invariant.head.are within (subst (λ n. IsBehindLines c.self.inside.bytes.now (n + 1) c.loop.at) same c.loop.invariant) c.in-Ok.ensures
 
 pub returns-in-Ok-clause-record : goal.returns-in-Ok-clause-record
 returns-in-Ok-clause-record c = rw (← c.self.view_is) (read c).got
@@ -30,4 +30,4 @@ pub returns-in-Err-clause-there : goal.returns-in-Err-clause-there
 returns-in-Err-clause-there c =
     let same : c.loop.counter ≡ c.args.index = omega (arith, c.loop.auto.counter-end, c.loop-test.false) in
     let within : c.args.index < length (batch_of c.self.inside.bytes.now).records = omega (arith, c.self.invariant.head.count, c.if-index-self.false) in
-    absurd (never_fails c.self.inside.head.version c.self.inside.bytes.now c.args.index c.loop.at c.in-Err.field-0 c.self.invariant.head.version c.self.invariant.head.short c.self.invariant.head.batch within (subst (λ n. IsBehindLines c.self.inside.bytes.now (n + 1) c.loop.at) same c.loop.invariant) c.in-Err.ensures)
+    absurd (never_fails c.self.inside.head.version c.self.inside.bytes.now c.args.index c.loop.at c.in-Err.field-0 c.self.invariant.head.version c.self.invariant.head.are within (subst (λ n. IsBehindLines c.self.inside.bytes.now (n + 1) c.loop.at) same c.loop.invariant) c.in-Err.ensures)

@@ -15,7 +15,7 @@ returns-in-Some-clause-steps c =
     let head = c.self.invariant.view.head in
     let within : c.self.inside.index < length (batch_of c.self.inside.bytes.now).records = omega (arith, head.count, c.self.invariant.within) in
     let ensures = c.kept_record-record.ensures in
-    rw (← c.self.view_is) (gives_there c.self.inside.bytes.now c.self.inside.index c.kept_record-record.result head.short head.batch within ensures.there ensures.record ensures.lent)
+    rw (← c.self.view_is) (gives_there c.self.inside.bytes.now c.self.inside.index c.kept_record-record.result head.are within ensures.there ensures.record ensures.lent)
 
 pub invariant_of-self-in-Ok : goal.invariant_of-self-in-Ok
 invariant_of-self-in-Ok c =
@@ -31,4 +31,4 @@ returns-in-Err-clause-steps c =
     let head = c.self.invariant.view.head in
     let within : c.self.inside.index < length (batch_of c.self.inside.bytes.now).records = omega (arith, head.count, c.self.invariant.within) in
     let behind = behind c.self.inside.bytes.now c.self.inside.head c.self.inside.kept c.self.inside.index c.self.inside.at c.self.invariant c.if-self-end.false c.in_default.is in
-    absurd (never_fails c.self.inside.head.version c.self.inside.bytes.now c.self.inside.index c.self.inside.at c.in-Err.field-0 head.version head.short head.batch within behind c.in-Err.ensures)
+    absurd (never_fails c.self.inside.head.version c.self.inside.bytes.now c.self.inside.index c.self.inside.at c.in-Err.field-0 head.version head.are within behind c.in-Err.ensures)
