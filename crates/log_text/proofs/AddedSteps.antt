@@ -25,7 +25,7 @@ use Rattle.group_laws.proofs.Limits.{keeps_limits}
 use Rattle.group_laws.proofs.Revivals.{each_has_text}
 use Rattle.packet_text.specs.PacketText.{IsSent, IsSentCut}
 use Rattle.packet_text.proofs.SentByRuns.{run_sent}
-use Rattle.log_text.specs.LogText.{BeginsRound, GoOn, HasIncrementText, HasLog, Increment, Learns, LogHead, SetsBallots, Takes, among_with, ballots_go_on, goes_on, is_promised, is_same_vote, is_vote_at, kept_after, kept_first}
+use Rattle.log_text.specs.LogText.{BeginsRound, GoOn, HasIncrementText, HasLog, Increment, Learns, LogHead, SetsBallots, Takes, among_with, ballots_go_on, goes_on, is_promised, is_same_vote, is_vote_at, kept_after, kept_at_first}
 use Rattle.log_text.specs.Steps.{AddsAtMostOne, Begins, Gets, GoesOnTo, IsOfAgents, IsVoteOfAgents, MayBe, NodeStep, node_after}
 use Rattle.log_text.proofs.KeptFirst.{after_has_text, log_has_text}
 use Rattle.log_text.proofs.LogLaws.{log_written}
@@ -234,9 +234,9 @@ kept_behind k [] js = refl
 kept_behind k (x ∷ is) js = kept_behind (among_with x k) is js
 
 pub goes_on_to : (w : World) (i : ℕ) (n : Node) (s : NodeStep) (h : LogHead) (base : Option KeptAmong) (increments : List Increment) → MayBe w i n s
-    → HasLog h base increments → kept_after (kept_first h base) increments ≡ kept_now w n → GoesOnTo h base increments (kept_now w (node_after w i n s))
+    → HasLog h base increments → kept_after (kept_at_first h base) increments ≡ kept_now w n → GoesOnTo h base increments (kept_now w (node_after w i n s))
 goes_on_to w i n s h base increments may log same =
-    let first = kept_first h base in
+    let first = kept_at_first h base in
     let a = adds_one w i n (subst HasText same (log_has_text h base increments log).0) s may in
     record {
       more = a.increments;

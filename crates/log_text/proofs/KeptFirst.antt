@@ -10,7 +10,7 @@ use Rattle.metering_model.specs.Holding.{Holding, held, put}
 use Rattle.metering_model.specs.KeptText.{HasText, IsCutAmong, KeptAmong}
 use Rattle.metering_model.proofs.BatchOrder.{put_cases}
 use Rattle.metering_model.proofs.HoldingLaws.{IsHolding-nil, IsHolding-put}
-use Rattle.log_text.specs.LogText.{BeginsRound, GoOn, HasIncrementText, HasLog, Increment, IsLogHead, Learns, LogHead, SetsBallots, Takes, among_with, goes_on, kept_after, kept_first, log_in, log_text, nothing_kept}
+use Rattle.log_text.specs.LogText.{BeginsRound, GoOn, HasIncrementText, HasLog, Increment, IsLogHead, Learns, LogHead, SetsBallots, Takes, among_with, goes_on, kept_after, kept_at_first, log_in, log_text, nothing_kept}
 use Rattle.log_text.proofs.LogLaws.{AreFew, MayBeFirst, log_written}
 
 -- ---- what is kept has a text
@@ -81,18 +81,18 @@ nothing_has_text agents few = record {
   in_range = All-nil (λ b. b.agent ≤ agents);
 }
 
-first_has_text : (h : LogHead) (base : Option KeptAmong) → IsLogHead h → MayBeFirst h.agents base → HasText (kept_first h base) × ((kept_first h base).agents ≡ h.agents)
+first_has_text : (h : LogHead) (base : Option KeptAmong) → IsLogHead h → MayBeFirst h.agents base → HasText (kept_at_first h base) × ((kept_at_first h base).agents ≡ h.agents)
 first_has_text h None is may = (nothing_has_text h.agents is.agents, refl)
 first_has_text h (Some k) is may = may k refl
 
 -- what is kept when these were added to what a log begins with
-read_has_text : (h : LogHead) (base : Option KeptAmong) (is : List Increment) → IsLogHead h → MayBeFirst h.agents base → GoOn (kept_first h base) is → HasText (kept_after (kept_first h base) is) × ((kept_after (kept_first h base) is).agents ≡ h.agents)
+read_has_text : (h : LogHead) (base : Option KeptAmong) (is : List Increment) → IsLogHead h → MayBeFirst h.agents base → GoOn (kept_at_first h base) is → HasText (kept_after (kept_at_first h base) is) × ((kept_after (kept_at_first h base) is).agents ≡ h.agents)
 read_has_text h base is head may go =
     let first = first_has_text h base head may in
-    let last = after_has_text (kept_first h base) is first.0 go in
+    let last = after_has_text (kept_at_first h base) is first.0 go in
     (last.0, last.1 ∙ first.1)
 
-pub log_has_text : (h : LogHead) (base : Option KeptAmong) (is : List Increment) → HasLog h base is → HasText (kept_after (kept_first h base) is) × ((kept_after (kept_first h base) is).agents ≡ h.agents)
+pub log_has_text : (h : LogHead) (base : Option KeptAmong) (is : List Increment) → HasLog h base is → HasText (kept_after (kept_at_first h base) is) × ((kept_after (kept_at_first h base) is).agents ≡ h.agents)
 log_has_text h base is has = read_has_text h base is has.head has.first has.go_on
 
 -- ---- what is kept in between
@@ -106,11 +106,11 @@ after_both k [] behind = refl
 after_both k (i ∷ before) behind = after_both (among_with i k) before behind
 
 -- a log that begins with it
-pub kept_stands_first : (h : LogHead) (base : Option KeptAmong) (before behind : List Increment) → HasLog h base (before ++ behind) → length (log_text h (Some (kept_after (kept_first h base) before)) behind) ≤ 4_294_967_296
-    → HasLog h (Some (kept_after (kept_first h base) before)) behind
+pub kept_stands_first : (h : LogHead) (base : Option KeptAmong) (before behind : List Increment) → HasLog h base (before ++ behind) → length (log_text h (Some (kept_after (kept_at_first h base) before)) behind) ≤ 4_294_967_296
+    → HasLog h (Some (kept_after (kept_at_first h base) before)) behind
 kept_stands_first h base before behind has short =
-    let go = go_on_apart (kept_first h base) before behind has.go_on in
-    let now = kept_after (kept_first h base) before in
+    let go = go_on_apart (kept_at_first h base) before behind has.go_on in
+    let now = kept_after (kept_at_first h base) before in
     record {
       head = has.head;
       first = λ k e. subst (λ c. HasText c × (c.agents ≡ h.agents)) (same_Some now k e) (read_has_text h base before has.head has.first go.0);
@@ -118,9 +118,9 @@ kept_stands_first h base before behind has short =
       short = short;
     }
 
-pub read_alike : (h : LogHead) (base : Option KeptAmong) (before behind : List Increment) → HasLog h base (before ++ behind) → length (log_text h (Some (kept_after (kept_first h base) before)) behind) ≤ 4_294_967_296
-    → log_in (log_text h (Some (kept_after (kept_first h base) before)) behind) ≡ log_in (log_text h base (before ++ behind))
+pub read_alike : (h : LogHead) (base : Option KeptAmong) (before behind : List Increment) → HasLog h base (before ++ behind) → length (log_text h (Some (kept_after (kept_at_first h base) before)) behind) ≤ 4_294_967_296
+    → log_in (log_text h (Some (kept_after (kept_at_first h base) before)) behind) ≡ log_in (log_text h base (before ++ behind))
 read_alike h base before behind has short =
-    log_written h (Some (kept_after (kept_first h base) before)) behind (kept_stands_first h base before behind has short)
-    ∙ ap (λ k. Ok (record { head = h; kept = k })) (sym (after_both (kept_first h base) before behind))
+    log_written h (Some (kept_after (kept_at_first h base) before)) behind (kept_stands_first h base before behind has short)
+    ∙ ap (λ k. Ok (record { head = h; kept = k })) (sym (after_both (kept_at_first h base) before behind))
     ∙ sym (log_written h base (before ++ behind) has)

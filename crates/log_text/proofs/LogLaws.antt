@@ -21,8 +21,8 @@ use Rattle.metering_model.proofs.Splitting.{ended, lines_give_back}
 use Rattle.metering_model.proofs.StepLaws.{ok_same, ok_step_from, step_iff, step_ok}
 use Rattle.packet_text.proofs.OptionSteps.{chosen_first, mapped_some, was_ok}
 use Rattle.packet_text.proofs.PacketLaws.{line_first}
-use Rattle.log_text.specs.LogText.{BadIncrement, BadKept, FirstKept, GoOn, HasLog, Increment, IsLogHead, KeptThere, LogCode, LogHead, LogTextFault, ReadLog, TooLong, Torn, among_with, at_log_line, base_text, first_increment}
-use Rattle.log_text.specs.LogText.{first_kept, goes_on, head_in, head_text, increment_text, increments_in, kept_after, kept_first, kept_of_lines, lines_of_increment, log_below, log_in, log_of_lines, log_text, nothing_first, nothing_kept, section_in}
+use Rattle.log_text.specs.LogText.{BadIncrement, BadKept, ReadBase, GoOn, HasLog, Increment, IsLogHead, KeptThere, LogCode, LogHead, LogTextFault, ReadLog, TooLong, Torn, among_with, at_log_line, base_text, first_increment}
+use Rattle.log_text.specs.LogText.{base_in, goes_on, head_in, head_text, increment_text, increments_in, kept_after, kept_at_first, kept_of_lines, lines_of_increment, log_below, log_in, log_of_lines, log_text, without_base, nothing_kept, section_in}
 use Rattle.log_text.proofs.HeadLaws.{head_lacks_feed, head_line, head_read, head_written}
 use Rattle.log_text.proofs.IncrementLaws.{Unkept, all_both, first_in, first_read, first_written, increment_lacks_feed, increment_lines_are_text, increment_size, increment_some, increment_unkept, lines_of, section, section_lacks_feed, section_read, tested_ok, there, there_from, was_some}
 
@@ -107,31 +107,31 @@ kept_lines_read agents n ls k h =
 abbrev pub MayBeFirst : ℕ → Option KeptAmong → Type 0
 MayBeFirst agents base = (k : KeptAmong) → base ≡ Some k → HasText k × (k.agents ≡ agents)
 
--- the lines are those of what the log begins with, and those that are left
-abbrev pub IsFirstKept : ℕ → List (List ℕ) → FirstKept → Type 0
-IsFirstKept agents ls x =
+-- the lines are those of a base, or of none, and those that are left
+abbrev pub AreBaseLines : ℕ → List (List ℕ) → ReadBase → Type 0
+AreBaseLines agents ls x =
     (base : Option KeptAmong) × (x.kept ≡ unwrap_or base (nothing_kept agents)) × (text_of_lines ls ≡ base_text base ++ text_of_lines x.left) × MayBeFirst agents base × (x.line ≡ 2 + length (base_lines base))
 
-nothing_is_first : (agents : ℕ) (ls : List (List ℕ)) (x : FirstKept) → ◌≡◌ {A = Result FirstKept LogTextFault} (Ok (nothing_first agents ls)) (Ok x) → IsFirstKept agents ls x
-nothing_is_first agents ls x h = subst (IsFirstKept agents ls) (ok_same {E = LogTextFault} (nothing_first agents ls) x h) (None, refl, refl, λ k e. absurd (none-some k e), refl)
+none_is_base : (agents : ℕ) (ls : List (List ℕ)) (x : ReadBase) → ◌≡◌ {A = Result ReadBase LogTextFault} (Ok (without_base agents ls)) (Ok x) → AreBaseLines agents ls x
+none_is_base agents ls x h = subst (AreBaseLines agents ls) (ok_same {E = LogTextFault} (without_base agents ls) x h) (None, refl, refl, λ k e. absurd (none-some k e), refl)
 
 -- what a log begins with, by how many lines its second line says to be below it
-abbrev pub first_by_section : ℕ → List ℕ → List (List ℕ) → Option ℕ → Result FirstKept LogTextFault
-first_by_section agents l ls o = elim o [
-  | None ↦ Ok (nothing_first agents (l ∷ ls))
+abbrev pub base_by_section : ℕ → List ℕ → List (List ℕ) → Option ℕ → Result ReadBase LogTextFault
+base_by_section agents l ls o = elim o [
+  | None ↦ Ok (without_base agents (l ∷ ls))
   | Some n ↦ at_log_line 2 (
       if nat_le n (length ls) then ok_or (option_map (λ k. record { kept = k; line = 3 + n; left = drop n ls }) (kept_of_lines agents n ls)) BadKept else Err Torn)
 ]
 
-pub first_kept_read : (agents : ℕ) (ls : List (List ℕ)) (x : FirstKept) → first_kept agents ls ≡ Ok x → IsFirstKept agents ls x
-first_kept_read agents [] x h = nothing_is_first agents [] x h
-first_kept_read agents (l ∷ ls) x h = by_section (section_in (codes "kept ") 4_294_967_295 l) refl h
+pub base_read : (agents : ℕ) (ls : List (List ℕ)) (x : ReadBase) → base_in agents ls ≡ Ok x → AreBaseLines agents ls x
+base_read agents [] x h = none_is_base agents [] x h
+base_read agents (l ∷ ls) x h = by_section (section_in (codes "kept ") 4_294_967_295 l) refl h
   where
-    by_section : (o : Option ℕ) → section_in (codes "kept ") 4_294_967_295 l ≡ o → first_by_section agents l ls o ≡ Ok x → IsFirstKept agents (l ∷ ls) x
-    by_section None is h = nothing_is_first agents (l ∷ ls) x h
+    by_section : (o : Option ℕ) → section_in (codes "kept ") 4_294_967_295 l ≡ o → base_by_section agents l ls o ≡ Ok x → AreBaseLines agents (l ∷ ls) x
+    by_section None is h = none_is_base agents (l ∷ ls) x h
     by_section (Some n) is h =
-        let made : KeptAmong → FirstKept = λ k. record { kept = k; line = 3 + n; left = drop n ls } in
-        let o : Option FirstKept = option_map made (kept_of_lines agents n ls) in
+        let made : KeptAmong → ReadBase = λ k. record { kept = k; line = 3 + n; left = drop n ls } in
+        let o : Option ReadBase = option_map made (kept_of_lines agents n ls) in
         let t = tested_ok (nat_le n (length ls)) Torn (ok_or o BadKept) x (at_log_line_ok 2 (cond (nat_le n (length ls)) (ok_or o BadKept) (Err Torn)) x h) in
         let a = mapped_some made (kept_of_lines agents n ls) x (was_some BadKept o x t.1) in
         let kept = kept_lines_read agents n ls a.0 a.1 in
@@ -139,7 +139,7 @@ first_kept_read agents (l ∷ ls) x h = by_section (section_in (codes "kept ") 4
         let below : text_of_lines ls ≡ kept_text a.0 ++ text_of_lines (drop n ls) =
         ap text_of_lines (sym (take-append-drop n ls)) ∙ flat_map-append ended (take n ls) (drop n ls) ∙ ap (λ t. t ++ text_of_lines (drop n ls)) kept.0 in
         let first : List ℕ = section (codes "kept ") (length (lines_in (kept_text a.0)).lines) in
-        subst (IsFirstKept agents (l ∷ ls)) a.2 (
+        subst (AreBaseLines agents (l ∷ ls)) a.2 (
           Some a.0,
           refl,
           ap₂ (λ t u. ended t ++ u) (line.0 ∙ ap (section (codes "kept ")) kept.2) below ∙ sym (append_assoc (ended first) (kept_text a.0) (text_of_lines (drop n ls))),
@@ -155,7 +155,7 @@ first_agents agents (Some k) h = (h k refl).1
 
 -- what each step behind the head line answered
 below_apart : (h : LogHead) (ls : List (List ℕ)) (rest : List ℕ) (read : ReadLog) → log_below h ls rest ≡ Ok read →
-    (first : FirstKept) × (last : KeptThere) × (◌≡◌ {A = ReadLog} (record { head = h; kept = last.kept }) read) × (first_kept h.agents ls ≡ Ok first) × (increments_in (length first.left) first.line first.kept first.left ≡ Ok last) × (is_empty rest ≡ true)
+    (first : ReadBase) × (last : KeptThere) × (◌≡◌ {A = ReadLog} (record { head = h; kept = last.kept }) read) × (base_in h.agents ls ≡ Ok first) × (increments_in (length first.left) first.line first.kept first.left ≡ Ok last) × (is_empty rest ≡ true)
 below_apart h ls rest read e =
     let a = simp step_iff at e in
     let n = a.2 in
@@ -164,7 +164,7 @@ below_apart h ls rest read e =
 
 -- the text is that of a log, and this is read of it
 abbrev pub IsLogOf : List ℕ → ReadLog → Type 0
-IsLogOf text read = (base : Option KeptAmong) × (increments : List Increment) × (text ≡ log_text read.head base increments) × HasLog read.head base increments × (read.kept ≡ kept_after (kept_first read.head base) increments)
+IsLogOf text read = (base : Option KeptAmong) × (increments : List Increment) × (text ≡ log_text read.head base increments) × HasLog read.head base increments × (read.kept ≡ kept_after (kept_at_first read.head base) increments)
 
 lines_read : (ls : List (List ℕ)) (rest : List ℕ) (read : ReadLog) → length (text_of_lines ls ++ rest) ≤ 4_294_967_296 → log_of_lines ls rest ≡ Ok read → IsLogOf (text_of_lines ls ++ rest) read
 lines_read [] rest read short e = absurd (cc)
@@ -190,11 +190,11 @@ lines_read (l ∷ ls) rest read short e = subst (IsLogOf (text_of_lines (l ∷ l
     head : (l ≡ head_line h) × IsLogHead h
     head = head_read l h (at_log_line_ok 1 (head_in (fields_in l)) h first.1)
 
-    a : (first : FirstKept) × (last : KeptThere) × (◌≡◌ {A = ReadLog} (record { head = h; kept = last.kept }) read) × (first_kept h.agents ls ≡ Ok first) × (increments_in (length first.left) first.line first.kept first.left ≡ Ok last) × (is_empty rest ≡ true)
+    a : (first : ReadBase) × (last : KeptThere) × (◌≡◌ {A = ReadLog} (record { head = h; kept = last.kept }) read) × (base_in h.agents ls ≡ Ok first) × (increments_in (length first.left) first.line first.kept first.left ≡ Ok last) × (is_empty rest ≡ true)
     a = below_apart h ls rest read first.2
 
-    kept : IsFirstKept h.agents ls a.0
-    kept = first_kept_read h.agents ls a.0 a.3
+    kept : AreBaseLines h.agents ls a.0
+    kept = base_read h.agents ls a.0 a.3
 
     base : Option KeptAmong
     base = kept.0
@@ -275,7 +275,7 @@ base_lacks_feed agents (Some k) h = and_from _ _ (section_lacks_feed (codes "kep
 pub log_lacks_feed : (h : LogHead) (base : Option KeptAmong) (is : List Increment) → HasLog h base is → list_all (lacks 10) (log_lines h base is) ≡ true
 log_lacks_feed h base is has =
     and_from _ _ (head_lacks_feed h has.head)
-    (all_both (lacks 10) (base_lines base) (increment_lines is) (base_lacks_feed h.agents base has.first) (increments_lack_feed (kept_first h base) is has.go_on))
+    (all_both (lacks 10) (base_lines base) (increment_lines is) (base_lacks_feed h.agents base has.first) (increments_lack_feed (kept_at_first h base) is has.go_on))
 
 -- ---- increments, to reading
 
@@ -323,8 +323,8 @@ kept_lines_written k ls has =
     (cond-true (n == n && (k.agents == k.agents)) (Some k) None (and_from _ _ (eq-eqb n n refl) (eq-eqb k.agents k.agents refl)))
 
 -- what is read of what a log begins with
-abbrev firstly : LogHead → Option KeptAmong → List (List ℕ) → FirstKept
-firstly h base ls = record { kept = kept_first h base; line = 2 + length (base_lines base); left = ls }
+abbrev firstly : LogHead → Option KeptAmong → List (List ℕ) → ReadBase
+firstly h base ls = record { kept = kept_at_first h base; line = 2 + length (base_lines base); left = ls }
 
 pub kept_section_written : (k : KeptAmong) → HasText k → length (base_text (Some k)) ≤ 4_294_967_295
     → section_in (codes "kept ") 4_294_967_295 (section (codes "kept ") (length (lines_in (kept_text k)).lines)) ≡ Some (length (lines_in (kept_text k)).lines)
@@ -338,18 +338,18 @@ kept_section_written k has short =
     whole_written 1 4_294_967_295 n (omega arith) (omega (arith, count, some)) (omega (arith, count, bytes, text, whole, short))
 
 section_kept : (agents n : ℕ) (l : List ℕ) (ls left : List (List ℕ)) (k : KeptAmong) → section_in (codes "kept ") 4_294_967_295 l ≡ Some n → n ≤ length ls → kept_of_lines agents n ls ≡ Some k → drop n ls ≡ left
-    → first_kept agents (l ∷ ls) ≡ Ok (record { kept = k; line = 3 + n; left = left })
+    → base_in agents (l ∷ ls) ≡ Ok (record { kept = k; line = 3 + n; left = left })
 section_kept agents n l ls left k said low is behind =
-    let made : KeptAmong → FirstKept = λ k. record { kept = k; line = 3 + n; left = drop n ls } in
-    ap (first_by_section agents l ls) said
+    let made : KeptAmong → ReadBase = λ k. record { kept = k; line = 3 + n; left = drop n ls } in
+    ap (base_by_section agents l ls) said
     ∙ ap (at_log_line 2) (cond-true (nat_le n (length ls)) (ok_or (option_map made (kept_of_lines agents n ls)) BadKept) (Err Torn) (le-leb n (length ls) low))
     ∙ ap (λ o. at_log_line 2 (ok_or (option_map made o) BadKept)) is
     ∙ ap (λ xs. Ok (record { kept = k; line = 3 + n; left = xs })) behind
 
-first_kept_written : (h : LogHead) (base : Option KeptAmong) (ls : List (List ℕ)) → MayBeFirst h.agents base → length (base_text base) ≤ 4_294_967_295 → Unkept ls → first_kept h.agents (base_lines base ++ ls) ≡ Ok (firstly h base ls)
-first_kept_written h None [] is short none = refl
-first_kept_written h None (l ∷ ls) is short none = ap (first_by_section h.agents l ls) none
-first_kept_written h (Some k) ls is short none =
+base_written : (h : LogHead) (base : Option KeptAmong) (ls : List (List ℕ)) → MayBeFirst h.agents base → length (base_text base) ≤ 4_294_967_295 → Unkept ls → base_in h.agents (base_lines base ++ ls) ≡ Ok (firstly h base ls)
+base_written h None [] is short none = refl
+base_written h None (l ∷ ls) is short none = ap (base_by_section h.agents l ls) none
+base_written h (Some k) ls is short none =
     let n = length (lines_in (kept_text k)).lines in
     let has = is k refl in
     let all = kept_lines k ++ ls in
@@ -377,18 +377,18 @@ log_end h rest last = at_log_line last.line (holds_or (is_empty rest) Torn) >>= 
 -- a log's lines are read, and then those behind them
 pub front_written : (h : LogHead) (base : Option KeptAmong) (is : List Increment) → HasLog h base is → (more : List (List ℕ)) (rest : List ℕ) → Unkept more →
     (m : ℕ) × (length more ≤ m)
-    × (log_of_lines (log_lines h base is ++ more) rest ≡ (increments_in m (1 + length (log_lines h base is)) (kept_after (kept_first h base) is) more >>= log_end h rest))
+    × (log_of_lines (log_lines h base is ++ more) rest ≡ (increments_in m (1 + length (log_lines h base is)) (kept_after (kept_at_first h base) is) more >>= log_end h rest))
 front_written h base is has more rest none =
     let ls = increment_lines is ++ more in
     let few = subst AreFew (sym (first_agents h.agents base has.first)) has.head.agents in
-    let all = increments_written (length ls) (2 + length (base_lines base)) (kept_first h base) is more few has.go_on (omega arith) in
+    let all = increments_written (length ls) (2 + length (base_lines base)) (kept_at_first h base) is more few has.go_on (omega arith) in
     let count = length-append (base_lines base) (increment_lines is) in
-    let first = ap (first_kept h.agents) (append_assoc (base_lines base) (increment_lines is) more) ∙ first_kept_written h base ls has.first (base_is_short h base is has.short) (unkept_front is more none) in (
+    let first = ap (base_in h.agents) (append_assoc (base_lines base) (increment_lines is) more) ∙ base_written h base ls has.first (base_is_short h base is has.short) (unkept_front is more none) in (
       all.0,
       all.1,
       ok_step_from (at_log_line 1 (head_in (fields_in (head_line h)))) (λ h. log_below h ((base_lines base ++ increment_lines is) ++ more) rest) h _ (ap (at_log_line 1) (head_written h has.head))
-          (ok_step_from (first_kept h.agents ((base_lines base ++ increment_lines is) ++ more)) (λ first. increments_in (length first.left) first.line first.kept first.left >>= log_end h rest) (firstly h base ls) _ first
-          (ap (λ r. r >>= log_end h rest) (all.2 ∙ ap (λ n. increments_in all.0 n (kept_after (kept_first h base) is) more) (omega (arith, count))))),
+          (ok_step_from (base_in h.agents ((base_lines base ++ increment_lines is) ++ more)) (λ first. increments_in (length first.left) first.line first.kept first.left >>= log_end h rest) (firstly h base ls) _ first
+          (ap (λ r. r >>= log_end h rest) (all.2 ∙ ap (λ n. increments_in all.0 n (kept_after (kept_at_first h base) is) more) (omega (arith, count))))),
     )
 
 pub lines_end : (m line : ℕ) (k : KeptAmong) → increments_in m line k [] ≡ Ok (record { kept = k; line = line })
@@ -401,7 +401,7 @@ unfolding log_in
 short_read text short = cond-true (nat_le (length text) 4_294_967_296) _ _ (le-leb (length text) 4_294_967_296 short)
 
 -- what is written is read as it
-pub log_written : (h : LogHead) (base : Option KeptAmong) (is : List Increment) → HasLog h base is → log_in (log_text h base is) ≡ Ok (record { head = h; kept = kept_after (kept_first h base) is })
+pub log_written : (h : LogHead) (base : Option KeptAmong) (is : List Increment) → HasLog h base is → log_in (log_text h base is) ≡ Ok (record { head = h; kept = kept_after (kept_at_first h base) is })
 log_written h base is has =
     let text = log_text h base is in
     let front = front_written h base is has [] [] tt in
@@ -410,4 +410,4 @@ log_written h base is has =
     short_read text has.short
     ∙ ap (λ (x : Lines). log_of_lines x.lines x.rest) lines
     ∙ front.2
-    ∙ ap (λ r. r >>= log_end h []) (lines_end front.0 (1 + length (log_lines h base is)) (kept_after (kept_first h base) is))
+    ∙ ap (λ r. r >>= log_end h []) (lines_end front.0 (1 + length (log_lines h base is)) (kept_after (kept_at_first h base) is))

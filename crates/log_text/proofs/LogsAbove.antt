@@ -10,11 +10,11 @@ use Rattle.metering_model.specs.KeptText.{KeptAmong, text_of_lines}
 use Rattle.metering_model.proofs.KeptLines.{held_true}
 use Rattle.metering_model.proofs.Splitting.{ended, lines_give_back, lines_of_text}
 use Rattle.packet_text.specs.PacketText.{is_group}
-use Rattle.log_text.specs.LogText.{BadHead, BadIncrement, FirstKept, GoOn, HasLog, Increment, IsLogHead, KeptThere, LogCode, LogHead, LogTextFault, TooLong, Torn, among_with, at_log_line, base_text, first_increment, first_kept, goes_on}
-use Rattle.log_text.specs.LogText.{head_in, head_text, increment_text, increments_in, is_among, kept_first, lines_of_increment, log_below, log_in, log_of_lines, log_text, section_in, who_in}
+use Rattle.log_text.specs.LogText.{BadHead, BadIncrement, ReadBase, GoOn, HasLog, Increment, IsLogHead, KeptThere, LogCode, LogHead, LogTextFault, TooLong, Torn, among_with, at_log_line, base_text, first_increment, base_in, goes_on}
+use Rattle.log_text.specs.LogText.{head_in, head_text, increment_text, increments_in, is_among, kept_at_first, lines_of_increment, log_below, log_in, log_of_lines, log_text, section_in, who_in}
 use Rattle.log_text.proofs.HeadLaws.{head_line, head_read}
 use Rattle.log_text.proofs.IncrementLaws.{first_read}
-use Rattle.log_text.proofs.LogLaws.{AreFew, IsFirstKept, MayBeFirst, at_log_line_ok, base_lines, first_agents, first_by_section, first_kept_read, increment_lines, increments_read, lines_are_short, lines_on, log_end, log_lacks_feed, log_lines, log_lines_text}
+use Rattle.log_text.proofs.LogLaws.{AreFew, AreBaseLines, MayBeFirst, at_log_line_ok, base_lines, first_agents, base_by_section, base_read, increment_lines, increments_read, lines_are_short, lines_on, log_end, log_lacks_feed, log_lines, log_lines_text}
 
 -- ---- steps that failed
 
@@ -117,7 +117,7 @@ IsTornBelow text line =
     × (line ≡ 1 + length (lines_in (log_text h base increments)).lines)
 
 -- a log's lines, and others behind them
-above_by : (h : LogHead) (base : Option KeptAmong) (is : List Increment) (l : List ℕ) (ls : List (List ℕ)) (rest piece : List ℕ) (at : ℕ) → l ≡ head_line h → IsLogHead h → MayBeFirst h.agents base → GoOn (kept_first h base) is
+above_by : (h : LogHead) (base : Option KeptAmong) (is : List Increment) (l : List ℕ) (ls : List (List ℕ)) (rest piece : List ℕ) (at : ℕ) → l ≡ head_line h → IsLogHead h → MayBeFirst h.agents base → GoOn (kept_at_first h base) is
     → text_of_lines ls ++ rest ≡ (base_text base ++ flat_map increment_text is) ++ piece → piece ≢ [] → length (text_of_lines (l ∷ ls) ++ rest) ≤ 4_294_967_296 → at ≡ 2 + length (base_lines base) + length (increment_lines is)
     → IsTornBelow (text_of_lines (l ∷ ls) ++ rest) at
 above_by h base is l ls rest piece at first head may go below some short line =
@@ -133,17 +133,17 @@ above_by h base is l ls rest piece at first head may go below some short line =
     (h, base, is, piece, has, whole, some, omega (arith, line, count, all))
 
 -- a fault of what a log begins with is told at the line 2
-first_fails : (agents : ℕ) (ls : List (List ℕ)) (f : LogTextFault) → first_kept agents ls ≡ Err f → (f.line ≡ 2) × (1 ≤ length ls)
+first_fails : (agents : ℕ) (ls : List (List ℕ)) (f : LogTextFault) → base_in agents ls ≡ Err f → (f.line ≡ 2) × (1 ≤ length ls)
 first_fails agents [] f h = absurd (cc)
 first_fails agents (l ∷ ls) f h = (by_section (section_in (codes "kept ") 4_294_967_295 l) h, omega arith)
   where
-    by_section : (o : Option ℕ) → first_by_section agents l ls o ≡ Err f → f.line ≡ 2
+    by_section : (o : Option ℕ) → base_by_section agents l ls o ≡ Err f → f.line ≡ 2
     by_section None h = absurd (cc)
     by_section (Some n) h = (at_line_err 2 _ f h).1
 
 below_torn : (h : LogHead) (l : List ℕ) (ls : List (List ℕ)) (rest : List ℕ) (at : ℕ) → l ≡ head_line h → IsLogHead h → length (text_of_lines (l ∷ ls) ++ rest) ≤ 4_294_967_296 → log_below h ls rest ≡ Err (torn_at at)
     → IsTornBelow (text_of_lines (l ∷ ls) ++ rest) at
-below_torn h l ls rest at line head short e = elim (step_err (first_kept h.agents ls) (λ first. increments_in (length first.left) first.line first.kept first.left >>= log_end h rest) (torn_at at) e) [
+below_torn h l ls rest at line head short e = elim (step_err (base_in h.agents ls) (λ first. increments_in (length first.left) first.line first.kept first.left >>= log_end h rest) (torn_at at) e) [
   | inl failed ↦
       let is = first_fails h.agents ls (torn_at at) failed in
       let here = is.0 in
@@ -151,10 +151,10 @@ below_torn h l ls rest at line head short e = elim (step_err (first_kept h.agent
       let bytes = lines_are_short ls in
       let all = length-append (text_of_lines ls) rest in
       above_by h None [] l ls rest (text_of_lines ls ++ rest) at line head (λ k e. absurd (none-some k e)) tt refl (some_bytes (text_of_lines ls ++ rest) (omega (arith, some, bytes, all))) short (omega (arith, here))
-  | inr read ↦ later read.0 (first_kept_read h.agents ls read.0 read.1) read.2
+  | inr read ↦ later read.0 (base_read h.agents ls read.0 read.1) read.2
 ]
   where
-    later : (first : FirstKept) → IsFirstKept h.agents ls first → (increments_in (length first.left) first.line first.kept first.left >>= log_end h rest) ≡ Err (torn_at at) → IsTornBelow (text_of_lines (l ∷ ls) ++ rest) at
+    later : (first : ReadBase) → AreBaseLines h.agents ls first → (increments_in (length first.left) first.line first.kept first.left >>= log_end h rest) ≡ Err (torn_at at) → IsTornBelow (text_of_lines (l ∷ ls) ++ rest) at
     later first kept e =
         let base = kept.0 in
         let left = first.left in

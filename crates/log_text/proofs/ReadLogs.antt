@@ -6,13 +6,13 @@ use Rattle.metering_model.specs.BatchReading.{Lines, fields_in, lines_in, with_l
 use Rattle.metering_model.specs.KeptText.{KeptAmong}
 use Rattle.node_kept.specs.Kept.{IsKept}
 use Rattle.node_kept.proofs.WholeTexts.{nothing_left}
-use Rattle.log_text.specs.LogText.{FirstKept, Increment, BeginsRound, SetsBallots, Learns, Takes, KeptThere, LogCode, LogHead, LogTextFault, ReadLog, BadHead, BadIncrement, TooLong, Torn, among_with, at_log_line, first_increment, first_kept, goes_on, head_in, increments_in, lines_of_increment, log_below, log_in, log_of_lines, most_log_bytes}
+use Rattle.log_text.specs.LogText.{ReadBase, Increment, BeginsRound, SetsBallots, Learns, Takes, KeptThere, LogCode, LogHead, LogTextFault, ReadLog, BadHead, BadIncrement, TooLong, Torn, among_with, at_log_line, first_increment, base_in, goes_on, head_in, increments_in, lines_of_increment, log_below, log_in, log_of_lines, most_log_bytes}
 use Rattle.log_text.specs.Faults.{IsFaultOf}
 use Rattle.log_text.specs.declared.faults.LogFault.{LogFault}
 use Rattle.log_text.specs.declared.faults.LogFault.TheVariants.{Refused, OutOfMemory}
 use Rattle.byte_text.proofs.LineFeeds.{few}
 use Rattle.log_text.proofs.WrittenLines.{feeds_end_lines}
-use Rattle.log_text.specs.Inner.Reading.{HasNoStep, IfTold, IsFirst, IsFirstKept, IsStep, all_below, kept_below, when_whole}
+use Rattle.log_text.specs.Inner.Reading.{HasNoStep, IfTold, IsFirst, IsBase, IsStep, all_below, kept_below, when_whole}
 
 -- ---- one step
 
@@ -112,16 +112,16 @@ module _ (text : List ℕ) (first : ℕ) (before : KeptAmong) (line : ℕ) (k : 
 
 -- ---- below the head line
 
-abbrev and_then : List ℕ → FirstKept → Result KeptAmong LogTextFault
+abbrev and_then : List ℕ → ReadBase → Result KeptAmong LogTextFault
 and_then text first = increments_in (length first.left) first.line first.kept first.left >>= when_whole text
 
-pub below_is : (agents : ℕ) (text : List ℕ) (k : KeptAmong) (line : ℕ) (left : List ℕ) → IsFirstKept agents text k line left → all_below agents text ≡ kept_below line k left
+pub below_is : (agents : ℕ) (text : List ℕ) (k : KeptAmong) (line : ℕ) (left : List ℕ) → IsBase agents text k line left → all_below agents text ≡ kept_below line k left
 below_is agents text k line left first =
-    ap (λ (r : Result FirstKept LogTextFault). r >>= and_then text) first.read
+    ap (λ (r : Result ReadBase LogTextFault). r >>= and_then text) first.read
     ∙ ap (λ t. increments_in (length (lines_in left).lines) line k (lines_in left).lines >>= λ there. at_log_line there.line (holds_or (is_empty t) Torn) >>= λ u. Ok there.kept) (sym first.rest)
 
-pub below_fault : (agents : ℕ) (text : List ℕ) (f : LogTextFault) → first_kept agents (lines_in text).lines ≡ Err f → all_below agents text ≡ Err f
-below_fault agents text f e = ap (λ (r : Result FirstKept LogTextFault). r >>= and_then text) e
+pub below_fault : (agents : ℕ) (text : List ℕ) (f : LogTextFault) → base_in agents (lines_in text).lines ≡ Err f → all_below agents text ≡ Err f
+below_fault agents text f e = ap (λ (r : Result ReadBase LogTextFault). r >>= and_then text) e
 
 -- ---- the whole
 
@@ -129,7 +129,7 @@ abbrev with_head : LogHead → Result KeptAmong LogTextFault → Result ReadLog 
 with_head h r = r >>= λ k. Ok (record { head = h; kept = k })
 
 -- what is kept is read, and then the head is put to it
-by_steps : (h : LogHead) (r : Result FirstKept LogTextFault) (next : FirstKept → Result KeptThere LogTextFault) (test : KeptThere → Result (Unit {0}) LogTextFault)
+by_steps : (h : LogHead) (r : Result ReadBase LogTextFault) (next : ReadBase → Result KeptThere LogTextFault) (test : KeptThere → Result (Unit {0}) LogTextFault)
     → (r >>= λ first. next first >>= λ there. test there >>= λ u. Ok (record { head = h; kept = there.kept })) ≡ with_head h (r >>= λ first. next first >>= λ there. test there >>= λ u. Ok there.kept)
 by_steps h (Err f) next test = refl
 by_steps h (Ok first) next test = by_more (next first)
@@ -168,7 +168,7 @@ module _ (text l below : List ℕ) (short : length text ≤ most_log_bytes) (cut
     by_head =
         by_line
         ∙ ap (λ (r : Result LogHead LogCode). at_log_line 1 r >>= λ h. log_below h (lines_in below).lines (lines_in below).rest) good
-        ∙ by_steps h (first_kept h.agents (lines_in below).lines) (λ first. increments_in (length first.left) first.line first.kept first.left) (λ there. at_log_line there.line (holds_or (is_empty (lines_in below).rest) Torn))
+        ∙ by_steps h (base_in h.agents (lines_in below).lines) (λ first. increments_in (length first.left) first.line first.kept first.left) (λ there. at_log_line there.line (holds_or (is_empty (lines_in below).rest) Torn))
 
     pub log_read : (k : KeptAmong) → all_below h.agents below ≡ Ok k → log_in text ≡ Ok (record { head = h; kept = k })
     log_read k e = by_head ∙ ap (with_head h) e

@@ -16,13 +16,13 @@ use Rattle.byte_text.specs.Lines.{IsPast}
 use Rattle.byte_text.proofs.PastLines.{front_length, other_rest, same_front, text_of_front}
 use Rattle.node_kept.specs.Kept.{IsKept}
 use Rattle.packet_text.specs.PacketText.{lines_of_batch}
-use Rattle.log_text.specs.LogText.{FirstKept, Increment, Takes, LogCode, BadIncrement, BadKept, Torn, first_increment, line_increment_in, lines_of_increment, section_in}
+use Rattle.log_text.specs.LogText.{ReadBase, Increment, Takes, LogCode, BadIncrement, BadKept, Torn, first_increment, line_increment_in, lines_of_increment, section_in}
 use Rattle.log_text.specs.declared.faults.LogFault.{LogFault}
 use Rattle.log_text.specs.declared.faults.LogFault.TheVariants.{Refused, OutOfMemory}
-use Rattle.log_text.specs.declared.increments.Unread.{Unread}
-use Rattle.log_text.specs.declared.increments.Unread.TheVariants.{NotThere, NoMemory}
+use Rattle.log_text.specs.declared.faults.Unread.{Unread}
+use Rattle.log_text.specs.declared.faults.Unread.TheVariants.{NotThere, NoMemory}
 use Rattle.log_text.specs.LogText.{LogTextFault}
-use Rattle.log_text.specs.Inner.Reading.{IfNotThere, IfTold, IsFirst, IsKeptFirst, IsWithin, batch_of_text, fault_at, kept_first_in, kept_of_text}
+use Rattle.log_text.specs.Inner.Reading.{IfNotThere, IfTold, IsFirst, IsToldBase, IsWithin, batch_of_text, fault_at, told_base_in, kept_of_text}
 
 -- ---- the word of a line
 
@@ -153,30 +153,30 @@ module _ (agents n : ℕ) (t : List ℕ) (counted : n ≡ length (lines_in t).li
   none_kept f h = ap (λ (r : Result KeptAmong KeptTextFault). elim (result_ok r) [ None ↦ None | Some k ↦ cond (n == length (lines_in (kept_text k)).lines && (k.agents == agents)) (Some k) None ]) h
 
 abbrev AFirst : Type 0
-AFirst = Result FirstKept LogCode
+AFirst = Result ReadBase LogCode
 
 abbrev of_kept : List (List ℕ) → ℕ → Option KeptAmong → AFirst
 of_kept ls n o = ok_or (option_map (λ k. record { kept = k; line = 3 + n; left = drop n ls }) o) BadKept
 
 module _ (agents n : ℕ) (below : List ℕ) where
-  pub kept_torn : length (lines_in below).lines < n → kept_first_in agents n (lines_in below).lines ≡ Err Torn
+  pub kept_torn : length (lines_in below).lines < n → told_base_in agents n (lines_in below).lines ≡ Err Torn
   kept_torn low = ap (λ b. cond b (of_kept (lines_in below).lines n (kept_of_text agents n (text_of_lines (take n (lines_in below).lines)))) (Err Torn)) (few_lines n _ low)
 
   module _ (at : ℕ) (past : IsPast below n at) (front : List ℕ) (is_front : front ≡ take at below) where
-    kept_front : kept_first_in agents n (lines_in below).lines ≡ of_kept (lines_in below).lines n (kept_of_text agents n front)
-    kept_front =
+    told_front : told_base_in agents n (lines_in below).lines ≡ of_kept (lines_in below).lines n (kept_of_text agents n front)
+    told_front =
         ap (λ b. cond b (of_kept (lines_in below).lines n (kept_of_text agents n (text_of_lines (take n (lines_in below).lines)))) (Err Torn)) (are_enough below n at past)
         ∙ ap (λ t. of_kept (lines_in below).lines n (kept_of_text agents n t)) (sym (front_is below n at past front is_front))
 
-    pub kept_unread : kept_of_text agents n front ≡ None → kept_first_in agents n (lines_in below).lines ≡ Err BadKept
-    kept_unread none = kept_front ∙ ap (of_kept (lines_in below).lines n) none
+    pub kept_unread : kept_of_text agents n front ≡ None → told_base_in agents n (lines_in below).lines ≡ Err BadKept
+    kept_unread none = told_front ∙ ap (of_kept (lines_in below).lines n) none
 
-    pub kept_is_first : (k : KeptAmong) (line : ℕ) (left : List ℕ) → kept_of_text agents n front ≡ Some k → line ≡ 3 + n → left ≡ drop at below → IsKept k → IsKeptFirst agents n below k line left
-    kept_is_first k line left read is_line e is =
+    pub told_is_base : (k : KeptAmong) (line : ℕ) (left : List ℕ) → kept_of_text agents n front ≡ Some k → line ≡ 3 + n → left ≡ drop at below → IsKept k → IsToldBase agents n below k line left
+    told_is_base k line left read is_line e is =
         let count = left_count below n at past left e in
         record {
           read =
-              kept_front
+              told_front
               ∙ ap (of_kept (lines_in below).lines n) read
               ∙ ap₂ (λ m ls. Ok (record { kept = k; line = m; left = ls })) (sym is_line) (sym (left_lines below n at past left e));
           rest = left_rest below n at past left e;

@@ -13,11 +13,11 @@ use Rattle.metering_model.proofs.BatchLaws.{batch_lines}
 use Rattle.metering_model.proofs.Splitting.{cut_whole, lines_give_back, lines_of_text}
 use Rattle.packet_text.specs.PacketText.{lines_of_batch}
 use Rattle.packet_text.proofs.PacketLaws.{line_first}
-use Rattle.log_text.specs.LogText.{BadIncrement, BadKept, BeginsRound, FirstKept, HasIncrementText, HasLog, Increment, Learns, LogHead, SetsBallots, Takes, Torn, among_with, at_log_line, base_text, first_kept, head_text, kept_of_lines, log_below, nothing_kept}
-use Rattle.log_text.specs.LogText.{batch_of_lines, first_increment, goes_on, increment_text, increments_in, kept_after, kept_first, lines_of_increment, log_in, log_of_lines, log_text}
+use Rattle.log_text.specs.LogText.{BadIncrement, BadKept, BeginsRound, ReadBase, HasIncrementText, HasLog, Increment, Learns, LogHead, SetsBallots, Takes, Torn, among_with, at_log_line, base_text, base_in, head_text, kept_of_lines, log_below, nothing_kept}
+use Rattle.log_text.specs.LogText.{batch_of_lines, first_increment, goes_on, increment_text, increments_in, kept_after, kept_at_first, lines_of_increment, log_in, log_of_lines, log_text}
 use Rattle.log_text.proofs.HeadLaws.{head_lacks_feed, head_line, head_written}
 use Rattle.log_text.proofs.IncrementLaws.{Unkept, by_section, batch_size, increment_lacks_feed, increment_lines_are_text, lines_of, section, section_written}
-use Rattle.log_text.proofs.LogLaws.{MayBeFirst, base_is_short, base_lacks_feed, base_lines, base_lines_text, first_by_section, front_written, kept_count, kept_section_written, lines_above, lines_end, log_end, log_lacks_feed, log_lines, log_lines_text, short_read}
+use Rattle.log_text.proofs.LogLaws.{MayBeFirst, base_is_short, base_lacks_feed, base_lines, base_lines_text, base_by_section, front_written, kept_count, kept_section_written, lines_above, lines_end, log_end, log_lacks_feed, log_lines, log_lines_text, short_read}
 
 -- ---- pieces of lines
 
@@ -111,7 +111,7 @@ pub torn_refused : (h : LogHead) (base : Option KeptAmong) (is : List Increment)
     → length (log_text h base is ++ piece) ≤ 4_294_967_296 → log_in (log_text h base is ++ piece) ≡ Err (record { code = Torn; line = 1 + length (lines_in (log_text h base is)).lines })
 torn_refused h base is next piece more has text e some cut short =
     let ls = log_lines h base is in
-    let kept = kept_after (kept_first h base) is in
+    let kept = kept_after (kept_at_first h base) is in
     let torn = increment_torn h.agents kept.agents next piece more text e some cut in
     let behind = (lines_in piece).lines in
     let rest = (lines_in piece).rest in
@@ -129,7 +129,7 @@ torn_refused h base is next piece more has text e some cut short =
 -- the whole lines are none, and what is behind them is there; or the first says more to be below it than are
 abbrev IsBaseTorn : ℕ → List (List ℕ) → List ℕ → Type 0
 IsBaseTorn agents [] rest = is_empty rest ≡ false
-IsBaseTorn agents (l ∷ ls) rest = first_kept agents (l ∷ ls) ≡ Err (record { code = Torn; line = 2 })
+IsBaseTorn agents (l ∷ ls) rest = base_in agents (l ∷ ls) ≡ Err (record { code = Torn; line = 2 })
 
 broken_base : (agents j : ℕ) (k : KeptAmong) (rest : List ℕ) → HasText k → length (base_text (Some k)) ≤ 4_294_967_295 → j < length (base_lines (Some k)) → (j ≡ 0 → is_empty rest ≡ false) → IsBaseTorn agents (take j (base_lines (Some k))) rest
 broken_base agents zero k rest has short low some = some refl
@@ -138,8 +138,8 @@ broken_base agents (suc j) k rest has short low some =
     let ls = take j (kept_lines k) in
     let count = kept_count k has in
     let few = taken_few j (kept_lines k) in
-    let made : KeptAmong → FirstKept = λ k. record { kept = k; line = 3 + n; left = drop n ls } in
-    ap (first_by_section agents (section (codes "kept ") n) ls) (kept_section_written k has short)
+    let made : KeptAmong → ReadBase = λ k. record { kept = k; line = 3 + n; left = drop n ls } in
+    ap (base_by_section agents (section (codes "kept ") n) ls) (kept_section_written k has short)
     ∙ ap (at_log_line 2) (cond-false (nat_le n (length ls)) (ok_or (option_map made (kept_of_lines agents n ls)) BadKept) (Err Torn) (lt-leb n (length ls) (omega (arith, count, few, low))))
 
 base_torn : (agents : ℕ) (k : KeptAmong) (piece more : List ℕ) → MayBeFirst agents (Some k) → length (base_text (Some k)) ≤ 4_294_967_295 → base_text (Some k) ≡ piece ++ more → piece ≢ [] → more ≢ [] → IsBaseTorn agents (lines_in piece).lines (lines_in piece).rest

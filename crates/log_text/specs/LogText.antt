@@ -151,9 +151,9 @@ GoOn k (i ∷ is) = HasIncrementText k.agents i × IsTrue (goes_on i k) × GoOn 
 abbrev pub nothing_kept : ℕ → KeptAmong
 nothing_kept agents = record { agents = agents; kept = new_kept }
 
--- What a log begins with, if anything is said, is what was kept at some time.
-abbrev pub kept_first : LogHead → Option KeptAmong → KeptAmong
-kept_first h base = unwrap_or base (nothing_kept h.agents)
+-- What is kept before any increment: the base, which was kept at some time, or nothing where a log says none.
+abbrev pub kept_at_first : LogHead → Option KeptAmong → KeptAmong
+kept_at_first h base = unwrap_or base (nothing_kept h.agents)
 
 abbrev pub base_text : Option KeptAmong → List ℕ
 base_text None = []
@@ -173,7 +173,7 @@ most_kept_lines = 4_294_967_295
 pub record HasLog (h : LogHead) (base : Option KeptAmong) (increments : List Increment) : Type 0 where
   pub head : IsLogHead h
   pub first : (k : KeptAmong) → base ≡ Some k → HasText k × (k.agents ≡ h.agents)
-  pub go_on : GoOn (kept_first h base) increments
+  pub go_on : GoOn (kept_at_first h base) increments
   pub short : length (log_text h base increments) ≤ most_log_bytes
 
 -- ---- reading
@@ -294,21 +294,22 @@ kept_of_lines agents n ls = elim (result_ok (kept_in (text_of_lines (take n ls))
   | Some k ↦ if n == length (lines_in (kept_text k)).lines && (k.agents == agents) then Some k else None
 ]
 
--- what is kept at first, the lines behind it, and the number of the first of these
-pub record FirstKept : Type 0 where
+-- what lines are read as a log's base: what is kept by it, the lines behind it, and the number of the first of these
+pub record ReadBase : Type 0 where
   pub kept : KeptAmong
   pub line : ℕ
   pub left : List (List ℕ)
 
-abbrev pub nothing_first : ℕ → List (List ℕ) → FirstKept
-nothing_first agents ls = record { kept = nothing_kept agents; line = 2; left = ls }
+-- where no base is said, nothing is kept
+abbrev pub without_base : ℕ → List (List ℕ) → ReadBase
+without_base agents ls = record { kept = nothing_kept agents; line = 2; left = ls }
 
 -- The line below the head may say how many lines of what is kept follow: it has the number 2. A fault of these is told there, and
 -- where there are fewer they are torn.
-abbrev pub first_kept : ℕ → List (List ℕ) → Result FirstKept LogTextFault
-first_kept agents [] = Ok (nothing_first agents [])
-first_kept agents (l ∷ ls) = elim (section_in (codes "kept ") most_kept_lines l) [
-  | None ↦ Ok (nothing_first agents (l ∷ ls))
+abbrev pub base_in : ℕ → List (List ℕ) → Result ReadBase LogTextFault
+base_in agents [] = Ok (without_base agents [])
+base_in agents (l ∷ ls) = elim (section_in (codes "kept ") most_kept_lines l) [
+  | None ↦ Ok (without_base agents (l ∷ ls))
   | Some n ↦ at_log_line 2 (
       if nat_le n (length ls) then ok_or (option_map (λ k. record { kept = k; line = 3 + n; left = drop n ls }) (kept_of_lines agents n ls)) BadKept else Err Torn)
 ]
@@ -320,7 +321,7 @@ pub record ReadLog : Type 0 where
 
 abbrev pub log_below : LogHead → List (List ℕ) → List ℕ → Result ReadLog LogTextFault
 log_below h ls rest = do
-  first ← first_kept h.agents ls
+  first ← base_in h.agents ls
   there ← increments_in (length first.left) first.line first.kept first.left
   _ ← at_log_line there.line (holds_or (is_empty rest) Torn)
   Ok (record { head = h; kept = there.kept })

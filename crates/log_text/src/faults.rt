@@ -1,5 +1,8 @@
 //! Why a text is not read as a log.
 
+ghost use Rattle.std.specs.Prelude.{◌≡◌};
+ghost use Rattle.log_text.specs.Inner.Reading.{fault_at};
+
 use thiserror::Error;
 
 /// What is wrong with a line of a log.
@@ -31,4 +34,23 @@ pub enum LogFault {
     /// Out of memory: an allocation failed.
     #[error("out of memory")]
     OutOfMemory,
+}
+
+/// Why nothing is read.
+#[derive(Clone, Copy, Drop)]
+pub(crate) enum Unread {
+    /// Nothing of the kind stands there.
+    NotThere,
+    /// Out of memory.
+    NoMemory,
+}
+
+/// The fault at that line where nothing is read.
+pub(crate) fn fault_at(line: u64, code: LogCode, why: Unread) -> LogFault
+    ensures { result ≡ fault_at line code why }
+{
+    match why {
+        Unread::NotThere => LogFault::Refused { code, line },
+        Unread::NoMemory => LogFault::OutOfMemory,
+    }
 }

@@ -12,6 +12,7 @@ ghost use Rattle.node_kept.specs.Kept.{IsKept};
 ghost use Rattle.log_text.specs.LogText.{BeginsRound, Learns, SetsBallots, Takes, among_with, ballots_go_on, goes_on, is_promised, is_same_vote, is_vote_at, lines_of_increment};
 ghost use Rattle.log_text.specs.Inner.Reading.{IfNotThere, IsWithin, taken_of};
 
+use crate::faults::Unread;
 use batch_store::{Cut, OwnedBatch};
 use node_kept::Parts;
 use paxos_ballot::{Acceptor, Ballot, Vote};
@@ -38,15 +39,6 @@ pub(crate) enum Taken {
     Ballots(u16, Acceptor),
     Learned(u16, Arc<Cut>),
     Batch(Arc<OwnedBatch>),
-}
-
-/// Why nothing is read.
-#[derive(Clone, Copy, Drop)]
-pub(crate) enum Unread {
-    /// Nothing of the kind stands there.
-    NotThere,
-    /// Out of memory.
-    NoMemory,
 }
 
 impl Taken {

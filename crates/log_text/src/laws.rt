@@ -3,7 +3,7 @@
 ghost use Rattle.std.specs.Prelude.{◌≡◌, ◌≢◌, ℕ, ◌+◌, ◌≤◌, List, [], ◌++◌, length, Option, Some, Ok, Err};
 ghost use Rattle.metering_model.specs.BatchReading.{lines_in};
 ghost use Rattle.metering_model.specs.KeptText.{KeptAmong, HasText};
-ghost use Rattle.log_text.specs.LogText.{LogHead, Increment, Torn, HasIncrementText, HasLog, ReadLog, base_text, head_text, increment_text, kept_after, kept_first, log_in, log_text, most_log_bytes};
+ghost use Rattle.log_text.specs.LogText.{LogHead, Increment, Torn, HasIncrementText, HasLog, ReadLog, base_text, head_text, increment_text, kept_after, kept_at_first, log_in, log_text, most_log_bytes};
 
 /// A log that has a text is read back from it: whose it is, and what is kept when all was added. A text that is read is
 /// just the text of such a log, and what is read of it is what that log keeps.
@@ -11,12 +11,12 @@ pub fn logs_are_read_where_they_are_written()
     ensures back { (h : LogHead) (base : Option KeptAmong) (increments : List Increment)
         → HasLog h base increments →
         log_in (log_text h base increments)
-        ≡ Ok (record { head = h; kept = kept_after (kept_first h base) increments }) }
+        ≡ Ok (record { head = h; kept = kept_after (kept_at_first h base) increments }) }
     ensures joined { (text : List ℕ) (read : ReadLog) → log_in text ≡ Ok read →
         (base : Option KeptAmong) × (increments : List Increment)
         × (text ≡ log_text read.head base increments)
         × HasLog read.head base increments
-        × (read.kept ≡ kept_after (kept_first read.head base) increments) }
+        × (read.kept ≡ kept_after (kept_at_first read.head base) increments) }
 {}
 
 /// What a log is read as has a text, of as many agents as the group has. At any time what is kept may stand in the place
@@ -25,13 +25,13 @@ pub fn logs_are_read_where_they_are_written()
 pub fn what_is_kept_may_stand_first()
     ensures has { (h : LogHead) (base : Option KeptAmong) (increments : List Increment)
         → HasLog h base increments →
-        HasText (kept_after (kept_first h base) increments)
-        × ((kept_after (kept_first h base) increments).agents ≡ h.agents) }
+        HasText (kept_after (kept_at_first h base) increments)
+        × ((kept_after (kept_at_first h base) increments).agents ≡ h.agents) }
     ensures alike { (h : LogHead) (base : Option KeptAmong) (before behind : List Increment)
         → HasLog h base (before ++ behind)
-        → length (log_text h (Some (kept_after (kept_first h base) before)) behind)
+        → length (log_text h (Some (kept_after (kept_at_first h base) before)) behind)
         ≤ most_log_bytes →
-        log_in (log_text h (Some (kept_after (kept_first h base) before)) behind)
+        log_in (log_text h (Some (kept_after (kept_at_first h base) before)) behind)
         ≡ log_in (log_text h base (before ++ behind)) }
 {}
 

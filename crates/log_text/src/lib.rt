@@ -1,11 +1,15 @@
 //! What a node or an agent stores, as lines of text.
 #![tactic(auto)]
 
+mod bases;
 mod faults;
+mod head_line;
 mod heads;
+mod increment_lines;
 mod increments;
 pub mod laws;
 mod reading;
+mod sections;
 pub mod steps;
 mod writing;
 

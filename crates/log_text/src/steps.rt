@@ -6,7 +6,7 @@ ghost use Rattle.metering_model.specs.Sheet.{Sheet, Issuer};
 ghost use Rattle.metering_model.specs.World.{World, Node, Packet, Event, current_period, opening};
 ghost use Rattle.metering_model.specs.Step.{kept_now, play};
 ghost use Rattle.metering_model.specs.KeptText.{HasText, KeptAmong};
-ghost use Rattle.log_text.specs.LogText.{HasLog, Increment, LogHead, kept_after, kept_first};
+ghost use Rattle.log_text.specs.LogText.{HasLog, Increment, LogHead, kept_after, kept_at_first};
 ghost use Rattle.log_text.specs.Steps.{AddsAtMostOne, Begins, Gets, GoesOnTo, MayBe, NodeStep, node_after};
 
 /// Each step of a node, whether it gets a packet or begins a ballot, adds at most one increment to its log, and none where
@@ -21,7 +21,7 @@ pub fn a_step_adds_at_most_one_increment()
         HasText (kept_now w (node_after w i n s)) }
     ensures read { (w : World) (i : ℕ) (n : Node) (s : NodeStep) (h : LogHead)
         (base : Option KeptAmong) (increments : List Increment) → MayBe w i n s
-        → HasLog h base increments → kept_after (kept_first h base) increments ≡ kept_now w n →
+        → HasLog h base increments → kept_after (kept_at_first h base) increments ≡ kept_now w n →
         GoesOnTo h base increments (kept_now w (node_after w i n s)) }
 {}
 

@@ -13,11 +13,11 @@ use Rattle.metering_model.specs.KeptText.{KeptAmong, IsBallotNumber, kept_in, ke
 use Rattle.packet_text.specs.PacketText.{lines_of_batch}
 use Rattle.batch_store.specs.Batches.{batch_of}
 use Rattle.node_kept.specs.Kept.{IsKept}
-use Rattle.log_text.specs.LogText.{Increment, BeginsRound, SetsBallots, Learns, Takes, FirstKept, KeptThere, LogCode, LogTextFault, BadKept, Torn, among_with, at_log_line, ballots_in, first_increment, first_kept, goes_on, increments_in, kept_of_lines, lines_of_increment, vote_in}
+use Rattle.log_text.specs.LogText.{Increment, BeginsRound, SetsBallots, Learns, Takes, ReadBase, KeptThere, LogCode, LogTextFault, BadKept, Torn, among_with, at_log_line, ballots_in, first_increment, base_in, goes_on, increments_in, kept_of_lines, lines_of_increment, vote_in}
 use Rattle.log_text.specs.declared.faults.LogFault.{LogFault}
 use Rattle.log_text.specs.declared.faults.LogFault.TheVariants.{Refused, OutOfMemory}
-use Rattle.log_text.specs.declared.increments.Unread.{Unread}
-use Rattle.log_text.specs.declared.increments.Unread.TheVariants.{NotThere, NoMemory}
+use Rattle.log_text.specs.declared.faults.Unread.{Unread}
+use Rattle.log_text.specs.declared.faults.Unread.TheVariants.{NotThere, NoMemory}
 use Rattle.log_text.specs.declared.increments.Taken.{Taken}
 use Rattle.log_text.specs.declared.increments.Taken.TheVariants as taken
 
@@ -77,16 +77,16 @@ when_whole text there = at_log_line there.line (holds_or (is_empty (lines_in tex
 abbrev pub kept_below : ℕ → KeptAmong → List ℕ → Result KeptAmong LogTextFault
 kept_below line k text = increments_in (length (lines_in text).lines) line k (lines_in text).lines >>= when_whole text
 
--- This is kept at first, and what is added to it stands in what is left, from that line on.
-pub record IsFirstKept (agents : ℕ) (text : List ℕ) (k : KeptAmong) (line : ℕ) (left : List ℕ) : Type 0 where
-  pub read : first_kept agents (lines_in text).lines ≡ Ok (record { kept = k; line = line; left = (lines_in left).lines })
+-- The text's base keeps this, if nothing where it says none; what is added to it stands in what is left, from that line on.
+pub record IsBase (agents : ℕ) (text : List ℕ) (k : KeptAmong) (line : ℕ) (left : List ℕ) : Type 0 where
+  pub read : base_in agents (lines_in text).lines ≡ Ok (record { kept = k; line = line; left = (lines_in left).lines })
   pub rest : (lines_in left).rest ≡ (lines_in text).rest
   pub lines_of : line + length (lines_in left).lines ≡ 2 + length (lines_in text).lines
   pub is_kept : IsKept k
 
 -- what is kept by the lines below a head line, of a group of so many agents
 abbrev pub all_below : ℕ → List ℕ → Result KeptAmong LogTextFault
-all_below agents text = first_kept agents (lines_in text).lines >>= λ first.
+all_below agents text = base_in agents (lines_in text).lines >>= λ first.
     increments_in (length first.left) first.line first.kept first.left >>= when_whole text
 
 -- a vote's ballot, and its cut: the ballot 0 is of none
@@ -113,14 +113,14 @@ abbrev pub fault_at : ℕ → LogCode → Unread → LogFault
 fault_at line code NotThere = Refused code line
 fault_at line code NoMemory = OutOfMemory
 
--- what so many lines say to be kept, of so many agents
-abbrev pub kept_first_in : (agents lines : ℕ) → List (List ℕ) → Result FirstKept LogCode
-kept_first_in agents n ls =
+-- the base that so many lines are, of so many agents
+abbrev pub told_base_in : (agents lines : ℕ) → List (List ℕ) → Result ReadBase LogCode
+told_base_in agents n ls =
     if nat_le n (length ls) then ok_or (option_map (λ k. record { kept = k; line = 3 + n; left = drop n ls }) (kept_of_lines agents n ls)) BadKept else Err Torn
 
--- So many lines, below the one that says so, tell what is kept at first; that line has the number 2.
-pub record IsKeptFirst (agents lines : ℕ) (below : List ℕ) (k : KeptAmong) (line : ℕ) (left : List ℕ) : Type 0 where
-  pub read : kept_first_in agents lines (lines_in below).lines ≡ Ok (record { kept = k; line = line; left = (lines_in left).lines })
+-- So many lines, below the one that says so, are a base that keeps this; that line has the number 2.
+pub record IsToldBase (agents lines : ℕ) (below : List ℕ) (k : KeptAmong) (line : ℕ) (left : List ℕ) : Type 0 where
+  pub read : told_base_in agents lines (lines_in below).lines ≡ Ok (record { kept = k; line = line; left = (lines_in left).lines })
   pub rest : (lines_in left).rest ≡ (lines_in below).rest
   pub lines_of : line + length (lines_in left).lines ≡ 3 + length (lines_in below).lines
   pub is_kept : IsKept k

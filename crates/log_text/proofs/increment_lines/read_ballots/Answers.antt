@@ -3,7 +3,7 @@ use Rattle.std.specs.Option.{option_map}
 use Rattle.metering_model.specs.Ballot.{Acceptor, Vote}
 use Rattle.log_text.specs.LogText.{SetsBallots}
 use Rattle.log_text.specs.Inner.Reading.{IsPromise, IsVoteAmong}
-use Rattle.log_text.proofs.reading.read_ballots.Goals as goal
+use Rattle.log_text.proofs.increment_lines.read_ballots.Goals as goal
 
 pub returns : goal.returns
 returns c =

@@ -3,7 +3,7 @@ use Rattle.std.proofs.lemmas.List.Splits.{length-slice_split}
 use Rattle.metering_model.specs.BatchReading.{fields_in}
 use Rattle.batch_store.proofs.CutTexts.{at_some}
 use Rattle.log_text.specs.LogText.{BadHead, head_in}
-use Rattle.log_text.proofs.reading.head_fields.Goals as goal
+use Rattle.log_text.proofs.head_line.head_fields.Goals as goal
 
 too_many : (v g w n a b c : List ℕ) (more : List (List ℕ)) → 0 < length more → head_in (v ∷ g ∷ w ∷ n ∷ a ∷ b ∷ c ∷ more) ≡ Err BadHead
 too_many v g w n a b c [] some = absurd (omega arith)

@@ -2,7 +2,7 @@
 use Rattle.std.proofs.Common.{◌≡◌, Ok, sym, ap, ◌∙◌, arith}
 use Rattle.metering_model.specs.KeptText.{KeptAmong}
 use Rattle.log_text.proofs.ReadSections.{kept_of}
-use Rattle.log_text.proofs.reading.read_kept_of.Goals as goal
+use Rattle.log_text.proofs.bases.read_kept_of.Goals as goal
 
 pub returns : goal.returns
 returns c =

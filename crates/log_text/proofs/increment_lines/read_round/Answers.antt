@@ -2,7 +2,7 @@ use Rattle.std.proofs.Common.{sym, ap, ◌∙◌}
 use Rattle.batch_store.proofs.CutTexts.{at_some}
 use Rattle.log_text.specs.LogText.{round_in}
 use Rattle.log_text.proofs.ReadFields.{round_alone}
-use Rattle.log_text.proofs.reading.read_round.Goals as goal
+use Rattle.log_text.proofs.increment_lines.read_round.Goals as goal
 
 pub returns-then-is_some : goal.returns-then-is_some
 returns-then-is_some c =

@@ -4,7 +4,7 @@ use Rattle.metering_model.specs.BatchReading.{fields_in}
 use Rattle.log_text.specs.LogText.{Increment, lines_of_increment}
 use Rattle.log_text.specs.Inner.Reading.{IfNotThere, IsWithin, taken_of}
 use Rattle.log_text.proofs.ReadFields.{by_ballot, by_learned}
-use Rattle.log_text.proofs.reading.read_word_increment.Goals as goal
+use Rattle.log_text.proofs.increment_lines.read_word_increment.Goals as goal
 
 pub returns-then-is_same-2 : goal.returns-then-is_same-2
 returns-then-is_same-2 c =

@@ -5,7 +5,7 @@ use Rattle.metering_model.specs.BatchReading.{lines_in}
 use Rattle.batch_store.specs.Batches.{batch_of}
 use Rattle.log_text.specs.LogText.{BadIncrement, at_log_line, first_increment}
 use Rattle.log_text.proofs.ReadSections.{batch_first, no_batch, told_at}
-use Rattle.log_text.proofs.reading.read_increment.Goals as goal
+use Rattle.log_text.proofs.increment_lines.read_increment.Goals as goal
 
 pub returns-in-Ok-read_batch_of : goal.returns-in-Ok-read_batch_of
 returns-in-Ok-read_batch_of c =

@@ -1,7 +1,7 @@
 -- The ballot 0 is of no vote.
 use Rattle.std.proofs.Common.{rules}
 use Rattle.log_text.proofs.ReadFields.{zero_vote}
-use Rattle.log_text.proofs.reading.read_some_vote.Goals as goal
+use Rattle.log_text.proofs.increment_lines.read_some_vote.Goals as goal
 
 pub returns-in_err-ballot : goal.returns-in_err-ballot
 returns-in_err-ballot c = search (rules, zero_vote)

@@ -3,7 +3,7 @@ use Rattle.std.specs.Arc.{arc_value}
 use Rattle.metering_model.specs.BatchReading.{fields_in}
 use Rattle.metering_model.specs.KeptText.{cut_in}
 use Rattle.metering_model.proofs.KeptLines.{cut_read}
-use Rattle.log_text.proofs.reading.read_cut.Goals as goal
+use Rattle.log_text.proofs.increment_lines.read_cut.Goals as goal
 
 pub returns-in-Ok : goal.returns-in-Ok
 returns-in-Ok c =

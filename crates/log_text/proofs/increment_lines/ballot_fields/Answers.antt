@@ -1,6 +1,6 @@
 use Rattle.metering_model.specs.BatchReading.{fields_in}
 use Rattle.log_text.proofs.ReadFields.{are_ballots}
-use Rattle.log_text.proofs.reading.ballot_fields.Goals as goal
+use Rattle.log_text.proofs.increment_lines.ballot_fields.Goals as goal
 
 pub returns : goal.returns
 returns c =
