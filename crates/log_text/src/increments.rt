@@ -124,7 +124,8 @@ fn is_vote_at(ballot: Ballot, vote: Option<&Vote>) -> bool
     }
 }
 
-/// Whether promise and vote go on from those before: neither is taken back, and one of them is new.
+/// Whether promise and vote go on from those before: the promise is not lowered, the vote stays or gives way to one at
+/// the promised ballot, and one of the two is new.
 fn ballots_go_on(old: &Acceptor, new: &Acceptor) -> bool
     ensures { result ≡ ballots_go_on old.now new.now }
 {
