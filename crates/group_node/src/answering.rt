@@ -1,7 +1,7 @@
 //! Which packets a node answers.
 
 ghost use Rattle.std.specs.Prelude.{◌≡◌, ◌<◌};
-ghost use Rattle.metering_model.specs.Ballot.{is_above, is_not_below};
+ghost use Rattle.metering_model.specs.Ballot.{is_above};
 ghost use Rattle.group_node.specs.Nodes.{IsNodeAmong};
 ghost use Rattle.group_node.specs.Inner.Answering.{has_learned, promises, accepts, proposes_at};
 
@@ -14,15 +14,6 @@ fn is_above(ballot: Ballot, promised: Option<Ballot>) -> bool
 {
     match promised {
         Some(promised) => promised.number() < ballot.number(),
-        None => true,
-    }
-}
-
-fn is_not_below(ballot: Ballot, promised: Option<Ballot>) -> bool
-    ensures { result ≡ is_not_below ballot promised }
-{
-    match promised {
-        Some(promised) => promised.number() <= ballot.number(),
         None => true,
     }
 }
@@ -48,7 +39,7 @@ impl Node {
         ensures { result ≡ accepts period ballot self.now.node }
     {
         let kept = &self.kept;
-        period.number() == self.current_period() && is_not_below(ballot, kept.acceptor.promised())
+        period.number() == self.current_period() && ballot.is_not_below(kept.acceptor.promised())
     }
 
     /// Whether that promise would make the node send its proposal.

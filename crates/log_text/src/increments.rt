@@ -3,7 +3,6 @@
 ghost use Rattle.std.specs.Prelude.{◌≡◌, ◌≤◌, true, false, length, MatchResult};
 ghost use Rattle.std.specs.Arc.{arc_value};
 ghost use Rattle.std.specs.Option.{option_copied};
-ghost use Rattle.metering_model.specs.Ballot.{is_not_below};
 ghost use Rattle.metering_model.specs.BatchReading.{is_same};
 ghost use Rattle.metering_model.specs.Dates.{IsPeriod};
 ghost use Rattle.metering_model.specs.Limits.{most_rounds};
@@ -94,16 +93,6 @@ fn is_same_vote(one: Option<&Vote>, two: Option<&Vote>) -> bool
     }
 }
 
-/// Whether that ballot is not below the one promised.
-fn is_not_below(ballot: Ballot, promised: Option<Ballot>) -> bool
-    ensures { result ≡ is_not_below ballot promised }
-{
-    match promised {
-        Some(promised) => promised.number() <= ballot.number(),
-        None => true,
-    }
-}
-
 /// Whether that ballot is the one promised.
 fn is_promised(ballot: Ballot, promised: Option<Ballot>) -> bool
     ensures { result ≡ is_promised ballot promised }
@@ -133,7 +122,7 @@ fn ballots_go_on(old: &Acceptor, new: &Acceptor) -> bool
         return false;
     };
     let same = is_same_vote(old.vote(), new.vote());
-    is_not_below(ballot, old.promised())
+    ballot.is_not_below(old.promised())
         && (same || is_vote_at(ballot, new.vote()))
         && !(is_promised(ballot, old.promised()) && same)
 }

@@ -2,7 +2,6 @@
 
 ghost use Rattle.std.specs.Prelude.{◌≡◌, Some, [], ◌∷◌, ◌++◌, codes, decimal, map, OnErr, OnOk};
 ghost use Rattle.std.specs.Option.{option_copied};
-ghost use Rattle.metering_model.specs.KeptText.{promised_number};
 ghost use Rattle.metering_model.specs.Transcript.{line_count};
 ghost use Rattle.packet_text.specs.PacketText.{vote_fields};
 ghost use Rattle.packet_text.specs.Inner.Pieces.{HasBehind, barred};
@@ -15,8 +14,8 @@ use crate::heads::{LogHead, Who};
 use crate::increments::Increment;
 use batch_store::{Cut, OwnedBatch};
 use byte_text::{line_count, put_numbered};
-use node_kept::Kept;
-use paxos_ballot::{Acceptor, Ballot, Vote};
+use node_kept::{Kept, promised_number};
+use paxos_ballot::{Acceptor, Vote};
 use std::alloc::{AllocError, Global};
 
 // Where the clause `behind` stands, some of what is appended may stand there when an allocation fails.
@@ -74,16 +73,6 @@ fn put_round(text: &mut Vec<u8>, round: u16) -> Result<(), AllocError>
 {
     put_numbered(text, b"round|", u128::from(round))?;
     text.extend_from_slice(b"\n")
-}
-
-/// The ballot's number, 0 for none.
-fn promised_number(ballot: Option<Ballot>) -> u32
-    ensures { result ≡ promised_number ballot }
-{
-    match ballot {
-        Some(ballot) => ballot.number(),
-        None => 0,
-    }
 }
 
 /// Appends the ballot and the cut of a vote; 0 for none.

@@ -14,3 +14,4 @@ pub use kept::{Kept, Parts};
 pub use metering_model::KeptCode;
 pub use offers::KeptOffer;
 pub use paxos_ballot::{Acceptor, Attempt, Ballot, Tally, Vote};
+pub use writing::promised_number;

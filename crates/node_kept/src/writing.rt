@@ -16,7 +16,7 @@ use std::alloc::{AllocError, Global};
 use std::sync::Arc;
 
 /// The ballot's number, 0 for none.
-fn promised_number(ballot: Option<Ballot>) -> u32
+pub fn promised_number(ballot: Option<Ballot>) -> u32
     ensures { result ≡ promised_number ballot }
 {
     match ballot {

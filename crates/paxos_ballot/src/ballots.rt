@@ -1,6 +1,6 @@
 //! Ballots, votes and majorities.
 ghost use Rattle.std.specs.Prelude.{◌≡◌, ◌<◌, ◌≤◌};
-ghost use Rattle.metering_model.specs.Ballot.{ballot_of, majority};
+ghost use Rattle.metering_model.specs.Ballot.{ballot_of, is_not_below, majority};
 ghost use Rattle.metering_model.specs.KeptText.{ballot_numbered};
 ghost use Rattle.metering_model.specs.Limits.{most_nodes, most_rounds};
 
@@ -53,6 +53,16 @@ impl Ballot {
         ensures { result ≡ self }
     {
         self.number
+    }
+
+    /// Whether the ballot is not below the one promised; true where none is.
+    pub fn is_not_below(self, promised: Option<Ballot>) -> bool
+        ensures { result ≡ is_not_below self promised }
+    {
+        match promised {
+            Some(promised) => promised.number() <= self.number(),
+            None => true,
+        }
     }
 }
 
