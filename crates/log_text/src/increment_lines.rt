@@ -35,11 +35,8 @@ fn read_cut(alloc: Global, fields: &[u8], agents: u8) -> Result<Arc<Cut>, Unread
         × (length (arc_value cut) ≡ agents))
         (λ why. IfNotThere why (cut_in agents (fields_in fields.now) ≡ None)) }
 {
-    match Cut::read(alloc, fields, agents) {
-        Ok(Some(cut)) => match Arc::new(alloc, cut) {
-            Ok(cut) => Ok(cut),
-            Err(_) => Err(Unread::NoMemory),
-        },
+    match Cut::read_shared(alloc, fields, agents) {
+        Ok(Some(cut)) => Ok(cut),
         Ok(None) => Err(Unread::NotThere),
         Err(_) => Err(Unread::NoMemory),
     }

@@ -43,11 +43,8 @@ fn read_cut<'a>(
     let Some((first, behind)) = first_line(text) else {
         return Err(fault);
     };
-    match Cut::read(alloc, first, agents) {
-        Ok(Some(cut)) => match Arc::new(alloc, cut) {
-            Ok(cut) => Ok((cut, behind)),
-            Err(_) => Err(KeptFault::OutOfMemory),
-        },
+    match Cut::read_shared(alloc, first, agents) {
+        Ok(Some(cut)) => Ok((cut, behind)),
         Ok(None) => Err(fault),
         Err(_) => Err(KeptFault::OutOfMemory),
     }

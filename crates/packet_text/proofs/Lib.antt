@@ -6,6 +6,7 @@ pub mod PacketLengths
 pub mod FirstPackets
 pub mod SentByRuns
 pub mod Fields
+pub mod NumberSteps
 pub mod Pieces
 mod WorkedPackets
 mod WorkedFaults

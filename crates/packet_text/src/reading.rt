@@ -10,6 +10,7 @@ ghost use Rattle.batch_view.specs.Batches.{batch_of};
 ghost use Rattle.group_node.specs.Packets.{packet_of};
 ghost use Rattle.packet_text.specs.PacketText.{HasPacketText, accept_in, accepted_in, batch_packet_in, decided_in, is_group, is_stored_word, line_packet_in, may_take_memory, packet_in, prepare_in, promise_in, sent_cut_in, sent_vote_in, some_vote_in, word_packet_in};
 ghost use Rattle.packet_text.specs.Inner.Heads.{HasHead, HasNoHead};
+ghost use Rattle.packet_text.specs.Inner.Numbers.{numbers_in};
 ghost use Rattle.packet_text.specs.Inner.Unread.{IfNoMemory, IfNoPacket};
 
 use crate::numbers::{count_fields, is_group, read_ballot, read_lines, read_node, read_period};
@@ -17,8 +18,8 @@ use crate::packets::GroupPacket;
 use batch_view::{Offer, OwnedBatch};
 use byte_text::{Line, first_line, is_same, split_at_bar};
 use group_node::Packet;
-use paxos_ballot::Vote;
-use period_cut::Cut;
+use paxos_ballot::{Ballot, Vote};
+use period_cut::{Cut, Period};
 use std::alloc::{AllocError, Global};
 use std::sync::Arc;
 
@@ -66,11 +67,8 @@ fn read_cut(alloc: Global, fields: &[u8]) -> Result<Arc<Cut>, Unread>
     let Some(agents) = count_fields(fields) else {
         return Err(Unread::NoPacket);
     };
-    match Cut::read(alloc, fields, agents) {
-        Ok(Some(cut)) => match Arc::new(alloc, cut) {
-            Ok(cut) => Ok(cut),
-            Err(_) => Err(Unread::NoMemory),
-        },
+    match Cut::read_shared(alloc, fields, agents) {
+        Ok(Some(cut)) => Ok(cut),
         Ok(None) => Err(Unread::NoPacket),
         Err(_) => Err(Unread::NoMemory),
     }
@@ -117,59 +115,86 @@ fn read_prepare(numbers: &[u8]) -> Option<Packet>
     })
 }
 
+/// The period and the ballot of a packet, and the fields behind them.
+#[derive(Clone, Copy)]
+struct Numbered<'a> {
+    period: Period,
+    ballot: Ballot,
+    rest: &'a [u8],
+}
+
+/// Period and ballot, if other fields stand behind them.
+#[tactic(auto, using(crate::proofs::NumberSteps::numbers_of))]
+fn read_numbered(fields: &[u8]) -> Option<Numbered<'_>>
+    ensures { MatchOption result
+        (numbers_in (fields_in fields.now) ≡ None)
+        (λ n. numbers_in (fields_in fields.now)
+        ≡ Some (record { period = n.period; ballot = n.ballot; rest = fields_in n.rest.now })) }
+{
+    let two = two_fields(fields)?;
+    Some(Numbered {
+        period: read_period(two.first)?,
+        ballot: read_ballot(two.second)?,
+        rest: two.rest,
+    })
+}
+
 /// A Promise from its numbers and its vote.
+#[tactic(auto, using(crate::proofs::NumberSteps::promise_by))]
 fn read_promise(alloc: Global, numbers: &[u8]) -> Result<Packet, Unread>
     ensures { MatchResult result
         (λ packet. promise_in (fields_in numbers.now) ≡ Some (packet_of packet))
         (λ why. IfNoPacket why (promise_in (fields_in numbers.now) ≡ None)) }
 {
     let (from, rest) = split_at_bar(numbers).ok_or(Unread::NoPacket)?;
-    let two = two_fields(rest).ok_or(Unread::NoPacket)?;
     let from = read_node(from).ok_or(Unread::NoPacket)?;
-    let period = read_period(two.first).ok_or(Unread::NoPacket)?;
-    let ballot = read_ballot(two.second).ok_or(Unread::NoPacket)?;
-    let vote = read_vote(alloc, two.rest)?;
+    let Some(numbered) = read_numbered(rest) else {
+        return Err(Unread::NoPacket);
+    };
+    let vote = read_vote(alloc, numbered.rest)?;
     Ok(Packet::Promise {
         from,
-        period,
-        ballot,
+        period: numbered.period,
+        ballot: numbered.ballot,
         vote,
     })
 }
 
 /// An Accept from its numbers and its cut.
+#[tactic(auto, using(crate::proofs::NumberSteps::accept_by))]
 fn read_accept(alloc: Global, numbers: &[u8]) -> Result<Packet, Unread>
     ensures { MatchResult result
         (λ packet. accept_in (fields_in numbers.now) ≡ Some (packet_of packet))
         (λ why. IfNoPacket why (accept_in (fields_in numbers.now) ≡ None)) }
 {
-    let two = two_fields(numbers).ok_or(Unread::NoPacket)?;
-    let period = read_period(two.first).ok_or(Unread::NoPacket)?;
-    let ballot = read_ballot(two.second).ok_or(Unread::NoPacket)?;
-    let cut = read_cut(alloc, two.rest)?;
+    let Some(numbered) = read_numbered(numbers) else {
+        return Err(Unread::NoPacket);
+    };
+    let cut = read_cut(alloc, numbered.rest)?;
     Ok(Packet::Accept {
-        period,
-        ballot,
+        period: numbered.period,
+        ballot: numbered.ballot,
         cut,
     })
 }
 
 /// An Accepted from its numbers and its cut.
+#[tactic(auto, using(crate::proofs::NumberSteps::accepted_by))]
 fn read_accepted(alloc: Global, numbers: &[u8]) -> Result<Packet, Unread>
     ensures { MatchResult result
         (λ packet. accepted_in (fields_in numbers.now) ≡ Some (packet_of packet))
         (λ why. IfNoPacket why (accepted_in (fields_in numbers.now) ≡ None)) }
 {
     let (from, rest) = split_at_bar(numbers).ok_or(Unread::NoPacket)?;
-    let two = two_fields(rest).ok_or(Unread::NoPacket)?;
     let from = read_node(from).ok_or(Unread::NoPacket)?;
-    let period = read_period(two.first).ok_or(Unread::NoPacket)?;
-    let ballot = read_ballot(two.second).ok_or(Unread::NoPacket)?;
-    let cut = read_cut(alloc, two.rest)?;
+    let Some(numbered) = read_numbered(rest) else {
+        return Err(Unread::NoPacket);
+    };
+    let cut = read_cut(alloc, numbered.rest)?;
     Ok(Packet::Accepted {
         from,
-        period,
-        ballot,
+        period: numbered.period,
+        ballot: numbered.ballot,
         cut,
     })
 }

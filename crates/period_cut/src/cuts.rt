@@ -1,6 +1,8 @@
 //! Cuts: how far each agent's batches are charged.
 ghost use Rattle.std.specs.Prelude.{◌≡◌, ◌-◌, ◌≤◌, ◌↔◌, ◌++◌, decimal, length, map, IfOk, IsTrue, OnOk, OnErr, slice_set};
+ghost use Rattle.std.specs.Arc.{arc_value};
 ghost use Rattle.std.specs.List.{join_with_byte};
+ghost use Rattle.std.specs.Option.{option_map};
 ghost use Rattle.metering_model.specs.BatchReading.{fields_in};
 ghost use Rattle.metering_model.specs.Cut.{IsAtLeast, last_of, zero_cut};
 ghost use Rattle.metering_model.specs.KeptText.{cut_in};
@@ -11,6 +13,7 @@ ghost use Rattle.period_cut.specs.Inner.Entries.{HasBehind};
 use byte_text::{put_number, put_numbered, read_whole, split_at_bar};
 use std::alloc::{AllocError, Global};
 use std::marker::Model;
+use std::sync::Arc;
 
 /// No batch has a sequence above this one.
 const LAST_SEQUENCE: u32 = 1_000_000;
@@ -96,6 +99,26 @@ impl Cut {
         };
         entries.push(seq)?;
         Ok(Some(Cut { entries }))
+    }
+
+    /// The cut that `read` reads, to be shared. An error is an allocation failure.
+    pub fn read_shared(
+        alloc: Global,
+        line: &[u8],
+        agents: u8,
+    ) -> Result<Option<Arc<Cut>>, AllocError>
+        requires from { 1 ≤ agents }
+        requires to { agents ≤ most_agents }
+        ensures { IfOk result
+            (λ cut. option_map arc_value cut ≡ cut_in agents (fields_in line.now)) }
+    {
+        let Some(cut) = Cut::read(alloc, line, agents)? else {
+            return Ok(None);
+        };
+        match Arc::new(alloc, cut) {
+            Ok(cut) => Ok(Some(cut)),
+            Err(_) => Err(AllocError),
+        }
     }
 
     /// Its line, as `read` takes it, without a line feed. An error is an allocation failure.
