@@ -1,3 +1,4 @@
 pub mod FocusRows
+pub mod Inner
 pub mod PeriodTexts
 pub mod Regions

@@ -4,6 +4,7 @@ ghost use Rattle.std.specs.Prelude.{◌≡◌, None, Some, codes, option_map};
 ghost use Rattle.std.specs.Option.{option_copied, option_map_or};
 ghost use Rattle.metering_model.specs.Sheet.{service_category_text};
 ghost use Rattle.metering_model.specs.Row.{by_kind};
+ghost use Rattle.charge_row.specs.Inner.Prices.{GivesColumns};
 
 use crate::words::service_category_text;
 use metering_model::Kind;
@@ -35,14 +36,7 @@ pub(crate) fn price_columns<'a>(
     ensures service_category { result.service_category.now
         ≡ option_map_or (λ p. service_category_text p.category) (option_copied price.entry)
         (codes "Other") }
-    ensures sku { option_copied result.sku ≡ option_map (λ p. p.sku) (option_copied price.entry) }
-    ensures price_id { option_copied result.price_id
-        ≡ option_map (λ p. p.price_id) (option_copied price.entry) }
-    ensures pricing_unit { option_copied result.pricing_unit
-        ≡ option_map (λ p. p.pricing_unit) (option_copied price.entry) }
-    ensures list { result.list ≡ option_map (λ p. p.list) (option_copied price.entry) }
-    ensures contracted { result.contracted
-        ≡ option_map (λ p. p.contracted) (option_copied price.entry) }
+    ensures gives { GivesColumns (option_copied price.entry) result }
 {
     match price {
         Some(price) => PriceColumns {
