@@ -1,7 +1,14 @@
 -- Rows to which others were put.
-use Rattle.std.proofs.Common.{◌≡◌, List, [], ◌++◌, sym, ap, ◌∙◌, append_assoc, append-nil}
+use Rattle.std.proofs.Common.{◌≡◌, List, [], ◌∷◌, ◌++◌, map, Option, Some, sym, ap, ◌∙◌, append_assoc, append-nil}
+use Rattle.std.specs.List.{cons_option}
+use Rattle.std.proofs.lemmas.List.{map-append}
+use Rattle.std.proofs.lemmas.List.Elements.{All-push, All-same}
+use Rattle.metering_model.specs.Sheet.{Sheet}
+use Rattle.metering_model.specs.Row.{Row}
+use Rattle.charge_row.specs.FocusRows.{model_row}
 use Rattle.charge_row.specs.declared.columns.FocusRow.{FocusRow}
-use Rattle.focus_row.specs.Inner.Beginnings.{BeginsWith}
+use Rattle.focus_row.specs.Inner.Beginnings.{BeginsWith, IsPutBehind}
+use Rattle.focus_row.specs.Inner.Near.{AreNamed, HasItsName}
 
 -- rows begin with themselves
 pub begins_itself : (rows : List FocusRow) → BeginsWith rows rows
@@ -11,6 +18,14 @@ begins_itself rows = ([], sym (append-nil rows))
 pub begins_longer : (rows longer begun : List FocusRow) → BeginsWith rows longer → BeginsWith longer begun → BeginsWith rows begun
 begins_longer rows longer begun of before = (before.0 ++ of.0, of.1 ∙ ap (λ r. r ++ of.0) before.1 ∙ append_assoc begun before.0 of.0)
 
--- rows that are as before
-pub same_begins : (rows begun : List FocusRow) → rows ≡ begun → BeginsWith rows begun
-same_begins rows begun same = ([], same ∙ sym (append-nil begun))
+-- one row more, which is that of a charge
+pub put_behind : {sheet : Sheet} {charge : Option Row} {begun rows : List FocusRow} (row : FocusRow) → rows ≡ begun ++ row ∷ [] → Some (model_row row) ≡ charge
+    → AreNamed sheet begun → HasItsName sheet row → IsPutBehind sheet charge begun rows
+put_behind {sheet} {charge} {begun} {rows} row pushed is named own = record {
+  row =
+      ap (map model_row) pushed
+      ∙ map-append model_row begun (row ∷ [])
+      ∙ ap (λ o. map model_row begun ++ cons_option o []) is;
+  named = All-same (HasItsName sheet) _ _ pushed (All-push (HasItsName sheet) begun row named own);
+  begins = (row ∷ [], pushed);
+}

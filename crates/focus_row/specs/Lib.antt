@@ -1,2 +1,3 @@
+pub mod Cuts
 pub mod Inner
 pub mod Rows

@@ -16,8 +16,8 @@ ghost use Rattle.batch_view.specs.Lent.{model_reading, record_of};
 ghost use Rattle.journal_rules.specs.Stores.{position_of};
 ghost use Rattle.charge_row.specs.FocusRows.{model_row};
 ghost use Rattle.charge_row.specs.Regions.{IsNamed};
-ghost use Rattle.focus_row.specs.Inner.Left.{record_at, rows_behind};
-ghost use Rattle.focus_row.specs.Inner.Beginnings.{BeginsWith};
+ghost use Rattle.focus_row.specs.Inner.Left.{IsUpTo, IsWalk, WalksOn, record_at};
+ghost use Rattle.focus_row.specs.Inner.Beginnings.{BeginsWith, IsPutBehind};
 ghost use Rattle.focus_row.specs.Inner.Near.{AreNamed};
 
 use crate::between::BetweenCuts;
@@ -46,11 +46,9 @@ fn last_region<'a>(rows: &[FocusRow<'a>]) -> RegionColumns<'a>
 impl<'a> BetweenCuts<'a> {
     /// The value of a reading as of a sequence of its agent.
     fn value(&self, place: RecordPlace, upto: u32) -> Value
-        requires from { 1 ≤ place.agent }
-        requires to { place.agent ≤ self.now.agents }
+        requires place { IsUpTo self.now.agents self.now.to (position_of place) }
         requires there { is_some (reading_at self.now.batches (position_of place)) ≡ true }
         requires upto { upto ≤ last_of self.now.to place.agent }
-        requires within { place.seq ≤ last_of self.now.to place.agent }
         ensures value { result ≡ value_at self.now.batches (position_of place) upto }
         ensures not_negative { (r : ModelReading)
             → reading_at self.now.batches (position_of place) ≡ Some r
@@ -68,11 +66,9 @@ impl<'a> BetweenCuts<'a> {
         reading: &Reading<'a>,
     ) -> FocusRow<'a>
         requires near { IsNamed self.now.sheet (option_copied near.id) (option_copied near.name) }
-        requires from { 1 ≤ place.agent }
-        requires to { place.agent ≤ self.now.agents }
+        requires place { IsUpTo self.now.agents self.now.to (position_of place) }
         requires there { reading_at self.now.batches (position_of place)
             ≡ Some (model_reading reading.now) }
-        requires within { place.seq ≤ last_of self.now.to place.agent }
         ensures row { model_row result
             ≡ row self.now.sheet self.now.issuer (model_reading reading.now) self.now.period New
             (pos 0)
@@ -101,11 +97,9 @@ impl<'a> BetweenCuts<'a> {
         reading: &Reading<'a>,
     ) -> Option<FocusRow<'a>>
         requires near { IsNamed self.now.sheet (option_copied near.id) (option_copied near.name) }
-        requires from { 1 ≤ place.agent }
-        requires to { place.agent ≤ self.now.agents }
+        requires place { IsUpTo self.now.agents self.now.from (position_of place) }
         requires there { reading_at self.now.batches (position_of place)
             ≡ Some (model_reading reading.now) }
-        requires within { place.seq ≤ last_of self.now.from place.agent }
         ensures row { option_map model_row result
             ≡ row_of_reading self.now.sheet self.now.issuer self.now.batches self.now.period
             self.now.from self.now.to (position_of place) (model_reading reading.now) }
@@ -144,18 +138,13 @@ impl<'a> BetweenCuts<'a> {
     ) -> Result<(), AllocError>
         requires named { AreNamed self.now.sheet rows.old.items }
         requires near { IsNamed self.now.sheet (option_copied near.id) (option_copied near.name) }
-        requires from { 1 ≤ place.agent }
-        requires to { place.agent ≤ self.now.agents }
+        requires place { IsUpTo self.now.agents self.now.from (position_of place) }
         requires there { reading_at self.now.batches (position_of place)
             ≡ Some (model_reading reading.now) }
-        requires within { place.seq ≤ last_of self.now.from place.agent }
-        ensures row { OnOk result
-            (map model_row rows.new.items ≡ map model_row rows.old.items
-            ++ cons_option (row_of_reading self.now.sheet
-            self.now.issuer self.now.batches self.now.period self.now.from self.now.to
-            (position_of place) (model_reading reading.now)) []) }
-        ensures named { OnOk result (AreNamed self.now.sheet rows.new.items) }
-        ensures begins { BeginsWith rows.new.items rows.old.items }
+        ensures put { OnOk result (IsPutBehind self.now.sheet
+            (row_of_reading self.now.sheet self.now.issuer self.now.batches self.now.period
+            self.now.from self.now.to (position_of place) (model_reading reading.now))
+            rows.old.items rows.new.items) }
         ensures kept { OnErr result (rows.new.items ≡ rows.old.items) }
     {
         let Some(row) = self.correction(near, place, reading) else {
@@ -176,18 +165,13 @@ impl<'a> BetweenCuts<'a> {
         what: &Record<'a>,
     ) -> Result<(), AllocError>
         requires near { AreNamed self.now.sheet rows.old.items }
-        requires from { 1 ≤ place.agent }
-        requires to { place.agent ≤ self.now.agents }
+        requires place { IsUpTo self.now.agents self.now.to (position_of place) }
         requires there { record_at self.now.batches (position_of place)
             ≡ Some (record_of what.now) }
-        requires within { place.seq ≤ last_of self.now.to place.agent }
-        ensures row { OnOk result
-            (map model_row rows.new.items ≡ map model_row rows.old.items
-            ++ cons_option (row_of self.now.sheet
-            self.now.issuer self.now.batches self.now.period self.now.from self.now.to
-            (position_of place) (record_of what.now)) []) }
-        ensures named { OnOk result (AreNamed self.now.sheet rows.new.items) }
-        ensures begins { BeginsWith rows.new.items rows.old.items }
+        ensures put { OnOk result (IsPutBehind self.now.sheet
+            (row_of self.now.sheet self.now.issuer self.now.batches self.now.period
+            self.now.from self.now.to (position_of place) (record_of what.now))
+            rows.old.items rows.new.items) }
         ensures kept { OnErr result (rows.new.items ≡ rows.old.items) }
     {
         let Record::Reading(reading) = what else {
@@ -216,24 +200,10 @@ impl<'a> BetweenCuts<'a> {
         limit: usize,
     ) -> Result<u16, AllocError>
         requires near { AreNamed self.now.sheet rows.old.items }
-        requires agent_from { 1 ≤ agent }
-        requires agent_to { agent ≤ self.now.agents }
-        requires within { seq ≤ last_of self.now.to agent }
-        requires held { held self.now.batches agent seq ≡ Some (batch_of batch.now) }
-        requires records { from ≤ length (batch_of batch.now).records }
-        ensures rows { IfOk result
-            (λ to. map model_row rows.new.items
-            ++ rows_behind self.now agent seq to (batch_of batch.now)
-            ≡ map model_row rows.old.items
-            ++ rows_behind self.now agent seq from (batch_of batch.now)) }
-        ensures within { IfOk result (λ to. to ≤ length (batch_of batch.now).records) }
-        ensures ends { IfOk result
-            (λ to. (to ≡ length (batch_of batch.now).records) ⊎ (limit ≤ length rows.new.items)) }
-        ensures further { IfOk result
-            (λ to. from < length (batch_of batch.now).records → length rows.old.items < limit
-            → from < to) }
-        ensures most { IfOk result
-            (λ _. length rows.old.items ≤ limit → length rows.new.items ≤ limit) }
+        requires walk { IsWalk self.now agent seq from (batch_of batch.now) }
+        ensures on { IfOk result
+            (λ to. WalksOn self.now agent seq (batch_of batch.now) from to limit
+            rows.old.items rows.new.items) }
         ensures begins { BeginsWith rows.new.items rows.old.items }
     {
         let count = batch.count();

@@ -6,7 +6,7 @@ ghost use Rattle.metering_model.specs.Limits.{most_records, most_agents, last_se
 ghost use Rattle.metering_model.specs.Cut.{last_of};
 ghost use Rattle.metering_model.specs.Rows.{rows};
 ghost use Rattle.charge_row.specs.FocusRows.{model_row};
-ghost use Rattle.focus_row.specs.Inner.Left.{IsWithin, rows_left, rows_of_batch, rows_of_place};
+ghost use Rattle.focus_row.specs.Inner.Left.{IsNextBatch, IsWithin, rows_left, rows_of_batch, rows_of_place};
 
 use crate::between::BetweenCuts;
 use crate::places::next_named;
@@ -97,15 +97,10 @@ impl<'a> BetweenCuts<'a> {
     fn next_stop(&self, agent: u8, seq: u32) -> Option<(u8, u32)>
         requires from { 1 ≤ agent }
         requires first { 1 ≤ seq }
-        ensures agent { IfSome result
-            (λ stop. (agent ≤ stop.0) × (stop.0 ≤ self.now.agents) × (stop.0 ≤ most_agents)) }
-        ensures seq { IfSome result
-            (λ stop. (1 ≤ stop.1) × (stop.1 ≤ last_sequence)
-            × (stop.1 ≤ last_of self.now.to stop.0)) }
-        ensures behind { IfSome result (λ stop. stop.0 ≡ agent → seq ≤ stop.1) }
-        ensures some { IfSome result
-            (λ stop. rows_of_batch self.now stop.0 stop.1 ++ rows_left self.now stop.0 (stop.1 + 1)
-            ≡ rows_left self.now agent seq) }
+        ensures limits { IfSome result
+            (λ stop. (stop.0 ≤ most_agents) × (stop.1 ≤ last_sequence)) }
+        ensures next { IfSome result
+            (λ stop. IsNextBatch self.now agent seq (record { agent = stop.0; seq = stop.1 })) }
         ensures none { IfNone result (rows_left self.now agent seq ≡ []) }
     {
         let agents = self.store.agents();

@@ -8,6 +8,7 @@ ghost use Rattle.metering_model.specs.Step.{first_missing};
 ghost use Rattle.metering_model.specs.JournalRules.{MeetsJournalRules, first_broken};
 ghost use Rattle.metering_model.specs.Rows.{rows};
 ghost use Rattle.charge_row.specs.FocusRows.{model_row};
+ghost use Rattle.focus_row.specs.Cuts.{AreCuts};
 
 use crate::between::rows_between;
 use charge_row::{Cut, FocusRow, Period};
@@ -44,8 +45,7 @@ pub fn rows_of<'a>(
     from: &'a Cut,
     to: &'a Cut,
 ) -> Result<Vec<FocusRow<'a>>, RowFault>
-    requires agents { length to.now ≡ store.now.agents }
-    requires grows { IsAtLeast to.now from.now }
+    requires cuts { AreCuts store.now.agents from.now to.now }
     ensures rows { IfOk result (λ all. map model_row all.items
         ≡ rows sheet.now issuer.now store.now.batches period from.now to.now) }
     ensures whole { IfOk result (λ _. (first_missing store.now.batches to.now ≡ None)

@@ -1,5 +1,5 @@
 -- The rows of the batches up to a cut from an agent's sequence on.
-use Rattle.std.specs.Prelude.{◌≡◌, ◌≤◌, ℕ, List, [], map, length, drop, Option, Some, None, slice_get}
+use Rattle.std.specs.Prelude.{◌≡◌, ◌≤◌, ◌<◌, ◌+◌, ◌⊎◌, ℕ, List, [], ◌++◌, map, length, drop, Option, Some, None, slice_get}
 use Rattle.std.specs.List.{filter_map}
 use Rattle.std.specs.Option.{option_and_then}
 use Rattle.metering_model.specs.Batch.{Batch, Record}
@@ -11,6 +11,8 @@ use Rattle.metering_model.specs.JournalRules.{MeetsJournalRules}
 use Rattle.metering_model.specs.Row.{Row}
 use Rattle.metering_model.specs.Rows.{placed_row}
 use Rattle.journal_rules.specs.Stores.{IsStored}
+use Rattle.charge_row.specs.FocusRows.{model_row}
+use Rattle.charge_row.specs.declared.columns.FocusRow.{FocusRow}
 use Rattle.focus_row.specs.declared.due_batches.BatchPlace.{BatchPlace}
 use Rattle.journal_rules.specs.Inner.Left.{left, placed_from}
 
@@ -34,6 +36,12 @@ pub record MayBeCharged (b : Between) : Type 0 where
   pub grows : IsAtLeast b.to b.from
   pub whole : first_missing b.batches b.to ≡ None
   pub met : MeetsJournalRules b.sheet (up_to b.to b.batches)
+
+-- The place is one of the agents', up to a cut.
+pub record IsUpTo (agents : ℕ) (cut : Cut) (p : Position) : Type 0 where
+  pub from : 1 ≤ p.agent
+  pub to : p.agent ≤ agents
+  pub within : p.seq ≤ last_of cut p.agent
 
 -- the rows of these records
 abbrev pub rows_in : Between → List Placed → List Row
@@ -62,6 +70,13 @@ pub record IsWithin (b : Between) (p : BatchPlace) : Type 0 where
   pub first : 1 ≤ p.seq
   pub last : p.seq ≤ last_of b.to p.agent
 
+-- It is the first batch from an agent's sequence on that may have rows: these and those behind it are all that are left.
+pub record IsNextBatch (b : Between) (agent seq : ℕ) (p : BatchPlace) : Type 0 where
+  pub within : IsWithin b p
+  pub from_agent : agent ≤ p.agent
+  pub from_seq : p.agent ≡ agent → seq ≤ p.seq
+  pub left : rows_of_place b p ++ rows_left b p.agent (p.seq + 1) ≡ rows_left b agent seq
+
 -- the rows of the batch's records from that index on
 abbrev pub rows_behind : Between → ℕ → ℕ → ℕ → Batch → List Row
 rows_behind b agent seq index x = rows_in b (placed_from agent seq index (drop index x.records))
@@ -73,3 +88,12 @@ pub record IsWalk (b : Between) (agent seq index : ℕ) (x : Batch) : Type 0 whe
   pub last : seq ≤ last_of b.to agent
   pub held : held b.batches agent seq ≡ Some x
   pub within : index ≤ length x.records
+
+-- A walk over the rows of that batch goes on from an index to another, and puts those in between behind others. It ends where
+-- there are as many rows as the limit, or no record is left.
+pub record WalksOn (b : Between) (agent seq : ℕ) (x : Batch) (from to limit : ℕ) (begun rows : List FocusRow) : Type 0 where
+  pub put : map model_row rows ++ rows_behind b agent seq to x ≡ map model_row begun ++ rows_behind b agent seq from x
+  pub within : to ≤ length x.records
+  pub ends : (to ≡ length x.records) ⊎ (limit ≤ length rows)
+  pub further : from < length x.records → length begun < limit → from < to
+  pub most : length begun ≤ limit → length rows ≤ limit

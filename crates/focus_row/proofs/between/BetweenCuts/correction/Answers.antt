@@ -21,7 +21,7 @@ returns-then-not-is_named-clause-row c =
     let ps = map position_of c.self.inside.amended.items in
     let am : AreAmended s.batches s.from s.to ps = subst (λ (b : Between). AreAmended b.batches b.from b.to ps) c.self.view_is c.self.invariant.2 in
     let place = position_of c.args.place in
-    no_row_unnamed s may place (model_reading c.args.reading.now) c.requires.within (λ has.
+    no_row_unnamed s may place (model_reading c.args.reading.now) c.requires.place.within (λ has.
     both_ways c.is_named.result c.if-not-is_named.true
     (c.is_named.ensures.1 (subst (λ xs. Contains (map position_of xs) place) (sym c.deref.ensures.value) ((am.each place).1 has))))
 
@@ -50,4 +50,4 @@ returns-clause-row c =
     let charged : model_row c.row.result ≡ row s.sheet s.issuer reading s.period Correction c.value-was.result c.value-now.result =
     subst (λ (b : Between). model_row c.row.result ≡ row b.sheet b.issuer reading b.period Correction c.value-was.result c.value-now.result) c.self.view_is
     (c.row.ensures.row c.self.inside.period c.self.invariant.1) in
-    row_corrected s place reading _ _ _ c.requires.within was now other charged
+    row_corrected s place reading _ _ _ c.requires.place.within was now other charged

@@ -13,11 +13,10 @@ loop-next_agent-preserved c =
     let place : BatchPlace = record { agent = c.in-Some.next_agent; seq = c.in-Some.next_seq } in
     let pushed : c.push.new.self.items ≡ c.loop-next_agent.places.items ++ place ∷ [] = c.in_ok-push.ensures.items in
     record {
-      agent_from = omega (arith, so.agent_from, of.agent.0);
-      agent_to = of.agent.2;
+      agent_from = omega (arith, so.agent_from, of.next.from_agent);
+      agent_to = of.limits.0;
       seq_from = omega arith;
-      seq_to = omega (arith, of.seq.1);
-      within = All-same (IsWithin s) _ _ pushed (All-push (IsWithin s) c.loop-next_agent.places.items place so.within
-          (record { from = omega (arith, so.agent_from, of.agent.0); to = of.agent.1; first = of.seq.0; last = of.seq.2 }));
-      all = one_more_batch s c.loop-next_agent.places.items _ place _ _ pushed of.some so.all;
+      seq_to = omega (arith, of.limits.1);
+      within = All-same (IsWithin s) _ _ pushed (All-push (IsWithin s) c.loop-next_agent.places.items place so.within of.next.within);
+      all = one_more_batch s c.loop-next_agent.places.items _ place _ _ pushed of.next.left so.all;
     }

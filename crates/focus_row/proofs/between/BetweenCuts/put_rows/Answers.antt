@@ -15,10 +15,10 @@ pub loop-index-preserved : goal.loop-index-preserved
 loop-index-preserved c =
     let records = (batch_of c.args.batch.now).records in
     let i = c.loop-index.index in (
-      c.in_ok-put_row.ensures.named,
+      c.in_ok-put_row.ensures.put.named,
       next_record c.args.self.now c.args.agent c.args.seq i (record_of c.in-Some.record) (drop i records) (drop (i + 1) records)
-          (left_at records i (record_of c.in-Some.record) c.in-Some.ensures.record) _ c.loop-index.rows.items c.put_row.new.rows.items c.in_ok-put_row.ensures.row c.loop-index.invariant.1,
+          (left_at records i (record_of c.in-Some.record) c.in-Some.ensures.record) _ c.loop-index.rows.items c.put_row.new.rows.items c.in_ok-put_row.ensures.put.row c.loop-index.invariant.1,
       λ same. absurd (omega arith),
-      λ few. let more = one_row_more _ c.loop-index.rows.items c.put_row.new.rows.items c.in_ok-put_row.ensures.row in omega arith,
-      begins_longer _ _ _ c.put_row.ensures.begins c.loop-index.invariant.4,
+      λ few. let more = one_row_more _ c.loop-index.rows.items c.put_row.new.rows.items c.in_ok-put_row.ensures.put.row in omega arith,
+      begins_longer _ _ _ c.in_ok-put_row.ensures.put.begins c.loop-index.invariant.4,
     )

@@ -14,4 +14,4 @@ returns-clause-not_negative c r found priced =
     let s = c.args.self.now in
     let may : MayBeCharged s = subst MayBeCharged c.self.view_is c.self.invariant.0 in
     let is : c.unwrap.result ≡ value_at s.batches (position_of c.args.place) c.args.upto = search rules in
-    subst (λ v. pos 0 ≤ℤ v) (sym is) (not_negative_at s may (position_of c.args.place) r c.args.upto found priced c.requires.within c.requires.upto)
+    subst (λ v. pos 0 ≤ℤ v) (sym is) (not_negative_at s may (position_of c.args.place) r c.args.upto found priced c.requires.place.within c.requires.upto)

@@ -5,7 +5,7 @@ use Rattle.focus_row.proofs.walk.BatchRows.next_rows.Goals as goal
 pub returns-clause-most : goal.returns-clause-most
 returns-clause-most c =
     let none = ap length (c.in_ok-reserve_exact.ensures.items ∙ c.clear.ensures.items) in
-    c.in-Ok.ensures.most (omega arith)
+    c.in-Ok.ensures.on.most (omega arith)
 
 -- what was put before memory was refused is taken out again
 pub returns-in_default-clause-empty : goal.returns-in_default-clause-empty
