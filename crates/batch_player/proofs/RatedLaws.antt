@@ -1,7 +1,6 @@
 -- What an input comes to: first its sections, and then its batch.
 use Rattle.std.proofs.Common.{◌≡◌, ◌≢◌, ℕ, ◌<◌, List, length, Option, Some, None, Result, Ok, Err, OnOk, IfSome, refl, sym, ap, ◌∙◌}
 use Rattle.metering_model.specs.FirstFailure.{◌>>=◌, holds_or}
-use Rattle.metering_model.specs.declared.Refusal.{Refusal}
 use Rattle.metering_model.specs.SheetRules.{IsSheet, IsIssuer}
 use Rattle.input_sections.specs.declared.faults.ScheduleCode.TheVariants.{TooLong}
 use Rattle.input_sections.specs.declared.faults.ScheduleFault.{ScheduleFault}
@@ -9,7 +8,7 @@ use Rattle.input_sections.specs.declared.faults.ScheduleFault.TheVariants as fau
 use Rattle.input_sections.specs.Sections.{Unread, whole_of}
 use Rattle.input_sections.specs.RateInput.{RateInput, rate_input_in}
 use Rattle.program_input.specs.declared.faults.PlayFault.{PlayFault}
-use Rattle.program_input.specs.declared.faults.PlayFault.TheVariants.{Schedule, Refused}
+use Rattle.program_input.specs.declared.faults.PlayFault.TheVariants.{Schedule}
 use Rattle.metering_model.specs.RatedAlone.{file_by}
 use Rattle.batch_player.specs.RateInput.{or_schedule, or_refused, rated_file}
 use Rattle.program_input.specs.Faults.{of_sections}

@@ -1,2 +1,4 @@
 pub mod RateInput
 pub mod Charges
+pub mod Files
+pub mod Inner

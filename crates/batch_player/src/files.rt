@@ -1,15 +1,12 @@
 //! Files, rendered batch by batch.
 
-ghost use Rattle.std.specs.Prelude.{◌≡◌, All, length, IfOk, None};
-ghost use Rattle.metering_model.specs.Cut.{IsAtLeast};
-ghost use Rattle.metering_model.specs.Dates.{IsPeriod};
-ghost use Rattle.metering_model.specs.Holding.{Holding, IsHolding, IsPartOf, LacksNothingUpTo, up_to};
+ghost use Rattle.std.specs.Prelude.{◌≡◌, All, IfOk};
+ghost use Rattle.metering_model.specs.Holding.{Holding, IsHolding, IsPartOf, LacksNothingUpTo};
 ghost use Rattle.metering_model.specs.Front.{AreDueBetween};
-ghost use Rattle.metering_model.specs.Step.{first_missing};
-ghost use Rattle.metering_model.specs.JournalRules.{MeetsJournalRules};
 ghost use Rattle.metering_model.specs.Rows.{rows};
 ghost use Rattle.metering_model.specs.File.{file};
 ghost use Rattle.row_laws.specs.Due.{WereDueBefore, StartsBeforeItsPeriodEnds};
+ghost use Rattle.batch_player.specs.Files.{MayBeCharged};
 
 use focus_csv::{put_file, rows_between};
 use journal_rules::Store;
@@ -30,10 +27,7 @@ pub fn file_between(
     from: &Cut,
     to: &Cut,
 ) -> Result<Vec<u8>, AllocError>
-    requires agents { length to.now ≡ store.now.agents }
-    requires grows { IsAtLeast to.now from.now }
-    requires whole { first_missing store.now.batches to.now ≡ None }
-    requires met { MeetsJournalRules sheet.now (up_to to.now store.now.batches) }
+    requires charged { MayBeCharged sheet.now store.now.agents store.now.batches from.now to.now }
     ensures file { IfOk result
         (λ text. text.items ≡ file
         (rows sheet.now issuer.now store.now.batches period from.now to.now)) }

@@ -20,6 +20,7 @@ ghost use Rattle.input_sections.specs.declared.faults.ScheduleFault.{ScheduleFau
 ghost use Rattle.metering_model.specs.RatedAlone.{file_by, journaled_in};
 ghost use Rattle.batch_player.specs.RateInput.{rated_file};
 ghost use Rattle.batch_player.specs.Charges.{IsFileOf};
+ghost use Rattle.batch_player.specs.Inner.Calls.{FailsAtWrites};
 ghost use Rattle.program_input.specs.Faults.{tells_of_reader, tells_of_writer};
 
 use crate::files::file_between;
@@ -107,9 +108,8 @@ fn rate_input_text<W: Sink>(
         → (fault ≢ ScheduleFault.OutOfMemory)
         × (rated_file period input.items ≡ Err (PlayFault.Schedule fault)) }
     ensures kept { IfErr result (λ fault. fault ≢ PlayFault.Write → writer.new ≡ writer.old) }
-    ensures writes { W.failed_calls writer.new
-        ≡ count_after (tells_of_writer result) (W.failed_calls writer.old) }
-    ensures no_read { result ≢ Err PlayFault.Read }
+    ensures calls { FailsAtWrites result (W.failed_calls writer.old)
+        (W.failed_calls writer.new) }
 {
     let given = match rate_input(alloc, &input) {
         Ok(given) => given,

@@ -15,4 +15,4 @@ returns-clause-journals c = λ journals holding part lacking.
     c.in_ok-put_file.ensures.put
     ∙ ap (λ t. t ++ file (joined c.in_ok-batches.batches)) c.new-text.ensures.items
     ∙ ap file (c.in_ok-batches.ensures ∙ c.rows_stay.ensures c.args.sheet.now c.args.issuer.now c.args.store.now.batches journals
-    c.args.period c.args.from.now c.args.to.now c.agents-agents.ensures.stored.is_holding holding part lacking c.requires.grows)
+    c.args.period c.args.from.now c.args.to.now c.agents-agents.ensures.stored.is_holding holding part lacking c.requires.charged.grows)
