@@ -1,5 +1,5 @@
 -- The rows of batches one behind the other, and what a batch takes off those that are left.
-use Rattle.std.proofs.Common.{◌≡◌, ℕ, ◌+◌, ◌≤◌, true, List, [], ◌∷◌, ◌++◌, refl, sym, ap, ◌∙◌, append_assoc, Option, Some, None, is_some}
+use Rattle.std.proofs.Common.{◌≡◌, ℕ, ◌+◌, ◌≤◌, true, List, [], ◌∷◌, ◌++◌, refl, sym, ap, ◌∙◌, append_assoc, Option, Some, None, is_some, subst}
 use Rattle.std.specs.List.{flat_map}
 use Rattle.std.proofs.lemmas.Grind.{flat_map-append}
 use Rattle.std.proofs.lemmas.List.{append-nil}
@@ -9,8 +9,13 @@ use Rattle.metering_model.specs.Holding.{held}
 use Rattle.metering_model.specs.Row.{Row}
 use Rattle.metering_model.proofs.MissingLaws.{held-up_to_where}
 use Rattle.focus_row.specs.declared.due_batches.BatchPlace.{BatchPlace}
-use Rattle.focus_row.specs.Inner.Left.{Between, MayBeCharged, rows_left, rows_of_held, rows_of_batch, rows_of_place}
+use Rattle.focus_row.specs.Inner.Left.{Between, IsWithin, MayBeCharged, rows_left, rows_of_held, rows_of_batch, rows_of_place}
 use Rattle.focus_row.proofs.StopLaws.{rows_first}
+
+-- a batch of one of the agents, up to the later cut, is there
+pub is_there : {b s : Between} {p : BatchPlace} → MayBeCharged b → b ≡ s → IsWithin s p → is_some (held b.batches p.agent p.seq) ≡ true
+is_there {b} {s} {p} may same within =
+    held-up_to_where b.batches b.to may.whole p.agent p.seq within.first (subst (λ (x : Between). p.seq ≤ last_of x.to p.agent) (sym same) within.last)
 
 module _ (s : Between) (may : MayBeCharged s) where
   -- a batch's rows, and those behind it

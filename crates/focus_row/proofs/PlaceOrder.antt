@@ -1,13 +1,26 @@
 -- Positions that rise.
-use Rattle.std.proofs.Common.{◌≡◌, ℕ, zero, suc, ◌+◌, ◌<◌, ◌≤◌, Bool, true, false, List, [], ◌∷◌, length, refl, sym, ap, subst, ◌∙◌, arith, Some, None, inl, inr}
+use Rattle.std.proofs.Common.{◌≡◌, ℕ, zero, suc, ◌+◌, ◌<◌, ◌≤◌, Bool, true, false, List, [], ◌∷◌, length, map, get_or, refl, sym, ap, subst, ◌∙◌, arith, Some, None, option_map, inl, inr}
 use Rattle.std.specs.Prelude.{slice_get}
 use Rattle.std.specs.List.{list_all, Contains}
 use Rattle.std.proofs.lemmas.Bool.{and_parts, and_from, both_ways, cases_lt}
 use Rattle.std.proofs.lemmas.Bool.Decides.{nat_tests}
-use Rattle.std.proofs.lemmas.Option.{same_Some, none-some, slice_get-get_or, get_or_from_slice_get, slice_get_within}
+use Rattle.std.proofs.lemmas.Option.{same_Some, none-some, slice_get-map, slice_get-get_or, slice_get_past, get_or_from_slice_get, slice_get_within}
 use Rattle.metering_model.specs.Holding.{Position}
-use Rattle.journal_rules.specs.Stores.{stands_before, rise}
+use Rattle.journal_rules.specs.declared.RecordPlace.{RecordPlace}
+use Rattle.journal_rules.specs.Stores.{position_of, stands_before, rise}
 use Rattle.focus_row.specs.Inner.Places.{IsFirstFrom, IsNextNamed, NoneNamed}
+
+-- the position of the place at an index
+pub position_at : (xs : List RecordPlace) (k : ℕ) (d : RecordPlace) → k < length xs → slice_get (map position_of xs) k ≡ Some (position_of (get_or xs k d))
+position_at xs k d inside = slice_get-map position_of xs k ∙ ap (option_map position_of) (slice_get-get_or xs k d inside)
+
+-- a place that was found at an index
+pub found_at : (xs : List RecordPlace) (k : ℕ) (x : RecordPlace) → (k < length xs) × ((d : RecordPlace) → x ≡ get_or xs k d) → slice_get (map position_of xs) k ≡ Some (position_of x)
+found_at xs k x (inside, is) = position_at xs k x inside ∙ ap (λ p. Some (position_of p)) (sym (is x))
+
+-- past the end there is none
+pub none_past : (xs : List RecordPlace) (k : ℕ) → length xs ≤ k → slice_get (map position_of xs) k ≡ None
+none_past xs k beyond = slice_get-map position_of xs k ∙ ap (option_map position_of) (slice_get_past xs k beyond)
 
 pub before-trans : (p q r : Position) → stands_before p q ≡ true → stands_before q r ≡ true → stands_before p r ≡ true
 before-trans p q r e f = grind (arith, nat_tests)
@@ -63,6 +76,13 @@ index_of ps p (k, inside, is) = (k, slice_get-get_or ps k p inside ∙ ap Some i
 contains_at : (ps : List Position) (k : ℕ) (p : Position) → slice_get ps k ≡ Some p → Contains ps p
 contains_at ps k p e = (k, slice_get_within ps k p e, get_or_from_slice_get ps k p p e)
 
+-- past their end there is none
+past : (ps : List Position) (i k : ℕ) → slice_get ps i ≡ None → i ≤ k → k < length ps → ⊥
+past [] i k e from inside = omega arith
+past (x ∷ ps) zero k e from inside = cc
+past (x ∷ ps) (suc i) zero e from inside = omega arith
+past (x ∷ ps) (suc i) (suc k) e from inside = past ps i k e (omega arith) (omega arith)
+
 not_before_itself : (p : Position) → stands_before p p ≡ false
 not_before_itself p = grind (arith, nat_tests)
 
@@ -101,12 +121,6 @@ module _ (ps : List Position) (p : Position) (at : ℕ) (first : IsFirstFrom ps 
       let from = stands_from found.0 p found.1 (not_before_itself p) in
       let inside = slice_get_within ps found.0 p found.1 in
       past ps at found.0 e from inside
-    where
-      past : (qs : List Position) (i k : ℕ) → slice_get qs i ≡ None → i ≤ k → k < length qs → ⊥
-      past [] i k e from inside = omega arith
-      past (x ∷ qs) zero k e from inside = cc
-      past (x ∷ qs) (suc i) zero e from inside = omega arith
-      past (x ∷ qs) (suc i) (suc k) e from inside = past qs i k e (omega arith) (omega arith)
 
 not_before_start : (p : Position) (agent seq : ℕ) → p.agent ≡ agent → seq ≤ p.seq → stands_before p (record { agent = agent; seq = seq; index = 0 }) ≡ false
 not_before_start p agent seq e from = grind (arith, nat_tests)
@@ -163,9 +177,3 @@ module _ (ps : List Position) (agent seq at : ℕ) (rises : rise ps ≡ true) (f
         let inside = slice_get_within ps found.0 p found.1 in
         past ps at found.0 e later inside;
   }
-    where
-      past : (qs : List Position) (i k : ℕ) → slice_get qs i ≡ None → i ≤ k → k < length qs → ⊥
-      past [] i k e from inside = omega arith
-      past (x ∷ qs) zero k e from inside = cc
-      past (x ∷ qs) (suc i) zero e from inside = omega arith
-      past (x ∷ qs) (suc i) (suc k) e from inside = past qs i k e (omega arith) (omega arith)

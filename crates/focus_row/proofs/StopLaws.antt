@@ -1,6 +1,6 @@
 -- The rows that are left from a place on: what may be passed over, and what a batch gives.
-use Rattle.std.proofs.Common.{◌≡◌, ℕ, zero, suc, ◌+◌, ◌<◌, ◌≤◌, ◌⊎◌, Bool, true, false, ◌&&◌, List, [], ◌∷◌, ◌++◌, length, map, filter, refl, sym, ap, subst, ◌∙◌, arith, append-nil, append_assoc, Option, Some, None, inl, inr, cond, nat_lt, nat_le, pos, option_map, ℤ, get_or, drop}
-use Rattle.std.specs.Prelude.{All, if◌then◌else◌, slice_get, ◌≤ℤ◌}
+use Rattle.std.proofs.Common.{◌≡◌, ℕ, zero, suc, ◌+◌, ◌<◌, ◌≤◌, Bool, true, false, ◌&&◌, List, [], ◌∷◌, ◌++◌, length, map, filter, refl, sym, ap, subst, ◌∙◌, arith, append-nil, append_assoc, Option, Some, None, inl, inr, cond, pos, ℤ, get_or}
+use Rattle.std.specs.Prelude.{◌⊎◌, ◌≤ℤ◌, All, if◌then◌else◌, drop, nat_lt, nat_le, option_map, slice_get}
 use Rattle.std.specs.List.{filter_map, cons_option, Contains}
 use Rattle.std.specs.Option.{option_and_then}
 use Rattle.std.proofs.lemmas.Bool.{cond-true, cond-false, cases_lt, cases_eq, and_parts, leb-true, le-ltb}

@@ -1,11 +1,10 @@
 //! The rows of one reading: a new one, or a Correction of what an earlier period charged.
 
-ghost use Rattle.std.specs.Prelude.{◌≡◌, ◌≤◌, ◌≤ℤ◌, ◌+◌, ◌-◌, ◌<◌, ◌++◌, ◌⊎◌, [], true, pos, length, map, option_map, Some, None, IfOk, IfSome, OnOk, OnErr};
-ghost use Rattle.std.specs.List.{cons_option};
+ghost use Rattle.std.specs.Prelude.{◌≡◌, ◌≤◌, ◌≤ℤ◌, ◌-◌, ◌<◌, true, pos, option_map, Some, None, IfOk, IfSome, OnOk, OnErr};
 ghost use Rattle.std.specs.Option.{is_some, option_copied};
 ghost use Rattle.metering_model.specs.Batch.{Reading as ModelReading, is_priced};
 ghost use Rattle.metering_model.specs.Cut.{last_of};
-ghost use Rattle.metering_model.specs.Holding.{held, reading_at};
+ghost use Rattle.metering_model.specs.Holding.{reading_at};
 ghost use Rattle.metering_model.specs.ValueAtSequence.{value_at};
 ghost use Rattle.metering_model.specs.declared.ChargeClass.TheVariants.{New, Correction};
 ghost use Rattle.metering_model.specs.Row.{row};

@@ -1,6 +1,6 @@
 //! Which batches have rows between two cuts.
 
-ghost use Rattle.std.specs.Prelude.{◌≡◌, ◌≤◌, ◌+◌, ◌-◌, ◌<◌, ◌++◌, [], map, All, Some, None, IfOk, IfSome, IfNone};
+ghost use Rattle.std.specs.Prelude.{◌≡◌, ◌≤◌, ◌+◌, ◌-◌, ◌<◌, [], map, All, Some, None, IfOk, IfSome, IfNone};
 ghost use Rattle.std.specs.List.{flat_map};
 ghost use Rattle.metering_model.specs.Limits.{most_records, most_agents, last_sequence};
 ghost use Rattle.metering_model.specs.Cut.{last_of};
@@ -37,10 +37,7 @@ impl<'a> BetweenCuts<'a> {
 
     /// As many rows as room is made for, where all of the batch of an agent at a sequence are made.
     pub(crate) fn estimated_rows(&self, agent: u8, seq: u32) -> usize
-        requires from { 1 ≤ agent }
-        requires to { agent ≤ self.now.agents }
-        requires first { 1 ≤ seq }
-        requires within { seq ≤ last_of self.now.to agent }
+        requires within { IsWithin self.now (record { agent = agent; seq = seq }) }
         ensures { result ≤ most_records }
     {
         let batch = self.store.batch_at(agent, seq);
@@ -54,10 +51,7 @@ impl<'a> BetweenCuts<'a> {
         agent: u8,
         seq: u32,
     ) -> Result<Vec<FocusRow<'a>>, AllocError>
-        requires from { 1 ≤ agent }
-        requires to { agent ≤ self.now.agents }
-        requires first { 1 ≤ seq }
-        requires within { seq ≤ last_of self.now.to agent }
+        requires within { IsWithin self.now (record { agent = agent; seq = seq }) }
         ensures { IfOk result (λ rows. map model_row rows.items
             ≡ rows_of_batch self.now agent seq) }
     {

@@ -1,9 +1,8 @@
 //! The rows of one batch, some at a time.
 
 ghost use Rattle.std.specs.Prelude.{◌≡◌, ◌==◌, ◌<◌, ◌≤◌, ◌⊎◌, [], ◌++◌, length, map, OnErr, OnOk, IsTrue};
-ghost use Rattle.metering_model.specs.Cut.{last_of};
 ghost use Rattle.charge_row.specs.FocusRows.{model_row};
-ghost use Rattle.focus_row.specs.Inner.Left.{rows_of_batch};
+ghost use Rattle.focus_row.specs.Inner.Left.{IsWithin, rows_of_batch};
 
 use crate::between::BetweenCuts;
 use batch_view::BatchView;
@@ -44,10 +43,7 @@ impl<'b, 'a> Model for BatchRows<'b, 'a> {
 impl<'b, 'a> BatchRows<'b, 'a> {
     /// The walk over the rows of the batch of an agent at a sequence, all of which are to come.
     pub(crate) fn of(cuts: &'b BetweenCuts<'a>, agent: u8, seq: u32) -> BatchRows<'b, 'a>
-        requires from { 1 ≤ agent }
-        requires to { agent ≤ cuts.now.agents }
-        requires first { 1 ≤ seq }
-        requires within { seq ≤ last_of cuts.now.to agent }
+        requires within { IsWithin cuts.now (record { agent = agent; seq = seq }) }
         ensures { result.rows ≡ rows_of_batch cuts.now agent seq }
     {
         BatchRows {

@@ -1,8 +1,7 @@
 //! All rows between two cuts, or why there are none.
 
-ghost use Rattle.std.specs.Prelude.{◌≡◌, ℕ, length, map, Some, None, Err, IfOk};
+ghost use Rattle.std.specs.Prelude.{◌≡◌, ℕ, map, Some, None, Err, IfOk};
 ghost use Rattle.metering_model.specs.declared.BrokenRule.{BrokenRule};
-ghost use Rattle.metering_model.specs.Cut.{IsAtLeast};
 ghost use Rattle.metering_model.specs.Holding.{records_in_order, up_to};
 ghost use Rattle.metering_model.specs.Step.{first_missing};
 ghost use Rattle.metering_model.specs.JournalRules.{MeetsJournalRules, first_broken};

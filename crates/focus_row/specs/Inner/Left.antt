@@ -70,7 +70,7 @@ pub record IsWithin (b : Between) (p : BatchPlace) : Type 0 where
   pub first : 1 ≤ p.seq
   pub last : p.seq ≤ last_of b.to p.agent
 
--- It is the first batch from an agent's sequence on that may have rows: these and those behind it are all that are left.
+-- The batch stands no earlier than an agent's sequence, and its rows and those behind it are all that are left from there.
 pub record IsNextBatch (b : Between) (agent seq : ℕ) (p : BatchPlace) : Type 0 where
   pub within : IsWithin b p
   pub from_agent : agent ≤ p.agent

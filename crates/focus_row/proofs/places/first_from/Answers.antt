@@ -1,14 +1,7 @@
-use Rattle.std.proofs.Common.{◌≡◌, ℕ, ◌<◌, ◌+◌, ◌-◌, ◌/◌, length, map, Some, get_or, ap, sym, ◌∙◌, option_map, arith}
-use Rattle.std.specs.Prelude.{List, slice_get}
-use Rattle.std.proofs.lemmas.Option.{slice_get-map, slice_get-get_or}
-use Rattle.journal_rules.specs.declared.RecordPlace.{RecordPlace}
+use Rattle.std.proofs.Common.{◌+◌, ◌-◌, ◌/◌, map, sym, ◌∙◌, arith}
 use Rattle.journal_rules.specs.Stores.{position_of}
-use Rattle.focus_row.proofs.PlaceOrder.{before_middle, behind_middle}
+use Rattle.focus_row.proofs.PlaceOrder.{before_middle, behind_middle, position_at}
 use Rattle.focus_row.proofs.places.first_from.Goals as goal
-
--- the position at an index within the places
-position_at : (xs : List RecordPlace) (k : ℕ) (d : RecordPlace) → k < length xs → slice_get (map position_of xs) k ≡ Some (position_of (get_or xs k d))
-position_at xs k d inside = slice_get-map position_of xs k ∙ ap (option_map position_of) (slice_get-get_or xs k d inside)
 
 pub loop-low-preserved-then-stands_before : goal.loop-low-preserved-then-stands_before
 loop-low-preserved-then-stands_before c =
