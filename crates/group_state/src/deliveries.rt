@@ -1,14 +1,14 @@
 //! A packet is delivered.
 
-ghost use Rattle.std.specs.Prelude.{◌≡◌, ◌<◌, ◌≤◌, Some, Err, length, map, slice_get, IfOk, OnErr, MatchOption};
+ghost use Rattle.std.specs.Prelude.{◌≡◌, ◌≤◌, Err, length, map, IfOk, OnErr, MatchOption};
 ghost use Rattle.metering_model.specs.Dates.{IsBaseMonth};
-ghost use Rattle.metering_model.specs.World.{Deliver, Packet as ModelPacket};
+ghost use Rattle.metering_model.specs.World.{Deliver};
 ghost use Rattle.metering_model.specs.Step.{on_delivery, step};
 ghost use Rattle.metering_model.specs.Limits.{most_packets};
-ghost use Rattle.group_node.specs.Packets.{IsPacketAmong, packet_of};
+ghost use Rattle.group_node.specs.Packets.{packet_of};
 ghost use Rattle.group_events.specs.Replies.{reply_of};
 ghost use Rattle.group_state.specs.Reached.{IsReached};
-ghost use Rattle.group_state.specs.Inner.Allowed.{HandsOver, MayDeliver};
+ghost use Rattle.group_state.specs.Inner.Allowed.{HandsOver, IsSentAmong, MayDeliver};
 
 use crate::GroupState;
 use group_events::Reply;
@@ -27,10 +27,8 @@ fn hand_over(
     base: Month,
 ) -> Result<Reply, AllocError>
     requires few { length packets.old.items ≤ most_packets }
-    requires there { k < length packets.old.items }
     requires base { IsBaseMonth base }
-    requires packet { (q : ModelPacket) → slice_get (map packet_of packets.old.items) k ≡ Some q
-        → IsPacketAmong node.old.voters node.old.agents q }
+    requires sent { IsSentAmong packets.old.items k node.old }
     ensures ok { IfOk result (λ reply.
         HandsOver base i k (map packet_of packets.old.items)
         (map packet_of packets.new.items) node.old node.new (reply_of reply)) }

@@ -1,5 +1,5 @@
 -- When an event is not refused, and what it does then.
-use Rattle.std.specs.Prelude.{◌≡◌, ℕ, ◌<◌, ◌≤◌, ◌++◌, [], List, length, Option, Some, None, true, slice_get, Ok}
+use Rattle.std.specs.Prelude.{◌≡◌, ℕ, ◌<◌, ◌≤◌, ◌++◌, [], List, length, map, Option, Some, None, true, slice_get, Ok}
 use Rattle.std.specs.Option.{is_some, option_map}
 use Rattle.std.specs.List.{cons_option}
 use Rattle.metering_model.specs.Batch.{Batch}
@@ -12,6 +12,8 @@ use Rattle.metering_model.specs.Deliveries.{handled}
 use Rattle.metering_model.specs.Step.{cut_before, first_missing, on_batch}
 use Rattle.metering_model.specs.Limits.{most_packets, most_periods, most_rounds}
 use Rattle.group_node.specs.Nodes.{NodeAmong}
+use Rattle.group_node.specs.Packets.{IsPacketAmong, packet_of}
+use Rattle.group_node.specs.declared.packets.Packet as group
 use Rattle.group_node.specs.Handling.{Does}
 
 -- The batch is of an agent of the world, and is journaled.
@@ -26,6 +28,11 @@ pub record MayDeliver (w : World) (k i : ℕ) : Type 0 where
   pub node : i < length w.nodes
   pub room : (n : Node) (q : Packet) → slice_get w.nodes i ≡ Some n → slice_get w.packets k ≡ Some q →
       is_some (handled w i n q).sends ≡ true → length w.packets < most_packets
+
+-- Packet k was sent, and is one among the voters and agents that a node knows of.
+pub record IsSentAmong (packets : List group.Packet) (k : ℕ) (n : NodeAmong) : Type 0 where
+  pub there : k < length packets
+  pub among : (q : Packet) → slice_get (map packet_of packets) k ≡ Some q → IsPacketAmong n.voters n.agents q
 
 -- A node took packet k, and what it sends stands behind the packets that were there.
 pub record HandsOver (base i k : ℕ) (before after : List Packet) (old new : NodeAmong) (reply : Reply) : Type 0 where

@@ -18,14 +18,19 @@ hand_over-requires-clause-few c =
     let size = length-map c.self.inside.packets.items packet_of in
     omega (arith, room, count, size)
 
-pub hand_over-requires-clause-packet : goal.hand_over-requires-clause-packet
-hand_over-requires-clause-packet c = λ q sent.
+pub hand_over-requires-clause-sent : goal.hand_over-requires-clause-sent
+hand_over-requires-clause-sent c =
     let may = c.in_default.ensures in
     let count = ap (λ (w : World). length w.nodes) c.self.view_is in
     let size = length-map c.self.inside.nodes.items (λ (n : NodeAmong). n.node) in
     let low : c.args.node < length c.self.inside.nodes.items = omega (arith, may.node, count, size) in
+    let sent_count = ap (λ (w : World). length w.packets) c.self.view_is in
+    let sent_size = length-map c.self.inside.packets.items packet_of in
     let member = member_here c.args.self.now _ _ c.args.node c.self.inside.nodes.items c.index_mut.result.now (ap (λ (w : World). w.voters) c.self.view_is) (ap (λ (w : World). w.agents) c.self.view_is) c.self.invariant low (rw (← c.from.ensures) c.index_mut.ensures.value) in
-    among_here c.args.self.now c.args.packet q c.index_mut.result.now c.requires.reached (ap (λ (w : World). slice_get w.packets c.args.packet) (sym c.self.view_is) ∙ sent) member
+    record {
+      there = omega (arith, may.packet, sent_count, sent_size);
+      among = λ q sent. among_here c.args.self.now c.args.packet q c.index_mut.result.now c.requires.reached (ap (λ (w : World). slice_get w.packets c.args.packet) (sym c.self.view_is) ∙ sent) member;
+    }
 
 pub returns-clause-ok : goal.returns-clause-ok
 returns-clause-ok c =
