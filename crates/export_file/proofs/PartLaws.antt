@@ -6,9 +6,9 @@ use Rattle.std.proofs.lemmas.Bool.{and_parts, cases_lt}
 use Rattle.std.proofs.lemmas.List.{append-nil, drop-drop, drop_all, length-drop, take-append-drop, take_all, take_more}
 use Rattle.std.proofs.lemmas.Grind.{flat_map-append}
 use Rattle.std.proofs.Math.Seq.{take-add}
-use Rattle.metering_model.specs.File.{row_text}
+use Rattle.metering_model.specs.File.{file, header_line, row_text}
 use Rattle.metering_model.specs.Row.{Row}
-use Rattle.focus_csv.specs.Rows.{batch_lines}
+use Rattle.focus_csv.specs.Rows.{batch_lines, joined}
 use Rattle.export_file.specs.declared.split.Room.{Room}
 use Rattle.export_file.specs.Parts.{part_of, texts_in}
 
@@ -100,6 +100,12 @@ rest_behind line rooms i =
     append_assoc (line ++ 10 ∷ []) (texts_in (take i rooms)) (texts_in (drop i rooms))
     ∙ ap (λ t. (line ++ 10 ∷ []) ++ t) (sym (flat_map-append (λ (room : Room). room.text.items) (take i rooms) (drop i rooms)) ∙ ap texts_in (take-append-drop i rooms))
     ∙ append_assoc line (10 ∷ []) (texts_in rooms)
+
+-- they hold the file behind its header line
+pub file_in : (batches : List (List Row)) (rooms made : List Room) → rooms ≡ made → texts_in made ≡ batch_lines batches → (header_line ++ 10 ∷ []) ++ batch_lines batches ≡ file (joined batches)
+    → header_line ++ 10 ∷ texts_in rooms ≡ file (joined batches)
+file_in batches rooms made same lines whole =
+    ap (λ t. header_line ++ 10 ∷ t) (ap texts_in same ∙ lines) ∙ sym (append_assoc header_line (10 ∷ []) (batch_lines batches)) ∙ whole
 
 -- what a change of all rooms leaves
 pub all_changed : (old new : List Room) (n : ℕ) → n ≡ length old → length new ≡ length old → take n (new ++ drop (length new) old) ≡ new

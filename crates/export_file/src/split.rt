@@ -1,15 +1,15 @@
 //! The file of a snapshot whose lines are made in several threads at once: parts of its batches, each in room of its
 //! own.
 
-ghost use Rattle.std.specs.Prelude.{◌≡◌, ◌≢◌, ℕ, ◌<◌, ◌≤◌, ◌*◌, ◌-◌, ◌++◌, ◌∷◌, [], length, min, slice_index_or, true, is_err, IsTrue, IfOk, IfErr, Err, OnOk, OnErr};
+ghost use Rattle.std.specs.Prelude.{◌≡◌, ◌≢◌, ℕ, ◌<◌, ◌≤◌, ◌*◌, ◌-◌, ◌++◌, ◌∷◌, [], length, min, slice_index_or, true, is_err, IsTrue, IfOk, IfErr, OnOk, OnErr};
 ghost use Rattle.std.specs.List.{flat_map, list_all};
 ghost use Rattle.std.specs.Io.KnownBytes.{Appends};
 ghost use Rattle.counted_io.specs.Counts.{Rises, count_after};
 ghost use Rattle.counted_io.specs.Writing.{AppendsPrefix};
 ghost use Rattle.metering_model.specs.File.{file, header_line};
 ghost use Rattle.focus_csv.specs.Rows.{batch_lines, joined};
-ghost use Rattle.focus_csv.specs.Faults.{is_sink_fault};
 ghost use Rattle.export_file.specs.Parts.{part_of, texts_in};
+ghost use Rattle.export_file.specs.Inner.Writing.{Writes};
 
 use counted_io::{Failed, Sink, write_all};
 use focus_csv::laws::a_file_is_written_in_parts;
@@ -195,14 +195,8 @@ fn write_unsplit<W: Sink>(
     batches: &RowsBetween<'_>,
     sink: &mut W,
 ) -> Result<(), CsvFault>
-    ensures written { OnOk result
-        (Appends (W.contents sink.old) (W.contents sink.new) (file (joined batches.now))) }
-    ensures prefix { result ≡ Err CsvFault.Write
-        → AppendsPrefix (W.contents sink.old) (W.contents sink.new) (file (joined batches.now)) }
-    ensures fault { result ≡ Err CsvFault.Write
-        → Rises (W.failed_calls sink.old) (W.failed_calls sink.new) }
-    ensures count { W.failed_calls sink.new
-        ≡ count_after (is_sink_fault result) (W.failed_calls sink.old) }
+    ensures writes { Writes result (W.contents sink.old) (W.contents sink.new)
+        (W.failed_calls sink.old) (W.failed_calls sink.new) (file (joined batches.now)) }
     ensures kept { IfErr result (λ fault. fault ≢ CsvFault.Write → sink.new ≡ sink.old) }
 {
     let Ok(text) = file_text(alloc, batches) else {
@@ -239,14 +233,8 @@ pub(crate) fn write_split<W: Sink>(
     batches: &RowsBetween<'_>,
     sink: &mut W,
 ) -> Result<(), CsvFault>
-    ensures written { OnOk result
-        (Appends (W.contents sink.old) (W.contents sink.new) (file (joined batches.now))) }
-    ensures prefix { result ≡ Err CsvFault.Write
-        → AppendsPrefix (W.contents sink.old) (W.contents sink.new) (file (joined batches.now)) }
-    ensures fault { result ≡ Err CsvFault.Write
-        → Rises (W.failed_calls sink.old) (W.failed_calls sink.new) }
-    ensures count { W.failed_calls sink.new
-        ≡ count_after (is_sink_fault result) (W.failed_calls sink.old) }
+    ensures writes { Writes result (W.contents sink.old) (W.contents sink.new)
+        (W.failed_calls sink.old) (W.failed_calls sink.new) (file (joined batches.now)) }
     ensures kept { IfErr result (λ fault. fault ≢ CsvFault.Write → sink.new ≡ sink.old) }
 {
     a_file_is_written_in_parts();

@@ -1,0 +1,2 @@
+-- Words that the public clauses don't cite.
+pub mod Writing
