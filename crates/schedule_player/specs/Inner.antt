@@ -1,2 +1,3 @@
 pub mod Playing
 pub mod Held
+pub mod Writing

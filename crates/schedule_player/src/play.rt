@@ -15,6 +15,7 @@ ghost use Rattle.schedule_reader.specs.Events.{HasWholeLines};
 ghost use Rattle.program_input.specs.Faults.{tells_of_reader, tells_of_writer};
 ghost use Rattle.schedule_player.specs.Transcripts.{IsPrefixOfTranscript, IsTranscriptOf, replies_to};
 ghost use Rattle.schedule_player.specs.Inner.Playing.{AppendsFirst, read_of};
+ghost use Rattle.schedule_player.specs.Inner.Writing.{Writes, WritesTranscript};
 
 use crate::playing::play_events;
 use counted_io::{Sink, Source};
@@ -57,10 +58,8 @@ fn play_schedule<W: Sink>(
     requires nodes { (1 ≤ schedule.voters) × (schedule.voters + schedule.observers ≤ most_nodes) }
     requires agents { (1 ≤ schedule.agents) × (schedule.agents ≤ most_agents) }
     requires lines { All HasWholeLines schedule.events.items }
-    ensures played { OnOk result (Appends (W.contents writer.old) (W.contents writer.new)
-        (transcript (replies_to (read_of schedule.entry) (read_of schedule.entry).events))) }
-    ensures prefix { result ≡ Err PlayFault.Write
-        → AppendsPrefix (W.contents writer.old) (W.contents writer.new)
+    ensures writes { Writes result (W.contents writer.old) (W.contents writer.new)
+        (W.failed_calls writer.old) (W.failed_calls writer.new)
         (transcript (replies_to (read_of schedule.entry) (read_of schedule.entry).events)) }
     ensures memory { result ≡ Err PlayFault.OutOfMemory
         → Keeps (W.contents writer.old) (W.contents writer.new)
@@ -68,8 +67,6 @@ fn play_schedule<W: Sink>(
         (opening schedule.entry.voters schedule.entry.observers schedule.entry.agents
         schedule.entry.sheet schedule.entry.issuer)
         schedule.entry.events.items }
-    ensures count { W.failed_calls writer.new
-        ≡ count_after (tells_of_writer result) (W.failed_calls writer.old) }
     ensures others { (result ≢ Err PlayFault.Read)
         × ((fault : ScheduleFault) → result ≢ Err (PlayFault.Schedule fault))
         × ((refusal : Refusal) → result ≢ Err (PlayFault.Refused refusal)) }
@@ -97,22 +94,14 @@ fn play_schedule<W: Sink>(
 
 /// Plays the schedule that an input is, and writes its transcript.
 fn play_input<W: Sink>(alloc: Global, input: &[u8], writer: &mut W) -> Result<(), PlayFault>
-    ensures transcript { OnOk result
-        ((text : List ℕ) × IsTranscriptOf (Some input.now) input.now text
-        × Appends (W.contents writer.old) (W.contents writer.new) text) }
-    ensures prefix { result ≡ Err PlayFault.Write → (text : List ℕ)
-        × IsTranscriptOf (Some input.now) input.now text
-        × AppendsPrefix (W.contents writer.old) (W.contents writer.new) text }
+    ensures writes { WritesTranscript result input.now
+        (W.contents writer.old) (W.contents writer.new)
+        (W.failed_calls writer.old) (W.failed_calls writer.new) }
     ensures section { (fault : ScheduleFault) → result ≡ Err (PlayFault.Schedule fault)
         → (fault ≢ ScheduleFault.OutOfMemory) × (schedule_in input.now ≡ Err fault) }
-    ensures memory { result ≡ Err PlayFault.OutOfMemory → (text : List ℕ)
-        × IsPrefixOfTranscript (Some input.now) input.now text
-        × Appends (W.contents writer.old) (W.contents writer.new) text }
     ensures want { result ≡ Err PlayFault.OutOfMemory → IsOk (group_in input.now) }
     ensures untouched { (fault : ScheduleFault) → result ≡ Err (PlayFault.Schedule fault)
         → writer.new ≡ writer.old }
-    ensures writes { W.failed_calls writer.new
-        ≡ count_after (tells_of_writer result) (W.failed_calls writer.old) }
     ensures no_read { result ≢ Err PlayFault.Read }
     ensures no_refusal { (refusal : Refusal) → result ≢ Err (PlayFault.Refused refusal) }
 {

@@ -1,15 +1,14 @@
 //! The events of a schedule, one after the other, and the lines of their replies.
 
-ghost use Rattle.std.specs.Prelude.{◌≡◌, ◌<◌, ◌≤◌, ◌⊎◌, ◌++◌, [], ℕ, List, All, length, take, is_err, IfOk, OnOk, OnErr};
+ghost use Rattle.std.specs.Prelude.{◌≡◌, ◌<◌, ◌≤◌, ◌⊎◌, ◌++◌, [], ℕ, List, All, length, take, IfOk, OnOk, OnErr};
 ghost use Rattle.std.specs.Io.KnownBytes.{Appends};
-ghost use Rattle.counted_io.specs.Counts.{Rises, count_after};
-ghost use Rattle.counted_io.specs.Writing.{AppendsPrefix};
 ghost use Rattle.metering_model.specs.Schedule.{event_of};
 ghost use Rattle.metering_model.specs.Step.{step};
 ghost use Rattle.metering_model.specs.Transcript.{reply_text};
 ghost use Rattle.schedule_reader.specs.Events.{HasWholeLines, planned_of};
-ghost use Rattle.schedule_player.specs.Inner.Held.{IsHeldOf};
-ghost use Rattle.schedule_player.specs.Inner.Playing.{IsTold, IsWorldAfter, events_of, text_of};
+ghost use Rattle.schedule_player.specs.Inner.Held.{IsAfter, IsHeldOf};
+ghost use Rattle.schedule_player.specs.Inner.Playing.{HasPlayed, events_of, text_of};
+ghost use Rattle.schedule_player.specs.Inner.Writing.{FailsWithin};
 
 use crate::events::event_of;
 use crate::reply_lines::ReplyLines;
@@ -30,10 +29,9 @@ fn play_event(
     ensures text { OnOk result
         (lines.new.text ≡ lines.old.text
         ++ reply_text (step world.old (event_of (planned_of planned.now))).0) }
-    ensures world { OnOk result
-        (world.new ≡ (step world.old (event_of (planned_of planned.now))).1) }
+    ensures after { OnOk result
+        (IsAfter world.old (event_of (planned_of planned.now)) world.new lines.new.held) }
     ensures kept { OnErr result (lines.new.text ≡ lines.old.text) }
-    ensures held { OnOk result (IsHeldOf world.new lines.new.held) }
 
     // The event is done or not.
     ensures left { OnErr result
@@ -52,15 +50,12 @@ fn write_many<W: Sink>(lines: &mut ReplyLines, writer: &mut W) -> Result<(), Fai
     ensures written { OnOk result
         ((written : List ℕ) × (written ++ lines.new.text ≡ lines.old.text)
         × Appends (W.contents writer.old) (W.contents writer.new) written) }
-    ensures prefix { OnErr result
-        (AppendsPrefix (W.contents writer.old) (W.contents writer.new) lines.old.text) }
     ensures held { lines.new.held ≡ lines.old.held }
 
     // Fewer bytes wait than are many.
     ensures few { OnOk result (length lines.new.text < 65_536) }
-    ensures fault { OnErr result (Rises (W.failed_calls writer.old) (W.failed_calls writer.new)) }
-    ensures count { W.failed_calls writer.new
-        ≡ count_after (is_err result) (W.failed_calls writer.old) }
+    ensures fails { FailsWithin result (W.contents writer.old) (W.contents writer.new)
+        (W.failed_calls writer.old) (W.failed_calls writer.new) lines.old.text }
 {
     if lines.are_many() {
         lines.write(writer)
@@ -81,18 +76,12 @@ fn play_on<W: Sink>(
     requires whole { All HasWholeLines events.now }
     requires none_wait { lines.old.text ≡ [] }
     requires held { IsHeldOf world.old lines.old.held }
-    ensures within { IfOk result (λ done. done ≤ length events.now) }
-    ensures world { IfOk result (λ done. IsWorldAfter world.old events.now done world.new) }
-    ensures told { IfOk result
-        (λ done. IsTold (W.contents writer.old)
-        (W.contents writer.new) lines.new.text world.old events.now done) }
-    ensures few { OnOk result (length lines.new.text < 65_536) }
-    ensures prefix { OnErr result
-        (AppendsPrefix (W.contents writer.old) (W.contents writer.new)
-        (text_of world.old (events_of events.now))) }
-    ensures fault { OnErr result (Rises (W.failed_calls writer.old) (W.failed_calls writer.new)) }
-    ensures count { W.failed_calls writer.new
-        ≡ count_after (is_err result) (W.failed_calls writer.old) }
+    ensures played { IfOk result
+        (λ done. HasPlayed world.old events.now done world.new
+        (W.contents writer.old) (W.contents writer.new) lines.new.text) }
+    ensures fails { FailsWithin result (W.contents writer.old) (W.contents writer.new)
+        (W.failed_calls writer.old) (W.failed_calls writer.new)
+        (text_of world.old (events_of events.now)) }
 {
     for (done, planned) in events.iter().enumerate() {
         let Ok(()) = play_event(alloc, world, planned, lines) else {
@@ -116,12 +105,9 @@ pub(crate) fn play_events<W: Sink>(
     ensures played { IfOk result
         (λ done. Appends (W.contents writer.old) (W.contents writer.new)
         (text_of world (events_of (take done events.now)))) }
-    ensures prefix { OnErr result
-        (AppendsPrefix (W.contents writer.old) (W.contents writer.new)
-        (text_of world (events_of events.now))) }
-    ensures fault { OnErr result (Rises (W.failed_calls writer.old) (W.failed_calls writer.new)) }
-    ensures count { W.failed_calls writer.new
-        ≡ count_after (is_err result) (W.failed_calls writer.old) }
+    ensures fails { FailsWithin result (W.contents writer.old) (W.contents writer.new)
+        (W.failed_calls writer.old) (W.failed_calls writer.new)
+        (text_of world (events_of events.now)) }
 {
     let mut world = world;
     let mut lines = ReplyLines::new(alloc);

@@ -1,13 +1,12 @@
 //! The lines of replies that wait to be written. The file of the last export is at hand until another file or a kept text comes,
 //! and an export of its period is not rendered again.
 
-ghost use Rattle.std.specs.Prelude.{◌≡◌, ◌↔◌, ◌≤◌, ◌++◌, [], true, false, length, None, IsTrue, OnOk, OnErr, is_err};
+ghost use Rattle.std.specs.Prelude.{◌≡◌, ◌↔◌, ◌≤◌, ◌++◌, [], true, false, length, None, IsTrue, OnOk, OnErr};
 ghost use Rattle.std.specs.Io.KnownBytes.{Appends};
-ghost use Rattle.counted_io.specs.Counts.{Rises, count_after};
-ghost use Rattle.counted_io.specs.Writing.{AppendsPrefix};
 ghost use Rattle.metering_model.specs.Transcript.{reply_text};
 ghost use Rattle.group_events.specs.Replies.{reply_of};
 ghost use Rattle.schedule_player.specs.Inner.Held.{FitsReply, exported_period, has_file, held_with, is_same_period, told, told_of, waiting};
+ghost use Rattle.schedule_player.specs.Inner.Writing.{FailsWithin};
 
 use crate::reply_texts::{has_file, set_file, set_line};
 use counted_io::{Failed, Sink, write_all};
@@ -172,12 +171,8 @@ impl ReplyLines {
             (Appends (W.contents writer.old) (W.contents writer.new) self.old.text) }
         ensures none_wait { OnOk result (self.new.text ≡ []) }
         ensures held { self.new.held ≡ self.old.held }
-        ensures prefix { OnErr result
-            (AppendsPrefix (W.contents writer.old) (W.contents writer.new) self.old.text) }
-        ensures fault { OnErr result
-            (Rises (W.failed_calls writer.old) (W.failed_calls writer.new)) }
-        ensures count { W.failed_calls writer.new
-            ≡ count_after (is_err result) (W.failed_calls writer.old) }
+        ensures fails { FailsWithin result (W.contents writer.old) (W.contents writer.new)
+            (W.failed_calls writer.old) (W.failed_calls writer.new) self.old.text }
     {
         write_all(writer, &self.lines)?;
         write_all(writer, waiting(self.waits, &self.file))?;

@@ -1,7 +1,8 @@
 -- What waits to be written, and the reply whose text is at hand.
 use Rattle.std.specs.Prelude.{◌≡◌, ◌==◌, ℕ, if◌then◌else◌, Bool, true, false, List, [], ◌++◌, Option, Some, None, IfSome}
 use Rattle.std.specs.Option.{option_map}
-use Rattle.metering_model.specs.World.{World, Snapshot, Reply, Journaled, Delivered, Started, Restarted, Exported, KeptText, Refused}
+use Rattle.metering_model.specs.World.{World, Event, Snapshot, Reply, Journaled, Delivered, Started, Restarted, Exported, KeptText, Refused}
+use Rattle.metering_model.specs.Step.{step}
 use Rattle.metering_model.specs.Transcript.{reply_text}
 use Rattle.group_core.specs.Headline.{IsExportOf}
 
@@ -26,6 +27,11 @@ waiting waits file = if waits then file else []
 -- What is at hand was told of an export of this world.
 abbrev pub IsHeldOf : World → Option ToldExport → Type 0
 IsHeldOf w held = IfSome held (λ h. (s : Snapshot) × IsExportOf w s × (s.period ≡ h.period) × (reply_text (Exported s) ≡ h.text))
+
+-- The world is that after an event, and what is at hand is of it.
+pub record IsAfter (w : World) (event : Event) (v : World) (at_hand : Option ToldExport) : Type 0 where
+  pub world : v ≡ (step w event).1
+  pub held : IsHeldOf v at_hand
 
 -- Where a reply is an export of the period that is at hand, what is at hand is its text.
 abbrev pub FitsReply : Option ToldExport → Reply → Type 0

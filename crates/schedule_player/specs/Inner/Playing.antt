@@ -1,5 +1,5 @@
 -- What a schedule stands for, and what stands when playing stops.
-use Rattle.std.specs.Prelude.{◌≡◌, ℕ, ◌+◌, ◌<◌, ◌⊎◌, List, ◌++◌, Option, length, map, take}
+use Rattle.std.specs.Prelude.{◌≡◌, ℕ, ◌+◌, ◌<◌, ◌≤◌, ◌⊎◌, List, ◌++◌, Option, length, map, take}
 use Rattle.std.specs.Io.KnownBytes.{Appends}
 use Rattle.metering_model.specs.World.{World, Event}
 use Rattle.metering_model.specs.Step.{play}
@@ -32,6 +32,13 @@ IsWorldAfter w events done v = (v ≡ world_after w events done) ⊎ ((done < le
 -- Of the transcript of so many events known contents grew by a prefix, and all the rest of it waits.
 abbrev pub IsTold : Option (List ℕ) → Option (List ℕ) → List ℕ → World → List Planned → ℕ → Type 0
 IsTold old new waits w events done = (written : List ℕ) × Appends old new written × (written ++ waits ≡ text_of w (events_of (take done events)))
+
+-- So many events were done: the world is that after them, and what a transcript says of them was written or waits. Little waits.
+pub record HasPlayed (w : World) (events : List Planned) (done : ℕ) (v : World) (old new : Option (List ℕ)) (waits : List ℕ) : Type 0 where
+  pub within : done ≤ length events
+  pub world : IsWorldAfter w events done v
+  pub told : IsTold old new waits w events done
+  pub few : length waits < 65_536
 
 -- Known contents grew by the transcript of the first of these events, and not of all.
 abbrev pub AppendsFirst : Option (List ℕ) → Option (List ℕ) → World → List Planned → Type 0

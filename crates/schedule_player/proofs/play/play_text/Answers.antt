@@ -6,12 +6,12 @@ use Rattle.schedule_player.proofs.play.play_text.Goals as goal
 pub returns-clause-transcript : goal.returns-clause-transcript
 returns-clause-transcript g c =
     of_known c.play_input.result (g.R.Source.remaining c.args.reader.now) _ _ c.in_ok-input.input.items c.in_ok-input.ensures.whole
-    (rw c.deref.ensures.value at c.play_input.ensures.transcript)
+    (rw c.deref.ensures.value at c.play_input.ensures.writes.transcript)
 
 pub returns-clause-prefix : goal.returns-clause-prefix
 returns-clause-prefix g c = λ is.
     cut_of_known (g.R.Source.remaining c.args.reader.now) _ _ c.in_ok-input.input.items c.in_ok-input.ensures.whole
-    (rw c.deref.ensures.value at (c.play_input.ensures.prefix is))
+    (rw c.deref.ensures.value at (c.play_input.ensures.writes.prefix is))
 
 pub returns-clause-section : goal.returns-clause-section
 returns-clause-section g c = λ fault is.
@@ -21,7 +21,7 @@ returns-clause-section g c = λ fault is.
 pub returns-clause-memory : goal.returns-clause-memory
 returns-clause-memory g c = λ is.
     prefix_of_known (g.R.Source.remaining c.args.reader.now) _ _ c.in_ok-input.input.items c.in_ok-input.ensures.whole
-    (rw c.deref.ensures.value at (c.play_input.ensures.memory is))
+    (rw c.deref.ensures.value at (c.play_input.ensures.writes.memory is))
 
 pub returns-in_err-input-clause-section : goal.returns-in_err-input-clause-section
 returns-in_err-input-clause-section g c = λ fault is.

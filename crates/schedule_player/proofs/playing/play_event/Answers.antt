@@ -10,6 +10,11 @@ add-requires c =
 pub returns-clause-text : goal.returns-clause-text
 returns-clause-text c = search rules
 
-pub returns-clause-held : goal.returns-clause-held
-returns-clause-held c =
-    on_ok_then c.add.result (held_after c.args.world.now c.step.new.self (reply_of c.in_ok-reply.reply) c.step.ensures.stay c.in_ok-reply.ensures.exports c.args.lines.now.held c.add.new.self.held c.requires.held) c.add.ensures.held
+pub returns-clause-after : goal.returns-clause-after
+returns-clause-after c =
+    on_ok_then c.add.result
+    (λ held. record {
+      world = search rules;
+      held = held_after c.args.world.now c.step.new.self (reply_of c.in_ok-reply.reply) c.step.ensures.stay c.in_ok-reply.ensures.exports c.args.lines.now.held c.add.new.self.held c.requires.held held;
+    })
+    c.add.ensures.held

@@ -19,26 +19,28 @@ loop-done-preserved g c =
         still_all so.0.0 part.0 _ _ _ part.1
             (text_more c.args.world.now c.loop-done.world c.play_event.new.world events i _ within so.0.0 c.loop-done.lines.text c.play_event.new.lines.text so.1 so.0.2 c.in-Ok.ensures.text),
       ),
-      world_more c.args.world.now c.loop-done.world c.play_event.new.world events i _ within so.1 c.in-Ok.ensures.world,
-      c.in_ok-write_many.ensures.count ∙ so.2,
-      subst (IsHeldOf c.play_event.new.world) (sym c.write_many.ensures.held) c.in-Ok.ensures.held,
+      world_more c.args.world.now c.loop-done.world c.play_event.new.world events i _ within so.1 c.in-Ok.ensures.after.world,
+      c.in_ok-write_many.ensures.fails.count ∙ so.2,
+      subst (IsHeldOf c.play_event.new.world) (sym c.write_many.ensures.held) c.in-Ok.ensures.after.held,
       c.in_ok-write_many.ensures.few,
     )
 
-pub returns-in_default-clause-world : goal.returns-in_default-clause-world
-returns-in_default-clause-world g c =
+pub returns-in_default-clause-played : goal.returns-in_default-clause-played
+returns-in_default-clause-played g c =
+    let so = c.loop-done.invariant in
     let events = c.args.events.now in
     let i = c.loop-done.done in
     let within : i < length events = search (rules, arith) in
-    world_left c.args.world.now c.loop-done.world c.play_event.new.world events i _ within c.loop-done.invariant.1 c.in_default.ensures.left
+    let kept = c.in_default.ensures.kept in
+    record {
+      within = omega (arith, within);
+      world = world_left c.args.world.now c.loop-done.world c.play_event.new.world events i _ within so.1 c.in_default.ensures.left;
+      told = (so.0.0, so.0.1, ap (λ t. so.0.0 ++ t) kept ∙ so.0.2);
+      few = subst (λ t. length t < 65_536) (sym kept) so.4;
+    }
 
-pub returns-in_default-clause-told : goal.returns-in_default-clause-told
-returns-in_default-clause-told g c =
-    let so = c.loop-done.invariant in
-    (so.0.0, so.0.1, ap (λ t. so.0.0 ++ t) c.in_default.ensures.kept ∙ so.0.2)
-
-pub returns-in_err-write_many-clause-prefix : goal.returns-in_err-write_many-clause-prefix
-returns-in_err-write_many-clause-prefix g c =
+pub returns-in_err-write_many-clause-fails : goal.returns-in_err-write_many-clause-fails
+returns-in_err-write_many-clause-fails g c =
     let so = c.loop-done.invariant in
     let events = c.args.events.now in
     let i = c.loop-done.done in
@@ -48,5 +50,8 @@ returns-in_err-write_many-clause-prefix g c =
       so.0.1,
       text_more c.args.world.now c.loop-done.world c.play_event.new.world events i _ within so.0.0 c.loop-done.lines.text c.play_event.new.lines.text so.1 so.0.2 c.in-Ok.ensures.text,
     ) in
-    on_err c.from_residual.result
-    (told_prefix (g.W.Sink.contents c.args.writer.now) (g.W.Sink.contents c.loop-done.writer) _ c.args.world.now events (i + 1) c.play_event.new.lines.text told c.in_err-write_many.ensures.prefix)
+    record {
+      prefix = on_err c.from_residual.result
+          (told_prefix (g.W.Sink.contents c.args.writer.now) (g.W.Sink.contents c.loop-done.writer) _ c.args.world.now events (i + 1) c.play_event.new.lines.text told c.in_err-write_many.ensures.fails.prefix);
+      count = search rules;
+    }
