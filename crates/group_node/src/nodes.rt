@@ -167,6 +167,14 @@ impl Node {
         kept.learned.get(usize::from(period))
     }
 
+    /// What the node has promised and accepted in its current period.
+    pub fn acceptor(&self) -> &Acceptor
+        ensures { result.now ≡ self.now.node.kept.acceptor }
+    {
+        let kept = &self.kept;
+        &kept.acceptor
+    }
+
     /// The batches that the node holds.
     pub fn store(&self) -> &Store
         ensures { result.now
