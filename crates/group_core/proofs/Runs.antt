@@ -6,6 +6,7 @@ use Rattle.metering_model.specs.Holding.{Holding, AgreeUpTo, IsPartOf}
 use Rattle.metering_model.specs.Rows.{rows}
 use Rattle.metering_model.specs.File.{file}
 use Rattle.metering_model.specs.Sheet.{Sheet, Issuer}
+use Rattle.metering_model.specs.Limits.{most_packets}
 use Rattle.metering_model.specs.World.{World, Node, Packet, Event, Snapshot, Exported, voter_count, opening}
 use Rattle.metering_model.specs.Deliveries.{handled}
 use Rattle.metering_model.specs.Step.{cut_before, play}
@@ -100,11 +101,11 @@ module _ (w : World) (es : List Event) (h : IsReached w) where
 
   led_here : HoldsAfter h.voters h.observers h.agents h.sheet h.issuer h.events (play (opening h.voters h.observers h.agents h.sheet h.issuer) h.events).0 w
   led_here = subst (HoldsAfter h.voters h.observers h.agents h.sheet h.issuer h.events (play (opening h.voters h.observers h.agents h.sheet h.issuer) h.events).0) h.leads
-      (holds_after h.voters h.observers h.agents h.sheet h.issuer h.events)
+      (holds_after most_packets h.voters h.observers h.agents h.sheet h.issuer h.events)
 
   led_there : HoldsAfter h.voters h.observers h.agents h.sheet h.issuer (h.events ++ es) (play (opening h.voters h.observers h.agents h.sheet h.issuer) (h.events ++ es)).0 (play w es).1
   led_there = subst (HoldsAfter h.voters h.observers h.agents h.sheet h.issuer (h.events ++ es) (play (opening h.voters h.observers h.agents h.sheet h.issuer) (h.events ++ es)).0) goes_on_here
-      (holds_after h.voters h.observers h.agents h.sheet h.issuer (h.events ++ es))
+      (holds_after most_packets h.voters h.observers h.agents h.sheet h.issuer (h.events ++ es))
 
   pub same_group_in_run : IsSameGroup w (play w es).1
   same_group_in_run = record {
@@ -117,7 +118,7 @@ module _ (w : World) (es : List Event) (h : IsReached w) where
 
   pub grows_in_run : ListGrows w (play w es).1
   grows_in_run cuts later was is =
-      cuts_grow h.voters h.observers h.agents h.sheet h.issuer h.events es cuts later (subst (λ s. AreTheCuts s cuts) (sym h.leads) was) (subst (λ s. AreTheCuts s later) (sym goes_on_here) is)
+      cuts_grow most_packets h.voters h.observers h.agents h.sheet h.issuer h.events es cuts later (subst (λ s. AreTheCuts s cuts) (sym h.leads) was) (subst (λ s. AreTheCuts s later) (sym goes_on_here) is)
 
   more_there : IsPartOf w.journals (play w es).1.journals
   more_there =

@@ -3,6 +3,7 @@ use Rattle.std.proofs.Common.{◌≡◌, ℕ, zero, suc, List, [], ◌∷◌, �
 use Rattle.std.specs.Prelude.{slice_get}
 use Rattle.std.proofs.lemmas.Option.{same_Some, none-some}
 use Rattle.metering_model.specs.Cut.{Cut}
+use Rattle.metering_model.specs.Limits.{most_packets}
 use Rattle.metering_model.specs.World.{World, Snapshot, voter_count, opening}
 use Rattle.group_laws.specs.Headline.{AtMostOneIsChosen, AreTheCuts, IsExport}
 use Rattle.group_laws.proofs.Forms.{HasForms-opening, play_kept}
@@ -46,7 +47,7 @@ pub fitting_here : (w : World) → IsReached w → IsFitting (voter_count w) w
 fitting_here w h =
     let begun : World = opening h.voters h.observers h.agents h.sheet h.issuer in
     let led : IsFitting h.voters w = subst (IsFitting h.voters) h.leads
-    (play_kept (IsFitting h.voters) (IsFitting-steps h.voters) h.events begun (HasForms-opening h.voters h.observers h.agents h.sheet h.issuer) (IsFitting-opening h.voters h.observers h.agents h.sheet h.issuer)) in
+    (play_kept (IsFitting h.voters) (IsFitting-steps h.voters) h.events begun (HasForms-opening most_packets h.voters h.observers h.agents h.sheet h.issuer) (IsFitting-opening most_packets h.voters h.observers h.agents h.sheet h.issuer)) in
     subst (λ N. IsFitting N w) (sym led.told.kept.count) led
 
 module _ (w : World) (h : IsReached w) where

@@ -3,7 +3,7 @@
 ghost use Rattle.std.specs.Prelude.{◌≡◌, ◌≢◌, ℕ, ◌+◌, ◌≤◌, true, Some, slice_get, IfOk, OnErr, [], ◌∷◌};
 ghost use Rattle.std.specs.Option.{option_map};
 ghost use Rattle.std.specs.Arc.{arc_value};
-ghost use Rattle.metering_model.specs.Limits.{most_agents, most_nodes};
+ghost use Rattle.metering_model.specs.Limits.{most_agents, most_nodes, most_packets};
 ghost use Rattle.metering_model.specs.World.{Node, KeptOffer, KeptGood, Refused, Revive, opening, voter_count};
 ghost use Rattle.metering_model.specs.KeptText.{kept_text};
 ghost use Rattle.metering_model.specs.Step.{kept_now, snapshot, step};
@@ -75,7 +75,7 @@ impl World {
     /// Packets, ballots, cuts and holdings keep the limits that every run keeps. The call does nothing.
     pub fn limits(&self)
         ensures { (observers : ℕ)
-            × KeepsLimits (voter_count self.now) observers self.now.agents self.now }
+            × KeepsLimits most_packets (voter_count self.now) observers self.now.agents self.now }
     {
         self.reached();
     }

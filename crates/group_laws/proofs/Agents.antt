@@ -5,7 +5,7 @@ use Rattle.std.proofs.lemmas.Option.{none-some}
 use Rattle.metering_model.specs.Batch.{Batch}
 use Rattle.metering_model.specs.Sheet.{Sheet, Issuer}
 use Rattle.metering_model.specs.Holding.{held, put, is_batch_at}
-use Rattle.metering_model.specs.World.{World, Node, Packet, Event, wake, opening}
+use Rattle.metering_model.specs.World.{World, Node, Packet, Event, wake, opening_with}
 use Rattle.metering_model.specs.Deliveries.{handled}
 use Rattle.metering_model.specs.Step.{play}
 use Rattle.metering_model.proofs.BatchOrder.{place_of_batch}
@@ -37,6 +37,6 @@ HasAgents-steps = record {
   restarts = λ w i n h found. agents_after w i (wake n.kept) None h;
 }
 
-pub has_agents : (voters observers agents : ℕ) (sheet : Sheet) (issuer : Issuer) (events : List Event) → HasAgents (play (opening voters observers agents sheet issuer) events).1
-has_agents voters observers agents sheet issuer events =
-    play_kept HasAgents HasAgents-steps events (opening voters observers agents sheet issuer) (HasForms-opening voters observers agents sheet issuer) (record { each = λ agent seq b is. absurd (none-some b is) })
+pub has_agents : (room voters observers agents : ℕ) (sheet : Sheet) (issuer : Issuer) (events : List Event) → HasAgents (play (opening_with room voters observers agents sheet issuer) events).1
+has_agents room voters observers agents sheet issuer events =
+    play_kept HasAgents HasAgents-steps events (opening_with room voters observers agents sheet issuer) (HasForms-opening room voters observers agents sheet issuer) (record { each = λ agent seq b is. absurd (none-some b is) })

@@ -17,7 +17,7 @@ use Rattle.metering_model.specs.Cut.{Cut}
 use Rattle.metering_model.specs.Sheet.{Sheet, Issuer}
 use Rattle.metering_model.specs.Ballot.{Nodes, nobody, Tally, majority, has_majority, with_node, accepting_at, with_accepted}
 use Rattle.metering_model.specs.declared.Refusal.TheVariants.{NoPacket, NoNode, WorldFull}
-use Rattle.metering_model.specs.World.{World, Node, Packet, Accepted, Decided, Event, Journal, Deliver, Start, Restart, Export, Keep, Revive, Reply, Delivered, Refused, voter_count, current_period, wake, with_node_at, opening}
+use Rattle.metering_model.specs.World.{World, Node, Packet, Accepted, Decided, Event, Journal, Deliver, Start, Restart, Export, Keep, Revive, Reply, Delivered, Refused, voter_count, current_period, wake, with_node_at, opening_with}
 use Rattle.metering_model.specs.Deliveries.{silent, learned_kept, learning, after_accepted, handled}
 use Rattle.metering_model.specs.Chosen.{IsChosen, accepts}
 use Rattle.metering_model.specs.Step.{Outcome, after_delivery, or_refused, step, play}
@@ -443,8 +443,8 @@ run_done N (e ∷ es) numbers next w u h forms told =
         }
 
 -- what the voters of a group do they can do alone
-pub can_be_done_alone : (voters observers agents : ℕ) (sheet : Sheet) (issuer : Issuer) (events : List Event)
-    → CanBeDoneAlone voters events (opening voters observers agents sheet issuer) (opening voters 0 agents sheet issuer)
-can_be_done_alone voters observers agents sheet issuer events =
-    run_done voters events [] 0 (opening voters observers agents sheet issuer) (opening voters 0 agents sheet issuer) (opening_follows voters observers agents sheet issuer)
-    (HasForms-opening voters observers agents sheet issuer) (IsTold-opening voters observers agents sheet issuer)
+pub can_be_done_alone : (room voters observers agents : ℕ) (sheet : Sheet) (issuer : Issuer) (events : List Event)
+    → CanBeDoneAlone voters events (opening_with room voters observers agents sheet issuer) (opening_with room voters 0 agents sheet issuer)
+can_be_done_alone room voters observers agents sheet issuer events =
+    run_done voters events [] 0 (opening_with room voters observers agents sheet issuer) (opening_with room voters 0 agents sheet issuer) (opening_follows room voters observers agents sheet issuer)
+    (HasForms-opening room voters observers agents sheet issuer) (IsTold-opening room voters observers agents sheet issuer)

@@ -27,6 +27,7 @@ use Rattle.metering_model.specs.Ballot.{Acceptor}
 use Rattle.metering_model.specs.Chosen.{IsChosen, accepts}
 use Rattle.metering_model.proofs.Samples.{sheet_0, sheet_1, issuer_1}
 use Rattle.group_laws.specs.Headline.{IsNewIn, AreChargedOnce, HoldsAfter}
+use Rattle.metering_model.specs.Limits.{most_packets}
 use Rattle.group_laws.specs.EveryRun.{KeepsLimits}
 use Rattle.group_laws.proofs.Quorum.{count_by-cons}
 
@@ -482,13 +483,13 @@ an_export_is_asked_for h = let asked = h.answers.asked 14 second_export refl in 
 -- ---- beyond the limits
 
 abbrev IsBeyondLimits : World → Type 0
-IsBeyondLimits w = KeepsLimits 3 0 1 w → ⊥
+IsBeyondLimits w = KeepsLimits most_packets 3 0 1 w → ⊥
 
 -- an observer that accepts
 abbrev after_an_observer_accepts : World
 after_an_observer_accepts = record (opening 2 1 1 sheet_0 issuer_1) { packets = Accepted 2 0 2 low ∷ [] }
 
-observers_accept_nothing : KeepsLimits 2 1 1 after_an_observer_accepts → ⊥
+observers_accept_nothing : KeepsLimits most_packets 2 1 1 after_an_observer_accepts → ⊥
 observers_accept_nothing h = let low = (h.each_packet 0 (Accepted 2 0 2 low) (omega arith)).0 in omega (arith, low)
 
 -- a promise of a node that is not there
@@ -509,7 +510,7 @@ cuts_have_an_entry_for_each_agent h = let size = (h.each_packet 0 (Decided 0 [])
 abbrev after_an_observer_promises : World
 after_an_observer_promises = record (opening 2 1 1 sheet_0 issuer_1) { nodes = replicate 3 (wake (record new_kept { acceptor = record { promised = Some 2; vote = None } })) }
 
-observers_promise_nothing : KeepsLimits 2 1 1 after_an_observer_promises → ⊥
+observers_promise_nothing : KeepsLimits most_packets 2 1 1 after_an_observer_promises → ⊥
 observers_promise_nothing h =
     let none : Some 2 ≡ None = ap (λ (a : Acceptor). a.promised) (h.each_observer 2 (wake (record new_kept { acceptor = record { promised = Some 2; vote = None } })) (omega arith) refl).acceptor in
     none-some 2 (sym none)

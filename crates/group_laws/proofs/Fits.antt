@@ -8,7 +8,7 @@ use Rattle.metering_model.specs.Holding.{Holding, IsHolding, IsPartOf, held, put
 use Rattle.metering_model.specs.JournalRules.{MeetsJournalRules}
 use Rattle.metering_model.specs.Sheet.{Sheet, Issuer}
 use Rattle.metering_model.specs.Ballot.{Vote, Attempt, has_majority, with_promise}
-use Rattle.metering_model.specs.World.{World, Node, Packet, CarriesBatch, Prepare, Promise, Accept, Accepted, Decided, voter_count, votes, current_period, last_cut, wake, new_kept, opening}
+use Rattle.metering_model.specs.World.{World, Node, Packet, CarriesBatch, Prepare, Promise, Accept, Accepted, Decided, voter_count, votes, current_period, last_cut, wake, new_kept, opening_with}
 use Rattle.metering_model.specs.Deliveries.{learning, Handled, silent, sending, on_prepare, on_promise, on_accept, unless_learned, if_votes, after_promise, proposal, handled}
 use Rattle.metering_model.proofs.HoldingLaws.{IsHolding-nil, IsHolding-put, held-put_same}
 use Rattle.metering_model.proofs.PartLaws.{part_of_itself, IsPartOf-trans, IsPartOf-put, IsPartOf-grown}
@@ -230,9 +230,9 @@ module _ (N : ℕ) where
     restarts = λ w i n h found. fitting_after N w i (wake n.kept) None h (steps.restarts w i n h.told found) (record { of = (h.holdings i n found).of; going = tt }) tt;
   }
 
-pub IsFitting-opening : (voters observers agents : ℕ) (sheet : Sheet) (issuer : Issuer) → IsFitting voters (opening voters observers agents sheet issuer)
-IsFitting-opening voters observers agents sheet issuer = record {
-  told = IsTold-opening voters observers agents sheet issuer;
+pub IsFitting-opening : (room voters observers agents : ℕ) (sheet : Sheet) (issuer : Issuer) → IsFitting voters (opening_with room voters observers agents sheet issuer)
+IsFitting-opening room voters observers agents sheet issuer = record {
+  told = IsTold-opening room voters observers agents sheet issuer;
   rules = MeetsJournalRules-nil sheet;
   carried = λ b h. absurd (none_sent _ h);
   holdings = λ i n e. subst (Fits []) (sym (get-replicate (voters + observers) i (wake new_kept) n e)) (record { of = record { is_holding = IsHolding-nil; part = part_of_itself [] }; going = tt });

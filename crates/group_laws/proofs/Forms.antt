@@ -13,7 +13,7 @@ use Rattle.metering_model.specs.Holding.{Holding, IsHolding, comes_before, seque
 use Rattle.metering_model.specs.Front.{can_close, front_of, front}
 use Rattle.metering_model.specs.Sheet.{Sheet, Issuer}
 use Rattle.metering_model.specs.Ballot.{Vote, Acceptor, Attempt, greater_vote, with_promise, has_majority}
-use Rattle.metering_model.specs.World.{World, Node, Packet, CarriesBatch, Prepare, Promise, Accept, Accepted, Decided, Event, voter_count, votes, current_period, last_cut, wake, new_kept, opening}
+use Rattle.metering_model.specs.World.{World, Node, Packet, CarriesBatch, Prepare, Promise, Accept, Accepted, Decided, Event, voter_count, votes, current_period, last_cut, wake, new_kept, opening_with}
 use Rattle.metering_model.specs.Deliveries.{Handled, silent, sending, learning, unless_learned, if_votes, on_prepare, on_promise, on_accept, after_promise, proposal, handled}
 use Rattle.metering_model.specs.KeptText.{IsCutAmong}
 use Rattle.metering_model.specs.Step.{kept_now, step, play}
@@ -325,8 +325,8 @@ HasForms-steps = record {
 pub HasForms-step : (w : World) → HasForms w → (e : Event) → HasForms (step w e).1
 HasForms-step w h e = step_kept HasForms HasForms-steps w (readable w h) h e
 
-pub HasForms-opening : (voters observers agents : ℕ) (sheet : Sheet) (issuer : Issuer) → HasForms (opening voters observers agents sheet issuer)
-HasForms-opening voters observers agents sheet issuer = record {
+pub HasForms-opening : (room voters observers agents : ℕ) (sheet : Sheet) (issuer : Issuer) → HasForms (opening_with room voters observers agents sheet issuer)
+HasForms-opening room voters observers agents sheet issuer = record {
   packets = λ q sent. absurd (none_sent q sent);
   nodes = λ i n e. subst (HasForm agents) (sym (get-replicate (voters + observers) i (wake new_kept) n e)) (record {
     learned = All-nil (IsCutAmong agents);

@@ -15,7 +15,7 @@ use Rattle.metering_model.specs.Holding.{Holding, IsHolding, IsPartOf, held, put
 use Rattle.metering_model.specs.Front.{is_due, front}
 use Rattle.metering_model.specs.Sheet.{Sheet, Issuer}
 use Rattle.metering_model.specs.Ballot.{Vote, Acceptor, Attempt, Nodes, Tally, ballot_of, greater_vote, with_promise, has_majority, accepting_at, with_accepted, with_node}
-use Rattle.metering_model.specs.World.{World, Node, Packet, CarriesBatch, Prepare, Promise, Accept, Accepted, Decided, voter_count, votes, current_period, last_cut, wake, new_kept, opening, Event}
+use Rattle.metering_model.specs.World.{World, Node, Packet, CarriesBatch, Prepare, Promise, Accept, Accepted, Decided, voter_count, votes, current_period, last_cut, wake, new_kept, opening_with, Event}
 use Rattle.metering_model.specs.Deliveries.{Handled, silent, sending, learning, on_prepare, on_promise, on_accept, unless_learned, if_votes, after_promise, after_accepted, proposal, handled}
 use Rattle.metering_model.specs.Step.{play}
 use Rattle.metering_model.proofs.HoldingLaws.{held_place}
@@ -34,7 +34,7 @@ use Rattle.group_laws.proofs.Told.{accepting_counted}
 use Rattle.group_laws.proofs.Fits.{IsOf, IsFitting, IsFitting-steps, IsFitting-opening}
 use Rattle.group_laws.proofs.Agreed.{last_of-zero}
 use Rattle.group_laws.proofs.Observing.{HasObservers, HasObservers-steps, HasObservers-opening}
-use Rattle.group_laws.proofs.EveryRun.{holds_after, prefix_of_cuts}
+use Rattle.group_laws.proofs.EveryRun.{IsAsOpened, as_opened, holds_after, prefix_of_cuts}
 
 pub at_entry : {A : Type 0} (P : A → Type 0) (xs : List A) (k : ℕ) (x : A) → All P xs → slice_get xs k ≡ Some x → P x
 at_entry P [] k x all e = absurd (none-some x e)
@@ -94,7 +94,7 @@ IsBounded-more N agents J K more n h = record {
 
 pub record KeepsBounds (N : ℕ) (w : World) : Type 0 where
   pub fitting : IsFitting N w
-  pub room : length w.packets ≤ 1_000_000
+  pub fits : length w.packets ≤ w.room
   pub packets : All (IsPacket N w.agents w.journals) w.packets
   pub nodes : All (IsBounded N w.agents w.journals) w.nodes
 
@@ -314,13 +314,13 @@ module _ (N : ℕ) (w : World) (h : KeepsBounds N w) (i : ℕ) (n : Node) (found
 bounded_after : (N : ℕ) (w : World) (i : ℕ) (n : Node) (o : Option Packet) → KeepsBounds N w → IsFitting N (after w i n o) → HasRoomFor w o → IsBounded N w.agents w.journals n → MayBePacket N w.agents w.journals o → KeepsBounds N (after w i n o)
 bounded_after N w i n None h fitting room is sends = record {
   fitting = fitting;
-  room = h.room;
+  fits = h.fits;
   packets = h.packets;
   nodes = All-set (IsBounded N w.agents w.journals) w.nodes i n is h.nodes;
 }
 bounded_after N w i n (Some q) h fitting room is sends = record {
   fitting = fitting;
-  room = let pushed = length-push w.packets q in omega (arith, pushed, room);
+  fits = let pushed = length-push w.packets q in omega (arith, pushed, room);
   packets = All-push (IsPacket N w.agents w.journals) w.packets q h.packets sends;
   nodes = All-set (IsBounded N w.agents w.journals) w.nodes i n is h.nodes;
 }
@@ -335,7 +335,7 @@ module _ (N : ℕ) where
       let more : IsPartOf w.journals (put w.journals b) = IsPartOf-grown w.journals b h.fitting.rules.is_holding in
       record {
         fitting = fitting;
-        room = let pushed = length-push w.packets (CarriesBatch b) in omega (arith, pushed, next.room);
+        fits = let pushed = length-push w.packets (CarriesBatch b) in omega (arith, pushed, next.room);
         packets = All-push (IsPacket N w.agents (put w.journals b)) w.packets (CarriesBatch b)
             (All-weaker (IsPacket N w.agents w.journals) (IsPacket N w.agents (put w.journals b)) (IsPacket-more N w.agents w.journals (put w.journals b) more) w.packets h.packets)
             (fitting.carried b (sent_now w.packets (CarriesBatch b)));
@@ -379,10 +379,10 @@ module _ (N : ℕ) where
         }) tt;
   }
 
-pub KeepsBounds-opening : (voters observers agents : ℕ) (sheet : Sheet) (issuer : Issuer) → KeepsBounds voters (opening voters observers agents sheet issuer)
-KeepsBounds-opening voters observers agents sheet issuer = record {
-  fitting = IsFitting-opening voters observers agents sheet issuer;
-  room = omega arith;
+pub KeepsBounds-opening : (room voters observers agents : ℕ) (sheet : Sheet) (issuer : Issuer) → KeepsBounds voters (opening_with room voters observers agents sheet issuer)
+KeepsBounds-opening room voters observers agents sheet issuer = record {
+  fitting = IsFitting-opening room voters observers agents sheet issuer;
+  fits = omega arith;
   packets = All-nil (IsPacket voters agents []);
   nodes = All-replicate (IsBounded voters agents []) (voters + observers) (wake new_kept) (record {
     round_in = omega arith;
@@ -400,14 +400,14 @@ grows_prefix : (before : Cut) (xs rest : List Cut) → GrowsFrom before (xs ++ r
 grows_prefix before [] rest h = tt
 grows_prefix before (x ∷ xs) rest h = (h.0, grows_prefix x xs rest h.1)
 
-module _ (voters observers agents : ℕ) (sheet : Sheet) (issuer : Issuer) (events : List Event) where
-  bounds : KeepsBounds voters (play (opening voters observers agents sheet issuer) events).1
-  bounds = play_kept (KeepsBounds voters) (KeepsBounds-steps voters) events (opening voters observers agents sheet issuer) (HasForms-opening voters observers agents sheet issuer) (KeepsBounds-opening voters observers agents sheet issuer)
+module _ (room voters observers agents : ℕ) (sheet : Sheet) (issuer : Issuer) (events : List Event) where
+  bounds : KeepsBounds voters (play (opening_with room voters observers agents sheet issuer) events).1
+  bounds = play_kept (KeepsBounds voters) (KeepsBounds-steps voters) events (opening_with room voters observers agents sheet issuer) (HasForms-opening room voters observers agents sheet issuer) (KeepsBounds-opening room voters observers agents sheet issuer)
 
-  headline : HoldsAfter voters observers agents sheet issuer events (play (opening voters observers agents sheet issuer) events).0 (play (opening voters observers agents sheet issuer) events).1
-  headline = holds_after voters observers agents sheet issuer events
+  headline : HoldsAfter voters observers agents sheet issuer events (play (opening_with room voters observers agents sheet issuer) events).0 (play (opening_with room voters observers agents sheet issuer) events).1
+  headline = holds_after room voters observers agents sheet issuer events
 
-  is_node : (i : ℕ) (n : Node) → slice_get (play (opening voters observers agents sheet issuer) events).1.nodes i ≡ Some n → IsNode voters agents (play (opening voters observers agents sheet issuer) events).1.journals n
+  is_node : (i : ℕ) (n : Node) → slice_get (play (opening_with room voters observers agents sheet issuer) events).1.nodes i ≡ Some n → IsNode voters agents (play (opening_with room voters observers agents sheet issuer) events).1.journals n
   is_node i n found = record {
     round = is.round_in;
     periods = length_prefix n.kept.learned headline.cuts prefix headline.are_the_cuts.in_range;
@@ -419,11 +419,11 @@ module _ (voters observers agents : ℕ) (sheet : Sheet) (issuer : Issuer) (even
     part = of.part;
     attempt = is.attempts;
     tally = is.entries;
-    whole = λ period cut e none. agree_where_none_missing n.kept.holding (play (opening voters observers agents sheet issuer) events).1.journals cut of.is_holding bounds.fitting.rules.is_holding of.part none;
+    whole = λ period cut e none. agree_where_none_missing n.kept.holding (play (opening_with room voters observers agents sheet issuer) events).1.journals cut of.is_holding bounds.fitting.rules.is_holding of.part none;
   }
     where
       w : World
-      w = (play (opening voters observers agents sheet issuer) events).1
+      w = (play (opening_with room voters observers agents sheet issuer) events).1
 
       is : IsBounded voters agents w.journals n
       is = subst (λ a. IsBounded voters a w.journals n) headline.agents_kept (at_entry (IsBounded voters w.agents w.journals) w.nodes i n bounds.nodes found)
@@ -437,14 +437,15 @@ module _ (voters observers agents : ℕ) (sheet : Sheet) (issuer : Issuer) (even
       length_prefix : (xs ys : List Cut) → IsPrefixOf xs ys → length ys ≤ 1_200 → length xs ≤ 1_200
       length_prefix xs ys p few = let sum = length-append xs p.0 in let same = ap (λ (zs : List Cut). length zs) p.1 in omega (arith, sum, same, few)
 
-  pub keeps_limits : KeepsLimits voters observers agents (play (opening voters observers agents sheet issuer) events).1
+  pub keeps_limits : KeepsLimits room voters observers agents (play (opening_with room voters observers agents sheet issuer) events).1
   keeps_limits = record {
     nodes_kept = headline.nodes_kept;
     voters_kept = headline.voters_kept;
     agents_kept = headline.agents_kept;
     rules = headline.rules;
-    in_range = (has_agents voters observers agents sheet issuer events).each;
-    room = bounds.room;
+    in_range = (has_agents room voters observers agents sheet issuer events).each;
+    room_kept = opened.room_kept;
+    fits = subst (λ r. length w.packets ≤ r) opened.room_kept bounds.fits;
     each_packet = subst (λ N. All (IsPacket N w.agents w.journals) w.packets) (sym headline.voters_kept) bounds.packets;
     each_node = subst (λ N. All (IsNode N w.agents w.journals) w.nodes) (sym headline.voters_kept)
         (subst (λ a. All (IsNode voters a w.journals) w.nodes) (sym headline.agents_kept) (all_entries (IsNode voters agents w.journals) w.nodes is_node));
@@ -452,7 +453,10 @@ module _ (voters observers agents : ℕ) (sheet : Sheet) (issuer : Issuer) (even
   }
     where
       w : World
-      w = (play (opening voters observers agents sheet issuer) events).1
+      w = (play (opening_with room voters observers agents sheet issuer) events).1
+
+      opened : IsAsOpened room (voters + observers) agents sheet issuer w
+      opened = as_opened room voters observers agents sheet issuer events
 
       observing : HasObservers voters w
-      observing = play_kept (HasObservers voters) (HasObservers-steps voters) events (opening voters observers agents sheet issuer) (HasForms-opening voters observers agents sheet issuer) (HasObservers-opening voters observers agents sheet issuer)
+      observing = play_kept (HasObservers voters) (HasObservers-steps voters) events (opening_with room voters observers agents sheet issuer) (HasForms-opening room voters observers agents sheet issuer) (HasObservers-opening room voters observers agents sheet issuer)

@@ -5,7 +5,7 @@ use Rattle.std.proofs.lemmas.Bool.{ltb-true}
 use Rattle.metering_model.specs.Cut.{Cut}
 use Rattle.metering_model.specs.Sheet.{Sheet, Issuer}
 use Rattle.metering_model.specs.Ballot.{has_majority, accepting_at, with_accepted}
-use Rattle.metering_model.specs.World.{World, Node, Packet, CarriesBatch, Prepare, Promise, Accept, Accepted, Decided, voter_count, votes, current_period, wake, new_kept, opening}
+use Rattle.metering_model.specs.World.{World, Node, Packet, CarriesBatch, Prepare, Promise, Accept, Accepted, Decided, voter_count, votes, current_period, wake, new_kept, opening_with}
 use Rattle.metering_model.specs.Deliveries.{Handled, silent, sending, learning, unless_learned, if_votes, on_prepare, on_promise, on_accept, after_accepted, handled}
 use Rattle.group_laws.specs.EveryRun.{IsObserver}
 use Rattle.group_laws.proofs.StepCases.{after, started, start_packet, IsKeptBySteps}
@@ -96,8 +96,8 @@ HasObservers-steps N = record {
   restarts = λ w i n h found. observers_after N w i (wake n.kept) None h (λ beyond. let is = h.each i n beyond found in record { round = is.round; acceptor = is.acceptor; attempt = refl });
 }
 
-pub HasObservers-opening : (voters observers agents : ℕ) (sheet : Sheet) (issuer : Issuer) → HasObservers voters (opening voters observers agents sheet issuer)
-HasObservers-opening voters observers agents sheet issuer = record {
+pub HasObservers-opening : (room voters observers agents : ℕ) (sheet : Sheet) (issuer : Issuer) → HasObservers voters (opening_with room voters observers agents sheet issuer)
+HasObservers-opening room voters observers agents sheet issuer = record {
   count = refl;
   each = λ i n beyond e. subst IsObserver (sym (get-replicate (voters + observers) i (wake new_kept) n e)) (record { round = refl; acceptor = refl; attempt = refl });
 }

@@ -4,7 +4,6 @@ use Rattle.std.specs.Prelude.{◌==◌, slice_get, if◌then◌else◌, nat_le}
 use Rattle.std.specs.List.{list_all, enumerate_from}
 use Rattle.std.specs.Option.{option_and_then}
 use Rattle.std.proofs.Math.Seq.{drop-append_seam, drop-length, take-append_seam, take-length}
-use Rattle.metering_model.specs.Limits.{most_packets}
 use Rattle.std.proofs.lemmas.Bool.{lt-ltb, cases_Bool, cond-true, cond-false, and_parts, eq-eqb, both_ways, and_from, ne_eqb}
 use Rattle.metering_model.specs.FirstFailure.{◌>>=◌, holds_or}
 use Rattle.metering_model.specs.declared.BrokenRule.{BrokenRule}
@@ -181,8 +180,8 @@ module _ (w v : World) (b : Batch) (agree : AgreeAtAgent b.agent w v) where
     sent = drop-append_seam v.packets (CarriesBatch b ∷ []) ∙ sym (drop-append_seam w.packets (CarriesBatch b ∷ []));
   }
 
-  has_room : (x : World) → length x.packets < most_packets → next_packet x ≡ Ok (length x.packets)
-  has_room x room = cond-true (nat_lt (length x.packets) most_packets) (Ok (length x.packets)) (Err WorldFull) (lt-ltb (length x.packets) most_packets room)
+  has_room : (x : World) → length x.packets < x.room → next_packet x ≡ Ok (length x.packets)
+  has_room x room = cond-true (nat_lt (length x.packets) x.room) (Ok (length x.packets)) (Err WorldFull) (lt-ltb (length x.packets) x.room room)
 
   batch_alike : Alike (on_batch w b) (on_batch v b)
   batch_alike =
@@ -207,7 +206,7 @@ module _ (w : World) (b : Batch) where
   Only r = ChangesOnlyAgent b.agent w (or_refused w r)
 
   only_refused : (e : Refusal) → Only (Err e)
-  only_refused e = record { sheet = refl; issuer = refl; agents = refl; voters = refl; nodes = refl; packets = take-length w.packets; others = λ other apart. refl }
+  only_refused e = record { sheet = refl; issuer = refl; agents = refl; room = refl; voters = refl; nodes = refl; packets = take-length w.packets; others = λ other apart. refl }
 
   only_journaled : (known next : Bool) (wrong : Refusal) (unbroken : Result (Unit {0}) Refusal) (number : Result ℕ Refusal) → Only (after_rules w b known next wrong unbroken number)
   only_journaled false next wrong unbroken number = only_refused NoAgent
@@ -218,6 +217,7 @@ module _ (w : World) (b : Batch) where
     sheet = refl;
     issuer = refl;
     agents = refl;
+    room = refl;
     voters = refl;
     nodes = refl;
     packets = take-append_seam w.packets (CarriesBatch b ∷ []);

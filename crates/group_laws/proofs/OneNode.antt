@@ -4,7 +4,7 @@ use Rattle.std.specs.Prelude.{slice_get, ok_or}
 use Rattle.std.proofs.lemmas.Bool.{cond-true, lt-ltb, eqb-true}
 use Rattle.std.proofs.Math.Seq.{drop-append_seam, drop-length, take-append_seam, take-length}
 use Rattle.metering_model.specs.FirstFailure.{◌>>=◌, holds_or}
-use Rattle.metering_model.specs.Limits.{most_packets, most_periods, most_rounds}
+use Rattle.metering_model.specs.Limits.{most_periods, most_rounds}
 use Rattle.metering_model.specs.declared.Refusal.{Refusal}
 use Rattle.metering_model.specs.declared.Refusal.TheVariants.{NoPacket, NoNode, NotClosed, Observer, AllClosed, NoBallot, NotKept, WorldFull}
 use Rattle.metering_model.specs.BatchReading.{is_same}
@@ -29,10 +29,10 @@ done w i n (Some p) reply = next_packet w >>= λ k. Ok (reply (Some k), with_pac
 abbrev Numbers : (Option ℕ → Reply) → Type 0
 Numbers reply = (k l : ℕ) → unnumbered (reply (Some k)) ≡ unnumbered (reply (Some l))
 
-module _ (i : ℕ) (w : World) (journals : Holding) (packets : List Packet) (nodes : List Node) where
+module _ (i : ℕ) (w : World) (journals : Holding) (space : ℕ) (packets : List Packet) (nodes : List Node) where
   -- the other world, which differs in what a node doesn't see
   abbrev other : World
-  other = record w { journals = journals; packets = packets; nodes = nodes }
+  other = record w { journals = journals; room = space; packets = packets; nodes = nodes }
 
   abbrev Alike : Outcome → Outcome → Type 0
   Alike = SameStepAt i w other
@@ -43,7 +43,7 @@ module _ (i : ℕ) (w : World) (journals : Holding) (packets : List Packet) (nod
   refused : (e : Refusal) → slice_get nodes i ≡ slice_get w.nodes i → Alike (or_refused w (Err e)) (or_refused other (Err e))
   refused e same = stays (Refused e) same
 
-  does : (n : Node) (sends : Option Packet) (reply : Option ℕ → Reply) → Numbers reply → length w.packets < most_packets → length packets < most_packets
+  does : (n : Node) (sends : Option Packet) (reply : Option ℕ → Reply) → Numbers reply → length w.packets < w.room → length packets < space
       → slice_get nodes i ≡ slice_get w.nodes i → Alike (or_refused w (done w i n sends reply)) (or_refused other (done other i n sends reply))
   does n None reply numbers room room_too same = record {
     reply = refl;
@@ -51,8 +51,8 @@ module _ (i : ℕ) (w : World) (journals : Holding) (packets : List Packet) (nod
     sent = drop-length packets ∙ sym (drop-length w.packets);
   }
   does n (Some p) reply numbers room room_too same =
-      let here = cond-true (nat_lt (length w.packets) most_packets) (Ok (length w.packets)) (Err WorldFull) (lt-ltb (length w.packets) most_packets room) in
-      let there = cond-true (nat_lt (length packets) most_packets) (Ok (length packets)) (Err WorldFull) (lt-ltb (length packets) most_packets room_too) in
+      let here = cond-true (nat_lt (length w.packets) w.room) (Ok (length w.packets)) (Err WorldFull) (lt-ltb (length w.packets) w.room room) in
+      let there = cond-true (nat_lt (length packets) space) (Ok (length packets)) (Err WorldFull) (lt-ltb (length packets) space room_too) in
       let in_w : Outcome = (reply (Some (length w.packets)), with_packet p (with_node_at i n w)) in
       let in_other : Outcome = (reply (Some (length packets)), with_packet p (with_node_at i n other)) in
       let sent : Alike in_w in_other = record {
@@ -63,7 +63,7 @@ module _ (i : ℕ) (w : World) (journals : Holding) (packets : List Packet) (nod
       subst (λ r. Alike (or_refused w (r >>= λ k. Ok (reply (Some k), with_packet p (with_node_at i n w)))) (or_refused other (done other i n (Some p) reply))) (sym here)
       (subst (λ r. Alike in_w (or_refused other (r >>= λ k. Ok (reply (Some k), with_packet p (with_node_at i n other))))) (sym there) sent)
 
-  delivers : (h : Handled) → length w.packets < most_packets → length packets < most_packets → slice_get nodes i ≡ slice_get w.nodes i
+  delivers : (h : Handled) → length w.packets < w.room → length packets < space → slice_get nodes i ≡ slice_get w.nodes i
       → Alike (or_refused w (after_delivery w i h)) (or_refused other (after_delivery other i h))
   delivers h room room_too same = by_sent h.sends
     where
@@ -73,18 +73,18 @@ module _ (i : ℕ) (w : World) (journals : Holding) (packets : List Packet) (nod
 
   -- ---- a delivery
 
-  delivered_to : (p : Packet) (nodes_at : Option Node) (h : slice_get w.nodes i ≡ nodes_at) → length w.packets < most_packets → length packets < most_packets → slice_get nodes i ≡ slice_get w.nodes i
+  delivered_to : (p : Packet) (nodes_at : Option Node) (h : slice_get w.nodes i ≡ nodes_at) → length w.packets < w.room → length packets < space → slice_get nodes i ≡ slice_get w.nodes i
       → Alike (or_refused w (ok_or nodes_at NoNode >>= λ n. after_delivery w i (handled w i n p))) (or_refused other (ok_or nodes_at NoNode >>= λ n. after_delivery other i (handled other i n p)))
   delivered_to p None h room room_too same = refused NoNode same
   delivered_to p (Some n) h room room_too same = delivers (handled w i n p) room room_too same
 
-  delivered_at : (k l : ℕ) (sent : Option Packet) → length w.packets < most_packets → length packets < most_packets → slice_get nodes i ≡ slice_get w.nodes i
+  delivered_at : (k l : ℕ) (sent : Option Packet) → length w.packets < w.room → length packets < space → slice_get nodes i ≡ slice_get w.nodes i
       → Alike (or_refused w (ok_or sent NoPacket >>= λ p. ok_or (slice_get w.nodes i) NoNode >>= λ n. after_delivery w i (handled w i n p)))
       (or_refused other (ok_or sent NoPacket >>= λ p. ok_or (slice_get w.nodes i) NoNode >>= λ n. after_delivery other i (handled other i n p)))
   delivered_at k l None room room_too same = refused NoPacket same
   delivered_at k l (Some p) room room_too same = delivered_to p (slice_get w.nodes i) refl room room_too same
 
-  delivery : (k l : ℕ) → slice_get packets l ≡ slice_get w.packets k → length w.packets < most_packets → length packets < most_packets → slice_get nodes i ≡ slice_get w.nodes i
+  delivery : (k l : ℕ) → slice_get packets l ≡ slice_get w.packets k → length w.packets < w.room → length packets < space → slice_get nodes i ≡ slice_get w.nodes i
       → Alike (step w (Deliver k i)) (step other (Deliver l i))
   delivery k l sent room room_too same =
       subst (λ s. Alike (step w (Deliver k i)) (or_refused other (ok_or s NoPacket >>= λ p. ok_or (slice_get nodes i) NoNode >>= λ n. after_delivery other i (handled other i n p)))) (sym sent)
@@ -107,7 +107,7 @@ module _ (i : ℕ) (w : World) (journals : Holding) (packets : List Packet) (nod
   begun v n = done v i (started_node (voter_count w) (ballot_of (n.kept.round + 1) i (voter_count w)) n)
       (Some (Prepare (current_period n) (ballot_of (n.kept.round + 1) i (voter_count w)))) (λ s. Started (ballot_of (n.kept.round + 1) i (voter_count w)) (unwrap_or s 0))
 
-  starts : (n : Node) (voting unclosed left : Bool) → length w.packets < most_packets → length packets < most_packets → slice_get nodes i ≡ slice_get w.nodes i
+  starts : (n : Node) (voting unclosed left : Bool) → length w.packets < w.room → length packets < space → slice_get nodes i ≡ slice_get w.nodes i
       → Alike (or_refused w (holds_or voting Observer >>= λ _. holds_or unclosed AllClosed >>= λ _. holds_or left NoBallot >>= λ _. begun w n))
       (or_refused other (holds_or voting Observer >>= λ _. holds_or unclosed AllClosed >>= λ _. holds_or left NoBallot >>= λ _. begun other n))
   starts n false unclosed left room room_too same = refused Observer same
@@ -126,7 +126,7 @@ module _ (i : ℕ) (w : World) (journals : Holding) (packets : List Packet) (nod
   exports (Err e) same = refused e same
   exports (Ok x) same = stays (Exported x) same
 
-  revives : (n : Node) (offer : Result KeptAmong Refusal) → length w.packets < most_packets → length packets < most_packets → slice_get nodes i ≡ slice_get w.nodes i
+  revives : (n : Node) (offer : Result KeptAmong Refusal) → length w.packets < w.room → length packets < space → slice_get nodes i ≡ slice_get w.nodes i
       → Alike (or_refused w (offer >>= λ k. holds_or (is_same (kept_text k) (kept_text (kept_now w n))) NotKept >>= λ _. Ok (Restarted, with_node_at i (wake k.kept) w)))
       (or_refused other (offer >>= λ k. holds_or (is_same (kept_text k) (kept_text (kept_now w n))) NotKept >>= λ _. Ok (Restarted, with_node_at i (wake k.kept) other)))
   revives n (Err e) room room_too same = refused e same
@@ -136,7 +136,7 @@ module _ (i : ℕ) (w : World) (journals : Holding) (packets : List Packet) (nod
       by_test false = refused NotKept same
       by_test true = does (wake k.kept) None (λ s. Restarted) (λ k l. refl) room room_too same
 
-  asked : (e : Event) → is_input_at i e ≡ true → length w.packets < most_packets → length packets < most_packets → slice_get nodes i ≡ slice_get w.nodes i → Alike (step w e) (step other e)
+  asked : (e : Event) → is_input_at i e ≡ true → length w.packets < w.room → length packets < space → slice_get nodes i ≡ slice_get w.nodes i → Alike (step w e) (step other e)
   asked (Journal offer) at room room_too same = absurd (cc)
   asked (Deliver packet node) at room room_too same = absurd (cc)
   asked (Start node) at room room_too same =
@@ -161,20 +161,20 @@ module _ (i : ℕ) (w : World) (journals : Holding) (packets : List Packet) (nod
 -- ---- any two worlds
 
 -- the other world is this one, but for what a node doesn't see
-as_other : (i : ℕ) (w v : World) → AgreeAtNode i w v → v ≡ other i w v.journals v.packets v.nodes
+as_other : (i : ℕ) (w v : World) → AgreeAtNode i w v → v ≡ other i w v.journals v.room v.packets v.nodes
 as_other i w v h = by_parts v.sheet v.issuer v.agents (voter_count v) h.sheet h.issuer h.agents h.voters
   where
     by_parts : (sheet : Sheet) (issuer : Issuer) (agents voters : ℕ) → sheet ≡ w.sheet → issuer ≡ w.issuer → agents ≡ w.agents → voters ≡ voter_count w
-        → record { sheet = sheet; issuer = issuer; agents = agents; journals = v.journals; packets = v.packets; voters = voters; nodes = v.nodes } ≡ other i w v.journals v.packets v.nodes
+        → record { sheet = sheet; issuer = issuer; agents = agents; journals = v.journals; room = v.room; packets = v.packets; voters = voters; nodes = v.nodes } ≡ other i w v.journals v.room v.packets v.nodes
     by_parts sheet issuer agents voters a b c d = cc
 
 pub delivered_alike : (w v : World) (i k l : ℕ) → AgreeAtNode i w v → slice_get v.packets l ≡ slice_get w.packets k → SameStepAt i w v (step w (Deliver k i)) (step v (Deliver l i))
 delivered_alike w v i k l h sent =
-    subst (λ x. SameStepAt i w x (step w (Deliver k i)) (step x (Deliver l i))) (sym (as_other i w v h)) (delivery i w v.journals v.packets v.nodes k l sent h.room h.room_too h.node)
+    subst (λ x. SameStepAt i w x (step w (Deliver k i)) (step x (Deliver l i))) (sym (as_other i w v h)) (delivery i w v.journals v.room v.packets v.nodes k l sent h.room h.room_too h.node)
 
 pub asked_alike : (w v : World) (i : ℕ) (e : Event) → AgreeAtNode i w v → is_input_at i e ≡ true → SameStepAt i w v (step w e) (step v e)
 asked_alike w v i e h at =
-    subst (λ x. SameStepAt i w x (step w e) (step x e)) (sym (as_other i w v h)) (asked i w v.journals v.packets v.nodes e at h.room h.room_too h.node)
+    subst (λ x. SameStepAt i w x (step w e) (step x e)) (sym (as_other i w v h)) (asked i w v.journals v.room v.packets v.nodes e at h.room h.room_too h.node)
 
 -- ---- what stays
 
@@ -183,16 +183,16 @@ module _ (i : ℕ) (w : World) where
   Just = ChangesOnlyNode i w
 
   just_stays : (r : Reply) → Just (r, w)
-  just_stays r = record { sheet = refl; issuer = refl; agents = refl; voters = refl; journals = refl; count = refl; packets = take-length w.packets; others = λ j apart. refl }
+  just_stays r = record { sheet = refl; issuer = refl; agents = refl; room = refl; voters = refl; journals = refl; count = refl; packets = take-length w.packets; others = λ j apart. refl }
 
   just_then : {A : Type 0} (x : Result A Refusal) (f : A → Result Outcome Refusal) → ((a : A) → Just (or_refused w (f a))) → Just (or_refused w (x >>= f))
   just_then (Err e) f each = just_stays (Refused e)
   just_then (Ok a) f each = each a
 
   just_does : (n : Node) (sends : Option Packet) (reply : Option ℕ → Reply) → Just (or_refused w (done w i n sends reply))
-  just_does n None reply = record { sheet = refl; issuer = refl; agents = refl; voters = refl; journals = refl; count = length-slice_set w.nodes i n; packets = take-length w.packets; others = λ j apart. set_other w.nodes i j n apart }
+  just_does n None reply = record { sheet = refl; issuer = refl; agents = refl; room = refl; voters = refl; journals = refl; count = length-slice_set w.nodes i n; packets = take-length w.packets; others = λ j apart. set_other w.nodes i j n apart }
   just_does n (Some p) reply = just_then (next_packet w) (λ k. Ok (reply (Some k), with_packet p (with_node_at i n w))) (λ k.
-      record { sheet = refl; issuer = refl; agents = refl; voters = refl; journals = refl; count = length-slice_set w.nodes i n; packets = take-append_seam w.packets (p ∷ []); others = λ j apart. set_other w.nodes i j n apart })
+      record { sheet = refl; issuer = refl; agents = refl; room = refl; voters = refl; journals = refl; count = length-slice_set w.nodes i n; packets = take-append_seam w.packets (p ∷ []); others = λ j apart. set_other w.nodes i j n apart })
 
   just_delivers : (h : Handled) → Just (or_refused w (after_delivery w i h))
   just_delivers h = by_sent h.sends
@@ -206,7 +206,7 @@ module _ (i : ℕ) (w : World) where
   just_at f each = just_then (ok_or (slice_get w.nodes i) NoNode) f each
 
   just_starts : (n : Node) → Just (or_refused w (holds_or (votes w i) Observer >>= λ _. holds_or (nat_lt (current_period n) most_periods) AllClosed >>= λ _.
-      holds_or (nat_lt n.kept.round most_rounds) NoBallot >>= λ _. begun i w [] [] [] w n))
+      holds_or (nat_lt n.kept.round most_rounds) NoBallot >>= λ _. begun i w [] 0 [] [] w n))
   just_starts n =
       just_then (holds_or (votes w i) Observer) _ (λ _. just_then (holds_or (nat_lt (current_period n) most_periods) AllClosed) _ (λ _.
       just_then (holds_or (nat_lt n.kept.round most_rounds) NoBallot) _ (λ _.

@@ -9,7 +9,7 @@ use Rattle.metering_model.specs.Sheet.{Sheet, Issuer}
 use Rattle.metering_model.specs.declared.KeptTextFault.{KeptTextFault}
 use Rattle.metering_model.specs.declared.Refusal.{Refusal}
 use Rattle.metering_model.specs.declared.Refusal.TheVariants.{NoNode, BadKept, NotKept}
-use Rattle.metering_model.specs.World.{World, Node, Event, Restart, Revive, KeptOffer, KeptGood, KeptBad, Restarted, Refused, voter_count, wake, with_node_at, opening}
+use Rattle.metering_model.specs.World.{World, Node, Event, Restart, Revive, KeptOffer, KeptGood, KeptBad, Restarted, Refused, voter_count, wake, with_node_at, opening_with}
 use Rattle.metering_model.specs.KeptText.{KeptAmong, HasText, IsBallotNumber, kept_text, kept_in}
 use Rattle.metering_model.specs.Step.{Outcome, or_refused, or_bad_kept, kept_of, kept_now, step, play}
 use Rattle.metering_model.proofs.FieldLaws.{same_read}
@@ -96,9 +96,9 @@ other_is_refused w i offer n found other =
 ballot_number : (voters ballot : ℕ) → voters ≤ 99 → IsBallot voters ballot → 1 ≤ ballot → IsBallotNumber ballot
 ballot_number voters ballot few is some = let low = is.low in (some, omega (arith, low, few))
 
-module _ (voters observers agents : ℕ) (sheet : Sheet) (issuer : Issuer) (events : List Event) where
-  pub each_has_text : voters ≤ 99 → 1 ≤ agents → agents ≤ 64 → (i : ℕ) (n : Node) → slice_get (play (opening voters observers agents sheet issuer) events).1.nodes i ≡ Some n →
-      HasText (kept_now (play (opening voters observers agents sheet issuer) events).1 n)
+module _ (room voters observers agents : ℕ) (sheet : Sheet) (issuer : Issuer) (events : List Event) where
+  pub each_has_text : voters ≤ 99 → 1 ≤ agents → agents ≤ 64 → (i : ℕ) (n : Node) → slice_get (play (opening_with room voters observers agents sheet issuer) events).1.nodes i ≡ Some n →
+      HasText (kept_now (play (opening_with room voters observers agents sheet issuer) events).1 n)
   each_has_text few some most i n found = record {
     agents = (subst (λ a. 1 ≤ a) (sym limits.agents_kept) some, subst (λ a. a ≤ 64) (sym limits.agents_kept) most);
     round = is.round;
@@ -110,23 +110,23 @@ module _ (voters observers agents : ℕ) (sheet : Sheet) (issuer : Issuer) (even
     in_range = form.in_range;
   }
     where
-      limits : KeepsLimits voters observers agents (play (opening voters observers agents sheet issuer) events).1
-      limits = keeps_limits voters observers agents sheet issuer events
+      limits : KeepsLimits room voters observers agents (play (opening_with room voters observers agents sheet issuer) events).1
+      limits = keeps_limits room voters observers agents sheet issuer events
 
-      is : IsNode (voter_count (play (opening voters observers agents sheet issuer) events).1) (play (opening voters observers agents sheet issuer) events).1.agents (play (opening voters observers agents sheet issuer) events).1.journals n
-      is = at_entry (IsNode (voter_count (play (opening voters observers agents sheet issuer) events).1)
-          (play (opening voters observers agents sheet issuer) events).1.agents (play (opening voters observers agents sheet issuer) events).1.journals)
-          (play (opening voters observers agents sheet issuer) events).1.nodes i n limits.each_node found
+      is : IsNode (voter_count (play (opening_with room voters observers agents sheet issuer) events).1) (play (opening_with room voters observers agents sheet issuer) events).1.agents (play (opening_with room voters observers agents sheet issuer) events).1.journals n
+      is = at_entry (IsNode (voter_count (play (opening_with room voters observers agents sheet issuer) events).1)
+          (play (opening_with room voters observers agents sheet issuer) events).1.agents (play (opening_with room voters observers agents sheet issuer) events).1.journals)
+          (play (opening_with room voters observers agents sheet issuer) events).1.nodes i n limits.each_node found
 
-      form : IsWritable (kept_now (play (opening voters observers agents sheet issuer) events).1 n)
-      form = writable (play (opening voters observers agents sheet issuer) events).1 n ((forms voters observers agents sheet issuer events).nodes i n found)
+      form : IsWritable (kept_now (play (opening_with room voters observers agents sheet issuer) events).1 n)
+      form = writable (play (opening_with room voters observers agents sheet issuer) events).1 n ((forms room voters observers agents sheet issuer events).nodes i n found)
 
       ballot_of_vote : (o : Option Vote) (v : Vote)
-          → MayBeVote (voter_count (play (opening voters observers agents sheet issuer) events).1)
-          (play (opening voters observers agents sheet issuer) events).1.agents (play (opening voters observers agents sheet issuer) events).1.journals o
-          → o ≡ Some v → IsBallot (voter_count (play (opening voters observers agents sheet issuer) events).1) v.ballot
+          → MayBeVote (voter_count (play (opening_with room voters observers agents sheet issuer) events).1)
+          (play (opening_with room voters observers agents sheet issuer) events).1.agents (play (opening_with room voters observers agents sheet issuer) events).1.journals o
+          → o ≡ Some v → IsBallot (voter_count (play (opening_with room voters observers agents sheet issuer) events).1) v.ballot
       ballot_of_vote None v may e = absurd (cc)
-      ballot_of_vote (Some u) v may e = subst (λ (x : Vote). IsBallot (voter_count (play (opening voters observers agents sheet issuer) events).1) x.ballot) (same_Some u v e) may.ballot
+      ballot_of_vote (Some u) v may e = subst (λ (x : Vote). IsBallot (voter_count (play (opening_with room voters observers agents sheet issuer) events).1) x.ballot) (same_Some u v e) may.ballot
 
-      vote_ballot : (v : Vote) → n.kept.acceptor.vote ≡ Some v → IsBallot (voter_count (play (opening voters observers agents sheet issuer) events).1) v.ballot
+      vote_ballot : (v : Vote) → n.kept.acceptor.vote ≡ Some v → IsBallot (voter_count (play (opening_with room voters observers agents sheet issuer) events).1) v.ballot
       vote_ballot v e = ballot_of_vote n.kept.acceptor.vote v is.vote e

@@ -2,7 +2,7 @@
 use Rattle.std.proofs.Common.{◌≡◌, ℕ, ◌+◌, Bool, true, false, [], ◌∷◌, ◌++◌, length, refl, sym, ap, subst, Option, Some, None, Result, Ok, Err, nat_lt}
 use Rattle.std.specs.Prelude.{slice_get, ok_or, nat_le, ◌==◌, if◌then◌else◌}
 use Rattle.metering_model.specs.FirstFailure.{◌>>=◌, holds_or}
-use Rattle.metering_model.specs.Limits.{most_packets, most_periods, most_rounds}
+use Rattle.metering_model.specs.Limits.{most_periods, most_rounds}
 use Rattle.metering_model.specs.declared.Refusal.{Refusal}
 use Rattle.metering_model.specs.declared.Refusal.TheVariants.{NoPacket, NoNode, Observer, AllClosed, NoBallot, NotKept, NoAgent, WrongSeq, WorldFull}
 use Rattle.metering_model.specs.Batch.{Batch}
@@ -27,7 +27,7 @@ module _ (w : World) where
   -- a packet that is sent from a world with the same packets, which gets the next number
   told_sent : (reply : ℕ → Reply) → ((k : ℕ) → told_number (reply k) ≡ Some k) → (p : Packet) (v : World) → v.packets ≡ w.packets
       → Told (or_refused w (next_packet w >>= λ k. Ok (reply k, with_packet p v)))
-  told_sent reply tells p v same = by_room (nat_lt (length w.packets) most_packets)
+  told_sent reply tells p v same = by_room (nat_lt (length w.packets) w.room)
     where
       by_room : (t : Bool) → Told (or_refused w ((if t then Ok (length w.packets) else Err WorldFull) >>= λ k. Ok (reply k, with_packet p v)))
       by_room false = refl

@@ -26,7 +26,7 @@ use Rattle.metering_model.proofs.KeptLaws.{kept_read}
 use Rattle.group_laws.proofs.Quorum.{In}
 
 abbrev pub HasRoom : World → Type 0
-HasRoom w = length w.packets < 1_000_000
+HasRoom w = length w.packets < w.room
 
 -- the batch is one that the journals take, and the world has room for its packet
 pub record IsNext (w : World) (b : Batch) : Type 0 where
@@ -108,9 +108,9 @@ held_ok true e u h = refl
 held_ok false e u h = absurd (cc)
 
 has_room : (w : World) (k : ℕ) → next_packet w ≡ Ok k → HasRoom w
-has_room w k e = by_test (nat_lt (length w.packets) 1_000_000) refl e
+has_room w k e = by_test (nat_lt (length w.packets) w.room) refl e
   where
-    by_test : (t : Bool) → nat_lt (length w.packets) 1_000_000 ≡ t → (if t then Ok (length w.packets) else Err WorldFull) ≡ Ok k → HasRoom w
+    by_test : (t : Bool) → nat_lt (length w.packets) w.room ≡ t → (if t then Ok (length w.packets) else Err WorldFull) ≡ Ok k → HasRoom w
     by_test true is f = ltb-true _ _ is
     by_test false is f = absurd (cc)
 

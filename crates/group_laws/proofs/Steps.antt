@@ -7,7 +7,7 @@ use Rattle.metering_model.specs.Batch.{Batch}
 use Rattle.metering_model.specs.Cut.{Cut}
 use Rattle.metering_model.specs.Sheet.{Sheet, Issuer}
 use Rattle.metering_model.specs.Ballot.{Vote, Attempt, ballot_of, is_above, is_not_below, after_prepare, after_accept, new_attempt, with_promise, has_majority, Tally, accepting_at, with_accepted}
-use Rattle.metering_model.specs.World.{World, Node, Packet, CarriesBatch, Prepare, Promise, Accept, Accepted, Decided, voter_count, votes, current_period, wake, new_kept, opening}
+use Rattle.metering_model.specs.World.{World, Node, Packet, CarriesBatch, Prepare, Promise, Accept, Accepted, Decided, voter_count, votes, current_period, wake, new_kept, opening_with}
 use Rattle.metering_model.specs.Deliveries.{Handled, silent, sending, learning, with_acceptor, unless_learned, if_votes, on_prepare, on_promise, on_accept, after_promise, after_accepted, proposal, handled}
 use Rattle.metering_model.specs.Step.{started_node}
 use Rattle.group_laws.proofs.Quorum.{In, IsTrueOf, IsSafe}
@@ -298,8 +298,8 @@ none_sent q h = none h.0 h.1
     none : (k : ℕ) → slice_get [] k ≡ Some q → ⊥
     none k e = cc
 
-pub IsKept-opening : (voters observers agents : ℕ) (sheet : Sheet) (issuer : Issuer) → IsKept voters (opening voters observers agents sheet issuer)
-IsKept-opening voters observers agents sheet issuer = record {
+pub IsKept-opening : (room voters observers agents : ℕ) (sheet : Sheet) (issuer : Issuer) → IsKept voters (opening_with room voters observers agents sheet issuer)
+IsKept-opening room voters observers agents sheet issuer = record {
   count = refl;
   safe = record {
     one_cut = λ p b c d h k. absurd (none_sent _ h);

@@ -14,7 +14,7 @@ use Rattle.metering_model.specs.BatchReading.{is_same}
 use Rattle.metering_model.specs.Sheet.{Sheet, Issuer}
 use Rattle.metering_model.specs.Chosen.{accepts}
 use Rattle.metering_model.specs.Ballot.{Vote, Attempt, Nodes, nobody, Tally, majority, has_majority, with_node, accepting_at, with_accepted, with_promise}
-use Rattle.metering_model.specs.World.{World, Node, Packet, CarriesBatch, Prepare, Promise, Accept, Accepted, Decided, voter_count, votes, current_period, wake, new_kept, opening}
+use Rattle.metering_model.specs.World.{World, Node, Packet, CarriesBatch, Prepare, Promise, Accept, Accepted, Decided, voter_count, votes, current_period, wake, new_kept, opening_with}
 use Rattle.metering_model.specs.Deliveries.{Handled, silent, sending, learning, on_prepare, on_promise, on_accept, unless_learned, if_votes, after_promise, after_accepted, handled}
 use Rattle.group_laws.proofs.Quorum.{In, IsSafe, accepting_in}
 use Rattle.group_laws.proofs.Kept.{sent_before, sent_split}
@@ -303,9 +303,9 @@ module _ (N : ℕ) where
     restarts = λ w i n h found. told_after N w i (wake n.kept) None h (steps.restarts w i n h.kept found) (record { chosen = (h.nodes i n found).chosen; counted = λ b set e. absurd (none-some set e) }) tt;
   }
 
-pub IsTold-opening : (voters observers agents : ℕ) (sheet : Sheet) (issuer : Issuer) → IsTold voters (opening voters observers agents sheet issuer)
-IsTold-opening voters observers agents sheet issuer = record {
-  kept = IsKept-opening voters observers agents sheet issuer;
+pub IsTold-opening : (room voters observers agents : ℕ) (sheet : Sheet) (issuer : Issuer) → IsTold voters (opening_with room voters observers agents sheet issuer)
+IsTold-opening room voters observers agents sheet issuer = record {
+  kept = IsKept-opening room voters observers agents sheet issuer;
   decided = λ p c h. absurd (none_sent _ h);
   nodes = λ i n e. subst (NodeTells [] voters) (sym (get-replicate (voters + observers) i (wake new_kept) n e)) (record {
     chosen = λ p c e. absurd (none-some c e);

@@ -14,7 +14,7 @@ use Rattle.metering_model.specs.JournalRules.{next_seq, first_broken}
 use Rattle.metering_model.specs.Sheet.{Sheet, Issuer}
 use Rattle.metering_model.specs.declared.Refusal.{Refusal}
 use Rattle.metering_model.specs.declared.Refusal.TheVariants.{NoPacket, NoNode, NoAgent, WrongSeq, AllClosed, NoBallot, WorldFull, Observer, NotKept}
-use Rattle.metering_model.specs.World.{World, Node, Packet, CarriesBatch, Prepare, Promise, Accept, Accepted, Decided, Event, Journal, Deliver, Start, Restart, Export, Keep, Revive, KeptOffer, Delivered, Reply, Refused, Exported, Snapshot, votes, current_period, wake, new_kept, with_node_at, with_packet, next_packet, opening}
+use Rattle.metering_model.specs.World.{World, Node, Packet, CarriesBatch, Prepare, Promise, Accept, Accepted, Decided, Event, Journal, Deliver, Start, Restart, Export, Keep, Revive, KeptOffer, Delivered, Reply, Refused, Exported, Snapshot, votes, current_period, wake, new_kept, with_node_at, with_packet, next_packet, opening_with}
 use Rattle.metering_model.specs.Deliveries.{Handled, handled}
 use Rattle.metering_model.specs.KeptText.{kept_text}
 use Rattle.metering_model.specs.Step.{Outcome, batch_of, on_batch, on_delivery, on_start, on_export, on_revival, kept_of, kept_now, after_delivery, outcome_of, or_refused, unless_broken, snapshot, step, play}
@@ -97,6 +97,7 @@ module _ (N : ℕ) (numbers : Numbers) (next : ℕ) (w u : World) (h : Follows N
     issuer = h.issuer;
     agents = h.agents;
     journals = h.journals;
+    room = h.room;
     votes = h.votes;
     other_votes = h.other_votes;
     nodes = λ j low. set_alike w.nodes u.nodes i j m (h.nodes j low);
@@ -116,6 +117,7 @@ module _ (N : ℕ) (numbers : Numbers) (next : ℕ) (w u : World) (h : Follows N
     issuer = h.issuer;
     agents = h.agents;
     journals = h.journals;
+    room = h.room;
     votes = h.votes;
     other_votes = h.other_votes;
     nodes = λ j low. h.nodes j low ∙ sym (set_other w.nodes i j m (λ same. omega (arith, same, low, beyond)));
@@ -135,6 +137,7 @@ module _ (N : ℕ) (numbers : Numbers) (next : ℕ) (w u : World) (h : Follows N
     issuer = h.issuer;
     agents = h.agents;
     journals = h.journals;
+    room = h.room;
     votes = h.votes;
     other_votes = h.other_votes;
     nodes = h.nodes;
@@ -182,6 +185,7 @@ module _ (N : ℕ) (numbers : Numbers) (next : ℕ) (w u : World) (h : Follows N
     issuer = h.issuer;
     agents = h.agents;
     journals = h.journals;
+    room = h.room;
     votes = h.votes;
     other_votes = h.other_votes;
     nodes = h.nodes;
@@ -214,6 +218,7 @@ module _ (N : ℕ) (numbers : Numbers) (next : ℕ) (w u : World) (h : Follows N
     issuer = h.issuer;
     agents = h.agents;
     journals = ap (λ (x : Holding). put x b) h.journals;
+    room = h.room;
     votes = h.votes;
     other_votes = h.other_votes;
     nodes = h.nodes;
@@ -279,13 +284,13 @@ module _ (N : ℕ) (numbers : Numbers) (next : ℕ) (w u : World) (h : Follows N
 abbrev beside : World → List Packet → List Node → World
 beside w P V = record w { packets = P; nodes = V }
 
-same_parts : (s t : Sheet) (i j : Issuer) (a b : ℕ) (f g : Holding) (m n : ℕ) (P : List Packet) (V : List Node) → s ≡ t → i ≡ j → a ≡ b → f ≡ g → m ≡ n
-    → ◌≡◌ {A = World} (record { sheet = s; issuer = i; agents = a; journals = f; packets = P; voters = m; nodes = V }) (record { sheet = t; issuer = j; agents = b; journals = g; packets = P; voters = n; nodes = V })
-same_parts s t i j a b f g m n P V one two three four five = cc
+same_parts : (s t : Sheet) (i j : Issuer) (a b : ℕ) (f g : Holding) (r q : ℕ) (m n : ℕ) (P : List Packet) (V : List Node) → s ≡ t → i ≡ j → a ≡ b → f ≡ g → r ≡ q → m ≡ n
+    → ◌≡◌ {A = World} (record { sheet = s; issuer = i; agents = a; journals = f; room = r; packets = P; voters = m; nodes = V }) (record { sheet = t; issuer = j; agents = b; journals = g; room = q; packets = P; voters = n; nodes = V })
+same_parts s t i j a b f g r q m n P V one two three four five six = cc
 
 is_beside : (N : ℕ) (numbers : Numbers) (next : ℕ) (w u : World) → Follows N numbers next w u → u ≡ beside w u.packets u.nodes
 is_beside N numbers next w u h =
-    same_parts u.sheet w.sheet u.issuer w.issuer u.agents w.agents u.journals w.journals u.voters w.voters u.packets u.nodes h.sheet h.issuer h.agents h.journals (h.other_votes ∙ sym h.votes)
+    same_parts u.sheet w.sheet u.issuer w.issuer u.agents w.agents u.journals w.journals u.room w.room u.voters w.voters u.packets u.nodes h.sheet h.issuer h.agents h.journals h.room (h.other_votes ∙ sym h.votes)
 
 handled_alike : (w : World) (P : List Packet) (V : List Node) (i : ℕ) (n : Node) (q : Packet) → handled (beside w P V) i n q ≡ handled w i n q
 handled_alike w P V i n (CarriesBatch b) = refl
@@ -316,7 +321,7 @@ module _ (N : ℕ) (numbers : Numbers) (next : ℕ) (w : World) (P : List Packet
 
   -- where the first has room, so has the other
   pair_room : (f g : ℕ → Result Outcome Refusal) → Pairs (f (length w.packets)) (g (length P)) → Pairs (next_packet w >>= f) (next_packet u >>= g)
-  pair_room f g pairs = by_tests (nat_lt (length w.packets) 1_000_000) (nat_lt (length P) 1_000_000) (λ e. let low = ltb-true _ _ e in let less = h.fewer in lt-ltb _ _ (omega (arith, low, less)))
+  pair_room f g pairs = by_tests (nat_lt (length w.packets) w.room) (nat_lt (length P) w.room) (λ e. let low = ltb-true _ _ e in let less = h.fewer in lt-ltb _ _ (omega (arith, low, less)))
     where
       by_tests : (b c : Bool) → (b ≡ true → c ≡ true)
           → Pairs ((if b then Ok (length w.packets) else Err WorldFull) >>= f) ((if c then Ok (length P) else Err WorldFull) >>= g)
@@ -469,12 +474,13 @@ run_follows N (e ∷ es) numbers next w u others h is fits =
     event_follows N e es numbers next w u others h (is_beyond N e) refl is (All-head IsNotFull (step w e).0 (play (step w e).1 es).0 fits)
     (λ m n x os k left. run_follows N es m n (step w e).1 x os k left (All-tail IsNotFull (step w e).0 (play (step w e).1 es).0 fits))
 
-pub opening_follows : (voters observers agents : ℕ) (sheet : Sheet) (issuer : Issuer) → Follows voters [] 0 (opening voters observers agents sheet issuer) (opening voters 0 agents sheet issuer)
-opening_follows voters observers agents sheet issuer = record {
+pub opening_follows : (room voters observers agents : ℕ) (sheet : Sheet) (issuer : Issuer) → Follows voters [] 0 (opening_with room voters observers agents sheet issuer) (opening_with room voters 0 agents sheet issuer)
+opening_follows room voters observers agents sheet issuer = record {
   sheet = refl;
   issuer = refl;
   agents = refl;
   journals = refl;
+  room = refl;
   votes = refl;
   other_votes = refl;
   nodes = λ i low. get_copy (voters + 0) (wake new_kept) i (omega (arith, low)) ∙ sym (get_copy (voters + observers) (wake new_kept) i (omega (arith, low)));
@@ -488,9 +494,9 @@ opening_follows voters observers agents sheet issuer = record {
 }
 
 -- what the voters of a group do without its observers
-pub observers_change_nothing : (voters observers agents : ℕ) (sheet : Sheet) (issuer : Issuer) (events others : List Event)
-    → without voters [] 0 events (play (opening voters observers agents sheet issuer) events).0 ≡ Some others
-    → All (λ r. r ≡ Refused WorldFull → ⊥) (play (opening voters observers agents sheet issuer) events).0
-    → IsFollowed voters (play (opening voters observers agents sheet issuer) events).1 (play (opening voters 0 agents sheet issuer) others).1
-observers_change_nothing voters observers agents sheet issuer events others is fits =
-    run_follows voters events [] 0 (opening voters observers agents sheet issuer) (opening voters 0 agents sheet issuer) others (opening_follows voters observers agents sheet issuer) is fits
+pub observers_change_nothing : (room voters observers agents : ℕ) (sheet : Sheet) (issuer : Issuer) (events others : List Event)
+    → without voters [] 0 events (play (opening_with room voters observers agents sheet issuer) events).0 ≡ Some others
+    → All (λ r. r ≡ Refused WorldFull → ⊥) (play (opening_with room voters observers agents sheet issuer) events).0
+    → IsFollowed voters (play (opening_with room voters observers agents sheet issuer) events).1 (play (opening_with room voters 0 agents sheet issuer) others).1
+observers_change_nothing room voters observers agents sheet issuer events others is fits =
+    run_follows voters events [] 0 (opening_with room voters observers agents sheet issuer) (opening_with room voters 0 agents sheet issuer) others (opening_follows room voters observers agents sheet issuer) is fits

@@ -9,6 +9,7 @@ use Rattle.std.proofs.lemmas.Option.{same_Some, none-some, slice_get_within}
 use Rattle.metering_model.specs.FirstFailure.{◌>>=◌}
 use Rattle.metering_model.specs.declared.Refusal.{Refusal}
 use Rattle.metering_model.specs.declared.Refusal.TheVariants.{NotClosed, WorldFull}
+use Rattle.metering_model.specs.Limits.{most_packets}
 use Rattle.metering_model.specs.World.{World, Packet, Decided, Event, Deliver, Start, Export, Reply, Started, Refused, current_period, opening}
 use Rattle.metering_model.specs.Step.{Outcome, or_refused, step, play}
 use Rattle.metering_model.proofs.Samples.{sheet_0, issuer_1}
@@ -55,7 +56,7 @@ none_full (r ∷ rs) e =
 -- so the voter is the same in both runs
 the_voter_is_the_same : slice_get (run_of 0 (alone ++ Deliver 3 0 ∷ Start 0 ∷ Deliver 4 0 ∷ [])).1.nodes 0 ≡ slice_get (run_of 1 events).1.nodes 0
 the_voter_is_the_same =
-    (observers_change_nothing 1 1 1 sheet_0 issuer_1 events (alone ++ Deliver 3 0 ∷ Start 0 ∷ Deliver 4 0 ∷ []) what_is_left (none_full (run_of 1 events).0 refl)).2.nodes 0 (omega arith)
+    (observers_change_nothing most_packets 1 1 1 sheet_0 issuer_1 events (alone ++ Deliver 3 0 ∷ Start 0 ∷ Deliver 4 0 ∷ []) what_is_left (none_full (run_of 1 events).0 refl)).2.nodes 0 (omega arith)
 
 -- ---- a packet of the observer that is delivered to the voter
 
@@ -139,6 +140,7 @@ they_were_alike times = (
     issuer = refl;
     agents = refl;
     journals = refl;
+    room = refl;
     votes = refl;
     other_votes = refl;
     nodes = same_voter;

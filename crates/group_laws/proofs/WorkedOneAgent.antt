@@ -9,6 +9,7 @@ use Rattle.metering_model.specs.declared.Refusal.TheVariants.{WrongSeq}
 use Rattle.metering_model.specs.Step.{play, step}
 use Rattle.metering_model.proofs.Samples.{sheet_0, issuer_1}
 use Rattle.group_laws.specs.OneAgent.{AgreeAtAgent, SameJournalOf}
+use Rattle.metering_model.specs.Limits.{most_packets}
 use Rattle.group_laws.proofs.Limits.{keeps_limits}
 use Rattle.group_laws.proofs.OneAgent.{journaled_alike}
 
@@ -37,8 +38,8 @@ they_agree_at_agent_1 = record {
   sheet = refl;
   agents = refl;
   batches = refl;
-  holding = (keeps_limits 1 0 2 sheet_0 issuer_1 (first_of_2 ∷ first_of_1 ∷ [])).rules.is_holding;
-  holding_too = (keeps_limits 1 0 2 sheet_0 issuer_1 (first_of_1 ∷ [])).rules.is_holding;
+  holding = (keeps_limits most_packets 1 0 2 sheet_0 issuer_1 (first_of_2 ∷ first_of_1 ∷ [])).rules.is_holding;
+  holding_too = (keeps_limits most_packets 1 0 2 sheet_0 issuer_1 (first_of_1 ∷ [])).rules.is_holding;
   room = omega arith;
   room_too = omega arith;
 }

@@ -16,6 +16,7 @@ use Rattle.metering_model.proofs.Samples.{sheet_0, issuer_1}
 use Rattle.metering_model.proofs.WorkedBallots.{whole_path, crossing_proposers}
 use Rattle.metering_model.proofs.WorkedPeriods.{correction}
 use Rattle.group_laws.specs.Headline.{HoldsAfter}
+use Rattle.metering_model.specs.Limits.{most_packets}
 use Rattle.group_laws.specs.EveryRun.{KeepsLimits}
 use Rattle.group_laws.proofs.EveryRun.{holds_after, contains_at}
 use Rattle.group_laws.proofs.Limits.{keeps_limits}
@@ -27,10 +28,10 @@ abbrev run_of : Schedule → List Reply × World
 run_of s = play (opening s.voters s.observers s.agents sheet_0 issuer_1) (events_of s)
 
 headline_of : (s : Schedule) → HoldsAfter s.voters s.observers s.agents sheet_0 issuer_1 (events_of s) (run_of s).0 (run_of s).1
-headline_of s = holds_after s.voters s.observers s.agents sheet_0 issuer_1 (events_of s)
+headline_of s = holds_after most_packets s.voters s.observers s.agents sheet_0 issuer_1 (events_of s)
 
-limits_of : (s : Schedule) → KeepsLimits s.voters s.observers s.agents (run_of s).1
-limits_of s = keeps_limits s.voters s.observers s.agents sheet_0 issuer_1 (events_of s)
+limits_of : (s : Schedule) → KeepsLimits most_packets s.voters s.observers s.agents (run_of s).1
+limits_of s = keeps_limits most_packets s.voters s.observers s.agents sheet_0 issuer_1 (events_of s)
 
 -- ---- one batch, two nodes, two equal exports
 

@@ -1,7 +1,7 @@
 -- What every run keeps, which the bodies of a group rest on: lengths, limits, and batches that are the journals'.
 use Rattle.std.specs.Prelude.{◌≡◌, ℕ, ◌+◌, ◌*◌, ◌<◌, ◌≤◌, true, length, All, Some, None, Option, slice_get}
 use Rattle.std.specs.Option.{is_some}
-use Rattle.metering_model.specs.Limits.{last_sequence, most_periods, most_rounds, most_packets}
+use Rattle.metering_model.specs.Limits.{last_sequence, most_periods, most_rounds}
 use Rattle.metering_model.specs.Batch.{Batch, IsWellFormed}
 use Rattle.metering_model.specs.Cut.{Cut, IsGrowing, last_of}
 use Rattle.metering_model.specs.Holding.{Holding, IsHolding, IsPartOf, AgreeUpTo, held}
@@ -79,13 +79,14 @@ pub record IsObserver (n : Node) : Type 0 where
   pub attempt : n.attempt ≡ None
 
 -- What holds of the world after every run.
-pub record KeepsLimits (voters observers agents : ℕ) (w : World) : Type 0 where
+pub record KeepsLimits (room voters observers agents : ℕ) (w : World) : Type 0 where
   pub nodes_kept : node_count w ≡ voters + observers
   pub voters_kept : voter_count w ≡ voters
   pub agents_kept : w.agents ≡ agents
   pub rules : MeetsJournalRules w.sheet w.journals
   pub in_range : (agent seq : ℕ) (b : Batch) → held w.journals agent seq ≡ Some b → agent ≤ w.agents
-  pub room : length w.packets ≤ most_packets
+  pub room_kept : w.room ≡ room
+  pub fits : length w.packets ≤ room
   pub each_packet : All (IsPacket (voter_count w) w.agents w.journals) w.packets
   pub each_node : All (IsNode (voter_count w) w.agents w.journals) w.nodes
   pub each_observer : (node : ℕ) (n : Node) → voter_count w ≤ node → slice_get w.nodes node ≡ Some n → IsObserver n

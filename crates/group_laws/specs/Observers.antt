@@ -57,6 +57,7 @@ pub record Follows (voters : ℕ) (numbers : Numbers) (next : ℕ) (whole other 
   pub issuer : other.issuer ≡ whole.issuer
   pub agents : other.agents ≡ whole.agents
   pub journals : other.journals ≡ whole.journals
+  pub room : other.room ≡ whole.room
   pub votes : voter_count whole ≡ voters
   pub other_votes : voter_count other ≡ voters
   pub nodes : (i : ℕ) → i < voters → slice_get other.nodes i ≡ slice_get whole.nodes i

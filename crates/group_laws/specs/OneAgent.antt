@@ -1,6 +1,5 @@
 -- What of a world an agent journals by: its own batches in the journals, the sheet, and how many agents there are.
 use Rattle.std.specs.Prelude.{◌≡◌, ℕ, ◌==◌, ◌<◌, length, filter, drop, take}
-use Rattle.metering_model.specs.Limits.{most_packets}
 use Rattle.metering_model.specs.Holding.{Holding, IsHolding}
 use Rattle.metering_model.specs.World.{World, voter_count}
 use Rattle.metering_model.specs.Step.{Outcome}
@@ -17,8 +16,8 @@ pub record AgreeAtAgent (agent : ℕ) (w v : World) : Type 0 where
   pub batches : batches_of agent v.journals ≡ batches_of agent w.journals
   pub holding : IsHolding w.journals
   pub holding_too : IsHolding v.journals
-  pub room : length w.packets < most_packets
-  pub room_too : length v.packets < most_packets
+  pub room : length w.packets < w.room
+  pub room_too : length v.packets < v.room
 
 -- What came of a batch in the one world came of it in the other: the reply but for a packet's number, the agent's batches, and what was sent.
 pub record SameJournalOf (agent : ℕ) (w v : World) (in_w in_v : Outcome) : Type 0 where
@@ -31,6 +30,7 @@ pub record ChangesOnlyAgent (agent : ℕ) (w : World) (outcome : Outcome) : Type
   pub sheet : outcome.1.sheet ≡ w.sheet
   pub issuer : outcome.1.issuer ≡ w.issuer
   pub agents : outcome.1.agents ≡ w.agents
+  pub room : outcome.1.room ≡ w.room
   pub voters : voter_count outcome.1 ≡ voter_count w
   pub nodes : outcome.1.nodes ≡ w.nodes
   pub packets : take (length w.packets) outcome.1.packets ≡ w.packets

@@ -1,7 +1,6 @@
 -- What of a world a node acts by: its number, what it keeps, tries and counts, the packet that it gets, how many voters and agents
 -- there are, the sheet and the issuer.
 use Rattle.std.specs.Prelude.{◌≡◌, ℕ, ◌==◌, ◌<◌, Bool, false, length, drop, take, slice_get}
-use Rattle.metering_model.specs.Limits.{most_packets}
 use Rattle.metering_model.specs.World.{World, Event, Journal, Deliver, Start, Restart, Export, Keep, Revive, node_count, voter_count}
 use Rattle.metering_model.specs.Step.{Outcome}
 use Rattle.group_laws.specs.Alone.{unnumbered}
@@ -13,8 +12,8 @@ pub record AgreeAtNode (i : ℕ) (w v : World) : Type 0 where
   pub agents : v.agents ≡ w.agents
   pub voters : voter_count v ≡ voter_count w
   pub node : slice_get v.nodes i ≡ slice_get w.nodes i
-  pub room : length w.packets < most_packets
-  pub room_too : length v.packets < most_packets
+  pub room : length w.packets < w.room
+  pub room_too : length v.packets < v.room
 
 -- What came of an event in the one world came of it in the other: the reply but for a packet's number, the node, and what was sent.
 pub record SameStepAt (i : ℕ) (w v : World) (in_w in_v : Outcome) : Type 0 where
@@ -47,6 +46,7 @@ pub record ChangesOnlyNode (i : ℕ) (w : World) (outcome : Outcome) : Type 0 wh
   pub sheet : outcome.1.sheet ≡ w.sheet
   pub issuer : outcome.1.issuer ≡ w.issuer
   pub agents : outcome.1.agents ≡ w.agents
+  pub room : outcome.1.room ≡ w.room
   pub voters : voter_count outcome.1 ≡ voter_count w
   pub journals : outcome.1.journals ≡ w.journals
   pub count : node_count outcome.1 ≡ node_count w

@@ -7,7 +7,7 @@ ghost use Rattle.metering_model.specs.Cut.{Cut};
 ghost use Rattle.metering_model.specs.declared.Refusal.{Refusal};
 ghost use Rattle.metering_model.specs.declared.Refusal.TheVariants.{WorldFull};
 ghost use Rattle.metering_model.specs.Batch.{Batch};
-ghost use Rattle.metering_model.specs.World.{World, Node, Event, Deliver, Journal, Offer, Restart, Revive, KeptOffer, KeptGood, Restarted, Refused, opening};
+ghost use Rattle.metering_model.specs.World.{World, Node, Event, Deliver, Journal, Offer, Restart, Revive, KeptOffer, KeptGood, Restarted, Refused, opening_with};
 ghost use Rattle.metering_model.specs.KeptText.{HasText, kept_text};
 ghost use Rattle.metering_model.specs.Step.{batch_of, kept_now, step, play};
 ghost use Rattle.metering_model.specs.History.{Entry, IsLegal};
@@ -20,34 +20,35 @@ ghost use Rattle.group_laws.specs.OneAgent.{AgreeAtAgent, SameJournalOf, Changes
 ghost use Rattle.group_laws.specs.SentPackets.{SendsAsTold, told_number};
 ghost use Rattle.group_laws.specs.OneNode.{AgreeAtNode, SameStepAt, ChangesOnlyNode, is_input_at, is_at};
 
-/// The headline: after every list of events, and after every history that one thread could have made, the chosen cuts
-/// are one growing list, and each export is of one of them and of the one before it. A run's list is a prefix of the
-/// list of each run that goes on from it.
+/// The headline: after every list of events, in a world with room for however many packets, and after every history
+/// that one thread could have made, the chosen cuts are one growing list, and each export is of one of them and of the
+/// one before it. A run's list is a prefix of the list of each run that goes on from it.
 pub fn runs()
-    ensures holds { (voters observers agents : ℕ) (sheet : Sheet) (issuer : Issuer)
+    ensures holds { (room voters observers agents : ℕ) (sheet : Sheet) (issuer : Issuer)
         (events : List Event) →
         HoldsAfter voters observers agents sheet issuer events
-        (play (opening voters observers agents sheet issuer) events).0
-        (play (opening voters observers agents sheet issuer) events).1 }
-    ensures histories { (voters observers agents : ℕ) (sheet : Sheet) (issuer : Issuer)
+        (play (opening_with room voters observers agents sheet issuer) events).0
+        (play (opening_with room voters observers agents sheet issuer) events).1 }
+    ensures histories { (room voters observers agents : ℕ) (sheet : Sheet) (issuer : Issuer)
         (history : List Entry) (reached : World) →
-        IsLegal (opening voters observers agents sheet issuer) history reached →
+        IsLegal (opening_with room voters observers agents sheet issuer) history reached →
         HoldsAfter voters observers agents sheet issuer (map (λ e. e.event) history)
         (map (λ e. e.reply) history) reached }
-    ensures grows { (voters observers agents : ℕ) (sheet : Sheet) (issuer : Issuer)
+    ensures grows { (room voters observers agents : ℕ) (sheet : Sheet) (issuer : Issuer)
         (events more : List Event) (before after : List Cut) →
-        AreTheCuts (play (opening voters observers agents sheet issuer) events).1 before →
-        AreTheCuts (play (opening voters observers agents sheet issuer) (events ++ more)).1 after →
+        AreTheCuts (play (opening_with room voters observers agents sheet issuer) events).1 before →
+        AreTheCuts (play (opening_with room voters observers agents sheet issuer)
+        (events ++ more)).1 after →
         IsPrefixOf before after }
 {}
 
 /// After every list of events packets, votes, attempts, tallies and learned lists are within their limits, and what a
 /// node holds is a part of the journals.
 pub fn every_run_keeps_its_limits()
-    ensures holds { (voters observers agents : ℕ) (sheet : Sheet) (issuer : Issuer)
+    ensures holds { (room voters observers agents : ℕ) (sheet : Sheet) (issuer : Issuer)
         (events : List Event) →
-        KeepsLimits voters observers agents
-        (play (opening voters observers agents sheet issuer) events).1 }
+        KeepsLimits room voters observers agents
+        (play (opening_with room voters observers agents sheet issuer) events).1 }
 {}
 
 /// Without what happens at its observers a group has the same journals, and its voters keep, try and count the same:
@@ -55,43 +56,51 @@ pub fn every_run_keeps_its_limits()
 /// for a full world; and after some events, none at an observer, with the same chosen cuts and the same replies, but
 /// for the numbers of packets and for what a full world refused.
 pub fn observers_change_nothing()
-    ensures follows { (voters observers agents : ℕ) (sheet : Sheet) (issuer : Issuer)
+    ensures follows { (room voters observers agents : ℕ) (sheet : Sheet) (issuer : Issuer)
         (events others : List Event) →
-        without voters [] 0 events (play (opening voters observers agents sheet issuer) events).0
+        without voters [] 0 events
+        (play (opening_with room voters observers agents sheet issuer) events).0
         ≡ Some others →
         All (λ r. r ≢ Refused WorldFull)
-        (play (opening voters observers agents sheet issuer) events).0 →
-        IsFollowed voters (play (opening voters observers agents sheet issuer) events).1
-        (play (opening voters 0 agents sheet issuer) others).1 }
-    ensures all { (voters observers agents : ℕ) (sheet : Sheet) (issuer : Issuer)
+        (play (opening_with room voters observers agents sheet issuer) events).0 →
+        IsFollowed voters (play (opening_with room voters observers agents sheet issuer) events).1
+        (play (opening_with room voters 0 agents sheet issuer) others).1 }
+    ensures all { (room voters observers agents : ℕ) (sheet : Sheet) (issuer : Issuer)
         (events : List Event) →
-        CanBeDoneAlone voters events (opening voters observers agents sheet issuer)
-        (opening voters 0 agents sheet issuer) }
+        CanBeDoneAlone voters events (opening_with room voters observers agents sheet issuer)
+        (opening_with room voters 0 agents sheet issuer) }
 {}
 
 /// In a run, a revival that is answered Restarted does what a restart of that node does. In a group of up to 99 voters
 /// and 1 to 64 agents, what a node keeps has a text, and a revival from it is a restart. In any world each other offer
 /// to a node that is there is refused, and changes nothing.
 pub fn a_revival_is_a_restart()
-    ensures restarts { (voters observers agents : ℕ) (sheet : Sheet) (issuer : Issuer)
+    ensures restarts { (room voters observers agents : ℕ) (sheet : Sheet) (issuer : Issuer)
         (events : List Event) (node : ℕ) (offer : KeptOffer) →
-        (step (play (opening voters observers agents sheet issuer) events).1 (Revive node offer)).0
+        (step (play (opening_with room voters observers agents sheet issuer) events).1
+        (Revive node offer)).0
         ≡ Restarted →
-        step (play (opening voters observers agents sheet issuer) events).1 (Revive node offer)
-        ≡ step (play (opening voters observers agents sheet issuer) events).1 (Restart node) }
-    ensures has_text { (voters observers agents : ℕ) (sheet : Sheet) (issuer : Issuer)
+        step (play (opening_with room voters observers agents sheet issuer) events).1
+        (Revive node offer)
+        ≡ step (play (opening_with room voters observers agents sheet issuer) events).1
+        (Restart node) }
+    ensures has_text { (room voters observers agents : ℕ) (sheet : Sheet) (issuer : Issuer)
         (events : List Event) → voters ≤ most_nodes → 1 ≤ agents → agents ≤ most_agents →
-        (node : ℕ) (n : Node) → slice_get
-        (play (opening voters observers agents sheet issuer) events).1.nodes node ≡ Some n →
-        HasText (kept_now (play (opening voters observers agents sheet issuer) events).1 n) }
-    ensures taken { (voters observers agents : ℕ) (sheet : Sheet) (issuer : Issuer)
+        (node : ℕ) (n : Node)
+        → slice_get (play (opening_with room voters observers agents sheet issuer) events).1.nodes
+        node ≡ Some n →
+        HasText (kept_now
+        (play (opening_with room voters observers agents sheet issuer) events).1 n) }
+    ensures taken { (room voters observers agents : ℕ) (sheet : Sheet) (issuer : Issuer)
         (events : List Event) → voters ≤ most_nodes → 1 ≤ agents → agents ≤ most_agents →
-        (node : ℕ) (n : Node) → slice_get
-        (play (opening voters observers agents sheet issuer) events).1.nodes node ≡ Some n →
-        step (play (opening voters observers agents sheet issuer) events).1
+        (node : ℕ) (n : Node)
+        → slice_get (play (opening_with room voters observers agents sheet issuer) events).1.nodes
+        node ≡ Some n →
+        step (play (opening_with room voters observers agents sheet issuer) events).1
         (Revive node (KeptGood (kept_text
-        (kept_now (play (opening voters observers agents sheet issuer) events).1 n))))
-        ≡ step (play (opening voters observers agents sheet issuer) events).1 (Restart node) }
+        (kept_now (play (opening_with room voters observers agents sheet issuer) events).1 n))))
+        ≡ step (play (opening_with room voters observers agents sheet issuer) events).1
+        (Restart node) }
     ensures others { (w : World) (node : ℕ) (n : Node) (offer : KeptOffer)
         → slice_get w.nodes node ≡ Some n →
         offer ≢ KeptGood (kept_text (kept_now w n)) →

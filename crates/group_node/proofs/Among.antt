@@ -32,6 +32,6 @@ at_entry P (y ∷ xs) zero x all e = subst P (same_Some y x e) (All-head P y xs 
 at_entry P (y ∷ xs) (suc k) x all e = at_entry P xs k x (All-tail P y xs all) e
 
 -- each packet of a world that keeps its limits
-pub packet_of_run : (voters observers agents : ℕ) (w : World) (k : ℕ) (q : Packet) → voters ≤ 99 → KeepsLimits voters observers agents w → slice_get w.packets k ≡ Some q → IsPacketAmong (voter_count w) w.agents q
-packet_of_run voters observers agents w k q few keeps e =
+pub packet_of_run : (room voters observers agents : ℕ) (w : World) (k : ℕ) (q : Packet) → voters ≤ 99 → KeepsLimits room voters observers agents w → slice_get w.packets k ≡ Some q → IsPacketAmong (voter_count w) w.agents q
+packet_of_run room voters observers agents w k q few keeps e =
     packet_among (voter_count w) w.agents w.journals q (omega (arith, keeps.voters_kept)) keeps.in_range (at_entry (IsPacket (voter_count w) w.agents w.journals) w.packets k q keeps.each_packet e)

@@ -13,6 +13,7 @@ use Rattle.metering_model.specs.JournalRules.{next_seq, first_broken}
 use Rattle.metering_model.specs.declared.BrokenRule.{BrokenRule}
 use Rattle.metering_model.specs.declared.Refusal.{Refusal}
 use Rattle.metering_model.specs.declared.Refusal.TheVariants.{WorldFull, WrongSeq}
+use Rattle.metering_model.specs.Limits.{most_packets}
 use Rattle.metering_model.specs.World.{World, Node, Packet, Good, Journal, Deliver, Start, Restart, Restarted, Reply, Delivered, new_kept, wake, current_period, voter_count}
 use Rattle.metering_model.specs.Deliveries.{Handled, handled}
 use Rattle.metering_model.specs.Step.{Outcome, after_delivery, first_missing, on_batch, on_delivery, or_refused, started_node, step, unless_broken}
@@ -71,10 +72,10 @@ module _ (w : World) (b : Batch) (agent seq wanted : ℕ) (of : agent ≡ b.agen
     rule_told rule refusal e f = rw (is_of, is_next, e, f) refl
 
     module _ (none : first_broken w.sheet (put w.journals b) (placed b) ≡ None) where
-      pub full_told : nat_lt (length w.packets) 1_000_000 ≡ false → on_batch w b ≡ Err WorldFull
+      pub full_told : nat_lt (length w.packets) w.room ≡ false → on_batch w b ≡ Err WorldFull
       full_told e = no_room_for_batch w b is_of is_next none e
 
-      pub may_journal : nat_lt (length w.packets) 1_000_000 ≡ true → MayJournal w b
+      pub may_journal : nat_lt (length w.packets) w.room ≡ true → MayJournal w b
       may_journal e = record { agent = omega (arith, of, low); room = ltb-true _ _ e; outcome = journals_batch w b is_of is_next none e }
 
 -- bytes that are a batch are journaled as it is
@@ -84,7 +85,7 @@ good_told w text b r e f = sym (rw (e, f) refl)
 -- ---- deliveries
 
 module _ (w : World) (k i : ℕ) (q : Packet) (n : Node) (sent : slice_get w.packets k ≡ Some q) (found : slice_get w.nodes i ≡ Some n) where
-  pub may_with_room : nat_lt (length w.packets) 1_000_000 ≡ true → MayDeliver w k i
+  pub may_with_room : nat_lt (length w.packets) w.room ≡ true → MayDeliver w k i
   may_with_room e = record { packet = slice_get_within w.packets k q sent; node = slice_get_within w.nodes i n found; room = λ m p here there some. ltb-true _ _ e }
 
   pub may_in_silence : is_some (handled w i n q).sends ≡ false → MayDeliver w k i
@@ -100,7 +101,7 @@ module _ (w : World) (k i : ℕ) (q : Packet) (n : Node) (sent : slice_get w.pac
       same_two : (m : Node) (p : Packet) → ◌≡◌ {A = Option Node} (Some n) (Some m) → ◌≡◌ {A = Option Packet} (Some q) (Some p) → ◌≡◌ {A = Node × Packet} (n, q) (m, p)
       same_two m p e f = cc
 
-  pub full_for_answer : is_some (handled w i n q).sends ≡ true → nat_lt (length w.packets) 1_000_000 ≡ false → on_delivery w k i ≡ Err WorldFull
+  pub full_for_answer : is_some (handled w i n q).sends ≡ true → nat_lt (length w.packets) w.room ≡ false → on_delivery w k i ≡ Err WorldFull
   full_for_answer some full = rw (sent, found) (by_sends (handled w i n q) some)
     where
       by_option : (h : Handled) (o : Option Packet) → is_some o ≡ true → h.sends ≡ o → after_delivery w i h ≡ Err WorldFull
@@ -171,7 +172,7 @@ pub among_here : (w : World) (k : ℕ) (q : Packet) (n : NodeAmong) → IsReache
 among_here w k q n h sent member =
     let open_still = still_open w h in
     let few : voter_count w ≤ 99 = omega (arith, open_still.nodes_to) in
-    let among : IsPacketAmong (voter_count w) w.agents q = packet_of_run (voter_count w) h.observers w.agents w k q few (limits_here w h) sent in
+    let among : IsPacketAmong (voter_count w) w.agents q = packet_of_run most_packets (voter_count w) h.observers w.agents w k q few (limits_here w h) sent in
     subst (λ v. IsPacketAmong v n.agents q) (sym member.votes) (subst (λ a. IsPacketAmong (voter_count w) a q) (sym member.stores) among)
 
 -- what an export asks of a node that has every batch up to the cut that it learned

@@ -35,10 +35,10 @@ module _ (w : World) (b : Batch) where
   pub unpriced : IsOfAgents w b ≡ true → IsNextOne w b ≡ true → first_broken w.sheet (put w.journals b) (placed b) ≡ Some BreaksPrice → on_batch w b ≡ Err Unpriced
   unpriced e f g = rw (e, f, g) refl
 
-  pub no_room_for_batch : IsOfAgents w b ≡ true → IsNextOne w b ≡ true → first_broken w.sheet (put w.journals b) (placed b) ≡ None → nat_lt (length w.packets) 1_000_000 ≡ false → on_batch w b ≡ Err WorldFull
+  pub no_room_for_batch : IsOfAgents w b ≡ true → IsNextOne w b ≡ true → first_broken w.sheet (put w.journals b) (placed b) ≡ None → nat_lt (length w.packets) w.room ≡ false → on_batch w b ≡ Err WorldFull
   no_room_for_batch e f g h = rw (e, f, g, h) refl
 
-  pub journals_batch : IsOfAgents w b ≡ true → IsNextOne w b ≡ true → first_broken w.sheet (put w.journals b) (placed b) ≡ None → nat_lt (length w.packets) 1_000_000 ≡ true
+  pub journals_batch : IsOfAgents w b ≡ true → IsNextOne w b ≡ true → first_broken w.sheet (put w.journals b) (placed b) ≡ None → nat_lt (length w.packets) w.room ≡ true
       → on_batch w b ≡ Ok (Journaled (length w.packets), with_packet (CarriesBatch b) (record w { journals = put w.journals b }))
   journals_batch e f g h = rw (e, f, g, h) refl
 
@@ -55,10 +55,10 @@ module _ (w : World) (k i : ℕ) where
     pub delivers : handled w i n p ≡ record { node = m; sends = None; learns = learns } → on_delivery w k i ≡ Ok (Delivered None learns, with_node_at i m w)
     delivers e = rw (sent, found, e) refl
 
-    pub no_room_for_answer : (q : Packet) → handled w i n p ≡ record { node = m; sends = Some q; learns = learns } → nat_lt (length w.packets) 1_000_000 ≡ false → on_delivery w k i ≡ Err WorldFull
+    pub no_room_for_answer : (q : Packet) → handled w i n p ≡ record { node = m; sends = Some q; learns = learns } → nat_lt (length w.packets) w.room ≡ false → on_delivery w k i ≡ Err WorldFull
     no_room_for_answer q e f = rw (sent, found, e, f) refl
 
-    pub delivers_and_sends : (q : Packet) → handled w i n p ≡ record { node = m; sends = Some q; learns = learns } → nat_lt (length w.packets) 1_000_000 ≡ true
+    pub delivers_and_sends : (q : Packet) → handled w i n p ≡ record { node = m; sends = Some q; learns = learns } → nat_lt (length w.packets) w.room ≡ true
         → on_delivery w k i ≡ Ok (Delivered (Some (length w.packets)) learns, with_packet q (with_node_at i m w))
     delivers_and_sends q e f = rw (sent, found, e, f) refl
 
@@ -78,10 +78,10 @@ module _ (w : World) (i : ℕ) where
     pub no_ballot : votes w i ≡ true → nat_lt (current_period n) 1_200 ≡ true → nat_lt n.kept.round 10_000 ≡ false → on_start w i ≡ Err NoBallot
     no_ballot v e f = rw (found, v, e, f) refl
 
-    pub no_room_for_start : votes w i ≡ true → nat_lt (current_period n) 1_200 ≡ true → nat_lt n.kept.round 10_000 ≡ true → nat_lt (length w.packets) 1_000_000 ≡ false → on_start w i ≡ Err WorldFull
+    pub no_room_for_start : votes w i ≡ true → nat_lt (current_period n) 1_200 ≡ true → nat_lt n.kept.round 10_000 ≡ true → nat_lt (length w.packets) w.room ≡ false → on_start w i ≡ Err WorldFull
     no_room_for_start v e f g = rw (found, v, e, f, g) refl
 
-    pub starts : votes w i ≡ true → nat_lt (current_period n) 1_200 ≡ true → nat_lt n.kept.round 10_000 ≡ true → nat_lt (length w.packets) 1_000_000 ≡ true
+    pub starts : votes w i ≡ true → nat_lt (current_period n) 1_200 ≡ true → nat_lt n.kept.round 10_000 ≡ true → nat_lt (length w.packets) w.room ≡ true
         → on_start w i
         ≡ Ok (Started (ballot_of (n.kept.round + 1) i (voter_count w)) (length w.packets), with_packet (Prepare (current_period n) (ballot_of (n.kept.round + 1) i (voter_count w))) (with_node_at i (started_node (voter_count w) (ballot_of (n.kept.round + 1) i (voter_count w)) n) w))
     starts v e f g = rw (found, v, e, f, g) refl

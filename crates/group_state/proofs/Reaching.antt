@@ -1,6 +1,7 @@
 -- What every reached world keeps, and what a step and a run do to what some run led to.
 use Rattle.std.proofs.Common.{ℕ, List, [], ◌∷◌, ◌++◌, refl, subst, ap, ◌∙◌}
 use Rattle.metering_model.specs.Sheet.{Sheet, Issuer}
+use Rattle.metering_model.specs.Limits.{most_packets}
 use Rattle.metering_model.specs.World.{World, Event, voter_count, opening}
 use Rattle.metering_model.specs.Step.{step, play}
 use Rattle.metering_model.proofs.PlayLaws.{play-append}
@@ -36,7 +37,7 @@ step_reached w e h = play_reached w (e ∷ []) h
 pub headline_here : (w : World) (h : IsReached w) → HoldsAfter h.voters h.observers h.agents h.sheet h.issuer h.events (play (opening h.voters h.observers h.agents h.sheet h.issuer) h.events).0 w
 headline_here w h =
     subst (λ u. HoldsAfter h.voters h.observers h.agents h.sheet h.issuer h.events (play (opening h.voters h.observers h.agents h.sheet h.issuer) h.events).0 u) h.leads
-    (holds_after h.voters h.observers h.agents h.sheet h.issuer h.events)
+    (holds_after most_packets h.voters h.observers h.agents h.sheet h.issuer h.events)
 
 -- what each node keeps has a form that is read back
 pub forms_here : (w : World) → IsReached w → HasForms w
@@ -49,17 +50,18 @@ still_open w h =
     rw (all.voters_kept, all.agents_kept, all.sheet_kept) h.opened
 
 -- the limits that every run keeps
-pub limits_here : (w : World) (h : IsReached w) → KeepsLimits (voter_count w) h.observers w.agents w
+pub limits_here : (w : World) (h : IsReached w) → KeepsLimits most_packets (voter_count w) h.observers w.agents w
 limits_here w h =
     let all = headline_here w h in
-    let limits : KeepsLimits h.voters h.observers h.agents w = subst (KeepsLimits h.voters h.observers h.agents) h.leads (keeps_limits h.voters h.observers h.agents h.sheet h.issuer h.events) in
+    let limits : KeepsLimits most_packets h.voters h.observers h.agents w = subst (KeepsLimits most_packets h.voters h.observers h.agents) h.leads (keeps_limits most_packets h.voters h.observers h.agents h.sheet h.issuer h.events) in
     record {
       nodes_kept = rw limits.voters_kept limits.nodes_kept;
       voters_kept = refl;
       agents_kept = refl;
       rules = limits.rules;
       in_range = limits.in_range;
-      room = limits.room;
+      room_kept = limits.room_kept;
+      fits = limits.fits;
       each_packet = limits.each_packet;
       each_node = limits.each_node;
       each_observer = limits.each_observer;

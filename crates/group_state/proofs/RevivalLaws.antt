@@ -7,6 +7,7 @@ use Rattle.metering_model.specs.BatchReading.{is_same}
 use Rattle.metering_model.specs.declared.KeptTextFault.{KeptTextFault}
 use Rattle.metering_model.specs.declared.Refusal.{Refusal}
 use Rattle.metering_model.specs.declared.Refusal.TheVariants.{NoNode, BadKept, NotKept}
+use Rattle.metering_model.specs.Limits.{most_packets}
 use Rattle.metering_model.specs.World.{World, Node, Keep, Revive, Restart, KeptOffer, KeptGood, KeptBad, KeptText, Restarted, Refused, wake, with_node_at}
 use Rattle.metering_model.specs.KeptText.{KeptAmong, HasText, kept_text}
 use Rattle.metering_model.specs.Step.{Outcome, on_revival, or_refused, or_bad_kept, kept_now, step}
@@ -22,7 +23,7 @@ pub text_here : (w : World) (i : ℕ) (n : Node) → IsReached w → slice_get w
 text_here w i n h found =
     let few : h.voters ≤ 99 = let all = h.opened.nodes_to in omega (arith, all) in
     subst (λ (u : World). slice_get u.nodes i ≡ Some n → HasText (kept_now u n)) h.leads
-    (each_has_text h.voters h.observers h.agents h.sheet h.issuer h.events few h.opened.agents_from h.opened.agents_to i n) found
+    (each_has_text most_packets h.voters h.observers h.agents h.sheet h.issuer h.events few h.opened.agents_from h.opened.agents_to i n) found
 
 module _ (w : World) (i : ℕ) where
   -- ---- the text of what a node keeps

@@ -11,7 +11,7 @@ const MOST_PACKETS: usize = 1_000_000;
 impl GroupState {
     /// Whether one packet more may be sent.
     pub(crate) fn has_room(&self) -> bool
-        ensures { result ≡ nat_lt (length self.now.packets) most_packets }
+        ensures { result ≡ nat_lt (length self.now.packets) self.now.room }
     {
         self.packets.len() < MOST_PACKETS
     }

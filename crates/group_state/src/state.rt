@@ -31,6 +31,7 @@ pub struct GroupState {
 impl Model for GroupState {
     ghost use Rattle.std.specs.Prelude.{map};
     ghost use Rattle.std.specs.Arc.{arc_value};
+    ghost use Rattle.metering_model.specs.Limits.{most_packets};
     ghost use Rattle.metering_model.specs.World.{World};
     ghost use Rattle.group_node.specs.Packets.{packet_of};
     ghost use Rattle.group_state.specs.Inner.Members.{AreMembers};
@@ -42,6 +43,7 @@ impl Model for GroupState {
       issuer = arc_value s.issuer;
       agents = s.journals.agents;
       journals = s.journals.batches;
+      room = most_packets;
       packets = map packet_of s.packets.items;
       voters = s.voters;
       nodes = map (λ n. n.node) s.nodes.items;

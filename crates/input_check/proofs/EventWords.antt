@@ -68,7 +68,7 @@ module _ (w : World) (text : List ℕ) where
 
       by_batch : (r : Result Batch BatchFault) → batch_in text ≡ r → journaled r ≡ Refused (refusal.BadBatch fault) → r ≡ Err fault
       by_batch (Ok b) read so =
-          absurd (no_fault w b (nat_le b.agent w.agents) (b.seq == next_seq w.journals b.agent) (first_broken w.sheet (put w.journals b) (placed b)) (nat_lt (length w.packets) 1_000_000) fault
+          absurd (no_fault w b (nat_le b.agent w.agents) (b.seq == next_seq w.journals b.agent) (first_broken w.sheet (put w.journals b) (placed b)) (nat_lt (length w.packets) w.room) fault
           (subst (λ (r : Result Batch BatchFault). (or_refused w (or_bad_batch r >>= on_batch w)).0 ≡ Refused (refusal.BadBatch fault)) read so))
       by_batch (Err f) bad so = ap Err (same_fault f so)
 
@@ -78,7 +78,7 @@ module _ (w : World) (text : List ℕ) where
       by_batch : (r : Result Batch BatchFault) → batch_in text ≡ r → journaled r ≡ Refused why
           → world_index w (offered (elim r [ Ok b ↦ Good text | Err fault ↦ Bad fault ])) ≡ bad_index w.sheet w.journals text
       by_batch (Ok b) read so =
-          let next = is_next w b (nat_le b.agent w.agents) (b.seq == next_seq w.journals b.agent) (first_broken w.sheet (put w.journals b) (placed b)) (nat_lt (length w.packets) 1_000_000) why
+          let next = is_next w b (nat_le b.agent w.agents) (b.seq == next_seq w.journals b.agent) (first_broken w.sheet (put w.journals b) (placed b)) (nat_lt (length w.packets) w.room) why
           (subst (λ (r : Result Batch BatchFault). (or_refused w (or_bad_batch r >>= on_batch w)).0 ≡ Refused why) read so) rule in
           ap (λ (r : Result Batch BatchFault). world_index w (or_bad_batch r)) read
           ∙ (ap (λ t. option_map (λ (p : Position). p.index) (if t then first_bad w.sheet (put w.journals b) (placed b) else None)) next

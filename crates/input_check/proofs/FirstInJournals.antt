@@ -3,7 +3,6 @@ use Rattle.std.proofs.Common.{◌≡◌, ℕ, ◌+◌, Bool, true, false, ◌==�
 use Rattle.std.specs.Prelude.{if◌then◌else◌}
 use Rattle.std.specs.Option.{option_map}
 use Rattle.std.proofs.lemmas.List.{length-take-le}
-use Rattle.metering_model.specs.Limits.{most_packets}
 use Rattle.metering_model.specs.Batch.{Batch, IsBatch, batch_text}
 use Rattle.metering_model.specs.BatchReading.{batch_in}
 use Rattle.metering_model.specs.FirstFailure.{◌>>=◌}
@@ -102,7 +101,7 @@ module _ (w : World) where
   breaks text rule so = by_batch (batch_in text) refl
     where
       by_rule : (b : Batch) → batch_in text ≡ Ok b → is_of b ≡ true → is_next b ≡ true → (o : Option BrokenRule) → broken_there b ≡ o → tested b true true o ≡ Refused (refused_by rule) → Breaks text rule
-      by_rule b read of next None is told = absurd (no_room_told rule (nat_lt (length w.packets) most_packets) (sym (with_room b (next_packet w)) ∙ told))
+      by_rule b read of next None is told = absurd (no_room_told rule (nat_lt (length w.packets) w.room) (sym (with_room b (next_packet w)) ∙ told))
       by_rule b read of next (Some other) is told =
           let same = told_apart other rule (sym (refused_for b other) ∙ told) in
           record { batch = b; is_batch = read; of = of; next = next; broken = is ∙ ap Some same }

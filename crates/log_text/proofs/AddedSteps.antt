@@ -14,7 +14,7 @@ use Rattle.metering_model.specs.Cut.{Cut}
 use Rattle.metering_model.specs.Sheet.{Sheet, Issuer}
 use Rattle.metering_model.specs.Holding.{Holding, held, put}
 use Rattle.metering_model.specs.Ballot.{Acceptor, Attempt, Vote, after_accept, after_prepare, has_majority, accepting_at, is_above, is_not_below, with_accepted, with_promise}
-use Rattle.metering_model.specs.World.{World, Node, Packet, CarriesBatch, Prepare, Promise, Accept, Accepted, Decided, Event, opening, voter_count, votes, current_period, with_kept}
+use Rattle.metering_model.specs.World.{World, Node, Packet, CarriesBatch, Prepare, Promise, Accept, Accepted, Decided, Event, opening_with, voter_count, votes, current_period, with_kept}
 use Rattle.metering_model.specs.Deliveries.{Handled, after_promise, handled, if_votes, learning, on_accept, on_prepare, on_promise, sending, silent, unless_learned, with_acceptor}
 use Rattle.metering_model.specs.Step.{kept_now, play}
 use Rattle.metering_model.specs.KeptText.{HasText, IsBallotNumber, IsCutAmong, KeptAmong}
@@ -270,19 +270,19 @@ of_agents voters agents journals (Accept period ballot cut) in_range is = let jo
 of_agents voters agents journals (Accepted from period ballot cut) in_range is = let journaled = is.3 in journaled.size
 of_agents voters agents journals (Decided period cut) in_range is = let journaled = is.1 in journaled.size
 
-module _ (voters observers agents : ℕ) (sheet : Sheet) (issuer : Issuer) (events : List Event) (few : voters ≤ 99) (some : 1 ≤ agents) (most : agents ≤ 64) where
+module _ (room voters observers agents : ℕ) (sheet : Sheet) (issuer : Issuer) (events : List Event) (few : voters ≤ 99) (some : 1 ≤ agents) (most : agents ≤ 64) where
   abbrev there : World
-  there = (play (opening voters observers agents sheet issuer) events).1
+  there = (play (opening_with room voters observers agents sheet issuer) events).1
 
   pub gets_in_run : (k i : ℕ) (p : Packet) (n : Node) → slice_get there.packets k ≡ Some p → slice_get there.nodes i ≡ Some n → AddsAtMostOne (kept_now there n) (kept_now there (node_after there i n (Gets p)))
   gets_in_run k i p n sent found =
-      let limits = keeps_limits voters observers agents sheet issuer events in
-      adds_one there i n (each_has_text voters observers agents sheet issuer events few some most i n found) (Gets p) (
+      let limits = keeps_limits room voters observers agents sheet issuer events in
+      adds_one there i n (each_has_text room voters observers agents sheet issuer events few some most i n found) (Gets p) (
         at_entry IsSent there.packets k p (run_sent voters observers agents sheet issuer events few some most) sent,
         of_agents (voter_count there) there.agents there.journals p limits.in_range (at_entry (IsPacket (voter_count there) there.agents there.journals) there.packets k p limits.each_packet sent),
       )
 
   pub begins_in_run : (i : ℕ) (n : Node) → i < voters → current_period n < most_periods → n.kept.round < most_rounds → slice_get there.nodes i ≡ Some n → AddsAtMostOne (kept_now there n) (kept_now there (node_after there i n Begins))
   begins_in_run i n votes going round found =
-      let limits = keeps_limits voters observers agents sheet issuer events in
-      adds_one there i n (each_has_text voters observers agents sheet issuer events few some most i n found) Begins (subst (λ v. i < v) (sym limits.voters_kept) votes, going, round)
+      let limits = keeps_limits room voters observers agents sheet issuer events in
+      adds_one there i n (each_has_text room voters observers agents sheet issuer events few some most i n found) Begins (subst (λ v. i < v) (sym limits.voters_kept) votes, going, round)

@@ -3,7 +3,7 @@
 ghost use Rattle.std.specs.Prelude.{◌≡◌, ℕ, ◌<◌, ◌≤◌, List, Option, Some, slice_get};
 ghost use Rattle.metering_model.specs.Limits.{most_agents, most_nodes, most_periods, most_rounds};
 ghost use Rattle.metering_model.specs.Sheet.{Sheet, Issuer};
-ghost use Rattle.metering_model.specs.World.{World, Node, Packet, Event, current_period, opening};
+ghost use Rattle.metering_model.specs.World.{World, Node, Packet, Event, current_period, opening_with};
 ghost use Rattle.metering_model.specs.Step.{kept_now, play};
 ghost use Rattle.metering_model.specs.KeptText.{HasText, KeptAmong};
 ghost use Rattle.log_text.specs.LogText.{HasLog, Increment, LogHead, kept_after, kept_at_first};
@@ -28,23 +28,30 @@ pub fn a_step_adds_at_most_one_increment()
 /// So it is in every run: what was sent may be got by each node, and a voter may begin a ballot while there are periods and
 /// rounds.
 pub fn a_step_of_a_run_adds_at_most_one_increment()
-    ensures gets { (voters observers agents : ℕ) (sheet : Sheet) (issuer : Issuer)
+    ensures gets { (room voters observers agents : ℕ) (sheet : Sheet) (issuer : Issuer)
         (events : List Event) → voters ≤ most_nodes → 1 ≤ agents → agents ≤ most_agents →
         (k i : ℕ) (p : Packet) (n : Node)
-        → slice_get (play (opening voters observers agents sheet issuer) events).1.packets k
+        → slice_get
+        (play (opening_with room voters observers agents sheet issuer) events).1.packets k
         ≡ Some p
-        → slice_get (play (opening voters observers agents sheet issuer) events).1.nodes i
+        → slice_get
+        (play (opening_with room voters observers agents sheet issuer) events).1.nodes i
         ≡ Some n →
-        AddsAtMostOne (kept_now (play (opening voters observers agents sheet issuer) events).1 n)
-        (kept_now (play (opening voters observers agents sheet issuer) events).1
-        (node_after (play (opening voters observers agents sheet issuer) events).1 i n (Gets p))) }
-    ensures begins { (voters observers agents : ℕ) (sheet : Sheet) (issuer : Issuer)
+        AddsAtMostOne
+        (kept_now (play (opening_with room voters observers agents sheet issuer) events).1 n)
+        (kept_now (play (opening_with room voters observers agents sheet issuer) events).1
+        (node_after (play (opening_with room voters observers agents sheet issuer) events).1 i n
+        (Gets p))) }
+    ensures begins { (room voters observers agents : ℕ) (sheet : Sheet) (issuer : Issuer)
         (events : List Event) → voters ≤ most_nodes → 1 ≤ agents → agents ≤ most_agents →
         (i : ℕ) (n : Node) → i < voters → current_period n < most_periods
         → n.kept.round < most_rounds
-        → slice_get (play (opening voters observers agents sheet issuer) events).1.nodes i
+        → slice_get
+        (play (opening_with room voters observers agents sheet issuer) events).1.nodes i
         ≡ Some n →
-        AddsAtMostOne (kept_now (play (opening voters observers agents sheet issuer) events).1 n)
-        (kept_now (play (opening voters observers agents sheet issuer) events).1
-        (node_after (play (opening voters observers agents sheet issuer) events).1 i n Begins)) }
+        AddsAtMostOne
+        (kept_now (play (opening_with room voters observers agents sheet issuer) events).1 n)
+        (kept_now (play (opening_with room voters observers agents sheet issuer) events).1
+        (node_after (play (opening_with room voters observers agents sheet issuer) events).1 i n
+        Begins)) }
 {}

@@ -32,12 +32,13 @@ pub record Node : Type 0 where
   pub attempt : Option Attempt
   pub tally : Tally
 
--- The first of the nodes vote, and those behind them observe.
+-- The first of the nodes vote, and those behind them observe. There is room for so many packets, sent over the whole run.
 pub record World : Type 0 where
   pub sheet : Sheet
   pub issuer : Issuer
   pub agents : ℕ
   pub journals : Holding
+  pub room : ℕ
   pub packets : List Packet
   pub voters : ℕ
   pub nodes : List Node
@@ -111,16 +112,22 @@ wake kept = record { kept = kept; attempt = None; tally = [] }
 abbrev pub new_kept : Kept
 new_kept = record { round = 0; learned = []; acceptor = new_acceptor; holding = [] }
 
-abbrev pub opening : ℕ → ℕ → ℕ → Sheet → Issuer → World
-opening voters observers agents sheet issuer = record {
+-- before any event, with room for so many packets
+abbrev pub opening_with : (room voters observers agents : ℕ) → Sheet → Issuer → World
+opening_with room voters observers agents sheet issuer = record {
   sheet = sheet;
   issuer = issuer;
   agents = agents;
   journals = [];
+  room = room;
   packets = [];
   voters = voters;
   nodes = replicate (voters + observers) (wake new_kept);
 }
+
+-- with the room that a group of the program has
+abbrev pub opening : ℕ → ℕ → ℕ → Sheet → Issuer → World
+opening voters observers agents sheet issuer = opening_with most_packets voters observers agents sheet issuer
 
 abbrev pub with_kept : Kept → Node → Node
 with_kept kept n = record n { kept = kept }
@@ -133,4 +140,4 @@ with_packet p w = record w { packets = w.packets ++ p ∷ [] }
 
 -- the number of the next packet, where the world has room for one
 abbrev pub next_packet : World → Result ℕ Refusal
-next_packet w = if nat_lt (length w.packets) most_packets then Ok (length w.packets) else Err WorldFull
+next_packet w = if nat_lt (length w.packets) w.room then Ok (length w.packets) else Err WorldFull

@@ -6,7 +6,7 @@ use Rattle.metering_model.specs.Sheet.{Sheet, Issuer}
 use Rattle.metering_model.specs.Cut.{Cut}
 use Rattle.metering_model.specs.Holding.{Holding}
 use Rattle.metering_model.specs.Ballot.{Vote}
-use Rattle.metering_model.specs.World.{World, Packet, CarriesBatch, Prepare, Promise, Accept, Accepted, Decided, Event, opening, voter_count}
+use Rattle.metering_model.specs.World.{World, Packet, CarriesBatch, Prepare, Promise, Accept, Accepted, Decided, Event, opening_with, voter_count}
 use Rattle.metering_model.specs.Step.{play}
 use Rattle.group_laws.specs.EveryRun.{IsJournaledCut, IsPacket, KeepsLimits, MayBeVote}
 use Rattle.group_laws.proofs.Limits.{keeps_limits}
@@ -41,19 +41,19 @@ module _ (voters agents : ℕ) (journals : Holding) (few : voters ≤ 99) (some 
   packet_sent (Decided period cut) is = (is.0, cut_sent cut is.1)
 
 -- those of a world that keeps its limits
-world_sent : (voters observers agents : ℕ) (w : World) → voters ≤ 99 → 1 ≤ agents → agents ≤ 64 → KeepsLimits voters observers agents w → All IsSent w.packets
-world_sent voters observers agents w few some most keeps =
+world_sent : (room voters observers agents : ℕ) (w : World) → voters ≤ 99 → 1 ≤ agents → agents ≤ 64 → KeepsLimits room voters observers agents w → All IsSent w.packets
+world_sent room voters observers agents w few some most keeps =
     let fewer = subst (λ n. n ≤ 99) (sym keeps.voters_kept) few in
     let there = subst (λ n. 1 ≤ n) (sym keeps.agents_kept) some in
     let within = subst (λ n. n ≤ 64) (sym keeps.agents_kept) most in
     All-weaker (IsPacket (voter_count w) w.agents w.journals) IsSent (packet_sent (voter_count w) w.agents w.journals fewer there within) w.packets keeps.each_packet
 
-module _ (voters observers agents : ℕ) (sheet : Sheet) (issuer : Issuer) (events : List Event) where
-  pub run_sent : voters ≤ 99 → 1 ≤ agents → agents ≤ 64 → All IsSent (play (opening voters observers agents sheet issuer) events).1.packets
+module _ (room voters observers agents : ℕ) (sheet : Sheet) (issuer : Issuer) (events : List Event) where
+  pub run_sent : voters ≤ 99 → 1 ≤ agents → agents ≤ 64 → All IsSent (play (opening_with room voters observers agents sheet issuer) events).1.packets
   run_sent few some most =
-      world_sent voters observers agents (play (opening voters observers agents sheet issuer) events).1 few some most (keeps_limits voters observers agents sheet issuer events)
+      world_sent room voters observers agents (play (opening_with room voters observers agents sheet issuer) events).1 few some most (keeps_limits room voters observers agents sheet issuer events)
 
   -- in a group of whatever name
-  pub run_written : (group : List ℕ) → is_group group ≡ true → voters ≤ 99 → 1 ≤ agents → agents ≤ 64 → All (HasPacketText group) (play (opening voters observers agents sheet issuer) events).1.packets
+  pub run_written : (group : List ℕ) → is_group group ≡ true → voters ≤ 99 → 1 ≤ agents → agents ≤ 64 → All (HasPacketText group) (play (opening_with room voters observers agents sheet issuer) events).1.packets
   run_written group name few some most =
-      All-weaker IsSent (HasPacketText group) (λ q is. record { group = name; packet = is }) (play (opening voters observers agents sheet issuer) events).1.packets (run_sent few some most)
+      All-weaker IsSent (HasPacketText group) (λ q is. record { group = name; packet = is }) (play (opening_with room voters observers agents sheet issuer) events).1.packets (run_sent few some most)

@@ -4,7 +4,7 @@ ghost use Rattle.std.specs.Prelude.{◌≡◌, ◌≢◌, ◌↔◌, ℕ, ◌≤
 ghost use Rattle.metering_model.specs.Limits.{most_agents, most_nodes};
 ghost use Rattle.metering_model.specs.Sheet.{Sheet, Issuer};
 ghost use Rattle.metering_model.specs.Step.{play};
-ghost use Rattle.metering_model.specs.World.{Packet, Event, opening};
+ghost use Rattle.metering_model.specs.World.{Packet, Event, opening_with};
 ghost use Rattle.packet_text.specs.PacketText.{GroupPacket, HasPacketText, IsSent, first_packet_in, is_group, is_line, most_line_bytes, most_packet_bytes, packet_in, packet_text};
 
 /// What may be written is read back from its text. A text that is read is just the text of what it is read as, which
@@ -55,12 +55,13 @@ pub fn texts_of_packets_end_by_themselves()
 /// After every list of events, in a group of up to 99 voters and 1 to 64 agents, and of any name that a group may have,
 /// each packet that was sent may be written.
 pub fn packets_of_runs_may_be_written()
-    ensures limits { (voters observers agents : ℕ) (sheet : Sheet) (issuer : Issuer)
+    ensures limits { (room voters observers agents : ℕ) (sheet : Sheet) (issuer : Issuer)
         (events : List Event) → voters ≤ most_nodes → 1 ≤ agents → agents ≤ most_agents →
-        All IsSent (play (opening voters observers agents sheet issuer) events).1.packets }
-    ensures written { (voters observers agents : ℕ) (sheet : Sheet) (issuer : Issuer)
+        All IsSent
+        (play (opening_with room voters observers agents sheet issuer) events).1.packets }
+    ensures written { (room voters observers agents : ℕ) (sheet : Sheet) (issuer : Issuer)
         (events : List Event) (group : List ℕ) → IsTrue (is_group group)
         → voters ≤ most_nodes → 1 ≤ agents → agents ≤ most_agents →
         All (HasPacketText group)
-        (play (opening voters observers agents sheet issuer) events).1.packets }
+        (play (opening_with room voters observers agents sheet issuer) events).1.packets }
 {}

@@ -8,7 +8,6 @@ use Rattle.metering_model.specs.BatchReading.{batch_in}
 use Rattle.metering_model.specs.FirstFailure.{◌>>=◌, holds_or}
 use Rattle.metering_model.specs.Holding.{Position, placed, put}
 use Rattle.metering_model.specs.JournalRules.{first_broken, next_seq}
-use Rattle.metering_model.specs.Limits.{most_packets}
 use Rattle.metering_model.specs.Step.{Outcome, batch_of as offered, on_batch, or_bad_batch, or_refused, step, unless_broken}
 use Rattle.metering_model.specs.Transcript.{line}
 use Rattle.metering_model.specs.World.{World, Event, Good, Bad, Journal, Journaled, Reply, Refused, offer_of, with_packet, CarriesBatch}
@@ -87,7 +86,7 @@ module _ (w : World) (text : List ℕ) where
 
       by_batch : (r : Result Batch BatchFault) → batch_in text ≡ r → journaled r ≡ Refused (refusal.BadBatch fault) → r ≡ Err fault
       by_batch (Ok b) read so =
-          absurd (no_fault w b (nat_le b.agent w.agents) (b.seq == next_seq w.journals b.agent) (first_broken w.sheet (put w.journals b) (placed b)) (nat_lt (length w.packets) most_packets) fault
+          absurd (no_fault w b (nat_le b.agent w.agents) (b.seq == next_seq w.journals b.agent) (first_broken w.sheet (put w.journals b) (placed b)) (nat_lt (length w.packets) w.room) fault
           (subst (λ (r : Result Batch BatchFault). (or_refused w (or_bad_batch r >>= on_batch w)).0 ≡ Refused (refusal.BadBatch fault)) read so))
       by_batch (Err f) bad so = ap Err (same_fault f so)
 
@@ -98,7 +97,7 @@ module _ (w : World) (text : List ℕ) where
       by_batch : (r : Result Batch BatchFault) → batch_in text ≡ r → journaled r ≡ Refused why
           → world_index w (offered (elim r [ Ok b ↦ Good text | Err fault ↦ Bad fault ])) ≡ bad_index w.sheet w.journals text
       by_batch (Ok b) read so =
-          let next = is_next w b (nat_le b.agent w.agents) (b.seq == next_seq w.journals b.agent) (first_broken w.sheet (put w.journals b) (placed b)) (nat_lt (length w.packets) most_packets) why
+          let next = is_next w b (nat_le b.agent w.agents) (b.seq == next_seq w.journals b.agent) (first_broken w.sheet (put w.journals b) (placed b)) (nat_lt (length w.packets) w.room) why
           (subst (λ (r : Result Batch BatchFault). (or_refused w (or_bad_batch r >>= on_batch w)).0 ≡ Refused why) read so) rule in
           ap (λ (r : Result Batch BatchFault). world_index w (or_bad_batch r)) read
           ∙ (ap (λ t. option_map (λ (p : Position). p.index) (if t then first_bad w.sheet (put w.journals b) (placed b) else None)) next
@@ -112,7 +111,7 @@ module _ (w : World) (text : List ℕ) where
       by_batch : (r : Result Batch BatchFault) → batch_in text ≡ r → IsAnswer (journaled r)
       by_batch (Ok b) read =
           subst (λ (r : Result Batch BatchFault). IsAnswer (or_refused w (or_bad_batch r >>= on_batch w)).0) (sym read)
-          (answers w b (nat_le b.agent w.agents) (b.seq == next_seq w.journals b.agent) (first_broken w.sheet (put w.journals b) (placed b)) (nat_lt (length w.packets) most_packets))
+          (answers w b (nat_le b.agent w.agents) (b.seq == next_seq w.journals b.agent) (first_broken w.sheet (put w.journals b) (placed b)) (nat_lt (length w.packets) w.room))
       by_batch (Err f) bad = inr (refusal.BadBatch f, refl)
 
   -- what is journaled is a batch

@@ -15,6 +15,7 @@ use Rattle.metering_model.specs.JournalRules.{MeetsJournalRules}
 use Rattle.metering_model.specs.Front.{starts_before, is_due, AreDueBetween}
 use Rattle.metering_model.specs.Rows.{rows}
 use Rattle.metering_model.specs.File.{file}
+use Rattle.metering_model.specs.Limits.{most_packets}
 use Rattle.metering_model.specs.World.{World, Event, Snapshot, Reply, Exported, opening}
 use Rattle.metering_model.specs.Step.{cut_before, play}
 use Rattle.metering_model.specs.Transcript.{file_of}
@@ -89,7 +90,7 @@ module _ (voters observers agents : ℕ) (old : Sheet) (issuer : Issuer) (events
   reached = (play (opening voters observers agents old issuer) events).1
 
   headline : HoldsAfter voters observers agents old issuer events replies reached
-  headline = holds_after voters observers agents old issuer events
+  headline = holds_after most_packets voters observers agents old issuer events
 
   due : (period : ℕ) (to : Cut) → slice_get headline.cuts period ≡ Some to → AreDueBetween old.base period reached.journals (cut_before agents headline.cuts period) to
   due period to is =

@@ -12,6 +12,7 @@ use Rattle.metering_model.specs.PriceInForce.{region_named}
 use Rattle.metering_model.specs.Holding.{Holding, is_batch_at, held}
 use Rattle.metering_model.specs.Row.{region_of}
 use Rattle.metering_model.specs.declared.Refusal.TheVariants.{Unpriced}
+use Rattle.metering_model.specs.Limits.{most_packets}
 use Rattle.metering_model.specs.World.{Event, Snapshot, Reply, Exported, Refused, opening}
 use Rattle.metering_model.specs.Step.{play}
 use Rattle.metering_model.proofs.FieldLaws.{same_read}
@@ -82,5 +83,5 @@ pub alike_exports : (voters observers agents : ℕ) (old new : Sheet) (issuer : 
     Contains (play (opening voters observers agents old issuer) events).0 (Exported t) → NamesAllAlike old new t.batches →
     (s : Snapshot) → Contains (play (opening voters observers agents old issuer) events).0 (Exported s) → s.period ≡ t.period → NamesAllAlike old new s.batches
 alike_exports voters observers agents old new issuer events t there alike s has is =
-    let one = (holds_after voters observers agents old issuer events).one_export s t has there is in
+    let one = (holds_after most_packets voters observers agents old issuer events).one_export s t has there is in
     subst (λ (u : Snapshot). NamesAllAlike old new u.batches) (sym one) alike

@@ -13,6 +13,7 @@ use Rattle.metering_model.specs.JournalRules.{MeetsJournalRules}
 use Rattle.metering_model.specs.Rows.{PlacedRow, placed_rows}
 use Rattle.metering_model.specs.declared.Refusal.{Refusal}
 use Rattle.metering_model.specs.declared.Refusal.TheVariants.{Unpriced}
+use Rattle.metering_model.specs.Limits.{most_packets}
 use Rattle.metering_model.specs.World.{World}
 use Rattle.metering_model.specs.Schedule.{TextLines, lines_text}
 use Rattle.metering_model.proofs.RulesUpToCut.{MeetsJournalRules-up_to}
@@ -40,12 +41,12 @@ journals = (run_under old_sheet).1.journals
 
 rules_before : MeetsJournalRules old_sheet journals
 rules_before =
-    let headline = holds_after 1 0 1 old_sheet issuer_1 two_months in
+    let headline = holds_after most_packets 1 0 1 old_sheet issuer_1 two_months in
     subst (λ x. MeetsJournalRules x journals) headline.sheet_kept headline.rules
 
 rules_after : MeetsJournalRules new_sheet journals
 rules_after =
-    let headline = holds_after 1 0 1 new_sheet issuer_1 two_months in
+    let headline = holds_after most_packets 1 0 1 new_sheet issuer_1 two_months in
     let same = same_world 1 0 1 old_sheet new_sheet issuer_1 two_months refl all_are_priced all_stay_priced in
     subst (MeetsJournalRules new_sheet) (ap (λ (w : World). w.journals) same)
     (subst (λ x. MeetsJournalRules x (run_under new_sheet).1.journals) headline.sheet_kept headline.rules)

@@ -8,6 +8,7 @@ use Rattle.metering_model.specs.NumberText.{worth_of, decimals_of}
 use Rattle.metering_model.specs.Dates.{period_end}
 use Rattle.metering_model.specs.Sheet.{Sheet}
 use Rattle.metering_model.specs.Holding.{Holding}
+use Rattle.metering_model.specs.Limits.{most_packets}
 use Rattle.metering_model.specs.World.{Event, Journal, Deliver, Start, Export, Snapshot, Reply, Exported, offer_of, opening}
 use Rattle.metering_model.specs.Step.{play}
 use Rattle.metering_model.specs.Transcript.{transcript}
@@ -56,7 +57,7 @@ asks_for_january (suc (suc (suc (suc (suc (suc (suc (suc k)))))))) node period e
 is_of_january : (s : Snapshot) → Contains (replies_under old_sheet) (Exported s) → s.period ≡ 0
 is_of_january s has =
     let at = element_of (replies_under old_sheet) (Exported s) has in
-    let asked = (holds_after 1 0 1 old_sheet issuer_1 one_month).answers.asked at.0 s at.1 in
+    let asked = (holds_after most_packets 1 0 1 old_sheet issuer_1 one_month).answers.asked at.0 s at.1 in
     asks_for_january at.0 asked.0 s.period asked.1
 
 one_transcript : transcript (replies_under new_sheet) ≡ transcript (replies_under old_sheet)

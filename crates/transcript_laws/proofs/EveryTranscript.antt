@@ -12,6 +12,7 @@ use Rattle.metering_model.specs.Front.{AreDueBetween}
 use Rattle.metering_model.specs.Rows.{rows}
 use Rattle.metering_model.specs.File.{header_line, fields_of_row, file}
 use Rattle.metering_model.specs.Totals.{sum_of}
+use Rattle.metering_model.specs.Limits.{most_packets}
 use Rattle.metering_model.specs.World.{World, Event, Snapshot, Reply, Exported, KeptText, last_cut, opening}
 use Rattle.metering_model.specs.Step.{cut_before, play}
 use Rattle.metering_model.specs.Transcript.{file_of, transcript}
@@ -46,7 +47,7 @@ module _ (voters observers agents : ℕ) (sheet : Sheet) (issuer : Issuer) (even
   reached = (play (opening voters observers agents sheet issuer) events).1
 
   headline : HoldsAfter voters observers agents sheet issuer events replies reached
-  headline = holds_after voters observers agents sheet issuer events
+  headline = holds_after most_packets voters observers agents sheet issuer events
 
   journals_are : IsHolding reached.journals
   journals_are = headline.rules.is_holding
@@ -87,7 +88,7 @@ module _ (voters observers agents : ℕ) (sheet : Sheet) (issuer : Issuer) (even
   text_is_shown : (text : List ℕ) → Contains replies (KeptText text) → IsKeptShown text
   text_is_shown text has =
       let at = element_of replies (KeptText text) has in
-      let of = texts_are_kept events (opening voters observers agents sheet issuer) (HasForms-opening voters observers agents sheet issuer) at.0 text at.1 in
+      let of = texts_are_kept events (opening voters observers agents sheet issuer) (HasForms-opening most_packets voters observers agents sheet issuer) at.0 text at.1 in
       subst IsKeptShown (sym of.2) (kept_text_shown of.0 of.1)
 
   pub all_are_shown : AreFilesShown replies

@@ -10,6 +10,7 @@ use Rattle.metering_model.specs.Cut.{Cut}
 use Rattle.metering_model.specs.Sheet.{Sheet, Issuer}
 use Rattle.metering_model.specs.Holding.{Holding, comes_before, put, up_to, placed, records_in_order}
 use Rattle.metering_model.specs.Rows.{PlacedRow, placed_row, placed_rows, rows}
+use Rattle.metering_model.specs.Limits.{most_packets}
 use Rattle.metering_model.specs.World.{World, Node, Packet, CarriesBatch, Event, wake, opening}
 use Rattle.metering_model.specs.Deliveries.{handled}
 use Rattle.metering_model.specs.Step.{play}
@@ -48,8 +49,8 @@ HasPackets-steps = record {
 
 pub few_batches : (voters observers agents : ℕ) (sheet : Sheet) (issuer : Issuer) (events : List Event) → length (play (opening voters observers agents sheet issuer) events).1.journals ≤ 1_000_000
 few_batches voters observers agents sheet issuer events =
-    let room = (keeps_limits voters observers agents sheet issuer events).room in
-    let each = (play_kept HasPackets HasPackets-steps events (opening voters observers agents sheet issuer) (HasForms-opening voters observers agents sheet issuer) (record { each = omega arith })).each in
+    let room = (keeps_limits most_packets voters observers agents sheet issuer events).fits in
+    let each = (play_kept HasPackets HasPackets-steps events (opening voters observers agents sheet issuer) (HasForms-opening most_packets voters observers agents sheet issuer) (record { each = omega arith })).each in
     omega (arith, room, each)
 
 -- ---- records and rows

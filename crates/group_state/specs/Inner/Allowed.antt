@@ -10,7 +10,7 @@ use Rattle.metering_model.specs.Sheet.{Sheet}
 use Rattle.metering_model.specs.World.{World, Node, Packet, CarriesBatch, Reply, Journaled, Delivered, current_period, voter_count, with_packet}
 use Rattle.metering_model.specs.Deliveries.{handled}
 use Rattle.metering_model.specs.Step.{cut_before, first_missing, on_batch}
-use Rattle.metering_model.specs.Limits.{most_packets, most_periods, most_rounds}
+use Rattle.metering_model.specs.Limits.{most_periods, most_rounds}
 use Rattle.group_node.specs.Nodes.{NodeAmong}
 use Rattle.group_node.specs.Packets.{IsPacketAmong, packet_of}
 use Rattle.group_node.specs.declared.packets.Packet as group
@@ -19,7 +19,7 @@ use Rattle.group_node.specs.Handling.{Does}
 -- The batch is of an agent of the world, and is journaled.
 pub record MayJournal (w : World) (b : Batch) : Type 0 where
   pub agent : b.agent ≤ w.agents
-  pub room : length w.packets < most_packets
+  pub room : length w.packets < w.room
   pub outcome : on_batch w b ≡ Ok (Journaled (length w.packets), with_packet (CarriesBatch b) (record w { journals = put w.journals b }))
 
 -- Packet and node are there, and where the node sends something there is room for it.
@@ -27,7 +27,7 @@ pub record MayDeliver (w : World) (k i : ℕ) : Type 0 where
   pub packet : k < length w.packets
   pub node : i < length w.nodes
   pub room : (n : Node) (q : Packet) → slice_get w.nodes i ≡ Some n → slice_get w.packets k ≡ Some q →
-      is_some (handled w i n q).sends ≡ true → length w.packets < most_packets
+      is_some (handled w i n q).sends ≡ true → length w.packets < w.room
 
 -- Packet k was sent, and is one among the voters and agents that a node knows of.
 pub record IsSentAmong (packets : List group.Packet) (k : ℕ) (n : NodeAmong) : Type 0 where
@@ -49,7 +49,7 @@ pub record MayBegin (w : World) (i period : ℕ) : Type 0 where
   pub node : i < length w.nodes
   pub votes : i < voter_count w
   pub works : (n : Node) → slice_get w.nodes i ≡ Some n → (current_period n ≡ period) × (period < most_periods) × (n.kept.round < most_rounds)
-  pub room : length w.packets < most_packets
+  pub room : length w.packets < w.room
 
 -- The node has the journals' batches up to the cut that it learned for the period, and none of them is missing.
 pub record MayTake (sheet : Sheet) (agents period : ℕ) (to : Cut) (n : NodeAmong) : Type 0 where

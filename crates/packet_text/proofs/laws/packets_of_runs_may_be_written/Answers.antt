@@ -6,5 +6,5 @@ pub returns-clause-limits : goal.returns-clause-limits
 returns-clause-limits c = run_sent
 
 pub returns-clause-written : goal.returns-clause-written
-returns-clause-written c = λ voters observers agents sheet issuer events group name few some most.
-    run_written voters observers agents sheet issuer events group name few some most
+returns-clause-written c = λ room voters observers agents sheet issuer events group name few some most.
+    run_written room voters observers agents sheet issuer events group name few some most

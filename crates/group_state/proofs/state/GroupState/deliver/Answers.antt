@@ -13,7 +13,7 @@ use Rattle.group_state.proofs.state.GroupState.deliver.Goals as goal
 
 pub hand_over-requires-clause-few : goal.hand_over-requires-clause-few
 hand_over-requires-clause-few c =
-    let room = (limits_here c.args.self.now c.requires.reached).room in
+    let room = (limits_here c.args.self.now c.requires.reached).fits in
     let count = ap (λ (w : World). length w.packets) c.self.view_is in
     let size = length-map c.self.inside.packets.items packet_of in
     omega (arith, room, count, size)

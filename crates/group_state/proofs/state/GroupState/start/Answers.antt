@@ -8,6 +8,15 @@ use Rattle.group_state.specs.Inner.Allowed.{MayBegin}
 use Rattle.group_state.proofs.Changes.{node_found, member_at, begun}
 use Rattle.group_state.proofs.state.GroupState.start.Goals as goal
 
+pub begin-requires-clause-few : goal.begin-requires-clause-few
+begin-requires-clause-few c =
+    let may = c.in-Ok.ensures in
+    let low = may.room in
+    let room = ap (λ (w : World). w.room) c.self.view_is in
+    let count = ap (λ (w : World). length w.packets) c.self.view_is in
+    let size = length-map c.self.inside.packets.items packet_of in
+    omega (arith, low, room, count, size)
+
 pub begin-requires-clause-round : goal.begin-requires-clause-round
 begin-requires-clause-round c =
     let same = ap (λ (w : World). w.nodes) c.self.view_is in
