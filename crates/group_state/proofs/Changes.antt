@@ -136,7 +136,7 @@ delivered w voters agents base k i at ns after n m r same month votes stores are
         → ◌≡◌ {A = Outcome} (Delivered (option_map (λ q. length w.packets) h.sends) h.learns, record w { packets = w.packets ++ cons_option h.sends []; nodes = slice_set w.nodes i m.node }) (step w (Deliver k i))
     by_sends None s = rw (s, append-nil) (sym (ap (or_refused w) (delivers w k i h.packet n.node m.node h.was found h.learns (does ∙ ap (λ o. record { node = m.node; sends = o; learns = h.learns }) s))))
     by_sends (Some q) s =
-        let room : length w.packets < 1_000_000 = may.room n.node h.packet found h.was (ap (λ (x : Handled). is_some x.sends) does ∙ ap is_some s) in
+        let room : length w.packets < w.room = may.room n.node h.packet found h.was (ap (λ (x : Handled). is_some x.sends) does ∙ ap is_some s) in
         rw s (sym (ap (or_refused w) (delivers_and_sends w k i h.packet n.node m.node h.was found h.learns q (does ∙ ap (λ o. record { node = m.node; sends = o; learns = h.learns }) s) (lt-ltb _ _ room))))
 
 -- ---- starts and restarts

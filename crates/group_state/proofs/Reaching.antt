@@ -41,7 +41,7 @@ headline_here w h =
 
 -- what each node keeps has a form that is read back
 pub forms_here : (w : World) → IsReached w → HasForms w
-forms_here w h = subst HasForms h.leads (forms h.voters h.observers h.agents h.sheet h.issuer h.events)
+forms_here w h = subst HasForms h.leads (forms most_packets h.voters h.observers h.agents h.sheet h.issuer h.events)
 
 -- what the world has is in the ranges in which a group may be opened
 pub still_open : (w : World) (h : IsReached w) → MayOpen (voter_count w) h.observers w.agents w.sheet

@@ -1,7 +1,6 @@
 //! A full world: one that holds as many packets as it may.
 
 ghost use Rattle.std.specs.Prelude.{◌≡◌, length, nat_lt};
-ghost use Rattle.metering_model.specs.Limits.{most_packets};
 
 use crate::state::GroupState;
 

@@ -278,7 +278,7 @@ module _ (room voters observers agents : ℕ) (sheet : Sheet) (issuer : Issuer) 
   gets_in_run k i p n sent found =
       let limits = keeps_limits room voters observers agents sheet issuer events in
       adds_one there i n (each_has_text room voters observers agents sheet issuer events few some most i n found) (Gets p) (
-        at_entry IsSent there.packets k p (run_sent voters observers agents sheet issuer events few some most) sent,
+        at_entry IsSent there.packets k p (run_sent room voters observers agents sheet issuer events few some most) sent,
         of_agents (voter_count there) there.agents there.journals p limits.in_range (at_entry (IsPacket (voter_count there) there.agents there.journals) there.packets k p limits.each_packet sent),
       )
 

@@ -1,2 +1,2 @@
-pub mod Processes
+pub mod LocalSteps
 pub mod Histories
