@@ -12,5 +12,11 @@ pub mod MatchedActs
 pub mod ExportedAnswers
 pub mod DoneByWorld
 pub mod AgreedExports
-pub mod AndSo
+-- worked examples: histories, and what is none
+pub mod EachAct
 pub mod WorkedHistory
+pub mod WorkedGroup
+pub mod WorkedGroupEvents
+pub mod FalseHistories
+pub mod RunTwice
+pub mod FalseSteps

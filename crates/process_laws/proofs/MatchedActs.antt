@@ -63,7 +63,7 @@ pub record AllAreMatched (g : Group) (room : ℕ) (w : World) (s : Processes) (a
   pub stands : Stands g room (after g s acts) journals packets
 
 -- an act that needs no event stands before the others
-matched_before : (g : Group) (w : World) (a : Act) (x : Answer) (acts : List Act) (xs : List Answer) (es : List Event)
+pub matched_before : (g : Group) (w : World) (a : Act) (x : Answer) (acts : List Act) (xs : List Answer) (es : List Event)
     → IsNoEvent g w a x → AreMatched g w acts xs es → AreMatched g w (a ∷ acts) (x ∷ xs) es
 matched_before g w a x acts xs [] none rest = (none, rest)
 matched_before g w a x acts xs (e ∷ es) none rest = inr (none, rest)

@@ -1,0 +1,249 @@
+-- What goes wrong where one act of a history may not be done: two files of one period that differ. Each fault is small, and every other act is as
+-- it should be.
+use Rattle.std.proofs.Common.{arith, ap}
+use Rattle.std.specs.Prelude.{◌≡◌, ℕ, zero, suc, List, [], ◌∷◌, ◌++◌, length, map, Some, None, Ok, Err, slice_get, codes, refl}
+use Rattle.std.specs.List.{Contains}
+use Rattle.std.specs.Fmt.{digits}
+use Rattle.jiff_core.specs.Calendar.{days_from_civil, day_count, days_of_years, days_of_months}
+use Rattle.metering_model.specs.NumberText.{worth_of, decimals_of}
+use Rattle.metering_model.specs.Batch.{Batch}
+use Rattle.metering_model.specs.BatchReading.{batch_in}
+use Rattle.metering_model.specs.declared.Version.TheVariants.{B1}
+use Rattle.metering_model.specs.Cut.{Cut}
+use Rattle.metering_model.specs.World.{Packet, CarriesBatch, Prepare, Promise, Accept, Accepted, Decided, Kept, Good, Snapshot, new_kept}
+use Rattle.metering_model.proofs.Samples.{sheet_0, issuer_1, reading_1}
+use Rattle.process_laws.specs.LocalSteps.{Group, TakePacket, BeginBallot, ExportPeriod, JournalBatch, HasTaken, HasExported, Answer, saying}
+use Rattle.process_laws.specs.Histories.{Processes, Act, NodeDoes, NodeGoesOn, AgentDoes, AgentGoesOn, acted, begun, answers, after, MayAct, IsHistory}
+use Rattle.process_laws.proofs.EachAct.{◌⨾◌}
+use Rattle.process_laws.proofs.AgreedExports.{files_are_the_same}
+
+-- ---- the group
+
+abbrev name : List ℕ
+name = codes "one"
+
+abbrev pub group : (voters observers : ℕ) → Group
+group voters observers = record { name = name; voters = voters; observers = observers; agents = 1; sheet = sheet_0; issuer = issuer_1 }
+
+abbrev pub takes : ℕ → Packet → Act
+takes i p = NodeDoes i (TakePacket name p)
+
+abbrev pub b : Batch
+b = record { version = B1; agent = 1; seq = 1; records = [] }
+
+abbrev pub journals_b : Act
+journals_b = AgentDoes 1 (JournalBatch (Good (codes "B1|1|1|0\n")))
+
+abbrev pub low : Cut
+low = 0 ∷ []
+
+abbrev pub high : Cut
+high = 1 ∷ []
+
+-- what is exported of period 0
+abbrev pub up_to : Cut → List Batch → Snapshot
+up_to cut batches = record { period = 0; from = low; to = cut; batches = batches; sheet = sheet_0; issuer = issuer_1 }
+
+pub cuts_differ : up_to low [] ≡ up_to high (b ∷ []) → ⊥
+cuts_differ same = let cuts = ap (λ (s : Snapshot). s.to) same in absurd (cc (cuts))
+
+-- ---- what a fault comes to
+
+-- two files of one period are among the answers, and are not made of the same
+pub record HaveTwoFiles (xs ys : List Answer) : Type 0 where
+  pub one : Snapshot
+  pub other : Snapshot
+  pub has : Contains xs (saying (HasExported one))
+  pub had : Contains ys (saying (HasExported other))
+  pub same_period : one.period ≡ other.period
+  pub differ : one ≡ other → ⊥
+
+pub low_and_high : {xs ys : List Answer} → Contains xs (saying (HasExported (up_to low [])))
+    → Contains ys (saying (HasExported (up_to high (b ∷ [])))) → HaveTwoFiles xs ys
+low_and_high has had = record { one = up_to low []; other = up_to high (b ∷ []); has = has; had = had; same_period = refl; differ = cuts_differ }
+
+-- each act may be done where it stands, of the one at this place nothing is asked
+abbrev IsHistoryBut : Group → Processes → (place : ℕ) → List Act → Type 0
+IsHistoryBut g s place [] = ⊥
+IsHistoryBut g s zero (a ∷ acts) = IsHistory g (acted g s a).after acts
+IsHistoryBut g s (suc place) (a ∷ acts) = MayAct g s a × IsHistoryBut g (acted g s a).after place acts
+
+record GoesWrongAt (g : Group) (place : ℕ) (acts : List Act) : Type 0 where
+  pub others_right : IsHistoryBut g (begun g) place acts
+  pub files : HaveTwoFiles (answers g (begun g) acts) (answers g (begun g) acts)
+
+-- by the law such a list is no history
+is_no_history : (g : Group) (place : ℕ) (acts : List Act) → GoesWrongAt g place acts → IsHistory g (begun g) acts → ⊥
+is_no_history g place acts wrong history =
+    let two = wrong.files in two.differ (files_are_the_same g acts history two.one two.other two.has two.had two.same_period)
+
+-- ---- a packet that nobody sent
+
+-- Node 0 votes by itself, and learns the cut that it chose.
+abbrev exports_b : List Act
+exports_b =
+    journals_b ∷ takes 0 (CarriesBatch b) ∷ NodeDoes 0 BeginBallot ∷ takes 0 (Prepare 0 1) ∷ takes 0 (Promise 0 0 1 None) ∷ takes 0 (Accept 0 1 high)
+    ∷ takes 0 (Accepted 0 0 1 high) ∷ NodeDoes 0 (ExportPeriod 0) ∷ []
+
+-- Node 1 is handed a cut that nobody sent, and believes it.
+abbrev with_a_made_up_packet : List Act
+with_a_made_up_packet = exports_b ++ takes 1 (Decided 0 low) ∷ NodeDoes 1 (ExportPeriod 0) ∷ []
+
+a_made_up_packet_makes_two_files : GoesWrongAt (group 1 1) 8 with_a_made_up_packet
+unfolding days_from_civil day_count days_of_years days_of_months worth_of decimals_of digits
+a_made_up_packet_makes_two_files = record {
+  others_right =
+      (omega arith, omega arith) ⨾
+      (omega arith, λ same. (0, omega arith, refl)) ⨾
+      (omega arith, tt) ⨾
+      (omega arith, λ same. (1, omega arith, refl)) ⨾
+      (omega arith, λ same. (2, omega arith, refl)) ⨾
+      (omega arith, λ same. (3, omega arith, refl)) ⨾
+      (omega arith, λ same. (4, omega arith, refl)) ⨾
+      (omega arith, tt) ⨾
+      (omega arith, tt) ⨾ tt;
+  files = low_and_high (9, omega arith, refl) (7, omega arith, refl);
+}
+
+so_a_made_up_packet_makes_no_history : IsHistory (group 1 1) (begun (group 1 1)) with_a_made_up_packet → ⊥
+so_a_made_up_packet_makes_no_history = is_no_history (group 1 1) 8 with_a_made_up_packet a_made_up_packet_makes_two_files
+
+-- ---- a vote that was answered before it was stored
+
+-- what node 0 had stored before it voted
+abbrev lacking_the_vote : Kept
+lacking_the_vote = record { round = 1; learned = []; acceptor = record { promised = Some 1; vote = None }; holding = [] }
+
+-- Node 0 votes for the low cut, and says so to the observer, which learns it. Then it goes on without its vote, and so chooses the high one.
+abbrev with_a_vote_not_stored : List Act
+with_a_vote_not_stored =
+    NodeDoes 0 BeginBallot ∷ takes 0 (Prepare 0 1) ∷ takes 0 (Promise 0 0 1 None) ∷ takes 0 (Accept 0 1 low) ∷ takes 1 (Accepted 0 0 1 low)
+    ∷ NodeDoes 1 (ExportPeriod 0) ∷ NodeGoesOn 0 lacking_the_vote ∷ journals_b ∷ takes 0 (CarriesBatch b) ∷ NodeDoes 0 BeginBallot ∷ takes 0 (Prepare 0 2)
+    ∷ takes 0 (Promise 0 0 2 None) ∷ takes 0 (Accept 0 2 high) ∷ takes 0 (Accepted 0 0 2 high) ∷ NodeDoes 0 (ExportPeriod 0) ∷ []
+
+a_vote_not_stored_makes_two_files : GoesWrongAt (group 1 1) 6 with_a_vote_not_stored
+unfolding days_from_civil day_count days_of_years days_of_months worth_of decimals_of digits
+a_vote_not_stored_makes_two_files = record {
+  others_right =
+      (omega arith, tt) ⨾
+      (omega arith, λ same. (0, omega arith, refl)) ⨾
+      (omega arith, λ same. (1, omega arith, refl)) ⨾
+      (omega arith, λ same. (2, omega arith, refl)) ⨾
+      (omega arith, λ same. (3, omega arith, refl)) ⨾
+      (omega arith, tt) ⨾
+      (omega arith, omega arith) ⨾
+      (omega arith, λ same. (4, omega arith, refl)) ⨾
+      (omega arith, tt) ⨾
+      (omega arith, λ same. (5, omega arith, refl)) ⨾
+      (omega arith, λ same. (6, omega arith, refl)) ⨾
+      (omega arith, λ same. (7, omega arith, refl)) ⨾
+      (omega arith, λ same. (8, omega arith, refl)) ⨾
+      (omega arith, tt) ⨾ tt;
+  files = low_and_high (5, omega arith, refl) (14, omega arith, refl);
+}
+
+so_a_vote_not_stored_makes_no_history : IsHistory (group 1 1) (begun (group 1 1)) with_a_vote_not_stored → ⊥
+so_a_vote_not_stored_makes_no_history = is_no_history (group 1 1) 6 with_a_vote_not_stored a_vote_not_stored_makes_two_files
+
+-- ---- a node that goes on with an older state
+
+-- Of three nodes, node 0 chooses the low cut by its own vote and that of node 1, and learns it.
+abbrev chooses_low : List Act
+chooses_low =
+    NodeDoes 0 BeginBallot ∷ takes 0 (Prepare 0 3) ∷ takes 1 (Prepare 0 3) ∷ takes 0 (Promise 0 0 3 None) ∷ takes 0 (Promise 1 0 3 None)
+    ∷ takes 0 (Accept 0 3 low) ∷ takes 1 (Accept 0 3 low) ∷ takes 0 (Accepted 0 0 3 low) ∷ takes 0 (Accepted 1 0 3 low) ∷ NodeDoes 0 (ExportPeriod 0) ∷ []
+
+-- Then node 2 chooses the high cut by its own vote and that of node 1.
+abbrev chooses_high : List Act
+chooses_high =
+    journals_b ∷ takes 2 (CarriesBatch b) ∷ NodeDoes 2 BeginBallot ∷ takes 1 (Prepare 0 5) ∷ takes 2 (Prepare 0 5) ∷ takes 2 (Promise 1 0 5 None)
+    ∷ takes 2 (Promise 2 0 5 None) ∷ takes 1 (Accept 0 5 high) ∷ takes 2 (Accept 0 5 high) ∷ takes 2 (Accepted 1 0 5 high) ∷ takes 2 (Accepted 2 0 5 high)
+    ∷ NodeDoes 2 (ExportPeriod 0) ∷ []
+
+-- Between the two, node 1 goes on with what it kept at first, and so has forgotten that it voted.
+abbrev with_an_older_state : List Act
+with_an_older_state = chooses_low ++ NodeGoesOn 1 new_kept ∷ chooses_high
+
+an_older_state_makes_two_files : GoesWrongAt (group 3 0) 10 with_an_older_state
+unfolding days_from_civil day_count days_of_years days_of_months worth_of decimals_of digits
+an_older_state_makes_two_files = record {
+  others_right =
+      (omega arith, tt) ⨾
+      (omega arith, λ same. (0, omega arith, refl)) ⨾
+      (omega arith, λ same. (0, omega arith, refl)) ⨾
+      (omega arith, λ same. (1, omega arith, refl)) ⨾
+      (omega arith, λ same. (2, omega arith, refl)) ⨾
+      (omega arith, λ same. (3, omega arith, refl)) ⨾
+      (omega arith, λ same. (3, omega arith, refl)) ⨾
+      (omega arith, λ same. (4, omega arith, refl)) ⨾
+      (omega arith, λ same. (5, omega arith, refl)) ⨾
+      (omega arith, tt) ⨾
+      (omega arith, omega arith) ⨾
+      (omega arith, λ same. (6, omega arith, refl)) ⨾
+      (omega arith, tt) ⨾
+      (omega arith, λ same. (7, omega arith, refl)) ⨾
+      (omega arith, λ same. (7, omega arith, refl)) ⨾
+      (omega arith, λ same. (8, omega arith, refl)) ⨾
+      (omega arith, λ same. (9, omega arith, refl)) ⨾
+      (omega arith, λ same. (10, omega arith, refl)) ⨾
+      (omega arith, λ same. (10, omega arith, refl)) ⨾
+      (omega arith, λ same. (11, omega arith, refl)) ⨾
+      (omega arith, λ same. (12, omega arith, refl)) ⨾
+      (omega arith, tt) ⨾ tt;
+  files = low_and_high (9, omega arith, refl) (22, omega arith, refl);
+}
+
+so_an_older_state_makes_no_history : IsHistory (group 3 0) (begun (group 3 0)) with_an_older_state → ⊥
+so_an_older_state_makes_no_history = is_no_history (group 3 0) 10 with_an_older_state an_older_state_makes_two_files
+
+-- With what it stored last it tells its vote, by which node 2 has to propose the low cut again.
+with_its_own_state_it_tells_its_vote :
+    slice_get (answers (group 3 0) (after (group 3 0) (begun (group 3 0)) chooses_low) chooses_high) 3
+    ≡ Some (record { words = HasTaken None; sends = Some (Promise 1 0 5 (Some (record { ballot = 3; cut = low }))) })
+unfolding days_from_civil day_count days_of_years days_of_months worth_of decimals_of digits
+with_its_own_state_it_tells_its_vote = refl
+
+-- ---- an agent whose journal is lost, or that is run twice
+
+abbrev other_text : List ℕ
+other_text = codes "B1|1|1|1\n" ++ reading_1 ++ codes "\n"
+
+-- another batch with the agent's first sequence
+abbrev pub c : Batch
+c = elim (batch_in other_text) [ Ok x ↦ x | Err fault ↦ b ]
+
+-- Node 0 has the agent's first batch, and chooses and exports the cut up to it. The agent goes on without its journal, or a second one is begun
+-- beside it, and journals another first batch. Node 1 gets that one.
+abbrev with_a_lost_journal : List Act
+with_a_lost_journal =
+    exports_b ++ AgentGoesOn 1 [] ∷ AgentDoes 1 (JournalBatch (Good other_text)) ∷ takes 1 (CarriesBatch c) ∷ takes 1 (Accepted 0 0 1 high)
+    ∷ NodeDoes 1 (ExportPeriod 0) ∷ []
+
+a_lost_journal_makes_two_files : GoesWrongAt (group 1 1) 8 with_a_lost_journal
+unfolding days_from_civil day_count days_of_years days_of_months worth_of decimals_of digits
+a_lost_journal_makes_two_files = record {
+  others_right =
+      (omega arith, omega arith) ⨾
+      (omega arith, λ same. (0, omega arith, refl)) ⨾
+      (omega arith, tt) ⨾
+      (omega arith, λ same. (1, omega arith, refl)) ⨾
+      (omega arith, λ same. (2, omega arith, refl)) ⨾
+      (omega arith, λ same. (3, omega arith, refl)) ⨾
+      (omega arith, λ same. (4, omega arith, refl)) ⨾
+      (omega arith, tt) ⨾
+      (omega arith, omega arith) ⨾
+      (omega arith, λ same. (5, omega arith, refl)) ⨾
+      (omega arith, λ same. (4, omega arith, refl)) ⨾
+      (omega arith, tt) ⨾ tt;
+  files = record {
+    one = up_to high (b ∷ []);
+    other = up_to high (c ∷ []);
+    has = (7, omega arith, refl);
+    had = (12, omega arith, refl);
+    same_period = refl;
+    differ = λ same. let counts : ◌≡◌ {A = List ℕ} (0 ∷ []) (1 ∷ []) = ap (λ (s : Snapshot). map (λ x. length x.records) s.batches) same in absurd (cc (counts));
+  };
+}
+
+so_a_lost_journal_makes_no_history : IsHistory (group 1 1) (begun (group 1 1)) with_a_lost_journal → ⊥
+so_a_lost_journal_makes_no_history = is_no_history (group 1 1) 8 with_a_lost_journal a_lost_journal_makes_two_files
