@@ -1,0 +1,6 @@
+mod HeldLaws
+mod Growing
+mod Exports
+mod JournalLaws
+mod PacketLaws
+mod AddedLaws

@@ -1,0 +1,3 @@
+-- Words that the public clauses don't cite.
+pub mod Growing
+pub mod Likely
