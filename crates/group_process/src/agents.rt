@@ -11,7 +11,6 @@ ghost use Rattle.group_events.specs.Batches.{batch_of};
 ghost use Rattle.group_events.specs.Events.{offer_of};
 ghost use Rattle.group_process.specs.Added.{AddsJust};
 ghost use Rattle.group_process.specs.Journals.{DoesAsAgent, is_empty_acceptor, is_journal_of, journaled_answer, keeps_journal_of};
-ghost use Rattle.metering_model.specs.Step.{unless_broken};
 ghost use Rattle.group_process.specs.Selves.{kept_of_agent};
 ghost use Rattle.log_text.specs.LogText.{Takes};
 
@@ -105,16 +104,6 @@ fn keeps_journal_of(agent: u8, kept: &Parts) -> bool
         && is_journal_of(agent, &kept.store)
 }
 
-/// How a broken rule is told.
-fn refusal_of(rule: BrokenRule) -> Refusal
-    ensures { unless_broken (Some rule) ≡ Err result }
-{
-    match rule {
-        BrokenRule::BadTarget => Refusal::BadTarget,
-        BrokenRule::Unpriced => Refusal::Unpriced,
-    }
-}
-
 impl AgentProcess {
     /// The agent of that number, from 1, goes on with what it stored last. None where that is no journal of the agent: a round
     /// was begun, something was promised, accepted or learned, or there is a batch of another agent, or a gap.
@@ -168,7 +157,8 @@ impl AgentProcess {
         }
         let (kept, group) = (&self.kept, &self.group);
         match first_broken(&kept.store, group.sheet(), &view) {
-            Some(rule) => Some(refusal_of(rule)),
+            Some(BrokenRule::BadTarget) => Some(Refusal::BadTarget),
+            Some(BrokenRule::Unpriced) => Some(Refusal::Unpriced),
             None => None,
         }
     }
