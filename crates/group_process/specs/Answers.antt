@@ -5,13 +5,12 @@ use Rattle.metering_model.specs.World.{Prepare, Node, Snapshot, current_period}
 use Rattle.process_laws.specs.LocalSteps as model
 use Rattle.group_node.specs.Packets.{packet_of}
 use Rattle.group_process.specs.declared.refusals.ProcessRefusal.{ProcessRefusal}
-use Rattle.group_process.specs.declared.refusals.ProcessRefusal.TheVariants.{OfModel, Foreign, Unfit}
+use Rattle.group_process.specs.declared.refusals.ProcessRefusal.TheVariants.{OfModel, Unfit}
 use Rattle.group_process.specs.declared.taking.Taken.{Taken}
 use Rattle.group_process.specs.Selves.{NodeSelf}
 
 abbrev pub refusal_of : ProcessRefusal → model.ProcessRefusal
 refusal_of (OfModel why) = model.OfModel why
-refusal_of Foreign = model.Foreign
 refusal_of Unfit = model.Unfit
 
 -- what is answered where a packet was taken, or is none of the group

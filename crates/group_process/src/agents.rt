@@ -134,6 +134,7 @@ impl AgentProcess {
     pub fn next_seq(&self) -> u32
         ensures next { result ≡ next_seq self.now.journal self.now.number }
         ensures absent { held self.now.journal self.now.number result ≡ None }
+        ensures range { (1 ≤ result) × (result ≤ 1_000_001) }
     {
         let kept = &self.kept;
         kept.store.first_absent(self.number)

@@ -1,8 +1,9 @@
 //! A node as a process of its own: how it goes on, and what it tells of itself.
 
-ghost use Rattle.std.specs.Prelude.{◌≡◌, ◌+◌, ◌<◌, IfOk, None, Some, MatchOption};
+ghost use Rattle.std.specs.Prelude.{◌≡◌, ◌+◌, ◌<◌, ◌≤◌, IfOk, None, Some, MatchOption};
 ghost use Rattle.metering_model.specs.Holding.{held};
 ghost use Rattle.metering_model.specs.KeptText.{kept_text};
+ghost use Rattle.metering_model.specs.Limits.{most_periods, most_rounds};
 ghost use Rattle.metering_model.specs.World.{current_period, wake};
 ghost use Rattle.group_events.specs.Batches.{batch_of};
 ghost use Rattle.group_process.specs.Selves.{kept_of_node};
@@ -52,14 +53,16 @@ impl NodeProcess {
 
     /// The first period that it has not learned, at most 1,200.
     pub fn current_period(&self) -> u16
-        ensures { result ≡ current_period self.now.node }
+        ensures value { result ≡ current_period self.now.node }
+        ensures within { result ≤ most_periods }
     {
         self.node.current_period()
     }
 
     /// How many ballots it has begun, at most 10,000.
     pub fn round(&self) -> u16
-        ensures { result ≡ self.now.node.kept.round }
+        ensures value { result ≡ self.now.node.kept.round }
+        ensures within { result ≤ most_rounds }
     {
         self.node.round()
     }

@@ -49,8 +49,8 @@ pub data AgentCommand : Type 0 where
   SendAgain : (seq : ℕ) → AgentCommand
   TellJournal : AgentCommand
 
--- Why a process does not do what it is asked: by a word of the model's refusals; since the packet is none of this group (W1); or since a
--- cut goes back, or a batch breaks a rule under this sheet (W2).
+-- Why a process does not do what it is asked: by a word of the model's refusals; since the packet is none of this group; or since a cut
+-- goes back, or a batch breaks a rule under this sheet.
 pub data ProcessRefusal : Type 0 where
   OfModel : Refusal → ProcessRefusal
   Foreign : ProcessRefusal
