@@ -1,0 +1,2 @@
+pub mod LineTexts
+pub mod Taking

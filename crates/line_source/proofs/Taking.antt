@@ -1,0 +1,81 @@
+-- Reading on, and taking what was read: one after the other, and a line by its parts.
+use Rattle.std.proofs.Common.{◌≡◌, ℕ, ◌+◌, true, List, [], ◌∷◌, ◌++◌, take, drop, Option, refl, sym, ap, ◌∙◌, arith, append_assoc, append-nil, subst}
+use Rattle.std.proofs.KnownBytes.{Consumes-trans}
+use Rattle.std.proofs.lemmas.List.{length-append}
+use Rattle.metering_model.specs.Batch.{lacks}
+use Rattle.metering_model.specs.Transcript.{line}
+use Rattle.metering_model.proofs.Splitting.{list_all_both}
+use Rattle.line_source.specs.Lines.{IsLineAt}
+use Rattle.line_source.specs.Reading.{Takes, TakesLine, TakesPart}
+
+-- ---- bytes that came, and those that were taken
+
+module _ {a b : List ℕ} {r s : ℕ} {l m : Option (List ℕ)} {xs : List ℕ} (it : Takes a b r s l m xs) where
+  pub takes_on : {c : List ℕ} {t : ℕ} {n : Option (List ℕ)} {ys : List ℕ} → Takes b c s t m n ys → Takes a c r t l n (xs ++ ys)
+  takes_on {c} {t} {n} {ys} next = record {
+    came = it.came ++ next.came;
+    consumed = Consumes-trans l m n it.came next.came it.consumed next.consumed;
+    joined =
+        sym (append_assoc a it.came next.came) ∙ ap (λ u. u ++ next.came) it.joined ∙ append_assoc xs b next.came
+        ∙ ap (λ u. xs ++ u) next.joined ∙ sym (append_assoc xs ys c);
+    counted = let first = it.counted in let second = next.counted in omega (arith, first, second, length-append it.came next.came);
+  }
+
+  -- more is read, and nothing taken
+  pub reads_on : {c : List ℕ} {t : ℕ} {n : Option (List ℕ)} → Takes b c s t m n [] → Takes a c r t l n xs
+  reads_on {c} {t} {n} next = subst (Takes a c r t l n) (append-nil xs) (takes_on next)
+
+  -- some of what is ahead is taken
+  pub takes_front : (c ys : List ℕ) → b ≡ ys ++ c → Takes a c r s l m (xs ++ ys)
+  takes_front c ys is = record {
+    came = it.came;
+    consumed = it.consumed;
+    joined = it.joined ∙ ap (λ u. xs ++ u) is ∙ sym (append_assoc xs ys c);
+    counted = it.counted;
+  }
+
+  -- or all
+  pub takes_all : Takes a [] r s l m (xs ++ b)
+  takes_all = takes_front [] b (sym (append-nil b))
+
+  -- or a line that ends there
+  pub takes_line : {c : List ℕ} {s' : ℕ} (ends : (end : ℕ) × IsLineAt b end × (c ≡ drop (end + 1) b)) → s' ≡ s → Takes a c r s' l m (xs ++ line (take ends.0 b))
+  takes_line {c} {s'} ends same =
+      let text = take ends.0 b in
+      subst (λ (x : ℕ). Takes a c r x l m (xs ++ line text)) (sym same) (takes_front c (line text) (ends.1.split ∙ ap (λ t. line text ++ t) (sym ends.2)))
+
+  -- what came was read, whatever was taken
+  pub only_read : Takes a (a ++ it.came) r s l m []
+  only_read = record { came = it.came; consumed = it.consumed; joined = refl; counted = it.counted }
+
+  -- whatever is taken then
+  pub taken_on : {c : List ℕ} {t : ℕ} {n : Option (List ℕ)} → (taken : List ℕ) × Takes b c s t m n taken → (taken : List ℕ) × Takes a c r t l n taken
+  taken_on next = (xs ++ next.0, takes_on next.1)
+
+-- ---- a line by its parts
+
+module _ {a b : List ℕ} {r s : ℕ} {l m : Option (List ℕ)} (it : TakesPart a b r s l m) where
+  -- all that is ahead is a part of it, and more came
+  pub part_on : {c e : List ℕ} {s' t : ℕ} {n : Option (List ℕ)} → (lacks 10 b ≡ true) × (c ≡ []) → s' ≡ s → Takes c e s' t m n [] → TakesPart a e r t l n
+  part_on {c} {e} {s'} {t} {n} all same reads =
+      let more : Takes [] e s' t m n [] = subst (λ (x : List ℕ). Takes x e s' t m n []) all.1 reads in
+      let on : Takes [] e s t m n [] = subst (λ (x : ℕ). Takes [] e x t m n []) same more in
+      record {
+        part = it.part ++ b;
+        lacks_feed = list_all_both _ it.part b it.lacks_feed all.0;
+        takes = reads_on (takes_all it.takes) on;
+      }
+
+  -- the line ends ahead
+  pub line_on : {c : List ℕ} {s' : ℕ} → (end : ℕ) × IsLineAt b end × (c ≡ drop (end + 1) b) → s' ≡ s → TakesLine a c r s' l m
+  line_on {c} {s'} ends same =
+      let text = take ends.0 b in
+      record {
+        text = it.part ++ text;
+        lacks_feed = list_all_both _ it.part text it.lacks_feed ends.1.whole;
+        takes = subst (Takes a c r s' l m) (sym (append_assoc it.part text (10 ∷ []))) (takes_line it.takes ends same);
+      }
+
+-- no more came, and the line does not end
+pub part_ends : {a b : List ℕ} {r s : ℕ} {l m : Option (List ℕ)} → TakesPart a b r s l m → b ≡ [] → TakesPart a [] r s l m
+part_ends {a} {b} {r} {s} {l} {m} it none = subst (λ (x : List ℕ). TakesPart a x r s l m) none it

@@ -1,0 +1,42 @@
+use Rattle.std.proofs.Common.{◌≡◌, ℕ, ◌+◌, ◌≤◌, List, rules, arith, ap, drop, length}
+use Rattle.std.proofs.lemmas.List.{length-drop}
+use Rattle.line_source.specs.Lines.{AreBetween, IsLineAt}
+use Rattle.line_source.proofs.LineTexts.{between_on, fewer_between, one_more_between}
+use Rattle.line_source.proofs.Taking.{reads_on}
+use Rattle.line_source.proofs.lines.lines_end.Given as given
+use Rattle.line_source.proofs.lines.lines_end.Goals.{After-line_length, In-Some}
+use Rattle.line_source.proofs.lines.lines_end.Goals as goal
+
+-- the lines are there still, behind which more was read
+between : (g : given.Over) (c : After-line_length g) → AreBetween c.args.from c.loop-passed.end c.line_length.new.unread.bytes c.loop-passed.passed
+between g c = between_on c.loop-passed.invariant.between c.line_length.ensures.takes
+
+pub returns-in_default-clause-found : goal.returns-in_default-clause-found
+returns-in_default-clause-found g c =
+    let lines = between g (goal.at.returns-in_default-clause-found g c).After-line_length in
+    fewer_between lines c.args.count (g.S.Source.remaining c.line_length.new.source) c.loop-passed-test.true (rw c.in_default.is at c.in_ok-length.ensures.found)
+
+-- and the next one is
+next : (g : given.Over) (c : In-Some g) → IsLineAt (drop c.loop-passed.end c.line_length.new.unread.bytes) c.in-Some.length
+next g c = rw c.in-Some.is at c.in_ok-length.ensures.found
+
+within : (g : given.Over) (c : In-Some g) (ahead : List ℕ) → ahead ≡ c.line_length.new.unread.bytes → c.loop-passed.end + (c.in-Some.length + 1) ≤ length ahead
+within g c ahead is =
+    let it = next g c in
+    let short = it.within in
+    omega (arith, short, length-drop c.loop-passed.end c.line_length.new.unread.bytes, ap length is)
+
+pub overflow_add-end : goal.overflow_add-end
+overflow_add-end g c = omega (arith, within g (goal.at.overflow_add-end g c).In-Some c.ahead-ahead.result.now c.ahead-ahead.ensures)
+
+pub overflow_add-end-in-loop-passed : goal.overflow_add-end-in-loop-passed
+overflow_add-end-in-loop-passed g c = omega (arith, within g (goal.at.overflow_add-end-in-loop-passed g c).In-Some c.ahead-ahead.result.now c.ahead-ahead.ensures)
+
+pub loop-passed-preserved : goal.loop-passed-preserved
+loop-passed-preserved g c = record {
+  between = one_more_between (between g (goal.at.loop-passed-preserved g c).After-line_length) c.in-Some.length (next g (goal.at.loop-passed-preserved g c).In-Some);
+  few = omega arith;
+  takes = reads_on c.loop-passed.invariant.takes c.line_length.ensures.takes;
+  short = c.in_ok-length.ensures.reads.within;
+  quiet = search rules;
+}

@@ -1,0 +1,5 @@
+pub mod Calls
+pub mod Faults
+pub mod Inner
+pub mod Lines
+pub mod Reading

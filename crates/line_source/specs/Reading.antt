@@ -1,0 +1,33 @@
+-- Reading ahead, and what was taken of it.
+use Rattle.std.specs.Prelude.{◌≡◌, ℕ, ◌+◌, true, List, ◌++◌, length, Option}
+use Rattle.std.specs.Io.KnownBytes.{Consumes, IsAtEnd}
+use Rattle.metering_model.specs.Batch.{lacks}
+use Rattle.metering_model.specs.Transcript.{line}
+
+-- bytes that were read and not yet taken, and how many were read since the last mark
+pub record Ahead : Type 0 where
+  pub bytes : List ℕ
+  pub read : ℕ
+
+-- More bytes came, and of these and those before them some were taken: the rest is ahead.
+pub record Takes (ahead rest : List ℕ) (read read' : ℕ) (left left' : Option (List ℕ)) (taken : List ℕ) : Type 0 where
+  pub came : List ℕ
+  pub consumed : Consumes left left' came
+  pub joined : ahead ++ came ≡ taken ++ rest
+  pub counted : read' ≡ read + length came
+
+-- A part of a line was taken, and no line feed.
+pub record TakesPart (ahead rest : List ℕ) (read read' : ℕ) (left left' : Option (List ℕ)) : Type 0 where
+  pub part : List ℕ
+  pub lacks_feed : lacks 10 part ≡ true
+  pub takes : Takes ahead rest read read' left left' part
+
+-- A line was taken, and its line feed.
+pub record TakesLine (ahead rest : List ℕ) (read read' : ℕ) (left left' : Option (List ℕ)) : Type 0 where
+  pub text : List ℕ
+  pub lacks_feed : lacks 10 text ≡ true
+  pub takes : Takes ahead rest read read' left left' (line text)
+
+-- no byte is left that ends a line, neither ahead nor to be read
+abbrev pub IsEnded : List ℕ → Option (List ℕ) → Type 0
+IsEnded rest left = (lacks 10 rest ≡ true) × IsAtEnd left
