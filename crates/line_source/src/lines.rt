@@ -156,6 +156,7 @@ pub fn pass_line<S: Source>(unread: &mut Unread, source: &mut S) -> Result<bool,
     ensures ended { result ≡ Ok false
         → TakesPart unread.old.bytes [] unread.old.read unread.new.read
         (S.remaining source.old) (S.remaining source.new) × IsAtEnd (S.remaining source.new) }
+    ensures all { result ≡ Ok false → unread.new.bytes ≡ [] }
     ensures reads { ReadsWithin result unread.new.read (S.failed_calls source.old)
         (S.failed_calls source.new) }
 {

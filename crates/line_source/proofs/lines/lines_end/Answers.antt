@@ -14,7 +14,7 @@ between g c = between_on c.loop-passed.invariant.between c.line_length.ensures.t
 pub returns-in_default-clause-found : goal.returns-in_default-clause-found
 returns-in_default-clause-found g c =
     let lines = between g (goal.at.returns-in_default-clause-found g c).After-line_length in
-    fewer_between lines c.args.count (g.S.Source.remaining c.line_length.new.source) c.loop-passed-test.true (rw c.in_default.is at c.in_ok-length.ensures.found)
+    fewer_between lines c.args.count (g.S.Source.remaining c.line_length.new.source) (omega (arith, c.loop-passed-test.true)) (rw c.in_default.is at c.in_ok-length.ensures.found)
 
 -- and the next one is
 next : (g : given.Over) (c : In-Some g) → IsLineAt (drop c.loop-passed.end c.line_length.new.unread.bytes) c.in-Some.length
