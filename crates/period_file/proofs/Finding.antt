@@ -6,8 +6,9 @@ use Rattle.metering_model.specs.Schedule.{lines_text}
 use Rattle.transcript_laws.specs.FirstFiles.{told_behind, words_above}
 use Rattle.transcript_laws.proofs.TextLaws.{lines_append, whole_both}
 use Rattle.transcript_laws.proofs.FirstFileLaws.{first_behind, untold_first}
-use Rattle.period_file.specs.Inner.Reading.{Takes, TakesTold, Passes, Finds, IsTold}
-use Rattle.period_file.proofs.Taking.{takes_on}
+use Rattle.line_source.specs.Reading.{Takes}
+use Rattle.line_source.proofs.Taking.{takes_on}
+use Rattle.period_file.specs.Inner.Reading.{TakesTold, Passes, Finds, IsTold}
 
 pub none_of : (told : Option ℕ) → is_some told ≡ false → told ≡ None
 none_of None untrue = refl

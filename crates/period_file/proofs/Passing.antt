@@ -1,50 +1,23 @@
--- Lines that are passed over by blocks, and what their fronts say of them.
-use Rattle.std.proofs.Common.{◌≡◌, ◌∙◌, ℕ, ◌+◌, ◌-◌, ◌<◌, ◌≤◌, true, false, List, [], ◌∷◌, ◌++◌, length, take, drop, Option, Some, None, ◌⊎◌, inl, inr, refl, sym, ap, subst, arith, append_assoc, append-nil}
+-- Lines that are passed over, and what their fronts say of them.
+use Rattle.std.proofs.Common.{◌≡◌, ◌∙◌, ℕ, ◌+◌, ◌-◌, ◌<◌, ◌≤◌, true, false, List, [], ◌∷◌, ◌++◌, length, take, drop, Option, Some, None, ◌⊎◌, inl, inr, refl, sym, ap, arith, append_assoc, append-nil}
 use Rattle.std.specs.Io.KnownBytes.{IsAtEnd}
 use Rattle.std.proofs.KnownBytes.{Consumes-trans}
 use Rattle.std.proofs.lemmas.Bool.{and_from}
 use Rattle.std.proofs.lemmas.Bool.Decides.{nat_tests}
 use Rattle.std.proofs.lemmas.List.{length-append, take-append-le}
 use Rattle.std.proofs.Math.Seq.{take-append_seam}
-use Rattle.metering_model.specs.Batch.{lacks}
 use Rattle.metering_model.specs.BatchReading.{is_same, lines_in}
 use Rattle.metering_model.specs.Transcript.{line}
 use Rattle.metering_model.specs.Schedule.{TextLines, lines_text}
-use Rattle.metering_model.proofs.Splitting.{list_all_both, lines_give_back}
+use Rattle.metering_model.proofs.Splitting.{lines_give_back}
 use Rattle.transcript_laws.specs.FirstFiles.{NoFile, first_file, first_of_lines, told_behind, words_above}
 use Rattle.transcript_laws.proofs.TextLaws.{lines_append, lines_before}
 use Rattle.transcript_laws.proofs.FirstFileLaws.{FindsAbove, find_above, first_behind, told_parts}
-use Rattle.period_file.specs.Inner.Reading.{EndsUntold, IsEnded, IsLineAt, IsTold, Passes, Takes, TakesLine, TakesPart, TakesTold}
-use Rattle.period_file.proofs.Taking.{reads_on, takes_all, takes_line, takes_on}
+use Rattle.line_source.specs.Lines.{IsLineAt}
+use Rattle.line_source.specs.Reading.{IsEnded, Takes, TakesLine, TakesPart}
+use Rattle.line_source.proofs.Taking.{takes_line, takes_on}
+use Rattle.period_file.specs.Inner.Reading.{EndsUntold, IsTold, Passes, TakesTold}
 use Rattle.period_file.proofs.Seen.{none_seen}
-
--- ---- a line by its parts
-
-module _ {a b : List ℕ} {r s : ℕ} {l m : Option (List ℕ)} (it : TakesPart a b r s l m) where
-  -- all that is ahead is a part of it, and more came
-  pub part_on : {c e : List ℕ} {s' t : ℕ} {n : Option (List ℕ)} → (lacks 10 b ≡ true) × (c ≡ []) → s' ≡ s → Takes c e s' t m n [] → TakesPart a e r t l n
-  part_on {c} {e} {s'} {t} {n} all same reads =
-      let more : Takes [] e s' t m n [] = subst (λ (x : List ℕ). Takes x e s' t m n []) all.1 reads in
-      let on : Takes [] e s t m n [] = subst (λ (x : ℕ). Takes [] e x t m n []) same more in
-      record {
-        part = it.part ++ b;
-        lacks_feed = list_all_both _ it.part b it.lacks_feed all.0;
-        takes = reads_on (takes_all it.takes) on;
-      }
-
-  -- the line ends ahead
-  pub line_on : {c : List ℕ} {s' : ℕ} → (end : ℕ) × IsLineAt b end × (c ≡ drop (end + 1) b) → s' ≡ s → TakesLine a c r s' l m
-  line_on {c} {s'} ends same =
-      let text = take ends.0 b in
-      record {
-        text = it.part ++ text;
-        lacks_feed = list_all_both _ it.part text it.lacks_feed ends.1.whole;
-        takes = subst (Takes a c r s' l m) (sym (append_assoc it.part text (10 ∷ []))) (takes_line it.takes ends same);
-      }
-
--- no more came, and the line does not end
-pub part_ends : {a b : List ℕ} {r s : ℕ} {l m : Option (List ℕ)} → TakesPart a b r s l m → b ≡ [] → TakesPart a [] r s l m
-part_ends {a} {b} {r} {s} {l} {m} it none = subst (λ (x : List ℕ). TakesPart a x r s l m) none it
 
 -- ---- what a front says
 

@@ -12,14 +12,19 @@ use Rattle.metering_model.specs.Batch.{lacks}
 use Rattle.metering_model.specs.BatchReading.{Lines, lines_in}
 use Rattle.metering_model.specs.Transcript.{line}
 use Rattle.metering_model.specs.Schedule.{TextLines, lines_text}
+use Rattle.line_source.specs.declared.faults.SourceFault.{SourceFault}
+use Rattle.line_source.specs.declared.faults.SourceFault.TheVariants as source
+use Rattle.line_source.specs.Calls.{IsOfReading}
+use Rattle.line_source.specs.Reading.{Takes}
 use Rattle.transcript_laws.specs.FirstFiles.{NoFile, TornFile, WholeFile, first_file, first_of_lines, file_of_lines, lines_told, part_of}
 use Rattle.transcript_laws.proofs.TextLaws.{are_whole, lines_append, lines_and_rest, lines_before, whole_both}
 use Rattle.transcript_laws.proofs.FirstFileLaws.{file_is_whole, file_is_torn, first_behind, part_begins, told_first}
+use Rattle.period_file.specs.Faults.{of_source}
 use Rattle.period_file.specs.Files.{AppendsFront, IsRefusal, answer_of, file_in}
 use Rattle.period_file.specs.declared.faults.FileFault.{FileFault}
 use Rattle.period_file.specs.declared.faults.FileFault.TheVariants as fault
-use Rattle.period_file.specs.Inner.Calls.{IsOfCopying, IsOfReading}
-use Rattle.period_file.specs.Inner.Reading.{Finds, Takes}
+use Rattle.period_file.specs.Inner.Calls.{IsOfCopying}
+use Rattle.period_file.specs.Inner.Reading.{Finds}
 
 -- ---- the answer
 
@@ -36,13 +41,10 @@ long_answer period input long =
     ap (λ (b : Bool). if b then answer_of (first_file period input) else Err fault.TooLong) exceeds
 
 -- what stops reading may stop copying
-pub copying_of : (told : FileFault) (read : ℕ) → IsOfReading told read → IsOfCopying told read
-copying_of fault.NoFile read it = it
-copying_of fault.Torn read it = it
-copying_of fault.TooLong read it = it
-copying_of fault.Read read it = it
-copying_of fault.Write read it = absurd it
-copying_of fault.OutOfMemory read it = it
+pub copying_of : (told : SourceFault) (read : ℕ) → IsOfReading told read → IsOfCopying (of_source told) read
+copying_of source.TooLong read it = it
+copying_of source.Read read it = it
+copying_of source.OutOfMemory read it = it
 
 -- ---- the whole input
 

@@ -6,12 +6,13 @@ use Rattle.counted_io.specs.Writing.{AppendsPrefix, AppendsSome}
 use Rattle.counted_io.proofs.Prefixes.{prefix_within}
 use Rattle.metering_model.specs.Batch.{lacks}
 use Rattle.metering_model.specs.Schedule.{lines_text}
+use Rattle.line_source.specs.Reading.{IsEnded, Takes}
+use Rattle.line_source.proofs.Taking.{takes_on}
 use Rattle.transcript_laws.specs.FirstFiles.{TornFile, first_file, part_of}
 use Rattle.period_file.specs.Files.{AppendsFront, AppendsLess, AppendsPart, IsFileOf, answer_of, file_in}
 use Rattle.period_file.specs.declared.faults.FileFault.TheVariants as fault
-use Rattle.period_file.specs.Inner.Reading.{EndsUntold, Takes, Finds, Copies, Stops, IsEnded}
+use Rattle.period_file.specs.Inner.Reading.{EndsUntold, Finds, Copies, Stops}
 use Rattle.period_file.proofs.Seen.{all_of, front_seen, if_known, input_fits, input_of, input_seen, short_answer, torn_seen, whole_seen}
-use Rattle.period_file.proofs.Taking.{takes_on}
 
 -- all was read, and no line stands above a file
 pub none_answer : {period : ℕ} {known left : Option (List ℕ)} {read : ℕ} → EndsUntold period [] 0 read known left → read ≤ 4_294_967_296 → IfSome known (λ input. file_in period input ≡ Err fault.NoFile)

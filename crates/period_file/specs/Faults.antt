@@ -1,7 +1,14 @@
--- Which answers tell of a failed call.
+-- What a fault of reading comes to, and which answers tell of a failed call.
 use Rattle.std.specs.Prelude.{Bool, true, false, Result, Ok, Err}
+use Rattle.line_source.specs.declared.faults.SourceFault.{SourceFault}
+use Rattle.line_source.specs.declared.faults.SourceFault.TheVariants as source
 use Rattle.period_file.specs.declared.faults.FileFault.{FileFault}
 use Rattle.period_file.specs.declared.faults.FileFault.TheVariants.{NoFile, Torn, TooLong, Read, Write, OutOfMemory}
+
+abbrev pub of_source : SourceFault → FileFault
+of_source source.TooLong = TooLong
+of_source source.Read = Read
+of_source source.OutOfMemory = OutOfMemory
 
 -- the answer tells of a failed call of the reader
 abbrev pub tells_of_reader : {A : Type 0} → Result A FileFault → Bool

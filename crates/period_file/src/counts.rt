@@ -3,14 +3,13 @@
 ghost use Rattle.std.specs.Prelude.{◌≡◌, ◌≤◌, ℕ, List, Option, Some, None, Ok};
 ghost use Rattle.metering_model.specs.Limits.{most_transcript_bytes};
 ghost use Rattle.transcript_laws.specs.FirstFiles.{told_behind, words_above};
-ghost use Rattle.period_file.specs.Inner.Calls.{ReadsWithin};
-ghost use Rattle.period_file.specs.Inner.Reading.{EndsUntold, IsTold, Takes, TakesTold};
+ghost use Rattle.line_source.specs.Calls.{ReadsWithin};
+ghost use Rattle.line_source.specs.Reading.{Takes};
+ghost use Rattle.period_file.specs.Inner.Reading.{EndsUntold, IsTold, TakesTold};
 
-use crate::faults::FileFault;
-use crate::lines::{line_end, pass_line, read_ahead};
-use crate::unread::Unread;
 use byte_text::{Line, is_same, is_whole_part, whole_up_to};
 use counted_io::Source;
+use line_source::{SourceFault, Unread, line_end, pass_line, read_ahead};
 use period_cut::Period;
 
 /// More lines than any input has: a greater number is told as this one.
@@ -48,7 +47,7 @@ pub(crate) fn next_told<S: Source>(
     words: &[u8],
     unread: &mut Unread,
     source: &mut S,
-) -> Result<Option<Option<u64>>, FileFault>
+) -> Result<Option<Option<u64>>, SourceFault>
     requires { unread.old.read ≤ most_transcript_bytes }
     ensures takes { (taken : List ℕ)
         × Takes unread.old.bytes unread.new.bytes unread.old.read unread.new.read

@@ -1,5 +1,6 @@
 //! Why no file was written, or not all of it.
 
+use line_source::SourceFault;
 use thiserror::Error;
 
 /// Why no file was written, or not all of it.
@@ -23,4 +24,20 @@ pub enum FileFault {
     /// Out of memory: an allocation failed.
     #[error("out of memory")]
     OutOfMemory,
+}
+
+/// A fault of reading is told as such.
+impl From<SourceFault> for FileFault {
+    ghost use Rattle.std.specs.Prelude.{◌≡◌};
+    ghost use Rattle.period_file.specs.Faults.{of_source};
+
+    ghost from_gives = { λ fault told. told ≡ of_source fault };
+
+    fn from(fault: SourceFault) -> FileFault {
+        match fault {
+            SourceFault::TooLong => FileFault::TooLong,
+            SourceFault::Read => FileFault::Read,
+            SourceFault::OutOfMemory => FileFault::OutOfMemory,
+        }
+    }
 }

@@ -8,14 +8,16 @@ ghost use Rattle.counted_io.specs.Reading.{ConsumesAtMost};
 ghost use Rattle.counted_io.specs.Writing.{AppendsPrefix, AppendsSome};
 ghost use Rattle.period_file.specs.Faults.{tells_of_reader, tells_of_writer};
 ghost use Rattle.period_file.specs.Files.{AppendsFront, AppendsLess, AppendsPart, IsFileOf, IsRefusal, file_in};
-ghost use Rattle.period_file.specs.Inner.Calls.{CopiesWithin, ReadsWithin};
-ghost use Rattle.period_file.specs.Inner.Reading.{Copies, CopiesAhead, EndsUntold, Finds, IsEnded, IsShareOf, Stops, StopsAhead, Takes};
+ghost use Rattle.line_source.specs.Calls.{ReadsWithin};
+ghost use Rattle.line_source.specs.Lines.{IsShareOf};
+ghost use Rattle.line_source.specs.Reading.{IsEnded, Takes};
+ghost use Rattle.period_file.specs.Inner.Calls.{CopiesWithin};
+ghost use Rattle.period_file.specs.Inner.Reading.{Copies, CopiesAhead, EndsUntold, Finds, Stops, StopsAhead};
 
 use crate::counts::{next_told, words_above};
 use crate::faults::FileFault;
-use crate::lines::{line_end, lines_in_front};
-use crate::unread::Unread;
 use counted_io::{Sink, Source, write_all};
+use line_source::{SourceFault, Unread, line_end, lines_in_front};
 use period_cut::Period;
 use std::alloc::Global;
 
@@ -25,7 +27,7 @@ fn find_line_above<S: Source>(
     period: Period,
     unread: &mut Unread,
     source: &mut S,
-) -> Result<Option<u64>, FileFault>
+) -> Result<Option<u64>, SourceFault>
     requires { unread.old.read ≤ most_transcript_bytes }
     ensures found { (count : ℕ) → result ≡ Ok (Some count)
         → Finds period count unread.old.bytes unread.new.bytes unread.old.read unread.new.read
@@ -103,7 +105,7 @@ fn copy_lines<S: Source, W: Sink>(
 }
 
 /// Reads all that follows, and drops it.
-fn drop_rest<S: Source>(unread: &mut Unread, source: &mut S) -> Result<(), FileFault>
+fn drop_rest<S: Source>(unread: &mut Unread, source: &mut S) -> Result<(), SourceFault>
     requires { unread.old.read ≤ most_transcript_bytes }
     ensures takes { (taken : List ℕ)
         × Takes unread.old.bytes unread.new.bytes unread.old.read unread.new.read
@@ -171,5 +173,6 @@ pub fn file_text<R: Source, W: Sink>(
     if lacking > 0 {
         return Err(FileFault::Torn);
     }
-    drop_rest(&mut unread, reader)
+    drop_rest(&mut unread, reader)?;
+    Ok(())
 }

@@ -4,8 +4,6 @@
 mod counts;
 mod faults;
 mod files;
-mod lines;
-mod unread;
 
 pub use faults::FileFault;
 pub use files::file_text;

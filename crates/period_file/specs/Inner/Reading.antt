@@ -1,62 +1,13 @@
--- Reading ahead, and what was taken of it.
-use Rattle.std.specs.Prelude.{◌≡◌, ℕ, ◌+◌, ◌<◌, ◌≤◌, min, true, List, ◌++◌, length, take, drop, Option, Some, None}
+-- What was taken of a transcript's lines, and what was written of them.
+use Rattle.std.specs.Prelude.{◌≡◌, ℕ, ◌+◌, ◌≤◌, min, true, List, ◌++◌, length, Option, Some, None}
 use Rattle.std.specs.List.{list_all}
 use Rattle.std.specs.Io.KnownBytes.{Appends, Consumes, IsAtEnd}
 use Rattle.counted_io.specs.Writing.{AppendsPrefix}
 use Rattle.metering_model.specs.Batch.{lacks}
 use Rattle.metering_model.specs.Transcript.{line}
 use Rattle.metering_model.specs.Schedule.{TextLines, lines_text}
+use Rattle.line_source.specs.Reading.{Takes, TakesLine}
 use Rattle.transcript_laws.specs.FirstFiles.{NoFile, first_file, first_of_lines, lines_told, told_behind}
-
--- bytes that were read and not yet taken, and how many were read in all
-pub record Ahead : Type 0 where
-  pub bytes : List ℕ
-  pub read : ℕ
-
--- More bytes came, and of these and those before them some were taken: the rest is ahead.
-pub record Takes (ahead rest : List ℕ) (read read' : ℕ) (left left' : Option (List ℕ)) (taken : List ℕ) : Type 0 where
-  pub came : List ℕ
-  pub consumed : Consumes left left' came
-  pub joined : ahead ++ came ≡ taken ++ rest
-  pub counted : read' ≡ read + length came
-
--- A part of a line was taken, and no line feed.
-pub record TakesPart (ahead rest : List ℕ) (read read' : ℕ) (left left' : Option (List ℕ)) : Type 0 where
-  pub part : List ℕ
-  pub lacks_feed : lacks 10 part ≡ true
-  pub takes : Takes ahead rest read read' left left' part
-
--- A line was taken, and its line feed.
-pub record TakesLine (ahead rest : List ℕ) (read read' : ℕ) (left left' : Option (List ℕ)) : Type 0 where
-  pub text : List ℕ
-  pub lacks_feed : lacks 10 text ≡ true
-  pub takes : Takes ahead rest read read' left left' (line text)
-
--- no byte is left that ends a line, neither ahead nor to be read
-abbrev pub IsEnded : List ℕ → Option (List ℕ) → Type 0
-IsEnded rest left = (lacks 10 rest ≡ true) × IsAtEnd left
-
--- ---- lines
-
--- a line ends at that byte
-pub record IsLineAt (text : List ℕ) (at : ℕ) : Type 0 where
-  pub within : at < length text
-  pub whole : lacks 10 (take at text) ≡ true
-  pub split : text ≡ line (take at text) ++ drop (at + 1) text
-
--- So many lines stand at the front of a text, and have so many bytes.
-pub record AreInFront (text : List ℕ) (count at : ℕ) : Type 0 where
-  pub lines : TextLines
-  pub whole : list_all (lacks 10) lines ≡ true
-  pub counted : length lines ≡ count
-  pub within : at ≤ length text
-  pub split : text ≡ lines_text lines ++ drop at text
-  pub size : length (lines_text lines) ≡ at
-
--- At most so many lines, and at least one where a line ends in the text and one is asked for.
-pub record IsShareOf (most : ℕ) (text : List ℕ) (count : ℕ) : Type 0 where
-  pub few : count ≤ most
-  pub some : (end : ℕ) → IsLineAt text end → 0 < most → 0 < count
 
 -- what is told of a line: the number, or where that is great another that is too great
 abbrev pub IsTold : Option ℕ → Option ℕ → Type 0

@@ -1,6 +1,6 @@
 use Rattle.std.proofs.Common.{◌≡◌, ◌∙◌, None, Ok, false, length, take, sym, ap}
 use Rattle.metering_model.specs.BatchReading.{is_same}
-use Rattle.period_file.proofs.Taking.{reads_on, takes_line}
+use Rattle.line_source.proofs.Taking.{reads_on, takes_line}
 use Rattle.period_file.proofs.Passing.{ended_untold, few_untold, line_told, part_untold, passed_untold, untold_on}
 use Rattle.period_file.proofs.counts.next_told.Goals as goal
 

@@ -1,6 +1,6 @@
 -- Bytes were read, and some of them taken.
 use Rattle.std.proofs.Common.{◌-◌, ◌≡◌, ◌≤◌, List, ℕ}
-use Rattle.period_file.specs.Inner.Reading.{Takes}
+use Rattle.line_source.specs.Reading.{Takes}
 use Rattle.period_file.proofs.files.drop_rest.Given as goal
 
 abbrev pub invariant-loop-is_more : goal.invariant-loop-is_more

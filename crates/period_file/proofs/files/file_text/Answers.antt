@@ -1,7 +1,9 @@
 use Rattle.std.proofs.Common.{◌≡◌, Ok, [], ap, arith, rules}
-use Rattle.std.proofs.lemmas.Result.{IfErr-weaker, err_from_is_err_and}
+use Rattle.std.proofs.lemmas.Result.{err_from_is_err_and}
+use Rattle.line_source.proofs.Taking.{only_read, takes_on}
+use Rattle.period_file.specs.Faults.{of_source}
 use Rattle.period_file.specs.Inner.Reading.{Finds}
-use Rattle.period_file.proofs.Taking.{copies_read, on_err, on_ok_both, only_read, stops_at_read, takes_on}
+use Rattle.period_file.proofs.Taking.{copies_read, on_err, stops_at_read}
 use Rattle.period_file.proofs.Seen.{any_front, copying_of, read_within, refused}
 use Rattle.period_file.proofs.Told.{front_at_stop, less_at_stop, none_answer, torn_answer, torn_refused, whole_answer}
 use Rattle.period_file.proofs.files.file_text.Given as given
@@ -12,7 +14,7 @@ pub returns-in_err-count-clause-refused : goal.returns-in_err-count-clause-refus
 returns-in_err-count-clause-refused g c =
     let p = err_from_is_err_and c.from_residual.result c.from_residual.ensures.1 in
     let it = rw (c.new-unread.ensures.bytes, c.new-unread.ensures.read) at c.find_line_above.ensures.takes in
-    rw (p.1, p.2) (refused it.1 c.args.period c.in_err-count.field-0.0 (copying_of c.in_err-count.field-0.0 c.find_line_above.new.unread.read c.in_err-count.ensures.reads.reading))
+    rw (p.1, p.2) (refused it.1 c.args.period (of_source c.in_err-count.field-0.0) (copying_of c.in_err-count.field-0.0 c.find_line_above.new.unread.read c.in_err-count.ensures.reads.reading))
 
 pub returns-in_err-count-clause-front : goal.returns-in_err-count-clause-front
 returns-in_err-count-clause-front g c = on_err c.from_residual.result (any_front (g.R.Source.remaining c.args.reader.now) c.args.period (g.W.Sink.contents c.args.writer.now))
@@ -66,23 +68,29 @@ returns-then-lacking-gt0-clause-read g c =
     let found = above g (goal.at.returns-then-lacking-gt0-clause-read g c).In-Some in
     read_within (takes_on found.takes c.in_ok-lacking.ensures.copied.takes) c.copy_lines.ensures.calls.most
 
+pub returns-in_err-drop_rest-clause-refused : goal.returns-in_err-drop_rest-clause-refused
+returns-in_err-drop_rest-clause-refused g c =
+    let p = err_from_is_err_and c.from_residual-in_err-drop_rest.result c.from_residual-in_err-drop_rest.ensures.1 in
+    let found = above g (goal.at.returns-in_err-drop_rest-clause-refused g c).In-Some in
+    let all = takes_on found.takes (takes_on c.in_ok-lacking.ensures.copied.takes c.drop_rest.ensures.takes.1) in
+    rw (p.1, p.2) (refused all c.args.period (of_source c.in_err-drop_rest.field-0.0) (copying_of c.in_err-drop_rest.field-0.0 c.drop_rest.new.unread.read c.in_err-drop_rest.ensures.reads.reading))
+
+pub returns-in_err-drop_rest-clause-front : goal.returns-in_err-drop_rest-clause-front
+returns-in_err-drop_rest-clause-front g c =
+    let found = above g (goal.at.returns-in_err-drop_rest-clause-front g c).In-Some in
+    on_err c.from_residual-in_err-drop_rest.result (front_at_stop found (stops_at_read (copies_read c.in_ok-lacking.ensures.copied (only_read c.drop_rest.ensures.takes.1))))
+
+pub returns-in_err-drop_rest-clause-read : goal.returns-in_err-drop_rest-clause-read
+returns-in_err-drop_rest-clause-read g c =
+    let found = above g (goal.at.returns-in_err-drop_rest-clause-read g c).In-Some in
+    read_within (takes_on found.takes (takes_on c.in_ok-lacking.ensures.copied.takes c.drop_rest.ensures.takes.1)) c.drop_rest.ensures.reads.most
+
 pub returns-clause-file : goal.returns-clause-file
 returns-clause-file g c =
     let found = above g (goal.at.returns-clause-file g c).In-Some in
     let copies = copies_read c.in_ok-lacking.ensures.copied (only_read c.drop_rest.ensures.takes.1) in
     let none : c.in_ok-lacking.lacking ≡ 0 = omega (arith, c.if-lacking-gt0.false) in
-    on_ok_both c.drop_rest.result c.drop_rest.ensures.end c.drop_rest.ensures.reads.within (whole_answer found copies none)
-
-pub returns-clause-refused : goal.returns-clause-refused
-returns-clause-refused g c =
-    let found = above g (goal.at.returns-clause-refused g c).In-Some in
-    let all = takes_on found.takes (takes_on c.in_ok-lacking.ensures.copied.takes c.drop_rest.ensures.takes.1) in
-    IfErr-weaker c.drop_rest.result _ _ (λ told it. refused all c.args.period told (copying_of told c.drop_rest.new.unread.read it)) c.drop_rest.ensures.reads.reading
-
-pub returns-clause-front : goal.returns-clause-front
-returns-clause-front g c =
-    let found = above g (goal.at.returns-clause-front g c).In-Some in
-    on_err c.drop_rest.result (front_at_stop found (stops_at_read (copies_read c.in_ok-lacking.ensures.copied (only_read c.drop_rest.ensures.takes.1))))
+    whole_answer found copies none c.in_ok-drop_rest.ensures.end c.in_ok-drop_rest.ensures.reads.within
 
 pub returns-clause-read : goal.returns-clause-read
 returns-clause-read g c =

@@ -1,5 +1,5 @@
 use Rattle.std.proofs.Common.{◌≡◌, ◌∙◌, Some, Ok, sym, ap, rules}
-use Rattle.period_file.proofs.Taking.{taken_on}
+use Rattle.line_source.proofs.Taking.{taken_on}
 use Rattle.period_file.proofs.Finding.{finds_told, none_of, passes_told}
 use Rattle.period_file.proofs.Passing.{less_left, passes_untold}
 use Rattle.period_file.proofs.files.find_line_above.Goals as goal
