@@ -5,8 +5,8 @@ ghost use Rattle.std.specs.Io.KnownBytes.{IsAtEnd};
 ghost use Rattle.std.specs.Result.{result_ok};
 ghost use Rattle.metering_model.specs.Limits.{most_transcript_bytes};
 ghost use Rattle.counted_io.specs.Counts.{count_after};
-ghost use Rattle.line_source.specs.Faults.{tells_of_source};
 ghost use Rattle.line_source.specs.Calls.{ReadsWithin};
+ghost use Rattle.line_source.specs.Faults.{tells_of_source};
 ghost use Rattle.line_source.specs.Inner.Blocks.{ReadsInto, StandsBehind};
 ghost use Rattle.line_source.specs.Reading.{Takes};
 
@@ -15,7 +15,7 @@ use counted_io::Source;
 use std::alloc::Global;
 use std::marker::Model;
 
-/// No more bytes are read from one mark to the next.
+/// More bytes than these are too many, from one mark to the next.
 const MOST_BYTES: u64 = 4_294_967_296;
 
 /// So many bytes are asked for at a time.

@@ -6,11 +6,11 @@ ghost use Rattle.metering_model.specs.Limits.{most_transcript_bytes};
 ghost use Rattle.counted_io.specs.Counts.{count_after};
 ghost use Rattle.counted_io.specs.Reading.{ConsumesAtMost};
 ghost use Rattle.counted_io.specs.Writing.{AppendsPrefix, AppendsSome};
-ghost use Rattle.period_file.specs.Faults.{tells_of_reader, tells_of_writer};
-ghost use Rattle.period_file.specs.Files.{AppendsFront, AppendsLess, AppendsPart, IsFileOf, IsRefusal, file_in};
 ghost use Rattle.line_source.specs.Calls.{ReadsWithin};
 ghost use Rattle.line_source.specs.Lines.{IsShareOf};
 ghost use Rattle.line_source.specs.Reading.{IsEnded, Takes};
+ghost use Rattle.period_file.specs.Faults.{tells_of_reader, tells_of_writer};
+ghost use Rattle.period_file.specs.Files.{AppendsFront, AppendsLess, AppendsPart, IsFileOf, IsRefusal, file_in};
 ghost use Rattle.period_file.specs.Inner.Calls.{CopiesWithin};
 ghost use Rattle.period_file.specs.Inner.Reading.{Copies, CopiesAhead, EndsUntold, Finds, Stops, StopsAhead};
 
