@@ -1,11 +1,12 @@
 -- What a call of a process answers, in the words of the model.
-use Rattle.std.specs.Prelude.{◌≡◌, ℕ, Option, Some, None, Result, Ok, Err}
+use Rattle.std.specs.Prelude.{◌≡◌, Option, Some, None, Result, Ok, Err}
 use Rattle.std.specs.Option.{option_map}
-use Rattle.metering_model.specs.World.{Prepare, Node, Snapshot, current_period}
+use Rattle.metering_model.specs.World.{Snapshot}
 use Rattle.process_laws.specs.LocalSteps as model
 use Rattle.group_node.specs.Packets.{packet_of}
 use Rattle.group_process.specs.declared.refusals.ProcessRefusal.{ProcessRefusal}
 use Rattle.group_process.specs.declared.refusals.ProcessRefusal.TheVariants.{OfModel, Unfit}
+use Rattle.group_process.specs.declared.beginning.Begun.{Begun}
 use Rattle.group_process.specs.declared.taking.Taken.{Taken}
 use Rattle.group_process.specs.Selves.{NodeSelf}
 
@@ -24,10 +25,10 @@ pub record Does (command : model.NodeCommand) (old new : NodeSelf) (answer : mod
   pub group : new.group ≡ old.group
   pub number : new.number ≡ old.number
 
--- a ballot was begun, and asks for promises in the node's period; or why none is
-abbrev pub begun_answer : Node → Result ℕ ProcessRefusal → model.Answer
-begun_answer n (Ok ballot) = record { words = model.HasBegun ballot; sends = Some (Prepare (current_period n) ballot) }
-begun_answer n (Err why) = model.refusing (refusal_of why)
+-- a ballot was begun, and what is sent for it; or why none is
+abbrev pub begun_answer : Result Begun ProcessRefusal → model.Answer
+begun_answer (Ok b) = record { words = model.HasBegun b.ballot; sends = Some (packet_of b.sends) }
+begun_answer (Err why) = model.refusing (refusal_of why)
 
 abbrev pub exported_answer : Result Snapshot ProcessRefusal → model.Answer
 exported_answer (Ok s) = model.saying (model.HasExported s)

@@ -130,6 +130,20 @@ impl AgentProcess {
         }
     }
 
+    /// The agent's group.
+    pub fn group(&self) -> &Group
+        ensures { result.now ≡ self.now.group }
+    {
+        &self.group
+    }
+
+    /// The agent's number, from 1.
+    pub fn number(&self) -> u8
+        ensures { result ≡ self.now.number }
+    {
+        self.number
+    }
+
     /// The sequence of the agent's next batch, from 1 to 1,000,001.
     pub fn next_seq(&self) -> u32
         ensures next { result ≡ next_seq self.now.journal self.now.number }

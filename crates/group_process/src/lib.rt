@@ -13,6 +13,7 @@ mod taking;
 
 pub use added::Added;
 pub use agents::{AgentProcess, Journaled};
+pub use beginning::Begun;
 pub use groups::Group;
 pub use nodes::NodeProcess;
 pub use refusals::ProcessRefusal;

@@ -51,6 +51,13 @@ impl NodeProcess {
         }
     }
 
+    /// The node's group.
+    pub fn group(&self) -> &Group
+        ensures { result.now ≡ self.now.group }
+    {
+        &self.group
+    }
+
     /// The first period that it has not learned, at most 1,200.
     pub fn current_period(&self) -> u16
         ensures value { result ≡ current_period self.now.node }

@@ -1,0 +1,228 @@
+-- What stands behind a text where a process that stays as it is answers.
+use Rattle.std.proofs.Common.{◌≡◌, ℕ, List, [], ◌∷◌, ◌++◌, ◌+◌, refl, sym, ap, ap₂, subst, ◌∙◌}
+use Rattle.std.specs.Prelude.{codes, decimal, Option, None, Some, Result, Ok, Err, IfOk, MatchOption}
+use Rattle.std.specs.Arc.{arc_value}
+use Rattle.std.proofs.lemmas.List.{append_assoc}
+use Rattle.metering_model.specs.Batch.{Batch, batch_text, line_of_fields}
+use Rattle.metering_model.specs.Holding.{Holding, held}
+use Rattle.metering_model.specs.KeptText.{kept_text}
+use Rattle.metering_model.specs.Transcript.{file_of, line, line_count, reply_text, with_number}
+use Rattle.metering_model.specs.World as world
+use Rattle.metering_model.specs.declared.Refusal.TheVariants.{Missing}
+use Rattle.process_laws.specs.LocalSteps as model
+use Rattle.packet_text.specs.PacketText.{lines_of_batch}
+use Rattle.log_text.specs.LogText.{Takes, section_line}
+use Rattle.group_events.specs.Batches.{batch_of}
+use Rattle.group_process.specs.Added.{AddsJust}
+use Rattle.group_process.specs.Answers.{exported_answer, refusal_of}
+use Rattle.group_process.specs.Journals.{DoesAsAgent, journaled_answer}
+use Rattle.group_process.specs.declared.agents.Journaled.{Journaled}
+use Rattle.group_process.specs.declared.refusals.ProcessRefusal.{ProcessRefusal}
+use Rattle.group_process.specs.Selves.{NodeSelf, AgentSelf, kept_of_node, kept_of_agent}
+use Rattle.process_text.specs.Answers.{answer_text, packet_sent_text, process_refusal_text, refused_text, words_text}
+use Rattle.process_text.specs.Requests.{AsksNode, AsksAgent}
+use Rattle.process_text.specs.Inner.Written.{AppendsNode, AppendsAgent}
+
+-- ---- texts that are joined
+
+pub joined : (a b c d : List ℕ) → a ++ b ++ c ++ d ≡ a ++ (b ++ (c ++ d))
+joined a b c d = append_assoc (a ++ b) c d ∙ append_assoc a b (c ++ d)
+
+abbrev batch_numbered : ℕ → List ℕ
+batch_numbered n = codes "|batch|" ++ decimal n
+
+pub batch_line : (before group : List ℕ) (n : ℕ)
+    → before ++ codes "P1|" ++ group ++ section_line (codes "|batch|") n
+    ≡ before ++ line_of_fields (codes "P1" ∷ group ∷ codes "batch" ∷ decimal n ∷ [])
+batch_line before group n =
+    append_assoc (before ++ codes "P1|") group (batch_numbered n ++ 10 ∷ [])
+    ∙ append_assoc before (codes "P1|") (group ++ (batch_numbered n ++ 10 ∷ []))
+    ∙ ap (λ t. before ++ (codes "P1|" ++ t)) (sym (append_assoc group (batch_numbered n) (10 ∷ [])))
+
+-- what stands above a file, of so many lines
+abbrev exported_line : (period lines : ℕ) → List ℕ
+exported_line period lines = with_number (codes "exported period ") period ++ with_number (codes " lines ") lines
+
+pub file_told : (s : world.Snapshot) (above file shown seen below old old' : List ℕ) (period lines : ℕ)
+    → old ≡ [] → old' ≡ [] → period ≡ s.period → file ≡ old' ++ file_of s → shown ≡ file → lines ≡ line_count shown
+    → above ≡ old ++ exported_line period lines → seen ≡ above → below ≡ file
+    → line seen ++ below ≡ reply_text (world.Exported s)
+file_told s above file shown seen below old old' period lines none none' of is_file is_shown count is_above is_seen is_below =
+    let whole : file ≡ file_of s = is_file ∙ ap (λ t. t ++ file_of s) none' in
+    let counted : lines ≡ line_count (file_of s) = count ∙ ap line_count (is_shown ∙ whole) in
+    let told : seen ≡ exported_line s.period (line_count (file_of s)) =
+    is_seen ∙ is_above ∙ ap (λ t. t ++ exported_line period lines) none ∙ ap₂ exported_line of counted in
+    ap₂ (λ a f. line a ++ f) told (is_below ∙ whole)
+
+pub batch_put : (old group one two bytes : List ℕ) (b : Batch) (lines : ℕ) → lines ≡ lines_of_batch b → bytes ≡ batch_text b
+    → one ≡ old ++ section_line (codes "send " ++ codes "all" ++ codes " ") (1 + lines)
+    → two ≡ one ++ line_of_fields (codes "P1" ∷ group ∷ codes "batch" ∷ decimal lines ∷ [])
+    → two ++ bytes ≡ old ++ packet_sent_text group None (world.CarriesBatch b)
+batch_put old group one two bytes b lines same text first second =
+    let above : ℕ → List ℕ = λ n. section_line (codes "send " ++ codes "all" ++ codes " ") (1 + n) in
+    let head : ℕ → List ℕ = λ n. line_of_fields (codes "P1" ∷ group ∷ codes "batch" ∷ decimal n ∷ []) in
+    ap (λ t. t ++ bytes) second
+    ∙ ap (λ t. t ++ head lines ++ bytes) first
+    ∙ joined old (above lines) (head lines) bytes
+    ∙ ap₂ (λ n t. old ++ (above n ++ (head n ++ t))) same text
+
+-- ---- what is journaled is told
+
+pub agent_journals : (offer : world.Offer) (old new : AgentSelf) (r : Result Journaled ProcessRefusal) (j : Journaled) (b : Batch) (before after : List ℕ)
+    → DoesAsAgent (model.JournalBatch offer) old new (journaled_answer r)
+    → IfOk r (λ i. AddsJust (kept_of_agent old) (kept_of_agent new) (Some (Takes (batch_of (arc_value i.batch)))))
+    → r ≡ Ok j → b ≡ batch_of (arc_value j.batch)
+    → after ≡ before ++ answer_text new.group.name (λ sent. None) (Some (Takes b)) (record { words = model.HasJournaled b.seq; sends = Some (world.CarriesBatch b) })
+    → AppendsAgent (AsksAgent (model.JournalBatch offer)) old new before after
+agent_journals offer old new r j b before after does adds is of put =
+    let done : DoesAsAgent (model.JournalBatch offer) old new (journaled_answer (Ok j)) = subst (λ x. DoesAsAgent (model.JournalBatch offer) old new (journaled_answer x)) is does in
+    let told : Batch → model.Answer = λ x. record { words = model.HasJournaled x.seq; sends = Some (world.CarriesBatch x) } in
+    record {
+      said = answer_text new.group.name (λ sent. None) (Some (Takes b)) (told b);
+      answers = record {
+        answer = told b;
+        does = subst (λ x. DoesAsAgent (model.JournalBatch offer) old new (told x)) (sym of) done;
+        added = Some (Takes b);
+        adds = subst (λ x. AddsJust (kept_of_agent old) (kept_of_agent new) (Some (Takes x))) (sym of)
+            (subst (λ x. IfOk x (λ i. AddsJust (kept_of_agent old) (kept_of_agent new) (Some (Takes (batch_of (arc_value i.batch)))))) is adds);
+        text = ap (λ g. answer_text g.name (λ sent. None) (Some (Takes b)) (told b)) done.group;
+      };
+      joined = put;
+    }
+
+-- ---- what is exported is told
+
+pub node_exports : (n : NodeSelf) (period : ℕ) (r r' : Result world.Snapshot ProcessRefusal) (before after : List ℕ)
+    → exported_answer r ≡ model.exporting n.group n.node period → r ≡ r' → after ≡ before ++ words_text (exported_answer r').words
+    → AppendsNode (AsksNode (model.ExportPeriod period)) n n before after
+node_exports n period r (Ok s) before after does is put = record {
+  said = words_text (model.HasExported s);
+  answers = record {
+    answer = model.saying (model.HasExported s);
+    does = record { does = ap (λ a. model.unmoved a n.node) (sym does ∙ ap exported_answer is); group = refl; number = refl };
+    added = None;
+    adds = refl;
+    text = refl;
+  };
+  joined = put;
+}
+node_exports n period r (Err why) before after does is put = record {
+  said = words_text (model.RefusedFor (refusal_of why));
+  answers = record {
+    answer = model.refusing (refusal_of why);
+    does = record { does = ap (λ a. model.unmoved a n.node) (sym does ∙ ap exported_answer is); group = refl; number = refl };
+    added = None;
+    adds = refl;
+    text = refl;
+  };
+  joined = put;
+}
+
+-- ---- what is kept is told
+
+pub node_keeps : (n : NodeSelf) (before text : List ℕ) → text ≡ kept_text (kept_of_node n)
+    → AppendsNode (AsksNode model.TellKept) n n before (before ++ reply_text (world.KeptText text))
+node_keeps n before text same = record {
+  said = reply_text (world.KeptText text);
+  answers = record {
+    answer = model.saying (model.KeptIs text);
+    does = record { does = ap (λ t. model.unmoved (model.saying (model.KeptIs t)) n.node) (sym same); group = refl; number = refl };
+    added = None;
+    adds = refl;
+    text = refl;
+  };
+  joined = refl;
+}
+
+pub agent_keeps : (a : AgentSelf) (before text : List ℕ) → text ≡ kept_text (kept_of_agent a)
+    → AppendsAgent (AsksAgent model.TellJournal) a a before (before ++ reply_text (world.KeptText text))
+agent_keeps a before text same = record {
+  said = reply_text (world.KeptText text);
+  answers = record {
+    answer = model.saying (model.KeptIs text);
+    does = record { does = ap (λ t. model.unmoved_journal (model.saying (model.KeptIs t)) a.journal) (sym same); group = refl; number = refl };
+    added = None;
+    adds = refl;
+    text = refl;
+  };
+  joined = refl;
+}
+
+-- ---- a batch is sent once more
+
+-- what is said where a batch is held, or is not
+abbrev given_text : List ℕ → Option Batch → (agent seq : ℕ) → List ℕ
+given_text name (Some b) agent seq = packet_sent_text name None (world.CarriesBatch b) ++ line (codes "sent")
+given_text name None agent seq = refused_text (process_refusal_text (model.OfModel (Missing agent seq)))
+
+abbrev given : Option Batch → (agent seq : ℕ) → model.Answer
+given (Some b) agent seq = record { words = model.HasSent; sends = Some (world.CarriesBatch b) }
+given None agent seq = model.refusing (model.OfModel (Missing agent seq))
+
+sent_there : (h : Holding) (agent seq : ℕ) (b : Batch) → held h agent seq ≡ Some b → model.sending_held h agent seq ≡ given (Some b) agent seq
+sent_there h agent seq b there = rw (there, model.sending_held) refl
+
+sent_absent : (h : Holding) (agent seq : ℕ) → held h agent seq ≡ None → model.sending_held h agent seq ≡ given None agent seq
+sent_absent h agent seq absent = rw (absent, model.sending_held) refl
+
+pub node_gives : (n : NodeSelf) (agent seq : ℕ) (before : List ℕ) (b : Batch) → held n.node.kept.holding agent seq ≡ Some b
+    → AppendsNode (AsksNode (model.SendBatch agent seq)) n n before
+    (before ++ packet_sent_text n.group.name None (world.CarriesBatch b) ++ line (codes "sent"))
+node_gives n agent seq before b there = record {
+  said = given_text n.group.name (Some b) agent seq;
+  answers = record {
+    answer = given (Some b) agent seq;
+    does = record { does = ap (λ a. model.unmoved a n.node) (sent_there n.node.kept.holding agent seq b there); group = refl; number = refl };
+    added = None;
+    adds = refl;
+    text = refl;
+  };
+  joined = append_assoc before _ _;
+}
+
+pub node_lacks : (n : NodeSelf) (agent seq : ℕ) (before : List ℕ) → held n.node.kept.holding agent seq ≡ None
+    → AppendsNode (AsksNode (model.SendBatch agent seq)) n n before
+    (before ++ refused_text (process_refusal_text (model.OfModel (Missing agent seq))))
+node_lacks n agent seq before absent = record {
+  said = given_text n.group.name None agent seq;
+  answers = record {
+    answer = given None agent seq;
+    does = record { does = ap (λ a. model.unmoved a n.node) (sent_absent n.node.kept.holding agent seq absent); group = refl; number = refl };
+    added = None;
+    adds = refl;
+    text = refl;
+  };
+  joined = refl;
+}
+
+pub agent_gives : (a : AgentSelf) (seq : ℕ) (before : List ℕ) (b : Batch) → held a.journal a.number seq ≡ Some b
+    → AppendsAgent (AsksAgent (model.SendAgain seq)) a a before
+    (before ++ packet_sent_text a.group.name None (world.CarriesBatch b) ++ line (codes "sent"))
+agent_gives a seq before b there = record {
+  said = given_text a.group.name (Some b) a.number seq;
+  answers = record {
+    answer = given (Some b) a.number seq;
+    does = record { does = ap (λ said. model.unmoved_journal said a.journal) (sent_there a.journal a.number seq b there); group = refl; number = refl };
+    added = None;
+    adds = refl;
+    text = refl;
+  };
+  joined = append_assoc before _ _;
+}
+
+pub agent_lacks : {B : Type 0} (There : B → Type 0) (a : AgentSelf) (seq number : ℕ) (before after : List ℕ) (o : Option B)
+    → MatchOption o (held a.journal a.number seq ≡ None) There → o ≡ None → number ≡ a.number
+    → after ≡ before ++ refused_text (process_refusal_text (model.OfModel (Missing number seq)))
+    → AppendsAgent (AsksAgent (model.SendAgain seq)) a a before after
+agent_lacks There a seq number before after (Some b) absent none same put = absurd (cc)
+agent_lacks There a seq number before after None absent none same put = record {
+  said = given_text a.group.name None a.number seq;
+  answers = record {
+    answer = given None a.number seq;
+    does = record { does = ap (λ said. model.unmoved_journal said a.journal) (sent_absent a.journal a.number seq absent); group = refl; number = refl };
+    added = None;
+    adds = refl;
+    text = refl;
+  };
+  joined = put ∙ ap (λ n. before ++ refused_text (process_refusal_text (model.OfModel (Missing n seq)))) same;
+}

@@ -1,0 +1,3 @@
+-- Words that the public clauses don't cite.
+pub mod Read
+pub mod Written

@@ -1,0 +1,130 @@
+//! What an agent is asked, and answers.
+
+ghost use Rattle.std.specs.Prelude.{◌≡◌, ◌++◌, None, Some, OnOk};
+ghost use Rattle.metering_model.specs.World.{CarriesBatch};
+ghost use Rattle.log_text.specs.LogText.{Takes};
+ghost use Rattle.process_laws.specs.LocalSteps.{HasJournaled, JournalBatch, SendAgain, TellJournal};
+ghost use Rattle.group_events.specs.Batches.{batch_of};
+ghost use Rattle.group_events.specs.Events.{offer_of};
+ghost use Rattle.process_text.specs.Answers.{AnswersAgent, agent_begun_text, answer_text};
+ghost use Rattle.process_text.specs.Requests.{AsksAgent, agent_request};
+ghost use Rattle.process_text.specs.Inner.Read.{agent_request_of};
+ghost use Rattle.process_text.specs.Inner.Written.{AppendsAgent};
+
+use crate::answers::{
+    put_added, put_batch, put_kept_text, put_no_command, put_refusal, put_resent,
+};
+use crate::requests::{AgentRequest, agent_request};
+use byte_text::put_numbered;
+use group_events::{Offer, OwnedBatch};
+use group_process::{AgentProcess, ProcessRefusal};
+use log_text::Increment;
+use metering_model::Refusal;
+use std::alloc::{AllocError, Global};
+
+/// Appends what came of a batch that an agent journaled.
+fn put_journaled(
+    text: &mut Vec<u8>,
+    agent: &AgentProcess,
+    batch: &OwnedBatch,
+) -> Result<(), AllocError>
+    ensures { OnOk result (text.new.items ≡ text.old.items
+        ++ answer_text agent.now.group.name (λ sent. None) (Some (Takes (batch_of batch.now)))
+        (record {
+          words = HasJournaled (batch_of batch.now).seq;
+          sends = Some (CarriesBatch (batch_of batch.now));
+        })) }
+{
+    put_added(text, Some(Increment::Batch(batch)))?;
+    put_batch(text, agent.group().name(), batch)?;
+    put_numbered(text, b"journaled seq ", u128::from(batch.view().seq()))?;
+    text.extend_from_slice(b"\n")
+}
+
+/// Has an agent journal what is offered.
+fn journal(agent: &mut AgentProcess, offer: &Offer, text: &mut Vec<u8>) -> Result<(), AllocError>
+    ensures { OnOk result (AppendsAgent (AsksAgent (JournalBatch (offer_of offer.now)))
+        agent.old agent.new text.old.items text.new.items) }
+{
+    match agent.journal(offer)? {
+        Ok(journaled) => put_journaled(text, agent, &journaled.batch),
+        Err(why) => put_refusal(text, why),
+    }
+}
+
+/// Has an agent tell what it keeps.
+fn keep(alloc: Global, agent: &AgentProcess, text: &mut Vec<u8>) -> Result<(), AllocError>
+    ensures { OnOk result (AppendsAgent (AsksAgent TellJournal)
+        agent.now agent.now text.old.items text.new.items) }
+{
+    let kept = agent.write_kept(alloc)?;
+    put_kept_text(text, &kept)
+}
+
+/// Has an agent send a batch once more.
+#[tactic(auto, using(crate::proofs::Told::agent_gives))]
+fn again(agent: &AgentProcess, seq: u32, text: &mut Vec<u8>) -> Result<(), AllocError>
+    ensures { OnOk result (AppendsAgent (AsksAgent (SendAgain seq))
+        agent.now agent.now text.old.items text.new.items) }
+{
+    match agent.journaled(seq) {
+        Some(batch) => {
+            put_batch(text, agent.group().name(), batch)?;
+            put_resent(text)
+        }
+        None => put_refusal(
+            text,
+            ProcessRefusal::OfModel(Refusal::Missing {
+                agent: agent.number(),
+                seq,
+            }),
+        ),
+    }
+}
+
+/// Does what an agent is asked, and appends what it answers.
+fn put_answer(
+    alloc: Global,
+    agent: &mut AgentProcess,
+    request: &AgentRequest,
+    text: &mut Vec<u8>,
+) -> Result<(), AllocError>
+    ensures { OnOk result (AppendsAgent (agent_request_of request.now)
+        agent.old agent.new text.old.items text.new.items) }
+{
+    match request {
+        AgentRequest::Journal(offer) => journal(agent, offer, text),
+        AgentRequest::Keep => keep(alloc, agent, text),
+        AgentRequest::Again(seq) => again(agent, *seq, text),
+        AgentRequest::NoCommand => put_no_command(text),
+    }
+}
+
+/// Does what an agent is asked by a line and the lines below it, of which `agent_lines` tells how many belong to it, and
+/// makes the text what it answers. An error is an allocation failure: then nothing of the text may leave, and nothing may be
+/// asked of the agent any more, since it may have done what was not told.
+pub(crate) fn answer_agent(
+    alloc: Global,
+    agent: &mut AgentProcess,
+    line: &[u8],
+    below: &[u8],
+    text: &mut Vec<u8>,
+) -> Result<(), AllocError>
+    ensures { OnOk result
+        (AnswersAgent (agent_request line.now below.now) agent.old agent.new text.new.items) }
+{
+    let request = agent_request(alloc, line, below)?;
+    text.clear();
+    put_answer(alloc, agent, &request, text)
+}
+
+/// Makes a text what an agent says first: the sequence of its next batch. An error is an allocation failure, and leaves some
+/// of that.
+pub(crate) fn put_agent_begun(agent: &AgentProcess, text: &mut Vec<u8>) -> Result<(), AllocError>
+    ensures { OnOk result
+        (text.new.items ≡ agent_begun_text agent.now.number agent.now.journal) }
+{
+    text.clear();
+    put_numbered(text, b"begun seq ", u128::from(agent.next_seq()))?;
+    text.extend_from_slice(b"\n")
+}

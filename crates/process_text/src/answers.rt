@@ -1,0 +1,251 @@
+//! Pieces of an answer, written as lines of text.
+
+ghost use Rattle.std.specs.Prelude.{◌≡◌, ◌≢◌, ◌∷◌, [], ◌++◌, None, codes, decimal, OnOk};
+ghost use Rattle.std.specs.Option.{option_map};
+ghost use Rattle.metering_model.specs.Transcript.{if_any, line, reply_text, with_number};
+ghost use Rattle.metering_model.specs.Batch.{line_of_fields};
+ghost use Rattle.metering_model.specs.World as world;
+ghost use Rattle.process_laws.specs.LocalSteps.{Foreign, NodeWentOn};
+ghost use Rattle.group_events.specs.Batches.{batch_of};
+ghost use Rattle.group_node.specs.Packets.{packet_of};
+ghost use Rattle.packet_text.specs.PacketText.{lines_of_batch, packet_text};
+ghost use Rattle.log_text.specs.Increments.{increment_of};
+ghost use Rattle.log_text.specs.LogText.{increment_text, lines_of_increment, section_line};
+ghost use Rattle.group_process.specs.Answers.{refusal_of};
+ghost use Rattle.process_text.specs.Answers.{added_text, addressee, addressee_text, asker, lines_of_packet, packet_sent_text, process_refusal_text, refused_text, words_text};
+
+use answer_words::replies::{put_exported, put_kept, put_refused};
+use byte_text::{line_count, put_numbered};
+use export_file::ExportFile;
+use group_events::{OwnedBatch, Period, Snapshot};
+use group_node::Packet;
+use group_process::ProcessRefusal;
+use log_text::{Increment, put_increment};
+use packet_text::put_packet;
+use std::alloc::{AllocError, Global};
+
+// Each of these appends a piece of an answer. Where an allocation fails some of the piece may stand there.
+
+/// Appends a word, a number of lines, and a line feed.
+fn put_section(text: &mut Vec<u8>, word: &[u8], lines: u32) -> Result<(), AllocError>
+    ensures { OnOk result (text.new.items ≡ text.old.items ++ section_line word.now lines) }
+{
+    put_numbered(text, word, u128::from(lines))?;
+    text.extend_from_slice(b"\n")
+}
+
+/// How many lines an increment has.
+fn increment_lines(increment: &Increment<'_>) -> u32
+    ensures { result ≡ lines_of_increment (increment_of increment.now) }
+{
+    match increment {
+        Increment::Batch(batch) => 2 + u32::from(batch.view().count()),
+        _ => 1,
+    }
+}
+
+/// Appends what a log gets, if anything.
+pub(crate) fn put_added(text: &mut Vec<u8>, added: Option<Increment<'_>>) -> Result<(), AllocError>
+    ensures { OnOk result
+        (text.new.items ≡ text.old.items ++ added_text (option_map increment_of added.entry)) }
+{
+    match added {
+        Some(increment) => {
+            put_section(text, b"kept ", increment_lines(&increment))?;
+            put_increment(text, &increment)
+        }
+        None => Ok(()),
+    }
+}
+
+/// The voter that began the ballot which a packet asks for, where it does.
+fn asker(voters: u8, packet: &Packet) -> Option<u32>
+    requires { voters ≢ 0 }
+    ensures { result ≡ asker voters (packet_of packet.now) }
+{
+    match packet {
+        Packet::Prepare { ballot, .. } => Some(ballot.number() % u32::from(voters)),
+        Packet::Accept { ballot, .. } => Some(ballot.number() % u32::from(voters)),
+        _ => None,
+    }
+}
+
+/// The one node that a packet is meant for, where it is.
+pub(crate) fn addressee(voters: u8, taken: &Packet, sent: &Packet) -> Option<u32>
+    requires { voters ≢ 0 }
+    ensures { result ≡ addressee voters (packet_of taken.now) (packet_of sent.now) }
+{
+    match sent {
+        Packet::Promise { .. } => asker(voters, taken),
+        Packet::Decided { .. } => asker(voters, taken),
+        _ => None,
+    }
+}
+
+/// Appends for whom a packet is, and how many lines it has.
+fn put_to(text: &mut Vec<u8>, to: Option<u32>, lines: u32) -> Result<(), AllocError>
+    ensures { OnOk result (text.new.items ≡ text.old.items
+        ++ section_line (codes "send " ++ addressee_text to ++ codes " ") lines) }
+{
+    match to {
+        Some(node) => put_numbered(text, b"send ", u128::from(node))?,
+        None => text.extend_from_slice(b"send all")?,
+    }
+    put_section(text, b" ", lines)
+}
+
+/// Appends the line of a packet that carries a batch of so many lines.
+#[tactic(auto, using(crate::proofs::Told::batch_line))]
+fn put_batch_line(text: &mut Vec<u8>, group: &[u8], lines: u32) -> Result<(), AllocError>
+    ensures { OnOk result (text.new.items ≡ text.old.items
+        ++ line_of_fields (codes "P1" ∷ group.now ∷ codes "batch" ∷ decimal lines ∷ [])) }
+{
+    text.extend_from_slice(b"P1|")?;
+    text.extend_from_slice(group)?;
+    put_section(text, b"|batch|", lines)
+}
+
+/// Appends a batch as a packet of the group, which is for all.
+pub(crate) fn put_batch(
+    text: &mut Vec<u8>,
+    group: &[u8],
+    batch: &OwnedBatch,
+) -> Result<(), AllocError>
+    ensures { OnOk result (text.new.items ≡ text.old.items
+        ++ packet_sent_text group.now None (world.CarriesBatch (batch_of batch.now))) }
+{
+    let lines = 1 + u32::from(batch.view().count());
+    put_to(text, None, 1 + lines)?;
+    put_batch_line(text, group, lines)?;
+    text.extend_from_slice(batch.bytes())
+}
+
+/// How many lines a packet has.
+fn packet_lines(packet: &Packet) -> u32
+    ensures { result ≡ lines_of_packet (packet_of packet.now) }
+{
+    match packet {
+        Packet::Batch(batch) => 2 + u32::from(batch.view().count()),
+        _ => 1,
+    }
+}
+
+/// Appends a packet of the group, and for whom it is.
+pub(crate) fn put_sent(
+    text: &mut Vec<u8>,
+    group: &[u8],
+    to: Option<u32>,
+    packet: &Packet,
+) -> Result<(), AllocError>
+    ensures { OnOk result (text.new.items
+        ≡ text.old.items ++ packet_sent_text group.now to (packet_of packet.now)) }
+{
+    put_to(text, to, packet_lines(packet))?;
+    put_packet(text, group, packet)
+}
+
+/// Appends that a packet was taken, and which period was learned by it, if one was.
+pub(crate) fn put_delivered(text: &mut Vec<u8>, learned: Option<Period>) -> Result<(), AllocError>
+    ensures { OnOk result (text.new.items ≡ text.old.items
+        ++ line (codes "delivered" ++ if_any (codes " learned ") learned)) }
+{
+    text.extend_from_slice(b"delivered")?;
+    if let Some(period) = learned {
+        put_numbered(text, b" learned ", u128::from(period.number()))?;
+    }
+    text.extend_from_slice(b"\n")
+}
+
+/// Appends a line, and what stands below it.
+fn put_below(text: &mut Vec<u8>, above: &[u8], below: &[u8]) -> Result<(), AllocError>
+    ensures { OnOk result
+        (text.new.items ≡ text.old.items ++ (line above.now ++ below.now)) }
+{
+    text.extend_from_slice(above)?;
+    text.extend_from_slice(b"\n")?;
+    text.extend_from_slice(below)
+}
+
+/// Appends a file, and above it its period and how many lines it has.
+pub(crate) fn put_file(
+    alloc: Global,
+    text: &mut Vec<u8>,
+    snapshot: &Snapshot,
+) -> Result<(), AllocError>
+    ensures { OnOk result (text.new.items
+        ≡ text.old.items ++ reply_text (world.Exported snapshot.now)) }
+{
+    let (mut above, mut file) = (Vec::new(alloc), Vec::new(alloc));
+    snapshot.put_csv(alloc, &mut file)?;
+    put_exported(&mut above, snapshot.period(), line_count(&file))?;
+    put_below(text, &above, &file)
+}
+
+/// Appends a kept text, and above it how many lines it has.
+pub(crate) fn put_kept_text(text: &mut Vec<u8>, kept: &[u8]) -> Result<(), AllocError>
+    ensures { OnOk result
+        (text.new.items ≡ text.old.items ++ reply_text (world.KeptText kept.now)) }
+{
+    put_kept(text, line_count(kept))?;
+    text.push(b'\n')?;
+    text.extend_from_slice(kept)
+}
+
+/// Appends that a batch was sent once more.
+pub(crate) fn put_resent(text: &mut Vec<u8>) -> Result<(), AllocError>
+    ensures { OnOk result (text.new.items ≡ text.old.items ++ line (codes "sent")) }
+{
+    text.extend_from_slice(b"sent\n")
+}
+
+/// Appends why a process does not do what it is asked.
+pub(crate) fn put_refusal(text: &mut Vec<u8>, why: ProcessRefusal) -> Result<(), AllocError>
+    ensures { OnOk result (text.new.items
+        ≡ text.old.items ++ refused_text (process_refusal_text (refusal_of why))) }
+{
+    match why {
+        ProcessRefusal::OfModel(refusal) => {
+            put_refused(text, refusal)?;
+            text.extend_from_slice(b"\n")
+        }
+        ProcessRefusal::Unfit => text.extend_from_slice(b"refused G17\n"),
+    }
+}
+
+/// Appends that what should be a packet is none of the group.
+pub(crate) fn put_foreign(text: &mut Vec<u8>) -> Result<(), AllocError>
+    ensures { OnOk result (text.new.items
+        ≡ text.old.items ++ refused_text (process_refusal_text Foreign)) }
+{
+    text.extend_from_slice(b"refused G16\n")
+}
+
+/// Appends that a line is no command.
+pub(crate) fn put_no_command(text: &mut Vec<u8>) -> Result<(), AllocError>
+    ensures { OnOk result (text.new.items ≡ text.old.items ++ refused_text (codes "L6")) }
+{
+    text.extend_from_slice(b"refused L6\n")
+}
+
+/// Appends two words, each with a number behind it.
+fn put_two(
+    text: &mut Vec<u8>,
+    first: &[u8],
+    one: u16,
+    second: &[u8],
+    other: u16,
+) -> Result<(), AllocError>
+    ensures { OnOk result (text.new.items
+        ≡ text.old.items ++ (with_number first.now one ++ with_number second.now other)) }
+{
+    put_numbered(text, first, u128::from(one))?;
+    put_numbered(text, second, u128::from(other))
+}
+
+/// Appends in which period a node goes on, and how many ballots it has begun.
+pub(crate) fn put_begun(text: &mut Vec<u8>, period: u16, round: u16) -> Result<(), AllocError>
+    ensures { OnOk result (text.new.items ≡ text.old.items ++ words_text (NodeWentOn period round)) }
+{
+    put_two(text, b"begun period ", period, b" round ", round)?;
+    text.extend_from_slice(b"\n")
+}

@@ -1,0 +1,179 @@
+//! What a node is asked, and answers.
+
+ghost use Rattle.std.specs.Prelude.{◌≡◌, ◌++◌, None, Some, OnOk};
+ghost use Rattle.std.specs.Option.{option_map};
+ghost use Rattle.process_laws.specs.LocalSteps.{BeginBallot, ExportPeriod, HasBegun, HasTaken, SendBatch, TakePacket, TellKept};
+ghost use Rattle.group_node.specs.Packets.{packet_of};
+ghost use Rattle.group_process.specs.Added.{increment_after};
+ghost use Rattle.group_process.specs.Selves.{kept_of_node};
+ghost use Rattle.process_text.specs.Answers.{AnswersNode, addressee, answer_text, node_begun_text};
+ghost use Rattle.process_text.specs.Requests.{AsksNode, node_request};
+ghost use Rattle.process_text.specs.Inner.Read.{node_request_of};
+ghost use Rattle.process_text.specs.Inner.Written.{AppendsNode};
+
+use crate::answers::{
+    addressee, put_added, put_batch, put_begun, put_delivered, put_file, put_foreign,
+    put_kept_text, put_no_command, put_refusal, put_resent, put_sent,
+};
+use crate::requests::{NodeRequest, node_request};
+use byte_text::put_numbered;
+use group_node::Packet;
+use group_process::{Begun, NodeProcess, ProcessRefusal, Taken};
+use metering_model::Refusal;
+use packet_text::GroupPacket;
+use std::alloc::{AllocError, Global};
+
+/// Appends what came of a packet that a node took.
+fn put_taken(
+    text: &mut Vec<u8>,
+    node: &NodeProcess,
+    packet: &Packet,
+    taken: &Taken,
+) -> Result<(), AllocError>
+    ensures { OnOk result (text.new.items ≡ text.old.items
+        ++ answer_text node.now.group.name (addressee node.now.group.voters (packet_of packet.now))
+        (increment_after taken.now.added (kept_of_node node.now))
+        (record {
+          words = HasTaken taken.now.learned;
+          sends = option_map packet_of taken.now.sends;
+        })) }
+{
+    put_added(text, node.increment(taken.added))?;
+    if let Some(sent) = &taken.sends {
+        let group = node.group();
+        let (voters, _, _) = group.sizes();
+        put_sent(text, group.name(), addressee(voters, packet, sent), sent)?;
+    }
+    put_delivered(text, taken.learned)
+}
+
+/// Has a node take a packet.
+fn take(
+    alloc: Global,
+    node: &mut NodeProcess,
+    handed: &GroupPacket,
+    text: &mut Vec<u8>,
+) -> Result<(), AllocError>
+    ensures { OnOk result (AppendsNode (AsksNode (TakePacket handed.now.group handed.now.packet))
+        node.old node.new text.old.items text.new.items) }
+{
+    match node.take(alloc, handed.group(), handed.packet())? {
+        Some(taken) => put_taken(text, node, handed.packet(), &taken),
+        None => put_foreign(text),
+    }
+}
+
+/// Appends what came of a ballot that a node began.
+fn put_started(text: &mut Vec<u8>, node: &NodeProcess, begun: &Begun) -> Result<(), AllocError>
+    ensures { OnOk result (text.new.items ≡ text.old.items
+        ++ answer_text node.now.group.name (λ sent. None)
+        (increment_after begun.now.added (kept_of_node node.now))
+        (record { words = HasBegun begun.now.ballot; sends = Some (packet_of begun.now.sends) })) }
+{
+    put_added(text, node.increment(begun.added))?;
+    put_sent(text, node.group().name(), None, &begun.sends)?;
+    put_numbered(text, b"started ballot ", u128::from(begun.ballot.number()))?;
+    text.extend_from_slice(b"\n")
+}
+
+/// Has a node begin a ballot.
+fn begin(node: &mut NodeProcess, text: &mut Vec<u8>) -> Result<(), AllocError>
+    ensures { OnOk result (AppendsNode (AsksNode BeginBallot)
+        node.old node.new text.old.items text.new.items) }
+{
+    match node.begin() {
+        Ok(begun) => put_started(text, node, &begun),
+        Err(why) => put_refusal(text, why),
+    }
+}
+
+/// Has a node export a period.
+fn export(
+    alloc: Global,
+    node: &NodeProcess,
+    period: u16,
+    text: &mut Vec<u8>,
+) -> Result<(), AllocError>
+    ensures { OnOk result (AppendsNode (AsksNode (ExportPeriod period))
+        node.now node.now text.old.items text.new.items) }
+{
+    match node.export(alloc, period)? {
+        Ok(snapshot) => put_file(alloc, text, &snapshot),
+        Err(why) => put_refusal(text, why),
+    }
+}
+
+/// Has a node tell what it keeps.
+fn keep(alloc: Global, node: &NodeProcess, text: &mut Vec<u8>) -> Result<(), AllocError>
+    ensures { OnOk result (AppendsNode (AsksNode TellKept)
+        node.now node.now text.old.items text.new.items) }
+{
+    let kept = node.write_kept(alloc)?;
+    put_kept_text(text, &kept)
+}
+
+/// Has a node send a batch once more.
+#[tactic(auto, using(crate::proofs::Told::node_gives, crate::proofs::Told::node_lacks))]
+fn give(node: &NodeProcess, agent: u8, seq: u32, text: &mut Vec<u8>) -> Result<(), AllocError>
+    ensures { OnOk result (AppendsNode (AsksNode (SendBatch agent seq))
+        node.now node.now text.old.items text.new.items) }
+{
+    match node.held(agent, seq) {
+        Some(batch) => {
+            put_batch(text, node.group().name(), batch)?;
+            put_resent(text)
+        }
+        None => put_refusal(
+            text,
+            ProcessRefusal::OfModel(Refusal::Missing { agent, seq }),
+        ),
+    }
+}
+
+/// Does what a node is asked, and appends what it answers.
+fn put_answer(
+    alloc: Global,
+    node: &mut NodeProcess,
+    request: &NodeRequest,
+    text: &mut Vec<u8>,
+) -> Result<(), AllocError>
+    ensures { OnOk result (AppendsNode (node_request_of request.now)
+        node.old node.new text.old.items text.new.items) }
+{
+    match request {
+        NodeRequest::Packet(handed) => take(alloc, node, handed, text),
+        NodeRequest::NoPacket => put_foreign(text),
+        NodeRequest::Begin => begin(node, text),
+        NodeRequest::Export(period) => export(alloc, node, *period, text),
+        NodeRequest::Keep => keep(alloc, node, text),
+        NodeRequest::Give { agent, seq } => give(node, *agent, *seq, text),
+        NodeRequest::NoCommand => put_no_command(text),
+    }
+}
+
+/// Does what a node is asked by a line and the lines below it, of which `node_lines` tells how many belong to it, and makes
+/// the text what it answers. An error is an allocation failure: then nothing of the text may leave, and nothing may be asked
+/// of the node any more, since it may have done what was not told.
+pub(crate) fn answer_node(
+    alloc: Global,
+    node: &mut NodeProcess,
+    line: &[u8],
+    below: &[u8],
+    text: &mut Vec<u8>,
+) -> Result<(), AllocError>
+    ensures { OnOk result
+        (AnswersNode (node_request line.now below.now) node.old node.new text.new.items) }
+{
+    let request = node_request(alloc, line, below)?;
+    text.clear();
+    put_answer(alloc, node, &request, text)
+}
+
+/// Makes a text what a node says first: in which period it goes on, and how many ballots it has begun. An error is an
+/// allocation failure, and leaves some of that.
+pub(crate) fn put_node_begun(node: &NodeProcess, text: &mut Vec<u8>) -> Result<(), AllocError>
+    ensures { OnOk result (text.new.items ≡ node_begun_text node.now.node) }
+{
+    text.clear();
+    put_begun(text, node.current_period(), node.round())
+}

@@ -1,0 +1,60 @@
+//! A process of a group, which is asked and answers in lines of text.
+
+ghost use Rattle.std.specs.Prelude.{◌≡◌, ◌≤◌, OnOk};
+ghost use Rattle.process_text.specs.Answers.{Answers, begun_text};
+ghost use Rattle.process_text.specs.Requests.{lines_below, most_packet_lines};
+
+use crate::agents::{answer_agent, put_agent_begun};
+use crate::nodes::{answer_node, put_node_begun};
+use crate::requests::{agent_lines, node_lines};
+use group_process::{AgentProcess, NodeProcess};
+use std::alloc::{AllocError, Global};
+
+/// A process of a group.
+#[derive(Drop)]
+pub enum Process {
+    Node(NodeProcess),
+    Agent(AgentProcess),
+}
+
+impl Process {
+    /// How many lines below it belong to a line that the process is asked with: at most 1,002.
+    pub fn lines_below(&self, line: &[u8]) -> u32
+        ensures value { result ≡ lines_below self.now line.now }
+        ensures most { result ≤ most_packet_lines }
+    {
+        match self {
+            Process::Node(_) => node_lines(line),
+            Process::Agent(_) => agent_lines(line),
+        }
+    }
+
+    /// Does what is asked by a line and the lines that belong to it, each with its line feed, and makes the text what is
+    /// answered. An error is an allocation failure: then nothing of the text may leave, and nothing may be asked of the
+    /// process any more, since it may have done what was not told.
+    pub fn answer(
+        &mut self,
+        alloc: Global,
+        line: &[u8],
+        below: &[u8],
+        text: &mut Vec<u8>,
+    ) -> Result<(), AllocError>
+        ensures { OnOk result (Answers self.old line.now below.now self.new text.new.items) }
+    {
+        match self {
+            Process::Node(node) => answer_node(alloc, node, line, below, text),
+            Process::Agent(agent) => answer_agent(alloc, agent, line, below, text),
+        }
+    }
+
+    /// Makes the text what the process says before it is asked: from where it goes on. An error is an allocation failure,
+    /// and leaves some of that.
+    pub fn put_begun(&self, text: &mut Vec<u8>) -> Result<(), AllocError>
+        ensures { OnOk result (text.new.items ≡ begun_text self.now) }
+    {
+        match self {
+            Process::Node(node) => put_node_begun(node, text),
+            Process::Agent(agent) => put_agent_begun(agent, text),
+        }
+    }
+}

@@ -1,0 +1,191 @@
+//! What a node and an agent are asked: a line, and the lines that it says to be below it.
+
+ghost use Rattle.std.specs.Prelude.{◌≡◌, ◌≤◌, codes, IfOk, IfSome};
+ghost use Rattle.std.specs.Option.{option_map, unwrap_or};
+ghost use Rattle.metering_model.specs.Limits.{most_journal_lines};
+ghost use Rattle.metering_model.specs.World as world;
+ghost use Rattle.input_sections.specs.Sections.{number_behind};
+ghost use Rattle.group_events.specs.Events.{offer_of};
+ghost use Rattle.process_text.specs.Requests.{agent_request, line_request, most_packet_lines, node_request, period_behind, place_behind, place_in, seq_behind};
+ghost use Rattle.process_text.specs.Inner.Read.{agent_request_of, node_request_of};
+
+use byte_text::{find_byte, is_same, read_whole};
+use group_events::Offer;
+use input_sections::{behind_word, number_behind};
+use packet_text::{GroupPacket, read_packet};
+use std::alloc::{AllocError, Global};
+
+/// The greatest packet has so many lines: one above a batch, and those of the greatest batch.
+const MOST_PACKET_LINES: u32 = 1_002;
+/// A batch has no more lines.
+const MOST_JOURNAL_LINES: u32 = 1_001;
+
+/// What a node is asked.
+#[derive(Drop)]
+pub(crate) enum NodeRequest {
+    /// To take a packet.
+    Packet(GroupPacket),
+    /// To take what is no packet.
+    NoPacket,
+    /// To begin a ballot.
+    Begin,
+    /// To export the period of that number.
+    Export(u16),
+    /// To tell what it keeps.
+    Keep,
+    /// To send a batch that it holds once more.
+    Give { agent: u8, seq: u32 },
+    /// The line is no command.
+    NoCommand,
+}
+
+/// What an agent is asked.
+#[derive(Drop)]
+pub(crate) enum AgentRequest {
+    /// To journal a batch.
+    Journal(Offer),
+    /// To tell what it keeps.
+    Keep,
+    /// To send the batch of that sequence once more.
+    Again(u32),
+    /// The line is no command.
+    NoCommand,
+}
+
+/// How many lines a line says to be below it where it hands a packet to a node, else None.
+fn packet_lines(line: &[u8]) -> Option<u32>
+    ensures value { result ≡ number_behind (codes "packet ") most_packet_lines line.now }
+    ensures most { IfSome result (λ lines. lines ≤ most_packet_lines) }
+{
+    number_behind(line, b"packet ", MOST_PACKET_LINES)
+}
+
+/// How many lines a line says to be below it where it hands a batch to an agent, else None.
+fn journal_lines(line: &[u8]) -> Option<u32>
+    ensures value { result ≡ number_behind (codes "journal ") most_journal_lines line.now }
+    ensures most { IfSome result (λ lines. lines ≤ most_journal_lines) }
+{
+    number_behind(line, b"journal ", MOST_JOURNAL_LINES)
+}
+
+/// How many lines below it belong to a line that a node is asked with: at most 1,002.
+pub(crate) fn node_lines(line: &[u8]) -> u32
+    ensures value { result
+        ≡ unwrap_or (number_behind (codes "packet ") most_packet_lines line.now) 0 }
+    ensures most { result ≤ most_packet_lines }
+{
+    match packet_lines(line) {
+        Some(lines) => lines,
+        None => 0,
+    }
+}
+
+/// How many lines below it belong to a line that an agent is asked with: at most 1,001.
+pub(crate) fn agent_lines(line: &[u8]) -> u32
+    ensures value { result
+        ≡ unwrap_or (number_behind (codes "journal ") most_journal_lines line.now) 0 }
+    ensures most { result ≤ most_journal_lines }
+{
+    match journal_lines(line) {
+        Some(lines) => lines,
+        None => 0,
+    }
+}
+
+/// The period that is to be exported.
+fn read_period(line: &[u8]) -> Option<u16>
+    ensures { result ≡ period_behind line.now }
+{
+    Some(read_whole(behind_word(line, b"export ")?, 0, 1_199)? as u16)
+}
+
+/// An agent's number and a sequence, parted by a space.
+fn read_place(text: &[u8]) -> Option<(u8, u32)>
+    ensures { result ≡ place_in text.now }
+{
+    let space = find_byte(text, b' ')?;
+    let agent = read_whole(&text[..space], 1, 64)?;
+    let seq = read_whole(&text[space + 1..], 1, 1_000_000)?;
+    Some((agent as u8, seq))
+}
+
+/// Whose batch, and which, is to be sent once more.
+fn read_given(line: &[u8]) -> Option<(u8, u32)>
+    ensures { result ≡ place_behind line.now }
+{
+    read_place(behind_word(line, b"give ")?)
+}
+
+/// The sequence of the batch that is to be sent once more.
+fn read_again(line: &[u8]) -> Option<u32>
+    ensures { result ≡ seq_behind line.now }
+{
+    read_whole(behind_word(line, b"again ")?, 1, 1_000_000)
+}
+
+/// What a node is asked by a line below which nothing stands.
+fn line_request(line: &[u8]) -> NodeRequest
+    ensures { node_request_of result ≡ line_request line.now }
+{
+    if is_same(line, b"start") {
+        return NodeRequest::Begin;
+    }
+    if is_same(line, b"keep") {
+        return NodeRequest::Keep;
+    }
+    if let Some(period) = read_period(line) {
+        return NodeRequest::Export(period);
+    }
+    match read_given(line) {
+        Some((agent, seq)) => NodeRequest::Give { agent, seq },
+        None => NodeRequest::NoCommand,
+    }
+}
+
+/// What a node is asked by a line and the lines below it. An error is an allocation failure.
+pub(crate) fn node_request(
+    alloc: Global,
+    line: &[u8],
+    below: &[u8],
+) -> Result<NodeRequest, AllocError>
+    ensures { IfOk result (λ request. node_request_of request ≡ node_request line.now below.now) }
+{
+    if packet_lines(line).is_none() {
+        return Ok(line_request(line));
+    }
+    let read = read_packet(alloc, below)?;
+    Ok(match read {
+        Some(packet) => NodeRequest::Packet(packet),
+        None => NodeRequest::NoPacket,
+    })
+}
+
+/// What the bytes of a batch hand in: they are copied once, and the copy is read once and kept.
+fn read_offer(alloc: Global, text: &[u8]) -> Result<Offer, AllocError>
+    ensures { IfOk result (λ offer. offer_of offer ≡ world.offer_of text.now) }
+{
+    let bytes = Vec::from_slice(alloc, text)?;
+    Offer::read(alloc, bytes)
+}
+
+/// What an agent is asked by a line and the lines below it. An error is an allocation failure.
+pub(crate) fn agent_request(
+    alloc: Global,
+    line: &[u8],
+    below: &[u8],
+) -> Result<AgentRequest, AllocError>
+    ensures { IfOk result
+        (λ request. agent_request_of request ≡ agent_request line.now below.now) }
+{
+    if journal_lines(line).is_some() {
+        let offer = read_offer(alloc, below)?;
+        return Ok(AgentRequest::Journal(offer));
+    }
+    if is_same(line, b"keep") {
+        return Ok(AgentRequest::Keep);
+    }
+    Ok(match read_again(line) {
+        Some(seq) => AgentRequest::Again(seq),
+        None => AgentRequest::NoCommand,
+    })
+}
