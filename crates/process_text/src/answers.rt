@@ -244,7 +244,8 @@ fn put_two(
 
 /// Appends in which period a node goes on, and how many ballots it has begun.
 pub(crate) fn put_begun(text: &mut Vec<u8>, period: u16, round: u16) -> Result<(), AllocError>
-    ensures { OnOk result (text.new.items ≡ text.old.items ++ words_text (NodeWentOn period round)) }
+    ensures { OnOk result (text.new.items
+        ≡ text.old.items ++ words_text (NodeWentOn period round)) }
 {
     put_two(text, b"begun period ", period, b" round ", round)?;
     text.extend_from_slice(b"\n")

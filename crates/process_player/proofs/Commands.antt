@@ -1,0 +1,223 @@
+-- A process is asked, and answers, one command after the other.
+use Rattle.std.proofs.Common.{◌≡◌, ℕ, ◌-◌, take, drop, List, [], ◌∷◌, ◌++◌, Option, ◌+◌, ◌≤◌, Result, Ok, Err, OnOk, IfErr, refl, sym, ap, subst, ◌∙◌, arith, append_assoc, append-nil}
+use Rattle.std.proofs.lemmas.List.{drop-take}
+use Rattle.std.specs.List.{flat_map}
+use Rattle.std.specs.Io.KnownBytes.{Appends, Consumes, IsAtEnd}
+use Rattle.std.proofs.KnownBytes.{Appends-nil, Appends-trans, Consumes-nil, Consumes-trans}
+use Rattle.process_text.specs.declared.processes.Process.{Process}
+use Rattle.counted_io.specs.Writing.{AppendsPrefix}
+use Rattle.counted_io.specs.Counts.{count_after}
+use Rattle.process_text.specs.Answers.{Answers, begun_text}
+use Rattle.process_player.specs.declared.faults.ProcessFault.{ProcessFault}
+use Rattle.process_player.specs.declared.faults.ProcessFault.TheVariants.{Read, Section, Log, OtherLog, TooLong, Write, OutOfMemory}
+use Rattle.process_player.specs.declared.heads.ProcessKind.{ProcessKind}
+use Rattle.process_player.specs.Faults.{tells_of_reader, tells_of_writer}
+use Rattle.process_player.specs.Inner.Calls.{Reads}
+use Rattle.process_player.proofs.Passing.{passes_front, passes_more, passes_on}
+use Rattle.process_player.specs.Runs.{Asked, Does, Runs, RunsToEnd, Serves, TornFirst, TornLater, bytes_of}
+use Rattle.process_player.specs.Inner.Reading.{Continues, ContinuesWithin, EndsHere, HasBegun, IsCommandAt, IsTorn, Passes, ServesOne, StopsWithin}
+
+pub passes_nothing : (a : List ℕ) (l : Option (List ℕ)) → Passes a a l l []
+passes_nothing a l = record { came = []; consumed = Consumes-nil l; joined = append-nil a }
+
+-- ---- one command after the other
+
+serves_behind : (p q r : Process) (said one : List ℕ) (a : Asked) (asked : List Asked)
+    → Serves p asked q said → Does q a r one → Serves p (asked ++ a ∷ []) r (said ++ one)
+serves_behind p q r said one a [] it does = record {
+  next = r;
+  one = one;
+  more = [];
+  does = subst (λ x. Does x a r one) it.0 does;
+  then = (refl, refl);
+  joined = ap (λ t. t ++ one) it.1 ∙ sym (append-nil one);
+}
+serves_behind p q r said one a (b ∷ asked) it does = record {
+  next = it.next;
+  one = it.one;
+  more = it.more ++ one;
+  does = it.does;
+  then = serves_behind it.next q r it.more one a asked it.then does;
+  joined = ap (λ t. t ++ one) it.joined ∙ append_assoc it.one it.more one;
+}
+
+bytes_behind : (asked : List Asked) (a : Asked) → flat_map bytes_of (asked ++ a ∷ []) ≡ flat_map bytes_of asked ++ bytes_of a
+bytes_behind [] a = append-nil (bytes_of a)
+bytes_behind (b ∷ asked) a = ap (λ t. bytes_of b ++ t) (bytes_behind asked a) ∙ sym (append_assoc (bytes_of b) (flat_map bytes_of asked) (bytes_of a))
+
+pub begins_idle : (p : Process) (ahead : List ℕ) (left old : Option (List ℕ)) → Continues p p ahead ahead left left old old
+begins_idle p ahead left old = record {
+  asked = [];
+  said = [];
+  serves = (refl, refl);
+  passes = passes_nothing ahead left;
+  written = Appends-nil old;
+}
+
+pub goes_on : {p q r : Process} {a b c : List ℕ} {l m n o o' o'' : Option (List ℕ)}
+    → Continues p q a b l m o o' → ServesOne q r b c m n o' o'' → Continues p r a c l n o o''
+goes_on {p} {q} {r} {a} {b} {c} {l} {m} {n} {o} {o'} {o''} it next = record {
+  asked = it.asked ++ next.asked ∷ [];
+  said = it.said ++ next.said;
+  serves = serves_behind p q r it.said next.said next.asked it.asked it.serves next.does;
+  passes = subst (Passes a c l n) (sym (bytes_behind it.asked next.asked)) (passes_on it.passes next.passes);
+  written = Appends-trans o o' o'' it.said next.said it.written next.written;
+}
+
+-- nothing was taken and nothing written
+pub goes_by : {p q : Process} {a b c : List ℕ} {l m n o o' o'' : Option (List ℕ)}
+    → Continues p q a b l m o o' → Passes b c m n [] → o'' ≡ o' → Continues p q a c l n o o''
+goes_by {p} {q} {a} {b} {c} {l} {m} {n} {o} {o'} {o''} it next same = record {
+  asked = it.asked;
+  said = it.said;
+  serves = it.serves;
+  passes = passes_more it.passes next;
+  written = subst (λ x. Appends o x it.said) (sym same) it.written;
+}
+
+pub stops_within : {p q : Process} {a b : List ℕ} {l m n o o' o'' : Option (List ℕ)}
+    → Continues p q a b l m o o' → StopsWithin q b m n o' o'' → ContinuesWithin p a l n o o''
+stops_within {p} {q} {a} {b} {l} {m} {n} {o} {o'} {o''} it next = record {
+  last = q;
+  rest = b;
+  between = o';
+  middle = m;
+  continues = it;
+  stops = next;
+}
+
+-- ---- one command that stands ahead
+
+-- the lines below the first one, cut out in either order
+below_is : (end all : ℕ) (text : List ℕ) → end ≤ all → take (all - end) (drop end text) ≡ drop end (take all text)
+below_is end all text ordered = sym (drop-take end (all - end) text) ∙ ap (λ k. drop end (take k text)) (omega (arith, ordered))
+
+abbrev asked_at : (end all : ℕ) → List ℕ → Asked
+asked_at end all text = record { first = take (end - 1) text; below = drop end (take all text) }
+
+does_it : (p q : Process) (b : List ℕ) (said : List ℕ) (end all : ℕ) (seen : List ℕ) → IsCommandAt p b end all → seen ≡ b
+    → Answers p (take (end - 1) seen) (take (all - end) (drop end seen)) q said → Does p (asked_at end all b) q said
+does_it p q b said end all seen here same answers =
+    let there : Answers p (take (end - 1) b) (take (all - end) (drop end b)) q said = subst (λ t. Answers p (take (end - 1) t) (take (all - end) (drop end t)) q said) same answers in
+    record { is_asked = here.asked; answers = subst (λ t. Answers p (take (end - 1) b) t q said) (below_is end all b here.ordered) there }
+
+pub serves_it : {p : Process} {a b c : List ℕ} {l m o o' : Option (List ℕ)} (q : Process) (said : List ℕ) (end all : ℕ) (seen : List ℕ)
+    → IsCommandAt p b end all → Passes a b l m [] → seen ≡ b → c ≡ drop all b
+    → Answers p (take (end - 1) seen) (take (all - end) (drop end seen)) q said → Appends o o' said
+    → ServesOne p q a c l m o o'
+serves_it {p} {a} {b} {c} {l} {m} {o} {o'} q said end all seen here passes same rest answers written = record {
+  asked = asked_at end all b;
+  said = said;
+  does = does_it p q b said end all seen here same answers;
+  passes = passes_front passes c (bytes_of (asked_at end all b)) (here.split ∙ ap (λ t. bytes_of (asked_at end all b) ++ t) (sym rest));
+  written = written;
+}
+
+pub stops_in_it : {p : Process} {a b : List ℕ} {l m o o' : Option (List ℕ)} (q : Process) (said : List ℕ) (end all : ℕ) (seen : List ℕ)
+    → IsCommandAt p b end all → Passes a b l m [] → seen ≡ b
+    → Answers p (take (end - 1) seen) (take (all - end) (drop end seen)) q said × AppendsPrefix o o' said
+    → StopsWithin p a l m o o'
+stops_in_it {p} {a} {b} {l} {m} {o} {o'} q said end all seen here passes same told = record {
+  next = q;
+  asked = asked_at end all b;
+  said = said;
+  rest = drop all b;
+  does = does_it p q b said end all seen here same told.0;
+  passes = subst (λ t. Passes a t l m []) here.split passes;
+  written = told.1;
+}
+
+-- nothing more is asked
+pub ends_it : {p q r : Process} {a b c : List ℕ} {l m n o o' o'' : Option (List ℕ)}
+    → Continues p q a b l m o o' → EndsHere q r b c m n o' o'' → Continues p r a c l n o o''
+ends_it {p} {q} {r} {a} {b} {c} {l} {m} {n} {o} {o'} {o''} it here =
+    subst (λ x. Continues p x a c l n o o'') (sym here.process) (goes_by it here.passes here.written)
+
+-- ---- a fault is told
+
+reader_same : (A B : Type 0) (fault : ProcessFault) → tells_of_reader {A = A} (Err fault) ≡ tells_of_reader {A = B} (Err fault)
+reader_same A B Read = refl
+reader_same A B (Section fault) = refl
+reader_same A B (Log code line) = refl
+reader_same A B OtherLog = refl
+reader_same A B TooLong = refl
+reader_same A B Write = refl
+reader_same A B OutOfMemory = refl
+
+writer_same : (A B : Type 0) (fault : ProcessFault) → tells_of_writer {A = A} (Err fault) ≡ tells_of_writer {A = B} (Err fault)
+writer_same A B Read = refl
+writer_same A B (Section fault) = refl
+writer_same A B (Log code line) = refl
+writer_same A B OtherLog = refl
+writer_same A B TooLong = refl
+writer_same A B Write = refl
+writer_same A B OutOfMemory = refl
+
+-- no call had failed before
+pub reads_told : (A B : Type 0) (fault : ProcessFault) {read f g h : ℕ} → Reads {A = A} (Err fault) read g h → g ≡ f → Reads {A = B} (Err fault) read f h
+reads_told A B fault {read} {f} {g} {h} it same = record {
+  within = tt;
+  count = it.count ∙ ap (count_after (tells_of_reader {A = A} (Err fault))) same ∙ ap (λ b. count_after b f) (reader_same A B fault);
+}
+
+pub writes_told : (A B : Type 0) (fault : ProcessFault) {f g h : ℕ} → h ≡ count_after (tells_of_writer {A = A} (Err fault)) g → g ≡ f
+    → h ≡ count_after (tells_of_writer {A = B} (Err fault)) f
+writes_told A B fault {f} {g} {h} it same = it ∙ ap (count_after (tells_of_writer {A = A} (Err fault))) same ∙ ap (λ b. count_after b f) (writer_same A B fault)
+
+-- ---- the whole
+
+module _ {k : ProcessKind} {p : Process} {b : List ℕ} {l m o o' : Option (List ℕ)} (begun : HasBegun k p [] b l m) where
+  pub runs_of : {q : Process} {c : List ℕ} {n o'' : Option (List ℕ)} → Appends o o' (begun_text p) → Continues p q b c m n o' o'' → Runs k l n o o'' q c
+  runs_of {q} {c} {n} {o''} written it =
+      let all = passes_on begun.passes it.passes in
+      record {
+        bytes = all.came;
+        consumed = all.consumed;
+        said = begun_text p ++ it.said;
+        is_run = record {
+          begun = begun.text;
+          asked = it.asked;
+          joined = all.joined;
+          first = p;
+          begins = begun.begins;
+          answers = it.said;
+          serves = it.serves;
+          is_said = refl;
+        };
+        written = Appends-trans o o' o'' (begun_text p) it.said written it.written;
+      }
+
+  pub ends_of : {q : Process} {c : List ℕ} {n o'' : Option (List ℕ)} → Appends o o' (begun_text p)
+      → Continues p q b c m n o' o'' × IsAtEnd n × IsTorn q c → RunsToEnd k l n o o''
+  ends_of {q} {c} {n} {o''} written it = record { last = q; piece = c; runs = runs_of written it.0; end = it.1; torn = it.2 }
+
+  pub torn_first_of : AppendsPrefix o o' (begun_text p) → TornFirst k l m o o'
+  torn_first_of written = record {
+    begun = begun.text;
+    piece = b;
+    consumed = subst (Consumes l m) begun.passes.joined begun.passes.consumed;
+    first = p;
+    begins = begun.begins;
+    written = written;
+  }
+
+  pub torn_later_of : {n o'' : Option (List ℕ)} → Appends o o' (begun_text p) → ContinuesWithin p b m n o' o'' → TornLater k l n o o''
+  torn_later_of {n} {o''} written it = record {
+    last = it.last;
+    asked = it.stops.asked;
+    piece = it.stops.rest;
+    between = it.between;
+    runs = runs_of written (goes_by it.continues it.stops.passes refl);
+    next = it.stops.next;
+    one = it.stops.said;
+    does = it.stops.does;
+    written = it.stops.written;
+  }
+
+pub on_ok : {A E P Q : Type 0} (r : Result A E) → (P → Q) → OnOk r P → OnOk r Q
+on_ok (Ok x) so p = so p
+on_ok (Err e) so p = tt
+
+pub on_err : {A E : Type 0} {P Q : E → Type 0} (r : Result A E) → ((e : E) → P e → Q e) → IfErr r P → IfErr r Q
+on_err (Ok x) so p = tt
+on_err (Err e) so p = so e p

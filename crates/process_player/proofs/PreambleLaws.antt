@@ -1,0 +1,68 @@
+-- What a preamble that was read tells, and where it is refused.
+use Rattle.std.proofs.Common.{◌≡◌, ℕ, List, Result, Ok, Err, ap, ◌∙◌}
+use Rattle.metering_model.specs.FirstFailure.{◌>>=◌}
+use Rattle.metering_model.specs.BatchReading.{is_same}
+use Rattle.metering_model.specs.Sheet.{Sheet}
+use Rattle.metering_model.specs.Transcript.{line}
+use Rattle.metering_model.proofs.StepLaws.{ok_same, ok_step_from, step_ok, test_step}
+use Rattle.input_sections.specs.declared.faults.ScheduleFault.{ScheduleFault}
+use Rattle.input_sections.specs.declared.faults.ScheduleFault.TheVariants.{Refused}
+use Rattle.input_sections.specs.declared.faults.ScheduleCode.TheVariants as code
+use Rattle.input_sections.specs.Sections.{Unread, first_line, issuer_section, sheet_section, told, whole_of}
+use Rattle.log_text.specs.LogText.{IsLogHead, ReadLog, log_in}
+use Rattle.log_text.proofs.KeptFirst.{log_has_text}
+use Rattle.log_text.proofs.LogLaws.{log_read}
+use Rattle.process_player.specs.declared.heads.ProcessKind.{ProcessKind}
+use Rattle.process_player.specs.Starts.{Preamble, head_of, is_kind_of, kind_word, own_of, preamble_in}
+
+-- ---- where the issuer is refused
+
+err_step_from : {A B E : Type 0} (r : Result A E) (f : A → Result B E) (e : E) → r ≡ Err e → (r >>= f) ≡ Err e
+err_step_from r f e h = ap (λ s. s >>= f) h
+
+pub issuer_refused : (k : ProcessKind) (text : List ℕ) (u : Unread) (h : ReadLog × Unread) (s : Sheet × Unread) (fault : ScheduleFault)
+    → whole_of text ≡ Ok u → head_of k u ≡ Ok h → sheet_section h.1 ≡ Ok s → issuer_section s.1 ≡ Err fault → preamble_in k text ≡ Err fault
+unfolding preamble_in
+issuer_refused k text u h s fault whole head sheet issuer =
+    ok_step_from (whole_of text) _ u _ whole
+    (ok_step_from (head_of k u) _ h _ head
+    (ok_step_from (sheet_section h.1) _ s _ sheet
+    (err_step_from (issuer_section s.1) _ fault issuer)))
+
+-- ---- its own line heads a log
+
+told_ok : {A E : Type 0} (fault : ScheduleFault) (r : Result A E) (x : A) → told fault r ≡ Ok x → r ≡ Ok x
+told_ok fault (Ok y) x h = ap Ok (ok_same {E = ScheduleFault} y x h)
+told_ok fault (Err e) x h = absurd (cc)
+
+abbrev pub IsLogRead : ReadLog → Type 0
+IsLogRead r = (text : List ℕ) × (log_in text ≡ Ok r)
+
+own_log : (k : ProcessKind) (u : Unread) (r : ReadLog × Unread) → own_of k u ≡ Ok r → IsLogRead r.0
+own_log k u r h =
+    let l = step_ok (first_line code.Nodes u) _ r h in
+    let own = step_ok (told (Refused code.Nodes 2) (log_in (line l.0.0))) _ r l.2 in
+    let kind = test_step (is_kind_of k own.0.head.who) _ _ r own.2 in
+    (line l.0.0, told_ok (Refused code.Nodes 2) (log_in (line l.0.0)) own.0 own.1 ∙ ap Ok (ap (λ (q : ReadLog × Unread). q.0) (ok_same _ _ kind.1)))
+
+head_log : (k : ProcessKind) (u : Unread) (r : ReadLog × Unread) → head_of k u ≡ Ok r → IsLogRead r.0
+head_log k u r h =
+    let l = step_ok (first_line code.Head u) _ r h in
+    let test = test_step (is_same l.0.0 (kind_word k)) _ _ r l.2 in
+    own_log k l.0.1 r test.1
+
+pub preamble_log : (k : ProcessKind) (text : List ℕ) (p : Preamble) → preamble_in k text ≡ Ok p → IsLogRead p.own
+unfolding preamble_in
+preamble_log k text p h =
+    let whole = step_ok (whole_of text) _ p h in
+    let head = step_ok (head_of k whole.0) _ p whole.2 in
+    let sheet = step_ok (sheet_section head.0.1) _ p head.2 in
+    let issuer = step_ok (issuer_section sheet.0.1) _ p sheet.2 in
+    let own = head_log k whole.0 head.0 head.1 in
+    (own.0, own.1 ∙ ap Ok (ap (λ (q : Preamble). q.own) (ok_same _ _ issuer.2)))
+
+-- what is read of a log is within its limits, and of as many agents as its head says
+pub log_limits : (r : ReadLog) → IsLogRead r → IsLogHead r.head × (r.kept.agents ≡ r.head.agents)
+log_limits r it =
+    let is = log_read it.0 r it.1 in
+    (is.3.head, ap (λ k. k.agents) is.4 ∙ (log_has_text r.head is.0 is.1 is.3).1)

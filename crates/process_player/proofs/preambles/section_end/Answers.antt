@@ -1,0 +1,44 @@
+-- A line that is there has its line feed, and says how many lines stand below it.
+use Rattle.std.proofs.Common.{◌+◌, ◌-◌, ◌≤◌, Some, take, drop, sym, ap, ◌∙◌, arith}
+use Rattle.input_sections.specs.Sections.{number_behind}
+use Rattle.line_source.specs.Lines.{AreBetween}
+use Rattle.process_player.proofs.Between.{between_long}
+use Rattle.process_player.proofs.Ends.{not_said, section_found}
+use Rattle.process_player.proofs.Passing.{passes_more, passes_of}
+use Rattle.process_player.proofs.preambles.section_end.Given as given
+use Rattle.process_player.proofs.preambles.section_end.Goals.{In-Some}
+use Rattle.process_player.proofs.preambles.section_end.Goals as goal
+
+line_there : (g : given.Over) (c : In-Some g) → AreBetween c.args.from c.in-Some.opening c.lines_end.new.unread.bytes 1
+line_there g c = rw c.in-Some.is at c.in_ok-opening.ensures.found
+
+behind : (g : given.Over) (c : In-Some g) → c.args.from + 1 ≤ c.in-Some.opening
+behind g c = between_long (line_there g c)
+
+pub overflow_sub-opening : goal.overflow_sub-opening
+overflow_sub-opening g c = omega (arith, behind g (goal.at.overflow_sub-opening g c).In-Some)
+
+pub slice_bounds-number_behind-count : goal.slice_bounds-number_behind-count
+slice_bounds-number_behind-count g c = omega (arith, behind g (goal.at.slice_bounds-number_behind-count g c).In-Some)
+
+pub slice_bounds-number_behind-start : goal.slice_bounds-number_behind-start
+slice_bounds-number_behind-start g c = omega (arith, behind g (goal.at.slice_bounds-number_behind-start g c).In-Some)
+
+pub returns-in_default-number_behind-clause-found : goal.returns-in_default-number_behind-clause-found
+returns-in_default-number_behind-clause-found g c =
+    let from = c.args.from in
+    let opening = c.in-Some.opening in
+    let none = ap (λ t. number_behind c.args.word.now c.args.most (take (opening - 1 - from) (drop from t))) (sym c.ahead.ensures) ∙ sym c.in_default-number_behind.ensures.value in
+    not_said (line_there g (goal.at.returns-in_default-number_behind-clause-found g c).In-Some) c.args.word.now c.args.most none
+
+pub returns-clause-found : goal.returns-clause-found
+returns-clause-found g c =
+    let from = c.args.from in
+    let opening = c.in-Some.opening in
+    let said =
+    ap (λ t. number_behind c.args.word.now c.args.most (take (opening - 1 - from) (drop from t))) (sym c.ahead.ensures) ∙ sym c.in-Some-number_behind.ensures.value
+    ∙ ap Some (sym c.from.ensures) in
+    section_found (line_there g (goal.at.returns-clause-found g c).In-Some) c.args.word.now c.args.most c.from.result c.in_ok-end.end said (passes_of c.lines_end-2.ensures.takes) c.in_ok-end.ensures.found
+
+pub returns-clause-passes : goal.returns-clause-passes
+returns-clause-passes g c = passes_more (passes_of c.in_ok-opening.ensures.takes) (passes_of c.lines_end-2.ensures.takes)

@@ -1,0 +1,26 @@
+use Rattle.std.proofs.Common.{[], subst, inr}
+use Rattle.process_player.specs.Inner.Reading.{HasBegun}
+use Rattle.process_player.proofs.Commands.{ends_of, on_err, on_ok, runs_of, torn_later_of}
+use Rattle.process_player.proofs.serving.process_text.Given as given
+use Rattle.process_player.proofs.serving.process_text.Goals.{After-drop-unread-inside-in-Ok-write_begun}
+use Rattle.process_player.proofs.serving.process_text.Goals as goal
+
+begun : (g : given.Over) (c : After-drop-unread-inside-in-Ok-write_begun g)
+    → HasBegun c.args.kind c.in-Ok.process [] c.begin.new.unread.bytes (g.R.Source.remaining c.args.reader.now) (g.R.Source.remaining c.begin.new.source)
+begun g c =
+    subst (λ a. HasBegun c.args.kind c.in-Ok.process a c.begin.new.unread.bytes (g.R.Source.remaining c.args.reader.now) (g.R.Source.remaining c.begin.new.source))
+    c.new-unread.ensures.bytes c.in-Ok.ensures.begun
+
+pub returns-in-Ok-write_begun-clause-done : goal.returns-in-Ok-write_begun-clause-done
+returns-in-Ok-write_begun-clause-done g c = on_ok c.serve.result (ends_of (begun g c) c.in-Ok-write_begun.ensures.written) c.serve.ensures.ended
+
+pub returns-in-Ok-write_begun-clause-whole : goal.returns-in-Ok-write_begun-clause-whole
+returns-in-Ok-write_begun-clause-whole g c =
+    on_err c.serve.result
+    (λ fault it other.
+    let so = it other in
+    inr (so.0, c.serve.new.unread.bytes, runs_of (begun g c) c.in-Ok-write_begun.ensures.written so.1))
+    c.serve.ensures.stopped
+
+pub returns-in-Ok-write_begun-clause-torn : goal.returns-in-Ok-write_begun-clause-torn
+returns-in-Ok-write_begun-clause-torn g c is = inr (torn_later_of (begun g c) c.in-Ok-write_begun.ensures.written (c.serve.ensures.torn is))

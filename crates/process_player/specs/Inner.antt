@@ -1,0 +1,6 @@
+-- Words that the public clauses don't cite.
+pub mod Calls
+pub mod Reading
+pub mod Told
+pub mod Groups
+pub mod Fronts

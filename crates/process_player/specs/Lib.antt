@@ -1,0 +1,4 @@
+pub mod Faults
+pub mod Starts
+pub mod Runs
+pub mod Inner

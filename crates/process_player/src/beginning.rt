@@ -1,0 +1,110 @@
+//! A process is begun, by what a stream gives first.
+
+ghost use Rattle.std.specs.Prelude.{◌≡◌, ◌≤◌, IfOk, IfSome, unwrap_or, ◌≢◌, Err};
+ghost use Rattle.process_player.specs.declared.faults.ProcessFault.{ProcessFault};
+ghost use Rattle.metering_model.specs.Limits.{most_transcript_bytes};
+ghost use Rattle.log_text.specs.Heads.{who_of};
+ghost use Rattle.log_text.specs.LogText.{IsLogHead};
+ghost use Rattle.process_player.specs.Starts.{GoesOn};
+ghost use Rattle.process_player.specs.Inner.Calls.{Reads};
+ghost use Rattle.process_player.specs.Inner.Groups.{IsAmong};
+ghost use Rattle.process_player.specs.Inner.Reading.{HasBegun};
+
+use crate::faults::ProcessFault;
+use crate::heads::ProcessKind;
+use crate::preambles::{Preamble, read_preamble};
+use crate::stored::read_stored;
+use counted_io::Source;
+use group_process::{AgentProcess, Group, NodeProcess};
+use input_sections::{Issuer, Sheet};
+use line_source::Unread;
+use log_text::{Log, LogHead, Who};
+use node_kept::Kept;
+use process_text::Process;
+use std::alloc::{AllocError, Global};
+use std::sync::Arc;
+
+/// The group of a head, a sheet and an issuer.
+fn group_of(
+    alloc: Global,
+    head: &LogHead,
+    sheet: Sheet,
+    issuer: Issuer,
+) -> Result<Group, AllocError>
+    requires { IsLogHead head.now }
+    ensures { IfOk result (λ group. group ≡ record {
+      name = head.now.group;
+      voters = head.now.voters;
+      observers = head.now.observers;
+      agents = head.now.agents;
+      sheet = sheet;
+      issuer = issuer;
+    }) }
+{
+    let Ok(sheet) = Arc::new(alloc, sheet) else {
+        return Err(AllocError);
+    };
+    let Ok(issuer) = Arc::new(alloc, issuer) else {
+        return Err(AllocError);
+    };
+    let (voters, observers, agents) = (head.voters(), head.observers(), head.agents());
+    Ok(Group::new(head.group(), voters, observers, agents, sheet, issuer))
+}
+
+/// The process that goes on with what is kept. None where that is no journal of the agent that it is.
+fn process_of(alloc: Global, group: Group, who: Who, kept: Kept) -> Option<Process>
+    requires kept { kept.agents ≡ group.agents }
+    requires who { IsAmong group (who_of who) }
+    ensures { IfSome result (GoesOn group (who_of who) kept) }
+{
+    match who {
+        Who::Node(number) => Some(Process::Node(NodeProcess::go_on(alloc, group, number, kept))),
+        Who::Agent(number) => {
+            let agent = AgentProcess::go_on(group, number, kept)?;
+            Some(Process::Agent(agent))
+        }
+    }
+}
+
+/// What was stored last: what a process keeps that has stored nothing, where nothing was.
+fn kept_or(stored: Option<Kept>, own: Log) -> Kept
+    ensures { result ≡ unwrap_or stored own.kept }
+{
+    match stored {
+        Some(kept) => kept,
+        None => own.into_kept(),
+    }
+}
+
+/// Reads with what a process is begun, takes it, and begins the process.
+pub(crate) fn begin<S: Source>(
+    alloc: Global,
+    kind: ProcessKind,
+    unread: &mut Unread,
+    source: &mut S,
+) -> Result<Process, ProcessFault>
+    requires { unread.old.read ≤ most_transcript_bytes }
+    ensures begun { IfOk result (λ process. HasBegun kind process unread.old.bytes
+        unread.new.bytes (S.remaining source.old) (S.remaining source.new)) }
+    ensures reads { Reads result unread.new.read (S.failed_calls source.old)
+        (S.failed_calls source.new) }
+    ensures no_write { result ≢ Err ProcessFault.Write }
+{
+    let preamble = read_preamble(alloc, kind, unread, source)?;
+    let stored = read_stored(alloc, &preamble.own, preamble.line, unread, source)?;
+    let Preamble {
+        own,
+        sheet,
+        issuer,
+        ..
+    } = preamble;
+    let who = own.head().who();
+    let Ok(group) = group_of(alloc, own.head(), sheet, issuer) else {
+        return Err(ProcessFault::OutOfMemory);
+    };
+    let kept = kept_or(stored, own);
+    match process_of(alloc, group, who, kept) {
+        Some(process) => Ok(process),
+        None => Err(ProcessFault::OtherLog),
+    }
+}

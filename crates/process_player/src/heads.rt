@@ -1,0 +1,117 @@
+//! What stands first: of which kind a process is, and its own line, the head of each of its logs.
+
+ghost use Rattle.std.specs.Prelude.{◌≡◌, ◌≢◌, IfErr, IfOk, IsErr, Ok, Err};
+ghost use Rattle.metering_model.specs.Transcript.{line};
+ghost use Rattle.input_sections.specs.declared.faults.ScheduleFault.{ScheduleFault};
+ghost use Rattle.log_text.specs.Heads.{who_of};
+ghost use Rattle.log_text.specs.LogText.{log_in};
+ghost use Rattle.process_player.specs.Starts.{head_of, is_kind_of, kind_word, own_of};
+
+use byte_text::is_same;
+use input_sections::{ScheduleCode, ScheduleFault, Unread};
+use log_text::{Log, LogFault, Who, read_log};
+use std::alloc::{AllocError, Global};
+
+/// Of which kind a process is.
+#[derive(Clone, Copy, Debug, PartialEq, Eq)]
+pub enum ProcessKind {
+    /// A node: its input begins with the line `NODE 1`.
+    Node,
+    /// An agent: its input begins with the line `AGENT 1`.
+    Agent,
+}
+
+/// The first line of all.
+fn first_word(kind: ProcessKind) -> &'static [u8]
+    ensures { result.now ≡ kind_word kind }
+{
+    match kind {
+        ProcessKind::Node => b"NODE 1",
+        ProcessKind::Agent => b"AGENT 1",
+    }
+}
+
+/// Whether that one is of the kind.
+fn is_kind_of(kind: ProcessKind, who: Who) -> bool
+    ensures { result ≡ is_kind_of kind (who_of who) }
+{
+    match (kind, who) {
+        (ProcessKind::Node, Who::Node(_)) => true,
+        (ProcessKind::Agent, Who::Agent(_)) => true,
+        _ => false,
+    }
+}
+
+/// A line with its line feed.
+fn whole_line(alloc: Global, text: &[u8]) -> Result<Vec<u8>, AllocError>
+    ensures { IfOk result (λ whole. whole.items ≡ line text.now) }
+{
+    let mut whole = Vec::from_slice(alloc, text)?;
+    whole.extend_from_slice(b"\n")?;
+    Ok(whole)
+}
+
+/// The second line is none that heads a log of such a process.
+fn other_head() -> ScheduleFault
+    ensures { result ≡ ScheduleFault.Refused ScheduleCode.Nodes 2 }
+{
+    ScheduleFault::Refused {
+        code: ScheduleCode::Nodes,
+        line: 2,
+    }
+}
+
+/// The log that a line is which heads one.
+fn log_of_line(alloc: Global, text: &[u8]) -> Result<Log, ScheduleFault>
+    ensures read { IfOk result (λ own. log_in (line text.now) ≡ Ok own) }
+    ensures refused { IfErr result (λ fault. fault ≢ ScheduleFault.OutOfMemory
+        → (fault ≡ ScheduleFault.Refused ScheduleCode.Nodes 2) × IsErr (log_in (line text.now))) }
+{
+    let Ok(whole) = whole_line(alloc, text) else {
+        return Err(ScheduleFault::OutOfMemory);
+    };
+    match read_log(alloc, &whole) {
+        Ok(own) => Ok(own),
+        Err(LogFault::Refused { .. }) => Err(other_head()),
+        Err(LogFault::OutOfMemory) => Err(ScheduleFault::OutOfMemory),
+    }
+}
+
+/// The log of a process that has stored nothing, and what is left behind its line.
+fn read_own<'a>(
+    alloc: Global,
+    kind: ProcessKind,
+    unread: &Unread<'a>,
+) -> Result<(Log, Unread<'a>), ScheduleFault>
+    ensures read { IfOk result (λ r. own_of kind unread.now ≡ Ok (r.0, r.1)) }
+    ensures refused { IfErr result
+        (λ fault. fault ≢ ScheduleFault.OutOfMemory → own_of kind unread.now ≡ Err fault) }
+{
+    let (text, rest) = unread.first_line(ScheduleCode::Nodes)?;
+    let own = log_of_line(alloc, text)?;
+    if is_kind_of(kind, own.head().who()) {
+        Ok((own, rest))
+    } else {
+        Err(other_head())
+    }
+}
+
+/// Reads what stands first.
+pub(crate) fn read_head<'a>(
+    alloc: Global,
+    kind: ProcessKind,
+    unread: &Unread<'a>,
+) -> Result<(Log, Unread<'a>), ScheduleFault>
+    ensures read { IfOk result (λ r. head_of kind unread.now ≡ Ok (r.0, r.1)) }
+    ensures refused { IfErr result
+        (λ fault. fault ≢ ScheduleFault.OutOfMemory → head_of kind unread.now ≡ Err fault) }
+{
+    let (first, below) = unread.first_line(ScheduleCode::Head)?;
+    if !is_same(first, first_word(kind)) {
+        return Err(ScheduleFault::Refused {
+            code: ScheduleCode::Head,
+            line: 1,
+        });
+    }
+    read_own(alloc, kind, &below)
+}

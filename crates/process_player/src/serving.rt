@@ -1,0 +1,239 @@
+//! A process is asked, and answers, command by command.
+
+ghost use Rattle.std.specs.Prelude.{◌≡◌, ◌≢◌, ℕ, List, ◌≤◌, ◌⊎◌, [], Ok, Err, IfErr, OnOk, IfOk, MatchOption, false, true, is_err};
+ghost use Rattle.std.specs.Io.KnownBytes.{Appends, IsAtEnd};
+ghost use Rattle.metering_model.specs.Limits.{most_transcript_bytes};
+ghost use Rattle.counted_io.specs.Counts.{count_after};
+ghost use Rattle.counted_io.specs.Writing.{AppendsPrefix};
+ghost use Rattle.process_text.specs.Answers.{Answers, begun_text};
+ghost use Rattle.process_text.specs.declared.processes.Process.{Process};
+ghost use Rattle.process_player.specs.declared.faults.ProcessFault.{ProcessFault};
+ghost use Rattle.process_player.specs.Faults.{IsRefusal, tells_of_reader, tells_of_writer};
+ghost use Rattle.process_player.specs.Runs.{Runs, RunsToEnd, RunsTorn};
+ghost use Rattle.process_player.specs.Inner.Calls.{IsOfReading, IsOfServing, Reads};
+ghost use Rattle.process_player.specs.Inner.Reading.{Continues, ContinuesWithin, EndsHere, IsCommandAt, IsTorn, Passes, ServesOne, StopsWithin};
+
+use crate::beginning::begin;
+use crate::faults::ProcessFault;
+use crate::heads::ProcessKind;
+use counted_io::{Sink, Source, write_all};
+use line_source::{Unread, lines_end};
+use process_text::Process;
+use std::alloc::Global;
+
+/// No process is asked more often: a number that no process lives to see, since each call returns.
+const MOST_COMMANDS: u64 = 9_223_372_036_854_775_808;
+
+/// Makes the text what the process answers to what is ahead, of which a line ends at the one place and what belongs to it at
+/// the other; and writes it, in one write where the sink takes all.
+fn answer<W: Sink>(
+    alloc: Global,
+    process: &mut Process,
+    line: &[u8],
+    below: &[u8],
+    text: &mut Vec<u8>,
+    writer: &mut W,
+) -> Result<(), ProcessFault>
+    ensures answered { OnOk result
+        (Answers process.old line.now below.now process.new text.new.items
+        × Appends (W.contents writer.old) (W.contents writer.new) text.new.items) }
+    ensures torn { result ≡ Err ProcessFault.Write
+        → Answers process.old line.now below.now process.new text.new.items
+        × AppendsPrefix (W.contents writer.old) (W.contents writer.new) text.new.items }
+    ensures others { IfErr result (λ fault. fault ≢ ProcessFault.Write
+        → (fault ≡ ProcessFault.OutOfMemory) × (writer.new ≡ writer.old)) }
+    ensures count { W.failed_calls writer.new
+        ≡ count_after (tells_of_writer result) (W.failed_calls writer.old) }
+{
+    let Ok(()) = process.answer(alloc, line, below, text) else {
+        return Err(ProcessFault::OutOfMemory);
+    };
+    match write_all(writer, text) {
+        Ok(()) => Ok(()),
+        Err(_) => Err(ProcessFault::Write),
+    }
+}
+
+/// Reads until a command of the process is ahead, and returns where its first line ends, behind the line feed, and where all of
+/// it does: None where the input ends before.
+fn next_command<S: Source>(
+    process: &Process,
+    unread: &mut Unread,
+    source: &mut S,
+) -> Result<Option<(usize, usize)>, ProcessFault>
+    requires { unread.old.read ≤ most_transcript_bytes }
+    ensures passes { Passes unread.old.bytes unread.new.bytes
+        (S.remaining source.old) (S.remaining source.new) [] }
+    ensures found { IfOk result (λ found. MatchOption found
+        (IsAtEnd (S.remaining source.new) × IsTorn process.now unread.new.bytes)
+        (λ ends. IsCommandAt process.now unread.new.bytes ends.0 ends.1)) }
+    ensures reads { Reads result unread.new.read (S.failed_calls source.old)
+        (S.failed_calls source.new) }
+    ensures others { IfErr result (λ fault. IsOfReading fault) }
+{
+    unread.mark();
+    let Some(end) = lines_end(unread, source, 0, 1)? else {
+        return Ok(None);
+    };
+    let lines = process.lines_below(&unread.ahead()[..end - 1]);
+    let Some(all) = lines_end(unread, source, end, u64::from(lines))? else {
+        return Ok(None);
+    };
+    Ok(Some((end, all)))
+}
+
+/// Has the process do what it is asked next, writes what it answers, and takes what it was asked. It returns whether it was
+/// asked: it isn't where the input ends, also within a command.
+fn serve_one<S: Source, W: Sink>(
+    alloc: Global,
+    process: &mut Process,
+    unread: &mut Unread,
+    source: &mut S,
+    text: &mut Vec<u8>,
+    writer: &mut W,
+) -> Result<bool, ProcessFault>
+    requires { unread.old.read ≤ most_transcript_bytes }
+    ensures served { result ≡ Ok true → ServesOne process.old process.new
+        unread.old.bytes unread.new.bytes (S.remaining source.old) (S.remaining source.new)
+        (W.contents writer.old) (W.contents writer.new) }
+    ensures ended { result ≡ Ok false → EndsHere process.old process.new
+        unread.old.bytes unread.new.bytes (S.remaining source.old) (S.remaining source.new)
+        (W.contents writer.old) (W.contents writer.new) }
+    ensures stopped { IfErr result (λ fault. fault ≢ ProcessFault.Write
+        → (W.contents writer.new ≡ W.contents writer.old)
+        × Passes unread.old.bytes unread.new.bytes
+        (S.remaining source.old) (S.remaining source.new) []) }
+    ensures torn { result ≡ Err ProcessFault.Write → StopsWithin process.old
+        unread.old.bytes (S.remaining source.old) (S.remaining source.new)
+        (W.contents writer.old) (W.contents writer.new) }
+    ensures reads { Reads result unread.new.read (S.failed_calls source.old)
+        (S.failed_calls source.new) }
+    ensures writes { W.failed_calls writer.new
+        ≡ count_after (tells_of_writer result) (W.failed_calls writer.old) }
+    ensures others { IfErr result (λ fault. IsOfServing fault) }
+{
+    let Some((end, all)) = next_command(process, unread, source)? else {
+        return Ok(false);
+    };
+    let ahead = unread.ahead();
+    answer(
+        alloc,
+        process,
+        &ahead[..end - 1],
+        &ahead[end..all],
+        text,
+        writer,
+    )?;
+    unread.take(all);
+    Ok(true)
+}
+
+/// Has the process do all that it is asked, until the input ends.
+fn serve<S: Source, W: Sink>(
+    alloc: Global,
+    process: &mut Process,
+    unread: &mut Unread,
+    source: &mut S,
+    text: &mut Vec<u8>,
+    writer: &mut W,
+) -> Result<(), ProcessFault>
+    requires { unread.old.read ≤ most_transcript_bytes }
+    ensures ended { OnOk result (Continues process.old process.new
+        unread.old.bytes unread.new.bytes (S.remaining source.old) (S.remaining source.new)
+        (W.contents writer.old) (W.contents writer.new)
+        × IsAtEnd (S.remaining source.new) × IsTorn process.new unread.new.bytes) }
+    ensures stopped { IfErr result (λ fault. fault ≢ ProcessFault.Write
+        → (last : Process) × Continues process.old last
+        unread.old.bytes unread.new.bytes (S.remaining source.old) (S.remaining source.new)
+        (W.contents writer.old) (W.contents writer.new)) }
+    ensures torn { result ≡ Err ProcessFault.Write → ContinuesWithin process.old unread.old.bytes
+        (S.remaining source.old) (S.remaining source.new)
+        (W.contents writer.old) (W.contents writer.new) }
+    ensures reads { Reads result unread.new.read (S.failed_calls source.old)
+        (S.failed_calls source.new) }
+    ensures writes { W.failed_calls writer.new
+        ≡ count_after (tells_of_writer result) (W.failed_calls writer.old) }
+    ensures others { IfErr result (λ fault. IsOfServing fault) }
+{
+    for _ in 0..MOST_COMMANDS {
+        match serve_one(alloc, process, unread, source, text, writer) {
+            Ok(is_more) => {
+                if !is_more {
+                    return Ok(());
+                }
+            }
+            Err(fault) => return Err(fault),
+        }
+    }
+    Err(ProcessFault::TooLong)
+}
+
+/// Writes what a process says before it is asked.
+fn write_begun<W: Sink>(
+    process: &Process,
+    text: &mut Vec<u8>,
+    writer: &mut W,
+) -> Result<(), ProcessFault>
+    ensures written { OnOk result
+        (Appends (W.contents writer.old) (W.contents writer.new) (begun_text process.now)) }
+    ensures torn { result ≡ Err ProcessFault.Write
+        → AppendsPrefix (W.contents writer.old) (W.contents writer.new) (begun_text process.now) }
+    ensures others { IfErr result (λ fault. fault ≢ ProcessFault.Write
+        → (fault ≡ ProcessFault.OutOfMemory) × (writer.new ≡ writer.old)) }
+    ensures count { W.failed_calls writer.new
+        ≡ count_after (tells_of_writer result) (W.failed_calls writer.old) }
+{
+    let Ok(()) = process.put_begun(text) else {
+        return Err(ProcessFault::OutOfMemory);
+    };
+    match write_all(writer, text) {
+        Ok(()) => Ok(()),
+        Err(_) => Err(ProcessFault::Write),
+    }
+}
+
+/// Begins the process that a reader gives first, and has it do all that it is asked behind that: a command is read, done and
+/// answered before the next one is read. What a process is begun with, and each command, has at most 4,294,967,296 bytes.
+///
+/// With Ok the input has ended, perhaps within a command, which is not done then. After `Section`, `Log` and `OtherLog`, by
+/// which nothing is begun, nothing was written; after each other fault all answers but the last were, of which after `Write`
+/// a prefix was, and else nothing.
+pub fn process_text<R: Source, W: Sink>(
+    alloc: Global,
+    kind: ProcessKind,
+    reader: &mut R,
+    writer: &mut W,
+) -> Result<(), ProcessFault>
+    // With Ok all was done that the reader gave, and just its answers were written.
+    ensures done { OnOk result (RunsToEnd kind (R.remaining reader.old) (R.remaining reader.new)
+        (W.contents writer.old) (W.contents writer.new)) }
+
+    // What is refused begins nothing, and at another fault but `Write` whole answers stand, or nothing was begun.
+    ensures untouched { IfErr result (λ fault. IsRefusal fault → writer.new ≡ writer.old) }
+    ensures whole { IfErr result (λ fault. fault ≢ ProcessFault.Write
+        → (writer.new ≡ writer.old) ⊎ ((last : Process) × (piece : List ℕ)
+        × Runs kind (R.remaining reader.old) (R.remaining reader.new)
+        (W.contents writer.old) (W.contents writer.new) last piece)) }
+
+    // After `Write` a prefix of an answer stands behind whole ones.
+    ensures torn { result ≡ Err ProcessFault.Write
+        → RunsTorn kind (R.remaining reader.old) (R.remaining reader.new)
+        (W.contents writer.old) (W.contents writer.new) }
+
+    // `Read` and `Write` come of one failed call each, and no other call fails.
+    ensures reads { R.failed_calls reader.new
+        ≡ count_after (tells_of_reader result) (R.failed_calls reader.old) }
+    ensures writes { W.failed_calls writer.new
+        ≡ count_after (tells_of_writer result) (W.failed_calls writer.old) }
+{
+    let mut unread = Unread::new(alloc);
+    let mut process = match begin(alloc, kind, &mut unread, reader) {
+        Ok(process) => process,
+        Err(fault) => return Err(fault),
+    };
+    let mut text = Vec::new(alloc);
+    match write_begun(&process, &mut text, writer) {
+        Ok(()) => serve(alloc, &mut process, &mut unread, reader, &mut text, writer),
+        Err(fault) => Err(fault),
+    }
+}
