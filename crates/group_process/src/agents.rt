@@ -116,7 +116,8 @@ impl AgentProcess {
               group = group;
               number = number;
               journal = kept.kept.holding;
-            }) × (kept.kept ≡ journal_kept kept.kept.holding)) }
+            }) × (kept.kept ≡ journal_kept kept.kept.holding)
+            × (keeps_journal_of number kept.kept ≡ true)) }
     {
         let kept = kept.into_parts();
         if keeps_journal_of(number, &kept) {

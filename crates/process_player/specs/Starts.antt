@@ -12,6 +12,7 @@ use Rattle.input_sections.specs.declared.faults.ScheduleFault.TheVariants.{Refus
 use Rattle.input_sections.specs.declared.faults.ScheduleCode.TheVariants as code
 use Rattle.input_sections.specs.Sections.{Unread, first_line, left, whole_of, sheet_section, issuer_section, told}
 use Rattle.log_text.specs.LogText.{ReadLog, Who, NodeOf, AgentOf, log_in, most_kept_lines, section_in}
+use Rattle.group_process.specs.Journals.{keeps_journal_of}
 use Rattle.process_text.specs.declared.processes.Process.{Process}
 use Rattle.process_text.specs.declared.processes.Process.TheVariants as process
 use Rattle.process_player.specs.declared.heads.ProcessKind.{ProcessKind}
@@ -76,13 +77,14 @@ group_of p = record {
   issuer = p.issuer;
 }
 
--- the process that goes on with what is kept
+-- The process that goes on with what is kept: of an agent that is its journal alone, without a gap.
 abbrev pub GoesOn : laws.Group → Who → KeptAmong → Process → Type 0
 GoesOn g (NodeOf i) k (process.Node n) = n ≡ record { group = g; number = i; node = wake k.kept }
 GoesOn g (NodeOf i) k (process.Agent a) = ⊥
 GoesOn g (AgentOf a) k (process.Node n) = ⊥
 GoesOn g (AgentOf i) k (process.Agent a) =
     (a ≡ record { group = g; number = i; journal = k.kept.holding }) × (k.kept ≡ laws.journal_kept k.kept.holding)
+    × (keeps_journal_of i k.kept ≡ true)
 
 -- A process is begun by that text: its preamble, to the last byte, and what was stored.
 pub record Begins (k : ProcessKind) (text : List ℕ) (p : Process) : Type 0 where

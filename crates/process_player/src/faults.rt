@@ -22,10 +22,10 @@ pub enum ProcessFault {
     /// Its log is refused, at that line of the log.
     #[error("refused log: {code} line {line}")]
     Log { code: LogCode, line: u64 },
-    /// The log is another process's.
+    /// The log is another process's, or an agent's and no journal of it alone without a gap.
     #[error("refused log: of another process")]
     OtherLog,
-    /// With what a process is begun, or a command, has more than 4,294,967,296 bytes.
+    /// What was stored, or a command, has more than 4,294,967,296 bytes; or 2^63 commands were done.
     #[error("too long")]
     TooLong,
     /// A call of the writer failed.

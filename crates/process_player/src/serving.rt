@@ -192,12 +192,13 @@ fn write_begun<W: Sink>(
     }
 }
 
-/// Begins the process that a reader gives first, and has it do all that it is asked behind that: a command is read, done and
-/// answered before the next one is read. What a process is begun with, and each command, has at most 4,294,967,296 bytes.
+/// Begins the process that a reader gives first, and has it do all that it is asked behind that: a command is done and answered
+/// when all of it was read. Up to the issuer there are at most 16,777,216 bytes; what was stored, and a command, has at most
+/// 4,294,967,296.
 ///
 /// With Ok the input has ended, perhaps within a command, which is not done then. After `Section`, `Log` and `OtherLog`, by
-/// which nothing is begun, nothing was written; after each other fault all answers but the last were, of which after `Write`
-/// a prefix was, and else nothing.
+/// which nothing is begun, nothing was written; after each other fault whole answers of first commands were, and after `Write` a
+/// prefix of one behind them.
 pub fn process_text<R: Source, W: Sink>(
     alloc: Global,
     kind: ProcessKind,

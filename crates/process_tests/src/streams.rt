@@ -10,129 +10,240 @@ const NODE: &[u8] = b"NODE 1\nG1|prod-eu|node|0|1|0|1\n";
 
 const AGENT: &[u8] = b"AGENT 1\nG1|prod-eu|agent|1|1|0|1\n";
 
-/// A node that closes January by itself, and what it answers up to the file.
-const ASKED: &[u8] =
-    b"new\nstart\npacket 1\nP1|prod-eu|prepare|0|1\npacket 1\nP1|prod-eu|promise|0|0|1|0\n\
-packet 1\nP1|prod-eu|accept|0|1|1\npacket 1\nP1|prod-eu|accepted|0|0|1|1\npacket 1\nP1|other|prepare|0|1\n\
-packet 1\nno packet\njournal 1\nexport 1\nexport 0\n";
+/// A node that gets a batch and closes January by itself.
+const BATCH: &[u8] = b"new\npacket 3\nP1|prod-eu|batch|2\n";
 
-const TOLD: &[u8] = b"begun period 0 round 0\n\
+const MONTH: &[u8] =
+    b"start\npacket 1\nP1|prod-eu|prepare|0|1\npacket 1\nP1|prod-eu|promise|0|0|1|0\n\
+packet 1\nP1|prod-eu|accept|0|1|1\npacket 1\nP1|prod-eu|accepted|0|0|1|1\npacket 1\nP1|other|prepare|0|1\n\
+packet 1\nno packet\nstop\nexport 1\nexport 0\n";
+
+/// What it answers to them, up to the file.
+const TOLD_OF_BATCH: &[u8] = b"begun period 0 round 0\nkept 3\nbatch 2\n";
+
+const TOLD_OF_MONTH: &[u8] = b"delivered\n\
 kept 1\nround|1\nsend all 1\nP1|prod-eu|prepare|0|1\nstarted ballot 1\n\
 kept 1\nballot|0|1|0\nsend 0 1\nP1|prod-eu|promise|0|0|1|0\ndelivered\n\
-send all 1\nP1|prod-eu|accept|0|1|0\ndelivered\n\
+send all 1\nP1|prod-eu|accept|0|1|1\ndelivered\n\
 kept 1\nballot|0|1|1|1\nsend all 1\nP1|prod-eu|accepted|0|0|1|1\ndelivered\n\
 kept 1\nlearned|0|1\ndelivered learned 0\nrefused G16\nrefused G16\nrefused L6\n\
-refused G7 learned 1\nrefused G8 agent 1 seq 1\n";
+refused G7 learned 1\nexported period 0 lines 2\n";
 
-/// An input of these parts.
-fn joined(alloc: Global, head: &[u8], asked: &[u8]) -> Result<Vec<u8>, AllocError> {
-    let mut input = Vec::from_slice(alloc, head)?;
-    input.extend_from_slice(SECTIONS)?;
-    input.extend_from_slice(asked)?;
-    Ok(input)
+/// The node begun again with its log, which is its head line and what it kept above.
+const LOG: &[u8] = b"log 8\nG1|prod-eu|node|0|1|0|1\nbatch 2\n";
+
+const LOG_BEHIND: &[u8] = b"round|1\nballot|0|1|0\nballot|0|1|1|1\nlearned|0|1\nexport 0\n";
+
+const TOLD_AGAIN: &[u8] = b"begun period 1 round 1\nexported period 0 lines 2\n";
+
+/// All of these, one after the other, in room for about so many bytes as each has here.
+fn joined(alloc: Global, parts: &[&[u8]]) -> Result<Vec<u8>, AllocError> {
+    let mut text = Vec::with_capacity(alloc, 4_096)?;
+    for part in parts {
+        text.extend_from_slice(part)?;
+    }
+    Ok(text)
 }
 
-/// What a process of the kind answers to an input, and how it ended; None where an allocation for the writer failed.
+/// What a process of the kind answers to an input, and how it ended.
 fn answers(alloc: Global, kind: ProcessKind, input: &[u8]) -> (Vec<u8>, Result<(), ProcessFault>) {
-    let mut reader = Counted::new(FakeReader::new(input).byte_by_byte());
+    let mut reader = Counted::new(FakeReader::new(input));
     let mut writer = Counted::new(FakeWriter::new(Vec::new(alloc)));
     let ended = process_text(alloc, kind, &mut reader, &mut writer);
     (writer.into_inner().taken, ended)
 }
 
-/// Whether a process of the kind answers just that to an input of these parts.
-fn is_told(alloc: Global, kind: ProcessKind, head: &[u8], asked: &[u8], told: &[u8]) -> bool {
-    let Ok(input) = joined(alloc, head, asked) else {
-        return false;
-    };
-    let (written, ended) = answers(alloc, kind, &input);
+/// Whether a process of the kind answers just that to an input.
+fn is_told(alloc: Global, kind: ProcessKind, input: &[u8], told: &[u8]) -> bool {
+    let (written, ended) = answers(alloc, kind, input);
     ended == Ok(()) && written.as_slice() == told
 }
 
-#[test]
-fn a_node_closes_a_month(rt: HostRuntime) {
-    assert!(rt; is_told(rt.alloc(), ProcessKind::Node, NODE, ASKED, TOLD));
-}
-
-/// An agent that journals a batch, once, and sends it again.
-const JOURNALED: &[u8] = b"new\njournal 2\n";
-
-const AGAIN: &[u8] = b"journal 2\n";
-
-const LAST: &[u8] = b"again 1\nagain 2\nstart\n";
-
-#[test]
-fn an_agent_journals_a_batch(rt: HostRuntime) {
-    let alloc = rt.alloc();
-    assert!(rt; is_journaled(alloc));
-}
-
-/// The input of that agent.
-fn agent_input(alloc: Global) -> Result<Vec<u8>, AllocError> {
-    let mut input = joined(alloc, AGENT, JOURNALED)?;
-    input.extend_from_slice(READ)?;
-    input.extend_from_slice(AGAIN)?;
-    input.extend_from_slice(READ)?;
-    input.extend_from_slice(LAST)?;
-    Ok(input)
-}
-
-/// What it answers.
-fn agent_answers(alloc: Global) -> Result<Vec<u8>, AllocError> {
-    let mut told = Vec::from_slice(alloc, b"begun seq 1\nkept 3\nbatch 2\n")?;
-    told.extend_from_slice(READ)?;
-    told.extend_from_slice(b"send all 3\nP1|prod-eu|batch|2\n")?;
-    told.extend_from_slice(READ)?;
-    told.extend_from_slice(
-        b"journaled seq 1\nrefused G2 wanted 2\nsend all 3\nP1|prod-eu|batch|2\n",
-    )?;
-    told.extend_from_slice(READ)?;
-    told.extend_from_slice(b"sent\nrefused G8 agent 1 seq 2\nrefused L6\n")?;
-    Ok(told)
-}
-
-fn is_journaled(alloc: Global) -> bool {
-    match (agent_input(alloc), agent_answers(alloc)) {
-        (Ok(input), Ok(told)) => {
-            let (written, ended) = answers(alloc, ProcessKind::Agent, &input);
-            ended == Ok(()) && written.as_slice() == told.as_slice()
-        }
+/// The same of an input and an answer of these parts.
+fn are_told(alloc: Global, kind: ProcessKind, parts: &[&[u8]], told: &[&[u8]]) -> bool {
+    match (joined(alloc, parts), joined(alloc, told)) {
+        (Ok(input), Ok(told)) => is_told(alloc, kind, &input, &told),
         _ => false,
     }
 }
 
-/// Whether a node whose read of that number fails ends so, behind whole answers or a piece of none.
-fn fails_at_read(alloc: Global, input: &[u8], call: u64) -> bool {
-    let mut reader = Counted::new(FakeReader::new(input).byte_by_byte().failing_at(call));
-    let mut writer = Counted::new(FakeWriter::new(Vec::new(alloc)));
-    let ended = process_text(alloc, ProcessKind::Node, &mut reader, &mut writer);
-    ended == Err(ProcessFault::Read) && TOLD.starts_with(&writer.inner().taken)
+#[test]
+fn a_node_closes_a_month(rt: HostRuntime) {
+    assert!(rt;
+        are_told(
+            rt.alloc(),
+            ProcessKind::Node,
+            &[NODE, SECTIONS, BATCH, READ, MONTH],
+            &[TOLD_OF_BATCH, READ, TOLD_OF_MONTH, HEADER, LINE],
+        )
+    );
 }
 
-/// Whether a node whose write of that number fails ends so, behind the answers before it.
-fn fails_at_write(alloc: Global, input: &[u8], call: u64) -> bool {
-    let mut reader = Counted::new(FakeReader::new(input));
-    let mut writer = Counted::new(FakeWriter::new(Vec::new(alloc)).failing_at(call));
+#[test]
+fn a_node_goes_on_with_its_log(rt: HostRuntime) {
+    assert!(rt;
+        are_told(
+            rt.alloc(),
+            ProcessKind::Node,
+            &[NODE, SECTIONS, LOG, READ, LOG_BEHIND],
+            &[TOLD_AGAIN, HEADER, LINE],
+        )
+    );
+}
+
+#[test]
+fn an_agent_journals_a_batch(rt: HostRuntime) {
+    assert!(rt;
+        are_told(
+            rt.alloc(),
+            ProcessKind::Agent,
+            &[
+                AGENT,
+                SECTIONS,
+                b"new\njournal 2\n",
+                READ,
+                b"journal 2\n",
+                READ,
+                b"again 1\nagain 2\nstart\n"
+            ],
+            &[
+                b"begun seq 1\nkept 3\nbatch 2\n",
+                READ,
+                b"send all 3\nP1|prod-eu|batch|2\n",
+                READ,
+                b"journaled seq 1\nrefused G2 wanted 2\nsend all 3\nP1|prod-eu|batch|2\n",
+                READ,
+                b"sent\nrefused G8 agent 1 seq 2\nrefused L6\n",
+            ],
+        )
+    );
+}
+
+/// In which words an input of these parts begins no node.
+fn is_refused(alloc: Global, parts: &[&[u8]], why: &str) -> bool {
+    let Ok(input) = joined(alloc, parts) else {
+        return false;
+    };
+    let (written, ended) = answers(alloc, ProcessKind::Node, &input);
+    match ended {
+        Ok(()) => false,
+        Err(fault) => match format!(in alloc; "{fault}") {
+            Ok(told) => told.as_str() == why && written.is_empty(),
+            Err(_) => false,
+        },
+    }
+}
+
+#[test]
+fn what_begins_no_node_is_refused(rt: HostRuntime) {
+    let alloc = rt.alloc();
+    assert!(rt; is_refused(alloc, &[b"NODE 2\n"], "refused L1 line 1"));
+    assert!(rt; is_refused(alloc, &[AGENT, SECTIONS, b"new\n"], "refused L1 line 1"));
+    assert!(rt;
+        is_refused(
+            alloc,
+            &[b"NODE 1\nG1|prod-eu|node|1|1|0|1\n", SECTIONS, b"new\n"],
+            "refused L2 line 2",
+        )
+    );
+    assert!(rt;
+        is_refused(
+            alloc,
+            &[NODE, b"sheet 1\n", b"base = 1\n"],
+            "refused L4 line 3"
+        )
+    );
+    assert!(rt; is_refused(alloc, &[NODE, SECTIONS, b"old\n"], "refused L6 line 25"));
+    assert!(rt;
+        is_refused(
+            alloc,
+            &[NODE, SECTIONS, b"log 2\nG1\n"],
+            "refused L7 line 25"
+        )
+    );
+    assert!(rt;
+        is_refused(
+            alloc,
+            &[NODE, SECTIONS, b"log 2\nG1|prod-eu|node|0|1|0|1\nround|2\n"],
+            "refused log: no increment line 2",
+        )
+    );
+    assert!(rt;
+        is_refused(
+            alloc,
+            &[NODE, SECTIONS, b"log 1\nG1|prod-us|node|0|1|0|1\n"],
+            "refused log: of another process",
+        )
+    );
+}
+
+/// Whether that is the beginning of what the node of the month answers.
+fn is_front(alloc: Global, written: &[u8]) -> bool {
+    match joined(alloc, &[TOLD_OF_BATCH, READ, TOLD_OF_MONTH, HEADER, LINE]) {
+        Ok(told) => told.starts_with(written),
+        Err(_) => true,
+    }
+}
+
+/// How the node of the month ends with these devices, and whether what it wrote is the beginning of its answers.
+fn ends(
+    alloc: Global,
+    reader: FakeReader<'_>,
+    writer: FakeWriter,
+) -> (Result<(), ProcessFault>, bool) {
+    let mut reader = Counted::new(reader);
+    let mut writer = Counted::new(writer);
     let ended = process_text(alloc, ProcessKind::Node, &mut reader, &mut writer);
-    ended == Err(ProcessFault::Write) && TOLD.starts_with(&writer.inner().taken)
+    (ended, is_front(alloc, &writer.inner().taken))
+}
+
+/// Whether a read of that number, of a byte each, may fail.
+fn fails_at_read(alloc: Global, input: &[u8], call: u64) -> bool {
+    let reader = FakeReader::new(input).byte_by_byte().failing_at(call);
+    let (ended, is_front) = ends(alloc, reader, FakeWriter::new(Vec::new(alloc)));
+    ended == Err(ProcessFault::Read) && is_front
+}
+
+/// Whether a write of that number may fail.
+fn fails_at_write(alloc: Global, input: &[u8], call: u64) -> bool {
+    let writer = FakeWriter::new(Vec::new(alloc)).failing_at(call);
+    let (ended, is_front) = ends(alloc, FakeReader::new(input), writer);
+    ended == Err(ProcessFault::Write) && is_front
 }
 
 /// Whether a node's first read may fail, one of its head, one of its commands and its last, and each of its twelve writes.
 fn may_fail(alloc: Global) -> bool {
-    match joined(alloc, NODE, ASKED) {
-        Ok(input) => {
-            let last = input.len() as u64 + 1;
-            fails_at_read(alloc, &input, 1)
-                && fails_at_read(alloc, &input, 33)
-                && fails_at_read(alloc, &input, 640)
-                && fails_at_read(alloc, &input, last)
-                && (1..=12).all(|call| fails_at_write(alloc, &input, call))
-        }
-        Err(_) => false,
-    }
+    let Ok(input) = joined(alloc, &[NODE, SECTIONS, BATCH, READ, MONTH]) else {
+        return false;
+    };
+    let last = input.len() as u64 + 1;
+    fails_at_read(alloc, &input, 1)
+        && fails_at_read(alloc, &input, 33)
+        && fails_at_read(alloc, &input, 740)
+        && fails_at_read(alloc, &input, last)
+        && (1..=12).all(|call| fails_at_write(alloc, &input, call))
 }
 
 #[test]
 fn reads_and_writes_may_fail(rt: HostRuntime) {
     assert!(rt; may_fail(rt.alloc()));
+}
+
+/// Whether a node answers all, or ends where an allocation fails, its own or its writer's, behind some of that.
+fn ends_well(alloc: Global) -> bool {
+    let Ok(input) = joined(alloc, &[NODE, SECTIONS, BATCH, READ, MONTH]) else {
+        return true;
+    };
+    let writer = FakeWriter::new(Vec::new(alloc));
+    let (ended, is_front) = ends(alloc, FakeReader::new(&input), writer);
+    match ended {
+        Ok(()) => is_front,
+        Err(fault) => (fault == ProcessFault::OutOfMemory || fault == ProcessFault::Write)
+            && is_front,
+    }
+}
+
+#[test]
+fn a_refused_growth_ends_a_process(rt: HostRuntime) {
+    assert!(rt; ends_well(rt.alloc()));
 }
