@@ -11,7 +11,7 @@ use Rattle.counted_io.proofs.Prefixes.{prefix_behind, prefix_within}
 use Rattle.command_line.specs.Endings.{Tells, ending_line}
 use Rattle.command_line.specs.Inner.Parts.{first_part, last_part}
 use Rattle.command_line.specs.declared.statuses.Fault.{Fault}
-use Rattle.command_line.specs.declared.statuses.Fault.TheVariants.{Line, Play, Faults, File, Threads, Unlike, Batch, TooLong, NotClosed}
+use Rattle.command_line.specs.declared.statuses.Fault.TheVariants.{Line, Play, Faults, File, Threads, Process, Unlike, Batch, TooLong, NotClosed}
 
 parts_join : (fault : Fault) → first_part fault ++ last_part fault ≡ ending_line fault
 parts_join (Batch told) = sym (append_assoc (codes "focusd: ") told.items (codes "\n"))
@@ -20,6 +20,7 @@ parts_join (Play fault) = append-nil (ending_line (Play fault))
 parts_join (Faults count) = append-nil (ending_line (Faults count))
 parts_join (File fault) = append-nil (ending_line (File fault))
 parts_join (Threads fault) = append-nil (ending_line (Threads fault))
+parts_join (Process fault) = append-nil (ending_line (Process fault))
 parts_join Unlike = append-nil (ending_line Unlike)
 parts_join TooLong = append-nil (ending_line TooLong)
 parts_join NotClosed = append-nil (ending_line NotClosed)

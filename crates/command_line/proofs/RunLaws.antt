@@ -41,13 +41,19 @@ use Rattle.threads_player.specs.declared.faults.ThreadsFault.TheVariants as thre
 use Rattle.threads_player.specs.Faults.{tells_of_writer as threads_wrote}
 use Rattle.threads_player.specs.Runs.{IsSheetRefused}
 use Rattle.threads_player.specs.declared.sizes.Size.{Size}
+use Rattle.process_player.specs.declared.heads.ProcessKind.{ProcessKind}
+use Rattle.process_player.specs.declared.faults.ProcessFault.{ProcessFault}
+use Rattle.process_player.specs.declared.faults.ProcessFault.TheVariants as process
+use Rattle.process_player.specs.Faults.{IsRefusal, tells_of_reader as process_read, tells_of_writer as process_wrote}
+use Rattle.process_player.specs.Refusals.{Rejects}
+use Rattle.process_player.specs.Runs.{HasAnswered}
 use Rattle.command_line.specs.declared.words.LineFault.{LineFault}
 use Rattle.command_line.specs.declared.words.LineFault.TheVariants as on_line
 use Rattle.command_line.specs.declared.commands.Kind.{Kind}
 use Rattle.command_line.specs.declared.commands.Command.{Command}
-use Rattle.command_line.specs.declared.commands.Command.TheVariants.{Rate, Play as PlaySchedule, Check, File as CutFile, Threads as RunThreads, Help as ShowHelp, Version as ShowVersion, Sheets as CompareSheets, Schedule as WriteSchedule}
+use Rattle.command_line.specs.declared.commands.Command.TheVariants.{Rate, Play as PlaySchedule, Check, File as CutFile, Threads as RunThreads, Help as ShowHelp, Version as ShowVersion, Sheets as CompareSheets, Schedule as WriteSchedule, Process as RunProcess}
 use Rattle.command_line.specs.declared.statuses.Fault.{Fault}
-use Rattle.command_line.specs.declared.statuses.Fault.TheVariants.{Line, Play, Faults, File, Threads, Unlike, Batch, TooLong, NotClosed}
+use Rattle.command_line.specs.declared.statuses.Fault.TheVariants.{Line, Play, Faults, File, Threads, Process, Unlike, Batch, TooLong, NotClosed}
 use Rattle.command_line.specs.Endings.{Tells, ending_line, status_of}
 use Rattle.command_line.specs.Runs.{AsksFor, Ends, IsChecked, IsDone, IsDoneInPart, IsLeftBy, IsPlayedInPart, IsUnwritten, Refuses, Says, most_read, words_behind_name}
 use Rattle.command_line.specs.Inner.Outcomes.{ComesTo, IsEnding, IsKept, IsSound, Leaves}
@@ -241,7 +247,7 @@ pub file_comes_to : {W : Type 0} (sink : SinkOf W) (period : ℕ) (fault : FileF
     → (status_of (File fault) ≡ 1 → Refuses (CutFile period) known (File fault))
     → ComesTo sink (CutFile period) (File fault) known reads reads' writer writer'
 file_comes_to sink period fault known reads reads' writer writer' read wrote none torn front less refused =
-    let kept : IsKept sink (CutFile period) known writer writer' = inr (period, refl, front) in
+    let kept : IsKept sink (CutFile period) known writer writer' = inr (inl (period, refl, front)) in
     record {
       understood = file_no_line fault;
       refused = λ one. inl (refused one, file_left sink period fault known writer writer' none torn front one);
@@ -304,6 +310,88 @@ threads_come_to sink size fault known reads writer writer' wrote same sheet cut 
   unwritten = λ not_3 not_4. inl (inl (same (not_write fault not_3)));
   part = λ four. inl (inl (same (not_write fault (not_3_at (status_of (Threads fault)) 4 four (λ is. omega (arith, is))))));
 }
+
+-- ---- `node` and `agent`
+
+process_no_line : (fault : ProcessFault) → status_of (Process fault) ≢ 2
+process_no_line process.Read two = absurd (cc)
+process_no_line (process.Section (section.Refused code line)) two = absurd (cc)
+process_no_line (process.Section section.OutOfMemory) two = absurd (cc)
+process_no_line (process.Log code line) two = absurd (cc)
+process_no_line process.OtherLog two = absurd (cc)
+process_no_line process.NoJournal two = absurd (cc)
+process_no_line process.TooLong two = absurd (cc)
+process_no_line process.Write two = absurd (cc)
+process_no_line process.OutOfMemory two = absurd (cc)
+
+abbrev pub not_served : ProcessFault → Result (Unit {0}) ProcessFault
+not_served fault = Err fault
+
+process_device : (Same Part : Type 0) (fault : ProcessFault) (reads reads' writes writes' : ℕ)
+    → reads' ≡ count_after (process_read (not_served fault)) reads → writes' ≡ count_after (process_wrote (not_served fault)) writes
+    → (fault ≢ process.Write → Same) → (fault ≡ process.Write → Part) → status_of (Process fault) ≡ 3
+    → IsDevice Same Part (ending_line (Process fault)) reads reads' writes writes'
+process_device Same Part process.Read reads reads' writes writes' read wrote same part three = inl (refl, read, wrote, same (λ is. absurd (cc)))
+process_device Same Part (process.Section (section.Refused code line)) reads reads' writes writes' read wrote same part three = absurd (cc)
+process_device Same Part (process.Section section.OutOfMemory) reads reads' writes writes' read wrote same part three = absurd (cc)
+process_device Same Part (process.Log code line) reads reads' writes writes' read wrote same part three = absurd (cc)
+process_device Same Part process.OtherLog reads reads' writes writes' read wrote same part three = absurd (cc)
+process_device Same Part process.NoJournal reads reads' writes writes' read wrote same part three = absurd (cc)
+process_device Same Part process.TooLong reads reads' writes writes' read wrote same part three = absurd (cc)
+process_device Same Part process.Write reads reads' writes writes' read wrote same part three = inr (refl, wrote, read, part refl)
+process_device Same Part process.OutOfMemory reads reads' writes writes' read wrote same part three = absurd (cc)
+
+process_calm : (fault : ProcessFault) (reads reads' writes writes' : ℕ)
+    → reads' ≡ count_after (process_read (not_served fault)) reads → writes' ≡ count_after (process_wrote (not_served fault)) writes
+    → status_of (Process fault) ≢ 3 → (reads' ≡ reads) × (writes' ≡ writes)
+process_calm process.Read reads reads' writes writes' read wrote other = absurd (other refl)
+process_calm (process.Section told) reads reads' writes writes' read wrote other = (read, wrote)
+process_calm (process.Log code line) reads reads' writes writes' read wrote other = (read, wrote)
+process_calm process.OtherLog reads reads' writes writes' read wrote other = (read, wrote)
+process_calm process.NoJournal reads reads' writes writes' read wrote other = (read, wrote)
+process_calm process.TooLong reads reads' writes writes' read wrote other = (read, wrote)
+process_calm process.Write reads reads' writes writes' read wrote other = absurd (other refl)
+process_calm process.OutOfMemory reads reads' writes writes' read wrote other = (read, wrote)
+
+no_failed_write : (fault : ProcessFault) → status_of (Process fault) ≢ 3 → fault ≢ process.Write
+no_failed_write fault other is = other (ap (λ (f : ProcessFault). status_of (Process f)) is)
+
+-- what a refusal leaves
+process_left : {W : Type 0} (sink : SinkOf W) (kind : ProcessKind) (fault : ProcessFault) (known : Option (List ℕ)) (writer writer' : W)
+    → (IsRefusal fault → writer' ≡ writer)
+    → (fault ≢ process.Write → (writer' ≡ writer) ⊎ HasAnswered kind known (sink.contents writer) (sink.contents writer'))
+    → status_of (Process fault) ≡ 1 → IsLeftBy sink (RunProcess kind) (Process fault) known writer writer'
+process_left sink kind process.Read known writer writer' untouched whole one = absurd (cc)
+process_left sink kind (process.Section told) known writer writer' untouched whole one = untouched tt
+process_left sink kind (process.Log code line) known writer writer' untouched whole one = untouched tt
+process_left sink kind process.OtherLog known writer writer' untouched whole one = untouched tt
+process_left sink kind process.NoJournal known writer writer' untouched whole one = untouched tt
+process_left sink kind process.TooLong known writer writer' untouched whole one = whole (λ is. absurd (cc))
+process_left sink kind process.Write known writer writer' untouched whole one = absurd (cc)
+process_left sink kind process.OutOfMemory known writer writer' untouched whole one = absurd (cc)
+
+pub process_comes_to : {W : Type 0} (sink : SinkOf W) (kind : ProcessKind) (fault : ProcessFault) (known : Option (List ℕ)) (reads reads' : ℕ) (writer writer' : W)
+    → reads' ≡ count_after (process_read (not_served fault)) reads
+    → sink.failed_calls writer' ≡ count_after (process_wrote (not_served fault)) (sink.failed_calls writer)
+    → (IsRefusal fault → writer' ≡ writer)
+    → (fault ≢ process.Write → (writer' ≡ writer) ⊎ HasAnswered kind known (sink.contents writer) (sink.contents writer'))
+    → (fault ≡ process.Write → IsDoneInPart (RunProcess kind) known (sink.contents writer) (sink.contents writer'))
+    → IfSome known (λ input. Rejects kind input fault)
+    → ComesTo sink (RunProcess kind) (Process fault) known reads reads' writer writer'
+process_comes_to sink kind fault known reads reads' writer writer' read wrote untouched whole torn refused =
+    let kept : fault ≢ process.Write → IsKept sink (RunProcess kind) known writer writer' = λ other. kept_by (whole other) in
+    record {
+      understood = process_no_line fault;
+      refused = λ one. inl ((fault, refl, refused), process_left sink kind fault known writer writer' untouched whole one);
+      device = process_device (IsKept sink (RunProcess kind) known writer writer') (IsDoneInPart (RunProcess kind) known (sink.contents writer) (sink.contents writer')) fault _ _ _ _ read wrote kept torn;
+      calm = process_calm fault _ _ _ _ read wrote;
+      unwritten = λ not_3 not_4. inl (kept (no_failed_write fault not_3));
+      part = λ four. inl (kept (no_failed_write fault (λ three. absurd (omega (arith, four, three)))));
+    }
+  where
+    kept_by : (writer' ≡ writer) ⊎ HasAnswered kind known (sink.contents writer) (sink.contents writer') → IsKept sink (RunProcess kind) known writer writer'
+    kept_by (inl same) = inl same
+    kept_by (inr answered) = inr (inr (kind, refl, answered))
 
 -- ---- `sheets` and `schedule`
 
@@ -451,6 +539,15 @@ tells_memory Told (Threads threads.Write) four told = absurd (cc)
 tells_memory Told (Threads threads.Refused) four told = absurd (cc)
 tells_memory Told (Threads threads.OutOfMemory) four told = told
 tells_memory Told (Threads threads.Mismatch) four told = absurd (cc)
+tells_memory Told (Process process.Read) four told = absurd (cc)
+tells_memory Told (Process (process.Section (section.Refused code line))) four told = absurd (cc)
+tells_memory Told (Process (process.Section section.OutOfMemory)) four told = told
+tells_memory Told (Process (process.Log code line)) four told = absurd (cc)
+tells_memory Told (Process process.OtherLog) four told = absurd (cc)
+tells_memory Told (Process process.NoJournal) four told = absurd (cc)
+tells_memory Told (Process process.TooLong) four told = absurd (cc)
+tells_memory Told (Process process.Write) four told = absurd (cc)
+tells_memory Told (Process process.OutOfMemory) four told = told
 tells_memory Told Unlike four told = absurd (omega (arith, four))
 tells_memory Told (Batch words) four told = absurd (omega (arith, four))
 tells_memory Told TooLong four told = absurd (omega (arith, four))
@@ -464,11 +561,13 @@ tells_device : (Told : List ℕ → Type 0) (Same Part : Type 0) (line : List �
 tells_device Told Same Part line reads reads' writes writes' (inl is) told = inl ((is.1, is.2), is.3, subst Told is.0 told)
 tells_device Told Same Part line reads reads' writes writes' (inr is) told = inr ((is.1, is.2), is.3, subst Told is.0 told)
 
--- what is written of a file was asked for
-kept_of : (Same : Type 0) (Front : ℕ → Type 0) (Asked : Command → Type 0) (command : Command) → Asked command → Same ⊎ ((period : ℕ) × (command ≡ CutFile period) × Front period)
-    → Same ⊎ ((period : ℕ) × Asked (CutFile period) × Front period)
-kept_of Same Front Asked command asked (inl same) = inl same
-kept_of Same Front Asked command asked (inr it) = inr (it.0, subst Asked it.1 asked, it.2)
+-- what is written of a file, or by a process, was asked for
+kept_of : (Same : Type 0) (Front : ℕ → Type 0) (Some_of : ProcessKind → Type 0) (Asked : Command → Type 0) (command : Command) → Asked command
+    → Same ⊎ (((period : ℕ) × (command ≡ CutFile period) × Front period) ⊎ ((kind : ProcessKind) × (command ≡ RunProcess kind) × Some_of kind))
+    → Same ⊎ (((period : ℕ) × Asked (CutFile period) × Front period) ⊎ ((kind : ProcessKind) × Asked (RunProcess kind) × Some_of kind))
+kept_of Same Front Some_of Asked command asked (inl same) = inl same
+kept_of Same Front Some_of Asked command asked (inr (inl it)) = inr (inl (it.0, subst Asked it.1 asked, it.2))
+kept_of Same Front Some_of Asked command asked (inr (inr it)) = inr (inr (it.0, subst Asked it.1 asked, it.2))
 
 -- what is written by the one command was asked of it
 part_of : (Kept Unwritten Part : Type 0) (Asked : Command → Type 0) (one command : Command) → Asked command → (Kept → Unwritten) → Kept ⊎ ((command ≡ one) × Part) → Unwritten ⊎ (Asked one × Part)
@@ -496,6 +595,7 @@ at_end_of Asked (CutFile period) known left old new asked done takes = done.1
 at_end_of Asked (RunThreads size) known left old new asked done takes = let yes_it_does = takes (RunThreads size) asked in absurd (cc)
 at_end_of Asked (CompareSheets asked_of) known left old new asked done takes = done.1
 at_end_of Asked (WriteSchedule request) known left old new asked done takes = done.1
+at_end_of Asked (RunProcess kind) known left old new asked done takes = done.end
 at_end_of Asked ShowHelp known left old new asked done takes = let yes_it_does = takes ShowHelp asked in absurd (cc)
 at_end_of Asked ShowVersion known left old new asked done takes = let yes_it_does = takes ShowVersion asked in absurd (cc)
 
@@ -520,6 +620,15 @@ in_range (Threads threads.Write) = (omega arith, omega arith)
 in_range (Threads threads.Refused) = (omega arith, omega arith)
 in_range (Threads threads.OutOfMemory) = (omega arith, omega arith)
 in_range (Threads threads.Mismatch) = (omega arith, omega arith)
+in_range (Process process.Read) = (omega arith, omega arith)
+in_range (Process (process.Section (section.Refused code line))) = (omega arith, omega arith)
+in_range (Process (process.Section section.OutOfMemory)) = (omega arith, omega arith)
+in_range (Process (process.Log code line)) = (omega arith, omega arith)
+in_range (Process process.OtherLog) = (omega arith, omega arith)
+in_range (Process process.NoJournal) = (omega arith, omega arith)
+in_range (Process process.TooLong) = (omega arith, omega arith)
+in_range (Process process.Write) = (omega arith, omega arith)
+in_range (Process process.OutOfMemory) = (omega arith, omega arith)
 in_range Unlike = (omega arith, omega arith)
 in_range (Batch told) = (omega arith, omega arith)
 in_range TooLong = (omega arith, omega arith)
@@ -534,27 +643,35 @@ nothing_read most (Some bytes) = let nothing : (taken : List ℕ) × (bytes ≡ 
 more_read : (few many : ℕ) (known left : Option (List ℕ)) → few ≤ many → ConsumesAtMost few known left → ConsumesAtMost many known left
 more_read few many known left more it = let taken = it.2 in (it.0, it.1, omega (arith, taken, more))
 
-read_by_any : (command : Command) → most_read command ≤ most_transcript_bytes + 1
-read_by_any (Rate period) = omega arith
-read_by_any PlaySchedule = omega arith
-read_by_any (Check kind) = omega arith
-read_by_any (CutFile period) = omega arith
-read_by_any (RunThreads size) = omega arith
-read_by_any (CompareSheets asked) = omega arith
-read_by_any (WriteSchedule request) = omega arith
-read_by_any ShowHelp = omega arith
-read_by_any ShowVersion = omega arith
+-- what the command says is read, and no more
+abbrev ReadsFew : Command → (known left : Option (List ℕ)) → Type 0
+ReadsFew command known left = IfSome (most_read command) (λ most. ConsumesAtMost most known left)
 
-read_by_others : (command : Command) → ((period : ℕ) → command ≢ CutFile period) → most_read command ≤ most_input_bytes + 1
-read_by_others (Rate period) other = omega arith
-read_by_others PlaySchedule other = omega arith
-read_by_others (Check kind) other = omega arith
-read_by_others (CutFile period) other = absurd (other period refl)
-read_by_others (RunThreads size) other = omega arith
-read_by_others (CompareSheets asked) other = omega arith
-read_by_others (WriteSchedule request) other = omega arith
-read_by_others ShowHelp other = omega arith
-read_by_others ShowVersion other = omega arith
+read_by_any : (command : Command) (known left : Option (List ℕ)) → ((kind : ProcessKind) → command ≢ RunProcess kind) → ReadsFew command known left
+    → ConsumesAtMost (most_transcript_bytes + 1) known left
+read_by_any (Rate period) known left other read = more_read _ _ known left (omega arith) read
+read_by_any PlaySchedule known left other read = more_read _ _ known left (omega arith) read
+read_by_any (Check kind) known left other read = more_read _ _ known left (omega arith) read
+read_by_any (CutFile period) known left other read = read
+read_by_any (RunThreads size) known left other read = more_read _ _ known left (omega arith) read
+read_by_any (CompareSheets asked) known left other read = more_read _ _ known left (omega arith) read
+read_by_any (WriteSchedule request) known left other read = more_read _ _ known left (omega arith) read
+read_by_any (RunProcess kind) known left other read = absurd (other kind refl)
+read_by_any ShowHelp known left other read = more_read _ _ known left (omega arith) read
+read_by_any ShowVersion known left other read = more_read _ _ known left (omega arith) read
+
+read_by_others : (command : Command) (known left : Option (List ℕ)) → ((period : ℕ) → command ≢ CutFile period) → ((kind : ProcessKind) → command ≢ RunProcess kind)
+    → ReadsFew command known left → ConsumesAtMost (most_input_bytes + 1) known left
+read_by_others (Rate period) known left other no_process read = read
+read_by_others PlaySchedule known left other no_process read = read
+read_by_others (Check kind) known left other no_process read = read
+read_by_others (CutFile period) known left other no_process read = absurd (other period refl)
+read_by_others (RunThreads size) known left other no_process read = more_read _ _ known left (omega arith) read
+read_by_others (CompareSheets asked) known left other no_process read = read
+read_by_others (WriteSchedule request) known left other no_process read = read
+read_by_others (RunProcess kind) known left other no_process read = absurd (no_process kind refl)
+read_by_others ShowHelp known left other no_process read = more_read _ _ known left (omega arith) read
+read_by_others ShowVersion known left other no_process read = more_read _ _ known left (omega arith) read
 
 -- no fault ends with 0
 never_zero : (fault : Fault) (status : ℕ) → status ≡ status_of fault → status ≡ 0 → ⊥
@@ -592,6 +709,7 @@ sound_of (Ok given) PlaySchedule asked = tt
 sound_of (Ok given) (Check kind) asked = tt
 sound_of (Ok given) (CutFile period) asked = tt
 sound_of (Ok given) (CompareSheets of_sheets) asked = tt
+sound_of (Ok given) (RunProcess kind) asked = tt
 sound_of (Ok given) ShowHelp asked = tt
 sound_of (Ok given) ShowVersion asked = tt
 
@@ -600,16 +718,16 @@ given_of : {A B : Type 0} (args : Result (IntoIter (String A) B) Error) (command
 given_of (Ok given) command P asked = tt
 given_of (Err error) command P asked = absurd asked
 
--- What is asked for is no file, where none is asked for.
-other_than : (Asked : Command → Type 0) (command : Command) → Asked command → ((period : ℕ) → ¬ Asked (CutFile period)) → (period : ℕ) → command ≢ CutFile period
-other_than Asked command asked none period is = none period (subst Asked is asked)
+-- What is asked for is no file, and no process, where none is asked for.
+other_than : {A : Type 0} (Asked : Command → Type 0) (named : A → Command) (command : Command) → Asked command → ((a : A) → ¬ Asked (named a)) → (a : A) → command ≢ named a
+other_than Asked named command asked none a is = none a (subst Asked is asked)
 
 -- A run whose words ask for a command leaves what this one leaves.
 pub ends : {R W E A B : Type 0} (source : SourceOf R) (sink : SinkOf W) (telling : SinkOf E) (args : Result (IntoIter (String A) B) Error) (command : Command) (outcome : Result (Unit {0}) Fault) (status : ℕ) (reader reader' : R) (writer writer' : W) (errors errors' : E)
     → AsksFor args command
     → Leaves sink command outcome (source.remaining reader) (source.remaining reader') (source.failed_calls reader) (source.failed_calls reader') writer writer'
     → IsEnding telling outcome status errors errors'
-    → ConsumesAtMost (most_read command) (source.remaining reader) (source.remaining reader')
+    → ReadsFew command (source.remaining reader) (source.remaining reader')
     → (takes_input command ≡ false → reader' ≡ reader)
     → Ends source sink telling args status reader reader' writer writer' errors errors'
 ends source sink telling args command (Ok x) status reader reader' writer writer' errors errors' asked leaves ending read unread =
@@ -627,8 +745,9 @@ ends source sink telling args command (Ok x) status reader reader' writer writer
       memory = λ is. absurd (omega (arith, zero, is));
       part = λ is. absurd (omega (arith, zero, is));
       unwritten = λ not_0 not_3 not_4. absurd (not_0 zero);
-      read = λ none. more_read _ _ _ _ (read_by_others command (other_than (AsksFor args) command asked none)) read;
-      read_by_file = more_read _ _ _ _ (read_by_any command) read;
+      read = λ no_file no_process. read_by_others command _ _ (other_than (AsksFor args) CutFile command asked no_file)
+          (other_than (AsksFor args) RunProcess command asked no_process) read;
+      read_by_file = λ no_process. read_by_any command _ _ (other_than (AsksFor args) RunProcess command asked no_process) read;
       unread = unread_of (reader' ≡ reader) args command asked unread;
       not_given = given_of args command _ asked;
     }
@@ -636,7 +755,8 @@ ends source sink telling args command (Err fault) status reader reader' writer w
     let same = ending.0 in
     let known = source.remaining reader in
     let kept : IsKept sink command known writer writer' → IsUnwritten sink args known writer writer' =
-    λ it. kept_of (writer' ≡ writer) (λ period. AppendsFront known period (sink.contents writer) (sink.contents writer')) (AsksFor args) command asked it in
+    λ it. kept_of (writer' ≡ writer) (λ period. AppendsFront known period (sink.contents writer) (sink.contents writer'))
+    (λ kind. HasAnswered kind known (sink.contents writer) (sink.contents writer')) (AsksFor args) command asked it in
     let told : List ℕ → Type 0 = λ line.
     (Appends (telling.contents errors) (telling.contents errors') line × (telling.failed_calls errors' ≡ telling.failed_calls errors))
     ⊎ (AppendsPrefix (telling.contents errors) (telling.contents errors') line
@@ -661,8 +781,9 @@ ends source sink telling args command (Err fault) status reader reader' writer w
       part = λ is. part_of (IsKept sink command known writer writer') _ _ (AsksFor args) PlaySchedule command asked kept (leaves.part (sym same ∙ is));
       unwritten = λ not_0 not_3 not_4. said_of (IsKept sink command known writer writer') (IsUnwritten sink args known writer writer') (λ c f. Says c f known (sink.contents writer) (sink.contents writer')) (AsksFor args) command fault asked kept
           (leaves.unwritten (λ is. not_3 (same ∙ is)) (λ is. not_4 (same ∙ is)));
-      read = λ none. more_read _ _ _ _ (read_by_others command (other_than (AsksFor args) command asked none)) read;
-      read_by_file = more_read _ _ _ _ (read_by_any command) read;
+      read = λ no_file no_process. read_by_others command _ _ (other_than (AsksFor args) CutFile command asked no_file)
+          (other_than (AsksFor args) RunProcess command asked no_process) read;
+      read_by_file = λ no_process. read_by_any command _ _ (other_than (AsksFor args) RunProcess command asked no_process) read;
       unread = unread_of (reader' ≡ reader) args command asked unread;
       not_given = given_of args command _ asked;
     }
@@ -704,8 +825,8 @@ ends_at_words C source sink telling args on_line.Line status reader writer error
   memory = λ is. absurd (omega (arith, same, is));
   part = λ is. inl (inl refl);
   unwritten = λ not_0 not_3 not_4. inl (inl refl);
-  read = λ none. nothing_read (most_input_bytes + 1) (source.remaining reader);
-  read_by_file = nothing_read (most_transcript_bytes + 1) (source.remaining reader);
+  read = λ no_file no_process. nothing_read (most_input_bytes + 1) (source.remaining reader);
+  read_by_file = λ no_process. nothing_read (most_transcript_bytes + 1) (source.remaining reader);
   unread = λ command asked without. refl;
   not_given = missing_of C args on_line.Line status same missing;
 }
@@ -722,8 +843,8 @@ ends_at_words C source sink telling args on_line.OutOfMemory status reader write
   memory = λ is. told;
   part = λ is. inl (inl refl);
   unwritten = λ not_0 not_3 not_4. inl (inl refl);
-  read = λ none. nothing_read (most_input_bytes + 1) (source.remaining reader);
-  read_by_file = nothing_read (most_transcript_bytes + 1) (source.remaining reader);
+  read = λ no_file no_process. nothing_read (most_input_bytes + 1) (source.remaining reader);
+  read_by_file = λ no_process. nothing_read (most_transcript_bytes + 1) (source.remaining reader);
   unread = λ command asked without. refl;
   not_given = missing_of C args on_line.OutOfMemory status same missing;
 }

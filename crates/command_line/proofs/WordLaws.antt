@@ -20,7 +20,8 @@ use Rattle.std.specs.Box.{box_value}
 use Rattle.std.specs.Borrow.{Bor}
 use Rattle.command_line.specs.declared.commands.Command.{Command}
 use Rattle.command_line.specs.declared.commands.Kind.{Kind}
-use Rattle.command_line.specs.declared.commands.Command.TheVariants.{Rate, Play, Check, File, Threads, Sheets, Schedule, Help, Version}
+use Rattle.command_line.specs.declared.commands.Command.TheVariants.{Rate, Play, Check, File, Threads, Sheets, Schedule, Process, Help, Version}
+use Rattle.process_player.specs.declared.heads.ProcessKind.TheVariants as process
 use Rattle.command_line.specs.declared.words.LineFault.{LineFault}
 use Rattle.command_line.specs.Inner.Requests.{IsRequestFor}
 use Rattle.command_line.proofs.RequestLaws.{IsRequest, request_alone_in}
@@ -73,6 +74,7 @@ by_name words (File period) asked = inl asked
 by_name words (Threads size) asked = inl asked
 by_name words (Sheets asked_of) asked = inl asked
 by_name words (Schedule request) asked = inl asked
+by_name words (Process kind) asked = inl asked
 by_name words Help asked = inr (inl asked)
 by_name words Version asked = inr (inr asked)
 
@@ -85,6 +87,7 @@ named_asks words (File period) named = named
 named_asks words (Threads size) named = named
 named_asks words (Sheets asked_of) named = named
 named_asks words (Schedule request) named = named
+named_asks words (Process kind) named = named
 named_asks words Help named = absurd named.named
 named_asks words Version named = absurd named.named
 
@@ -110,6 +113,7 @@ request_asks words e (Ok (File period)) has is = absurd is
 request_asks words e (Ok (Threads size)) has is = absurd is
 request_asks words e (Ok (Sheets asked_of)) has is = absurd is
 request_asks words e (Ok (Schedule request)) has is = absurd is
+request_asks words e (Ok (Process kind)) has is = absurd is
 request_asks words e (Err fault) has is = tt
 
 -- words that are taken ask for no help
@@ -296,6 +300,8 @@ gives_at name rows (File period) named = subst (λ (n : Text). GivesAt (letters 
 gives_at name rows (Threads size) named = subst (λ (n : Text). GivesAt (letters n) rows) (sym named.0) (size, named.1)
 gives_at name rows (Sheets asked) named = subst (λ (n : Text). GivesAt (letters n) rows) (sym named.0) (asked, named.1)
 gives_at name rows (Schedule request) named = subst (λ (n : Text). GivesAt (letters n) rows) (sym named.0) (request, named.1)
+gives_at name rows (Process process.Node) named = subst (λ (n : Text). GivesAt (letters n) rows) (sym named) tt
+gives_at name rows (Process process.Agent) named = subst (λ (n : Text). GivesAt (letters n) rows) (sym named) tt
 gives_at name rows Help named = absurd named
 gives_at name rows Version named = absurd named
 
@@ -341,6 +347,8 @@ threads_named rows (File period) named = absurd (differ (codes "threads") (codes
 threads_named rows (Threads other) named = (other, refl)
 threads_named rows (Sheets asked_of) named = absurd (differ (codes "threads") (codes "sheets") refl named.0)
 threads_named rows (Schedule request) named = absurd (differ (codes "threads") (codes "schedule") refl named.0)
+threads_named rows (Process process.Node) named = absurd (differ (codes "threads") (codes "node") refl named)
+threads_named rows (Process process.Agent) named = absurd (differ (codes "threads") (codes "agent") refl named)
 threads_named rows Help named = absurd named
 threads_named rows Version named = absurd named
 
@@ -359,6 +367,7 @@ taken_of words (Check kind) asked takes = asked.taken
 taken_of words (File period) asked takes = asked.taken
 taken_of words (Sheets asked_of) asked takes = asked.taken
 taken_of words (Schedule request) asked takes = asked.taken
+taken_of words (Process kind) asked takes = asked.taken
 
 -- what is done without is a group, help or the version
 without_input : (command : Command) → takes_input command ≡ false → ((size : Size) × (command ≡ Threads size)) ⊎ ((command ≡ Help) ⊎ (command ≡ Version))
@@ -371,6 +380,7 @@ without_input (Check kind) none = absurd (cc)
 without_input (File period) none = absurd (cc)
 without_input (Sheets asked_of) none = absurd (cc)
 without_input (Schedule request) none = absurd (cc)
+without_input (Process kind) none = absurd (cc)
 
 -- Words that ask for what is done with the input ask for nothing that is done without.
 pub takes_or_not : (words : List Text) (command other : Command) → Asks words command → Asks words other → takes_input command ≡ true → takes_input other ≡ false → ⊥

@@ -13,10 +13,12 @@ use Rattle.schedule_writer.specs.Requests.{IsRequest}
 use Rattle.threads_player.specs.declared.sizes.Size.{Size}
 use Rattle.threads_player.specs.Groups.{IsSize}
 use Rattle.sheet_changes.specs.declared.changes.Asked.{Asked}
+use Rattle.process_player.specs.declared.heads.ProcessKind.{ProcessKind}
+use Rattle.process_player.specs.declared.heads.ProcessKind.TheVariants as process
 use Rattle.command_line.specs.declared.commands.Kind.{Kind}
 use Rattle.command_line.specs.declared.commands.Kind.TheVariants as kind
 use Rattle.command_line.specs.declared.commands.Command.{Command}
-use Rattle.command_line.specs.declared.commands.Command.TheVariants.{Rate, Play, Check, File, Threads, Sheets, Schedule, Help, Version}
+use Rattle.command_line.specs.declared.commands.Command.TheVariants.{Rate, Play, Check, File, Threads, Sheets, Schedule, Process, Help, Version}
 
 -- `--NAME VALUE`, which may be left out
 abbrev pub text_option : Text → Rule
@@ -66,12 +68,18 @@ bare_grammar = let a = new_app (codes "focusd") in record a {
   top = record a.top { no_binary_name = true; has_version = true; disable_help_subcommand = true; subcommand_required = true };
 }
 
--- `play` has no option at all.
+-- the subcommand that is a process of that kind
+abbrev pub process_name : ProcessKind → Text
+process_name process.Node = codes "node"
+process_name process.Agent = codes "agent"
+
+-- `play`, `node` and `agent` have no option at all.
 abbrev pub grammar_of_focusd : App
 grammar_of_focusd =
-    with_subcommand (with_subcommand (with_subcommand (with_subcommand (with_subcommand (with_subcommand
+    with_subcommand (with_subcommand (with_subcommand (with_subcommand (with_subcommand (with_subcommand (with_subcommand (with_subcommand
     (with_subcommand bare_grammar (period_grammar (codes "rate")).top) (new_app (codes "play")).top)
-    check_grammar.top) (period_grammar (codes "file")).top) schedule_grammar.top) sheets_grammar.top) threads_grammar.top
+    check_grammar.top) (period_grammar (codes "file")).top) schedule_grammar.top) sheets_grammar.top) threads_grammar.top)
+    (new_app (process_name process.Node)).top) (new_app (process_name process.Agent)).top
 
 -- The text is digits, perhaps behind a plus, and they make the number.
 abbrev pub SpellsNumber : Text → ℕ → Type 0
@@ -144,6 +152,7 @@ IsNamed name rows (File period) = (name ≡ codes "file") × GivesPeriod rows (c
 IsNamed name rows (Threads size) = (name ≡ codes "threads") × GivesSize rows size
 IsNamed name rows (Sheets asked) = (name ≡ codes "sheets") × GivesAsked rows asked
 IsNamed name rows (Schedule request) = (name ≡ codes "schedule") × GivesRequest rows request
+IsNamed name rows (Process kind) = name ≡ process_name kind
 IsNamed name rows Help = ⊥
 IsNamed name rows Version = ⊥
 
@@ -178,5 +187,6 @@ takes_input (File period) = true
 takes_input (Threads size) = false
 takes_input (Sheets asked) = true
 takes_input (Schedule request) = true
+takes_input (Process kind) = true
 takes_input Help = false
 takes_input Version = false

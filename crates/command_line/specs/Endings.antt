@@ -11,9 +11,24 @@ use Rattle.command_line.specs.declared.words.LineFault.TheVariants as on_line
 use Rattle.program_input.specs.declared.faults.PlayFault.TheVariants as play
 use Rattle.period_file.specs.declared.faults.FileFault.TheVariants as file
 use Rattle.threads_player.specs.declared.faults.ThreadsFault.TheVariants as threads
+use Rattle.process_player.specs.declared.faults.ProcessFault.{ProcessFault}
+use Rattle.process_player.specs.declared.faults.ProcessFault.TheVariants as process
+use Rattle.process_player.specs.declared.LogCode.{LogCode}
+use Rattle.process_player.specs.declared.LogCode.TheVariants as log
 use Rattle.answer_words.specs.Words.{section_text}
 use Rattle.command_line.specs.declared.statuses.Fault.{Fault}
-use Rattle.command_line.specs.declared.statuses.Fault.TheVariants.{Line, Play, Faults, File, Threads, Unlike, Batch, TooLong, NotClosed}
+use Rattle.command_line.specs.declared.statuses.Fault.TheVariants.{Line, Play, Faults, File, Threads, Process, Unlike, Batch, TooLong, NotClosed}
+
+abbrev pub status_of_process : ProcessFault → ℕ
+status_of_process process.Read = 3
+status_of_process (process.Section (section.Refused code line)) = 1
+status_of_process (process.Section section.OutOfMemory) = 4
+status_of_process (process.Log code line) = 1
+status_of_process process.OtherLog = 1
+status_of_process process.NoJournal = 1
+status_of_process process.TooLong = 1
+status_of_process process.Write = 3
+status_of_process process.OutOfMemory = 4
 
 -- 1 refused input, no whole file, a mismatch or sheets that are unlike, 2 the command line, 3 a failed read or write, 4 want of
 -- memory
@@ -37,10 +52,30 @@ status_of (Threads threads.OutOfMemory) = 4
 status_of (Threads threads.Mismatch) = 1
 status_of (Threads threads.Write) = 3
 status_of (Threads threads.Refused) = 1
+status_of (Process fault) = status_of_process fault
 status_of Unlike = 1
 status_of (Batch told) = 1
 status_of TooLong = 1
 status_of NotClosed = 1
+
+-- what is wrong with a line of a log, in a word
+abbrev pub log_code_text : LogCode → List ℕ
+log_code_text log.Head = codes "head"
+log_code_text log.Kept = codes "kept"
+log_code_text log.Increment = codes "increment"
+log_code_text log.Torn = codes "torn"
+log_code_text log.TooLong = codes "too long"
+
+abbrev pub process_message : ProcessFault → List ℕ
+process_message process.Read = codes "read failed"
+process_message (process.Section (section.Refused code line)) = codes "refused " ++ section_text code line
+process_message (process.Section section.OutOfMemory) = codes "out of memory"
+process_message (process.Log code line) = codes "refused log: " ++ log_code_text code ++ with_number (codes " line ") line
+process_message process.OtherLog = codes "refused log: of another process"
+process_message process.NoJournal = codes "refused log: no journal of this agent"
+process_message process.TooLong = codes "too long"
+process_message process.Write = codes "write failed"
+process_message process.OutOfMemory = codes "out of memory"
 
 abbrev pub message_of : Fault → List ℕ
 message_of (Line on_line.Line) = codes "bad command line (see focusd --help)"
@@ -62,6 +97,7 @@ message_of (Threads threads.OutOfMemory) = codes "out of memory"
 message_of (Threads threads.Mismatch) = codes "mismatch"
 message_of (Threads threads.Write) = codes "write failed"
 message_of (Threads threads.Refused) = codes "refused"
+message_of (Process fault) = process_message fault
 message_of Unlike = codes "unlike"
 message_of (Batch told) = told.items
 message_of TooLong = codes "too long"

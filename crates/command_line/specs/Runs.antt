@@ -38,6 +38,11 @@ use Rattle.threads_player.specs.Runs.{Run}
 use Rattle.threads_player.specs.declared.faults.ThreadsFault.TheVariants as threads
 use Rattle.threads_player.specs.Reports.{report_text}
 use Rattle.threads_player.specs.Runs.{IsRunOf, IsSheetRefused}
+use Rattle.process_player.specs.declared.heads.ProcessKind.{ProcessKind}
+use Rattle.process_player.specs.declared.faults.ProcessFault.{ProcessFault}
+use Rattle.process_player.specs.declared.faults.ProcessFault.TheVariants as process
+use Rattle.process_player.specs.Refusals.{Rejects}
+use Rattle.process_player.specs.Runs.{HasAnswered, RunsToEnd, RunsTorn}
 use Rattle.command_line.specs.CommandLine.{Asks, takes_input}
 use Rattle.command_line.specs.Endings.{Tells, status_of}
 use Rattle.command_line.specs.declared.words.LineFault.TheVariants as on_line
@@ -46,7 +51,7 @@ use Rattle.command_line.specs.declared.statuses.Fault.TheVariants as of_fault
 use Rattle.command_line.specs.declared.commands.Kind.{Kind}
 use Rattle.command_line.specs.declared.commands.Kind.TheVariants as kind
 use Rattle.command_line.specs.declared.commands.Command.{Command}
-use Rattle.command_line.specs.declared.commands.Command.TheVariants.{Rate, Play, Check, File, Threads, Sheets, Schedule, Help, Version}
+use Rattle.command_line.specs.declared.commands.Command.TheVariants.{Rate, Play, Check, File, Threads, Sheets, Schedule, Process, Help, Version}
 
 -- the words behind the program's name, which is the first
 abbrev pub words_behind_name : {A B : Type 0} → IntoIter (String A) B → List Text
@@ -73,7 +78,8 @@ IsChecked (Some kind.Sheets) known input said warned = IsCheckOf known input sai
 -- What was asked for was done, and nothing else: the file of the input was written, or the transcript of the schedule that
 -- the input is; or nothing is refused of the input and just the warnings were written; or the first file of the period in the
 -- input; or what is said of the two sheets in it, of which all stays that is to stay; or a schedule for it; and nothing remains
--- to be read. Or the report of a run of such a group was written, or some text for help, or the version.
+-- to be read; or the answers of the process that the input begins to all that it asks. Or the report of a run of such a group was
+-- written, or some text for help, or the version.
 abbrev pub IsDone : Command → (known left old new : Option (List ℕ)) → Type 0
 IsDone (Rate period) known left old new =
     ((input text : List ℕ) × IsFileOf known period input text × Appends old new text) × IsAtEnd left
@@ -90,12 +96,13 @@ IsDone (Sheets asked) known left old new =
     × IsAtEnd left
 IsDone (Schedule request) known left old new =
     ((input text : List ℕ) × IsScheduleOf request known input text × Appends old new text) × IsAtEnd left
+IsDone (Process kind) known left old new = RunsToEnd kind known left old new
 IsDone Help known left old new = (text : List ℕ) × (text ≢ []) × Appends old new text
 IsDone Version known left old new = Appends old new version_line
 
 -- The command refuses so. Of an input whose bytes are known: by its sections or by its batch, or as no schedule, or it has no
--- whole file of the period; or no schedule was found for it, though its sections are read and each of its batches is taken. Of a
--- group: what its workers brought back, or the sheet that is built in. Help and the version are never refused, and what `check`
+-- whole file of the period; or no schedule was found for it, though its sections are read and each of its batches is taken; or it
+-- begins no process, or asks for too much. Of a group: what its workers brought back, or the sheet that is built in. Help and the version are never refused, and what `check`
 -- refuses it says (`Says`).
 abbrev pub Refuses : Command → Option (List ℕ) → Fault → Type 0
 Refuses (Rate period) known fault =
@@ -114,6 +121,8 @@ Refuses (Schedule request) known fault =
     × IfSome known (λ input. rate_input_in input ≡ Err told))
     ⊎ (((told : Vec ℕ Global) × (fault ≡ of_fault.Batch told) × IfSome known (λ input. IsRefusedAt input told.items))
     ⊎ (((fault ≡ of_fault.TooLong) ⊎ (fault ≡ of_fault.NotClosed)) × IfSome known IsTaken))
+Refuses (Process kind) known fault =
+    (told : ProcessFault) × (fault ≡ of_fault.Process told) × IfSome known (λ input. Rejects kind input told)
 Refuses Help known fault = ⊥
 Refuses Version known fault = ⊥
 
@@ -132,28 +141,33 @@ Says Play fault known old new = ⊥
 Says (File period) fault known old new = ⊥
 Says (Threads size) fault known old new = ⊥
 Says (Schedule request) fault known old new = ⊥
+Says (Process kind) fault known old new = ⊥
 Says Help fault known old new = ⊥
 Says Version fault known old new = ⊥
 
 -- What a command leaves where it refuses: `file` of a torn file all that the input has, and of an input that is too long a
--- front of the file; all else leaves nothing at all.
+-- front of the file; a process that is asked for too much its answers before; all else leaves nothing at all.
 abbrev pub IsLeftBy : {W : Type 0} → SinkOf W → Command → Fault → (known : Option (List ℕ)) (writer writer' : W) → Type 0
 IsLeftBy sink (File period) (of_fault.File file.Torn) known writer writer' =
     AppendsPart known period (sink.contents writer) (sink.contents writer')
 IsLeftBy sink (File period) (of_fault.File file.TooLong) known writer writer' =
     AppendsFront known period (sink.contents writer) (sink.contents writer')
+IsLeftBy sink (Process kind) (of_fault.Process process.TooLong) known writer writer' =
+    (writer' ≡ writer) ⊎ HasAnswered kind known (sink.contents writer) (sink.contents writer')
 IsLeftBy sink command fault known writer writer' = writer' ≡ writer
 
 -- Nothing was written but the transcript of the first events of the schedule that the input is.
 abbrev pub IsPlayedInPart : Option (List ℕ) → Option (List ℕ) → Option (List ℕ) → Type 0
 IsPlayedInPart known old new = (input text : List ℕ) × IsPrefixOfTranscript known input text × Appends old new text
 
--- The writer is as it was; or the words ask for a period's file, and of that a front was written, as far as the input has it.
+-- The writer is as it was; or the words ask for a period's file, and of that a front was written, as far as the input has it; or
+-- for a process, and whole answers were.
 abbrev pub IsUnwritten : {W A B : Type 0} → SinkOf W → Result (IntoIter (String A) B) Error → Option (List ℕ)
     → (writer writer' : W) → Type 0
 IsUnwritten sink args known writer writer' =
     (writer' ≡ writer)
-    ⊎ ((period : ℕ) × AsksFor args (File period) × AppendsFront known period (sink.contents writer) (sink.contents writer'))
+    ⊎ (((period : ℕ) × AsksFor args (File period) × AppendsFront known period (sink.contents writer) (sink.contents writer'))
+    ⊎ ((kind : ProcessKind) × AsksFor args (Process kind) × HasAnswered kind known (sink.contents writer) (sink.contents writer')))
 
 -- Of what is asked for a prefix was written that is not all of it, and nothing else. Which text help is no clause can say, since
 -- `clap` says nothing of what it shows: so of help just this is known, that what was written is not all of some text.
@@ -169,20 +183,23 @@ IsDoneInPart (Sheets asked) known old new =
     × AppendsPrefix old new text
 IsDoneInPart (Schedule request) known old new =
     (input text : List ℕ) × IsScheduleOf request known input text × AppendsPrefix old new text
+IsDoneInPart (Process kind) known old new = (left : Option (List ℕ)) × RunsTorn kind known left old new
 IsDoneInPart Help known old new = (text : List ℕ) × AppendsPrefix old new text
 IsDoneInPart Version known old new = AppendsPrefix old new version_line
 
--- how many bytes of the input a command reads at most: one more than it may have
-abbrev pub most_read : Command → ℕ
-most_read (Rate period) = most_input_bytes + 1
-most_read Play = most_input_bytes + 1
-most_read (Check kind) = most_input_bytes + 1
-most_read (File period) = most_transcript_bytes + 1
-most_read (Threads size) = 0
-most_read (Sheets asked) = most_input_bytes + 1
-most_read (Schedule request) = most_input_bytes + 1
-most_read Help = 0
-most_read Version = 0
+-- how many bytes of the input a command reads at most: one more than it may have; a process, which may go on for years, as many
+-- as come
+abbrev pub most_read : Command → Option ℕ
+most_read (Rate period) = Some (most_input_bytes + 1)
+most_read Play = Some (most_input_bytes + 1)
+most_read (Check kind) = Some (most_input_bytes + 1)
+most_read (File period) = Some (most_transcript_bytes + 1)
+most_read (Threads size) = Some 0
+most_read (Sheets asked) = Some (most_input_bytes + 1)
+most_read (Schedule request) = Some (most_input_bytes + 1)
+most_read (Process kind) = None
+most_read Help = Some 0
+most_read Version = Some 0
 
 -- One call of the reader failed, and none of the writer.
 abbrev pub ReaderFailed : {R W : Type 0} → SourceOf R → SinkOf W → (reader reader' : R) (writer writer' : W) → Type 0
@@ -225,18 +242,21 @@ pub record Ends {R W E A B : Type 0} (source : SourceOf R) (sink : SinkOf W) (te
       × Tells telling (of_fault.Play play.Write) errors errors'))
   pub calm : status ≢ 3 → (source.failed_calls reader' ≡ source.failed_calls reader)
       × (sink.failed_calls writer' ≡ sink.failed_calls writer)
-  -- 4: memory was wanting; a schedule may have been played up to some event, or a file written up to some byte.
+  -- 4: memory was wanting; a schedule may have been played up to some event, a file written up to some byte, or a process have
+  -- answered what it was asked first.
   pub memory : status ≡ 4 → Tells telling (of_fault.Play play.OutOfMemory) errors errors'
   pub part : status ≡ 4 → IsUnwritten sink args (source.remaining reader) writer writer'
       ⊎ (AsksFor args Play × IsPlayedInPart (source.remaining reader) (sink.contents writer) (sink.contents writer'))
-  -- But at these nothing was written, save by `file`, and what is said.
+  -- But at these nothing was written, save by `file` and by a process, and what is said.
   pub unwritten : status ≢ 0 → status ≢ 3 → status ≢ 4 → IsUnwritten sink args (source.remaining reader) writer writer'
       ⊎ ((command : Command) × (fault : Fault) × AsksFor args command
       × Says command fault (source.remaining reader) (sink.contents writer) (sink.contents writer'))
-  -- At most so much is read, by `file` and by all others. What is done without the input takes nothing of it, however it ends.
-  pub read : ((period : ℕ) → ¬ AsksFor args (File period))
+  -- At most so much is read, by `file` and by all others but a process. What is done without the input takes nothing of it, however
+  -- it ends.
+  pub read : ((period : ℕ) → ¬ AsksFor args (File period)) → ((kind : ProcessKind) → ¬ AsksFor args (Process kind))
       → ConsumesAtMost (most_input_bytes + 1) (source.remaining reader) (source.remaining reader')
-  pub read_by_file : ConsumesAtMost (most_transcript_bytes + 1) (source.remaining reader) (source.remaining reader')
+  pub read_by_file : ((kind : ProcessKind) → ¬ AsksFor args (Process kind))
+      → ConsumesAtMost (most_transcript_bytes + 1) (source.remaining reader) (source.remaining reader')
   pub unread : (command : Command) → AsksFor args command → takes_input command ≡ false → reader' ≡ reader
   -- where the process gave no words
   pub not_given : IfErr args (λ error. (error_kind error ≡ NoMemory → status ≡ 4) × (error_kind error ≢ NoMemory → status ≡ 2))

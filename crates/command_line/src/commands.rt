@@ -1,6 +1,7 @@
 //! What the program can be asked for.
 
 use period_file::Period;
+use process_player::ProcessKind;
 use schedule_writer::Request;
 use sheet_changes::Asked;
 use threads_player::Size;
@@ -39,6 +40,9 @@ pub enum Command {
     Sheets { asked: Asked },
     /// `schedule --nodes N --observers M --through P`: a schedule that closes the months of batches.
     Schedule { request: Request },
+    /// `node` or `agent`: a process of a group, which is begun by what the input gives first, and answers
+    /// each command behind it.
+    Process { kind: ProcessKind },
     /// `--help`, also behind a command: how the program, or that command, is called.
     Help,
     /// `--version`: which version of the program it is.

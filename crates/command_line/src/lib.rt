@@ -9,6 +9,7 @@ mod words;
 
 pub use commands::{Command, Kind};
 pub use period_file::{FileFault, file_text};
+pub use process_player::{ProcessFault, ProcessKind};
 pub use runs::{run, run_alone};
 pub use schedule_writer::Request;
 pub use sheet_changes::Asked;

@@ -1,6 +1,6 @@
 //! A run of the program, from what the process gave to the status that it ends with.
 
-ghost use Rattle.std.specs.Prelude.{◌≡◌, ◌≢◌, ◌+◌, ◌++◌, ℕ, List, [], Option, Ok, Err, IfOk, IfErr, IsErr, OnErr, OnOk, false, is_err, map, string_bytes};
+ghost use Rattle.std.specs.Prelude.{◌≡◌, ◌≢◌, ◌+◌, ◌++◌, ℕ, List, [], Option, Ok, Err, IfOk, IfErr, IfSome, IsErr, OnErr, OnOk, false, is_err, map, string_bytes};
 ghost use Rattle.std.specs.Io.KnownBytes.{Appends, IsAtEnd};
 ghost use Rattle.std.specs.IoError.{error_kind};
 ghost use Rattle.std.specs.declared.io.ErrorKind.TheVariants.{OutOfMemory as NoMemory};
@@ -27,6 +27,7 @@ use crate::words::{LineFault, command, help};
 use counted_io::{Sink, Source, write_all};
 use input_check::{InputKind, check_text, check_text_as, play_text, rate_text};
 use period_file::{Period, file_text};
+use process_player::{ProcessKind, process_text};
 use program_input::PlayFault;
 use schedule_writer::{Request, WriteFault, check_schedule_input, schedule_text};
 use sheet_changes::{Asked, SheetsFault, check_two_sheets, sheets_text};
@@ -265,6 +266,23 @@ fn schedule<R: Source, W: Sink>(
     }
 }
 
+// The process answers as long as the input goes on.
+fn process<R: Source, W: Sink>(
+    alloc: Global,
+    kind: ProcessKind,
+    reader: &mut R,
+    writer: &mut W,
+) -> Result<(), Fault>
+    ensures outcome { Leaves W.Sink (Command.Process kind) result
+        (R.remaining reader.old) (R.remaining reader.new)
+        (R.failed_calls reader.old) (R.failed_calls reader.new) writer.old writer.new }
+{
+    match process_text(alloc, kind, reader, writer) {
+        Ok(()) => Ok(()),
+        Err(fault) => Err(Fault::Process(fault)),
+    }
+}
+
 // The group takes nothing of the input, whatever that is.
 fn threads<T: Threads + Wait + Sync, W: Sink>(
     rt: &T,
@@ -315,8 +333,8 @@ fn outcome<R: Source, W: Sink>(
         (λ outcome. (size : Size) → wanted.now.command ≢ Command.Threads size) }
     ensures threads { IfErr result (λ size. wanted.now.command ≡ Command.Threads size) }
     ensures untouched { IsErr result → (reader.new ≡ reader.old) × (writer.new ≡ writer.old) }
-    ensures read { ConsumesAtMost (most_read wanted.now.command)
-        (R.remaining reader.old) (R.remaining reader.new) }
+    ensures read { IfSome (most_read wanted.now.command)
+        (λ most. ConsumesAtMost most (R.remaining reader.old) (R.remaining reader.new)) }
     ensures unread { takes_input wanted.now.command ≡ false → reader.new ≡ reader.old }
 {
     match wanted.command {
@@ -327,6 +345,7 @@ fn outcome<R: Source, W: Sink>(
         Command::Threads { size } => Err(size),
         Command::Sheets { asked } => Ok(sheets(alloc, asked, reader, writer)),
         Command::Schedule { request } => Ok(schedule(alloc, request, reader, writer)),
+        Command::Process { kind } => Ok(process(alloc, kind, reader, writer)),
         Command::Help => Ok(show(wanted.help.as_bytes(), writer)),
         Command::Version => Ok(show(b"focusd 0.3.0\n", writer)),
     }
@@ -378,14 +397,14 @@ pub fn run_alone<R: Source, W: Sink, E: Sink>(
 /// Does what the arguments ask for, of which the first is the program's name, and answers the status
 /// to end with.
 ///
-/// 0 says that it was done, and of `check` that nothing is refused, though it may warn; 1 that the
-/// input is refused, that `check` wrote what is refused of it, that it has no whole file of the period,
+/// 0 says that it was done, of `check` that nothing is refused, though it may warn, and of a process
+/// of a group that its input has ended; 1 that the input is refused, that `check` wrote what is refused of it, that it has no whole file of the period,
 /// that not all stays of two sheets that is to stay, that no schedule was found, or that a run in
 /// threads came to a mismatch; 2 that the words ask for nothing, or are no text; 3 that a read or a
 /// write failed; 4 that memory was wanting.
 /// In each case but 0 a line tells of it on `errors`, as far as that takes it. At most 16,777,217
-/// bytes are read, by `file` at most 4,294,967,297, and none at 2, by `threads`, or for help or the
-/// version. What is no group in threads is done by [`run_alone`], which no thread can keep from
+/// bytes are read, by `file` at most 4,294,967,297, by a process as many as come, and none at 2, by
+/// `threads`, or for help or the version. What is no group in threads is done by [`run_alone`], which no thread can keep from
 /// returning.
 pub fn run<T: Threads + Wait + Sync, R: Source, W: Sink, E: Sink>(
     rt: &T,

@@ -4,13 +4,14 @@ ghost use Rattle.std.specs.Prelude.{◌≡◌, ◌+◌, ◌≤◌, ◌++◌, OnE
 ghost use Rattle.std.specs.Io.KnownBytes.{Appends};
 ghost use Rattle.counted_io.specs.Counts.{count_after};
 ghost use Rattle.counted_io.specs.Writing.{AppendsPrefix};
-ghost use Rattle.command_line.specs.Endings.{Tells, status_of};
+ghost use Rattle.command_line.specs.Endings.{Tells, log_code_text, process_message, status_of};
 ghost use Rattle.command_line.specs.Inner.Parts.{end_part, first_part, first_words, told_part};
 
 use crate::words::LineFault;
 use answer_words::{Line, put_section, refusal_line};
 use counted_io::{Failed, Sink, write_all};
 use period_file::FileFault;
+use process_player::{LogCode, ProcessFault};
 use program_input::{PlayFault, ScheduleCode, ScheduleFault};
 use threads_player::ThreadsFault;
 
@@ -28,6 +29,8 @@ pub enum Fault {
     File(FileFault),
     /// `threads`.
     Threads(ThreadsFault),
+    /// `node` or `agent`.
+    Process(ProcessFault),
     /// `sheets` wrote all, and not all stays that is to stay.
     Unlike,
     /// `schedule`: the journals refuse a batch; in the words of `check`, without a line feed.
@@ -47,6 +50,13 @@ fn status(fault: &Fault) -> u8
         | Fault::Faults(_)
         | Fault::File(FileFault::NoFile | FileFault::Torn | FileFault::TooLong)
         | Fault::Threads(ThreadsFault::Mismatch | ThreadsFault::Refused)
+        | Fault::Process(
+            ProcessFault::Section(ScheduleFault::Refused { .. })
+            | ProcessFault::Log { .. }
+            | ProcessFault::OtherLog
+            | ProcessFault::NoJournal
+            | ProcessFault::TooLong,
+        )
         | Fault::Unlike
         | Fault::Batch(_)
         | Fault::TooLong
@@ -54,12 +64,58 @@ fn status(fault: &Fault) -> u8
         Fault::Line(LineFault::Line) => 2,
         Fault::Play(PlayFault::Read | PlayFault::Write)
         | Fault::File(FileFault::Read | FileFault::Write)
-        | Fault::Threads(ThreadsFault::Write) => 3,
+        | Fault::Threads(ThreadsFault::Write)
+        | Fault::Process(ProcessFault::Read | ProcessFault::Write) => 3,
         Fault::Line(LineFault::OutOfMemory)
         | Fault::File(FileFault::OutOfMemory)
         | Fault::Play(PlayFault::OutOfMemory)
         | Fault::Play(PlayFault::Schedule(ScheduleFault::OutOfMemory))
-        | Fault::Threads(ThreadsFault::OutOfMemory) => 4,
+        | Fault::Threads(ThreadsFault::OutOfMemory)
+        | Fault::Process(
+            ProcessFault::OutOfMemory | ProcessFault::Section(ScheduleFault::OutOfMemory),
+        ) => 4,
+    }
+}
+
+// What is wrong with a line of a log, in a word
+fn log_word(code: LogCode) -> &'static [u8]
+    ensures word { result.now ≡ log_code_text code }
+    ensures short { length result.now ≤ 9 }
+{
+    match code {
+        LogCode::Head => b"head",
+        LogCode::Kept => b"kept",
+        LogCode::Increment => b"increment",
+        LogCode::Torn => b"torn",
+        LogCode::TooLong => b"too long",
+    }
+}
+
+// Appends what is told of a process's fault.
+fn put_process(line: &mut Line, fault: ProcessFault)
+    requires room { length line.old + 52 ≤ 64 }
+    ensures put { line.new ≡ line.old ++ process_message fault }
+    ensures room { length line.new ≤ length line.old + 52 }
+{
+    match fault {
+        ProcessFault::Read => line.put(b"read failed"),
+        ProcessFault::Section(ScheduleFault::Refused { code, line: at }) => {
+            line.put(b"refused ");
+            put_section(line, code, at);
+        }
+        ProcessFault::Log { code, line: at } => {
+            line.put(b"refused log: ");
+            line.put(log_word(code));
+            line.put(b" line ");
+            line.put_long_number(at);
+        }
+        ProcessFault::OtherLog => line.put(b"refused log: of another process"),
+        ProcessFault::NoJournal => line.put(b"refused log: no journal of this agent"),
+        ProcessFault::TooLong => line.put(b"too long"),
+        ProcessFault::Write => line.put(b"write failed"),
+        ProcessFault::OutOfMemory | ProcessFault::Section(ScheduleFault::OutOfMemory) => {
+            line.put(b"out of memory");
+        }
     }
 }
 
@@ -103,6 +159,7 @@ fn put_message(line: &mut Line, fault: &Fault)
         }
         Fault::Threads(ThreadsFault::Mismatch) => line.put(b"mismatch"),
         Fault::Threads(ThreadsFault::Refused) => line.put(b"refused"),
+        Fault::Process(fault) => put_process(line, *fault),
         Fault::Unlike => line.put(b"unlike"),
         Fault::Batch(_) => {}
         Fault::TooLong => line.put(b"too long"),

@@ -15,6 +15,7 @@ use crate::commands::{Command, Kind};
 use clap::error::ErrorKind;
 use clap::{Arg, ArgAction, ArgMatches};
 use period_file::Period;
+use process_player::ProcessKind;
 use schedule_writer::Request;
 use sheet_changes::{Asked, Day};
 use std::alloc::Global;
@@ -47,6 +48,21 @@ const SHEETS: &str =
 
 const SHEETS_INPUT: &str =
     "Input: two sections `sheet n` and its n lines: the old sheet, then the new";
+
+const NODE: &str = "Runs a node of a group: reads what begins it, then commands, and answers each";
+
+const NODE_INPUT: &str =
+    "Input: the line `NODE 1`, the head line of its log, a section `sheet n` and its n lines, a
+section `issuer n` and its n lines, and the line `new`, or `log n` and the n lines of its log; then
+commands: `packet n` and n lines, `start`, `export p`, `keep`, `give a s`";
+
+const AGENT: &str =
+    "Runs an agent of a group: reads what begins it, then commands, and answers each";
+
+const AGENT_INPUT: &str =
+    "Input: the line `AGENT 1`, the head line of its log, a section `sheet n` and its n lines, a
+section `issuer n` and its n lines, and the line `new`, or `log n` and the n lines of its log; then
+commands: `journal n` and n lines, `keep`, `again s`";
 
 const THREADS: &str = "Runs a group in threads, without an input, and writes a report";
 
@@ -289,7 +305,9 @@ fn grammar<'a>(alloc: Global) -> Result<clap::Command<'a>, LineFault>
     let filing = with(checking, period_grammar(alloc, "file", FILE)?)?;
     let scheduling = with(filing, schedule_grammar(alloc)?)?;
     let comparing = with(scheduling, sheets_grammar(alloc)?)?;
-    with(comparing, threads_grammar(alloc)?)
+    let threading = with(comparing, threads_grammar(alloc)?)?;
+    let nodes = with(threading, explained(alloc, "node", NODE, NODE_INPUT))?;
+    with(nodes, explained(alloc, "agent", AGENT, AGENT_INPUT))
 }
 
 // The period that an option gives, where it is one
@@ -456,6 +474,12 @@ fn named(name: &str, options: &ArgMatches<'_>) -> Option<Command>
             let request = request(options)?;
             Some(Command::Schedule { request })
         }
+        "node" => Some(Command::Process {
+            kind: ProcessKind::Node,
+        }),
+        "agent" => Some(Command::Process {
+            kind: ProcessKind::Agent,
+        }),
         _ => None,
     }
 }

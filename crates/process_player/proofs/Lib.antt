@@ -6,3 +6,4 @@ pub mod PreambleLaws
 pub mod StoredLaws
 pub mod Commands
 pub mod CommandTexts
+pub mod Answered

@@ -66,6 +66,13 @@ pub record Runs (k : ProcessKind) (known known' old new : Option (List ℕ)) (la
   pub is_run : IsRun k bytes last said piece
   pub written : Appends old new said
 
+-- The input has begun a process, and just whole answers were written, to what it asks first.
+pub record HasAnswered (k : ProcessKind) (known old new : Option (List ℕ)) : Type 0 where
+  pub left : Option (List ℕ)
+  pub last : Process
+  pub piece : List ℕ
+  pub runs : Runs k known left old new last piece
+
 -- All bytes came, and the piece behind the last command is none: it has no line, or fewer lines than belong to its first.
 pub record RunsToEnd (k : ProcessKind) (known known' old new : Option (List ℕ)) : Type 0 where
   pub last : Process

@@ -25,6 +25,9 @@ pub enum ProcessFault {
     /// The log is another process's, or an agent's and no journal of it alone without a gap.
     #[error("refused log: of another process")]
     OtherLog,
+    /// The log is an agent's and no journal of it alone without a gap.
+    #[error("refused log: no journal of this agent")]
+    NoJournal,
     /// What was stored, or a command, has more than 4,294,967,296 bytes; or 2^63 commands were done.
     #[error("too long")]
     TooLong,

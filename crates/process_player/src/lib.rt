@@ -10,4 +10,5 @@ mod stored;
 
 pub use faults::ProcessFault;
 pub use heads::ProcessKind;
+pub use log_text::LogCode;
 pub use serving::process_text;

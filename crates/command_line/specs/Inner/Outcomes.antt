@@ -4,12 +4,14 @@ use Rattle.counted_io.specs.Counts.{next_count}
 use Rattle.counted_io.specs.declared.writing.Sink.{Ghosts as SinkOf}
 use Rattle.program_input.specs.declared.faults.PlayFault.TheVariants as play
 use Rattle.period_file.specs.Files.{AppendsFront}
+use Rattle.process_player.specs.declared.heads.ProcessKind.{ProcessKind}
+use Rattle.process_player.specs.Runs.{HasAnswered}
 use Rattle.schedule_writer.specs.Requests.{IsRequest}
 use Rattle.threads_player.specs.Groups.{IsSize}
 use Rattle.command_line.specs.Endings.{Tells, ending_line, status_of}
 use Rattle.command_line.specs.Runs.{IsDone, IsDoneInPart, IsLeftBy, IsPlayedInPart, Refuses, Says}
 use Rattle.command_line.specs.declared.commands.Command.{Command}
-use Rattle.command_line.specs.declared.commands.Command.TheVariants.{Play, File, Threads, Schedule}
+use Rattle.command_line.specs.declared.commands.Command.TheVariants.{Play, File, Threads, Schedule, Process}
 use Rattle.command_line.specs.declared.statuses.Fault.{Fault}
 use Rattle.command_line.specs.declared.statuses.Fault.TheVariants as of_fault
 
@@ -19,11 +21,12 @@ pub record Does {W : Type 0} (sink : SinkOf W) (command : Command) (known left :
   pub done : IsDone command known left (sink.contents writer) (sink.contents writer')
   pub calm : (reads' ≡ reads) × (sink.failed_calls writer' ≡ sink.failed_calls writer)
 
--- The writer is as it was; or a period's file is asked for, and of that a front was written.
+-- The writer is as it was; or a period's file is asked for, and of that a front was written; or a process, and whole answers were.
 abbrev pub IsKept : {W : Type 0} → SinkOf W → Command → Option (List ℕ) → (writer writer' : W) → Type 0
 IsKept sink command known writer writer' =
     (writer' ≡ writer)
-    ⊎ ((period : ℕ) × (command ≡ File period) × AppendsFront known period (sink.contents writer) (sink.contents writer'))
+    ⊎ (((period : ℕ) × (command ≡ File period) × AppendsFront known period (sink.contents writer) (sink.contents writer'))
+    ⊎ ((kind : ProcessKind) × (command ≡ Process kind) × HasAnswered kind known (sink.contents writer) (sink.contents writer')))
 
 -- The command came to the fault.
 pub record ComesTo {W : Type 0} (sink : SinkOf W) (command : Command) (fault : Fault) (known : Option (List ℕ)) (reads reads' : ℕ)

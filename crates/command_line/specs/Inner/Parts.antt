@@ -2,7 +2,7 @@
 use Rattle.std.specs.Prelude.{ℕ, List, [], ◌++◌, codes}
 use Rattle.command_line.specs.Endings.{ending_line, message_of}
 use Rattle.command_line.specs.declared.statuses.Fault.{Fault}
-use Rattle.command_line.specs.declared.statuses.Fault.TheVariants.{Line, Play, Faults, File, Threads, Unlike, Batch, TooLong, NotClosed}
+use Rattle.command_line.specs.declared.statuses.Fault.TheVariants.{Line, Play, Faults, File, Threads, Process, Unlike, Batch, TooLong, NotClosed}
 
 abbrev pub first_words : Fault → List ℕ
 first_words (Batch told) = []
@@ -11,6 +11,7 @@ first_words (Play fault) = message_of (Play fault)
 first_words (Faults count) = message_of (Faults count)
 first_words (File fault) = message_of (File fault)
 first_words (Threads fault) = message_of (Threads fault)
+first_words (Process fault) = message_of (Process fault)
 first_words Unlike = message_of Unlike
 first_words TooLong = message_of TooLong
 first_words NotClosed = message_of NotClosed
@@ -22,6 +23,7 @@ first_part (Play fault) = ending_line (Play fault)
 first_part (Faults count) = ending_line (Faults count)
 first_part (File fault) = ending_line (File fault)
 first_part (Threads fault) = ending_line (Threads fault)
+first_part (Process fault) = ending_line (Process fault)
 first_part Unlike = ending_line Unlike
 first_part TooLong = ending_line TooLong
 first_part NotClosed = ending_line NotClosed

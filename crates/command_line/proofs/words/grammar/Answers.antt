@@ -11,4 +11,6 @@ returns-clause-app c =
     let filing = c.in_ok-filing.ensures.app ∙ ap₂ with_subcommand checking (ap (λ (a : App). a.top) c.in_ok-period_grammar-2.ensures.app) in
     let scheduling = c.in_ok-scheduling.ensures.app ∙ ap₂ with_subcommand filing (ap (λ (a : App). a.top) c.in_ok-schedule_grammar.ensures.app) in
     let comparing = c.in_ok-comparing.ensures.app ∙ ap₂ with_subcommand scheduling (ap (λ (a : App). a.top) c.in_ok-sheets_grammar.ensures.app) in
-    subst (λ (a : App). IfOk c.with-7.result (λ g. app_of g ≡ a)) (ap₂ with_subcommand comparing (ap (λ (a : App). a.top) c.in_ok-threads_grammar.ensures.app)) c.with-7.ensures.app
+    let threading = c.in_ok-threading.ensures.app ∙ ap₂ with_subcommand comparing (ap (λ (a : App). a.top) c.in_ok-threads_grammar.ensures.app) in
+    let nodes = c.in_ok-nodes.ensures.app ∙ ap₂ with_subcommand threading (ap (λ (a : App). a.top) c.explained.ensures.app) in
+    subst (λ (a : App). IfOk c.with-9.result (λ g. app_of g ≡ a)) (ap₂ with_subcommand nodes (ap (λ (a : App). a.top) c.explained-2.ensures.app)) c.with-9.ensures.app
