@@ -1,0 +1,84 @@
+//! What the processes of a group do while their sheet becomes longer, and what they export meanwhile. Here the sheet of the
+//! group is the last one, which each of its processes has in the end.
+
+ghost use Rattle.std.specs.Prelude.{◌≡◌, ◌≢◌, ◌+◌, ◌<◌, ◌≤◌, true, ℕ, List, Some, map, slice_get};
+ghost use Rattle.std.specs.List.{Contains};
+ghost use Rattle.metering_model.specs.Cut.{last_of};
+ghost use Rattle.metering_model.specs.Holding.{up_to};
+ghost use Rattle.metering_model.specs.World.{Node, Snapshot};
+ghost use Rattle.metering_model.specs.Transcript.{file_of};
+ghost use Rattle.group_laws.specs.OneAgent.{batches_of};
+ghost use Rattle.process_laws.specs.LocalSteps.{Group, HasExported, Unfit, exporting, refusing, saying};
+ghost use Rattle.process_laws.specs.Histories.{Processes, IsHistory, after, answers, begun};
+ghost use Rattle.price_change_laws.specs.SheetedHistories.{SheetedAct, sheeted_acted, sheeted_answers, sheeted_after, IsSheetedHistory, AreTakenOver, lacks_price, answers_kept, acts_kept, answer_under, AreAlike, EndsBeforeChange};
+
+/// Where the last sheet has the base month of each sheet before it, and prices all that they do, its processes do under
+/// all of them what they do under the last one alone: without the acts that were refused for want of a price, which
+/// changed nothing.
+pub fn prices_may_change()
+    ensures history { (g : Group) (acts : List SheetedAct) → IsSheetedHistory g (begun g) acts →
+        AreTakenOver g.sheet acts →
+        IsHistory g (begun g) (acts_kept acts (sheeted_answers g (begun g) acts)) }
+
+    // Each answer is the same. In that of an export the last sheet stands in place of the one that it was done under.
+    ensures answers { (g : Group) (acts : List SheetedAct) → IsSheetedHistory g (begun g) acts →
+        AreTakenOver g.sheet acts →
+        answers g (begun g) (acts_kept acts (sheeted_answers g (begun g) acts))
+        ≡ map (answer_under g.sheet) (answers_kept (sheeted_answers g (begun g) acts)) }
+    ensures processes { (g : Group) (acts : List SheetedAct) → IsSheetedHistory g (begun g) acts →
+        AreTakenOver g.sheet acts →
+        AreAlike (sheeted_after g (begun g) acts)
+        (after g (begun g) (acts_kept acts (sheeted_answers g (begun g) acts))) }
+
+    // An act that is refused for want of a price changes nothing, whatever the sheets.
+    ensures left_out { (g : Group) (s : Processes) (x : SheetedAct) →
+        lacks_price (sheeted_acted g s x).answer ≡ true → AreAlike (sheeted_acted g s x).after s }
+
+    // A node that has the last sheet refuses no export as unfit: one that does so lacks a price.
+    ensures fit { (g : Group) (acts : List SheetedAct) → IsSheetedHistory g (begun g) acts →
+        AreTakenOver g.sheet acts →
+        (i period : ℕ) (n : Node) → slice_get (sheeted_after g (begun g) acts).nodes i ≡ Some n →
+        exporting g n period ≢ refusing Unfit }
+{}
+
+/// So the file of a month that ends by the day from which on prices changed is the same bytes, whichever node exports it,
+/// whenever, and under whichever of these sheets. And whatever the sheets of two files are, they are made of the same
+/// cuts and batches, so that no batch is between the two cuts of two periods.
+pub fn closed_months_stay()
+    // The file is the same bytes as under the last sheet.
+    ensures files { (g : Group) (acts : List SheetedAct) → IsSheetedHistory g (begun g) acts →
+        AreTakenOver g.sheet acts → (s : Snapshot) →
+        Contains (sheeted_answers g (begun g) acts) (saying (HasExported s)) →
+        EndsBeforeChange g.sheet s → file_of (record s { sheet = g.sheet }) ≡ file_of s }
+
+    // So any two files of such a period are.
+    ensures same { (g : Group) (acts : List SheetedAct) → IsSheetedHistory g (begun g) acts →
+        AreTakenOver g.sheet acts → (s t : Snapshot) →
+        Contains (sheeted_answers g (begun g) acts) (saying (HasExported s)) →
+        Contains (sheeted_answers g (begun g) acts) (saying (HasExported t)) →
+        s.period ≡ t.period → EndsBeforeChange g.sheet s → EndsBeforeChange g.sheet t →
+        file_of s ≡ file_of t }
+
+    // Of whichever period, two exports differ at most in the sheet.
+    ensures made { (g : Group) (acts : List SheetedAct) → IsSheetedHistory g (begun g) acts →
+        AreTakenOver g.sheet acts → (s t : Snapshot) →
+        Contains (sheeted_answers g (begun g) acts) (saying (HasExported s)) →
+        Contains (sheeted_answers g (begun g) acts) (saying (HasExported t)) →
+        s.period ≡ t.period → record s { sheet = t.sheet } ≡ t }
+    ensures once { (g : Group) (acts : List SheetedAct) → IsSheetedHistory g (begun g) acts →
+        AreTakenOver g.sheet acts → (s t : Snapshot) →
+        Contains (sheeted_answers g (begun g) acts) (saying (HasExported s)) →
+        Contains (sheeted_answers g (begun g) acts) (saying (HasExported t)) → (agent seq : ℕ) →
+        last_of s.from agent < seq → seq ≤ last_of s.to agent →
+        last_of t.from agent < seq → seq ≤ last_of t.to agent → s.period ≡ t.period }
+    ensures follows { (g : Group) (acts : List SheetedAct) → IsSheetedHistory g (begun g) acts →
+        AreTakenOver g.sheet acts → (s t : Snapshot) →
+        Contains (sheeted_answers g (begun g) acts) (saying (HasExported s)) →
+        Contains (sheeted_answers g (begun g) acts) (saying (HasExported t)) →
+        s.period + 1 ≡ t.period → t.from ≡ s.to }
+    ensures batches { (g : Group) (acts : List SheetedAct) → IsSheetedHistory g (begun g) acts →
+        AreTakenOver g.sheet acts → (s : Snapshot) →
+        Contains (sheeted_answers g (begun g) acts) (saying (HasExported s)) →
+        (agent : ℕ) → batches_of agent s.batches
+        ≡ up_to s.to ((sheeted_after g (begun g) acts).journals agent) }
+{}
