@@ -4,3 +4,8 @@ pub mod OneAct
 pub mod KeptActs
 pub mod FitUnderLast
 pub mod ClosedMonths
+pub mod LongerSheets
+-- worked examples, and what is false
+pub mod WorkedSheets
+pub mod WorkedChange
+pub mod FalseChange

@@ -1,16 +1,19 @@
 //! What the processes of a group do while their sheet becomes longer, and what they export meanwhile. Here the sheet of the
 //! group is the last one, which each of its processes has in the end.
 
-ghost use Rattle.std.specs.Prelude.{◌≡◌, ◌≢◌, ◌+◌, ◌<◌, ◌≤◌, true, ℕ, List, Some, map, slice_get};
+ghost use Rattle.std.specs.Prelude.{◌≡◌, ◌≢◌, ◌+◌, ◌<◌, ◌≤◌, true, ℕ, List, Some, map, slice_get, ℤ, ◌≤ℤ◌};
 ghost use Rattle.std.specs.List.{Contains};
 ghost use Rattle.metering_model.specs.Cut.{last_of};
+ghost use Rattle.metering_model.specs.Dates.{period_end};
 ghost use Rattle.metering_model.specs.Holding.{up_to};
+ghost use Rattle.metering_model.specs.Sheet.{Sheet};
 ghost use Rattle.metering_model.specs.World.{Node, Snapshot};
 ghost use Rattle.metering_model.specs.Transcript.{file_of};
 ghost use Rattle.group_laws.specs.OneAgent.{batches_of};
+ghost use Rattle.sheet_laws.specs.Longer.{IsLonger, NamesAllAlike, day_start};
 ghost use Rattle.process_laws.specs.LocalSteps.{Group, HasExported, Unfit, exporting, refusing, saying};
 ghost use Rattle.process_laws.specs.Histories.{Processes, IsHistory, after, answers, begun};
-ghost use Rattle.price_change_laws.specs.SheetedHistories.{SheetedAct, sheeted_acted, sheeted_answers, sheeted_after, IsSheetedHistory, AreTakenOver, lacks_price, answers_kept, acts_kept, answer_under, AreAlike, EndsBeforeChange};
+ghost use Rattle.price_change_laws.specs.SheetedHistories.{SheetedAct, sheeted_acted, sheeted_answers, sheeted_after, IsSheetedHistory, IsTakenOver, AreTakenOver, lacks_price, answers_kept, acts_kept, answer_under, AreAlike, EndsBeforeChange};
 
 /// Where the last sheet has the base month of each sheet before it, and prices all that they do, its processes do under
 /// all of them what they do under the last one alone: without the acts that were refused for want of a price, which
@@ -81,4 +84,29 @@ pub fn closed_months_stay()
         Contains (sheeted_answers g (begun g) acts) (saying (HasExported s)) →
         (agent : ℕ) → batches_of agent s.batches
         ≡ up_to s.to ((sheeted_after g (begun g) acts).journals agent) }
+{}
+
+/// How a process comes to have a sheet that the last one takes over, and an export to end before the change: the last sheet
+/// is longer, by the rows that can be looked up in both (`sheet_laws`).
+pub fn longer_sheets_take_over()
+    ensures taken { (day : ℤ) (old last : Sheet) → IsLonger day old last → IsTakenOver last old }
+    ensures itself { (last : Sheet) → IsTakenOver last last }
+
+    // So where one sheet after the other is taken over by the next.
+    ensures chained { (first second third : Sheet) → IsTakenOver second first
+        → IsTakenOver third second → IsTakenOver third first }
+    ensures ends { (day : ℤ) (last : Sheet) (s : Snapshot) → IsLonger day s.sheet last →
+        period_end last.base s.period ≤ℤ day_start day → NamesAllAlike s.sheet last s.batches →
+        EndsBeforeChange last s }
+
+    // Nothing is asked of an export under the last sheet itself.
+    ensures ends_itself { (s : Snapshot) → EndsBeforeChange s.sheet s }
+
+    // Regions are named alike in what is exported where they are in what the agents journaled.
+    ensures named { (g : Group) (acts : List SheetedAct) → IsSheetedHistory g (begun g) acts →
+        AreTakenOver g.sheet acts → (s : Snapshot) →
+        Contains (sheeted_answers g (begun g) acts) (saying (HasExported s)) →
+        ((agent : ℕ) → NamesAllAlike s.sheet g.sheet
+        ((sheeted_after g (begun g) acts).journals agent)) →
+        NamesAllAlike s.sheet g.sheet s.batches }
 {}
