@@ -1,5 +1,5 @@
 -- What is exported under several sheets: it is made of the same as under the last one, and the file of a month that is closed by then is the same bytes.
-use Rattle.std.proofs.Common.{◌≡◌, ℕ, ◌+◌, ◌<◌, ◌≤◌, Bool, true, false, not, List, [], ◌∷◌, map, filter, refl, sym, ap, subst, ◌∙◌, arith, Option, Some, None, is_some, All, ℤ, ◌<ℤ◌, ◌≤ℤ◌}
+use Rattle.std.proofs.Common.{◌≡◌, ℕ, ◌+◌, ◌<◌, ◌≤◌, Bool, true, false, not, List, [], ◌∷◌, map, refl, sym, ap, subst, ◌∙◌, Option, Some, None, is_some, All, ◌<ℤ◌}
 use Rattle.std.specs.Prelude.{if◌then◌else◌, slice_get}
 use Rattle.std.specs.List.{Contains}
 use Rattle.std.proofs.lemmas.Bool.{true≢false}
@@ -13,7 +13,7 @@ use Rattle.metering_model.specs.JournalRules.{MeetsJournalRules}
 use Rattle.metering_model.specs.declared.BrokenRule.{BrokenRule}
 use Rattle.metering_model.specs.Front.{AreDueBetween}
 use Rattle.metering_model.specs.File.{file}
-use Rattle.metering_model.specs.World.{World, Exported, Snapshot}
+use Rattle.metering_model.specs.World.{World, Snapshot}
 use Rattle.metering_model.specs.Step.{cut_before, play}
 use Rattle.metering_model.specs.Transcript.{file_of}
 use Rattle.metering_model.proofs.RulesUpToCut.{MeetsJournalRules-up_to}
@@ -25,7 +25,7 @@ use Rattle.sheet_laws.proofs.FoundReadings.{above_too}
 use Rattle.sheet_laws.proofs.Months.{reading_in_time}
 use Rattle.sheet_laws.proofs.PairedRows.{rows_stay}
 use Rattle.process_laws.specs.LocalSteps.{Group, HasExported, Answer, saying}
-use Rattle.process_laws.specs.Histories.{Act, begun, answers, after, opened, IsDoneByWorld}
+use Rattle.process_laws.specs.Histories.{Act, begun, answers, opened, IsDoneByWorld}
 use Rattle.process_laws.proofs.AgreedExports.{files_are_the_same, each_batch_once, next_begins_there, batches_are_journaled}
 use Rattle.process_laws.proofs.DoneByWorld.{is_done_by_world}
 use Rattle.process_laws.proofs.ExportedAnswers.{exported_among}

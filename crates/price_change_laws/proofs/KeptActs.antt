@@ -1,8 +1,7 @@
 -- All acts of a history under several sheets, but for those that were refused for want of a price, are a history under the last one.
-use Rattle.std.proofs.Common.{◌≡◌, Bool, true, false, not, List, [], ◌∷◌, map, refl, sym, ap, subst, ◌∙◌, All, arith}
+use Rattle.std.proofs.Common.{◌≡◌, Bool, true, false, not, List, [], ◌∷◌, map, refl, sym, ap, subst, ◌∙◌, All}
 use Rattle.std.specs.Prelude.{if◌then◌else◌}
 use Rattle.std.proofs.lemmas.List.Elements.{All-nil, All-cons, All-head, All-tail}
-use Rattle.sheet_laws.specs.Runs.{PricesAllOf}
 use Rattle.process_laws.specs.LocalSteps.{Group, Answer}
 use Rattle.process_laws.specs.Histories.{Processes, Act, Acted, acted, answers, after, IsHistory, begun}
 use Rattle.price_change_laws.specs.SheetedHistories.{SheetedAct, group_under, sheeted_acted, sheeted_answers, sheeted_after, IsSheetedHistory, IsTakenOver, AreTakenOver, lacks_price, answers_kept, acts_kept, answer_under, AreAlike}

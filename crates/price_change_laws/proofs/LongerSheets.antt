@@ -1,12 +1,12 @@
 -- How the premises are met.
-use Rattle.std.proofs.Common.{◌≡◌, ℕ, List, ap, subst, sym, refl, ◌∙◌, arith, Some, ℤ, pos, negsuc, ◌≤ℤ◌, option_map}
+use Rattle.std.proofs.Common.{◌≡◌, ℕ, List, ap, subst, refl, ◌∙◌, arith, Some, ℤ, pos, negsuc, ◌≤ℤ◌, option_map}
 use Rattle.std.specs.Prelude.{slice_get}
 use Rattle.std.specs.List.{Contains}
 use Rattle.std.specs.Option.{option_and_then}
 use Rattle.std.proofs.lemmas.Int.{ints}
-use Rattle.metering_model.specs.Batch.{Batch, Reading}
+use Rattle.metering_model.specs.Batch.{Batch}
 use Rattle.metering_model.specs.Dates.{period_end}
-use Rattle.metering_model.specs.Holding.{Holding, Position, reading_of, reading_at}
+use Rattle.metering_model.specs.Holding.{Holding, reading_of, reading_at}
 use Rattle.metering_model.specs.Sheet.{Sheet}
 use Rattle.metering_model.specs.World.{Snapshot}
 use Rattle.sheet_laws.specs.Longer.{IsLonger, NamesAllAlike, without_from, day_start}

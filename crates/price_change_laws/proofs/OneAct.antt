@@ -5,10 +5,9 @@ use Rattle.std.specs.List.{Contains}
 use Rattle.std.proofs.lemmas.Bool.{true≢false}
 use Rattle.std.proofs.lemmas.Option.{same_Some}
 use Rattle.metering_model.specs.Sheet.{Sheet}
-use Rattle.metering_model.specs.Holding.{Holding}
 use Rattle.metering_model.specs.declared.Refusal.TheVariants.{NoNode}
 use Rattle.metering_model.specs.World.{Node, Packet}
-use Rattle.process_laws.specs.LocalSteps.{Group, NodeCommand, TakePacket, BeginBallot, ExportPeriod, TellKept, SendBatch, OfModel, refusing, is_of_group, NodeDone, node_does, node_goes_on, AgentDone, agent_does, agent_goes_on}
+use Rattle.process_laws.specs.LocalSteps.{Group, NodeCommand, TakePacket, BeginBallot, ExportPeriod, TellKept, SendBatch, OfModel, refusing, NodeDone, node_does, node_goes_on, AgentDone, agent_does, agent_goes_on}
 use Rattle.process_laws.specs.Histories.{Processes, Act, Acted, NodeDoes, NodeGoesOn, AgentDoes, AgentGoesOn, sent_with, with_node_done, with_agent_done, by_node, acted, WasSent, MayAct}
 use Rattle.price_change_laws.specs.SheetedHistories.{group_under, lacks_price, answer_under, AreAlike, IsTakenOver}
 use Rattle.price_change_laws.proofs.OtherSheet.{shows_unbroken, NodeGoesAlike, AgentGoesAlike, node_goes_alike, agent_goes_alike}

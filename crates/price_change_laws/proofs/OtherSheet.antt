@@ -1,6 +1,6 @@
 -- What a node and an agent do by themselves under an older sheet, and what they do under the last one: the same, but for what is refused for want of
 -- a price.
-use Rattle.std.proofs.Common.{◌≡◌, ℕ, ◌+◌, Bool, true, false, not, List, refl, sym, ap, subst, ◌∙◌, Option, Some, None, Result, Ok, Err, ok_or, is_some}
+use Rattle.std.proofs.Common.{◌≡◌, ℕ, ◌+◌, Bool, true, false, not, List, refl, sym, ap, subst, Option, Some, None, Result, Ok, Err, ok_or, is_some}
 use Rattle.std.specs.Prelude.{◌==◌, ◌&&◌, if◌then◌else◌, slice_get, take}
 use Rattle.std.proofs.lemmas.Bool.{true≢false}
 use Rattle.metering_model.specs.FirstFailure.{◌>>=◌, holds_or}
@@ -15,12 +15,11 @@ use Rattle.metering_model.specs.declared.BrokenRule.TheVariants.{BadTarget, Unpr
 use Rattle.metering_model.specs.declared.Refusal.{Refusal}
 use Rattle.metering_model.specs.declared.Refusal.TheVariants.{NotClosed, Missing, NoAgent, WrongSeq}
 use Rattle.metering_model.specs.Ballot.{Vote, Attempt, with_promise, has_majority}
-use Rattle.metering_model.specs.World.{Packet, CarriesBatch, Prepare, Promise, Accept, Accepted, Decided, Node, World, Offer, Snapshot, current_period, last_cut, voter_count}
+use Rattle.metering_model.specs.World.{Packet, CarriesBatch, Prepare, Promise, Accept, Accepted, Decided, Node, World, Snapshot, current_period, last_cut, voter_count}
 use Rattle.metering_model.specs.Deliveries.{Handled, silent, sending, if_votes, proposal, after_promise, handled}
 use Rattle.metering_model.specs.Step.{batch_of, cut_before, first_missing, started_node, unless_broken, unless_missing}
-use Rattle.sheet_laws.specs.Runs.{PricesAllOf}
 use Rattle.sheet_laws.proofs.TwoRuns.{priced_broken}
-use Rattle.process_laws.specs.LocalSteps.{Group, NodeCommand, TakePacket, BeginBallot, ExportPeriod, TellKept, SendBatch, AgentCommand, JournalBatch, SendAgain, TellJournal, OfModel, Foreign, Unfit, Words, HasBegun, HasExported, HasJournaled, HasSent, Answer, saying, refusing, sending_held, bare_world, is_of_group, are_growing, is_unbroken}
+use Rattle.process_laws.specs.LocalSteps.{Group, NodeCommand, TakePacket, BeginBallot, ExportPeriod, TellKept, SendBatch, AgentCommand, JournalBatch, SendAgain, TellJournal, OfModel, Foreign, Unfit, Words, HasBegun, HasExported, HasJournaled, HasSent, saying, refusing, sending_held, bare_world, is_of_group, are_growing, is_unbroken}
 use Rattle.process_laws.specs.LocalSteps.{NodeDone, unmoved, after_handling, taking, next_ballot, beginning, is_fit, exporting, node_does, AgentDone, unmoved_journal, agent_does}
 use Rattle.price_change_laws.specs.SheetedHistories.{group_under, lacks_price, answer_under, IsTakenOver}
 

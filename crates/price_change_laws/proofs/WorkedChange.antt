@@ -21,13 +21,13 @@ use Rattle.metering_model.proofs.Samples.{issuer_1, row_1}
 use Rattle.sheet_laws.specs.Longer.{NamesAllAlike, without_from}
 use Rattle.sheet_laws.proofs.Premises.{named_alike}
 use Rattle.process_laws.specs.LocalSteps.{Group, TakePacket, BeginBallot, ExportPeriod, JournalBatch, OfModel, Unfit, HasTaken, HasBegun, HasJournaled, HasExported, NodeWentOn, AgentWentOn, Answer, Words, saying, refusing}
-use Rattle.process_laws.specs.Histories.{Act, NodeDoes, NodeGoesOn, AgentDoes, AgentGoesOn, begun, IsHistory, IsDoneByWorld}
+use Rattle.process_laws.specs.Histories.{Act, NodeDoes, NodeGoesOn, AgentDoes, AgentGoesOn, begun, IsDoneByWorld}
 use Rattle.process_laws.proofs.DoneByWorld.{is_done_by_world}
 use Rattle.process_laws.proofs.EachAct.{◌⨾◌}
 use Rattle.price_change_laws.specs.SheetedHistories.{SheetedAct, sheeted_answers, sheeted_after, IsSheetedHistory, IsTakenOver, AreTakenOver, acts_kept, EndsBeforeChange}
 use Rattle.price_change_laws.proofs.ClosedMonths.{same_file}
 use Rattle.price_change_laws.proofs.KeptActs.{all_kept}
-use Rattle.price_change_laws.proofs.WorkedSheets.{february_1, old_sheet, new_sheet, it_is_longer, it_goes_on, it_takes_over, january_is_over}
+use Rattle.price_change_laws.proofs.WorkedSheets.{february_1, old_sheet, new_sheet, it_goes_on, it_takes_over, january_is_over}
 
 abbrev name : List ℕ
 name = codes "two"

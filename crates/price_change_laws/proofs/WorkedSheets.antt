@@ -1,5 +1,5 @@
 -- A sheet of January 2025, and a longer one from February on, of which the worked examples speak.
-use Rattle.std.proofs.Common.{◌≡◌, true, [], ◌∷◌, refl, Some, ℤ, pos, codes, All, arith, ◌≤ℤ◌}
+use Rattle.std.proofs.Common.{◌≡◌, true, [], ◌∷◌, refl, Some, ℤ, pos, codes, arith, ◌≤ℤ◌}
 use Rattle.std.specs.Option.{is_some}
 use Rattle.std.proofs.lemmas.Int.{ints}
 use Rattle.std.proofs.lemmas.List.Elements.{All-nil, All-cons}

@@ -13,7 +13,7 @@ ghost use Rattle.group_laws.specs.OneAgent.{batches_of};
 ghost use Rattle.sheet_laws.specs.Longer.{IsLonger, NamesAllAlike, day_start};
 ghost use Rattle.process_laws.specs.LocalSteps.{Group, HasExported, Unfit, exporting, refusing, saying};
 ghost use Rattle.process_laws.specs.Histories.{Processes, IsHistory, after, answers, begun};
-ghost use Rattle.price_change_laws.specs.SheetedHistories.{SheetedAct, sheeted_acted, sheeted_answers, sheeted_after, IsSheetedHistory, IsTakenOver, AreTakenOver, lacks_price, answers_kept, acts_kept, answer_under, AreAlike, EndsBeforeChange};
+ghost use Rattle.price_change_laws.specs.SheetedHistories.{SheetedAct, group_under, sheeted_acted, sheeted_answers, sheeted_after, IsSheetedHistory, IsTakenOver, AreTakenOver, lacks_price, answers_kept, acts_kept, answer_under, AreAlike, EndsBeforeChange};
 
 /// Where the last sheet has the base month of each sheet before it, and prices all that they do, its processes do under
 /// all of them what they do under the last one alone: without the acts that were refused for want of a price, which
@@ -37,11 +37,16 @@ pub fn prices_may_change()
     ensures left_out { (g : Group) (s : Processes) (x : SheetedAct) →
         lacks_price (sheeted_acted g s x).answer ≡ true → AreAlike (sheeted_acted g s x).after s }
 
-    // A node that has the last sheet refuses no export as unfit: one that does so lacks a price.
+    // A node that has the last sheet refuses no export as unfit. So it exports what it refused so under another one.
     ensures fit { (g : Group) (acts : List SheetedAct) → IsSheetedHistory g (begun g) acts →
         AreTakenOver g.sheet acts →
         (i period : ℕ) (n : Node) → slice_get (sheeted_after g (begun g) acts).nodes i ≡ Some n →
         exporting g n period ≢ refusing Unfit }
+    ensures unfit { (g : Group) (acts : List SheetedAct) → IsSheetedHistory g (begun g) acts →
+        AreTakenOver g.sheet acts →
+        (i period : ℕ) (n : Node) → slice_get (sheeted_after g (begun g) acts).nodes i ≡ Some n →
+        (old : Sheet) → exporting (group_under old g) n period ≡ refusing Unfit →
+        (s : Snapshot) × (exporting g n period ≡ saying (HasExported s)) }
 {}
 
 /// So the file of a month that ends by the day from which on prices changed is the same bytes, whichever node exports it,

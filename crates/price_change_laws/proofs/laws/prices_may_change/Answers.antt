@@ -1,4 +1,4 @@
-use Rattle.price_change_laws.proofs.FitUnderLast.{fit_under_last}
+use Rattle.price_change_laws.proofs.FitUnderLast.{fit_under_last, exported_under_last}
 use Rattle.price_change_laws.proofs.KeptActs.{all_kept, changes_nothing}
 use Rattle.price_change_laws.proofs.laws.prices_may_change.Goals as goal
 
@@ -16,3 +16,6 @@ returns-clause-left_out c = changes_nothing
 
 pub returns-clause-fit : goal.returns-clause-fit
 returns-clause-fit c = fit_under_last
+
+pub returns-clause-unfit : goal.returns-clause-unfit
+returns-clause-unfit c = exported_under_last
