@@ -8,4 +8,5 @@ pub mod LongerSheets
 -- worked examples, and what is false
 pub mod WorkedSheets
 pub mod WorkedChange
-pub mod FalseChange
+pub mod FalseMonths
+pub mod FalseAnswers

@@ -1,16 +1,13 @@
 -- Prices change while a group of one agent, one voter and one observer runs. January is exported by the voter, which has the old sheet still, and by
 -- the observer, which was begun again under the new one: the same bytes.
-use Rattle.std.proofs.Common.{arith, ap, All, Ok, Err, option_map}
-use Rattle.std.specs.Prelude.{◌≡◌, ℕ, List, [], ◌∷◌, ◌++◌, map, Some, None, codes, refl}
+use Rattle.std.proofs.Common.{arith}
+use Rattle.std.specs.Prelude.{◌≡◌, ℕ, List, [], ◌∷◌, ◌++◌, Some, None, codes, refl}
 use Rattle.std.specs.List.{Contains}
 use Rattle.std.specs.Fmt.{digits}
-use Rattle.std.proofs.lemmas.List.Elements.{All-nil, All-cons}
 use Rattle.jiff_core.specs.Calendar.{days_from_civil, day_count, days_of_years, days_of_months}
 use Rattle.metering_model.specs.NumberText.{worth_of, decimals_of}
-use Rattle.metering_model.specs.declared.Version.TheVariants.{B1}
 use Rattle.metering_model.specs.declared.Refusal.TheVariants.{Unpriced}
 use Rattle.metering_model.specs.Batch.{Batch}
-use Rattle.metering_model.specs.BatchReading.{batch_in}
 use Rattle.metering_model.specs.Cut.{Cut}
 use Rattle.metering_model.specs.File.{header_line}
 use Rattle.metering_model.specs.Schedule.{lines_text}
@@ -18,23 +15,21 @@ use Rattle.metering_model.specs.Sheet.{Sheet}
 use Rattle.metering_model.specs.Transcript.{file_of}
 use Rattle.metering_model.specs.World.{Packet, CarriesBatch, Prepare, Promise, Accept, Accepted, Kept, Good, Snapshot, new_kept}
 use Rattle.metering_model.proofs.Samples.{issuer_1, row_1}
-use Rattle.sheet_laws.specs.Longer.{NamesAllAlike, without_from}
+use Rattle.sheet_laws.specs.Longer.{NamesAllAlike}
 use Rattle.sheet_laws.proofs.Premises.{named_alike}
-use Rattle.process_laws.specs.LocalSteps.{Group, TakePacket, BeginBallot, ExportPeriod, JournalBatch, OfModel, Unfit, HasTaken, HasBegun, HasJournaled, HasExported, NodeWentOn, AgentWentOn, Answer, Words, saying, refusing}
+use Rattle.process_laws.specs.LocalSteps.{Group, BeginBallot, ExportPeriod, JournalBatch, OfModel, Unfit, HasTaken, HasBegun, HasJournaled, HasExported, NodeWentOn, AgentWentOn, Answer, Words, saying, refusing}
 use Rattle.process_laws.specs.Histories.{Act, NodeDoes, NodeGoesOn, AgentDoes, AgentGoesOn, begun, IsDoneByWorld}
 use Rattle.process_laws.proofs.DoneByWorld.{is_done_by_world}
 use Rattle.process_laws.proofs.EachAct.{◌⨾◌}
 use Rattle.price_change_laws.specs.SheetedHistories.{SheetedAct, sheeted_answers, sheeted_after, IsSheetedHistory, IsTakenOver, AreTakenOver, acts_kept, EndsBeforeChange}
 use Rattle.price_change_laws.proofs.ClosedMonths.{same_file}
 use Rattle.price_change_laws.proofs.KeptActs.{all_kept}
-use Rattle.price_change_laws.proofs.WorkedSheets.{february_1, old_sheet, new_sheet, it_goes_on, it_takes_over, january_is_over}
+use Rattle.price_change_laws.proofs.LongerSheets.{takes_over_itself, ends_by, ends_by_itself}
+use Rattle.price_change_laws.proofs.WorkedSheets.{february_1, old_sheet, new_sheet, it_is_longer, it_takes_over, january_is_over, group, takes, under, read, all_over, none_over}
 
-abbrev name : List ℕ
-name = codes "two"
-
--- node 0 votes, and node 1 observes; the sheet of the group is the last one
+-- node 0 votes, and node 1 observes
 abbrev two : Group
-two = record { name = name; voters = 1; observers = 1; agents = 1; sheet = new_sheet; issuer = issuer_1 }
+two = group 1 new_sheet
 
 -- ---- batches
 
@@ -44,9 +39,6 @@ text_1 = codes "B1|1|1|1\nU|2025-01-10T00:00:00Z|2025-01-10T02:00:00Z|acc-7|vm-1
 -- of a SKU that the old sheet lacks
 abbrev text_2 : List ℕ
 text_2 = codes "B1|1|2|1\nU|2025-02-03T00:00:00Z|2025-02-03T01:00:00Z|acc-7|vm-1|gpu|3600||\n"
-
-abbrev read : List ℕ → Batch
-read text = elim (batch_in text) [ Ok b ↦ b | Err fault ↦ record { version = B1; agent = 0; seq = 0; records = [] } ]
 
 abbrev batch_1 : Batch
 batch_1 = read text_1
@@ -61,12 +53,6 @@ abbrev cut_1 : Cut
 cut_1 = 2 ∷ []
 
 -- ---- what is done
-
-abbrev under : Sheet → List Act → List SheetedAct
-under sheet acts = map (λ a. record { sheet = sheet; act = a }) acts
-
-abbrev takes : ℕ → Packet → Act
-takes i p = NodeDoes i (TakePacket name p)
 
 abbrev and_sends : Words → Packet → Answer
 and_sends words p = record { words = words; sends = Some p }
@@ -182,21 +168,14 @@ is_history =
 -- ---- what the laws say of it
 
 itself : IsTakenOver new_sheet new_sheet
-itself = record { base = refl; prices = λ r fit. fit }
-
-abbrev Over : SheetedAct → Type 0
-Over x = IsTakenOver new_sheet x.sheet
-
-all_over : (sheet : Sheet) → IsTakenOver new_sheet sheet → (ones : List Act) (rest : List SheetedAct) → All Over rest → All Over (under sheet ones ++ rest)
-all_over sheet over [] rest all = all
-all_over sheet over (a ∷ ones) rest all = All-cons Over (record { sheet = sheet; act = a }) (under sheet ones ++ rest) over (all_over sheet over ones rest all)
+itself = takes_over_itself new_sheet
 
 are_taken_over : AreTakenOver new_sheet acts
 are_taken_over =
-    all_over old_sheet it_takes_over first_acts (then_two ++ then_one ++ at_last)
-    (all_over new_sheet itself two_acts (then_one ++ at_last)
-    (all_over old_sheet it_takes_over one_acts at_last
-    (all_over new_sheet itself last_acts [] (All-nil Over))))
+    all_over new_sheet old_sheet it_takes_over first_acts (then_two ++ then_one ++ at_last)
+    (all_over new_sheet new_sheet itself two_acts (then_one ++ at_last)
+    (all_over new_sheet old_sheet it_takes_over one_acts at_last
+    (all_over new_sheet new_sheet itself last_acts [] (none_over new_sheet))))
 
 -- the batch that was refused, and the export that was not fit, are left out
 the_others : acts_kept acts (sheeted_answers two (begun two) acts) ≡
@@ -217,19 +196,8 @@ names : NamesAllAlike old_sheet new_sheet (batch_1 ∷ [])
 unfolding days_from_civil day_count days_of_years days_of_months worth_of decimals_of digits
 names = named_alike old_sheet new_sheet (batch_1 ∷ []) refl
 
-names_itself : NamesAllAlike new_sheet new_sheet (batch_1 ∷ [])
-names_itself at r e id is = refl
-
-ends_before : EndsBeforeChange new_sheet (january old_sheet)
-ends_before = record { day = february_1; goes_on = it_goes_on; ends = january_is_over; named = names }
-
-ends_before_too : EndsBeforeChange new_sheet (january new_sheet)
-ends_before_too = record {
-  day = february_1;
-  goes_on = record { base = refl; prices = λ sku before p early e. ap (option_map without_from) e; commitments = λ id c e. e };
-  ends = january_is_over;
-  named = names_itself;
-}
+by_the_change : EndsBeforeChange new_sheet (january old_sheet)
+by_the_change = ends_by february_1 new_sheet (january old_sheet) it_is_longer january_is_over names
 
 by_the_old : Contains (sheeted_answers two (begun two) acts) (saying (HasExported (january old_sheet)))
 unfolding days_from_civil day_count days_of_years days_of_months worth_of decimals_of digits
@@ -241,7 +209,7 @@ by_the_new = (14, omega arith, refl)
 
 the_same_january : file_of (january old_sheet) ≡ file_of (january new_sheet)
 the_same_january =
-    same_file two acts is_history are_taken_over (january old_sheet) (january new_sheet) by_the_old by_the_new refl ends_before ends_before_too
+    same_file two acts is_history are_taken_over (january old_sheet) (january new_sheet) by_the_old by_the_new refl by_the_change (ends_by_itself (january new_sheet))
 
 -- and so it is computed
 these_bytes : (file_of (january old_sheet) ≡ lines_text (header_line ∷ row_1 ∷ [])) × (file_of (january new_sheet) ≡ lines_text (header_line ∷ row_1 ∷ []))
