@@ -10,7 +10,7 @@ use Rattle.metering_model.specs.declared.Refusal.{Refusal}
 use Rattle.metering_model.specs.declared.Refusal.TheVariants.{NoNode, NotClosed}
 use Rattle.metering_model.specs.World.{World, Node, Reply, Journaled, Delivered, Started, Restarted, Exported, KeptText, Refused, Snapshot, current_period}
 use Rattle.metering_model.specs.Step.{cut_before, first_missing, unless_missing}
-use Rattle.process_laws.specs.LocalSteps.{Group, ExportPeriod, OfModel, Unfit, HasExported, Answer, exporting, is_fit, refusing, saying, unmoved}
+use Rattle.process_laws.specs.LocalSteps.{Group, ExportPeriod, OfModel, Unfit, HasExported, RefusedFor, Answer, exporting, is_fit, refusing, saying, unmoved}
 use Rattle.process_laws.specs.Histories.{Processes, Act, Acted, NodeDoes, Tells, acted, after, begun, with_node_done, IsHistory}
 use Rattle.process_laws.proofs.Stands.{Stands, world_of}
 use Rattle.process_laws.proofs.MatchedActs.{all_are_matched}
@@ -26,7 +26,7 @@ is_told w i p (Started ballot k) x tells is = let words = sym tells.0 ∙ ap (λ
 is_told w i p Restarted x tells is = absurd tells
 is_told w i p (Exported s) x tells is = let words = ap (λ (y : Answer). y.words) (sym tells ∙ is) in absurd (cc (words))
 is_told w i p (KeptText text) x tells is = let words = ap (λ (y : Answer). y.words) (sym tells ∙ is) in absurd (cc (words))
-is_told w i p (Refused refusal) x tells is = let words = ap (λ (y : Answer). y.words) (sym tells ∙ is) in absurd (cc (words))
+is_told w i p (Refused refusal) x tells is = let words : RefusedFor (OfModel refusal) ≡ RefusedFor Unfit = ap (λ (y : Answer). y.words) (sym tells ∙ is) in absurd (cc)
 
 begun_stands : (g : Group) (room : ℕ) → Stands g room (begun g) [] []
 begun_stands g room = record {

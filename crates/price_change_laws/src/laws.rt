@@ -1,5 +1,5 @@
 //! What the processes of a group do while their sheet becomes longer, and what they export meanwhile. Here the sheet of the
-//! group is the last one, which each of its processes has in the end.
+//! group is the last one, which its processes have in the end, be it all of them or not.
 
 ghost use Rattle.std.specs.Prelude.{◌≡◌, ◌≢◌, ◌+◌, ◌<◌, ◌≤◌, true, ℕ, List, Some, map, slice_get, ℤ, ◌≤ℤ◌};
 ghost use Rattle.std.specs.List.{Contains};
