@@ -1,7 +1,7 @@
 -- What is exported under several sheets: it is made of the same as under the last one, and the file of a month that is closed by then is the same bytes.
-use Rattle.std.proofs.Common.{◌≡◌, ℕ, ◌+◌, ◌<◌, ◌≤◌, Bool, true, false, not, List, [], ◌∷◌, map, refl, sym, ap, subst, ◌∙◌, Option, Some, None, is_some, All, ◌<ℤ◌}
+use Rattle.std.proofs.Common.{◌≡◌, ℕ, ◌+◌, ◌<◌, ◌≤◌, Bool, true, false, not, List, [], ◌∷◌, map, refl, sym, ap, subst, ◌∙◌, Option, Some, None, is_some, All, ℤ, ◌<ℤ◌}
 use Rattle.std.specs.Prelude.{if◌then◌else◌, slice_get}
-use Rattle.std.specs.List.{Contains}
+use Rattle.std.specs.List.{AllZip, Contains}
 use Rattle.std.proofs.lemmas.Bool.{true≢false}
 use Rattle.std.proofs.lemmas.List.Elements.{All-nil, All-cons, All-contains, All-weaker, Contains-append_right}
 use Rattle.metering_model.specs.Dates.{period_end}
@@ -12,6 +12,7 @@ use Rattle.metering_model.specs.Holding.{Position, up_to, reading_at}
 use Rattle.metering_model.specs.JournalRules.{MeetsJournalRules}
 use Rattle.metering_model.specs.declared.BrokenRule.{BrokenRule}
 use Rattle.metering_model.specs.Front.{AreDueBetween}
+use Rattle.metering_model.specs.Rows.{placed_rows}
 use Rattle.metering_model.specs.File.{file}
 use Rattle.metering_model.specs.World.{World, Snapshot}
 use Rattle.metering_model.specs.Step.{cut_before, play}
@@ -20,10 +21,12 @@ use Rattle.metering_model.proofs.RulesUpToCut.{MeetsJournalRules-up_to}
 use Rattle.group_laws.specs.Headline.{IsExport}
 use Rattle.group_laws.specs.OneAgent.{batches_of}
 use Rattle.group_laws.proofs.EveryRun.{contains_at}
+use Rattle.sheet_laws.specs.Longer.{GoesOnFrom, NamesAllAlike}
+use Rattle.sheet_laws.specs.Pairs.{IsPricedBefore, StayAlike}
 use Rattle.sheet_laws.proofs.DayStarts.{starts_before_day}
 use Rattle.sheet_laws.proofs.FoundReadings.{above_too}
 use Rattle.sheet_laws.proofs.Months.{reading_in_time}
-use Rattle.sheet_laws.proofs.PairedRows.{rows_stay}
+use Rattle.sheet_laws.proofs.PairedRows.{rows_pair, rows_stay}
 use Rattle.process_laws.specs.LocalSteps.{Group, HasExported, Answer, saying}
 use Rattle.process_laws.specs.Histories.{Act, begun, answers, opened, IsDoneByWorld}
 use Rattle.process_laws.proofs.AgreedExports.{files_are_the_same, each_batch_once, next_begins_there, batches_are_journaled}
@@ -128,12 +131,25 @@ module _ (g : Group) (acts : List SheetedAct) (history : IsSheetedHistory g (beg
       none_broken = none_from _ (All-contains IsFitAnswer (sheeted_answers g (begun g) acts) (saying (HasExported s)) kept.fit has);
     }
 
+    -- what is charged starts before the day, or has no price
+    pub file_stays_if : (day : ℤ) → GoesOnFrom day s.sheet g.sheet → ((at : Position) (r : Reading) → reading_at s.batches at ≡ Some r → IsPricedBefore day r)
+        → NamesAllAlike s.sheet g.sheet s.batches → file_of (record s { sheet = g.sheet }) ≡ file_of s
+    file_stays_if day goes before names =
+        ap file
+        (rows_stay day s.sheet g.sheet goes s.issuer s.batches s.period s.from s.to (MeetsJournalRules-up_to s.sheet s.to s.batches rules)
+        (λ at r found. before at r (above_too s.batches s.to at r found))
+        (λ at r found. names at r (above_too s.batches s.to at r found)))
+
     pub file_stays : EndsBeforeChange g.sheet s → file_of (record s { sheet = g.sheet }) ≡ file_of s
     file_stays e =
-        ap file
-        (rows_stay e.day s.sheet g.sheet e.goes_on s.issuer s.batches s.period s.from s.to (MeetsJournalRules-up_to s.sheet s.to s.batches rules)
-        (λ at r found _. starts_before_day r.start (period_end g.sheet.base s.period) e.day (starts_before_end at r (above_too s.batches s.to at r found)) e.ends)
-        (λ at r found. e.named at r (above_too s.batches s.to at r found)))
+        file_stays_if e.day e.goes_on
+        (λ at r found _. starts_before_day r.start (period_end g.sheet.base s.period) e.day (starts_before_end at r found) e.ends) e.named
+
+    pub rows_stay_alike : (day : ℤ) → GoesOnFrom day s.sheet g.sheet → AllZip (StayAlike day s.sheet g.sheet s.batches)
+        (placed_rows s.sheet s.issuer s.batches s.period s.from s.to) (placed_rows g.sheet s.issuer s.batches s.period s.from s.to)
+    rows_stay_alike day goes =
+        rows_pair day s.sheet g.sheet goes s.issuer s.batches s.period s.from s.to
+        (MeetsJournalRules-up_to s.sheet s.to s.batches rules) (MeetsJournalRules-up_to g.sheet s.to s.batches export.rules)
 
   pub same_file : (s t : Snapshot) → HasFile s → HasFile t → s.period ≡ t.period → EndsBeforeChange g.sheet s → EndsBeforeChange g.sheet t
       → file_of s ≡ file_of t

@@ -50,7 +50,7 @@ AreTakenOver last acts = All (λ x. IsTakenOver last x.sheet) acts
 -- ---- the same acts under the last sheet, without those that were refused since a sheet lacked a price
 
 -- Refused since the process's sheet lacks a price or a commitment: a batch that an agent is offered; or an export, by a node that holds a batch which
--- was journaled under a sheet that has it.
+-- was journaled under a sheet that has it. An export is unfit also where a cut goes back, which in a history never comes (the law `fit`).
 abbrev pub is_for_want_of_price : Words → Bool
 is_for_want_of_price (RefusedFor (OfModel Unpriced)) = true
 is_for_want_of_price (RefusedFor Unfit) = true

@@ -2,15 +2,18 @@
 //! group is the last one, which its processes have in the end, be it all of them or not.
 
 ghost use Rattle.std.specs.Prelude.{◌≡◌, ◌≢◌, ◌+◌, ◌<◌, ◌≤◌, true, ℕ, List, Some, map, slice_get, ℤ, ◌≤ℤ◌};
-ghost use Rattle.std.specs.List.{Contains};
+ghost use Rattle.std.specs.List.{AllZip, Contains};
+ghost use Rattle.metering_model.specs.Batch.{Reading};
 ghost use Rattle.metering_model.specs.Cut.{last_of};
 ghost use Rattle.metering_model.specs.Dates.{period_end};
-ghost use Rattle.metering_model.specs.Holding.{up_to};
+ghost use Rattle.metering_model.specs.Holding.{Position, reading_at, up_to};
+ghost use Rattle.metering_model.specs.Rows.{placed_rows};
 ghost use Rattle.metering_model.specs.Sheet.{Sheet};
 ghost use Rattle.metering_model.specs.World.{Node, Snapshot};
 ghost use Rattle.metering_model.specs.Transcript.{file_of};
 ghost use Rattle.group_laws.specs.OneAgent.{batches_of};
-ghost use Rattle.sheet_laws.specs.Longer.{IsLonger, NamesAllAlike, day_start};
+ghost use Rattle.sheet_laws.specs.Longer.{GoesOnFrom, IsLonger, NamesAllAlike, day_start};
+ghost use Rattle.sheet_laws.specs.Pairs.{IsPricedBefore, StayAlike};
 ghost use Rattle.process_laws.specs.LocalSteps.{Group, HasExported, Unfit, exporting, refusing, saying};
 ghost use Rattle.process_laws.specs.Histories.{Processes, IsHistory, after, answers, begun};
 ghost use Rattle.price_change_laws.specs.SheetedHistories.{SheetedAct, group_under, sheeted_acted, sheeted_answers, sheeted_after, IsSheetedHistory, IsTakenOver, AreTakenOver, lacks_price, answers_kept, acts_kept, answer_under, AreAlike, EndsBeforeChange};
@@ -89,6 +92,28 @@ pub fn closed_months_stay()
         Contains (sheeted_answers g (begun g) acts) (saying (HasExported s)) →
         (agent : ℕ) → batches_of agent s.batches
         ≡ up_to s.to ((sheeted_after g (begun g) acts).journals agent) }
+{}
+
+/// Of a later month an older sheet's file has its rows at the places of the last sheet's, in the same order, and each two of
+/// them stay alike as in `sheet_laws`: they differ at most in the columns that a price gives, if the sheets price their
+/// reading otherwise, and in the region's name, if they name it otherwise.
+pub fn later_months_stay_alike()
+    ensures pairs { (g : Group) (acts : List SheetedAct) → IsSheetedHistory g (begun g) acts →
+        AreTakenOver g.sheet acts → (s : Snapshot) →
+        Contains (sheeted_answers g (begun g) acts) (saying (HasExported s)) →
+        (day : ℤ) → GoesOnFrom day s.sheet g.sheet →
+        AllZip (StayAlike day s.sheet g.sheet s.batches)
+        (placed_rows s.sheet s.issuer s.batches s.period s.from s.to)
+        (placed_rows g.sheet s.issuer s.batches s.period s.from s.to) }
+
+    // Where each reading up to its cut starts before the day or has no price, the file is the same bytes.
+    ensures all { (g : Group) (acts : List SheetedAct) → IsSheetedHistory g (begun g) acts →
+        AreTakenOver g.sheet acts → (s : Snapshot) →
+        Contains (sheeted_answers g (begun g) acts) (saying (HasExported s)) →
+        (day : ℤ) → GoesOnFrom day s.sheet g.sheet →
+        ((at : Position) (r : Reading) → reading_at s.batches at ≡ Some r → IsPricedBefore day r) →
+        NamesAllAlike s.sheet g.sheet s.batches →
+        file_of (record s { sheet = g.sheet }) ≡ file_of s }
 {}
 
 /// How a process comes to have a sheet that the last one takes over, and an export to end before the change: the last sheet
