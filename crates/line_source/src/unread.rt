@@ -141,6 +141,18 @@ impl Unread {
         self.read = (self.bytes.len() - self.from) as u64;
     }
 
+    /// Gives back the room of what was taken, all but a block for what comes next: a long section would else hold its room for
+    /// as long as is read. What is ahead moves to the front, so this is for where little is. Where an allocation fails, the room
+    /// stays.
+    pub fn release(&mut self)
+        ensures bytes { self.new.bytes ≡ self.old.bytes }
+        ensures read { self.new.read ≡ self.old.read }
+    {
+        drop_front(&mut self.bytes, self.from);
+        self.from = 0;
+        self.bytes.shrink_to(BLOCK);
+    }
+
     /// Reads a block more, and returns whether a byte came: none does at the end.
     pub fn fill<S: Source>(&mut self, source: &mut S) -> Result<bool, SourceFault>
         requires { self.old.read ≤ most_transcript_bytes }
