@@ -78,7 +78,7 @@ command_at p text end all lines one below same =
 -- ---- no command stands there
 
 -- the lines of a text that begins with a line
-lines_with : (l rest : List ℕ) → lacks 10 l ≡ true → (lines_in (line l ++ rest)).lines ≡ l ∷ (lines_in rest).lines
+pub lines_with : (l rest : List ℕ) → lacks 10 l ≡ true → (lines_in (line l ++ rest)).lines ≡ l ∷ (lines_in rest).lines
 lines_with l rest whole =
     ap (λ t. (lines_in (t ++ rest)).lines) (sym (append-nil (line l)))
     ∙ ap (λ (x : Lines). x.lines) (lines_behind (l ∷ []) rest (and_from _ _ whole refl))

@@ -1,7 +1,7 @@
 -- Which answers tell of a failed call.
 use Rattle.std.specs.Prelude.{Bool, true, false, Result, Ok, Err}
 use Rattle.process_player.specs.declared.faults.ProcessFault.{ProcessFault}
-use Rattle.process_player.specs.declared.faults.ProcessFault.TheVariants.{Read, Section, Log, OtherLog, TooLong, Write, OutOfMemory}
+use Rattle.process_player.specs.declared.faults.ProcessFault.TheVariants.{Read, Section, Log, OtherLog, NoJournal, TooLong, Write, OutOfMemory}
 
 -- the answer tells of a failed call of the reader
 abbrev pub tells_of_reader : {A : Type 0} → Result A ProcessFault → Bool
@@ -10,6 +10,7 @@ tells_of_reader (Err Read) = true
 tells_of_reader (Err (Section fault)) = false
 tells_of_reader (Err (Log code line)) = false
 tells_of_reader (Err OtherLog) = false
+tells_of_reader (Err NoJournal) = false
 tells_of_reader (Err TooLong) = false
 tells_of_reader (Err Write) = false
 tells_of_reader (Err OutOfMemory) = false
@@ -21,6 +22,7 @@ tells_of_writer (Err Read) = false
 tells_of_writer (Err (Section fault)) = false
 tells_of_writer (Err (Log code line)) = false
 tells_of_writer (Err OtherLog) = false
+tells_of_writer (Err NoJournal) = false
 tells_of_writer (Err TooLong) = false
 tells_of_writer (Err Write) = true
 tells_of_writer (Err OutOfMemory) = false
@@ -31,6 +33,7 @@ IsRefusal Read = ⊥
 IsRefusal (Section fault) = Unit {0}
 IsRefusal (Log code line) = Unit {0}
 IsRefusal OtherLog = Unit {0}
+IsRefusal NoJournal = Unit {0}
 IsRefusal TooLong = ⊥
 IsRefusal Write = ⊥
 IsRefusal OutOfMemory = ⊥
