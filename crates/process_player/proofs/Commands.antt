@@ -1,20 +1,15 @@
 -- A process is asked, and answers, one command after the other.
-use Rattle.std.proofs.Common.{◌≡◌, ℕ, ◌-◌, take, drop, List, [], ◌∷◌, ◌++◌, Option, ◌+◌, ◌≤◌, Result, Ok, Err, OnOk, IfErr, refl, sym, ap, subst, ◌∙◌, arith, append_assoc, append-nil}
+use Rattle.std.proofs.Common.{◌≡◌, ℕ, ◌-◌, take, drop, List, [], ◌∷◌, ◌++◌, Option, ◌≤◌, Result, Ok, Err, OnOk, IfErr, refl, sym, ap, subst, ◌∙◌, arith, append_assoc, append-nil}
 use Rattle.std.proofs.lemmas.List.{drop-take}
 use Rattle.std.specs.List.{flat_map}
-use Rattle.std.specs.Io.KnownBytes.{Appends, Consumes, IsAtEnd}
-use Rattle.std.proofs.KnownBytes.{Appends-nil, Appends-trans, Consumes-nil, Consumes-trans}
+use Rattle.std.specs.Io.KnownBytes.{Appends, IsAtEnd}
+use Rattle.std.proofs.KnownBytes.{Appends-trans}
 use Rattle.process_text.specs.declared.processes.Process.{Process}
 use Rattle.counted_io.specs.Writing.{AppendsPrefix}
-use Rattle.counted_io.specs.Counts.{count_after}
 use Rattle.process_text.specs.Answers.{Answers, begun_text}
-use Rattle.process_player.specs.declared.faults.ProcessFault.{ProcessFault}
-use Rattle.process_player.specs.declared.faults.ProcessFault.TheVariants.{Read, Section, Log, OtherLog, TooLong, Write, OutOfMemory}
 use Rattle.process_player.specs.declared.heads.ProcessKind.{ProcessKind}
-use Rattle.process_player.specs.Faults.{tells_of_reader, tells_of_writer}
-use Rattle.process_player.specs.Inner.Calls.{Reads}
 use Rattle.process_player.proofs.Passing.{passes_front, passes_more, passes_on}
-use Rattle.process_player.specs.Runs.{Asked, Does, Runs, RunsToEnd, Serves, TornFirst, TornLater, bytes_of}
+use Rattle.process_player.specs.Runs.{Asked, Does, Runs, RunsToEnd, Serves, TornLater, bytes_of}
 use Rattle.process_player.specs.Inner.Reading.{Continues, ContinuesWithin, EndsHere, HasBegun, IsCommandAt, IsTorn, Passes, ServesOne, StopsWithin}
 
 -- ---- one command after the other

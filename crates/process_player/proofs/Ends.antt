@@ -1,7 +1,6 @@
 -- Where a preamble ends that is ahead.
-use Rattle.std.proofs.Common.{◌≡◌, ℕ, ◌+◌, ◌-◌, ◌<◌, ◌≤◌, true, false, List, [], ◌∷◌, ◌++◌, length, take, drop, Option, Some, None, ◌⊎◌, inl, inr, Ok, Err, codes, refl, sym, ap, ◌∙◌, subst, arith, append_assoc, append-nil}
+use Rattle.std.proofs.Common.{◌≡◌, ℕ, ◌+◌, ◌-◌, ◌<◌, ◌≤◌, false, List, [], ◌∷◌, ◌++◌, length, take, drop, Option, Some, None, inl, inr, Ok, Err, codes, refl, sym, ap, ◌∙◌, subst, arith, append_assoc, append-nil}
 use Rattle.std.specs.Option.{option_map}
-use Rattle.std.specs.List.{list_all}
 use Rattle.std.specs.Io.KnownBytes.{Consumes, IsAtEnd}
 use Rattle.std.proofs.Math.Seq.{drop-append_seam, take-append_seam}
 use Rattle.std.proofs.lemmas.List.{drop-append-le, drop-take, length-append, length-drop, length-take-le, take-append-drop, take-append-le, take-take, take_all}
@@ -26,10 +25,9 @@ use Rattle.process_player.specs.declared.preambles.Judged.{Judged}
 use Rattle.process_player.specs.declared.preambles.Judged.TheVariants.{Whole, Part}
 use Rattle.process_player.specs.Starts.{Preamble, kind_word, preamble_in}
 use Rattle.process_player.specs.Refusals.{AtFirst, AtIssuer, AtSheet, EndWrong, IsAll, IsJudged, IsPreamble, IsUpToWrong, RefusesPreamble, preamble_lines, section_below, section_lines, with_issuer}
-use Rattle.process_player.specs.Inner.Fronts.{AreHeadsTo, IsLast, IsNoPreamble, IsNoSection, IsPreambleAt, IsPreambleTo, IsSection, IsSectionTo, IsWrongAt, OpensNone, end_of}
+use Rattle.process_player.specs.Inner.Fronts.{IsNoPreamble, IsNoSection, IsPreambleTo, IsSection, IsSectionTo, IsWrongAt, end_of}
 use Rattle.process_player.specs.Inner.Reading.{HasRead, Passes}
 use Rattle.process_player.specs.Inner.Refusing.{OfAll}
-use Rattle.process_player.proofs.Between.{first_whole}
 use Rattle.process_player.proofs.Passing.{passes_front, passes_of}
 use Rattle.process_player.proofs.Fronts.{preamble_front, section_on, section_read, section_short}
 

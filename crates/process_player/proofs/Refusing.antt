@@ -1,11 +1,6 @@
 -- What is refused, where it is known what is ahead and still to come.
-use Rattle.std.proofs.Common.{◌≡◌, ◌≢◌, ℕ, ◌+◌, ◌<◌, ◌≤◌, List, [], ◌∷◌, ◌++◌, length, Option, Some, None, Result, Ok, Err, IfErr, IfSome, inl, inr, refl, sym, ap, ◌∙◌, subst, arith, append_assoc}
-use Rattle.std.specs.Io.KnownBytes.{Consumes}
+use Rattle.std.proofs.Common.{◌≡◌, ◌≢◌, ℕ, ◌+◌, ◌<◌, List, [], ◌∷◌, ◌++◌, length, Option, Some, None, IfSome, inl, inr, sym, ap, ◌∙◌, subst, arith, append_assoc}
 use Rattle.std.proofs.lemmas.List.{length-append}
-use Rattle.line_source.specs.Calls as sources
-use Rattle.line_source.specs.Reading.{Takes}
-use Rattle.line_source.specs.declared.faults.SourceFault.{SourceFault}
-use Rattle.line_source.specs.declared.faults.SourceFault.TheVariants as source
 use Rattle.input_sections.specs.declared.faults.ScheduleFault.{ScheduleFault}
 use Rattle.input_sections.specs.declared.faults.ScheduleFault.TheVariants as section
 use Rattle.log_text.specs.LogText.{ReadLog}
@@ -16,20 +11,12 @@ use Rattle.process_player.specs.declared.faults.ProcessFault.{ProcessFault}
 use Rattle.process_player.specs.declared.faults.ProcessFault.TheVariants as fault
 use Rattle.process_player.specs.declared.heads.ProcessKind.{ProcessKind}
 use Rattle.process_player.specs.Refusals.{Behind, RefusesPreamble, Rejects}
-use Rattle.process_player.specs.Inner.Calls.{AreTaken, IsLong, IsOfReading, IsOfServing}
+use Rattle.process_player.specs.Inner.Calls.{AreTaken, IsLong, IsOfServing}
 use Rattle.process_player.specs.Inner.Reading.{HasBegun, HasRead, Passes, ServesOne}
 use Rattle.process_player.specs.Inner.Refusing.{OfAll, RejectsPreamble, RejectsStored}
-use Rattle.process_player.specs.Inner.Told.{fault_of_section, of_source}
+use Rattle.process_player.specs.Inner.Told.{fault_of_section}
 
 -- ---- too long
-
--- what was read since the mark is ahead or was still to come
-pub is_long : {a a' b : List ℕ} {r s : ℕ} {l m : Option (List ℕ)} → a' ≡ a → r ≡ length a → Takes a' b r s l m [] → 4_294_967_296 < s → IsLong a l
-is_long {l = None} same marked takes long = tt
-is_long {l = Some xs} {m = None} same marked takes long = absurd takes.consumed
-is_long {a} {l = Some xs} {m = Some ys} same marked takes long =
-    let counted = takes.counted in
-    omega (arith, long, marked, counted, ap length takes.consumed, length-append takes.came ys, length-append a xs)
 
 -- what is left is too long only where all was
 pub long_before : (n : ℕ) (a b : List ℕ) (l m : Option (List ℕ)) → AreTaken n a b l m → IsLong b m → IsLong a l
@@ -62,22 +49,6 @@ taken_on k a b c (Some xs) (Some ys) (Some zs) taken it =
     let more = passes_taken it.passes in
     omega (arith, taken, more, length-append (line it.asked.first) it.asked.below, length-append it.asked.first (10 ∷ []))
 
--- a fault of the source is told as one of reading
-pub of_reading : (e : SourceFault) (read : ℕ) → sources.IsOfReading e read → IsOfReading (4_294_967_296 < read) (of_source e)
-of_reading source.TooLong read it = it
-of_reading source.Read read it = tt
-of_reading source.OutOfMemory read it = tt
-
-pub reading_on : {P Q : Type 0} → (P → Q) → (e : ProcessFault) → IsOfReading P e → IsOfReading Q e
-reading_on so fault.Read it = tt
-reading_on so (fault.Section why) it = absurd it
-reading_on so (fault.Log code number) it = absurd it
-reading_on so fault.OtherLog it = absurd it
-reading_on so fault.NoJournal it = absurd it
-reading_on so fault.TooLong it = so it
-reading_on so fault.Write it = absurd it
-reading_on so fault.OutOfMemory it = tt
-
 pub serving_on : {P Q : Type 0} → (P → Q) → (e : ProcessFault) → IsOfServing P e → IsOfServing Q e
 serving_on so fault.Read it = tt
 serving_on so (fault.Section why) it = absurd it
@@ -88,39 +59,7 @@ serving_on so fault.TooLong it = so it
 serving_on so fault.Write it = tt
 serving_on so fault.OutOfMemory it = tt
 
-pub serving_of : (P : Type 0) (e : ProcessFault) → IsOfReading P e → IsOfServing P e
-serving_of P fault.Read it = tt
-serving_of P (fault.Section why) it = absurd it
-serving_of P (fault.Log code number) it = absurd it
-serving_of P fault.OtherLog it = absurd it
-serving_of P fault.NoJournal it = absurd it
-serving_of P fault.TooLong it = it
-serving_of P fault.Write it = absurd it
-serving_of P fault.OutOfMemory it = tt
-
--- ---- the parts
-
-pub preamble_reading : (k : ProcessKind) (a : List ℕ) (l : Option (List ℕ)) (e : ProcessFault) → IsOfReading (IsLong a l) e → OfAll (RejectsPreamble k e) a l
-preamble_reading k a None e it = tt
-preamble_reading k a (Some xs) fault.Read it = tt
-preamble_reading k a (Some xs) (fault.Section why) it = absurd it
-preamble_reading k a (Some xs) (fault.Log code number) it = absurd it
-preamble_reading k a (Some xs) fault.OtherLog it = absurd it
-preamble_reading k a (Some xs) fault.NoJournal it = absurd it
-preamble_reading k a (Some xs) fault.TooLong it = it
-preamble_reading k a (Some xs) fault.Write it = absurd it
-preamble_reading k a (Some xs) fault.OutOfMemory it = tt
-
-pub stored_reading : (own : ReadLog) (next : ℕ) (a : List ℕ) (l : Option (List ℕ)) (e : ProcessFault) → IsOfReading (IsLong a l) e → OfAll (RejectsStored own next e) a l
-stored_reading own next a None e it = tt
-stored_reading own next a (Some xs) fault.Read it = tt
-stored_reading own next a (Some xs) (fault.Section why) it = absurd it
-stored_reading own next a (Some xs) (fault.Log code number) it = absurd it
-stored_reading own next a (Some xs) fault.OtherLog it = absurd it
-stored_reading own next a (Some xs) fault.NoJournal it = absurd it
-stored_reading own next a (Some xs) fault.TooLong it = it
-stored_reading own next a (Some xs) fault.Write it = absurd it
-stored_reading own next a (Some xs) fault.OutOfMemory it = tt
+-- ---- the preamble
 
 pub section_rejects : (k : ProcessKind) (a : List ℕ) (l : Option (List ℕ)) (why : ScheduleFault) → (why ≢ section.OutOfMemory → OfAll (λ text. RefusesPreamble k text why) a l) → OfAll (RejectsPreamble k (fault_of_section why)) a l
 section_rejects k a None why it = tt
@@ -190,15 +129,3 @@ serving_rejects {l = Some xs} begun fault.NoJournal it = absurd it
 serving_rejects {b} {l = Some xs} {m} begun fault.TooLong it = long_before (length begun.text) [] b (Some xs) m (passes_taken begun.passes) it
 serving_rejects {l = Some xs} begun fault.Write it = tt
 serving_rejects {l = Some xs} begun fault.OutOfMemory it = tt
-
--- what is not written says nothing of the input
-pub writing_rejects : (k : ProcessKind) (l : Option (List ℕ)) {P : Type 0} (e : ProcessFault) → (e ≢ fault.Write → (e ≡ fault.OutOfMemory) × P) → IfSome l (λ input. Rejects k input e)
-writing_rejects k None e it = tt
-writing_rejects k (Some xs) fault.Read it = tt
-writing_rejects k (Some xs) (fault.Section why) it = absurd (let other = (it (λ h. cc)).0 in cc)
-writing_rejects k (Some xs) (fault.Log code number) it = absurd (let other = (it (λ h. cc)).0 in cc)
-writing_rejects k (Some xs) fault.OtherLog it = absurd (let other = (it (λ h. cc)).0 in cc)
-writing_rejects k (Some xs) fault.NoJournal it = absurd (let other = (it (λ h. cc)).0 in cc)
-writing_rejects k (Some xs) fault.TooLong it = absurd (let other = (it (λ h. cc)).0 in cc)
-writing_rejects k (Some xs) fault.Write it = tt
-writing_rejects k (Some xs) fault.OutOfMemory it = tt

@@ -30,7 +30,7 @@ use Rattle.process_text.specs.declared.processes.Process.{Process}
 use Rattle.process_player.specs.declared.faults.ProcessFault.{ProcessFault}
 use Rattle.process_player.specs.declared.faults.ProcessFault.TheVariants as fault
 use Rattle.process_player.specs.declared.heads.ProcessKind.{ProcessKind}
-use Rattle.process_player.specs.Refusals.{Behind, IsNoJournal, RefusesJournal, Rejects, SaysLog, has_head, log_there, stored_lines}
+use Rattle.process_player.specs.Refusals.{IsNoJournal, RefusesJournal, Rejects, SaysLog, has_head, log_there, stored_lines}
 use Rattle.process_player.specs.Starts.{GoesOn, HasLog, HasNone, IsStored}
 use Rattle.process_player.specs.Inner.Groups.{IsAmong}
 use Rattle.process_player.specs.Inner.Reading.{HasBegun, HasRead, HasTaken, Passes}
@@ -39,7 +39,7 @@ use Rattle.process_player.proofs.Between.{between_counted, first_whole}
 use Rattle.process_player.proofs.CommandTexts.{first_between, lines_with}
 use Rattle.process_player.proofs.Refusing.{behind}
 use Rattle.process_player.proofs.Passing.{passes_front, passes_more, passes_of, passes_on}
-use Rattle.process_player.proofs.PreambleLaws.{IsLogRead, IsOwn, log_limits, own_keeps, own_read, preamble_log}
+use Rattle.process_player.proofs.PreambleLaws.{IsOwn, log_limits, own_keeps, own_read, preamble_log}
 
 -- all that is ahead and still to come, where more was read
 all_ahead : {a a' b xs ys : List ℕ} {r s : ℕ} → a' ≡ a → Takes a' b r s (Some xs) (Some ys) [] → a ++ xs ≡ b ++ ys

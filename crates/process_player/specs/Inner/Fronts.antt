@@ -1,11 +1,10 @@
 -- Where a preamble ends in what is ahead, by its lines, and what of it is judged.
-use Rattle.std.specs.Prelude.{◌≡◌, ℕ, ◌≤◌, true, List, [], ◌∷◌, length, take, drop, Option, Some, None, codes, ◌⊎◌}
+use Rattle.std.specs.Prelude.{◌≡◌, ℕ, ◌≤◌, true, List, [], ◌∷◌, length, take, drop, Option, Some, None, ◌⊎◌}
 use Rattle.std.specs.List.{list_all}
 use Rattle.std.specs.Io.KnownBytes.{IsAtEnd}
 use Rattle.metering_model.specs.Batch.{lacks}
 use Rattle.metering_model.specs.BatchReading.{lines_in}
 use Rattle.metering_model.specs.Schedule.{TextLines, lines_text}
-use Rattle.metering_model.specs.Transcript.{line}
 use Rattle.input_sections.specs.Sections.{number_behind}
 use Rattle.line_source.specs.Lines.{AreBetween}
 use Rattle.process_player.specs.declared.heads.ProcessKind.{ProcessKind}
