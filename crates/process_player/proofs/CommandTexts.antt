@@ -1,5 +1,5 @@
 -- A command in what is ahead: its first line, and the lines that belong to it.
-use Rattle.std.proofs.Common.{◌≡◌, ℕ, ◌+◌, ◌-◌, ◌<◌, ◌≤◌, true, List, [], ◌∷◌, ◌++◌, length, take, drop, Option, Some, None, MatchOption, refl, sym, ap, subst, ◌∙◌, arith, append_assoc, append-nil}
+use Rattle.std.proofs.Common.{◌≡◌, ℕ, ◌+◌, ◌-◌, ◌≤◌, true, List, [], ◌∷◌, ◌++◌, length, take, drop, Option, Some, MatchOption, refl, sym, ap, subst, ◌∙◌, arith, append_assoc, append-nil}
 use Rattle.std.specs.List.{list_all}
 use Rattle.std.proofs.lemmas.Bool.{and_parts, and_from}
 use Rattle.std.proofs.lemmas.List.{length-append, length-take-le, take-append-drop, take-append-le}
@@ -78,7 +78,7 @@ command_at p text end all lines one below same =
 -- ---- no command stands there
 
 -- the lines of a text that begins with a line
-lines_with : (l rest : List ℕ) → lacks 10 l ≡ true → (lines_in (line l ++ rest)).lines ≡ l ∷ (lines_in rest).lines
+pub lines_with : (l rest : List ℕ) → lacks 10 l ≡ true → (lines_in (line l ++ rest)).lines ≡ l ∷ (lines_in rest).lines
 lines_with l rest whole =
     ap (λ t. (lines_in (t ++ rest)).lines) (sym (append-nil (line l)))
     ∙ ap (λ (x : Lines). x.lines) (lines_behind (l ∷ []) rest (and_from _ _ whole refl))
@@ -118,9 +118,6 @@ torn_below p text end lines left one same few a more asked is =
     omega (arith, size, counted, fewer)
 
 -- ---- read in two steps
-
-pub none_found : {A P : Type 0} (There : A → Type 0) (o : Option A) → MatchOption o P There → o ≡ None → P
-none_found {A} {P} There o found is = subst (λ x. MatchOption x P There) is found
 
 pub some_found : {A : Type 0} (P : Type 0) (There : A → Type 0) (o : Option A) (x : A) → MatchOption o P There → o ≡ Some x → There x
 some_found P There o x found is = subst (λ y. MatchOption y P There) is found

@@ -1,24 +1,16 @@
 -- A process is asked, and answers, one command after the other.
-use Rattle.std.proofs.Common.{◌≡◌, ℕ, ◌-◌, take, drop, List, [], ◌∷◌, ◌++◌, Option, ◌+◌, ◌≤◌, Result, Ok, Err, OnOk, IfErr, refl, sym, ap, subst, ◌∙◌, arith, append_assoc, append-nil}
+use Rattle.std.proofs.Common.{◌≡◌, ℕ, ◌-◌, take, drop, List, [], ◌∷◌, ◌++◌, Option, ◌≤◌, Result, Ok, Err, OnOk, IfErr, refl, sym, ap, subst, ◌∙◌, arith, append_assoc, append-nil}
 use Rattle.std.proofs.lemmas.List.{drop-take}
 use Rattle.std.specs.List.{flat_map}
-use Rattle.std.specs.Io.KnownBytes.{Appends, Consumes, IsAtEnd}
-use Rattle.std.proofs.KnownBytes.{Appends-nil, Appends-trans, Consumes-nil, Consumes-trans}
+use Rattle.std.specs.Io.KnownBytes.{Appends, IsAtEnd}
+use Rattle.std.proofs.KnownBytes.{Appends-trans}
 use Rattle.process_text.specs.declared.processes.Process.{Process}
 use Rattle.counted_io.specs.Writing.{AppendsPrefix}
-use Rattle.counted_io.specs.Counts.{count_after}
 use Rattle.process_text.specs.Answers.{Answers, begun_text}
-use Rattle.process_player.specs.declared.faults.ProcessFault.{ProcessFault}
-use Rattle.process_player.specs.declared.faults.ProcessFault.TheVariants.{Read, Section, Log, OtherLog, TooLong, Write, OutOfMemory}
 use Rattle.process_player.specs.declared.heads.ProcessKind.{ProcessKind}
-use Rattle.process_player.specs.Faults.{tells_of_reader, tells_of_writer}
-use Rattle.process_player.specs.Inner.Calls.{Reads}
 use Rattle.process_player.proofs.Passing.{passes_front, passes_more, passes_on}
-use Rattle.process_player.specs.Runs.{Asked, Does, Runs, RunsToEnd, Serves, TornFirst, TornLater, bytes_of}
+use Rattle.process_player.specs.Runs.{Asked, Does, Runs, RunsToEnd, Serves, TornLater, bytes_of}
 use Rattle.process_player.specs.Inner.Reading.{Continues, ContinuesWithin, EndsHere, HasBegun, IsCommandAt, IsTorn, Passes, ServesOne, StopsWithin}
-
-pub passes_nothing : (a : List ℕ) (l : Option (List ℕ)) → Passes a a l l []
-passes_nothing a l = record { came = []; consumed = Consumes-nil l; joined = append-nil a }
 
 -- ---- one command after the other
 
@@ -45,15 +37,6 @@ bytes_behind : (asked : List Asked) (a : Asked) → flat_map bytes_of (asked ++ 
 bytes_behind [] a = append-nil (bytes_of a)
 bytes_behind (b ∷ asked) a = ap (λ t. bytes_of b ++ t) (bytes_behind asked a) ∙ sym (append_assoc (bytes_of b) (flat_map bytes_of asked) (bytes_of a))
 
-pub begins_idle : (p : Process) (ahead : List ℕ) (left old : Option (List ℕ)) → Continues p p ahead ahead left left old old
-begins_idle p ahead left old = record {
-  asked = [];
-  said = [];
-  serves = (refl, refl);
-  passes = passes_nothing ahead left;
-  written = Appends-nil old;
-}
-
 pub goes_on : {p q r : Process} {a b c : List ℕ} {l m n o o' o'' : Option (List ℕ)}
     → Continues p q a b l m o o' → ServesOne q r b c m n o' o'' → Continues p r a c l n o o''
 goes_on {p} {q} {r} {a} {b} {c} {l} {m} {n} {o} {o'} {o''} it next = record {
@@ -73,17 +56,6 @@ goes_by {p} {q} {a} {b} {c} {l} {m} {n} {o} {o'} {o''} it next same = record {
   serves = it.serves;
   passes = passes_more it.passes next;
   written = subst (λ x. Appends o x it.said) (sym same) it.written;
-}
-
-pub stops_within : {p q : Process} {a b : List ℕ} {l m n o o' o'' : Option (List ℕ)}
-    → Continues p q a b l m o o' → StopsWithin q b m n o' o'' → ContinuesWithin p a l n o o''
-stops_within {p} {q} {a} {b} {l} {m} {n} {o} {o'} {o''} it next = record {
-  last = q;
-  rest = b;
-  between = o';
-  middle = m;
-  continues = it;
-  stops = next;
 }
 
 -- ---- one command that stands ahead
@@ -133,37 +105,6 @@ pub ends_it : {p q r : Process} {a b c : List ℕ} {l m n o o' o'' : Option (Lis
 ends_it {p} {q} {r} {a} {b} {c} {l} {m} {n} {o} {o'} {o''} it here =
     subst (λ x. Continues p x a c l n o o'') (sym here.process) (goes_by it here.passes here.written)
 
--- ---- a fault is told
-
-reader_same : (A B : Type 0) (fault : ProcessFault) → tells_of_reader {A = A} (Err fault) ≡ tells_of_reader {A = B} (Err fault)
-reader_same A B Read = refl
-reader_same A B (Section fault) = refl
-reader_same A B (Log code line) = refl
-reader_same A B OtherLog = refl
-reader_same A B TooLong = refl
-reader_same A B Write = refl
-reader_same A B OutOfMemory = refl
-
-writer_same : (A B : Type 0) (fault : ProcessFault) → tells_of_writer {A = A} (Err fault) ≡ tells_of_writer {A = B} (Err fault)
-writer_same A B Read = refl
-writer_same A B (Section fault) = refl
-writer_same A B (Log code line) = refl
-writer_same A B OtherLog = refl
-writer_same A B TooLong = refl
-writer_same A B Write = refl
-writer_same A B OutOfMemory = refl
-
--- no call had failed before
-pub reads_told : (A B : Type 0) (fault : ProcessFault) {read f g h : ℕ} → Reads {A = A} (Err fault) read g h → g ≡ f → Reads {A = B} (Err fault) read f h
-reads_told A B fault {read} {f} {g} {h} it same = record {
-  within = tt;
-  count = it.count ∙ ap (count_after (tells_of_reader {A = A} (Err fault))) same ∙ ap (λ b. count_after b f) (reader_same A B fault);
-}
-
-pub writes_told : (A B : Type 0) (fault : ProcessFault) {f g h : ℕ} → h ≡ count_after (tells_of_writer {A = A} (Err fault)) g → g ≡ f
-    → h ≡ count_after (tells_of_writer {A = B} (Err fault)) f
-writes_told A B fault {f} {g} {h} it same = it ∙ ap (count_after (tells_of_writer {A = A} (Err fault))) same ∙ ap (λ b. count_after b f) (writer_same A B fault)
-
 -- ---- the whole
 
 module _ {k : ProcessKind} {p : Process} {b : List ℕ} {l m o o' : Option (List ℕ)} (begun : HasBegun k p [] b l m) where
@@ -190,16 +131,6 @@ module _ {k : ProcessKind} {p : Process} {b : List ℕ} {l m o o' : Option (List
   pub ends_of : {q : Process} {c : List ℕ} {n o'' : Option (List ℕ)} → Appends o o' (begun_text p)
       → Continues p q b c m n o' o'' × IsAtEnd n × IsTorn q c → RunsToEnd k l n o o''
   ends_of {q} {c} {n} {o''} written it = record { last = q; piece = c; runs = runs_of written it.0; end = it.1; torn = it.2 }
-
-  pub torn_first_of : AppendsPrefix o o' (begun_text p) → TornFirst k l m o o'
-  torn_first_of written = record {
-    begun = begun.text;
-    piece = b;
-    consumed = subst (Consumes l m) begun.passes.joined begun.passes.consumed;
-    first = p;
-    begins = begun.begins;
-    written = written;
-  }
 
   pub torn_later_of : {n o'' : Option (List ℕ)} → Appends o o' (begun_text p) → ContinuesWithin p b m n o' o'' → TornLater k l n o o''
   torn_later_of {n} {o''} written it = record {

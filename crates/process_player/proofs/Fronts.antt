@@ -21,7 +21,7 @@ use Rattle.byte_text.proofs.PastLines.{front_length, other_lines, other_rest}
 use Rattle.log_text.specs.LogText.{ReadLog, log_in}
 use Rattle.process_player.specs.declared.heads.ProcessKind.{ProcessKind}
 use Rattle.process_player.specs.Starts.{Preamble, head_of, is_kind_of, kind_word, own_of, preamble_in}
-use Rattle.process_player.specs.Inner.Fronts.{preamble_lines, section_below, section_lines, with_issuer}
+use Rattle.process_player.specs.Refusals.{preamble_lines, section_below, section_lines, with_issuer}
 
 -- ---- the lines of a section
 
@@ -76,7 +76,7 @@ of_first code u (x ∷ xs) l v e h =
     let same = ok_same _ _ h in
     (xs, e ∙ ap (λ y. y ∷ xs) (ap (λ (p : List ℕ × Unread). p.0) same), subst (λ (p : List ℕ × Unread). GoesBy 1 u p.1) same (goes_by 1 u there (omega (arith, ap length e)) behind))
 
-first_by : (code : ScheduleCode) (u : Unread) (l : List ℕ) (v : Unread) → first_line code u ≡ Ok (l, v) → (rest : TextLines) × (lines_left u ≡ l ∷ rest) × GoesBy 1 u v
+pub first_by : (code : ScheduleCode) (u : Unread) (l : List ℕ) (v : Unread) → first_line code u ≡ Ok (l, v) → (rest : TextLines) × (lines_left u ≡ l ∷ rest) × GoesBy 1 u v
 first_by code u l v h = of_first code u (lines_left u) l v refl h
 
 -- a section is left behind

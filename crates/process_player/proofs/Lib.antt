@@ -1,6 +1,7 @@
 pub mod Passing
 pub mod Between
 pub mod Fronts
+pub mod Refusing
 pub mod Ends
 pub mod PreambleLaws
 pub mod StoredLaws

@@ -4,7 +4,7 @@ use Rattle.std.proofs.KnownBytes.{Consumes-trans}
 use Rattle.counted_io.specs.Counts.{count_after}
 use Rattle.line_source.specs.Reading.{Takes}
 use Rattle.process_player.specs.declared.faults.ProcessFault.{ProcessFault}
-use Rattle.process_player.specs.declared.faults.ProcessFault.TheVariants.{Read, Section, Log, OtherLog, TooLong, Write, OutOfMemory}
+use Rattle.process_player.specs.declared.faults.ProcessFault.TheVariants.{Read, Section, Log, OtherLog, NoJournal, TooLong, Write, OutOfMemory}
 use Rattle.process_player.specs.Faults.{tells_of_reader}
 use Rattle.process_player.specs.Inner.Calls.{Reads}
 use Rattle.process_player.specs.Inner.Reading.{Passes}
@@ -40,6 +40,7 @@ tells_same A B Read = refl
 tells_same A B (Section fault) = refl
 tells_same A B (Log code line) = refl
 tells_same A B OtherLog = refl
+tells_same A B NoJournal = refl
 tells_same A B TooLong = refl
 tells_same A B Write = refl
 tells_same A B OutOfMemory = refl

@@ -4,3 +4,4 @@ pub mod Reading
 pub mod Told
 pub mod Groups
 pub mod Fronts
+pub mod Refusing

@@ -1,4 +1,5 @@
 pub mod Faults
 pub mod Starts
 pub mod Runs
+pub mod Refusals
 pub mod Inner

@@ -1,14 +1,16 @@
 //! A process is begun, by what a stream gives first.
 
-ghost use Rattle.std.specs.Prelude.{◌≡◌, ◌≤◌, IfOk, IfSome, unwrap_or, ◌≢◌, Err};
+ghost use Rattle.std.specs.Prelude.{◌≡◌, ◌≤◌, IfErr, IfOk, MatchOption, unwrap_or, ◌≢◌, Err};
 ghost use Rattle.process_player.specs.declared.faults.ProcessFault.{ProcessFault};
 ghost use Rattle.metering_model.specs.Limits.{most_transcript_bytes};
 ghost use Rattle.log_text.specs.Heads.{who_of};
 ghost use Rattle.log_text.specs.LogText.{IsLogHead};
+ghost use Rattle.process_player.specs.Refusals.{IsNoJournal, Rejects};
 ghost use Rattle.process_player.specs.Starts.{GoesOn};
 ghost use Rattle.process_player.specs.Inner.Calls.{Reads};
 ghost use Rattle.process_player.specs.Inner.Groups.{IsAmong};
 ghost use Rattle.process_player.specs.Inner.Reading.{HasBegun};
+ghost use Rattle.process_player.specs.Inner.Refusing.{OfAll};
 
 use crate::faults::ProcessFault;
 use crate::heads::ProcessKind;
@@ -55,7 +57,7 @@ fn group_of(
 fn process_of(alloc: Global, group: Group, who: Who, kept: Kept) -> Option<Process>
     requires kept { kept.agents ≡ group.agents }
     requires who { IsAmong group (who_of who) }
-    ensures { IfSome result (GoesOn group (who_of who) kept) }
+    ensures { MatchOption result (IsNoJournal (who_of who) kept) (GoesOn group (who_of who) kept) }
 {
     match who {
         Who::Node(number) => Some(Process::Node(NodeProcess::go_on(alloc, group, number, kept))),
@@ -86,6 +88,8 @@ pub(crate) fn begin<S: Source>(
     requires { unread.old.read ≤ most_transcript_bytes }
     ensures begun { IfOk result (λ process. HasBegun kind process unread.old.bytes
         unread.new.bytes (S.remaining source.old) (S.remaining source.new)) }
+    ensures refused { IfErr result (λ fault. OfAll (λ input. Rejects kind input fault)
+        unread.old.bytes (S.remaining source.old)) }
     ensures reads { Reads result unread.new.read (S.failed_calls source.old)
         (S.failed_calls source.new) }
     ensures no_write { result ≢ Err ProcessFault.Write }
@@ -105,6 +109,6 @@ pub(crate) fn begin<S: Source>(
     let kept = kept_or(stored, own);
     match process_of(alloc, group, who, kept) {
         Some(process) => Ok(process),
-        None => Err(ProcessFault::OtherLog),
+        None => Err(ProcessFault::NoJournal),
     }
 }

@@ -22,10 +22,10 @@ pub enum ProcessFault {
     /// Its log is refused, at that line of the log.
     #[error("refused log: {code} line {line}")]
     Log { code: LogCode, line: u64 },
-    /// The log is another process's, or an agent's and no journal of it alone without a gap.
+    /// The log's first line is not the process's own head line.
     #[error("refused log: of another process")]
     OtherLog,
-    /// The log is an agent's and no journal of it alone without a gap.
+    /// The log is the agent's, and no journal of it alone without a gap.
     #[error("refused log: no journal of this agent")]
     NoJournal,
     /// What was stored, or a command, has more than 4,294,967,296 bytes; or 2^63 commands were done.

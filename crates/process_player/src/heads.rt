@@ -22,7 +22,7 @@ pub enum ProcessKind {
 }
 
 /// The first line of all.
-fn first_word(kind: ProcessKind) -> &'static [u8]
+pub(crate) fn first_word(kind: ProcessKind) -> &'static [u8]
     ensures { result.now ≡ kind_word kind }
 {
     match kind {

@@ -1,17 +1,20 @@
 //! With what a process is begun, up to its log: what stands first, the sheet and the issuer.
 
-ghost use Rattle.std.specs.Prelude.{◌≡◌, ◌≢◌, ◌≤◌, [], length, IfErr, IfOk, Ok, Err, MatchOption};
+ghost use Rattle.std.specs.Prelude.{◌≡◌, ◌≢◌, ◌<◌, ◌≤◌, [], length, IfErr, IfOk, Ok, Err};
 ghost use Rattle.process_player.specs.declared.faults.ProcessFault.{ProcessFault};
 ghost use Rattle.metering_model.specs.Limits.{most_transcript_bytes};
 ghost use Rattle.input_sections.specs.declared.faults.ScheduleFault.{ScheduleFault};
 ghost use Rattle.input_sections.specs.Sections as sections;
+ghost use Rattle.line_source.specs.Reading.{Takes};
 ghost use Rattle.process_player.specs.Starts.{preamble_in};
-ghost use Rattle.process_player.specs.Inner.Calls.{Reads};
-ghost use Rattle.process_player.specs.Inner.Fronts.{IsNoPreamble, IsNoSection, IsPreamble, IsSection};
-ghost use Rattle.process_player.specs.Inner.Reading.{HasRead, Passes};
+ghost use Rattle.process_player.specs.Inner.Calls.{IsOfReading, Reads};
+ghost use Rattle.process_player.specs.Inner.Fronts.{AreHeadsTo, IsPreambleTo, IsSectionTo, end_of};
+ghost use Rattle.process_player.specs.Inner.Reading.{HasRead};
+ghost use Rattle.process_player.specs.Inner.Refusing.{OfAll, RejectsPreamble};
 
 use crate::faults::{ProcessFault, fault_of_section};
-use crate::heads::{ProcessKind, read_head};
+use crate::heads::{ProcessKind, first_word, read_head};
+use byte_text::is_same;
 use counted_io::Source;
 use input_sections::{
     Issuer, ScheduleFault, Sheet, Unread as Left, number_behind, read_issuer, read_sheet,
@@ -31,6 +34,25 @@ pub(crate) struct Preamble {
     pub(crate) line: u32,
 }
 
+/// What is judged of what is ahead, from its beginning to that place.
+#[derive(Clone, Copy)]
+pub(crate) enum Judged {
+    /// What is looked for, which is all there.
+    Whole(usize),
+    /// What tells that it isn't: lines up to the first that is another, or all, where no more comes.
+    Part(usize),
+}
+
+/// To which place that is.
+fn end_of(judged: Judged) -> usize
+    ensures { result ≡ end_of judged }
+{
+    match judged {
+        Judged::Whole(end) => end,
+        Judged::Part(end) => end,
+    }
+}
+
 /// The preamble that a text is.
 #[tactic(auto, unfolding(crate::specs::Starts::preamble_in))]
 fn preamble_in(alloc: Global, kind: ProcessKind, text: &[u8]) -> Result<Preamble, ScheduleFault>
@@ -40,7 +62,7 @@ fn preamble_in(alloc: Global, kind: ProcessKind, text: &[u8]) -> Result<Preamble
           sheet = p.sheet;
           issuer = p.issuer;
           rest = rest;
-        }))) }
+        })) × (rest.line ≡ p.line)) }
     ensures refused { IfErr result
         (λ fault. fault ≢ ScheduleFault.OutOfMemory → preamble_in kind text.now ≡ Err fault) }
 {
@@ -56,60 +78,92 @@ fn preamble_in(alloc: Global, kind: ProcessKind, text: &[u8]) -> Result<Preamble
     })
 }
 
-/// Reads until a section is ahead behind the first bytes, a line with a word and a number of lines, and these; and returns
-/// where it ends. None where it isn't there: no more comes, or the line has another form.
+/// Reads until a section is ahead behind the first bytes, a line with a word and a number of lines, and these. Where it isn't
+/// there, the line has another form, or no more comes.
 fn section_end<S: Source>(
     unread: &mut Unread,
     source: &mut S,
     from: usize,
     word: &[u8],
     most: u32,
-) -> Result<Option<usize>, ProcessFault>
+) -> Result<Judged, ProcessFault>
     requires read { unread.old.read ≤ most_transcript_bytes }
     requires from { from ≤ length unread.old.bytes }
     requires most { most ≤ 1_000_000 }
-    ensures passes { Passes unread.old.bytes unread.new.bytes
+    ensures takes { Takes unread.old.bytes unread.new.bytes unread.old.read unread.new.read
         (S.remaining source.old) (S.remaining source.new) [] }
-    ensures found { IfOk result (λ found. MatchOption found
-        (IsNoSection word.now most from unread.new.bytes)
-        (λ end. IsSection word.now most from end unread.new.bytes)) }
+    ensures found { IfOk result
+        (IsSectionTo word.now most from unread.new.bytes (S.remaining source.new)) }
+    ensures within { IfOk result (λ judged. end_of judged ≤ length unread.new.bytes) }
     ensures reads { Reads result unread.new.read (S.failed_calls source.old)
         (S.failed_calls source.new) }
-    ensures no_write { result ≢ Err ProcessFault.Write }
+    ensures others { IfErr result (IsOfReading (most_transcript_bytes < unread.new.read)) }
 {
     let Some(opening) = lines_end(unread, source, from, 1)? else {
-        return Ok(None);
+        return Ok(Judged::Part(unread.ahead().len()));
     };
     let Some(lines) = number_behind(&unread.ahead()[from..opening - 1], word, most) else {
-        return Ok(None);
+        return Ok(Judged::Part(opening));
     };
-    let end = lines_end(unread, source, opening, u64::from(lines))?;
-    Ok(end)
+    let Some(end) = lines_end(unread, source, opening, u64::from(lines))? else {
+        return Ok(Judged::Part(unread.ahead().len()));
+    };
+    Ok(Judged::Whole(end))
 }
 
-/// Reads until the whole preamble is ahead, and returns where it ends; None where it isn't there.
-fn preamble_end<S: Source>(
+/// Reads until the first two lines are ahead, of which the first is the kind's. It is judged alone where it isn't, so that a
+/// stream of another kind is read no further.
+fn heads_end<S: Source>(
+    kind: ProcessKind,
     unread: &mut Unread,
     source: &mut S,
-) -> Result<Option<usize>, ProcessFault>
+) -> Result<Judged, ProcessFault>
     requires { unread.old.read ≤ most_transcript_bytes }
-    ensures passes { Passes unread.old.bytes unread.new.bytes
+    ensures takes { Takes unread.old.bytes unread.new.bytes unread.old.read unread.new.read
         (S.remaining source.old) (S.remaining source.new) [] }
-    ensures found { IfOk result (λ found. MatchOption found
-        (IsNoPreamble unread.new.bytes)
-        (λ end. IsPreamble end unread.new.bytes)) }
+    ensures found { IfOk result (AreHeadsTo kind unread.new.bytes (S.remaining source.new)) }
+    ensures within { IfOk result (λ judged. end_of judged ≤ length unread.new.bytes) }
     ensures reads { Reads result unread.new.read (S.failed_calls source.old)
         (S.failed_calls source.new) }
-    ensures no_write { result ≢ Err ProcessFault.Write }
+    ensures others { IfErr result (IsOfReading (most_transcript_bytes < unread.new.read)) }
 {
-    let Some(head) = lines_end(unread, source, 0, 2)? else {
-        return Ok(None);
+    let Some(first) = lines_end(unread, source, 0, 1)? else {
+        return Ok(Judged::Part(unread.ahead().len()));
     };
-    let Some(sheet) = section_end(unread, source, head, b"sheet ", 200_000)? else {
-        return Ok(None);
+    if !is_same(&unread.ahead()[..first - 1], first_word(kind)) {
+        return Ok(Judged::Part(first));
+    }
+    let Some(both) = lines_end(unread, source, 0, 2)? else {
+        return Ok(Judged::Part(unread.ahead().len()));
     };
-    let end = section_end(unread, source, sheet, b"issuer ", 100)?;
-    Ok(end)
+    Ok(Judged::Whole(both))
+}
+
+/// Reads until the whole preamble is ahead, or what tells that it isn't there.
+fn preamble_end<S: Source>(
+    kind: ProcessKind,
+    unread: &mut Unread,
+    source: &mut S,
+) -> Result<Judged, ProcessFault>
+    requires { unread.old.read ≤ most_transcript_bytes }
+    ensures takes { Takes unread.old.bytes unread.new.bytes unread.old.read unread.new.read
+        (S.remaining source.old) (S.remaining source.new) [] }
+    ensures found { IfOk result (IsPreambleTo kind unread.new.bytes (S.remaining source.new)) }
+    ensures within { IfOk result (λ judged. end_of judged ≤ length unread.new.bytes) }
+    ensures reads { Reads result unread.new.read (S.failed_calls source.old)
+        (S.failed_calls source.new) }
+    ensures others { IfErr result (IsOfReading (most_transcript_bytes < unread.new.read)) }
+{
+    let head = match heads_end(kind, unread, source)? {
+        Judged::Whole(head) => head,
+        Judged::Part(end) => return Ok(Judged::Part(end)),
+    };
+    let sheet = match section_end(unread, source, head, b"sheet ", 200_000)? {
+        Judged::Whole(sheet) => sheet,
+        Judged::Part(end) => return Ok(Judged::Part(end)),
+    };
+    let judged = section_end(unread, source, sheet, b"issuer ", 100)?;
+    Ok(judged)
 }
 
 /// Reads the preamble, and takes it.
@@ -120,15 +174,17 @@ pub(crate) fn read_preamble<S: Source>(
     source: &mut S,
 ) -> Result<Preamble, ProcessFault>
     requires { unread.old.read ≤ most_transcript_bytes }
-    ensures read { IfOk result (λ p. HasRead kind p.own p.sheet p.issuer
+    ensures read { IfOk result (λ p. HasRead kind p.own p.sheet p.issuer p.line
         unread.old.bytes unread.new.bytes (S.remaining source.old) (S.remaining source.new)) }
+    ensures refused { IfErr result (λ fault. OfAll (RejectsPreamble kind fault)
+        unread.old.bytes (S.remaining source.old)) }
     ensures reads { Reads result unread.new.read (S.failed_calls source.old)
         (S.failed_calls source.new) }
     ensures no_write { result ≢ Err ProcessFault.Write }
 {
-    // Where it isn't there its reader refuses what is.
-    let found = preamble_end(unread, source)?;
-    let end = found.unwrap_or(unread.ahead().len());
+    unread.mark();
+    let judged = preamble_end(kind, unread, source)?;
+    let end = end_of(judged);
     match preamble_in(alloc, kind, &unread.ahead()[..end]) {
         Ok(preamble) => {
             unread.take(end);

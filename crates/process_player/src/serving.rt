@@ -1,6 +1,6 @@
 //! A process is asked, and answers, command by command.
 
-ghost use Rattle.std.specs.Prelude.{◌≡◌, ◌≢◌, ℕ, List, ◌≤◌, ◌⊎◌, [], Ok, Err, IfErr, OnOk, IfOk, MatchOption, false, true, is_err};
+ghost use Rattle.std.specs.Prelude.{◌≡◌, ◌≢◌, ℕ, List, ◌≤◌, ◌⊎◌, [], Ok, Err, IfErr, OnOk, IfOk, IfSome, MatchOption, false, true, is_err};
 ghost use Rattle.std.specs.Io.KnownBytes.{Appends, IsAtEnd};
 ghost use Rattle.metering_model.specs.Limits.{most_transcript_bytes};
 ghost use Rattle.counted_io.specs.Counts.{count_after};
@@ -9,8 +9,9 @@ ghost use Rattle.process_text.specs.Answers.{Answers, begun_text};
 ghost use Rattle.process_text.specs.declared.processes.Process.{Process};
 ghost use Rattle.process_player.specs.declared.faults.ProcessFault.{ProcessFault};
 ghost use Rattle.process_player.specs.Faults.{IsRefusal, tells_of_reader, tells_of_writer};
+ghost use Rattle.process_player.specs.Refusals.{Rejects};
 ghost use Rattle.process_player.specs.Runs.{Runs, RunsToEnd, RunsTorn};
-ghost use Rattle.process_player.specs.Inner.Calls.{IsOfReading, IsOfServing, Reads};
+ghost use Rattle.process_player.specs.Inner.Calls.{IsLong, IsOfReading, IsOfServing, Reads};
 ghost use Rattle.process_player.specs.Inner.Reading.{Continues, ContinuesWithin, EndsHere, IsCommandAt, IsTorn, Passes, ServesOne, StopsWithin};
 
 use crate::beginning::begin;
@@ -69,7 +70,8 @@ fn next_command<S: Source>(
         (λ ends. IsCommandAt process.now unread.new.bytes ends.0 ends.1)) }
     ensures reads { Reads result unread.new.read (S.failed_calls source.old)
         (S.failed_calls source.new) }
-    ensures others { IfErr result (λ fault. IsOfReading fault) }
+    ensures others { IfErr result
+        (IsOfReading (IsLong unread.old.bytes (S.remaining source.old))) }
 {
     unread.mark();
     let Some(end) = lines_end(unread, source, 0, 1)? else {
@@ -110,7 +112,8 @@ fn serve_one<S: Source, W: Sink>(
         (S.failed_calls source.new) }
     ensures writes { W.failed_calls writer.new
         ≡ count_after (tells_of_writer result) (W.failed_calls writer.old) }
-    ensures others { IfErr result (λ fault. IsOfServing fault) }
+    ensures others { IfErr result
+        (IsOfServing (IsLong unread.old.bytes (S.remaining source.old))) }
 {
     let Some((end, all)) = next_command(process, unread, source)? else {
         return Ok(false);
@@ -153,7 +156,8 @@ fn serve<S: Source, W: Sink>(
         (S.failed_calls source.new) }
     ensures writes { W.failed_calls writer.new
         ≡ count_after (tells_of_writer result) (W.failed_calls writer.old) }
-    ensures others { IfErr result (λ fault. IsOfServing fault) }
+    ensures others { IfErr result
+        (IsOfServing (IsLong unread.old.bytes (S.remaining source.old))) }
 {
     for _ in 0..MOST_COMMANDS {
         match serve_one(alloc, process, unread, source, text, writer) {
@@ -196,9 +200,9 @@ fn write_begun<W: Sink>(
 /// when all of it was read. Up to the issuer there are at most 16,777,216 bytes; what was stored, and a command, has at most
 /// 4,294,967,296.
 ///
-/// With Ok the input has ended, perhaps within a command, which is not done then. After `Section`, `Log` and `OtherLog`, by
-/// which nothing is begun, nothing was written; after each other fault whole answers of first commands were, and after `Write` a
-/// prefix of one behind them.
+/// With Ok the input has ended, perhaps within a command, which is not done then. After `Section`, `Log`, `OtherLog` and
+/// `NoJournal`, by which nothing is begun, nothing was written; after each other fault whole answers of first commands were, and
+/// after `Write` a prefix of one behind them.
 pub fn process_text<R: Source, W: Sink>(
     alloc: Global,
     kind: ProcessKind,
@@ -220,6 +224,10 @@ pub fn process_text<R: Source, W: Sink>(
     ensures torn { result ≡ Err ProcessFault.Write
         → RunsTorn kind (R.remaining reader.old) (R.remaining reader.new)
         (W.contents writer.old) (W.contents writer.new) }
+
+    // Each refusal, and `TooLong`, comes of an input that has what it tells.
+    ensures refused { IfErr result (λ fault. IfSome (R.remaining reader.old)
+        (λ input. Rejects kind input fault)) }
 
     // `Read` and `Write` come of one failed call each, and no other call fails.
     ensures reads { R.failed_calls reader.new

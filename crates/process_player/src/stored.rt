@@ -1,21 +1,22 @@
 //! What a process stored last: its log, or nothing.
 
-ghost use Rattle.std.specs.Prelude.{◌≡◌, ◌≤◌, IfOk, Ok, codes, false, unwrap_or, ◌≢◌, Err};
+ghost use Rattle.std.specs.Prelude.{◌≡◌, ◌≤◌, IfErr, IfOk, Ok, codes, unwrap_or, ◌≢◌, Err};
 ghost use Rattle.process_player.specs.declared.faults.ProcessFault.{ProcessFault};
 ghost use Rattle.metering_model.specs.Limits.{most_transcript_bytes};
-ghost use Rattle.log_text.specs.LogText.{log_in, most_kept_lines, section_in};
-ghost use Rattle.process_player.specs.Faults.{tells_of_reader};
+ghost use Rattle.log_text.specs.LogText.{IsLogHead, log_in, most_kept_lines, section_in};
+ghost use Rattle.process_player.specs.Refusals.{has_head};
 ghost use Rattle.process_player.specs.Inner.Calls.{Reads};
 ghost use Rattle.process_player.specs.Inner.Reading.{HasTaken};
+ghost use Rattle.process_player.specs.Inner.Refusing.{OfAll, RejectsLog, RejectsStored};
 
 use crate::faults::{ProcessFault, refused_at};
 use byte_text::{is_same, whole_up_to};
 use counted_io::Source;
 use input_sections::{ScheduleCode, behind_word};
 use line_source::{Unread, lines_end};
-use log_text::{Log, LogFault, LogHead, read_log};
+use log_text::{Log, LogFault, LogHead, put_head, read_log};
 use node_kept::Kept;
-use std::alloc::Global;
+use std::alloc::{AllocError, Global};
 
 /// A log has no more lines than this: more do not fit.
 const MOST_LINES: u64 = 4_294_967_295;
@@ -28,28 +29,36 @@ fn log_lines(line: &[u8]) -> Option<u64>
     if lines < 1 { None } else { Some(lines) }
 }
 
-/// What is kept by a log, which has to be of this head.
+/// Whether a log begins with just that head line.
+fn has_head(alloc: Global, head: &LogHead, text: &[u8]) -> Result<bool, AllocError>
+    ensures { IfOk result (λ is. is ≡ has_head head.now text.now) }
+{
+    let mut line = Vec::new(alloc);
+    put_head(&mut line, head)?;
+    Ok(behind_word(text, &line).is_some())
+}
+
+/// What is kept by a log, which has to be of this head: another's is refused as that before anything else of it is read.
 fn kept_of(alloc: Global, head: &LogHead, text: &[u8]) -> Result<Kept, ProcessFault>
+    requires { IsLogHead head.now }
     ensures kept { IfOk result
         (λ kept. log_in text.now ≡ Ok (record { head = head.now; kept = kept })) }
-    ensures quiet { tells_of_reader result ≡ false }
-    ensures no_write { result ≢ Err ProcessFault.Write }
+    ensures refused { IfErr result (RejectsLog head.now text.now) }
 {
+    match has_head(alloc, head, text) {
+        Ok(true) => {}
+        Ok(false) => return Err(ProcessFault::OtherLog),
+        Err(_) => return Err(ProcessFault::OutOfMemory),
+    }
     match read_log(alloc, text) {
-        Ok(log) => {
-            if log.head().same(head) {
-                Ok(log.into_kept())
-            } else {
-                Err(ProcessFault::OtherLog)
-            }
-        }
+        Ok(log) => Ok(log.into_kept()),
         Err(LogFault::Refused { code, line }) => Err(ProcessFault::Log { code, line }),
         Err(LogFault::OutOfMemory) => Err(ProcessFault::OutOfMemory),
     }
 }
 
 /// Reads what a process stored last, and takes it: a log, below a line of that number that says how many lines it has, or
-/// None for the line `new`.
+/// None for the line `new`. The room of a log is given back.
 pub(crate) fn read_stored<S: Source>(
     alloc: Global,
     own: &Log,
@@ -57,9 +66,12 @@ pub(crate) fn read_stored<S: Source>(
     unread: &mut Unread,
     source: &mut S,
 ) -> Result<Option<Kept>, ProcessFault>
-    requires { unread.old.read ≤ most_transcript_bytes }
+    requires read { unread.old.read ≤ most_transcript_bytes }
+    requires head { IsLogHead own.now.head }
     ensures taken { IfOk result (λ stored. HasTaken own.now (unwrap_or stored own.now.kept)
         unread.old.bytes unread.new.bytes (S.remaining source.old) (S.remaining source.new)) }
+    ensures refused { IfErr result (λ fault. OfAll (RejectsStored own.now line fault)
+        unread.old.bytes (S.remaining source.old)) }
     ensures reads { Reads result unread.new.read (S.failed_calls source.old)
         (S.failed_calls source.new) }
     ensures no_write { result ≢ Err ProcessFault.Write }
@@ -80,5 +92,6 @@ pub(crate) fn read_stored<S: Source>(
     };
     let kept = kept_of(alloc, own.head(), &unread.ahead()[end..all])?;
     unread.take(all);
+    unread.release();
     Ok(Some(kept))
 }

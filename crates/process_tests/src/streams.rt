@@ -119,12 +119,12 @@ fn an_agent_journals_a_batch(rt: HostRuntime) {
     );
 }
 
-/// In which words an input of these parts begins no node.
-fn is_refused(alloc: Global, parts: &[&[u8]], why: &str) -> bool {
+/// Whether an input of these parts begins no process of the kind, in these words.
+fn is_unbegun(alloc: Global, kind: ProcessKind, parts: &[&[u8]], why: &str) -> bool {
     let Ok(input) = joined(alloc, parts) else {
         return false;
     };
-    let (written, ended) = answers(alloc, ProcessKind::Node, &input);
+    let (written, ended) = answers(alloc, kind, &input);
     match ended {
         Ok(()) => false,
         Err(fault) => match format!(in alloc; "{fault}") {
@@ -132,6 +132,16 @@ fn is_refused(alloc: Global, parts: &[&[u8]], why: &str) -> bool {
             Err(_) => false,
         },
     }
+}
+
+/// The same of a node.
+fn is_refused(alloc: Global, parts: &[&[u8]], why: &str) -> bool {
+    is_unbegun(alloc, ProcessKind::Node, parts, why)
+}
+
+/// The same of an agent, with these lines for its log.
+fn is_no_agent(alloc: Global, log: &[u8], why: &str) -> bool {
+    is_unbegun(alloc, ProcessKind::Agent, &[AGENT, SECTIONS, log], why)
 }
 
 #[test]
@@ -171,7 +181,40 @@ fn what_begins_no_node_is_refused(rt: HostRuntime) {
     assert!(rt;
         is_refused(
             alloc,
-            &[NODE, SECTIONS, b"log 1\nG1|prod-us|node|0|1|0|1\n"],
+            &[NODE, SECTIONS, b"log 2\nG1|prod-us|node|0|1|0|1\nround|2\n"],
+            "refused log: of another process",
+        )
+    );
+    assert!(rt;
+        is_refused(
+            alloc,
+            &[NODE, SECTIONS, b"log 1\nG1|prod-eu|node|0|1|0|1 \n"],
+            "refused log: of another process",
+        )
+    );
+}
+
+#[test]
+fn what_is_no_journal_begins_no_agent(rt: HostRuntime) {
+    let alloc = rt.alloc();
+    assert!(rt;
+        is_no_agent(
+            alloc,
+            b"log 2\nG1|prod-eu|agent|1|1|0|1\nround|1\n",
+            "refused log: no journal of this agent",
+        )
+    );
+    assert!(rt;
+        is_no_agent(
+            alloc,
+            b"log 2\nG1|prod-eu|agent|1|1|0|1\nlearned|0|0\n",
+            "refused log: no journal of this agent",
+        )
+    );
+    assert!(rt;
+        is_no_agent(
+            alloc,
+            b"log 1\nG1|prod-eu|node|0|1|0|1\n",
             "refused log: of another process",
         )
     );

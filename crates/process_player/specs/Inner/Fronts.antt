@@ -1,29 +1,24 @@
--- Where a preamble ends in what is ahead, by its lines.
-use Rattle.std.specs.Prelude.{◌≡◌, ℕ, ◌+◌, nat_le, if◌then◌else◌, List, [], ◌∷◌, length, drop, Option, Some, None, codes}
-use Rattle.std.specs.Option.{option_map}
+-- Where a preamble ends in what is ahead, by its lines, and what of it is judged.
+use Rattle.std.specs.Prelude.{◌≡◌, ℕ, ◌≤◌, true, List, [], ◌∷◌, length, take, drop, Option, Some, None, ◌⊎◌}
+use Rattle.std.specs.List.{list_all}
+use Rattle.std.specs.Io.KnownBytes.{IsAtEnd}
+use Rattle.metering_model.specs.Batch.{lacks}
 use Rattle.metering_model.specs.BatchReading.{lines_in}
-use Rattle.metering_model.specs.Limits.{most_issuer_lines, most_sheet_lines}
-use Rattle.metering_model.specs.Schedule.{TextLines}
+use Rattle.metering_model.specs.Schedule.{TextLines, lines_text}
 use Rattle.input_sections.specs.Sections.{number_behind}
 use Rattle.line_source.specs.Lines.{AreBetween}
+use Rattle.process_player.specs.declared.heads.ProcessKind.{ProcessKind}
+use Rattle.process_player.specs.declared.preambles.Judged.{Judged}
+use Rattle.process_player.specs.declared.preambles.Judged.TheVariants.{Whole, Part}
+use Rattle.process_player.specs.Refusals.{EndWrong, preamble_lines, section_lines}
 
--- with the line that opens it
-abbrev pub section_below : TextLines → Option ℕ → Option ℕ
-section_below ls None = None
-section_below ls (Some n) = if nat_le n (length ls) then Some (1 + n) else None
+abbrev pub end_of : Judged → ℕ
+end_of (Whole end) = end
+end_of (Part end) = end
 
--- so many of these lines are a section
-abbrev pub section_lines : (word : List ℕ) (most : ℕ) → TextLines → Option ℕ
-section_lines word most [] = None
-section_lines word most (l ∷ ls) = section_below ls (number_behind word most l)
-
-abbrev pub with_issuer : TextLines → Option ℕ → Option ℕ
-with_issuer ls None = None
-with_issuer ls (Some n) = option_map (λ m. 2 + n + m) (section_lines (codes "issuer ") most_issuer_lines (drop (2 + n) ls))
-
--- so many of these lines are a preamble: two, and two sections
-abbrev pub preamble_lines : TextLines → Option ℕ
-preamble_lines ls = with_issuer ls (section_lines (codes "sheet ") most_sheet_lines (drop 2 ls))
+-- no more comes behind that place
+abbrev pub IsLast : (end : ℕ) (text : List ℕ) (left : Option (List ℕ)) → Type 0
+IsLast end text left = (end ≡ length text) × IsAtEnd left
 
 -- a section stands from the one place to the other
 pub record IsSection (word : List ℕ) (most from end : ℕ) (text : List ℕ) : Type 0 where
@@ -31,14 +26,46 @@ pub record IsSection (word : List ℕ) (most from end : ℕ) (text : List ℕ) :
   pub between : AreBetween from end text count
   pub said : section_lines word most between.lines ≡ Some count
 
-abbrev pub IsNoSection : (word : List ℕ) (most from : ℕ) (text : List ℕ) → Type 0
-IsNoSection word most from text = section_lines word most (lines_in (drop from text)).lines ≡ None
+-- a line stands from the one place to the other, which opens no section
+pub record OpensNone (word : List ℕ) (most from end : ℕ) (text : List ℕ) : Type 0 where
+  pub one : List ℕ
+  pub between : AreBetween from end text 1
+  pub is_one : between.lines ≡ one ∷ []
+  pub said : number_behind word most one ≡ None
+
+-- no section stands from the one place to the other, and no more has to be read to know that there is none
+pub record IsNoSection (word : List ℕ) (most from end : ℕ) (text : List ℕ) (left : Option (List ℕ)) : Type 0 where
+  pub ordered : from ≤ end
+  pub none : section_lines word most (lines_in (drop from (take end text))).lines ≡ None
+  pub judged : IsLast end text left ⊎ OpensNone word most from end text
+
+abbrev pub IsSectionTo : (word : List ℕ) (most from : ℕ) (text : List ℕ) (left : Option (List ℕ)) → Judged → Type 0
+IsSectionTo word most from text left (Whole end) = IsSection word most from end text
+IsSectionTo word most from text left (Part end) = IsNoSection word most from end text left
+
+-- whole lines stand up to there, of which the last is wrong
+pub record IsWrongAt (k : ProcessKind) (end : ℕ) (text : List ℕ) : Type 0 where
+  pub lines : TextLines
+  pub whole : list_all (lacks 10) lines ≡ true
+  pub are_lines : take end text ≡ lines_text lines
+  pub wrong : EndWrong k lines
+
+-- no preamble stands up to there, and no more has to be read to know that there is none
+pub record IsNoPreamble (k : ProcessKind) (end : ℕ) (text : List ℕ) (left : Option (List ℕ)) : Type 0 where
+  pub none : preamble_lines (lines_in (take end text)).lines ≡ None
+  pub judged : IsLast end text left ⊎ IsWrongAt k end text
 
 -- a preamble stands at the front, and ends there
-pub record IsPreamble (end : ℕ) (text : List ℕ) : Type 0 where
+pub record IsPreambleAt (end : ℕ) (text : List ℕ) : Type 0 where
   pub count : ℕ
   pub between : AreBetween 0 end text count
   pub said : preamble_lines between.lines ≡ Some count
 
-abbrev pub IsNoPreamble : List ℕ → Type 0
-IsNoPreamble text = preamble_lines (lines_in text).lines ≡ None
+-- two lines stand at the front, the first of them the kind's
+abbrev pub AreHeadsTo : ProcessKind → (text : List ℕ) (left : Option (List ℕ)) → Judged → Type 0
+AreHeadsTo k text left (Whole end) = AreBetween 0 end text 2
+AreHeadsTo k text left (Part end) = IsNoPreamble k end text left
+
+abbrev pub IsPreambleTo : ProcessKind → (text : List ℕ) (left : Option (List ℕ)) → Judged → Type 0
+IsPreambleTo k text left (Whole end) = IsPreambleAt end text
+IsPreambleTo k text left (Part end) = IsNoPreamble k end text left

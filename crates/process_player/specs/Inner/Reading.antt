@@ -75,11 +75,12 @@ pub record ContinuesWithin (p : Process) (ahead : List ℕ) (left left' old new 
   pub stops : StopsWithin last rest middle left' between new
 
 -- A preamble was taken, and nothing behind it.
-pub record HasRead (k : ProcessKind) (own : ReadLog) (sheet : Sheet) (issuer : Issuer) (ahead rest : List ℕ) (left left' : Option (List ℕ)) : Type 0 where
+pub record HasRead (k : ProcessKind) (own : ReadLog) (sheet : Sheet) (issuer : Issuer) (next : ℕ) (ahead rest : List ℕ) (left left' : Option (List ℕ)) : Type 0 where
   pub text : List ℕ
   pub behind : Unread
   pub is_read : preamble_in k text ≡ Ok (record { own = own; sheet = sheet; issuer = issuer; rest = behind })
   pub whole : sections.left behind ≡ []
+  pub counted : behind.line ≡ next
   pub passes : Passes ahead rest left left' text
 
 -- What was stored last was taken: of the text that tells it.

@@ -3,9 +3,11 @@ use Rattle.std.proofs.Common.{◌≡◌, sym, ap, ◌∙◌, subst}
 use Rattle.std.proofs.lemmas.Result.{err_from_is_err_and}
 use Rattle.log_text.specs.Heads.{who_of}
 use Rattle.log_text.specs.LogText.{IsLogHead}
+use Rattle.process_player.specs.Refusals.{IsNoJournal}
 use Rattle.process_player.specs.Starts.{GoesOn}
 use Rattle.process_player.proofs.Passing.{reads_err}
-use Rattle.process_player.proofs.StoredLaws.{group_said, has_begun, is_among_group, kept_agents, own_head}
+use Rattle.process_player.proofs.Refusing.{preamble_rejects, stored_rejects}
+use Rattle.process_player.proofs.StoredLaws.{group_said, has_begun, is_among_group, kept_agents, no_journal, own_head}
 use Rattle.process_player.proofs.beginning.begin.Given as given
 use Rattle.process_player.proofs.beginning.begin.Goals.{In-Ok}
 use Rattle.process_player.proofs.beginning.begin.Goals as goal
@@ -14,6 +16,20 @@ pub returns-in_err-stored-clause-reads : goal.returns-in_err-stored-clause-reads
 returns-in_err-stored-clause-reads g c =
     let p = err_from_is_err_and c.from_residual-in_err-stored.result c.from_residual-in_err-stored.ensures.1 in
     rw (p.1, p.2) (reads_err c.in_ok-preamble.ensures.reads c.in_err-stored.ensures.reads)
+
+pub returns-in_err-preamble-clause-refused : goal.returns-in_err-preamble-clause-refused
+returns-in_err-preamble-clause-refused g c =
+    let p = err_from_is_err_and c.from_residual.result c.from_residual.ensures.1 in
+    rw (p.1, p.2)
+    (preamble_rejects c.args.kind c.in_err-preamble.field-0.0 c.args.unread.now.bytes (g.S.Source.remaining c.args.source.now) c.in_err-preamble.ensures.refused)
+
+pub read_stored-requires-clause-head : goal.read_stored-requires-clause-head
+read_stored-requires-clause-head g c = own_head c.in_ok-preamble.ensures.read
+
+pub returns-in_err-stored-clause-refused : goal.returns-in_err-stored-clause-refused
+returns-in_err-stored-clause-refused g c =
+    let p = err_from_is_err_and c.from_residual-in_err-stored.result c.from_residual-in_err-stored.ensures.1 in
+    rw (p.1, p.2) (stored_rejects c.in_err-stored.field-0.0 c.in_ok-preamble.ensures.read c.in_err-stored.ensures.refused)
 
 pub group_of-requires : goal.group_of-requires
 group_of-requires g c = subst IsLogHead (sym c.head-2.ensures) (own_head c.in_ok-preamble.ensures.read)
@@ -39,3 +55,9 @@ returns-in-Some-clause-begun g c =
     let in_ok = (goal.at.returns-in-Some-clause-begun g c).In-Ok in
     has_begun c.in_ok-preamble.ensures.read c.in_ok-stored.ensures.taken c.in-Ok.group (who_of c.who-who.result) c.in-Some.process (is_group g in_ok) (is_who g in_ok)
     (subst (λ k. GoesOn c.in-Ok.group (who_of c.who-who.result) k c.in-Some.process) c.kept_or-kept.ensures c.in-Some.ensures)
+
+pub returns-in-None-clause-refused : goal.returns-in-None-clause-refused
+returns-in-None-clause-refused g c =
+    let in_ok = (goal.at.returns-in-None-clause-refused g c).In-Ok in
+    no_journal c.in_ok-preamble.ensures.read c.in_ok-stored.ensures.taken (who_of c.who-who.result) (is_who g in_ok)
+    (subst (λ k. IsNoJournal (who_of c.who-who.result) k) c.kept_or-kept.ensures c.in-None.ensures)

@@ -1,21 +1,29 @@
 -- The two lines, the sheet and the issuer stand one behind the other.
 use Rattle.line_source.specs.Lines.{AreBetween}
+use Rattle.line_source.proofs.Taking.{reads_on}
 use Rattle.process_player.proofs.Ends.{no_sheet, preamble_found}
-use Rattle.process_player.proofs.Passing.{passes_more, passes_of}
 use Rattle.process_player.proofs.preambles.preamble_end.Given as given
-use Rattle.process_player.proofs.preambles.preamble_end.Goals.{In-Some}
+use Rattle.process_player.proofs.preambles.preamble_end.Goals.{In-Whole}
 use Rattle.process_player.proofs.preambles.preamble_end.Goals as goal
 
-head_there : (g : given.Over) (c : In-Some g) → AreBetween 0 c.in-Some.head c.lines_end.new.unread.bytes 2
-head_there g c = rw c.in-Some.is at c.in_ok-head.ensures.found
+head_there : (g : given.Over) (c : In-Whole g) → AreBetween 0 c.in-Whole.head c.heads_end.new.unread.bytes 2
+head_there g c = rw c.in-Whole.is at c.in_ok-head.ensures.found
 
-pub returns-in_default-2-clause-found : goal.returns-in_default-2-clause-found
-returns-in_default-2-clause-found g c =
-    no_sheet (head_there g (goal.at.returns-in_default-2-clause-found g c).In-Some) c.in_ok-sheet.ensures.passes (rw c.in_default-2.is at c.in_ok-sheet.ensures.found)
+pub returns-in-Part-2-clause-takes : goal.returns-in-Part-2-clause-takes
+returns-in-Part-2-clause-takes g c = reads_on c.in_ok-head.ensures.takes c.in_ok-sheet.ensures.takes
 
-pub returns-clause-passes : goal.returns-clause-passes
-returns-clause-passes g c = passes_more (passes_more (passes_of c.in_ok-head.ensures.takes) c.in_ok-sheet.ensures.passes) c.section_end-2.ensures.passes
+pub returns-in-Part-2-clause-found : goal.returns-in-Part-2-clause-found
+returns-in-Part-2-clause-found g c =
+    no_sheet c.args.kind (head_there g (goal.at.returns-in-Part-2-clause-found g c).In-Whole) c.in_ok-sheet.ensures.takes c.in-Part-2.end
+    (rw c.in-Part-2.is at c.in_ok-sheet.ensures.within) (rw c.in-Part-2.is at c.in_ok-sheet.ensures.found)
+
+pub returns-in_err-judged-clause-takes : goal.returns-in_err-judged-clause-takes
+returns-in_err-judged-clause-takes g c = reads_on (reads_on c.in_ok-head.ensures.takes c.in_ok-sheet.ensures.takes) c.section_end-2.ensures.takes
+
+pub returns-clause-takes : goal.returns-clause-takes
+returns-clause-takes g c = reads_on (reads_on c.in_ok-head.ensures.takes c.in_ok-sheet.ensures.takes) c.section_end-2.ensures.takes
 
 pub returns-clause-found : goal.returns-clause-found
 returns-clause-found g c =
-    preamble_found (head_there g (goal.at.returns-clause-found g c).In-Some) c.in_ok-sheet.ensures.passes (rw c.in-Some-2.is at c.in_ok-sheet.ensures.found) c.section_end-2.ensures.passes c.in_ok-end.end c.in_ok-end.ensures.found
+    preamble_found c.args.kind (head_there g (goal.at.returns-clause-found g c).In-Whole) c.in_ok-sheet.ensures.takes (rw c.in-Whole-2.is at c.in_ok-sheet.ensures.found) c.section_end-2.ensures.takes
+    c.in_ok-judged.judged c.in_ok-judged.ensures.within c.in_ok-judged.ensures.found

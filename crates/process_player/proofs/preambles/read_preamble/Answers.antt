@@ -1,11 +1,22 @@
--- Just what is read as a preamble is taken.
-use Rattle.std.proofs.Common.{length, unwrap_or, ap, ◌∙◌}
-use Rattle.process_player.proofs.Ends.{preamble_taken}
+-- Just what is read as a preamble is taken, and what is judged is refused.
+use Rattle.std.proofs.Common.{sym, subst}
+use Rattle.process_player.specs.Inner.Refusing.{OfAll, RejectsPreamble}
+use Rattle.process_player.proofs.Ends.{preamble_refused, preamble_taken}
+use Rattle.process_player.proofs.Refusing.{section_rejects}
 use Rattle.process_player.proofs.preambles.read_preamble.Goals as goal
 
 pub returns-in-Ok-clause-read : goal.returns-in-Ok-clause-read
 returns-in-Ok-clause-read g c =
     let p = c.in-Ok.preamble in
-    let same = c.unwrap_or-end.ensures ∙ ap (λ t. unwrap_or c.in_ok-found.found (length t)) c.ahead.ensures in
-    preamble_taken c.args.kind p.own p.sheet p.issuer c.in_ok-found.found c.unwrap_or-end.result c.in_ok-found.ensures.passes c.in_ok-found.ensures.found same
-    (rw c.ahead-2.ensures at c.in-Ok.ensures.read) c.take.ensures.bytes
+    preamble_taken c.args.kind c.mark.ensures.bytes c.preamble_end.ensures.takes c.in_ok-judged.judged c.in_ok-judged.ensures.found c.end_of-end.result c.end_of-end.ensures
+    p.own p.sheet p.issuer p.line (rw c.ahead.ensures at c.in-Ok.ensures.read) c.take.ensures.bytes
+
+pub returns-in-Err-clause-refused : goal.returns-in-Err-clause-refused
+returns-in-Err-clause-refused g c =
+    let left = g.S.Source.remaining c.args.source.now in
+    let why = c.in-Err.fault in
+    subst (λ fault. OfAll (RejectsPreamble c.args.kind fault) c.args.unread.now.bytes left) (sym c.fault_of_section.ensures)
+    (section_rejects c.args.kind c.args.unread.now.bytes left why
+    (λ other.
+    preamble_refused c.args.kind c.mark.ensures.bytes c.preamble_end.ensures.takes c.in_ok-judged.judged c.in_ok-judged.ensures.found c.end_of-end.result c.end_of-end.ensures
+    why (rw c.ahead.ensures at (c.in-Err.ensures.refused other))))

@@ -1,12 +1,11 @@
 -- A line that is there has its line feed, and says how many lines stand below it.
-use Rattle.std.proofs.Common.{◌+◌, ◌-◌, ◌≤◌, Some, take, drop, sym, ap, ◌∙◌, arith}
+use Rattle.std.proofs.Common.{◌≡◌, ◌+◌, ◌-◌, ◌≤◌, Some, take, drop, length, sym, ap, ◌∙◌, arith}
 use Rattle.input_sections.specs.Sections.{number_behind}
 use Rattle.line_source.specs.Lines.{AreBetween}
 use Rattle.process_player.proofs.Between.{between_long}
-use Rattle.process_player.proofs.Ends.{not_said, section_found}
-use Rattle.process_player.proofs.Passing.{passes_more, passes_of}
+use Rattle.process_player.proofs.Ends.{not_said, section_found, too_few}
 use Rattle.process_player.proofs.preambles.section_end.Given as given
-use Rattle.process_player.proofs.preambles.section_end.Goals.{In-Some}
+use Rattle.process_player.proofs.preambles.section_end.Goals.{In-Some, In-Some-number_behind}
 use Rattle.process_player.proofs.preambles.section_end.Goals as goal
 
 line_there : (g : given.Over) (c : In-Some g) → AreBetween c.args.from c.in-Some.opening c.lines_end.new.unread.bytes 1
@@ -28,17 +27,26 @@ pub returns-in_default-number_behind-clause-found : goal.returns-in_default-numb
 returns-in_default-number_behind-clause-found g c =
     let from = c.args.from in
     let opening = c.in-Some.opening in
-    let none = ap (λ t. number_behind c.args.word.now c.args.most (take (opening - 1 - from) (drop from t))) (sym c.ahead.ensures) ∙ sym c.in_default-number_behind.ensures.value in
+    let none = ap (λ t. number_behind c.args.word.now c.args.most (take (opening - 1 - from) (drop from t))) (sym c.ahead-2.ensures) ∙ sym c.in_default-number_behind.ensures.value in
     not_said (line_there g (goal.at.returns-in_default-number_behind-clause-found g c).In-Some) c.args.word.now c.args.most none
+
+-- the line says so many lines
+says : (g : given.Over) (c : In-Some-number_behind g)
+    → number_behind c.args.word.now c.args.most (take (c.in-Some.opening - 1 - c.args.from) (drop c.args.from c.lines_end.new.unread.bytes)) ≡ Some c.in-Some-number_behind.lines
+says g c =
+    let from = c.args.from in
+    let opening = c.in-Some.opening in
+    ap (λ t. number_behind c.args.word.now c.args.most (take (opening - 1 - from) (drop from t))) (sym c.ahead-2.ensures) ∙ sym c.in-Some-number_behind.ensures.value
+
+pub returns-in_default-2-clause-found : goal.returns-in_default-2-clause-found
+returns-in_default-2-clause-found g c =
+    let said = says g (goal.at.returns-in_default-2-clause-found g c).In-Some-number_behind ∙ ap Some (sym c.from.ensures) in
+    let few = rw c.in_default-2.is at c.in_ok-end.ensures.found in
+    too_few (line_there g (goal.at.returns-in_default-2-clause-found g c).In-Some) c.args.word.now c.args.most c.from.result said c.lines_end-2.ensures.takes
+    (length c.ahead-in_default-2.result.now) (ap length c.ahead-in_default-2.ensures) few
 
 pub returns-clause-found : goal.returns-clause-found
 returns-clause-found g c =
-    let from = c.args.from in
-    let opening = c.in-Some.opening in
-    let said =
-    ap (λ t. number_behind c.args.word.now c.args.most (take (opening - 1 - from) (drop from t))) (sym c.ahead.ensures) ∙ sym c.in-Some-number_behind.ensures.value
-    ∙ ap Some (sym c.from.ensures) in
-    section_found (line_there g (goal.at.returns-clause-found g c).In-Some) c.args.word.now c.args.most c.from.result c.in_ok-end.end said (passes_of c.lines_end-2.ensures.takes) c.in_ok-end.ensures.found
-
-pub returns-clause-passes : goal.returns-clause-passes
-returns-clause-passes g c = passes_more (passes_of c.in_ok-opening.ensures.takes) (passes_of c.lines_end-2.ensures.takes)
+    let said = says g (goal.at.returns-clause-found g c).In-Some-number_behind ∙ ap Some (sym c.from.ensures) in
+    let lines = rw c.in-Some-2.is at c.in_ok-end.ensures.found in
+    section_found (line_there g (goal.at.returns-clause-found g c).In-Some) c.args.word.now c.args.most c.from.result said c.lines_end-2.ensures.takes c.in-Some-2.end lines

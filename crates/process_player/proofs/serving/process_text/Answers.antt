@@ -1,6 +1,7 @@
 use Rattle.std.proofs.Common.{[], subst, inr}
 use Rattle.process_player.specs.Inner.Reading.{HasBegun}
 use Rattle.process_player.proofs.Commands.{ends_of, on_err, on_ok, runs_of, torn_later_of}
+use Rattle.process_player.proofs.Refusing.{known_input, serving_rejects}
 use Rattle.process_player.proofs.serving.process_text.Given as given
 use Rattle.process_player.proofs.serving.process_text.Goals.{After-drop-unread-inside-in-Ok-write_begun}
 use Rattle.process_player.proofs.serving.process_text.Goals as goal
@@ -24,3 +25,9 @@ returns-in-Ok-write_begun-clause-whole g c =
 
 pub returns-in-Ok-write_begun-clause-torn : goal.returns-in-Ok-write_begun-clause-torn
 returns-in-Ok-write_begun-clause-torn g c is = inr (torn_later_of (begun g c) c.in-Ok-write_begun.ensures.written (c.serve.ensures.torn is))
+
+pub returns-in-Err-clause-refused : goal.returns-in-Err-clause-refused
+returns-in-Err-clause-refused g c = known_input _ _ _ _ c.new-unread.ensures.bytes c.in-Err.ensures.refused
+
+pub returns-in-Ok-write_begun-clause-refused : goal.returns-in-Ok-write_begun-clause-refused
+returns-in-Ok-write_begun-clause-refused g c = on_err c.serve.result (serving_rejects (begun g c)) c.serve.ensures.others

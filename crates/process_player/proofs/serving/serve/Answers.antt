@@ -1,6 +1,23 @@
-use Rattle.std.proofs.Common.{rules, ◌∙◌}
+use Rattle.std.proofs.Common.{rules, ◌∙◌, [], refl, append-nil, arith}
+use Rattle.std.proofs.KnownBytes.{Appends-nil, Consumes-nil}
 use Rattle.process_player.proofs.Commands.{ends_it, goes_by, goes_on}
+use Rattle.process_player.proofs.Refusing.{long_before, many_taken, none_taken, serving_on, taken_on}
 use Rattle.process_player.proofs.serving.serve.Goals as goal
+
+pub loop-init : goal.loop-init
+loop-init g c = record {
+  serves = record {
+    asked = [];
+    said = [];
+    serves = (refl, refl);
+    passes = record { came = []; consumed = Consumes-nil (g.S.Source.remaining c.args.source.now); joined = append-nil c.args.unread.now.bytes };
+    written = Appends-nil (g.W.Sink.contents c.args.writer.now);
+  };
+  taken = none_taken c.args.unread.now.bytes (g.S.Source.remaining c.args.source.now);
+  short = c.requires;
+  reads = refl;
+  writes = refl;
+}
 
 pub returns-then-not-is_more-clause-ended : goal.returns-then-not-is_more-clause-ended
 returns-then-not-is_more-clause-ended g c =
@@ -12,9 +29,21 @@ returns-in-Err-clause-stopped g c not_write =
     let next = c.in-Err.ensures.stopped not_write in
     (c.loop.process, goes_by c.loop.invariant.serves next.1 next.0)
 
+pub returns-in-Err-clause-others : goal.returns-in-Err-clause-others
+returns-in-Err-clause-others g c =
+    serving_on
+    (long_before c.loop.counter c.args.unread.now.bytes c.loop.unread.bytes (g.S.Source.remaining c.args.source.now) (g.S.Source.remaining c.loop.source) c.loop.invariant.taken)
+    c.in-Err.fault c.in-Err.ensures.others
+
+pub returns-clause-others : goal.returns-clause-others
+returns-clause-others g c =
+    many_taken c.loop.counter c.args.unread.now.bytes c.loop.unread.bytes (g.S.Source.remaining c.args.source.now) (g.S.Source.remaining c.loop.source) (omega arith) c.loop.invariant.taken
+
 pub loop-preserved : goal.loop-preserved
 loop-preserved g c = record {
   serves = goes_on c.loop.invariant.serves (c.in-Ok.ensures.served (search rules));
+  taken = taken_on c.loop.counter c.args.unread.now.bytes c.loop.unread.bytes c.serve_one.new.unread.bytes (g.S.Source.remaining c.args.source.now) (g.S.Source.remaining c.loop.source)
+      (g.S.Source.remaining c.serve_one.new.source) c.loop.invariant.taken (c.in-Ok.ensures.served (search rules));
   short = c.in-Ok.ensures.reads.within;
   reads = c.in-Ok.ensures.reads.count ∙ c.loop.invariant.reads;
   writes = c.in-Ok.ensures.writes ∙ c.loop.invariant.writes;
