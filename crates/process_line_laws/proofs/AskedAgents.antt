@@ -93,9 +93,10 @@ module _ (g : Group) (m : Machines) (acts : List Act) (stands : Stands g m acts)
       by_request (AsksAgent c) is tells =
           inl (asked_comes g m acts (AgentOf a) (process.Agent new) said (AgentDoes a c) (agent_answered c new said tells) asked (c, is, refl))
       by_request NoAgentCommand is none =
-          inr (nothing_comes g m acts stands (AgentOf a) head (as_process (s.journals a)) refl asked (process.Agent new) said _ (ap process.Agent none.0) none.1 (is, none.1))
+          inr (nothing_comes g m acts stands (AgentOf a) head (as_process (s.journals a)) refl asked (process.Agent new) said (codes "L6") (ap process.Agent none.0) none.1 (is, none.1))
 
   pub agent_shortens : (next : Process) (said : List ℕ) → Answers (process.Agent self) (codes "keep") [] next said → ComesOf g m acts (Shortens (AgentOf a) next said) said
+  unfolding agent_answered
   agent_shortens (process.Node x) said answers = absurd answers
   agent_shortens (process.Agent new) said answers =
       let told : record { answer = saying (KeptIs (kept_text (kept_of_agent self))); journal = s.journals a } ≡ record { answer = answers.answer; journal = new.journal } = answers.does.does in

@@ -21,7 +21,7 @@ use Rattle.group_process.specs.Added.{AddsJust}
 use Rattle.group_process.specs.Selves.{NodeSelf, kept_of_node}
 use Rattle.process_text.specs.declared.processes.Process.{Process}
 use Rattle.process_text.specs.declared.processes.Process.TheVariants as process
-use Rattle.process_text.specs.Answers.{Answers, AnswersNode, TellsNode, addressee_of}
+use Rattle.process_text.specs.Answers.{Answers, AnswersNode, TellsNode, process_refusal_text}
 use Rattle.process_text.specs.Requests.{AsksNode, NoNodeCommand, NoPacket, NodeRequest, export_request, give_request, line_request, most_packet_lines, node_request, packet_request, period_behind, place_behind}
 use Rattle.process_text.specs.Requests as requests
 use Rattle.process_player.specs.Runs.{Asked}
@@ -51,7 +51,10 @@ line_is_no_packet false true give o name p is = cc
 line_is_no_packet false false give o name p is = export_is_no_packet give o name p is
 
 packet_asked : (o : Option GroupPacket) (name : List ℕ) (p : Packet) → packet_request o ≡ AsksNode (TakePacket name p) → o ≡ Some (record { group = name; packet = p })
-packet_asked (Some r) name p is = cc
+packet_asked (Some r) name p is =
+    let group : r.group ≡ name = cc in
+    let packet : r.packet ≡ p = cc in
+    ap₂ (λ (t : List ℕ) (q : Packet). let x : GroupPacket = record { group = t; packet = q } in Some x) group packet
 packet_asked None name p is = absurd (cc)
 
 -- the text below is the packet's
@@ -107,7 +110,7 @@ module _ (g : Group) (m : Machines) (acts : List Act) (stands : Stands g m acts)
 
   -- a packet that is handed over as text was sent
   was_sent : (c : NodeCommand) (asked : Asked) → node_request asked.first asked.below ≡ AsksNode c → WasSent g m.sent asked.below → laws.WasSent g s c
-  was_sent (TakePacket name p) asked request handed of =
+  was_sent (TakePacket name p) asked request handed = λ of.
       let read = packet_below asked.first asked.below name p request in
       let one = text_sent g.name s.sent asked.below (subst (λ ts. Contains ts asked.below) stands.stand.sent (handed (record { group = name; packet = p }) read of)) in
       let again = sym (ap packet_in one.2) ∙ packet_written g.name one.0 (sent_written g acts (NodeOf i) stands.history head one.0 one.1) in
@@ -156,11 +159,12 @@ module _ (g : Group) (m : Machines) (acts : List Act) (stands : Stands g m acts)
       by_request (AsksNode c) is tells =
           inl (asked_comes g m acts (NodeOf i) (process.Node new) said (NodeDoes i c) (node_answered c new said tells (was_sent c asked is handed)) asked (c, is, refl))
       by_request NoPacket is none =
-          inr (nothing_comes g m acts stands (NodeOf i) head (as_process n) node_there asked (process.Node new) said _ (ap process.Node none.0) none.1 (inl (is, none.1)))
+          inr (nothing_comes g m acts stands (NodeOf i) head (as_process n) node_there asked (process.Node new) said (process_refusal_text model.Foreign) (ap process.Node none.0) none.1 (inl (is, none.1)))
       by_request NoNodeCommand is none =
-          inr (nothing_comes g m acts stands (NodeOf i) head (as_process n) node_there asked (process.Node new) said _ (ap process.Node none.0) none.1 (inr (is, none.1)))
+          inr (nothing_comes g m acts stands (NodeOf i) head (as_process n) node_there asked (process.Node new) said (codes "L6") (ap process.Node none.0) none.1 (inr (is, none.1)))
 
   pub node_shortens : (next : Process) (said : List ℕ) → Answers (process.Node self) (codes "keep") [] next said → ComesOf g m acts (Shortens (NodeOf i) next said) said
+  unfolding node_answered
   node_shortens (process.Agent x) said answers = absurd answers
   node_shortens (process.Node new) said answers =
       let told : record { answer = saying (KeptIs (kept_text (kept_of_node self))); node = n } ≡ record { answer = answers.answer; node = new.node } = answers.does.does in

@@ -57,11 +57,13 @@ before_space (c ∷ cs) = if c == 32 then [] else c ∷ before_space cs
 up_to_space : (t rest : List ℕ) → lacks 32 t ≡ true → before_space (t ++ 32 ∷ rest) ≡ t
 unfolding before_space
 up_to_space [] rest h = refl
-up_to_space (c ∷ t) rest h = by_test (c == 32) (and_parts (not (c == 32)) (lacks 32 t) h).0
+up_to_space (c ∷ t) rest h =
+    let both = and_parts (not (c == 32)) (lacks 32 t) h in
+    by_test (c == 32) both.0 (up_to_space t rest both.1)
   where
-    by_test : (b : Bool) → not b ≡ true → (if b then [] else c ∷ before_space (t ++ 32 ∷ rest)) ≡ c ∷ t
-    by_test false other = ap (λ u. c ∷ u) (up_to_space t rest (and_parts (not (c == 32)) (lacks 32 t) h).1)
-    by_test true other = absurd (cc)
+    by_test : (b : Bool) → not b ≡ true → before_space (t ++ 32 ∷ rest) ≡ t → (if b then [] else c ∷ before_space (t ++ 32 ∷ rest)) ≡ c ∷ t
+    by_test false other same = ap (λ u. c ∷ u) same
+    by_test true other same = absurd (cc)
 
 -- a file's first line tells the period of its snapshot
 period_told : (s : Snapshot) (period : ℕ) (rest : List ℕ) → IsPeriod period → words_text (HasExported s) ≡ with_number (codes "exported period ") period ++ codes " lines " ++ rest
@@ -179,9 +181,9 @@ nothing_is_no_file h period nothing file = by_act h nothing file
         refused_apart why period file.rest (sym (ap (λ t. t.last) read) ∙ file.words)
 
     by_act : (h : HostAct) → AsksNothing h → IsFileOf period (told_in (said_by h)).last → ⊥
-    by_act (Asks (NodeOf i) asked next said) (inl none) file = refused said _ none.1 file
-    by_act (Asks (NodeOf i) asked next said) (inr none) file = refused said _ none.1 file
-    by_act (Asks (AgentOf a) asked next said) none file = refused said _ none.1 file
+    by_act (Asks (NodeOf i) asked next said) (inl none) file = refused said (process_refusal_text model.Foreign) none.1 file
+    by_act (Asks (NodeOf i) asked next said) (inr none) file = refused said (codes "L6") none.1 file
+    by_act (Asks (AgentOf a) asked next said) none file = refused said (codes "L6") none.1 file
     by_act (GoesOn w text first) none file = none
     by_act (Shortens w next said) none file = none
 

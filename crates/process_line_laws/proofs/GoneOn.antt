@@ -163,7 +163,7 @@ module _ (g : Group) (m : Machines) (acts : List Act) (stands : Stands g m acts)
         act = act;
         is = (n.kept, refl);
         says = says_begun (NodeOf i) text (process.Node (record { group = g; number = i; node = wake n.kept })) d.answer act (ap (λ (x : Acted). x.answer) whole) refl refl;
-        stands = subst (λ ts. Stands g (record { machine = with_machine (NodeOf i) _ m.machine; sent = ts }) (acts ++ act ∷ [])) (append-nil m.sent)
+        stands = subst (λ ts. Stands g (record { machine = with_machine (NodeOf i) (record { runs = Some (process.Node (record { group = g; number = i; node = wake n.kept })); log = (m.machine (NodeOf i)).log }) m.machine; sent = ts }) (acts ++ act ∷ [])) (append-nil m.sent)
             (node_stands g m acts stands i n found head act d (m.machine (NodeOf i)).log whole (n, found, refl) (node_keeps g m acts stands i n found head));
       }
 
@@ -176,7 +176,7 @@ module _ (g : Group) (m : Machines) (acts : List Act) (stands : Stands g m acts)
         act = act;
         is = (s.journals a, refl);
         says = says_begun (AgentOf a) text (process.Agent (record { group = g; number = a; journal = s.journals a })) d.answer act refl refl refl;
-        stands = subst (λ ts. Stands g (record { machine = with_machine (AgentOf a) _ m.machine; sent = ts }) (acts ++ act ∷ [])) (append-nil m.sent)
+        stands = subst (λ ts. Stands g (record { machine = with_machine (AgentOf a) (record { runs = Some (process.Agent (record { group = g; number = a; journal = s.journals a })); log = (m.machine (AgentOf a)).log }) m.machine; sent = ts }) (acts ++ act ∷ [])) (append-nil m.sent)
             (agent_stands g m acts stands a head act d (m.machine (AgentOf a)).log refl (among.0, among.1, refl) (agent_keeps g m acts stands a head));
       }
 

@@ -10,9 +10,10 @@ use Rattle.metering_model.specs.KeptText.{HasText, IsCutAmong, KeptAmong, kept_t
 use Rattle.metering_model.specs.Transcript.{line_count}
 use Rattle.metering_model.specs.World.{Kept}
 use Rattle.metering_model.proofs.HoldingLaws.{IsHolding-nil}
+use Rattle.metering_model.proofs.StepLaws.{ok_same}
 use Rattle.metering_model.specs.Batch.{Batch}
 use Rattle.process_laws.specs.LocalSteps.{KeptIs}
-use Rattle.log_text.specs.LogText.{GoOn, HasIncrementText, HasLog, Increment, IsLogHead, LogHead, among_with, base_text, goes_on, head_text, increment_text, kept_after, kept_at_first, log_in, log_text, most_log_bytes, nothing_kept, section_line}
+use Rattle.log_text.specs.LogText.{GoOn, HasIncrementText, HasLog, Increment, IsLogHead, LogHead, LogTextFault, ReadLog, among_with, base_text, goes_on, head_text, increment_text, kept_after, kept_at_first, log_in, log_text, most_log_bytes, nothing_kept, section_line}
 use Rattle.log_text.proofs.KeptFirst.{after_has_text}
 use Rattle.log_text.proofs.LogLaws.{AreFew, MayBeFirst, log_read, log_written}
 use Rattle.log_text.proofs.WrittenLines.{feeds_end_lines}
@@ -135,5 +136,4 @@ pub read_is_kept : {h : LogHead} {log : List ℕ} {kept other : KeptAmong} → K
 read_is_kept {h} {log} {kept} {other} keeps head read =
     let is = log_read log (record { head = h; kept = other }) read in
     let short : length log ≤ 4_294_967_296 = subst (λ t. length t ≤ 4_294_967_296) (sym is.2) is.3.short in
-    let both = sym read ∙ keeps_read keeps head short in
-    cc
+    ap (λ (r : ReadLog). r.kept) (ok_same {E = LogTextFault} _ _ (sym read ∙ keeps_read keeps head short))

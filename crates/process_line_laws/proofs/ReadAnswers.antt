@@ -19,7 +19,7 @@ use Rattle.metering_model.proofs.LineLaws.{line_lacks_feed}
 use Rattle.metering_model.proofs.Splitting.{ended, lines_give_back, lines_of_text, list_all_both}
 use Rattle.process_laws.specs.LocalSteps as model
 use Rattle.process_laws.specs.LocalSteps.{Answer, Words, HasTaken, HasBegun, HasJournaled, HasExported, KeptIs, HasSent, NodeWentOn, AgentWentOn, RefusedFor}
-use Rattle.packet_text.specs.PacketText.{HasPacketText, IsSent, packet_fields, packet_text, text_below, lines_of_batch}
+use Rattle.packet_text.specs.PacketText.{◌>>=◌, HasPacketText, IsSent, packet_fields, packet_text, text_below, lines_of_batch}
 use Rattle.packet_text.proofs.PacketLaws.{line_fields, packet_line}
 use Rattle.packet_text.proofs.SentNumbers.{group_is_inner}
 use Rattle.packet_text.proofs.SentPackets.{fields_are_inner}
@@ -200,11 +200,13 @@ sent_size name p = let size = under_size p in omega (arith, size)
 -- the number stands behind the word that says for whom it is
 past_space : (word t : List ℕ) → lacks 32 word ≡ true → behind_space (word ++ 32 ∷ t) ≡ Some t
 past_space [] t h = refl
-past_space (c ∷ word) t h = by_test (c == 32) (and_parts (not (c == 32)) (lacks 32 word) h).0
+past_space (c ∷ word) t h =
+    let both = and_parts (not (c == 32)) (lacks 32 word) h in
+    by_test (c == 32) both.0 (past_space word t both.1)
   where
-    by_test : (b : Bool) → not b ≡ true → (if b then Some (word ++ 32 ∷ t) else behind_space (word ++ 32 ∷ t)) ≡ Some t
-    by_test false other = past_space word t (and_parts (not (c == 32)) (lacks 32 word) h).1
-    by_test true other = absurd (cc)
+    by_test : (b : Bool) → not b ≡ true → behind_space (word ++ 32 ∷ t) ≡ Some t → (if b then Some (word ++ 32 ∷ t) else behind_space (word ++ 32 ∷ t)) ≡ Some t
+    by_test false other rest = rest
+    by_test true other rest = absurd (cc)
 
 addressee_lacks : (o : Option ℕ) → (lacks 32 (addressee_text o) ≡ true) × (lacks 10 (addressee_text o) ≡ true)
 addressee_lacks None = (refl, refl)
@@ -214,7 +216,7 @@ abbrev send_words : Option ℕ → List ℕ
 send_words to = codes "send " ++ addressee_text to ++ codes " "
 
 abbrev numbered : Option (List ℕ) → Option ℕ
-numbered o = elim o [ None ↦ None | Some t ↦ whole_in 1 4_294_967_295 t ]
+numbered o = o >>= λ t. whole_in 1 4_294_967_295 t
 
 send_said : (to : Option ℕ) (n : ℕ) → 1 ≤ n → n ≤ 4_294_967_295 → section_said (section (send_words to) n) ≡ Some (in_place ToNodes n)
 send_said to n some most =
@@ -249,7 +251,7 @@ sends_read name to (Some p) w may = packet_read name (to p) p (words_text w) (ju
 
 pub answer_meant : (name : List ℕ) (to : Packet → Option ℕ) (agents : ℕ) (added : Option Increment) (a : Answer) → MayBeAdded agents added → MayBeSent name a.sends
     → told_in (answer_text name to added a) ≡ meant name added a
-answer_meant name to agents None a may sent = so_told _ _ (sends_read name to a.sends a.words sent)
+answer_meant name to agents None a may sent = so_told (sent_text name to a.sends ++ words_text a.words) _ (sends_read name to a.sends a.words sent)
 answer_meant name to agents (Some i) a may sent =
     let above = added_text (Some i) in
     let below = sent_text name to a.sends in
