@@ -1,7 +1,9 @@
 -- What goes wrong where a host hands on a packet that nobody sent: two files of one month that differ. All else is as it should be.
 use Rattle.std.proofs.Common.{◌≡◌, ℕ, ◌≤◌, List, [], ◌∷◌, ◌++◌, length, Option, Some, None, refl, ap, arith, codes, All}
+use Rattle.std.specs.Prelude.{slice_index}
 use Rattle.std.specs.Fmt.{digits}
 use Rattle.std.proofs.lemmas.List.Elements.{All-nil, All-cons}
+use Rattle.std.proofs.lemmas.Option.{none-some}
 use Rattle.jiff_core.specs.Calendar.{days_from_civil, day_count, days_of_years, days_of_months}
 use Rattle.metering_model.specs.NumberText.{worth_of, decimals_of}
 use Rattle.metering_model.specs.File.{header_line}
@@ -20,8 +22,8 @@ use Rattle.process_line_laws.specs.Told.{told_in}
 use Rattle.process_line_laws.specs.Hosts.{HostAct, IsHostHistory, Machines, WasSent, begun_machines, done, said_by}
 use Rattle.process_line_laws.specs.Comes.{IsFileOf}
 use Rattle.process_line_laws.proofs.Files.{bytes_agree}
-use Rattle.process_line_laws.proofs.WorkedGroup.{asked_node, node_may, node_self, one}
-use Rattle.process_line_laws.proofs.WorkedLines.{b, carried, carries, carries_batch, closes, closes_month, empty_file, host_more, no_packet, o1, takes, with_command}
+use Rattle.process_line_laws.proofs.WorkedGroup.{asked_node, node_answers, node_may, node_self, one}
+use Rattle.process_line_laws.proofs.WorkedLines.{b, carried, carries, carries_batch, closes, closes_month, empty_file, o1, takes, with_command}
 
 abbrev high : List ℕ
 high = 1 ∷ []
@@ -53,18 +55,13 @@ record MayButBeSent (m : Machines) (i : ℕ) (asked : Asked) (next : Process) (s
 among : IsCutAmong 1 high
 among = record { size = refl; low = All-cons (λ seq. seq ≤ 1_000_000) 1 [] (omega arith) (All-nil (λ seq. seq ≤ 1_000_000)) }
 
--- the same packet, in a state in which it was sent
-abbrev as_if_sent : Machines
-as_if_sent = record carried { sent = lines_text (codes "P1|one|decided|0|1" ∷ []) ∷ [] }
-
 takes_it_so : MayButBeSent carried 1 made_up (process.Node (node_self 1 o2)) (said_by takes_it)
 unfolding days_from_civil day_count days_of_years days_of_months worth_of decimals_of digits
 takes_it_so = record {
   old = process.Node (node_self 1 o1);
   runs = refl;
-  does = (node_may as_if_sent 1 o1 o2 (codes "packet 1") (codes "P1|one|decided|0|1" ∷ []) (takes (Decided 0 high)) (saying (HasTaken (Some 0)))
-      (Some (Learns 0 high)) _ refl refl refl refl refl refl
-      ((omega arith, among), refl, refl) refl (λ p read of. (0, omega arith, refl))).does;
+  does = node_answers 1 o1 o2 (codes "packet 1") (codes "P1|one|decided|0|1" ∷ []) (takes (Decided 0 high)) (saying (HasTaken (Some 0))) (Some (Learns 0 high)) _
+      refl refl refl refl refl ((omega arith, among), refl, refl) refl;
 }
 
 abbrev exported : Snapshot
@@ -73,7 +70,9 @@ exported = record { period = 0; from = 0 ∷ []; to = high; batches = b ∷ []; 
 exports_it_so : IsHostHistory one (done one carried takes_it) (exports_it ∷ [])
 unfolding days_from_civil day_count days_of_years days_of_months worth_of decimals_of digits
 exports_it_so =
-    node_may _ 1 o2 o2 (codes "export 0") [] (ExportPeriod 0) (saying (HasExported exported)) None _ refl refl refl refl refl refl refl refl (no_packet _) ⨾ tt
+    node_may _ 1 o2 o2 (codes "export 0") [] _ refl
+        (node_answers 1 o2 o2 (codes "export 0") [] (ExportPeriod 0) (saying (HasExported exported)) None _ refl refl refl refl refl refl refl)
+        (λ p read of. absurd (none-some p read)) ⨾ tt
 
 -- ---- two files
 
@@ -81,13 +80,15 @@ abbrev all : List HostAct
 all = closes ++ (carries ++ (takes_it ∷ exports_it ∷ []))
 
 of_month : (last : List ℕ) → last ≡ empty_file → IsFileOf 0 last
+unfolding digits
 of_month last is = record { is_period = omega arith; rest = codes "1\n" ++ header_line ++ codes "\n"; words = is }
 
 of_month_too : (last : List ℕ) → last ≡ file_with_row → IsFileOf 0 last
+unfolding digits
 of_month_too last is = record { is_period = omega arith; rest = codes "2\n" ++ header_line ++ codes "\n" ++ row_1 ++ codes "\n"; words = is }
 
 their_bytes_differ : empty_file ≡ file_with_row → ⊥
-their_bytes_differ same = let sizes = ap length same in absurd (cc (sizes))
+their_bytes_differ same = let bytes : 49 ≡ 50 = ap (λ t. slice_index t 24) same in omega (arith, bytes)
 
 -- by the law such a list is no history
 so_a_made_up_packet_makes_no_history : IsHostHistory one (begun_machines one) all → ⊥

@@ -7,7 +7,6 @@ use Rattle.metering_model.specs.Holding.{Holding}
 use Rattle.metering_model.specs.NumberText.{worth_of}
 use Rattle.metering_model.specs.KeptText.{KeptAmong}
 use Rattle.metering_model.specs.Schedule.{TextLines, lines_text}
-use Rattle.metering_model.specs.Transcript.{line}
 use Rattle.metering_model.specs.World.{Kept, Node, new_kept, wake}
 use Rattle.metering_model.proofs.Samples.{issuer_1, issuer_1_lines, sheet_0, sheet_0_lines}
 use Rattle.process_laws.specs.LocalSteps as model
@@ -78,23 +77,24 @@ node_self i n = record { group = one; number = i; node = n }
 abbrev pub asked_node : (i : ℕ) (first : List ℕ) (lines : TextLines) (next : Node) (said : List ℕ) → HostAct
 asked_node i first lines next said = Asks (NodeOf i) (record { first = first; below = lines_text lines }) (process.Node (node_self i next)) said
 
-pub node_may : (m : Machines) (i : ℕ) (n next : Node) (first : List ℕ) (lines : TextLines) (c : NodeCommand) (answer : Answer) (added : Option Increment) (said : List ℕ)
-    → (m.machine (NodeOf i)).runs ≡ Some (process.Node (node_self i n))
+pub node_answers : (i : ℕ) (n next : Node) (first : List ℕ) (lines : TextLines) (c : NodeCommand) (answer : Answer) (added : Option Increment) (said : List ℕ)
     → lacks 10 first ≡ true → list_all (lacks 10) lines ≡ true → length lines ≡ lines_below (process.Node (node_self i n)) first
     → node_request first (lines_text lines) ≡ AsksNode c → model.node_does one i n c ≡ record { answer = answer; node = next }
     → AddsJust (kept_of_node (node_self i n)) (kept_of_node (node_self i next)) added
-    → said ≡ answer_text (codes "one") (addressee_of 1 c) added answer → WasSent one m.sent (lines_text lines)
-    → MayAsk one m (NodeOf i) (record { first = first; below = lines_text lines }) (process.Node (node_self i next)) said
-node_may m i n next first lines c answer added said runs whole all counted request does adds text sent = record {
-  old = process.Node (node_self i n);
-  runs = runs;
-  does = record {
-    is_asked = record { is_line = whole; lines = lines; whole = all; counted = counted; below = refl };
-    answers = subst (λ r. AnswersNode r (node_self i n) (node_self i next) said) (sym request)
-        (record { answer = answer; does = record { does = does; group = refl; number = refl }; added = added; adds = adds; text = text });
-  };
-  handed = sent;
+    → said ≡ answer_text (codes "one") (addressee_of 1 c) added answer
+    → Does (process.Node (node_self i n)) (record { first = first; below = lines_text lines }) (process.Node (node_self i next)) said
+node_answers i n next first lines c answer added said whole all counted request does adds text = record {
+  is_asked = record { is_line = whole; lines = lines; whole = all; counted = counted; below = refl };
+  answers = subst (λ r. AnswersNode r (node_self i n) (node_self i next) said) (sym request)
+      (record { answer = answer; does = record { does = does; group = refl; number = refl }; added = added; adds = adds; text = text });
 }
+
+pub node_may : (m : Machines) (i : ℕ) (n next : Node) (first : List ℕ) (lines : TextLines) (said : List ℕ)
+    → (m.machine (NodeOf i)).runs ≡ Some (process.Node (node_self i n))
+    → Does (process.Node (node_self i n)) (record { first = first; below = lines_text lines }) (process.Node (node_self i next)) said
+    → WasSent one m.sent (lines_text lines)
+    → MayAsk one m (NodeOf i) (record { first = first; below = lines_text lines }) (process.Node (node_self i next)) said
+node_may m i n next first lines said runs does sent = record { old = process.Node (node_self i n); runs = runs; does = does; handed = sent }
 
 abbrev pub agent_self : Holding → AgentSelf
 agent_self j = record { group = one; number = 1; journal = j }

@@ -28,10 +28,10 @@ use Rattle.log_text.specs.LogText.{AgentOf, BeginsRound, Learns, NodeOf, SetsBal
 use Rattle.process_text.specs.declared.processes.Process.TheVariants as process
 use Rattle.process_player.specs.Starts.{HasLog, HasNone}
 use Rattle.process_line_laws.specs.Told.{told_in}
-use Rattle.process_line_laws.specs.Hosts.{GoesOn, HostAct, IsHostHistory, Machines, MayGoOn, Shortens, WasSent, all_done, begun_machines}
+use Rattle.process_line_laws.specs.Hosts.{GoesOn, HostAct, IsHostHistory, Machines, MayGoOn, Shortens, all_done, begun_machines, done}
 use Rattle.process_line_laws.specs.Comes.{ComeToHistory}
 use Rattle.process_line_laws.proofs.History.{come_to_history}
-use Rattle.process_line_laws.proofs.WorkedGroup.{agent_may, agent_read, agent_self, agent_text, asked_agent, asked_node, node_may, node_self, observer_read, observer_text, one, own, preamble_of, voter_read, voter_text}
+use Rattle.process_line_laws.proofs.WorkedGroup.{agent_may, agent_read, agent_self, agent_text, asked_agent, asked_node, node_answers, node_may, node_self, observer_read, observer_text, one, own, preamble_of, voter_read, voter_text}
 
 -- ---- what they come to
 
@@ -117,9 +117,6 @@ among = record { size = refl; low = All-cons (λ seq. seq ≤ 1_000_000) 0 [] (o
 its_vote : (v : Vote) → Some (record { ballot = 1; cut = low }) ≡ Some v → IsBallotNumber v.ballot × IsCutAmong 1 v.cut
 its_vote v e = subst (λ (u : Vote). IsBallotNumber u.ballot × IsCutAmong 1 u.cut) (same_Some _ v e) ((omega arith, omega arith), among)
 
-pub no_packet : (sent : List (List ℕ)) → WasSent one sent []
-no_packet sent p read of = absurd (none-some p read)
-
 pub closes_month : IsHostHistory one (begun_machines one) closes
 unfolding days_from_civil day_count days_of_years days_of_months worth_of decimals_of digits
 closes_month =
@@ -140,20 +137,24 @@ closes_month =
       issuer = refl;
       log = refl;
     } ⨾
-    node_may _ 0 new_node v1 (codes "start") [] BeginBallot (and_sends (HasBegun 1) (Prepare 0 1)) (Some (BeginsRound 1)) _ refl refl refl refl refl refl
-        ((omega arith, omega arith), refl, refl) refl (no_packet _) ⨾
-    node_may _ 0 v1 v2 (codes "packet 1") (codes "P1|one|prepare|0|1" ∷ []) (takes (Prepare 0 1)) (and_sends (HasTaken None) (Promise 0 0 1 None))
-        (Some (SetsBallots 0 (record { promised = Some 1; vote = None }))) _ refl refl refl refl refl refl
-        ((omega arith, promised, no_vote), refl, refl) refl (λ p read of. (0, omega arith, refl)) ⨾
-    node_may _ 0 v2 v3 (codes "packet 1") (codes "P1|one|promise|0|0|1|0" ∷ []) (takes (Promise 0 0 1 None)) (and_sends (HasTaken None) (Accept 0 1 low))
-        None _ refl refl refl refl refl refl refl refl (λ p read of. (1, omega arith, refl)) ⨾
-    node_may _ 0 v3 v4 (codes "packet 1") (codes "P1|one|accept|0|1|0" ∷ []) (takes (Accept 0 1 low)) (and_sends (HasTaken None) (Accepted 0 0 1 low))
-        (Some (SetsBallots 0 (record { promised = Some 1; vote = Some (record { ballot = 1; cut = low }) }))) _ refl refl refl refl refl refl
-        ((omega arith, promised, its_vote), refl, refl) refl (λ p read of. (2, omega arith, refl)) ⨾
-    node_may _ 0 v4 v5 (codes "packet 1") (codes "P1|one|accepted|0|0|1|0" ∷ []) (takes (Accepted 0 0 1 low)) (saying (HasTaken (Some 0)))
-        (Some (Learns 0 low)) _ refl refl refl refl refl refl
-        ((omega arith, among), refl, refl) refl (λ p read of. (3, omega arith, refl)) ⨾
-    node_may _ 0 v5 v5 (codes "export 0") [] (ExportPeriod 0) (saying (HasExported exported)) None _ refl refl refl refl refl refl refl refl (no_packet _) ⨾ tt
+    node_may _ 0 new_node v1 (codes "start") [] _ refl
+        (node_answers 0 new_node v1 (codes "start") [] BeginBallot (and_sends (HasBegun 1) (Prepare 0 1)) (Some (BeginsRound 1)) _ refl refl refl refl refl ((omega arith, omega arith), refl, refl) refl)
+        (λ p read of. absurd (none-some p read)) ⨾
+    node_may _ 0 v1 v2 (codes "packet 1") (codes "P1|one|prepare|0|1" ∷ []) _ refl
+        (node_answers 0 v1 v2 (codes "packet 1") (codes "P1|one|prepare|0|1" ∷ []) (takes (Prepare 0 1)) (and_sends (HasTaken None) (Promise 0 0 1 None)) (Some (SetsBallots 0 (record { promised = Some 1; vote = None }))) _ refl refl refl refl refl ((omega arith, promised, no_vote), refl, refl) refl)
+        (λ p read of. (0, omega arith, refl)) ⨾
+    node_may _ 0 v2 v3 (codes "packet 1") (codes "P1|one|promise|0|0|1|0" ∷ []) _ refl
+        (node_answers 0 v2 v3 (codes "packet 1") (codes "P1|one|promise|0|0|1|0" ∷ []) (takes (Promise 0 0 1 None)) (and_sends (HasTaken None) (Accept 0 1 low)) None _ refl refl refl refl refl refl refl)
+        (λ p read of. (1, omega arith, refl)) ⨾
+    node_may _ 0 v3 v4 (codes "packet 1") (codes "P1|one|accept|0|1|0" ∷ []) _ refl
+        (node_answers 0 v3 v4 (codes "packet 1") (codes "P1|one|accept|0|1|0" ∷ []) (takes (Accept 0 1 low)) (and_sends (HasTaken None) (Accepted 0 0 1 low)) (Some (SetsBallots 0 (record { promised = Some 1; vote = Some (record { ballot = 1; cut = low }) }))) _ refl refl refl refl refl ((omega arith, promised, its_vote), refl, refl) refl)
+        (λ p read of. (2, omega arith, refl)) ⨾
+    node_may _ 0 v4 v5 (codes "packet 1") (codes "P1|one|accepted|0|0|1|0" ∷ []) _ refl
+        (node_answers 0 v4 v5 (codes "packet 1") (codes "P1|one|accepted|0|0|1|0" ∷ []) (takes (Accepted 0 0 1 low)) (saying (HasTaken (Some 0))) (Some (Learns 0 low)) _ refl refl refl refl refl ((omega arith, among), refl, refl) refl)
+        (λ p read of. (3, omega arith, refl)) ⨾
+    node_may _ 0 v5 v5 (codes "export 0") [] _ refl
+        (node_answers 0 v5 v5 (codes "export 0") [] (ExportPeriod 0) (saying (HasExported exported)) None _ refl refl refl refl refl refl refl)
+        (λ p read of. absurd (none-some p read)) ⨾ tt
 
 -- ---- what is done behind it
 
@@ -215,8 +216,9 @@ carries_batch =
       issuer = refl;
       log = refl;
     } ⨾
-    node_may _ 1 new_node o1 (codes "packet 3") (codes "P1|one|batch|2" ∷ batch_lines) (takes (CarriesBatch b)) (saying (HasTaken None)) (Some (Takes b)) _
-        refl refl refl refl refl refl (is_batch, refl, refl) refl (λ p read of. (4, omega arith, refl)) ⨾ tt
+    node_may _ 1 new_node o1 (codes "packet 3") (codes "P1|one|batch|2" ∷ batch_lines) _ refl
+        (node_answers 1 new_node o1 (codes "packet 3") (codes "P1|one|batch|2" ∷ batch_lines) (takes (CarriesBatch b)) (saying (HasTaken None)) (Some (Takes b)) _ refl refl refl refl refl (is_batch, refl, refl) refl)
+        (λ p read of. (4, omega arith, refl)) ⨾ tt
 
 -- what the voter keeps takes the place of its log
 abbrev short : List ℕ
@@ -239,15 +241,16 @@ short_read = refl
 learns_cut : IsHostHistory one carried learns
 unfolding days_from_civil day_count days_of_years days_of_months worth_of decimals_of digits
 learns_cut =
-    node_may _ 1 o1 o2 (codes "packet 1") (codes "P1|one|accepted|0|0|1|0" ∷ []) (takes (Accepted 0 0 1 low)) (saying (HasTaken (Some 0)))
-        (Some (Learns 0 low)) _ refl refl refl refl refl refl
-        ((omega arith, among), refl, refl) refl (λ p read of. (3, omega arith, refl)) ⨾
-    node_may _ 1 o2 o2 (codes "export 0") [] (ExportPeriod 0) (saying (HasExported exported)) None _ refl refl refl refl refl refl refl refl (no_packet _) ⨾
+    node_may _ 1 o1 o2 (codes "packet 1") (codes "P1|one|accepted|0|0|1|0" ∷ []) _ refl
+        (node_answers 1 o1 o2 (codes "packet 1") (codes "P1|one|accepted|0|0|1|0" ∷ []) (takes (Accepted 0 0 1 low)) (saying (HasTaken (Some 0))) (Some (Learns 0 low)) _ refl refl refl refl refl ((omega arith, among), refl, refl) refl)
+        (λ p read of. (3, omega arith, refl)) ⨾
+    node_may _ 1 o2 o2 (codes "export 0") [] _ refl
+        (node_answers 1 o2 o2 (codes "export 0") [] (ExportPeriod 0) (saying (HasExported exported)) None _ refl refl refl refl refl refl refl)
+        (λ p read of. absurd (none-some p read)) ⨾
     record {
       old = process.Node (node_self 0 v5);
       runs = refl;
-      does = (node_may carried 0 v5 v5 (codes "keep") [] TellKept (saying (KeptIs (codes "K1|1|1|1|0|0|0\n0\n"))) None (codes "kept lines 2\nK1|1|1|1|0|0|0\n0\n")
-          refl refl refl refl refl refl refl refl (no_packet _)).does;
+      does = node_answers 0 v5 v5 (codes "keep") [] TellKept (saying (KeptIs (codes "K1|1|1|1|0|0|0\n0\n"))) None _ refl refl refl refl refl refl refl;
     } ⨾
     record {
       begins = record {
@@ -266,17 +269,19 @@ learns_cut =
       issuer = refl;
       log = refl;
     } ⨾
-    node_may _ 0 (wake v5.kept) (wake v5.kept) (codes "export 0") [] (ExportPeriod 0) (saying (HasExported exported)) None _ refl refl refl refl refl refl refl refl (no_packet _)
+    node_may _ 0 (wake v5.kept) (wake v5.kept) (codes "export 0") [] _ refl
+        (node_answers 0 (wake v5.kept) (wake v5.kept) (codes "export 0") [] (ExportPeriod 0) (saying (HasExported exported)) None _ refl refl refl refl refl refl refl)
+        (λ p read of. absurd (none-some p read))
     ⨾ tt
 
 -- ---- all of it
 
-pub host_more : {m : Machines} (hosts more : List HostAct) → IsHostHistory one m hosts → IsHostHistory one (all_done one m hosts) more → IsHostHistory one m (hosts ++ more)
-host_more [] more first rest = rest
-host_more (h ∷ hosts) more first rest = (first.0, host_more hosts more first.1 rest)
+pub host_more : (m : Machines) (hosts more : List HostAct) → IsHostHistory one m hosts → IsHostHistory one (all_done one m hosts) more → IsHostHistory one m (hosts ++ more)
+host_more m [] more first rest = rest
+host_more m (h ∷ hosts) more first rest = (first.0, host_more (done one m h) hosts more first.1 rest)
 
 is_history : IsHostHistory one (begun_machines one) (closes ++ (carries ++ learns))
-is_history = host_more closes (carries ++ learns) closes_month (host_more carries learns carries_batch learns_cut)
+is_history = host_more (begun_machines one) closes (carries ++ learns) closes_month (host_more (all_done one (begun_machines one) closes) carries learns carries_batch learns_cut)
 
 so_it_comes_to_a_history : ComeToHistory one (closes ++ (carries ++ learns))
 so_it_comes_to_a_history = come_to_history one (closes ++ (carries ++ learns)) is_history
