@@ -25,7 +25,7 @@ use Rattle.process_line_laws.proofs.Files.{bytes_agree}
 use Rattle.process_line_laws.proofs.WorkedGroup.{asked_node, node_answers, node_may, node_self, one}
 use Rattle.process_line_laws.proofs.WorkedLines.{b, carried, carries, carries_batch, closes, closes_month, empty_file, o1, takes, with_command}
 
-abbrev high : List ℕ
+abbrev pub high : List ℕ
 high = 1 ∷ []
 
 -- what the observer is handed: a cut up to the batch, which nobody chose
@@ -38,7 +38,7 @@ o2 = with_command 1 (takes (Decided 0 high)) o1
 abbrev takes_it : HostAct
 takes_it = asked_node 1 (codes "packet 1") (codes "P1|one|decided|0|1" ∷ []) o2 (codes "kept 1\nlearned|0|1\ndelivered learned 0\n")
 
-abbrev file_with_row : List ℕ
+abbrev pub file_with_row : List ℕ
 file_with_row = codes "exported period 0 lines 2\n" ++ header_line ++ codes "\n" ++ row_1 ++ codes "\n"
 
 abbrev exports_it : HostAct
@@ -64,7 +64,7 @@ takes_it_so = record {
       refl refl refl refl refl ((omega arith, among), refl, refl) refl;
 }
 
-abbrev exported : Snapshot
+abbrev pub exported : Snapshot
 exported = record { period = 0; from = 0 ∷ []; to = high; batches = b ∷ []; sheet = sheet_0; issuer = issuer_1 }
 
 exports_it_so : IsHostHistory one (done one carried takes_it) (exports_it ∷ [])
@@ -79,15 +79,15 @@ exports_it_so =
 abbrev all : List HostAct
 all = closes ++ (carries ++ (takes_it ∷ exports_it ∷ []))
 
-of_month : (last : List ℕ) → last ≡ empty_file → IsFileOf 0 last
+pub of_month : (last : List ℕ) → last ≡ empty_file → IsFileOf 0 last
 unfolding digits
 of_month last is = record { is_period = omega arith; rest = codes "1\n" ++ header_line ++ codes "\n"; words = is }
 
-of_month_too : (last : List ℕ) → last ≡ file_with_row → IsFileOf 0 last
+pub of_month_too : (last : List ℕ) → last ≡ file_with_row → IsFileOf 0 last
 unfolding digits
 of_month_too last is = record { is_period = omega arith; rest = codes "2\n" ++ header_line ++ codes "\n" ++ row_1 ++ codes "\n"; words = is }
 
-their_bytes_differ : empty_file ≡ file_with_row → ⊥
+pub their_bytes_differ : empty_file ≡ file_with_row → ⊥
 their_bytes_differ same = let bytes : 49 ≡ 50 = ap (λ t. slice_index t 24) same in omega (arith, bytes)
 
 -- by the law such a list is no history

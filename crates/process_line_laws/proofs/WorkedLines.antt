@@ -173,7 +173,7 @@ carries =
 abbrev pub carried : Machines
 carried = all_done one (all_done one (begun_machines one) closes) carries
 
-is_batch : IsWellFormed b
+pub is_batch : IsWellFormed b
 unfolding days_from_civil day_count days_of_years days_of_months worth_of decimals_of digits
 is_batch = IsWellFormed-read batch_text b refl
 
