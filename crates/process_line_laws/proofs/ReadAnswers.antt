@@ -125,14 +125,15 @@ increment_few agents (SetsBallots period a) has = omega arith
 increment_few agents (Learns period cut) has = omega arith
 increment_few agents (Takes b) has = few_lines b has
 
+pub increment_said : (agents : ℕ) (i : Increment) → HasIncrementText agents i → section_said (section (codes "kept ") (lines_of_increment i)) ≡ Some (in_place ToLog (length (lines_of i)))
+increment_said agents i has = kept_said (lines_of_increment i) (increment_some i) (increment_few agents i has) ∙ ap (λ k. Some (in_place ToLog k)) (sym (increment_size i))
+
 increment_read : (agents : ℕ) (i : Increment) (text : List ℕ) (t : Told) → HasIncrementText agents i → IsReadAs text t
     → IsReadAs (added_text (Some i) ++ text) (with_lines ToLog (increment_text i) t)
 increment_read agents i text t has later =
     let n = lines_of_increment i in
-    let said : section_said (section (codes "kept ") n) ≡ Some (in_place ToLog (length (lines_of i))) =
-    kept_said n (increment_some i) (increment_few agents i has) ∙ ap (λ k. Some (in_place ToLog k)) (sym (increment_size i)) in
     subst (λ u. IsReadAs ((ended (section (codes "kept ") n) ++ u) ++ text) (with_lines ToLog u t)) (increment_lines_are_text i)
-    (counted_read (section (codes "kept ") n) (lines_of i) ToLog text t (section_lacks_feed (codes "kept ") n refl) (increment_lacks_feed agents i has) said later)
+    (counted_read (section (codes "kept ") n) (lines_of i) ToLog text t (section_lacks_feed (codes "kept ") n refl) (increment_lacks_feed agents i has) (increment_said agents i has) later)
 
 -- ---- what is sent
 
@@ -180,14 +181,14 @@ packet_few (Accepted from period ballot cut) h = omega arith
 packet_few (Decided period cut) h = omega arith
 
 -- a packet's line, and those below it
-lines_of_sent : (name : List ℕ) → Packet → List (List ℕ)
+pub lines_of_sent : (name : List ℕ) → Packet → List (List ℕ)
 lines_of_sent name p = packet_line name p ∷ lines_under p
 
-sent_is_lines : (name : List ℕ) (p : Packet) → text_of_lines (lines_of_sent name p) ≡ packet_text name p
+pub sent_is_lines : (name : List ℕ) (p : Packet) → text_of_lines (lines_of_sent name p) ≡ packet_text name p
 unfolding lines_of_sent
 sent_is_lines name p = ap (λ t. ended (packet_line name p) ++ t) (under_is_lines p)
 
-sent_lacks_feed : (name : List ℕ) (p : Packet) → HasPacketText name p → list_all (lacks 10) (lines_of_sent name p) ≡ true
+pub sent_lacks_feed : (name : List ℕ) (p : Packet) → HasPacketText name p → list_all (lacks 10) (lines_of_sent name p) ≡ true
 unfolding lines_of_sent
 sent_lacks_feed name p h =
     let inner = and_from _ _ (group_is_inner name h.group) (fields_are_inner p) in
@@ -198,7 +199,7 @@ unfolding lines_of_sent
 sent_size name p = let size = under_size p in omega (arith, size)
 
 -- the number stands behind the word that says for whom it is
-past_space : (word t : List ℕ) → lacks 32 word ≡ true → behind_space (word ++ 32 ∷ t) ≡ Some t
+pub past_space : (word t : List ℕ) → lacks 32 word ≡ true → behind_space (word ++ 32 ∷ t) ≡ Some t
 past_space [] t h = refl
 past_space (c ∷ word) t h =
     let both = and_parts (not (c == 32)) (lacks 32 word) h in
@@ -212,7 +213,7 @@ addressee_lacks : (o : Option ℕ) → (lacks 32 (addressee_text o) ≡ true) ×
 addressee_lacks None = (refl, refl)
 addressee_lacks (Some node) = (decimal_lacks_blank node, decimal_lacks_feed node)
 
-abbrev send_words : Option ℕ → List ℕ
+abbrev pub send_words : Option ℕ → List ℕ
 send_words to = codes "send " ++ addressee_text to ++ codes " "
 
 abbrev numbered : Option (List ℕ) → Option ℕ
@@ -226,21 +227,23 @@ send_said to n some most =
     ap (λ o. option_map (in_place ToNodes) (numbered o)) number
     ∙ ap (option_map (in_place ToNodes)) (whole_written 1 4_294_967_295 n (omega arith) some most)
 
-send_lacks_feed : (to : Option ℕ) (n : ℕ) → lacks 10 (section (send_words to) n) ≡ true
+pub send_lacks_feed : (to : Option ℕ) (n : ℕ) → lacks 10 (section (send_words to) n) ≡ true
 send_lacks_feed to n =
     section_lacks_feed (send_words to) n
     (list_all_both (λ c. not (c == 10)) (codes "send " ++ addressee_text to) (codes " ")
     (list_all_both (λ c. not (c == 10)) (codes "send ") (addressee_text to) refl (addressee_lacks to).1) refl)
 
+pub packet_said : (name : List ℕ) (to : Option ℕ) (p : Packet) → HasPacketText name p → section_said (section (send_words to) (lines_of_packet p)) ≡ Some (in_place ToNodes (length (lines_of_sent name p)))
+packet_said name to p has =
+    let size = under_size p in
+    send_said to (lines_of_packet p) (omega (arith, size)) (packet_few p has.packet) ∙ ap (λ k. Some (in_place ToNodes k)) (sym (sent_size name p))
+
 packet_read : (name : List ℕ) (to : Option ℕ) (p : Packet) (text : List ℕ) (t : Told) → HasPacketText name p → IsReadAs text t
     → IsReadAs (packet_sent_text name to p ++ text) (with_lines ToNodes (packet_text name p) t)
 packet_read name to p text t has later =
     let n = lines_of_packet p in
-    let size = under_size p in
-    let said : section_said (section (send_words to) n) ≡ Some (in_place ToNodes (length (lines_of_sent name p))) =
-    send_said to n (omega (arith, size)) (packet_few p has.packet) ∙ ap (λ k. Some (in_place ToNodes k)) (sym (sent_size name p)) in
     subst (λ u. IsReadAs ((ended (section (send_words to) n) ++ u) ++ text) (with_lines ToNodes u t)) (sent_is_lines name p)
-    (counted_read (section (send_words to) n) (lines_of_sent name p) ToNodes text t (send_lacks_feed to n) (sent_lacks_feed name p has) said later)
+    (counted_read (section (send_words to) n) (lines_of_sent name p) ToNodes text t (send_lacks_feed to n) (sent_lacks_feed name p has) (packet_said name to p has) later)
 
 -- ---- the whole
 

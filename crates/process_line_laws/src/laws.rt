@@ -3,6 +3,7 @@
 ghost use Rattle.std.specs.Prelude.{◌≡◌, ℕ, List, [], ◌∷◌, ◌++◌, length, Option};
 ghost use Rattle.std.specs.List.{Contains};
 ghost use Rattle.metering_model.specs.BatchReading.{Lines, lines_in};
+ghost use Rattle.metering_model.specs.KeptText.{HasText, KeptAmong, kept_text};
 ghost use Rattle.metering_model.specs.World.{Packet};
 ghost use Rattle.process_laws.specs.LocalSteps as model;
 ghost use Rattle.process_laws.specs.LocalSteps.{Answer, Group};
@@ -11,7 +12,7 @@ ghost use Rattle.log_text.specs.LogText.{HasIncrementText, Increment, increment_
 ghost use Rattle.group_process.specs.Selves.{AgentSelf, NodeSelf};
 ghost use Rattle.process_text.specs.declared.processes.Process.{Process};
 ghost use Rattle.process_text.specs.Answers.{TellsAgent, TellsNode, answer_text, begun_text, lines_of_packet, refused_text};
-ghost use Rattle.process_line_laws.specs.Told.{MayBeAdded, MayBeSent, just, meant, told_in};
+ghost use Rattle.process_line_laws.specs.Told.{CanBeCounted, FirstTold, MayBeAdded, MayBeSent, first_told, just, meant, told_in};
 ghost use Rattle.process_line_laws.specs.Hosts.{HostAct, IsHostHistory, begun_machines, said_by};
 ghost use Rattle.process_line_laws.specs.Comes.{AreMadeOf, ComeToHistory, IsFileOf};
 
@@ -40,6 +41,17 @@ pub fn an_answer_is_read_as_it_is_meant()
     ensures sent { (name : List ℕ) (p : Packet) → HasPacketText name p →
         (length (lines_in (packet_text name p)).lines ≡ lines_of_packet p)
         × ((lines_in (packet_text name p)).rest ≡ []) }
+{}
+
+/// In a stream of answers the first one ends where its last line says, whatever stands behind: a host that counts lines
+/// takes just the answer. A kept text is one of whole lines, as a file is.
+pub fn an_answer_ends_where_it_says()
+    ensures first { (name : List ℕ) (to : Packet → Option ℕ) (agents : ℕ)
+        (added : Option Increment) (a : Answer) (behind : List ℕ)
+        → MayBeAdded agents added → MayBeSent name a.sends → CanBeCounted a.words →
+        first_told (answer_text name to added a ++ behind)
+        ≡ record { told = meant name added a; behind = behind } }
+    ensures kept { (k : KeptAmong) → HasText k → (lines_in (kept_text k)).rest ≡ [] }
 {}
 
 /// Whatever the hosts of a group do, if each hands on no packet that nobody sent and goes on with the log that it stored: what
