@@ -39,50 +39,68 @@ pub record HasAnswered (g : Group) (m : Machines) (acts : List Act) (w : Who) (n
   pub is : (acted g (after g (begun g) acts) act).answer ≡ answer
   pub keeps : KeepsBy (head_of g w) ((m.machine w).log ++ text_added added) (kept_by next)
   pub stands : (log : List ℕ) → KeepsBy (head_of g w) log (kept_by next)
-      → Stands g (record { machine = with_machine w (record { runs = Some next; log = log }) m.machine; sent = m.sent ++ texts_sent g.name answer.sends }) (acts ++ act ∷ [])
+      → Stands g (record { machine = with_machine w (record { runs = Some next; log = log }) m.machine;
+          sent = m.sent ++ texts_sent g.name answer.sends }) (acts ++ act ∷ [])
 
-module _ (g : Group) (m : Machines) (acts : List Act) (w : Who) (next : Process) (said : List ℕ) (act : Act) (has : HasAnswered g m acts w next said act) where
+module _ (g : Group) (m : Machines) (acts : List Act) (w : Who) (next : Process) (said : List ℕ) (act : Act)
+    (has : HasAnswered g m acts w next said act) where
   says_just : SaysJust g.name said (acted g (after g (begun g) acts) act).answer
   says_just = record {
     words = ap (λ t. t.last) has.read ∙ ap (λ (x : Answer). words_text x.words) (sym has.is);
     sends = ap (λ t. t.sent) has.read ∙ ap (λ (x : Answer). texts_sent g.name x.sends) (sym has.is);
   }
 
-  pub asked_comes : (asked : Asked) → IsActOf (Asks w asked next said) act → OneAct g (done g m (Asks w asked next said)) acts (Asks w asked next said) said
+  pub asked_comes : (asked : Asked) → IsActOf (Asks w asked next said) act
+      → OneAct g (done g m (Asks w asked next said)) acts (Asks w asked next said) said
   asked_comes asked is = record {
     act = act;
     is = is;
     says = says_just;
-    stands = subst (λ (t : Told). Stands g (record { machine = with_machine w (record { runs = Some next; log = (m.machine w).log ++ t.kept }) m.machine; sent = m.sent ++ t.sent }) (acts ++ act ∷ []))
+    stands = subst (λ (t : Told). Stands g
+        (record { machine = with_machine w (record { runs = Some next; log = (m.machine w).log ++ t.kept }) m.machine;
+        sent = m.sent ++ t.sent }) (acts ++ act ∷ []))
         (sym has.read) (has.stands ((m.machine w).log ++ text_added has.added) has.keeps);
   }
 
-  pub shortened_comes : IsLogHead (head_of g w) → IsActOf (Shortens w next said) act → has.answer ≡ saying (KeptIs (kept_text (kept_by next)))
+  pub shortened_comes : IsLogHead (head_of g w) → IsActOf (Shortens w next said) act
+      → has.answer ≡ saying (KeptIs (kept_text (kept_by next)))
       → OneAct g (done g m (Shortens w next said)) acts (Shortens w next said) said
   shortened_comes head is told = record {
     act = act;
     is = is;
     says = says_just;
     stands =
-        let last : (told_in said).last ≡ words_text (KeptIs (kept_text (kept_by next))) = ap (λ t. t.last) has.read ∙ ap (λ (x : Answer). words_text x.words) told in
-        let none : m.sent ++ texts_sent g.name has.answer.sends ≡ m.sent = ap (λ (x : Answer). m.sent ++ texts_sent g.name x.sends) told ∙ append-nil m.sent in
-        subst (λ ts. Stands g (record { machine = with_machine w (record { runs = Some next; log = short_log (head_of g w) (told_in said).last }) m.machine; sent = ts }) (acts ++ act ∷ []))
+        let last : (told_in said).last ≡ words_text (KeptIs (kept_text (kept_by next))) = ap (λ t. t.last) has.read
+            ∙ ap (λ (x : Answer). words_text x.words) told in
+        let none : m.sent ++ texts_sent g.name has.answer.sends ≡ m.sent = ap (λ (x : Answer). m.sent ++ texts_sent g.name x.sends) told
+            ∙ append-nil m.sent in
+        subst (λ ts. Stands g
+            (record { machine = with_machine w (record { runs = Some next; log = short_log (head_of g w) (told_in said).last }) m.machine;
+            sent = ts }) (acts ++ act ∷ []))
         none
         (has.stands (short_log (head_of g w) (told_in said).last)
         (subst (λ t. KeepsBy (head_of g w) (short_log (head_of g w) t) (kept_by next)) (sym last) (keeps_shorter has.keeps head)));
   }
 
 -- what is no command changes nothing
-module _ (g : Group) (m : Machines) (acts : List Act) (stands : Stands g m acts) (w : Who) (head : IsLogHead (head_of g w)) (p : Process) (there : process_there g (after g (begun g) acts) w ≡ Some p) where
-  pub nothing_comes : (asked : Asked) (next : Process) (said why : List ℕ) → next ≡ p → said ≡ refused_text why → AsksNothing (Asks w asked next said)
+module _ (g : Group) (m : Machines) (acts : List Act) (stands : Stands g m acts) (w : Who) (head : IsLogHead (head_of g w)) (p : Process)
+    (there : process_there g (after g (begun g) acts) w ≡ Some p) where
+  pub nothing_comes : (asked : Asked) (next : Process) (said why : List ℕ) → next ≡ p → said ≡ refused_text why
+      → AsksNothing (Asks w asked next said)
       → NoAct g (done g m (Asks w asked next said)) acts (Asks w asked next said)
   nothing_comes asked next said why same refused nothing = record {
     nothing = nothing;
     stands =
-        let read : told_in said ≡ just (refused_text why) = ap told_in refused ∙ so_told (refused_text why) (just (refused_text why)) (refused_read why) in
+        let read : told_in said ≡ just (refused_text why) = ap told_in refused
+            ∙ so_told (refused_text why) (just (refused_text why)) (refused_read why) in
         let log = (m.machine w).log in
-        let keeps : KeepsBy (head_of g w) (log ++ []) (kept_by p) = subst (λ t. KeepsBy (head_of g w) t (kept_by p)) (sym (append-nil log)) ((stands.stand.each w).keeps p there) in
-        subst (λ (t : Told). Stands g (record { machine = with_machine w (record { runs = Some next; log = log ++ t.kept }) m.machine; sent = m.sent ++ t.sent }) acts) (sym read)
-        (subst (λ q. Stands g (record { machine = with_machine w (record { runs = Some q; log = log ++ [] }) m.machine; sent = m.sent ++ [] }) acts) (sym same)
+        let keeps : KeepsBy (head_of g w) (log ++ []) (kept_by p) =
+            subst (λ t. KeepsBy (head_of g w) t (kept_by p)) (sym (append-nil log)) ((stands.stand.each w).keeps p there) in
+        subst (λ (t : Told). Stands g
+            (record { machine = with_machine w (record { runs = Some next; log = log ++ t.kept }) m.machine;
+            sent = m.sent ++ t.sent }) acts) (sym read)
+        (subst (λ q. Stands g
+            (record { machine = with_machine w (record { runs = Some q; log = log ++ [] }) m.machine; sent = m.sent ++ [] }) acts)
+            (sym same)
         (stands_still g m acts stands w p (log ++ []) head keeps there (m.sent ++ []) (append-nil m.sent)));
   }

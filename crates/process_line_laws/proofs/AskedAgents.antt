@@ -51,7 +51,8 @@ module _ (g : Group) (m : Machines) (acts : List Act) (stands : Stands g m acts)
   -- the machines with an act of the agent, whatever its log has become
   pub agent_stands : (act : Act) (d : AgentDone) (log : List ℕ) → acted g s act ≡ with_agent_done a d s → laws.MayAct g s act
       → KeepsBy (head_of g (AgentOf a)) log (kept_by (as_process d.journal))
-      → Stands g (record { machine = with_machine (AgentOf a) (record { runs = Some (as_process d.journal); log = log }) m.machine; sent = m.sent ++ texts_sent g.name d.answer.sends }) (acts ++ act ∷ [])
+      → Stands g (record { machine = with_machine (AgentOf a) (record { runs = Some (as_process d.journal); log = log }) m.machine;
+          sent = m.sent ++ texts_sent g.name d.answer.sends }) (acts ++ act ∷ [])
   agent_stands act d log is may keeps =
       stands_with g m acts stands (AgentOf a) (as_process d.journal) log head keeps act d.answer.sends may
       (subst (λ (x : Acted). Moves g s x.after (AgentOf a) (as_process d.journal)) (sym is) (agent_moved d))
@@ -63,7 +64,8 @@ module _ (g : Group) (m : Machines) (acts : List Act) (stands : Stands g m acts)
     d = record { answer = tells.answer; journal = new.journal }
 
     new_is : new ≡ record { group = g; number = a; journal = new.journal }
-    new_is = ap₂ (λ (x : Group) (b : ℕ). let y : AgentSelf = record { group = x; number = b; journal = new.journal } in y) tells.does.group tells.does.number
+    new_is = ap₂ (λ (x : Group) (b : ℕ). let y : AgentSelf = record { group = x; number = b; journal = new.journal } in
+        y) tells.does.group tells.does.number
 
     whole : acted g s (AgentDoes a c) ≡ with_agent_done a d s
     whole = ap (λ (x : AgentDone). with_agent_done a x s) tells.does.does
@@ -73,13 +75,17 @@ module _ (g : Group) (m : Machines) (acts : List Act) (stands : Stands g m acts)
       answer = tells.answer;
       added = tells.added;
       read = agent_meant c self new said tells
-          (answer_written g acts (AgentDoes a c) (AgentOf a) stands.history agent_among head tells.answer.sends (ap (λ (x : Acted). x.after.sent) whole));
+          (answer_written g acts (AgentDoes a c) (AgentOf a) stands.history agent_among head tells.answer.sends
+              (ap (λ (x : Acted). x.after.sent) whole));
       is = ap (λ (x : Acted). x.answer) whole;
       keeps = keeps_more agent_keeps (kept_of_agent new) tells.added tells.adds;
       stands = λ log keeps.
-          subst (λ x. Stands g (record { machine = with_machine (AgentOf a) (record { runs = Some (process.Agent x); log = log }) m.machine; sent = m.sent ++ texts_sent g.name tells.answer.sends }) (acts ++ AgentDoes a c ∷ []))
+          subst (λ x. Stands g
+              (record { machine = with_machine (AgentOf a) (record { runs = Some (process.Agent x); log = log }) m.machine;
+              sent = m.sent ++ texts_sent g.name tells.answer.sends }) (acts ++ AgentDoes a c ∷ []))
           (sym new_is)
-          (agent_stands (AgentDoes a c) d log whole agent_among (subst (λ x. KeepsBy (head_of g (AgentOf a)) log (kept_of_agent x)) new_is keeps));
+          (agent_stands (AgentDoes a c) d log whole agent_among
+              (subst (λ x. KeepsBy (head_of g (AgentOf a)) log (kept_of_agent x)) new_is keeps));
     }
 
   -- ---- it is asked
@@ -89,18 +95,25 @@ module _ (g : Group) (m : Machines) (acts : List Act) (stands : Stands g m acts)
   agent_asked asked (process.Node x) said answers = absurd answers
   agent_asked asked (process.Agent new) said answers = by_request (agent_request asked.first asked.below) refl answers
     where
-      by_request : (r : AgentRequest) → agent_request asked.first asked.below ≡ r → AnswersAgent r self new said → ComesOf g m acts (Asks (AgentOf a) asked (process.Agent new) said) said
+      by_request : (r : AgentRequest) → agent_request asked.first asked.below ≡ r → AnswersAgent r self new said
+          → ComesOf g m acts (Asks (AgentOf a) asked (process.Agent new) said) said
       by_request (AsksAgent c) is tells =
-          inl (asked_comes g m acts (AgentOf a) (process.Agent new) said (AgentDoes a c) (agent_answered c new said tells) asked (c, is, refl))
+          inl (asked_comes g m acts (AgentOf a) (process.Agent new) said (AgentDoes a c) (agent_answered c new said tells) asked
+              (c, is, refl))
       by_request NoAgentCommand is none =
-          inr (nothing_comes g m acts stands (AgentOf a) head (as_process (s.journals a)) refl asked (process.Agent new) said (codes "L6") (ap process.Agent none.0) none.1 (is, none.1))
+          inr (nothing_comes g m acts stands (AgentOf a) head (as_process (s.journals a)) refl asked (process.Agent new) said (codes "L6")
+              (ap process.Agent none.0) none.1 (is, none.1))
 
-  pub agent_shortens : (next : Process) (said : List ℕ) → Answers (process.Agent self) (codes "keep") [] next said → ComesOf g m acts (Shortens (AgentOf a) next said) said
+  pub agent_shortens : (next : Process) (said : List ℕ) → Answers (process.Agent self) (codes "keep") [] next said
+      → ComesOf g m acts (Shortens (AgentOf a) next said) said
   unfolding agent_answered
   agent_shortens (process.Node x) said answers = absurd answers
   agent_shortens (process.Agent new) said answers =
-      let told : record { answer = saying (KeptIs (kept_text (kept_of_agent self))); journal = s.journals a } ≡ record { answer = answers.answer; journal = new.journal } = answers.does.does in
+      let told : record { answer = saying (KeptIs (kept_text (kept_of_agent self))); journal = s.journals a }
+          ≡ record { answer = answers.answer; journal = new.journal } = answers.does.does in
       let same : kept_of_agent self ≡ kept_of_agent new =
-      ap₂ (λ (x : Group) (j : Holding). model.kept_among x (model.journal_kept j)) (sym answers.does.group) (ap (λ (e : AgentDone). e.journal) told) in
-      inl (shortened_comes g m acts (AgentOf a) (process.Agent new) said (AgentDoes a TellJournal) (agent_answered TellJournal new said answers) head refl
+      ap₂ (λ (x : Group) (j : Holding). model.kept_among x (model.journal_kept j)) (sym answers.does.group)
+          (ap (λ (e : AgentDone). e.journal) told) in
+      inl (shortened_comes g m acts (AgentOf a) (process.Agent new) said (AgentDoes a TellJournal)
+          (agent_answered TellJournal new said answers) head refl
       (ap (λ (e : AgentDone). e.answer) (sym told) ∙ ap (λ k. saying (KeptIs (kept_text k))) same))

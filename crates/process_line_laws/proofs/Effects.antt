@@ -14,7 +14,8 @@ use Rattle.metering_model.specs.declared.Refusal.TheVariants.{NoNode}
 
 -- ---- one act more, behind a history
 
-pub history_more : (g : Group) (s : Processes) (acts : List Act) (a : Act) → IsHistory g s acts → MayAct g (after g s acts) a → IsHistory g s (acts ++ a ∷ [])
+pub history_more : (g : Group) (s : Processes) (acts : List Act) (a : Act) → IsHistory g s acts → MayAct g (after g s acts) a
+    → IsHistory g s (acts ++ a ∷ [])
 history_more g s [] a history may = (may, tt)
 history_more g s (b ∷ acts) a history may = (history.0, history_more g (acted g s b).after acts a history.1 may)
 
@@ -38,7 +39,8 @@ other_place : (i j : ℕ) → (i == j) ≡ false → i ≡ j → ⊥
 other_place i j differ same = true≢false (sym (eq-eqb i j same) ∙ differ)
 
 -- the other nodes stay
-pub node_stays : (s : Processes) (i j : ℕ) (d : NodeDone) → (j == i) ≡ false → slice_get (with_node_done i d s).after.nodes j ≡ slice_get s.nodes j
+pub node_stays : (s : Processes) (i j : ℕ) (d : NodeDone) → (j == i) ≡ false
+    → slice_get (with_node_done i d s).after.nodes j ≡ slice_get s.nodes j
 node_stays s i j d differ = set_other s.nodes i j d.node (other_place j i differ)
 
 pub journal_there : (s : Processes) (a : ℕ) (d : AgentDone) → (with_agent_done a d s).after.journals a ≡ d.journal

@@ -60,7 +60,8 @@ unfolding days_from_civil day_count days_of_years days_of_months worth_of decima
 takes_it_so = record {
   old = process.Node (node_self 1 o1);
   runs = refl;
-  does = node_answers 1 o1 o2 (codes "packet 1") (codes "P1|one|decided|0|1" ∷ []) (takes (Decided 0 high)) (saying (HasTaken (Some 0))) (Some (Learns 0 high)) _
+  does = node_answers 1 o1 o2 (codes "packet 1") (codes "P1|one|decided|0|1" ∷ []) (takes (Decided 0 high)) (saying (HasTaken (Some 0)))
+      (Some (Learns 0 high)) _
       refl refl refl refl refl ((omega arith, among), refl, refl) refl;
 }
 
@@ -71,7 +72,8 @@ exports_it_so : IsHostHistory one (done one carried takes_it) (exports_it ∷ []
 unfolding days_from_civil day_count days_of_years days_of_months worth_of decimals_of digits
 exports_it_so =
     node_may _ 1 o2 o2 (codes "export 0") [] _ refl
-        (node_answers 1 o2 o2 (codes "export 0") [] (ExportPeriod 0) (saying (HasExported exported)) None _ refl refl refl refl refl refl refl)
+        (node_answers 1 o2 o2 (codes "export 0") [] (ExportPeriod 0)
+            (saying (HasExported exported)) None _ refl refl refl refl refl refl refl)
         (λ p read of. absurd (none-some p read)) ⨾ tt
 
 -- ---- two files
@@ -85,7 +87,8 @@ of_month last is = record { is_period = omega arith; rest = codes "1\n" ++ heade
 
 pub of_month_too : (last : List ℕ) → last ≡ file_with_row → IsFileOf 0 last
 unfolding digits
-of_month_too last is = record { is_period = omega arith; rest = codes "2\n" ++ header_line ++ codes "\n" ++ row_1 ++ codes "\n"; words = is }
+of_month_too last is =
+    record { is_period = omega arith; rest = codes "2\n" ++ header_line ++ codes "\n" ++ row_1 ++ codes "\n"; words = is }
 
 pub their_bytes_differ : empty_file ≡ file_with_row → ⊥
 their_bytes_differ same = let bytes : 49 ≡ 50 = ap (λ t. slice_index t 24) same in omega (arith, bytes)
@@ -94,4 +97,5 @@ their_bytes_differ same = let bytes : 49 ≡ 50 = ap (λ t. slice_index t 24) sa
 so_a_made_up_packet_makes_no_history : IsHostHistory one (begun_machines one) all → ⊥
 so_a_made_up_packet_makes_no_history history =
     their_bytes_differ
-    (bytes_agree one all history (asked_node 0 (codes "export 0") [] _ empty_file) exports_it (6, omega arith, refl) (12, omega arith, refl) 0 (of_month _ refl) (of_month_too _ refl))
+    (bytes_agree one all history (asked_node 0 (codes "export 0") [] _ empty_file) exports_it (6, omega arith, refl)
+        (12, omega arith, refl) 0 (of_month _ refl) (of_month_too _ refl))

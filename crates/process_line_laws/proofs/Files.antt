@@ -5,7 +5,7 @@ use Rattle.std.specs.List.{Contains}
 use Rattle.std.proofs.lemmas.Bool.{and_parts}
 use Rattle.std.proofs.lemmas.List.Elements.{Contains-append_cases, Contains-append_right, Contains-push_cases}
 use Rattle.metering_model.specs.Batch.{Batch, lacks}
-use Rattle.metering_model.specs.Holding.{Holding, held, put}
+use Rattle.metering_model.specs.Holding.{Holding, held, put, up_to}
 use Rattle.metering_model.specs.Dates.{IsPeriod}
 use Rattle.metering_model.specs.Transcript.{file_of, if_any, line, line_count, with_number}
 use Rattle.metering_model.specs.World.{CarriesBatch, Node, Offer, Packet, Prepare, Snapshot, current_period}
@@ -17,12 +17,14 @@ use Rattle.metering_model.proofs.Decimals.{decimal_is_one, decimal_lacks_blank}
 use Rattle.process_laws.specs.LocalSteps as model
 use Rattle.process_laws.specs.LocalSteps.{Answer, Group, NodeCommand, TakePacket, BeginBallot, ExportPeriod, TellKept, SendBatch, AgentCommand, JournalBatch, SendAgain, TellJournal, NodeDone, Words, HasTaken, HasBegun, HasJournaled, HasExported, KeptIs, HasSent, NodeWentOn, AgentWentOn, RefusedFor, OfModel, refusing, saying}
 use Rattle.process_laws.specs.Histories.{Act, Acted, AgentDoes, AgentGoesOn, NodeDoes, NodeGoesOn, Processes, IsHistory, acted, after, answers, begun, by_node, with_node_done}
-use Rattle.process_laws.proofs.AgreedExports.{each_batch_once, files_are_the_same, next_begins_there}
+use Rattle.process_laws.proofs.AgreedExports.{batches_are_journaled, each_batch_once, files_are_the_same, next_begins_there}
 use Rattle.log_text.specs.LogText.{AgentOf, NodeOf}
+use Rattle.group_process.specs.Selves.{AgentSelf}
+use Rattle.process_text.specs.declared.processes.Process.TheVariants as process
 use Rattle.process_text.specs.Answers.{process_refusal_text, refused_text, words_text}
 use Rattle.process_line_laws.specs.Told.{just, told_in}
-use Rattle.process_line_laws.specs.Hosts.{Asks, GoesOn, HostAct, IsHostHistory, Shortens, begun_machines, said_by}
-use Rattle.process_line_laws.specs.Comes.{AreMadeOf, AreTold, AsksNothing, ComeToHistory, IsFileOf, IsMadeOf, SaysJust}
+use Rattle.process_line_laws.specs.Hosts.{Asks, GoesOn, HostAct, IsHostHistory, Shortens, all_done, begun_machines, said_by}
+use Rattle.process_line_laws.specs.Comes.{AreMadeOf, AreTold, AsksNothing, ComeToHistory, IsFileOf, IsMadeOf, IsOfJournals, SaysJust}
 use Rattle.process_line_laws.proofs.History.{come_to_history}
 use Rattle.process_line_laws.proofs.ReadAnswers.{refused_read, so_told}
 
@@ -33,7 +35,8 @@ first_byte [] = 0
 first_byte (c ∷ cs) = c
 
 -- no other words begin with the byte e
-words_apart : (w : Words) (period : ℕ) (rest : List ℕ) → words_text w ≡ with_number (codes "exported period ") period ++ codes " lines " ++ rest → (s : Snapshot) × (w ≡ HasExported s)
+words_apart : (w : Words) (period : ℕ) (rest : List ℕ)
+    → words_text w ≡ with_number (codes "exported period ") period ++ codes " lines " ++ rest → (s : Snapshot) × (w ≡ HasExported s)
 unfolding first_byte
 words_apart (HasExported s) period rest is = (s, refl)
 words_apart (HasTaken learned) period rest is = let bytes : 100 ≡ 101 = ap first_byte is in absurd (omega (arith, bytes))
@@ -45,7 +48,8 @@ words_apart (NodeWentOn p round) period rest is = let bytes : 98 ≡ 101 = ap fi
 words_apart (AgentWentOn seq) period rest is = let bytes : 98 ≡ 101 = ap first_byte is in absurd (omega (arith, bytes))
 words_apart (RefusedFor why) period rest is = let bytes : 114 ≡ 101 = ap first_byte is in absurd (omega (arith, bytes))
 
-refused_apart : (why : List ℕ) (period : ℕ) (rest : List ℕ) → refused_text why ≡ with_number (codes "exported period ") period ++ codes " lines " ++ rest → ⊥
+refused_apart : (why : List ℕ) (period : ℕ) (rest : List ℕ)
+    → refused_text why ≡ with_number (codes "exported period ") period ++ codes " lines " ++ rest → ⊥
 unfolding first_byte
 refused_apart why period rest is = let bytes : 114 ≡ 101 = ap first_byte is in omega (arith, bytes)
 
@@ -66,7 +70,8 @@ up_to_space (c ∷ t) rest h =
     by_test true other same = absurd (cc)
 
 -- a file's first line tells the period of its snapshot
-period_told : (s : Snapshot) (period : ℕ) (rest : List ℕ) → IsPeriod period → words_text (HasExported s) ≡ with_number (codes "exported period ") period ++ codes " lines " ++ rest
+period_told : (s : Snapshot) (period : ℕ) (rest : List ℕ) → IsPeriod period
+    → words_text (HasExported s) ≡ with_number (codes "exported period ") period ++ codes " lines " ++ rest
     → s.period ≡ period
 period_told s period rest low is =
     let mine = decimal s.period in
@@ -76,7 +81,8 @@ period_told s period rest low is =
     let one : (mine ++ lines ++ 10 ∷ []) ++ file_of s ≡ mine ++ ((lines ++ 10 ∷ []) ++ file_of s) =
     ap (λ t. t ++ file_of s) (append_assoc mine lines (10 ∷ [])) ∙ append_assoc mine (lines ++ 10 ∷ []) (file_of s) in
     decimal_is_one s.period period (omega (arith, low))
-    (sym (up_to_space mine _ (decimal_lacks_blank s.period)) ∙ ap before_space (sym one ∙ behind ∙ append_assoc yours (codes " lines ") rest) ∙ up_to_space yours _ (decimal_lacks_blank period))
+    (sym (up_to_space mine _ (decimal_lacks_blank s.period))
+        ∙ ap before_space (sym one ∙ behind ∙ append_assoc yours (codes " lines ") rest) ∙ up_to_space yours _ (decimal_lacks_blank period))
 
 -- ---- an answer that exports does no more
 
@@ -97,7 +103,9 @@ module _ (s : Snapshot) where
   taking_alone : (g : Group) (i : ℕ) (n : Node) (name : List ℕ) (p : Packet) → IsAlone (model.taking g i n name p).answer
   taking_alone g i n name p = by_test (model.is_of_group g name p)
     where
-      by_test : (b : Bool) → IsAlone (let d : NodeDone = if b then model.after_handling (handled (model.bare_world g) i n p) else model.unmoved (refusing model.Foreign) n in d).answer
+      by_test : (b : Bool)
+          → IsAlone (let d : NodeDone = if b then model.after_handling (handled (model.bare_world g) i n p) else model.unmoved
+          (refusing model.Foreign) n in d).answer
       by_test true is = absurd (cc)
       by_test false is = absurd (cc)
 
@@ -105,7 +113,8 @@ module _ (s : Snapshot) where
   beginning_alone g i n = by_ballot (model.next_ballot g i n)
     where
       by_ballot : (r : Result ℕ Refusal) → IsAlone (elim r as (λ _. NodeDone) [
-        | Ok ballot ↦ record { answer = record { words = HasBegun ballot; sends = Some (Prepare (current_period n) ballot) }; node = started_node g.voters ballot n }
+        | Ok ballot ↦ record { answer = record { words = HasBegun ballot; sends = Some (Prepare (current_period n) ballot) };
+            node = started_node g.voters ballot n }
         | Err why ↦ model.unmoved (refusing (OfModel why)) n
       ]).answer
       by_ballot (Ok ballot) is = absurd (cc)
@@ -147,7 +156,8 @@ module _ (s : Snapshot) where
   agent_alone g a j (SendAgain seq) = held_alone j a seq
   agent_alone g a j TellJournal = λ is. absurd (cc (is))
 
-  by_node_alone : (i : ℕ) (v : Processes) (does : Node → NodeDone) → ((n : Node) → IsAlone (does n).answer) → IsAlone (by_node i v does).answer
+  by_node_alone : (i : ℕ) (v : Processes) (does : Node → NodeDone) → ((n : Node) → IsAlone (does n).answer)
+      → IsAlone (by_node i v does).answer
   by_node_alone i v does each = by_found (slice_get v.nodes i)
     where
       by_found : (o : Option Node) → IsAlone (elim o as (λ _. Acted) [
@@ -193,7 +203,8 @@ record IsExported (xs : List Answer) (period : ℕ) (last : List ℕ) : Type 0 w
   pub has : Contains xs (saying (HasExported snapshot))
   pub made_of : IsMadeOf period last snapshot
 
-said_exports : (name said : List ℕ) (x : Answer) (xs : List Answer) (period : ℕ) → ((s : Snapshot) → x.words ≡ HasExported s → x ≡ saying (HasExported s)) → SaysJust name said x → IsFileOf period (told_in said).last
+said_exports : (name said : List ℕ) (x : Answer) (xs : List Answer) (period : ℕ)
+    → ((s : Snapshot) → x.words ≡ HasExported s → x ≡ saying (HasExported s)) → SaysJust name said x → IsFileOf period (told_in said).last
     → IsExported (x ∷ xs) period (told_in said).last
 said_exports name said x xs period alone says file =
     let one = words_apart x.words period file.rest (sym says.words ∙ file.words) in
@@ -205,7 +216,9 @@ said_exports name said x xs period alone says file =
     }
 
 exported_later : (x : Answer) (xs : List Answer) (period : ℕ) (last : List ℕ) → IsExported xs period last → IsExported (x ∷ xs) period last
-exported_later x xs period last it = record { snapshot = it.snapshot; has = Contains-append_right (x ∷ []) xs (saying (HasExported it.snapshot)) it.has; made_of = it.made_of }
+exported_later x xs period last it =
+    record { snapshot = it.snapshot; has = Contains-append_right (x ∷ []) xs (saying (HasExported it.snapshot)) it.has;
+    made_of = it.made_of }
 
 module _ (g : Group) (h : HostAct) (period : ℕ) (file : IsFileOf period (told_in (said_by h)).last) where
   abbrev Exports : List Answer → Type 0
@@ -214,7 +227,8 @@ module _ (g : Group) (h : HostAct) (period : ℕ) (file : IsFileOf period (told_
   none_here : (k : HostAct) → AsksNothing k → k ≡ h → ⊥
   none_here k nothing is = nothing_is_no_file h period (subst AsksNothing is nothing) file
 
-  found : (hosts : List HostAct) (acts : List Act) (v : Processes) → AreTold g.name hosts acts (answers g v acts) → Contains hosts h → Exports (answers g v acts)
+  found : (hosts : List HostAct) (acts : List Act) (v : Processes) → AreTold g.name hosts acts (answers g v acts) → Contains hosts h
+      → Exports (answers g v acts)
   found [] acts v told has = absurd (omega (arith, has.1))
   found (k ∷ hosts) [] v told has = elim (first_or_later k h hosts has) [
     | inl is ↦ absurd (none_here k told.0 is)
@@ -224,7 +238,8 @@ module _ (g : Group) (h : HostAct) (period : ℕ) (file : IsFileOf period (told_
     | inl is ↦
         said_exports g.name (said_by h) (acted g v a).answer (answers g (acted g v a).after acts) period (λ s. act_alone s g v a)
         (subst (λ j. SaysJust g.name (said_by j) (acted g v a).answer) is told.1) file
-    | inr later ↦ exported_later (acted g v a).answer (answers g (acted g v a).after acts) period _ (found hosts acts (acted g v a).after told.2 later)
+    | inr later ↦ exported_later (acted g v a).answer (answers g (acted g v a).after acts) period _
+        (found hosts acts (acted g v a).after told.2 later)
   ]
   found (k ∷ hosts) (a ∷ acts) v (inr told) has = elim (first_or_later k h hosts has) [
     | inl is ↦ absurd (none_here k told.0 is)
@@ -233,11 +248,13 @@ module _ (g : Group) (h : HostAct) (period : ℕ) (file : IsFileOf period (told_
 
 -- ---- two files
 
-module _ (g : Group) (hosts : List HostAct) (history : IsHostHistory g (begun_machines g) hosts) (h k : HostAct) (has : Contains hosts h) (had : Contains hosts k) where
+module _ (g : Group) (hosts : List HostAct) (history : IsHostHistory g (begun_machines g) hosts) (h k : HostAct) (has : Contains hosts h)
+    (had : Contains hosts k) where
   abbrev it : ComeToHistory g hosts
   it = come_to_history g hosts history
 
-  pub bytes_agree : (period : ℕ) → IsFileOf period (told_in (said_by h)).last → IsFileOf period (told_in (said_by k)).last → (told_in (said_by h)).last ≡ (told_in (said_by k)).last
+  pub bytes_agree : (period : ℕ) → IsFileOf period (told_in (said_by h)).last → IsFileOf period (told_in (said_by k)).last
+      → (told_in (said_by h)).last ≡ (told_in (said_by k)).last
   bytes_agree period one two =
       let s = found g h period one hosts it.acts (begun g) it.told has in
       let t = found g k period two hosts it.acts (begun g) it.told had in
@@ -255,7 +272,29 @@ module _ (g : Group) (hosts : List HostAct) (history : IsHostHistory g (begun_ma
         first = s.made_of;
         second = t.made_of;
         once = λ agent seq above below over under.
-            sym s.made_of.same ∙ each_batch_once g it.acts it.is_history s.snapshot t.snapshot s.has t.has agent seq above below over under ∙ t.made_of.same;
+            sym s.made_of.same ∙ each_batch_once g it.acts it.is_history s.snapshot t.snapshot s.has t.has agent seq above below over under
+                ∙ t.made_of.same;
         follows = λ next.
-            next_begins_there g it.acts it.is_history s.snapshot t.snapshot s.has t.has (ap (λ p. p + 1) s.made_of.same ∙ next ∙ sym t.made_of.same);
+            next_begins_there g it.acts it.is_history s.snapshot t.snapshot s.has t.has
+                (ap (λ p. p + 1) s.made_of.same ∙ next ∙ sym t.made_of.same);
       }
+
+-- ---- of one file
+
+pub of_journals : (g : Group) (hosts : List HostAct) → IsHostHistory g (begun_machines g) hosts → (h : HostAct) → Contains hosts h
+    → (period : ℕ)
+    → IsFileOf period (told_in (said_by h)).last → IsOfJournals (all_done g (begun_machines g) hosts) period (told_in (said_by h)).last
+of_journals g hosts history h has period file =
+    let it = come_to_history g hosts history in
+    let s = found g h period file hosts it.acts (begun g) it.told has in
+    record {
+      s = s.snapshot;
+      made_of = s.made_of;
+      batches = λ agent a runs.
+          let same : (after g (begun g) it.acts).journals agent ≡ a.journal =
+              its_journal _ a (it.stand.running (AgentOf agent) (process.Agent a) runs) in
+          batches_are_journaled g it.acts it.is_history s.snapshot s.has agent ∙ ap (up_to s.snapshot.to) same;
+    }
+  where
+    its_journal : (b a : AgentSelf) → Some (process.Agent b) ≡ Some (process.Agent a) → b.journal ≡ a.journal
+    its_journal b a is = cc

@@ -53,15 +53,18 @@ by_section l ls rest m o = elim o [
 abbrev last_of : List ℕ → (taken left : List (List ℕ)) → List ℕ → FirstTold
 last_of l taken left rest = record { told = just (text_of_lines (l ∷ taken)); behind = text_of_lines left ++ rest }
 
-last_first : (l : List ℕ) (body : List (List ℕ)) (behind : List ℕ) → lacks 10 l ≡ true → list_all (lacks 10) body ≡ true → section_said l ≡ None → lines_under l ≡ length body
+last_first : (l : List ℕ) (body : List (List ℕ)) (behind : List ℕ) → lacks 10 l ≡ true → list_all (lacks 10) body ≡ true
+    → section_said l ≡ None → lines_under l ≡ length body
     → IsFirst (text_of_lines (l ∷ body)) behind (just (text_of_lines (l ∷ body)))
 last_first l body behind whole all none count m enough =
-    let above : lines_in (text_of_lines (l ∷ body) ++ behind) ≡ record { lines = (l ∷ body) ++ (lines_in behind).lines; rest = (lines_in behind).rest } =
+    let above : lines_in (text_of_lines (l ∷ body) ++ behind)
+        ≡ record { lines = (l ∷ body) ++ (lines_in behind).lines; rest = (lines_in behind).rest } =
     lines_above (l ∷ body) behind (and_from _ _ whole all) in
     ap (λ (x : Lines). first_by m x.lines x.rest) above ∙ by_most m (subst (λ (x : Lines). length x.lines ≤ m) above enough)
   where
     by_most : (m : ℕ) → length ((l ∷ body) ++ (lines_in behind).lines) ≤ m
-        → first_by m ((l ∷ body) ++ (lines_in behind).lines) (lines_in behind).rest ≡ record { told = just (text_of_lines (l ∷ body)); behind = behind }
+        → first_by m ((l ∷ body) ++ (lines_in behind).lines) (lines_in behind).rest
+            ≡ record { told = just (text_of_lines (l ∷ body)); behind = behind }
     by_most zero enough = absurd (omega (arith, enough))
     by_most (suc m) enough =
         let more = (lines_in behind).lines in
@@ -73,15 +76,19 @@ last_first l body behind whole all none count m enough =
 
 -- nothing stands below it
 one_line : (x behind : List ℕ) → lacks 10 x ≡ true → section_said x ≡ None → lines_under x ≡ 0 → IsFirst (line x) behind (just (line x))
-one_line x behind whole none count = subst (λ t. IsFirst t behind (just t)) (append-nil (line x)) (last_first x [] behind whole refl none count)
+one_line x behind whole none count =
+    subst (λ t. IsFirst t behind (just t)) (append-nil (line x)) (last_first x [] behind whole refl none count)
 
 -- a text of whole lines stands below it
-text_below : (x text behind : List ℕ) → lacks 10 x ≡ true → section_said x ≡ None → lines_under x ≡ line_count text → (lines_in text).rest ≡ []
+text_below : (x text behind : List ℕ) → lacks 10 x ≡ true → section_said x ≡ None → lines_under x ≡ line_count text
+    → (lines_in text).rest ≡ []
     → IsFirst (line x ++ text) behind (just (line x ++ text))
 text_below x text behind whole none count ends =
     let body = (lines_in text).lines in
-    let same : text_of_lines body ≡ text = sym (append-nil (text_of_lines body)) ∙ ap (λ r. text_of_lines body ++ r) (sym ends) ∙ lines_give_back text in
-    subst (λ t. IsFirst (line x ++ t) behind (just (line x ++ t))) same (last_first x body behind whole (lines_lack text) none (count ∙ feeds_end_lines text))
+    let same : text_of_lines body ≡ text = sym (append-nil (text_of_lines body)) ∙ ap (λ r. text_of_lines body ++ r) (sym ends)
+        ∙ lines_give_back text in
+    subst (λ t. IsFirst (line x ++ t) behind (just (line x ++ t))) same
+        (last_first x body behind whole (lines_lack text) none (count ∙ feeds_end_lines text))
 
 -- ---- each line has no line feed
 
@@ -106,7 +113,8 @@ kept_code_lacks_feed NotInOrder = refl
 kept_code_lacks_feed HasExtra = refl
 
 why_lacks_feed : (refusal : Refusal) → lacks 10 (refusal_text refusal) ≡ true
-why_lacks_feed (BadBatch fault) = both_lack (code_text fault.code) (with_number (codes " line ") fault.line) (code_lacks_feed fault.code) (decimal_lacks_feed fault.line)
+why_lacks_feed (BadBatch fault) =
+    both_lack (code_text fault.code) (with_number (codes " line ") fault.line) (code_lacks_feed fault.code) (decimal_lacks_feed fault.line)
 why_lacks_feed (WrongSeq wanted) = decimal_lacks_feed wanted
 why_lacks_feed BadTarget = refl
 why_lacks_feed Unpriced = refl
@@ -121,7 +129,8 @@ why_lacks_feed WorldFull = refl
 why_lacks_feed NoAgent = refl
 why_lacks_feed Observer = refl
 why_lacks_feed (BadKept fault) =
-    both_lack (kept_code_text fault.code) (with_number (codes " line ") fault.line) (kept_code_lacks_feed fault.code) (decimal_lacks_feed fault.line)
+    both_lack (kept_code_text fault.code) (with_number (codes " line ") fault.line) (kept_code_lacks_feed fault.code)
+        (decimal_lacks_feed fault.line)
 why_lacks_feed NotKept = refl
 
 process_why_lacks_feed : (why : ProcessRefusal) → lacks 10 (process_refusal_text why) ≡ true
@@ -179,46 +188,56 @@ kept_counted n most = ap (λ o. unwrap_or o 0) (whole_written 0 1_000_000_000_00
 words_first : (w : Words) (behind : List ℕ) → CanBeCounted w → IsFirst (words_text w) behind (just (words_text w))
 unfolding exported_line
 words_first (HasTaken learned) behind can =
-    one_line (codes "delivered" ++ if_any (codes " learned ") learned) behind (both_lack (codes "delivered") (if_any (codes " learned ") learned) refl (learned_lacks_feed learned)) refl refl
-words_first (HasBegun ballot) behind can = one_line (with_number (codes "started ballot ") ballot) behind (decimal_lacks_feed ballot) refl refl
+    one_line (codes "delivered" ++ if_any (codes " learned ") learned) behind
+        (both_lack (codes "delivered") (if_any (codes " learned ") learned) refl (learned_lacks_feed learned)) refl refl
+words_first (HasBegun ballot) behind can =
+    one_line (with_number (codes "started ballot ") ballot) behind (decimal_lacks_feed ballot) refl refl
 words_first (HasJournaled seq) behind can = one_line (with_number (codes "journaled seq ") seq) behind (decimal_lacks_feed seq) refl refl
 words_first (HasExported s) behind can =
     let n = line_count (file_of s) in
     text_below (exported_line s.period n) (file_of s) behind
-    (both_lack (with_number (codes "exported period ") s.period) (with_number (codes " lines ") n) (decimal_lacks_feed s.period) (decimal_lacks_feed n)) refl
+    (both_lack (with_number (codes "exported period ") s.period) (with_number (codes " lines ") n) (decimal_lacks_feed s.period)
+        (decimal_lacks_feed n)) refl
     (file_counted s.period n can) (file_ends s)
 words_first (KeptIs text) behind can =
-    text_below (with_number (codes "kept lines ") (line_count text)) text behind (decimal_lacks_feed (line_count text)) refl (kept_counted (line_count text) can.0) can.1
+    text_below (with_number (codes "kept lines ") (line_count text)) text behind (decimal_lacks_feed (line_count text)) refl
+        (kept_counted (line_count text) can.0) can.1
 words_first HasSent behind can = one_line (codes "sent") behind refl refl refl
 words_first (NodeWentOn period round) behind can =
     one_line (with_number (codes "begun period ") period ++ with_number (codes " round ") round) behind
-    (both_lack (with_number (codes "begun period ") period) (with_number (codes " round ") round) (decimal_lacks_feed period) (decimal_lacks_feed round)) refl refl
+    (both_lack (with_number (codes "begun period ") period) (with_number (codes " round ") round) (decimal_lacks_feed period)
+        (decimal_lacks_feed round)) refl refl
 words_first (AgentWentOn seq) behind can = one_line (with_number (codes "begun seq ") seq) behind (decimal_lacks_feed seq) refl refl
-words_first (RefusedFor why) behind can = one_line (codes "refused " ++ process_refusal_text why) behind (process_why_lacks_feed why) refl refl
+words_first (RefusedFor why) behind can =
+    one_line (codes "refused " ++ process_refusal_text why) behind (process_why_lacks_feed why) refl refl
 
 -- ---- a section above it
 
 abbrev with_first : Place → List ℕ → FirstTold → FirstTold
 with_first place lines f = record { told = with_lines place lines f.told; behind = f.behind }
 
-counted_first : (l : List ℕ) (body : List (List ℕ)) (place : Place) (text behind : List ℕ) (t : Told) → lacks 10 l ≡ true → list_all (lacks 10) body ≡ true
+counted_first : (l : List ℕ) (body : List (List ℕ)) (place : Place) (text behind : List ℕ) (t : Told) → lacks 10 l ≡ true
+    → list_all (lacks 10) body ≡ true
     → section_said l ≡ Some (in_place place (length body)) → IsFirst text behind t
     → IsFirst (text_of_lines (l ∷ body) ++ text) behind (with_lines place (text_of_lines body) t)
 counted_first l body place text behind t whole all said later m enough =
     let below = text ++ behind in
-    let above : lines_in ((text_of_lines (l ∷ body) ++ text) ++ behind) ≡ record { lines = (l ∷ body) ++ (lines_in below).lines; rest = (lines_in below).rest } =
+    let above : lines_in ((text_of_lines (l ∷ body) ++ text) ++ behind)
+        ≡ record { lines = (l ∷ body) ++ (lines_in below).lines; rest = (lines_in below).rest } =
     ap lines_in (append_assoc (text_of_lines (l ∷ body)) text behind) ∙ lines_above (l ∷ body) below (and_from _ _ whole all) in
     ap (λ (x : Lines). first_by m x.lines x.rest) above ∙ by_most m (subst (λ (x : Lines). length x.lines ≤ m) above enough)
   where
     by_most : (m : ℕ) → length ((l ∷ body) ++ (lines_in (text ++ behind)).lines) ≤ m
-        → first_by m ((l ∷ body) ++ (lines_in (text ++ behind)).lines) (lines_in (text ++ behind)).rest ≡ record { told = with_lines place (text_of_lines body) t; behind = behind }
+        → first_by m ((l ∷ body) ++ (lines_in (text ++ behind)).lines) (lines_in (text ++ behind)).rest
+            ≡ record { told = with_lines place (text_of_lines body) t; behind = behind }
     by_most zero enough = absurd (omega (arith, enough))
     by_most (suc m) enough =
         let more = (lines_in (text ++ behind)).lines in
         let rest = (lines_in (text ++ behind)).rest in
         let size = length-append body more in
         ap (by_section l (body ++ more) rest m) said
-        ∙ ap₂ (λ taken left. with_first place (text_of_lines taken) (first_by m left rest)) (take-append_seam body more) (drop-append_seam body more)
+        ∙ ap₂ (λ taken left. with_first place (text_of_lines taken) (first_by m left rest)) (take-append_seam body more)
+            (drop-append_seam body more)
         ∙ ap (with_first place (text_of_lines body)) (later m (omega (arith, enough, size)))
 
 increment_first : (agents : ℕ) (i : Increment) (text behind : List ℕ) (t : Told) → HasIncrementText agents i → IsFirst text behind t
@@ -226,36 +245,42 @@ increment_first : (agents : ℕ) (i : Increment) (text behind : List ℕ) (t : T
 increment_first agents i text behind t has later =
     let n = lines_of_increment i in
     subst (λ u. IsFirst ((ended (section (codes "kept ") n) ++ u) ++ text) behind (with_lines ToLog u t)) (increment_lines_are_text i)
-    (counted_first (section (codes "kept ") n) (lines_of i) ToLog text behind t (section_lacks_feed (codes "kept ") n refl) (increment_lacks_feed agents i has) (increment_said agents i has) later)
+    (counted_first (section (codes "kept ") n) (lines_of i) ToLog text behind t (section_lacks_feed (codes "kept ") n refl)
+        (increment_lacks_feed agents i has) (increment_said agents i has) later)
 
 packet_first : (name : List ℕ) (to : Option ℕ) (p : Packet) (text behind : List ℕ) (t : Told) → HasPacketText name p → IsFirst text behind t
     → IsFirst (packet_sent_text name to p ++ text) behind (with_lines ToNodes (packet_text name p) t)
 packet_first name to p text behind t has later =
     let n = lines_of_packet p in
     subst (λ u. IsFirst ((ended (section (send_words to) n) ++ u) ++ text) behind (with_lines ToNodes u t)) (sent_is_lines name p)
-    (counted_first (section (send_words to) n) (lines_of_sent name p) ToNodes text behind t (send_lacks_feed to n) (sent_lacks_feed name p has) (packet_said name to p has) later)
+    (counted_first (section (send_words to) n) (lines_of_sent name p) ToNodes text behind t (send_lacks_feed to n)
+        (sent_lacks_feed name p has) (packet_said name to p has) later)
 
 -- ---- the whole
 
 so_first : (text behind : List ℕ) (t : Told) → IsFirst text behind t → first_told (text ++ behind) ≡ record { told = t; behind = behind }
 so_first text behind t is = is (length (lines_in (text ++ behind)).lines) (omega arith)
 
-sends_first : (name : List ℕ) (to : Packet → Option ℕ) (sends : Option Packet) (w : Words) (behind : List ℕ) → MayBeSent name sends → CanBeCounted w
+sends_first : (name : List ℕ) (to : Packet → Option ℕ) (sends : Option Packet) (w : Words) (behind : List ℕ) → MayBeSent name sends
+    → CanBeCounted w
     → IsFirst (sent_text name to sends ++ words_text w) behind (record { kept = []; sent = texts_sent name sends; last = words_text w })
 sends_first name to None w behind may can = words_first w behind can
-sends_first name to (Some p) w behind may can = packet_first name (to p) p (words_text w) behind (just (words_text w)) may (words_first w behind can)
+sends_first name to (Some p) w behind may can =
+    packet_first name (to p) p (words_text w) behind (just (words_text w)) may (words_first w behind can)
 
 pub answer_first : (name : List ℕ) (to : Packet → Option ℕ) (agents : ℕ) (added : Option Increment) (a : Answer) (behind : List ℕ)
     → MayBeAdded agents added → MayBeSent name a.sends → CanBeCounted a.words
     → first_told (answer_text name to added a ++ behind) ≡ record { told = meant name added a; behind = behind }
-answer_first name to agents None a behind may sent can = so_first (sent_text name to a.sends ++ words_text a.words) behind _ (sends_first name to a.sends a.words behind sent can)
+answer_first name to agents None a behind may sent can =
+    so_first (sent_text name to a.sends ++ words_text a.words) behind _ (sends_first name to a.sends a.words behind sent can)
 answer_first name to agents (Some i) a behind may sent can =
     let above = added_text (Some i) in
     let below = sent_text name to a.sends in
     ap (λ t. first_told (t ++ behind)) (append_assoc above below (words_text a.words))
     ∙ so_first (above ++ (below ++ words_text a.words)) behind _
     (increment_first agents i (below ++ words_text a.words) behind _ may (sends_first name to a.sends a.words behind sent can))
-    ∙ ap (λ t. let x : FirstTold = record { told = record { kept = t; sent = texts_sent name a.sends; last = words_text a.words }; behind = behind } in x) (append-nil (increment_text i))
+    ∙ ap (λ t. let x : FirstTold = record { told = record { kept = t; sent = texts_sent name a.sends; last = words_text a.words };
+        behind = behind } in x) (append-nil (increment_text i))
 
 pub kept_is_whole : (k : KeptAmong) → HasText k → (lines_in (kept_text k)).rest ≡ []
 kept_is_whole k has = ap (λ (x : Lines). x.rest) (lines_of_kept_text k (writable_of k has))

@@ -20,10 +20,12 @@ pub first_begins : (word t l : List ℕ) (ls : List (List ℕ)) → lacks 10 wor
     → (more : List ℕ) × (l ≡ word ++ more)
 first_begins [] t l ls whole is = (l, refl)
 first_begins (c ∷ word) t l ls whole is =
-    by_parts (slice_split (λ x. x == 10) (word ++ t)) (λ p ps e. first_begins word t p ps (and_parts (not (c == 10)) (lacks 10 word) whole).1 e)
+    by_parts (slice_split (λ x. x == 10) (word ++ t))
+        (λ p ps e. first_begins word t p ps (and_parts (not (c == 10)) (lacks 10 word) whole).1 e)
     (ap (λ x. x.lines) (sym (before_first c (word ++ t) (and_parts (not (c == 10)) (lacks 10 word) whole).0)) ∙ is)
   where
-    by_parts : (ps : List (List ℕ)) → ((p : List ℕ) (qs : List (List ℕ)) → (lines_of_parts ps).lines ≡ p ∷ qs → (more : List ℕ) × (p ≡ word ++ more))
+    by_parts : (ps : List (List ℕ))
+        → ((p : List ℕ) (qs : List (List ℕ)) → (lines_of_parts ps).lines ≡ p ∷ qs → (more : List ℕ) × (p ≡ word ++ more))
         → (lines_of_parts (onto_first c ps)).lines ≡ l ∷ ls → (more : List ℕ) × (l ≡ (c ∷ word) ++ more)
     by_parts [] later e = absurd (cc)
     by_parts (p ∷ []) later e = absurd (cc)

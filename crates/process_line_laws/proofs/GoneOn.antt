@@ -73,7 +73,8 @@ first_lacks c u r h = by_lines (lines_left u) (lines_lack (left u)) h
     by_lines : (ls : List (List ℕ)) → list_all (lacks 10) ls ≡ true → first_of c u ls ≡ Ok r → lacks 10 r.0 ≡ true
     by_lines [] all e = absurd (cc)
     by_lines (l ∷ ls) all e =
-        subst (λ (x : List ℕ × Unread). lacks 10 x.0 ≡ true) (ok_same {E = ScheduleFault} _ r e) (and_parts (lacks 10 l) (list_all (lacks 10) ls) all).0
+        subst (λ (x : List ℕ × Unread). lacks 10 x.0 ≡ true) (ok_same {E = ScheduleFault} _ r e)
+            (and_parts (lacks 10 l) (list_all (lacks 10) ls) all).0
 
 -- the head line by itself is read as what a new log is
 abbrev IsOwn : ReadLog → Type 0
@@ -105,13 +106,15 @@ own_read k text p h =
 
 -- ---- what is stored is what is kept
 
-stored_read : {own : ReadLog} {stored : List ℕ} {kept : KeptAmong} (log : List ℕ) (is : IsStored own stored kept) → IsThatLog log is → IsOwn own
+stored_read : {own : ReadLog} {stored : List ℕ} {kept : KeptAmong} (log : List ℕ) (is : IsStored own stored kept) → IsThatLog log is
+    → IsOwn own
     → log_in log ≡ Ok (record { head = own.head; kept = kept })
 stored_read log HasNone that alone = ap log_in that ∙ alone
 stored_read log (HasLog said stored kept n section counted read) that alone = ap log_in that ∙ read
 
 abbrev group_with : LogHead → Sheet → Issuer → Group
-group_with h sheet issuer = record { name = h.group; voters = h.voters; observers = h.observers; agents = h.agents; sheet = sheet; issuer = issuer }
+group_with h sheet issuer =
+    record { name = h.group; voters = h.voters; observers = h.observers; agents = h.agents; sheet = sheet; issuer = issuer }
 
 module _ (g : Group) (m : Machines) (w : Who) (text : List ℕ) (first : Process) (may : MayGoOn g m w text first) where
   abbrev p : Preamble
@@ -144,7 +147,8 @@ module _ (g : Group) (m : Machines) (acts : List Act) (stands : Stands g m acts)
   abbrev IsOne : Who → (text : List ℕ) → Process → Type 0
   IsOne w text first = OneAct g (done g m (GoesOn w text first)) acts (GoesOn w text first) (begun_text first)
 
-  says_begun : (w : Who) (text : List ℕ) (first : Process) (x : Answer) (act : Act) → (acted g s act).answer ≡ x → x.sends ≡ None → words_text x.words ≡ begun_text first
+  says_begun : (w : Who) (text : List ℕ) (first : Process) (x : Answer) (act : Act) → (acted g s act).answer ≡ x → x.sends ≡ None
+      → words_text x.words ≡ begun_text first
       → SaysJust g.name (begun_text first) (acted g s act).answer
   says_begun w text first x act is none words =
       let read = so_told (begun_text first) (just (begun_text first)) (begun_read first) in
@@ -162,12 +166,18 @@ module _ (g : Group) (m : Machines) (acts : List Act) (stands : Stands g m acts)
       record {
         act = act;
         is = (n.kept, refl);
-        says = says_begun (NodeOf i) text (process.Node (record { group = g; number = i; node = wake n.kept })) d.answer act (ap (λ (x : Acted). x.answer) whole) refl refl;
-        stands = subst (λ ts. Stands g (record { machine = with_machine (NodeOf i) (record { runs = Some (process.Node (record { group = g; number = i; node = wake n.kept })); log = (m.machine (NodeOf i)).log }) m.machine; sent = ts }) (acts ++ act ∷ [])) (append-nil m.sent)
-            (node_stands g m acts stands i n found head act d (m.machine (NodeOf i)).log whole (n, found, refl) (node_keeps g m acts stands i n found head));
+        says = says_begun (NodeOf i) text (process.Node (record { group = g; number = i; node = wake n.kept })) d.answer act
+            (ap (λ (x : Acted). x.answer) whole) refl refl;
+        stands = subst (λ ts. Stands g
+            (record { machine = with_machine (NodeOf i)
+            (record { runs = Some (process.Node (record { group = g; number = i; node = wake n.kept }));
+            log = (m.machine (NodeOf i)).log }) m.machine; sent = ts }) (acts ++ act ∷ [])) (append-nil m.sent)
+            (node_stands g m acts stands i n found head act d (m.machine (NodeOf i)).log whole (n, found, refl)
+                (node_keeps g m acts stands i n found head));
       }
 
-  agent_goes : (a : ℕ) (text : List ℕ) → IsLogHead (hosts.head_of g (AgentOf a)) → IsOne (AgentOf a) text (process.Agent (record { group = g; number = a; journal = s.journals a }))
+  agent_goes : (a : ℕ) (text : List ℕ) → IsLogHead (hosts.head_of g (AgentOf a))
+      → IsOne (AgentOf a) text (process.Agent (record { group = g; number = a; journal = s.journals a }))
   agent_goes a text head =
       let act = AgentGoesOn a (s.journals a) in
       let d : AgentDone = agent_goes_on a (s.journals a) in
@@ -175,12 +185,18 @@ module _ (g : Group) (m : Machines) (acts : List Act) (stands : Stands g m acts)
       record {
         act = act;
         is = (s.journals a, refl);
-        says = says_begun (AgentOf a) text (process.Agent (record { group = g; number = a; journal = s.journals a })) d.answer act refl refl refl;
-        stands = subst (λ ts. Stands g (record { machine = with_machine (AgentOf a) (record { runs = Some (process.Agent (record { group = g; number = a; journal = s.journals a })); log = (m.machine (AgentOf a)).log }) m.machine; sent = ts }) (acts ++ act ∷ [])) (append-nil m.sent)
-            (agent_stands g m acts stands a head act d (m.machine (AgentOf a)).log refl (among.0, among.1, refl) (agent_keeps g m acts stands a head));
+        says = says_begun (AgentOf a) text
+            (process.Agent (record { group = g; number = a; journal = s.journals a })) d.answer act refl refl refl;
+        stands = subst (λ ts. Stands g
+            (record { machine = with_machine (AgentOf a)
+            (record { runs = Some (process.Agent (record { group = g; number = a; journal = s.journals a }));
+            log = (m.machine (AgentOf a)).log }) m.machine; sent = ts }) (acts ++ act ∷ [])) (append-nil m.sent)
+            (agent_stands g m acts stands a head act d (m.machine (AgentOf a)).log refl (among.0, among.1, refl)
+                (agent_keeps g m acts stands a head));
       }
 
-  by_goes : (w : Who) (text : List ℕ) (first : Process) (kept : KeptAmong) → IsLogHead (hosts.head_of g w) → log_in (m.machine w).log ≡ Ok (record { head = hosts.head_of g w; kept = kept })
+  by_goes : (w : Who) (text : List ℕ) (first : Process) (kept : KeptAmong) → IsLogHead (hosts.head_of g w)
+      → log_in (m.machine w).log ≡ Ok (record { head = hosts.head_of g w; kept = kept })
       → starts.GoesOn g w kept first → IsOne w text first
   by_goes (NodeOf i) text (process.Agent x) kept head read goes = absurd goes
   by_goes (AgentOf a) text (process.Node x) kept head read goes = absurd goes
@@ -195,9 +211,12 @@ module _ (g : Group) (m : Machines) (acts : List Act) (stands : Stands g m acts)
   by_goes (AgentOf a) text (process.Agent x) kept head read goes =
       let same = read_is_kept (agent_keeps g m acts stands a head) head read in
       let is : process.Agent x ≡ process.Agent (record { group = g; number = a; journal = s.journals a }) =
-      ap process.Agent (goes.0 ∙ ap (λ (k : KeptAmong). let y : AgentSelf = record { group = g; number = a; journal = k.kept.holding } in y) same) in
+      ap process.Agent (goes.0
+          ∙ ap (λ (k : KeptAmong). let y : AgentSelf = record { group = g; number = a; journal = k.kept.holding } in y) same) in
       subst (IsOne (AgentOf a) text) (sym is) (agent_goes a text head)
 
-  pub gone_on : (w : Who) (text : List ℕ) (first : Process) → MayGoOn g m w text first → ComesOf g m acts (GoesOn w text first) (begun_text first)
+  pub gone_on : (w : Who) (text : List ℕ) (first : Process) → MayGoOn g m w text first
+      → ComesOf g m acts (GoesOn w text first) (begun_text first)
   gone_on w text first may =
-      inl (by_goes w text first may.begins.kept (own_head g m w text first may) (stored_is_read g m w text first may) (goes_on_so g m w text first may))
+      inl (by_goes w text first may.begins.kept (own_head g m w text first may) (stored_is_read g m w text first may)
+          (goes_on_so g m w text first may))

@@ -33,7 +33,8 @@ pub record KeepsBy (h : LogHead) (log : List ℕ) (kept : KeptAmong) : Type 0 wh
 
 -- ---- it grows
 
-go_on_more : (k : KeptAmong) (is : List Increment) (i : Increment) → GoOn k is → HasIncrementText (kept_after k is).agents i → goes_on i (kept_after k is) ≡ true
+go_on_more : (k : KeptAmong) (is : List Increment) (i : Increment) → GoOn k is → HasIncrementText (kept_after k is).agents i
+    → goes_on i (kept_after k is) ≡ true
     → GoOn k (is ++ i ∷ [])
 go_on_more k [] i go has goes = (has, goes, tt)
 go_on_more k (j ∷ is) i go has goes = (go.0, go.1, go_on_more (among_with j k) is i go.2 has goes)
@@ -42,7 +43,8 @@ after_more : (k : KeptAmong) (is : List Increment) (i : Increment) → kept_afte
 after_more k [] i = refl
 after_more k (j ∷ is) i = after_more (among_with j k) is i
 
-text_more : (h : LogHead) (base : Option KeptAmong) (is : List Increment) (i : Increment) → log_text h base is ++ increment_text i ≡ log_text h base (is ++ i ∷ [])
+text_more : (h : LogHead) (base : Option KeptAmong) (is : List Increment) (i : Increment)
+    → log_text h base is ++ increment_text i ≡ log_text h base (is ++ i ∷ [])
 text_more h base is i =
     let front = head_text h ++ base_text base in
     append_assoc front (flat_map increment_text is) (increment_text i)
@@ -91,7 +93,8 @@ nothing_has_text agents few = record {
   in_range = All-nil (λ b. b.agent ≤ agents);
 }
 
-first_has_text : (h : LogHead) (base : Option KeptAmong) → IsLogHead h → MayBeFirst h.agents base → HasText (kept_at_first h base) × ((kept_at_first h base).agents ≡ h.agents)
+first_has_text : (h : LogHead) (base : Option KeptAmong) → IsLogHead h → MayBeFirst h.agents base
+    → HasText (kept_at_first h base) × ((kept_at_first h base).agents ≡ h.agents)
 first_has_text h None is may = (nothing_has_text h.agents is.agents, refl)
 first_has_text h (Some k) is may = may k refl
 

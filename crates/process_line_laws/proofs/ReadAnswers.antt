@@ -57,10 +57,12 @@ last_told [] rest (suc m) none = refl
 last_told (l ∷ ls) rest (suc m) none = ap (by_section l ls rest m) (none l ls refl)
 
 -- a line that begins with this word counts no lines, so it is the last, with all that stands below it
-word_read : (word t : List ℕ) → lacks 10 word ≡ true → ((more : List ℕ) → section_said (word ++ more) ≡ None) → IsReadAs (word ++ t) (just (word ++ t))
+word_read : (word t : List ℕ) → lacks 10 word ≡ true → ((more : List ℕ) → section_said (word ++ more) ≡ None)
+    → IsReadAs (word ++ t) (just (word ++ t))
 word_read word t whole none m enough =
     let text = word ++ t in
-    last_told (lines_in text).lines (lines_in text).rest m (λ l ls is. let b = first_begins word t l ls whole is in ap section_said b.1 ∙ none b.0)
+    last_told (lines_in text).lines (lines_in text).rest m
+        (λ l ls is. let b = first_begins word t l ls whole is in ap section_said b.1 ∙ none b.0)
     ∙ ap just (lines_give_back text)
 
 pub refused_read : (why : List ℕ) → IsReadAs (refused_text why) (just (refused_text why))
@@ -71,10 +73,12 @@ words_read (HasTaken learned) = word_read (codes "delivered") (if_any (codes " l
 words_read (HasBegun ballot) = word_read (codes "started ballot ") (decimal ballot ++ 10 ∷ []) refl (λ more. refl)
 words_read (HasJournaled seq) = word_read (codes "journaled seq ") (decimal seq ++ 10 ∷ []) refl (λ more. refl)
 words_read (HasExported s) =
-    word_read (codes "exported period ") ((decimal s.period ++ with_number (codes " lines ") (line_count (file_of s)) ++ 10 ∷ []) ++ file_of s) refl (λ more. refl)
+    word_read (codes "exported period ")
+        ((decimal s.period ++ with_number (codes " lines ") (line_count (file_of s)) ++ 10 ∷ []) ++ file_of s) refl (λ more. refl)
 words_read (KeptIs text) = word_read (codes "kept lines ") ((decimal (line_count text) ++ 10 ∷ []) ++ text) refl (λ more. refl)
 words_read HasSent = word_read (codes "sent") (10 ∷ []) refl (λ more. refl)
-words_read (NodeWentOn period round) = word_read (codes "begun period ") (decimal period ++ with_number (codes " round ") round ++ 10 ∷ []) refl (λ more. refl)
+words_read (NodeWentOn period round) =
+    word_read (codes "begun period ") (decimal period ++ with_number (codes " round ") round ++ 10 ∷ []) refl (λ more. refl)
 words_read (AgentWentOn seq) = word_read (codes "begun seq ") (decimal seq ++ 10 ∷ []) refl (λ more. refl)
 words_read (RefusedFor why) = refused_read (process_refusal_text why)
 
@@ -84,11 +88,13 @@ begun_read (process.Agent a) = words_read (AgentWentOn _)
 
 -- ---- a section above it
 
-counted_read : (l : List ℕ) (body : List (List ℕ)) (place : Place) (text : List ℕ) (t : Told) → lacks 10 l ≡ true → list_all (lacks 10) body ≡ true
+counted_read : (l : List ℕ) (body : List (List ℕ)) (place : Place) (text : List ℕ) (t : Told) → lacks 10 l ≡ true
+    → list_all (lacks 10) body ≡ true
     → section_said l ≡ Some (in_place place (length body)) → IsReadAs text t
     → IsReadAs (text_of_lines (l ∷ body) ++ text) (with_lines place (text_of_lines body) t)
 counted_read l body place text t whole all said later m enough =
-    let above : lines_in (text_of_lines (l ∷ body) ++ text) ≡ record { lines = (l ∷ body) ++ (lines_in text).lines; rest = (lines_in text).rest } =
+    let above : lines_in (text_of_lines (l ∷ body) ++ text)
+        ≡ record { lines = (l ∷ body) ++ (lines_in text).lines; rest = (lines_in text).rest } =
     lines_above (l ∷ body) text (and_from _ _ whole all) in
     ap (λ (x : Lines). told_by m x.lines x.rest) above ∙ by_most m (subst (λ (x : Lines). length x.lines ≤ m) above enough)
   where
@@ -104,7 +110,8 @@ counted_read l body place text t whole all said later m enough =
     by_most (suc m) enough =
         let size = length-append body (lines_in text).lines in
         ap (by_section l (body ++ (lines_in text).lines) (lines_in text).rest m) said
-        ∙ ap₂ (λ taken left. with_lines place (text_of_lines taken) (told_by m left (lines_in text).rest)) (take-append_seam body (lines_in text).lines) (drop-append_seam body (lines_in text).lines)
+        ∙ ap₂ (λ taken left. with_lines place (text_of_lines taken) (told_by m left (lines_in text).rest))
+            (take-append_seam body (lines_in text).lines) (drop-append_seam body (lines_in text).lines)
         ∙ ap (with_lines place (text_of_lines body)) (later m (omega (arith, enough, size)))
 
 -- what is said of a number of lines for the log, or of a packet
@@ -125,15 +132,18 @@ increment_few agents (SetsBallots period a) has = omega arith
 increment_few agents (Learns period cut) has = omega arith
 increment_few agents (Takes b) has = few_lines b has
 
-pub increment_said : (agents : ℕ) (i : Increment) → HasIncrementText agents i → section_said (section (codes "kept ") (lines_of_increment i)) ≡ Some (in_place ToLog (length (lines_of i)))
-increment_said agents i has = kept_said (lines_of_increment i) (increment_some i) (increment_few agents i has) ∙ ap (λ k. Some (in_place ToLog k)) (sym (increment_size i))
+pub increment_said : (agents : ℕ) (i : Increment) → HasIncrementText agents i
+    → section_said (section (codes "kept ") (lines_of_increment i)) ≡ Some (in_place ToLog (length (lines_of i)))
+increment_said agents i has = kept_said (lines_of_increment i) (increment_some i) (increment_few agents i has)
+    ∙ ap (λ k. Some (in_place ToLog k)) (sym (increment_size i))
 
 increment_read : (agents : ℕ) (i : Increment) (text : List ℕ) (t : Told) → HasIncrementText agents i → IsReadAs text t
     → IsReadAs (added_text (Some i) ++ text) (with_lines ToLog (increment_text i) t)
 increment_read agents i text t has later =
     let n = lines_of_increment i in
     subst (λ u. IsReadAs ((ended (section (codes "kept ") n) ++ u) ++ text) (with_lines ToLog u t)) (increment_lines_are_text i)
-    (counted_read (section (codes "kept ") n) (lines_of i) ToLog text t (section_lacks_feed (codes "kept ") n refl) (increment_lacks_feed agents i has) (increment_said agents i has) later)
+    (counted_read (section (codes "kept ") n) (lines_of i) ToLog text t (section_lacks_feed (codes "kept ") n refl)
+        (increment_lacks_feed agents i has) (increment_said agents i has) later)
 
 -- ---- what is sent
 
@@ -205,7 +215,8 @@ past_space (c ∷ word) t h =
     let both = and_parts (not (c == 32)) (lacks 32 word) h in
     by_test (c == 32) both.0 (past_space word t both.1)
   where
-    by_test : (b : Bool) → not b ≡ true → behind_space (word ++ 32 ∷ t) ≡ Some t → (if b then Some (word ++ 32 ∷ t) else behind_space (word ++ 32 ∷ t)) ≡ Some t
+    by_test : (b : Bool) → not b ≡ true → behind_space (word ++ 32 ∷ t) ≡ Some t
+        → (if b then Some (word ++ 32 ∷ t) else behind_space (word ++ 32 ∷ t)) ≡ Some t
     by_test false other rest = rest
     by_test true other rest = absurd (cc)
 
@@ -233,17 +244,20 @@ send_lacks_feed to n =
     (list_all_both (λ c. not (c == 10)) (codes "send " ++ addressee_text to) (codes " ")
     (list_all_both (λ c. not (c == 10)) (codes "send ") (addressee_text to) refl (addressee_lacks to).1) refl)
 
-pub packet_said : (name : List ℕ) (to : Option ℕ) (p : Packet) → HasPacketText name p → section_said (section (send_words to) (lines_of_packet p)) ≡ Some (in_place ToNodes (length (lines_of_sent name p)))
+pub packet_said : (name : List ℕ) (to : Option ℕ) (p : Packet) → HasPacketText name p
+    → section_said (section (send_words to) (lines_of_packet p)) ≡ Some (in_place ToNodes (length (lines_of_sent name p)))
 packet_said name to p has =
     let size = under_size p in
-    send_said to (lines_of_packet p) (omega (arith, size)) (packet_few p has.packet) ∙ ap (λ k. Some (in_place ToNodes k)) (sym (sent_size name p))
+    send_said to (lines_of_packet p) (omega (arith, size)) (packet_few p has.packet)
+        ∙ ap (λ k. Some (in_place ToNodes k)) (sym (sent_size name p))
 
 packet_read : (name : List ℕ) (to : Option ℕ) (p : Packet) (text : List ℕ) (t : Told) → HasPacketText name p → IsReadAs text t
     → IsReadAs (packet_sent_text name to p ++ text) (with_lines ToNodes (packet_text name p) t)
 packet_read name to p text t has later =
     let n = lines_of_packet p in
     subst (λ u. IsReadAs ((ended (section (send_words to) n) ++ u) ++ text) (with_lines ToNodes u t)) (sent_is_lines name p)
-    (counted_read (section (send_words to) n) (lines_of_sent name p) ToNodes text t (send_lacks_feed to n) (sent_lacks_feed name p has) (packet_said name to p has) later)
+    (counted_read (section (send_words to) n) (lines_of_sent name p) ToNodes text t (send_lacks_feed to n) (sent_lacks_feed name p has)
+        (packet_said name to p has) later)
 
 -- ---- the whole
 
@@ -252,14 +266,17 @@ sends_read : (name : List ℕ) (to : Packet → Option ℕ) (sends : Option Pack
 sends_read name to None w may = words_read w
 sends_read name to (Some p) w may = packet_read name (to p) p (words_text w) (just (words_text w)) may (words_read w)
 
-pub answer_meant : (name : List ℕ) (to : Packet → Option ℕ) (agents : ℕ) (added : Option Increment) (a : Answer) → MayBeAdded agents added → MayBeSent name a.sends
+pub answer_meant : (name : List ℕ) (to : Packet → Option ℕ) (agents : ℕ) (added : Option Increment) (a : Answer) → MayBeAdded agents added
+    → MayBeSent name a.sends
     → told_in (answer_text name to added a) ≡ meant name added a
-answer_meant name to agents None a may sent = so_told (sent_text name to a.sends ++ words_text a.words) _ (sends_read name to a.sends a.words sent)
+answer_meant name to agents None a may sent =
+    so_told (sent_text name to a.sends ++ words_text a.words) _ (sends_read name to a.sends a.words sent)
 answer_meant name to agents (Some i) a may sent =
     let above = added_text (Some i) in
     let below = sent_text name to a.sends in
     ap told_in (append_assoc above below (words_text a.words))
-    ∙ so_told (above ++ (below ++ words_text a.words)) _ (increment_read agents i (below ++ words_text a.words) _ may (sends_read name to a.sends a.words sent))
+    ∙ so_told (above ++ (below ++ words_text a.words)) _
+        (increment_read agents i (below ++ words_text a.words) _ may (sends_read name to a.sends a.words sent))
     ∙ ap (λ t. record { kept = t; sent = texts_sent name a.sends; last = words_text a.words }) (append-nil (increment_text i))
 
 -- ---- the numbers
@@ -272,11 +289,15 @@ lines_counted ls text n all is size =
 
 pub kept_counted : (agents : ℕ) (i : Increment) → HasIncrementText agents i
     → (length (lines_in (increment_text i)).lines ≡ lines_of_increment i) × ((lines_in (increment_text i)).rest ≡ [])
-kept_counted agents i has = lines_counted (lines_of i) (increment_text i) (lines_of_increment i) (increment_lacks_feed agents i has) (increment_lines_are_text i) (increment_size i)
+kept_counted agents i has =
+    lines_counted (lines_of i) (increment_text i) (lines_of_increment i) (increment_lacks_feed agents i has) (increment_lines_are_text i)
+    (increment_size i)
 
 pub sent_counted : (name : List ℕ) (p : Packet) → HasPacketText name p
     → (length (lines_in (packet_text name p)).lines ≡ lines_of_packet p) × ((lines_in (packet_text name p)).rest ≡ [])
-sent_counted name p has = lines_counted (lines_of_sent name p) (packet_text name p) (lines_of_packet p) (sent_lacks_feed name p has) (sent_is_lines name p) (sent_size name p)
+sent_counted name p has =
+    lines_counted (lines_of_sent name p) (packet_text name p) (lines_of_packet p) (sent_lacks_feed name p has) (sent_is_lines name p)
+    (sent_size name p)
 
 -- ---- of processes
 
@@ -291,14 +312,16 @@ pub may_be_added : (before now : KeptAmong) (added : Option Increment) → AddsJ
 may_be_added before now None adds = tt
 may_be_added before now (Some i) adds = adds.0
 
-pub node_meant : (command : model.NodeCommand) (old new : NodeSelf) (said : List ℕ) (tells : TellsNode command old new said) → MayBeSent old.group.name tells.answer.sends
+pub node_meant : (command : model.NodeCommand) (old new : NodeSelf) (said : List ℕ) (tells : TellsNode command old new said)
+    → MayBeSent old.group.name tells.answer.sends
     → told_in said ≡ meant old.group.name tells.added tells.answer
 node_meant command old new said tells may =
     ap told_in tells.text
     ∙ answer_meant old.group.name (addressee_of old.group.voters command) old.group.agents tells.added tells.answer
     (may_be_added (kept_of_node old) (kept_of_node new) tells.added tells.adds) may
 
-pub agent_meant : (command : model.AgentCommand) (old new : AgentSelf) (said : List ℕ) (tells : TellsAgent command old new said) → MayBeSent old.group.name tells.answer.sends
+pub agent_meant : (command : model.AgentCommand) (old new : AgentSelf) (said : List ℕ) (tells : TellsAgent command old new said)
+    → MayBeSent old.group.name tells.answer.sends
     → told_in said ≡ meant old.group.name tells.added tells.answer
 agent_meant command old new said tells may =
     ap told_in tells.text

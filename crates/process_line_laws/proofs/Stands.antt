@@ -43,22 +43,28 @@ pub record Stands (g : Group) (m : Machines) (acts : List Act) : Type 0 where
 
 
 new_stands : (g : Group) (w : Who) → OneStands g (begun g) w ((begun_machines g).machine w)
-new_stands g (NodeOf i) = record { there = λ p is. absurd (none-some p is); keeps = λ p is. by_node (slice_get (replicate (g.voters + g.observers) (wake new_kept)) i) refl p is }
+new_stands g (NodeOf i) =
+    record { there = λ p is. absurd (none-some p is);
+    keeps = λ p is. by_node (slice_get (replicate (g.voters + g.observers) (wake new_kept)) i) refl p is }
   where
     by_node : (o : Option Node) → slice_get (replicate (g.voters + g.observers) (wake new_kept)) i ≡ o → (p : Process)
-        → option_map (λ n. process.Node (record { group = g; number = i; node = n })) o ≡ Some p → KeepsBy (head_of g (NodeOf i)) ((begun_machines g).machine (NodeOf i)).log (kept_by p)
+        → option_map (λ n. process.Node (record { group = g; number = i; node = n })) o ≡ Some p
+            → KeepsBy (head_of g (NodeOf i)) ((begun_machines g).machine (NodeOf i)).log (kept_by p)
     by_node None is p e = absurd (none-some p e)
     by_node (Some n) is p e =
         subst (λ q. KeepsBy (head_of g (NodeOf i)) ((begun_machines g).machine (NodeOf i)).log (kept_by q))
-        (ap (λ m. process.Node (record { group = g; number = i; node = m })) (sym (get-replicate (g.voters + g.observers) i (wake new_kept) n is)) ∙ same_Some _ p e)
+        (ap (λ m. process.Node (record { group = g; number = i; node = m }))
+            (sym (get-replicate (g.voters + g.observers) i (wake new_kept) n is)) ∙ same_Some _ p e)
         (keeps_nothing (head_of g (NodeOf i)))
 new_stands g (AgentOf a) = record {
   there = λ p is. absurd (none-some p is);
-  keeps = λ p is. subst (λ q. KeepsBy (head_of g (AgentOf a)) ((begun_machines g).machine (AgentOf a)).log (kept_by q)) (same_Some _ p is) (keeps_nothing (head_of g (AgentOf a)));
+  keeps = λ p is. subst (λ q. KeepsBy (head_of g (AgentOf a)) ((begun_machines g).machine (AgentOf a)).log (kept_by q)) (same_Some _ p is)
+      (keeps_nothing (head_of g (AgentOf a)));
 }
 
 pub begun_stands : (g : Group) → Stands g (begun_machines g) []
-begun_stands g = record { history = tt; stand = record { size = length-replicate (g.voters + g.observers) (wake new_kept); each = new_stands g; sent = refl } }
+begun_stands g = record { history = tt;
+    stand = record { size = length-replicate (g.voters + g.observers) (wake new_kept); each = new_stands g; sent = refl } }
 
 -- ---- what is sent in a history may be written
 
@@ -69,15 +75,19 @@ sent_written g acts w history head p has =
     let nodes = head.nodes in
     let few : g.voters ≤ 99 = omega (arith, nodes) in
     All-contains (HasPacketText g.name) (play (opened g by.room) by.events).1.packets p
-    (run_written by.room g.voters g.observers g.agents g.sheet g.issuer by.events g.name head.group few head.agents.0 head.agents.1) ((by.left.sent p).0 has)
+    (run_written by.room g.voters g.observers g.agents g.sheet g.issuer by.events g.name head.group few head.agents.0 head.agents.1)
+        ((by.left.sent p).0 has)
 
 -- of an act that may be done next
-pub answer_written : (g : Group) (acts : List Act) (a : Act) (w : Who) → IsHistory g (begun g) acts → MayAct g (after g (begun g) acts) a → IsLogHead (head_of g w)
-    → (sends : Option Packet) → (acted g (after g (begun g) acts) a).after.sent ≡ sent_with sends (after g (begun g) acts).sent → MayBeSent g.name sends
+pub answer_written : (g : Group) (acts : List Act) (a : Act) (w : Who) → IsHistory g (begun g) acts → MayAct g (after g (begun g) acts) a
+    → IsLogHead (head_of g w)
+    → (sends : Option Packet) → (acted g (after g (begun g) acts) a).after.sent ≡ sent_with sends (after g (begun g) acts).sent
+        → MayBeSent g.name sends
 answer_written g acts a w history may head None sent = tt
 answer_written g acts a w history may head (Some p) sent =
     sent_written g (acts ++ a ∷ []) w (history_more g (begun g) acts a history may) head p
-    (subst (λ ps. Contains ps p) (sym (ap (λ (s : Processes). s.sent) (after_one g (begun g) acts a) ∙ sent)) (Contains-push (after g (begun g) acts).sent p))
+    (subst (λ ps. Contains ps p) (sym (ap (λ (s : Processes). s.sent) (after_one g (begun g) acts a) ∙ sent))
+        (Contains-push (after g (begun g) acts).sent p))
 
 -- ---- one act more
 
@@ -93,7 +103,8 @@ pub record Moves (g : Group) (s s' : Processes) (w : Who) (next : Process) : Typ
   pub others : (v : Who) → is_who v w ≡ false → process_there g s' v ≡ process_there g s v
 
 module _ (g : Group) (s s' : Processes) (w : Who) (next : Process) (log : List ℕ) (machine : Who → Machine)
-    (moves : Moves g s s' w next) (head : IsLogHead (head_of g w)) (keeps : KeepsBy (head_of g w) log (kept_by next)) (each : (v : Who) → OneStands g s v (machine v)) where
+    (moves : Moves g s s' w next) (head : IsLogHead (head_of g w)) (keeps : KeepsBy (head_of g w) log (kept_by next))
+        (each : (v : Who) → OneStands g s v (machine v)) where
   abbrev new : Machine
   new = record { runs = Some next; log = log }
 
@@ -117,7 +128,8 @@ module _ (g : Group) (s s' : Processes) (w : Who) (next : Process) (log : List �
 pub stays : (g : Group) (s : Processes) (w : Who) (p : Process) → process_there g s w ≡ Some p → Moves g s s w p
 stays g s w p is = record { there = is; others = λ v e. refl }
 
-map_sent : (name : List ℕ) (sends : Option Packet) (sent : List Packet) → map (packet_text name) (sent_with sends sent) ≡ map (packet_text name) sent ++ texts_sent name sends
+map_sent : (name : List ℕ) (sends : Option Packet) (sent : List Packet)
+    → map (packet_text name) (sent_with sends sent) ≡ map (packet_text name) sent ++ texts_sent name sends
 map_sent name None sent = sym (append-nil _)
 map_sent name (Some p) [] = refl
 map_sent name (Some p) (q ∷ sent) = ap (λ ts. packet_text name q ∷ ts) (map_sent name (Some p) sent)
@@ -128,15 +140,18 @@ module _ (g : Group) (m : Machines) (acts : List Act) (stands : Stands g m acts)
   s = after g (begun g) acts
 
   -- an act of that process
-  pub stands_with : (a : Act) (sends : Option Packet) → MayAct g s a → Moves g s (acted g s a).after w next → length (acted g s a).after.nodes ≡ length s.nodes
+  pub stands_with : (a : Act) (sends : Option Packet) → MayAct g s a → Moves g s (acted g s a).after w next
+      → length (acted g s a).after.nodes ≡ length s.nodes
       → (acted g s a).after.sent ≡ sent_with sends s.sent
-      → Stands g (record { machine = with_machine w (record { runs = Some next; log = log }) m.machine; sent = m.sent ++ texts_sent g.name sends }) (acts ++ a ∷ [])
+      → Stands g (record { machine = with_machine w (record { runs = Some next; log = log }) m.machine;
+          sent = m.sent ++ texts_sent g.name sends }) (acts ++ a ∷ [])
   stands_with a sends may moves size sent = record {
     history = history_more g (begun g) acts a stands.history may;
     stand = subst (AllStand g _) (sym (after_one g (begun g) acts a)) (record {
       size = size ∙ stands.stand.size;
       each = each_stands g s (acted g s a).after w next log m.machine moves head keeps stands.stand.each;
-      sent = ap (λ ts. ts ++ texts_sent g.name sends) stands.stand.sent ∙ sym (map_sent g.name sends s.sent) ∙ ap (map (packet_text g.name)) (sym sent);
+      sent = ap (λ ts. ts ++ texts_sent g.name sends) stands.stand.sent ∙ sym (map_sent g.name sends s.sent)
+          ∙ ap (map (packet_text g.name)) (sym sent);
     });
   }
 

@@ -55,7 +55,8 @@ abbrev pub own : Who → ReadLog
 own w = record { head = head_of one w; kept = record { agents = 1; kept = new_kept } }
 
 abbrev pub preamble_of : Who → (text : List ℕ) → Preamble
-preamble_of w text = record { own = own w; sheet = sheet_0; issuer = issuer_1; rest = record { text = text; from = length text; line = 25 } }
+preamble_of w text =
+    record { own = own w; sheet = sheet_0; issuer = issuer_1; rest = record { text = text; from = length text; line = 25 } }
 
 pub voter_read : preamble_in kind.Node voter_text ≡ Ok (preamble_of (NodeOf 0) voter_text)
 unfolding preamble_in log_in section_in read_as sheet_section issuer_section is_utf8 chars lib.Utf8.encode price_row_in commitment_in region_in next_price next_commitment next_region sheet_of_rows sheet_in sheet_of_text currency_under issuer_in issuer_of_text key_name value_under text_under label_under base_under day_under price_under per_under service_category_under commitment_category_under rows_in rows_under parse_document lines line expression skip_bom skip_from skip_ws header_key key_equals key_after simple_key val atom quoted one_line body special define along_header along_dots at_key unquoted word_len word_value number underscore_fits plain_number decimal_number scan_numeral days_from_civil day_count days_of_years days_of_months worth_of
@@ -75,9 +76,11 @@ abbrev pub node_self : ℕ → Node → NodeSelf
 node_self i n = record { group = one; number = i; node = n }
 
 abbrev pub asked_node : (i : ℕ) (first : List ℕ) (lines : TextLines) (next : Node) (said : List ℕ) → HostAct
-asked_node i first lines next said = Asks (NodeOf i) (record { first = first; below = lines_text lines }) (process.Node (node_self i next)) said
+asked_node i first lines next said =
+    Asks (NodeOf i) (record { first = first; below = lines_text lines }) (process.Node (node_self i next)) said
 
-pub node_answers : (i : ℕ) (n next : Node) (first : List ℕ) (lines : TextLines) (c : NodeCommand) (answer : Answer) (added : Option Increment) (said : List ℕ)
+pub node_answers : (i : ℕ) (n next : Node) (first : List ℕ) (lines : TextLines) (c : NodeCommand) (answer : Answer)
+    (added : Option Increment) (said : List ℕ)
     → lacks 10 first ≡ true → list_all (lacks 10) lines ≡ true → length lines ≡ lines_below (process.Node (node_self i n)) first
     → node_request first (lines_text lines) ≡ AsksNode c → model.node_does one i n c ≡ record { answer = answer; node = next }
     → AddsJust (kept_of_node (node_self i n)) (kept_of_node (node_self i next)) added
@@ -100,9 +103,11 @@ abbrev pub agent_self : Holding → AgentSelf
 agent_self j = record { group = one; number = 1; journal = j }
 
 abbrev pub asked_agent : (first : List ℕ) (lines : TextLines) (next : Holding) (said : List ℕ) → HostAct
-asked_agent first lines next said = Asks (AgentOf 1) (record { first = first; below = lines_text lines }) (process.Agent (agent_self next)) said
+asked_agent first lines next said =
+    Asks (AgentOf 1) (record { first = first; below = lines_text lines }) (process.Agent (agent_self next)) said
 
-pub agent_may : (m : Machines) (j next : Holding) (first : List ℕ) (lines : TextLines) (c : AgentCommand) (answer : Answer) (added : Option Increment) (said : List ℕ)
+pub agent_may : (m : Machines) (j next : Holding) (first : List ℕ) (lines : TextLines) (c : AgentCommand) (answer : Answer)
+    (added : Option Increment) (said : List ℕ)
     → (m.machine (AgentOf 1)).runs ≡ Some (process.Agent (agent_self j))
     → lacks 10 first ≡ true → list_all (lacks 10) lines ≡ true → length lines ≡ lines_below (process.Agent (agent_self j)) first
     → agent_request first (lines_text lines) ≡ AsksAgent c → model.agent_does one 1 j c ≡ record { answer = answer; journal = next }

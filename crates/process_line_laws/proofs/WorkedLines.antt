@@ -1,4 +1,5 @@
--- A history in lines: the voter closes the first month before it has the agent's batch, the observer learns the cut and exports the same bytes, and
+-- A history in lines: the voter closes the first month before it has the agent's batch, the observer learns the cut and exports the same
+-- bytes, and
 -- the voter goes on with a shorter log.
 use Rattle.std.proofs.Common.{◌≡◌, ℕ, ◌≤◌, true, List, [], ◌∷◌, ◌++◌, length, Option, Some, None, Ok, Err, refl, subst, arith, codes, All}
 use Rattle.std.specs.Prelude.{slice_get}
@@ -98,9 +99,11 @@ abbrev pub closes : List HostAct
 closes =
     GoesOn (NodeOf 0) (voter_text ++ codes "new\n") (process.Node (node_self 0 new_node))
     ∷ asked_node 0 (codes "start") [] v1 (codes "kept 1\nround|1\nsend all 1\nP1|one|prepare|0|1\nstarted ballot 1\n")
-    ∷ asked_node 0 (codes "packet 1") (codes "P1|one|prepare|0|1" ∷ []) v2 (codes "kept 1\nballot|0|1|0\nsend 0 1\nP1|one|promise|0|0|1|0\ndelivered\n")
+    ∷ asked_node 0 (codes "packet 1") (codes "P1|one|prepare|0|1" ∷ []) v2
+        (codes "kept 1\nballot|0|1|0\nsend 0 1\nP1|one|promise|0|0|1|0\ndelivered\n")
     ∷ asked_node 0 (codes "packet 1") (codes "P1|one|promise|0|0|1|0" ∷ []) v3 (codes "send all 1\nP1|one|accept|0|1|0\ndelivered\n")
-    ∷ asked_node 0 (codes "packet 1") (codes "P1|one|accept|0|1|0" ∷ []) v4 (codes "kept 1\nballot|0|1|1|0\nsend all 1\nP1|one|accepted|0|0|1|0\ndelivered\n")
+    ∷ asked_node 0 (codes "packet 1") (codes "P1|one|accept|0|1|0" ∷ []) v4
+        (codes "kept 1\nballot|0|1|1|0\nsend all 1\nP1|one|accepted|0|0|1|0\ndelivered\n")
     ∷ asked_node 0 (codes "packet 1") (codes "P1|one|accepted|0|0|1|0" ∷ []) v5 (codes "kept 1\nlearned|0|0\ndelivered learned 0\n")
     ∷ asked_node 0 (codes "export 0") [] v5 empty_file
     ∷ []
@@ -138,22 +141,33 @@ closes_month =
       log = refl;
     } ⨾
     node_may _ 0 new_node v1 (codes "start") [] _ refl
-        (node_answers 0 new_node v1 (codes "start") [] BeginBallot (and_sends (HasBegun 1) (Prepare 0 1)) (Some (BeginsRound 1)) _ refl refl refl refl refl ((omega arith, omega arith), refl, refl) refl)
+        (node_answers 0 new_node v1 (codes "start") [] BeginBallot (and_sends (HasBegun 1) (Prepare 0 1))
+            (Some (BeginsRound 1)) _ refl refl refl refl refl ((omega arith, omega arith), refl, refl) refl)
         (λ p read of. absurd (none-some p read)) ⨾
     node_may _ 0 v1 v2 (codes "packet 1") (codes "P1|one|prepare|0|1" ∷ []) _ refl
-        (node_answers 0 v1 v2 (codes "packet 1") (codes "P1|one|prepare|0|1" ∷ []) (takes (Prepare 0 1)) (and_sends (HasTaken None) (Promise 0 0 1 None)) (Some (SetsBallots 0 (record { promised = Some 1; vote = None }))) _ refl refl refl refl refl ((omega arith, promised, no_vote), refl, refl) refl)
+        (node_answers 0 v1 v2 (codes "packet 1") (codes "P1|one|prepare|0|1" ∷ []) (takes (Prepare 0 1))
+            (and_sends (HasTaken None) (Promise 0 0 1 None))
+            (Some (SetsBallots 0 (record { promised = Some 1; vote = None }))) _ refl refl refl refl refl
+            ((omega arith, promised, no_vote), refl, refl) refl)
         (λ p read of. (0, omega arith, refl)) ⨾
     node_may _ 0 v2 v3 (codes "packet 1") (codes "P1|one|promise|0|0|1|0" ∷ []) _ refl
-        (node_answers 0 v2 v3 (codes "packet 1") (codes "P1|one|promise|0|0|1|0" ∷ []) (takes (Promise 0 0 1 None)) (and_sends (HasTaken None) (Accept 0 1 low)) None _ refl refl refl refl refl refl refl)
+        (node_answers 0 v2 v3 (codes "packet 1") (codes "P1|one|promise|0|0|1|0" ∷ []) (takes (Promise 0 0 1 None))
+            (and_sends (HasTaken None) (Accept 0 1 low)) None _ refl refl refl refl refl refl refl)
         (λ p read of. (1, omega arith, refl)) ⨾
     node_may _ 0 v3 v4 (codes "packet 1") (codes "P1|one|accept|0|1|0" ∷ []) _ refl
-        (node_answers 0 v3 v4 (codes "packet 1") (codes "P1|one|accept|0|1|0" ∷ []) (takes (Accept 0 1 low)) (and_sends (HasTaken None) (Accepted 0 0 1 low)) (Some (SetsBallots 0 (record { promised = Some 1; vote = Some (record { ballot = 1; cut = low }) }))) _ refl refl refl refl refl ((omega arith, promised, its_vote), refl, refl) refl)
+        (node_answers 0 v3 v4 (codes "packet 1") (codes "P1|one|accept|0|1|0" ∷ []) (takes (Accept 0 1 low))
+            (and_sends (HasTaken None) (Accepted 0 0 1 low))
+            (Some (SetsBallots 0
+            (record { promised = Some 1; vote = Some (record { ballot = 1; cut = low }) }))) _ refl refl refl refl refl
+            ((omega arith, promised, its_vote), refl, refl) refl)
         (λ p read of. (2, omega arith, refl)) ⨾
     node_may _ 0 v4 v5 (codes "packet 1") (codes "P1|one|accepted|0|0|1|0" ∷ []) _ refl
-        (node_answers 0 v4 v5 (codes "packet 1") (codes "P1|one|accepted|0|0|1|0" ∷ []) (takes (Accepted 0 0 1 low)) (saying (HasTaken (Some 0))) (Some (Learns 0 low)) _ refl refl refl refl refl ((omega arith, among), refl, refl) refl)
+        (node_answers 0 v4 v5 (codes "packet 1") (codes "P1|one|accepted|0|0|1|0" ∷ []) (takes (Accepted 0 0 1 low))
+            (saying (HasTaken (Some 0))) (Some (Learns 0 low)) _ refl refl refl refl refl ((omega arith, among), refl, refl) refl)
         (λ p read of. (3, omega arith, refl)) ⨾
     node_may _ 0 v5 v5 (codes "export 0") [] _ refl
-        (node_answers 0 v5 v5 (codes "export 0") [] (ExportPeriod 0) (saying (HasExported exported)) None _ refl refl refl refl refl refl refl)
+        (node_answers 0 v5 v5 (codes "export 0") [] (ExportPeriod 0)
+            (saying (HasExported exported)) None _ refl refl refl refl refl refl refl)
         (λ p read of. absurd (none-some p read)) ⨾ tt
 
 -- ---- what is done behind it
@@ -165,9 +179,11 @@ batch_text = lines_text batch_lines
 abbrev pub carries : List HostAct
 carries =
     GoesOn (AgentOf 1) (agent_text ++ codes "new\n") (process.Agent (agent_self []))
-    ∷ asked_agent (codes "journal 2") batch_lines (b ∷ []) (codes "kept 3\nbatch 2\n" ++ batch_text ++ codes "send all 3\nP1|one|batch|2\n" ++ batch_text ++ codes "journaled seq 1\n")
+    ∷ asked_agent (codes "journal 2") batch_lines (b ∷ [])
+        (codes "kept 3\nbatch 2\n" ++ batch_text ++ codes "send all 3\nP1|one|batch|2\n" ++ batch_text ++ codes "journaled seq 1\n")
     ∷ GoesOn (NodeOf 1) (observer_text ++ codes "new\n") (process.Node (node_self 1 new_node))
-    ∷ asked_node 1 (codes "packet 3") (codes "P1|one|batch|2" ∷ batch_lines) o1 (codes "kept 3\nbatch 2\n" ++ batch_text ++ codes "delivered\n")
+    ∷ asked_node 1 (codes "packet 3") (codes "P1|one|batch|2" ∷ batch_lines) o1
+        (codes "kept 3\nbatch 2\n" ++ batch_text ++ codes "delivered\n")
     ∷ []
 
 abbrev pub carried : Machines
@@ -197,7 +213,8 @@ carries_batch =
       issuer = refl;
       log = refl;
     } ⨾
-    agent_may _ [] (b ∷ []) (codes "journal 2") batch_lines (JournalBatch (Good batch_text)) (and_sends (HasJournaled 1) (CarriesBatch b)) (Some (Takes b)) _
+    agent_may _ [] (b ∷ []) (codes "journal 2") batch_lines (JournalBatch (Good batch_text)) (and_sends (HasJournaled 1) (CarriesBatch b))
+        (Some (Takes b)) _
         refl refl refl refl refl refl (is_batch, refl, refl) refl ⨾
     record {
       begins = record {
@@ -217,7 +234,8 @@ carries_batch =
       log = refl;
     } ⨾
     node_may _ 1 new_node o1 (codes "packet 3") (codes "P1|one|batch|2" ∷ batch_lines) _ refl
-        (node_answers 1 new_node o1 (codes "packet 3") (codes "P1|one|batch|2" ∷ batch_lines) (takes (CarriesBatch b)) (saying (HasTaken None)) (Some (Takes b)) _ refl refl refl refl refl (is_batch, refl, refl) refl)
+        (node_answers 1 new_node o1 (codes "packet 3") (codes "P1|one|batch|2" ∷ batch_lines) (takes (CarriesBatch b))
+            (saying (HasTaken None)) (Some (Takes b)) _ refl refl refl refl refl (is_batch, refl, refl) refl)
         (λ p read of. (4, omega arith, refl)) ⨾ tt
 
 -- what the voter keeps takes the place of its log
@@ -242,15 +260,18 @@ learns_cut : IsHostHistory one carried learns
 unfolding days_from_civil day_count days_of_years days_of_months worth_of decimals_of digits
 learns_cut =
     node_may _ 1 o1 o2 (codes "packet 1") (codes "P1|one|accepted|0|0|1|0" ∷ []) _ refl
-        (node_answers 1 o1 o2 (codes "packet 1") (codes "P1|one|accepted|0|0|1|0" ∷ []) (takes (Accepted 0 0 1 low)) (saying (HasTaken (Some 0))) (Some (Learns 0 low)) _ refl refl refl refl refl ((omega arith, among), refl, refl) refl)
+        (node_answers 1 o1 o2 (codes "packet 1") (codes "P1|one|accepted|0|0|1|0" ∷ []) (takes (Accepted 0 0 1 low))
+            (saying (HasTaken (Some 0))) (Some (Learns 0 low)) _ refl refl refl refl refl ((omega arith, among), refl, refl) refl)
         (λ p read of. (3, omega arith, refl)) ⨾
     node_may _ 1 o2 o2 (codes "export 0") [] _ refl
-        (node_answers 1 o2 o2 (codes "export 0") [] (ExportPeriod 0) (saying (HasExported exported)) None _ refl refl refl refl refl refl refl)
+        (node_answers 1 o2 o2 (codes "export 0") [] (ExportPeriod 0)
+            (saying (HasExported exported)) None _ refl refl refl refl refl refl refl)
         (λ p read of. absurd (none-some p read)) ⨾
     record {
       old = process.Node (node_self 0 v5);
       runs = refl;
-      does = node_answers 0 v5 v5 (codes "keep") [] TellKept (saying (KeptIs (codes "K1|1|1|1|0|0|0\n0\n"))) None _ refl refl refl refl refl refl refl;
+      does = node_answers 0 v5 v5 (codes "keep") [] TellKept
+          (saying (KeptIs (codes "K1|1|1|1|0|0|0\n0\n"))) None _ refl refl refl refl refl refl refl;
     } ⨾
     record {
       begins = record {
@@ -270,18 +291,21 @@ learns_cut =
       log = refl;
     } ⨾
     node_may _ 0 (wake v5.kept) (wake v5.kept) (codes "export 0") [] _ refl
-        (node_answers 0 (wake v5.kept) (wake v5.kept) (codes "export 0") [] (ExportPeriod 0) (saying (HasExported exported)) None _ refl refl refl refl refl refl refl)
+        (node_answers 0 (wake v5.kept) (wake v5.kept) (codes "export 0") [] (ExportPeriod 0)
+            (saying (HasExported exported)) None _ refl refl refl refl refl refl refl)
         (λ p read of. absurd (none-some p read))
     ⨾ tt
 
 -- ---- all of it
 
-pub host_more : (m : Machines) (hosts more : List HostAct) → IsHostHistory one m hosts → IsHostHistory one (all_done one m hosts) more → IsHostHistory one m (hosts ++ more)
+pub host_more : (m : Machines) (hosts more : List HostAct) → IsHostHistory one m hosts → IsHostHistory one (all_done one m hosts) more
+    → IsHostHistory one m (hosts ++ more)
 host_more m [] more first rest = rest
 host_more m (h ∷ hosts) more first rest = (first.0, host_more (done one m h) hosts more first.1 rest)
 
 is_history : IsHostHistory one (begun_machines one) (closes ++ (carries ++ learns))
-is_history = host_more (begun_machines one) closes (carries ++ learns) closes_month (host_more (all_done one (begun_machines one) closes) carries learns carries_batch learns_cut)
+is_history = host_more (begun_machines one) closes (carries ++ learns) closes_month
+    (host_more (all_done one (begun_machines one) closes) carries learns carries_batch learns_cut)
 
 so_it_comes_to_a_history : ComeToHistory one (closes ++ (carries ++ learns))
 so_it_comes_to_a_history = come_to_history one (closes ++ (carries ++ learns)) is_history

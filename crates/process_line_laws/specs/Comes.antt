@@ -1,17 +1,18 @@
 -- What a history of hosts comes to, in the words of process_laws; and what files it shows.
-use Rattle.std.specs.Prelude.{◌≡◌, ◌⊎◌, ℕ, ◌+◌, ◌<◌, ◌≤◌, List, [], ◌∷◌, ◌++◌, length, map, Option, Some, None, Ok, slice_get, codes}
+use Rattle.std.specs.Prelude.{◌≡◌, ◌⊎◌, ℕ, ◌+◌, ◌<◌, ◌≤◌, List, [], ◌∷◌, ◌++◌, length, map, All, Option, Some, None, Ok, slice_get, codes}
 use Rattle.std.specs.Option.{option_map}
 use Rattle.metering_model.specs.Cut.{last_of}
 use Rattle.metering_model.specs.Dates.{IsPeriod}
-use Rattle.metering_model.specs.Holding.{Holding}
+use Rattle.metering_model.specs.Holding.{Holding, up_to}
 use Rattle.metering_model.specs.KeptText.{KeptAmong}
 use Rattle.metering_model.specs.Transcript.{with_number}
 use Rattle.metering_model.specs.World.{Kept, Snapshot}
+use Rattle.group_laws.specs.OneAgent.{batches_of}
 use Rattle.process_laws.specs.LocalSteps.{Group, NodeCommand, TellKept, AgentCommand, TellJournal, Answer, Foreign, HasExported}
 use Rattle.process_laws.specs.Histories.{Processes, Act, NodeDoes, NodeGoesOn, AgentDoes, AgentGoesOn, IsHistory, after, answers, begun}
-use Rattle.packet_text.specs.PacketText.{packet_text}
+use Rattle.packet_text.specs.PacketText.{HasPacketText, packet_text}
 use Rattle.log_text.specs.LogText.{AgentOf, NodeOf, Who, log_in, most_log_bytes}
-use Rattle.group_process.specs.Selves.{kept_of_agent, kept_of_node}
+use Rattle.group_process.specs.Selves.{AgentSelf, kept_of_agent, kept_of_node}
 use Rattle.process_text.specs.declared.processes.Process.{Process}
 use Rattle.process_text.specs.declared.processes.Process.TheVariants as process
 use Rattle.process_text.specs.Answers.{process_refusal_text, refused_text, words_text}
@@ -25,7 +26,8 @@ use Rattle.process_line_laws.specs.Hosts.{Asks, GoesOn, HostAct, Machine, Machin
 -- The act of that process which the lines ask for. Of one that goes on it is left open here with what: it is what is kept.
 abbrev pub IsActOf : HostAct → Act → Type 0
 IsActOf (Asks (NodeOf i) asked next said) a = (c : NodeCommand) × (node_request asked.first asked.below ≡ AsksNode c) × (a ≡ NodeDoes i c)
-IsActOf (Asks (AgentOf i) asked next said) a = (c : AgentCommand) × (agent_request asked.first asked.below ≡ AsksAgent c) × (a ≡ AgentDoes i c)
+IsActOf (Asks (AgentOf i) asked next said) a = (c : AgentCommand) × (agent_request asked.first asked.below ≡ AsksAgent c) ×
+    (a ≡ AgentDoes i c)
 IsActOf (GoesOn (NodeOf i) text first) a = (stored : Kept) × (a ≡ NodeGoesOn i stored)
 IsActOf (GoesOn (AgentOf i) text first) a = (stored : Holding) × (a ≡ AgentGoesOn i stored)
 IsActOf (Shortens (NodeOf i) next said) a = a ≡ NodeDoes i TellKept
@@ -36,7 +38,8 @@ abbrev pub AsksNothing : HostAct → Type 0
 AsksNothing (Asks (NodeOf i) asked next said) =
     ((node_request asked.first asked.below ≡ NoPacket) × (said ≡ refused_text (process_refusal_text Foreign)))
     ⊎ ((node_request asked.first asked.below ≡ NoNodeCommand) × (said ≡ refused_text (codes "L6")))
-AsksNothing (Asks (AgentOf i) asked next said) = (agent_request asked.first asked.below ≡ NoAgentCommand) × (said ≡ refused_text (codes "L6"))
+AsksNothing (Asks (AgentOf i) asked next said) = (agent_request asked.first asked.below ≡ NoAgentCommand) ×
+    (said ≡ refused_text (codes "L6"))
 AsksNothing (GoesOn w text first) = ⊥
 AsksNothing (Shortens w next said) = ⊥
 
@@ -66,13 +69,15 @@ abbrev pub kept_by : Process → KeptAmong
 kept_by (process.Node n) = kept_of_node n
 kept_by (process.Agent a) = kept_of_agent a
 
--- Each process that was begun is what they have come to, its log is read as what it keeps, unless it has got too long, and the texts that were told to
--- be sent are those of the packets that were sent.
+-- Each process that was begun is what they have come to, its log is read as what it keeps, unless it has got too long, and the texts that
+-- were told to
+-- be sent are those of the packets that were sent, which can be read back.
 pub record StandFor (g : Group) (m : Machines) (s : Processes) : Type 0 where
   pub running : (w : Who) (p : Process) → (m.machine w).runs ≡ Some p → process_there g s w ≡ Some p
   pub logs : (w : Who) (p : Process) → (m.machine w).runs ≡ Some p → length (m.machine w).log ≤ most_log_bytes
       → log_in (m.machine w).log ≡ Ok (record { head = head_of g w; kept = kept_by p })
   pub sent : m.sent ≡ map (packet_text g.name) s.sent
+  pub texts : (w : Who) (p : Process) → (m.machine w).runs ≡ Some p → All (HasPacketText g.name) s.sent
 
 -- the acts to which those of the hosts come
 pub record ComeToHistory (g : Group) (hosts : List HostAct) : Type 0 where
@@ -94,7 +99,8 @@ pub record IsMadeOf (period : ℕ) (last : List ℕ) (s : Snapshot) : Type 0 whe
   pub bytes : last ≡ words_text (HasExported s)
   pub same : s.period ≡ period
 
--- What two files are made of: no batch is in both unless they are of one period, and a period's begins where that of the one before it ends.
+-- What two files are made of: no batch is in both unless they are of one period, and a period's begins where that of the one before it
+-- ends.
 pub record AreMadeOf (period other : ℕ) (one two : List ℕ) : Type 0 where
   pub s : Snapshot
   pub t : Snapshot
@@ -103,3 +109,11 @@ pub record AreMadeOf (period other : ℕ) (one two : List ℕ) : Type 0 where
   pub once : (agent seq : ℕ) → last_of s.from agent < seq → seq ≤ last_of s.to agent → last_of t.from agent < seq → seq ≤ last_of t.to agent
       → period ≡ other
   pub follows : period + 1 ≡ other → t.from ≡ s.to
+
+-- Of each agent whose process was begun a file is made of just the batches of the journal that this process has come to, up to the period's
+-- cut.
+pub record IsOfJournals (m : Machines) (period : ℕ) (last : List ℕ) : Type 0 where
+  pub s : Snapshot
+  pub made_of : IsMadeOf period last s
+  pub batches : (agent : ℕ) (a : AgentSelf) → (m.machine (AgentOf agent)).runs ≡ Some (process.Agent a)
+      → batches_of agent s.batches ≡ up_to s.to a.journal

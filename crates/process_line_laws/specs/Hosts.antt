@@ -1,4 +1,5 @@
--- What the hosts of all processes of a group do, in lines: they begin processes, ask them, and read what these answer. So the premises are here that a
+-- What the hosts of all processes of a group do, in lines: they begin processes, ask them, and read what these answer. So the premises are
+-- here that a
 -- host has to keep, each told of texts that it has in hand.
 use Rattle.std.specs.Prelude.{◌≡◌, ℕ, ◌==◌, Bool, true, false, if◌then◌else◌, List, [], ◌∷◌, ◌++◌, length, drop, Option, Some, None, codes}
 use Rattle.std.specs.List.{Contains}
@@ -22,7 +23,8 @@ pub record Machine : Type 0 where
   pub runs : Option Process
   pub log : List ℕ
 
--- Of each node and each agent there is one machine, and so one process at a time. Of all of them together: each text that an answer told to send.
+-- Of each node and each agent there is one machine, and so one process at a time. Of all of them together: each text that an answer told to
+-- send.
 pub record Machines : Type 0 where
   pub machine : Who → Machine
   pub sent : List (List ℕ)
@@ -38,8 +40,10 @@ begun_machines g = record { machine = λ w. record { runs = None; log = head_tex
 -- ---- what happens
 
 pub data HostAct : Type 0 where
-  -- The process is asked that, says this, and is another then. So it is here once the host has read the answer's lines for the log, to the last of
-  -- them, and has stored them; where there are none, once anything of the answer has left the process, and else it may be left out. What it says may
+  -- The process is asked that, says this, and is another then. So it is here once the host has read the answer's lines for the log, to the
+  -- last of
+  -- them, and has stored them; where there are none, once anything of the answer has left the process, and else it may be left out. What it
+  -- says may
   -- never have left, behind those lines, and the process may have stopped.
   Asks : Who → Asked → (next : Process) → (said : List ℕ) → HostAct
   -- a process is begun with that text, the first one or the next, whenever the one before was stopped
@@ -66,7 +70,8 @@ with_machine w new machine other = if is_who other w then new else machine other
 abbrev pub short_log : LogHead → (last : List ℕ) → List ℕ
 short_log h last = head_text h ++ codes "kept " ++ drop (length (codes "kept lines ")) last
 
--- What is told to be kept is appended to the log, and not the line above it that counts the lines. What is told to be sent counts as sent from here on,
+-- What is told to be kept is appended to the log, and not the line above it that counts the lines. What is told to be sent counts as sent
+-- from here on,
 -- also where it is lost on its way.
 abbrev pub done : Group → Machines → HostAct → Machines
 done g m (Asks w asked next said) = record {
@@ -84,7 +89,8 @@ all_done g m (h ∷ hs) = all_done g (done g m h) hs
 
 -- ---- which acts may be done
 
--- A text that reads as a packet of this group, by its name and its numbers, is one that an answer told to send. Any other may come from anywhere.
+-- A text that reads as a packet of this group, by its name and its numbers, is one that an answer told to send. Any other may come from
+-- anywhere.
 abbrev pub WasSent : Group → (sent : List (List ℕ)) → (text : List ℕ) → Type 0
 WasSent g sent text = (p : GroupPacket) → packet_in text ≡ Some p → is_of_group g p.group p.packet ≡ true → Contains sent text
 
@@ -136,7 +142,8 @@ MayDo g m (Asks w asked next said) = MayAsk g m w asked next said
 MayDo g m (GoesOn w text first) = MayGoOn g m w text first
 MayDo g m (Shortens w next said) = MayShorten m w next said
 
--- Each act may be done where it stands. Machines have no common order: it is any that keeps each one's own, and in which a packet is told to be sent
+-- Each act may be done where it stands. Machines have no common order: it is any that keeps each one's own, and in which a packet is told
+-- to be sent
 -- before it is handed on; once, often or never, to any node, in any order.
 abbrev pub IsHostHistory : Group → Machines → List HostAct → Type 0
 IsHostHistory g m [] = Unit {0}

@@ -57,7 +57,8 @@ abbrev pub with_lines : Place → List ℕ → Told → Told
 with_lines ToLog lines t = record t { kept = lines ++ t.kept }
 with_lines ToNodes lines t = record t { sent = lines ∷ t.sent }
 
--- As long as a line counts lines below it, these are its section; the next line is the last, with all below it. There are no more sections than lines.
+-- As long as a line counts lines below it, these are its section; the next line is the last, with all below it. There are no more sections
+-- than lines.
 abbrev pub told_by : (most : ℕ) → List (List ℕ) → (rest : List ℕ) → Told
 told_by zero ls rest = just (text_of_lines ls ++ rest)
 told_by (suc m) [] rest = just rest

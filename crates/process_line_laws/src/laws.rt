@@ -13,8 +13,8 @@ ghost use Rattle.group_process.specs.Selves.{AgentSelf, NodeSelf};
 ghost use Rattle.process_text.specs.declared.processes.Process.{Process};
 ghost use Rattle.process_text.specs.Answers.{TellsAgent, TellsNode, answer_text, begun_text, lines_of_packet, refused_text};
 ghost use Rattle.process_line_laws.specs.Told.{CanBeCounted, FirstTold, MayBeAdded, MayBeSent, first_told, just, meant, told_in};
-ghost use Rattle.process_line_laws.specs.Hosts.{HostAct, IsHostHistory, begun_machines, said_by};
-ghost use Rattle.process_line_laws.specs.Comes.{AreMadeOf, ComeToHistory, IsFileOf};
+ghost use Rattle.process_line_laws.specs.Hosts.{HostAct, IsHostHistory, all_done, begun_machines, said_by};
+ghost use Rattle.process_line_laws.specs.Comes.{AreMadeOf, ComeToHistory, IsFileOf, IsOfJournals};
 
 /// A host that reads an answer finds just what is meant: for the log the increment's text, or nothing; the text of the packet
 /// that is sent, or none; and the last line with what stands below it, which it does not look into. So it is of what nodes
@@ -62,8 +62,9 @@ pub fn lines_come_to_a_history()
         ComeToHistory g hosts }
 {}
 
-/// So any two answers in lines that begin as a file of one period are the same bytes, of whichever processes and whenever;
-/// and of any two files, what they are made of has no batch in common but where they are of one period.
+/// So any two answers in lines that begin as a file of one period are the same bytes, of whichever processes and whenever.
+/// What two files are made of has no batch in common but where they are of one period, and a period's begins where that of
+/// the one before ends; and of each agent a file has just what that agent's process has journaled, up to the period's cut.
 pub fn files_in_lines_agree()
     ensures bytes { (g : Group) (hosts : List HostAct) → IsHostHistory g (begun_machines g) hosts →
         (h k : HostAct) → Contains hosts h → Contains hosts k → (period : ℕ)
@@ -74,4 +75,9 @@ pub fn files_in_lines_agree()
         (h k : HostAct) → Contains hosts h → Contains hosts k → (period other : ℕ)
         → IsFileOf period (told_in (said_by h)).last → IsFileOf other (told_in (said_by k)).last →
         AreMadeOf period other (told_in (said_by h)).last (told_in (said_by k)).last }
+    ensures journals { (g : Group) (hosts : List HostAct)
+        → IsHostHistory g (begun_machines g) hosts →
+        (h : HostAct) → Contains hosts h → (period : ℕ)
+        → IsFileOf period (told_in (said_by h)).last →
+        IsOfJournals (all_done g (begun_machines g) hosts) period (told_in (said_by h)).last }
 {}
