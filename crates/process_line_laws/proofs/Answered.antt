@@ -1,8 +1,8 @@
 -- What a process that stands for one of a history answers to a command: an act of it is next, and the host reads just its answer.
-use Rattle.std.proofs.Common.{◌≡◌, ◌⊎◌, ℕ, List, [], ◌∷◌, ◌++◌, Option, Some, None, refl, sym, ap, subst, ◌∙◌, append-nil}
+use Rattle.std.proofs.Common.{◌≡◌, ◌⊎◌, ℕ, List, [], ◌∷◌, ◌++◌, Option, Some, sym, ap, subst, ◌∙◌, append-nil}
 use Rattle.metering_model.specs.KeptText.{kept_text}
 use Rattle.process_laws.specs.LocalSteps.{Answer, Group, KeptIs, saying}
-use Rattle.process_laws.specs.Histories.{Processes, Act, acted, after, begun}
+use Rattle.process_laws.specs.Histories.{Act, acted, after, begun}
 use Rattle.log_text.specs.LogText.{Increment, IsLogHead, Who}
 use Rattle.process_text.specs.declared.processes.Process.{Process}
 use Rattle.process_text.specs.Answers.{refused_text, words_text}
@@ -39,8 +39,10 @@ pub record HasAnswered (g : Group) (m : Machines) (acts : List Act) (w : Who) (n
   pub is : (acted g (after g (begun g) acts) act).answer ≡ answer
   pub keeps : KeepsBy (head_of g w) ((m.machine w).log ++ text_added added) (kept_by next)
   pub stands : (log : List ℕ) → KeepsBy (head_of g w) log (kept_by next)
-      → Stands g (record { machine = with_machine w (record { runs = Some next; log = log }) m.machine;
-          sent = m.sent ++ texts_sent g.name answer.sends }) (acts ++ act ∷ [])
+      → Stands g (record {
+        machine = with_machine w (record { runs = Some next; log = log }) m.machine;
+        sent = m.sent ++ texts_sent g.name answer.sends;
+      }) (acts ++ act ∷ [])
 
 module _ (g : Group) (m : Machines) (acts : List Act) (w : Who) (next : Process) (said : List ℕ) (act : Act)
     (has : HasAnswered g m acts w next said act) where
@@ -57,8 +59,10 @@ module _ (g : Group) (m : Machines) (acts : List Act) (w : Who) (next : Process)
     is = is;
     says = says_just;
     stands = subst (λ (t : Told). Stands g
-        (record { machine = with_machine w (record { runs = Some next; log = (m.machine w).log ++ t.kept }) m.machine;
-        sent = m.sent ++ t.sent }) (acts ++ act ∷ []))
+        (record {
+          machine = with_machine w (record { runs = Some next; log = (m.machine w).log ++ t.kept }) m.machine;
+          sent = m.sent ++ t.sent;
+        }) (acts ++ act ∷ []))
         (sym has.read) (has.stands ((m.machine w).log ++ text_added has.added) has.keeps);
   }
 
@@ -71,12 +75,14 @@ module _ (g : Group) (m : Machines) (acts : List Act) (w : Who) (next : Process)
     says = says_just;
     stands =
         let last : (told_in said).last ≡ words_text (KeptIs (kept_text (kept_by next))) = ap (λ t. t.last) has.read
-            ∙ ap (λ (x : Answer). words_text x.words) told in
+        ∙ ap (λ (x : Answer). words_text x.words) told in
         let none : m.sent ++ texts_sent g.name has.answer.sends ≡ m.sent = ap (λ (x : Answer). m.sent ++ texts_sent g.name x.sends) told
-            ∙ append-nil m.sent in
+        ∙ append-nil m.sent in
         subst (λ ts. Stands g
-            (record { machine = with_machine w (record { runs = Some next; log = short_log (head_of g w) (told_in said).last }) m.machine;
-            sent = ts }) (acts ++ act ∷ []))
+        (record {
+          machine = with_machine w (record { runs = Some next; log = short_log (head_of g w) (told_in said).last }) m.machine;
+          sent = ts;
+        }) (acts ++ act ∷ []))
         none
         (has.stands (short_log (head_of g w) (told_in said).last)
         (subst (λ t. KeepsBy (head_of g w) (short_log (head_of g w) t) (kept_by next)) (sym last) (keeps_shorter has.keeps head)));
@@ -92,15 +98,17 @@ module _ (g : Group) (m : Machines) (acts : List Act) (stands : Stands g m acts)
     nothing = nothing;
     stands =
         let read : told_in said ≡ just (refused_text why) = ap told_in refused
-            ∙ so_told (refused_text why) (just (refused_text why)) (refused_read why) in
+        ∙ so_told (refused_text why) (just (refused_text why)) (refused_read why) in
         let log = (m.machine w).log in
         let keeps : KeepsBy (head_of g w) (log ++ []) (kept_by p) =
-            subst (λ t. KeepsBy (head_of g w) t (kept_by p)) (sym (append-nil log)) ((stands.stand.each w).keeps p there) in
+        subst (λ t. KeepsBy (head_of g w) t (kept_by p)) (sym (append-nil log)) ((stands.stand.each w).keeps p there) in
         subst (λ (t : Told). Stands g
-            (record { machine = with_machine w (record { runs = Some next; log = log ++ t.kept }) m.machine;
-            sent = m.sent ++ t.sent }) acts) (sym read)
+        (record {
+          machine = with_machine w (record { runs = Some next; log = log ++ t.kept }) m.machine;
+          sent = m.sent ++ t.sent;
+        }) acts) (sym read)
         (subst (λ q. Stands g
-            (record { machine = with_machine w (record { runs = Some q; log = log ++ [] }) m.machine; sent = m.sent ++ [] }) acts)
-            (sym same)
+        (record { machine = with_machine w (record { runs = Some q; log = log ++ [] }) m.machine; sent = m.sent ++ [] }) acts)
+        (sym same)
         (stands_still g m acts stands w p (log ++ []) head keeps there (m.sent ++ []) (append-nil m.sent)));
   }

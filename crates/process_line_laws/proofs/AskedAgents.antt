@@ -1,22 +1,21 @@
 -- An agent that is asked in lines does an act of the history, or none.
-use Rattle.std.proofs.Common.{◌≡◌, ◌⊎◌, ℕ, ◌≤◌, Bool, true, false, List, [], ◌∷◌, ◌++◌, length, Option, Some, None, codes, refl, sym, ap, ap₂, subst, ◌∙◌, inl, inr, leb-true}
-use Rattle.std.specs.Prelude.{◌==◌, nat_le}
+use Rattle.std.proofs.Common.{◌≡◌, ℕ, ◌≤◌, false, List, [], ◌∷◌, ◌++◌, length, Some, codes, refl, sym, ap, ap₂, subst, ◌∙◌, inl, inr, leb-true}
+use Rattle.std.specs.Prelude.{nat_le}
 use Rattle.std.proofs.lemmas.Bool.{and_parts}
 use Rattle.metering_model.specs.Holding.{Holding}
-use Rattle.metering_model.specs.KeptText.{KeptAmong, kept_text}
+use Rattle.metering_model.specs.KeptText.{kept_text}
 use Rattle.process_laws.specs.LocalSteps as model
 use Rattle.process_laws.specs.LocalSteps.{AgentCommand, AgentDone, Answer, Group, KeptIs, TellJournal, agent_does, saying}
 use Rattle.process_laws.specs.Histories as laws
 use Rattle.process_laws.specs.Histories.{Processes, Act, Acted, AgentDoes, acted, after, begun, with_agent_done}
-use Rattle.log_text.specs.LogText.{AgentOf, Increment, IsLogHead, NodeOf, Who}
-use Rattle.group_process.specs.Added.{AddsJust}
+use Rattle.log_text.specs.LogText.{AgentOf, IsLogHead, NodeOf, Who}
 use Rattle.group_process.specs.Selves.{AgentSelf, kept_of_agent}
 use Rattle.process_text.specs.declared.processes.Process.{Process}
 use Rattle.process_text.specs.declared.processes.Process.TheVariants as process
 use Rattle.process_text.specs.Answers.{Answers, AnswersAgent, TellsAgent}
 use Rattle.process_text.specs.Requests.{AgentRequest, AsksAgent, NoAgentCommand, agent_request}
 use Rattle.process_player.specs.Runs.{Asked}
-use Rattle.process_line_laws.specs.Told.{meant, text_added, texts_sent, told_in}
+use Rattle.process_line_laws.specs.Told.{texts_sent}
 use Rattle.process_line_laws.specs.Hosts.{Asks, Machines, Shortens, head_of, is_who, with_machine}
 use Rattle.process_line_laws.specs.Comes.{kept_by, process_there}
 use Rattle.process_line_laws.proofs.Answered.{ComesOf, HasAnswered, asked_comes, nothing_comes, shortened_comes}
@@ -51,8 +50,10 @@ module _ (g : Group) (m : Machines) (acts : List Act) (stands : Stands g m acts)
   -- the machines with an act of the agent, whatever its log has become
   pub agent_stands : (act : Act) (d : AgentDone) (log : List ℕ) → acted g s act ≡ with_agent_done a d s → laws.MayAct g s act
       → KeepsBy (head_of g (AgentOf a)) log (kept_by (as_process d.journal))
-      → Stands g (record { machine = with_machine (AgentOf a) (record { runs = Some (as_process d.journal); log = log }) m.machine;
-          sent = m.sent ++ texts_sent g.name d.answer.sends }) (acts ++ act ∷ [])
+      → Stands g (record {
+        machine = with_machine (AgentOf a) (record { runs = Some (as_process d.journal); log = log }) m.machine;
+        sent = m.sent ++ texts_sent g.name d.answer.sends;
+      }) (acts ++ act ∷ [])
   agent_stands act d log is may keeps =
       stands_with g m acts stands (AgentOf a) (as_process d.journal) log head keeps act d.answer.sends may
       (subst (λ (x : Acted). Moves g s x.after (AgentOf a) (as_process d.journal)) (sym is) (agent_moved d))
@@ -76,16 +77,18 @@ module _ (g : Group) (m : Machines) (acts : List Act) (stands : Stands g m acts)
       added = tells.added;
       read = agent_meant c self new said tells
           (answer_written g acts (AgentDoes a c) (AgentOf a) stands.history agent_among head tells.answer.sends
-              (ap (λ (x : Acted). x.after.sent) whole));
+          (ap (λ (x : Acted). x.after.sent) whole));
       is = ap (λ (x : Acted). x.answer) whole;
       keeps = keeps_more agent_keeps (kept_of_agent new) tells.added tells.adds;
       stands = λ log keeps.
           subst (λ x. Stands g
-              (record { machine = with_machine (AgentOf a) (record { runs = Some (process.Agent x); log = log }) m.machine;
-              sent = m.sent ++ texts_sent g.name tells.answer.sends }) (acts ++ AgentDoes a c ∷ []))
+          (record {
+            machine = with_machine (AgentOf a) (record { runs = Some (process.Agent x); log = log }) m.machine;
+            sent = m.sent ++ texts_sent g.name tells.answer.sends;
+          }) (acts ++ AgentDoes a c ∷ []))
           (sym new_is)
           (agent_stands (AgentDoes a c) d log whole agent_among
-              (subst (λ x. KeepsBy (head_of g (AgentOf a)) log (kept_of_agent x)) new_is keeps));
+          (subst (λ x. KeepsBy (head_of g (AgentOf a)) log (kept_of_agent x)) new_is keeps));
     }
 
   -- ---- it is asked
@@ -99,10 +102,10 @@ module _ (g : Group) (m : Machines) (acts : List Act) (stands : Stands g m acts)
           → ComesOf g m acts (Asks (AgentOf a) asked (process.Agent new) said) said
       by_request (AsksAgent c) is tells =
           inl (asked_comes g m acts (AgentOf a) (process.Agent new) said (AgentDoes a c) (agent_answered c new said tells) asked
-              (c, is, refl))
+          (c, is, refl))
       by_request NoAgentCommand is none =
           inr (nothing_comes g m acts stands (AgentOf a) head (as_process (s.journals a)) refl asked (process.Agent new) said (codes "L6")
-              (ap process.Agent none.0) none.1 (is, none.1))
+          (ap process.Agent none.0) none.1 (is, none.1))
 
   pub agent_shortens : (next : Process) (said : List ℕ) → Answers (process.Agent self) (codes "keep") [] next said
       → ComesOf g m acts (Shortens (AgentOf a) next said) said
@@ -110,10 +113,10 @@ module _ (g : Group) (m : Machines) (acts : List Act) (stands : Stands g m acts)
   agent_shortens (process.Node x) said answers = absurd answers
   agent_shortens (process.Agent new) said answers =
       let told : record { answer = saying (KeptIs (kept_text (kept_of_agent self))); journal = s.journals a }
-          ≡ record { answer = answers.answer; journal = new.journal } = answers.does.does in
+      ≡ record { answer = answers.answer; journal = new.journal } = answers.does.does in
       let same : kept_of_agent self ≡ kept_of_agent new =
       ap₂ (λ (x : Group) (j : Holding). model.kept_among x (model.journal_kept j)) (sym answers.does.group)
-          (ap (λ (e : AgentDone). e.journal) told) in
+      (ap (λ (e : AgentDone). e.journal) told) in
       inl (shortened_comes g m acts (AgentOf a) (process.Agent new) said (AgentDoes a TellJournal)
-          (agent_answered TellJournal new said answers) head refl
+      (agent_answered TellJournal new said answers) head refl
       (ap (λ (e : AgentDone). e.answer) (sym told) ∙ ap (λ k. saying (KeptIs (kept_text k))) same))

@@ -1,11 +1,11 @@
 -- A node that is asked in lines does an act of the history, or none.
-use Rattle.std.proofs.Common.{◌≡◌, ◌⊎◌, ℕ, ◌<◌, Bool, true, false, List, [], ◌∷◌, ◌++◌, length, map, All, Option, Some, None, codes, refl, sym, ap, ap₂, subst, ◌∙◌, arith, inl, inr}
-use Rattle.std.specs.Prelude.{◌==◌, if◌then◌else◌, slice_get, slice_set}
+use Rattle.std.proofs.Common.{◌≡◌, ℕ, Bool, true, false, List, [], ◌∷◌, ◌++◌, length, map, Option, Some, None, codes, refl, sym, ap, ap₂, subst, ◌∙◌, inl, inr}
+use Rattle.std.specs.Prelude.{if◌then◌else◌, slice_get}
 use Rattle.std.specs.List.{Contains}
 use Rattle.std.specs.Option.{option_map}
 use Rattle.std.proofs.lemmas.List.Elements.{All-contains, All-contains_itself, All-map, All-weaker}
-use Rattle.std.proofs.lemmas.Option.{none-some, same_Some, slice_get_within}
-use Rattle.metering_model.specs.KeptText.{KeptAmong, kept_text}
+use Rattle.std.proofs.lemmas.Option.{same_Some, slice_get_within}
+use Rattle.metering_model.specs.KeptText.{kept_text}
 use Rattle.metering_model.specs.World.{Node, Packet}
 use Rattle.group_laws.proofs.Steps.{length-slice_set}
 use Rattle.process_laws.specs.LocalSteps as model
@@ -13,22 +13,20 @@ use Rattle.process_laws.specs.LocalSteps.{Answer, Group, NodeCommand, TakePacket
 use Rattle.process_laws.specs.Histories as laws
 use Rattle.process_laws.specs.Histories.{Processes, Act, Acted, NodeDoes, acted, after, begun, by_node, with_node_done}
 use Rattle.process_laws.proofs.NodeSteps.{get_set}
-use Rattle.packet_text.specs.PacketText.{GroupPacket, HasPacketText, packet_in, packet_text}
+use Rattle.packet_text.specs.PacketText.{GroupPacket, packet_in, packet_text}
 use Rattle.packet_text.proofs.PacketLaws.{packet_written}
 use Rattle.input_sections.specs.Sections.{number_behind}
-use Rattle.log_text.specs.LogText.{AgentOf, Increment, IsLogHead, NodeOf, Who}
-use Rattle.group_process.specs.Added.{AddsJust}
+use Rattle.log_text.specs.LogText.{AgentOf, IsLogHead, NodeOf, Who}
 use Rattle.group_process.specs.Selves.{NodeSelf, kept_of_node}
 use Rattle.process_text.specs.declared.processes.Process.{Process}
 use Rattle.process_text.specs.declared.processes.Process.TheVariants as process
 use Rattle.process_text.specs.Answers.{Answers, AnswersNode, TellsNode, process_refusal_text}
 use Rattle.process_text.specs.Requests.{AsksNode, NoNodeCommand, NoPacket, NodeRequest, export_request, give_request, line_request, most_packet_lines, node_request, packet_request, period_behind, place_behind}
-use Rattle.process_text.specs.Requests as requests
 use Rattle.process_player.specs.Runs.{Asked}
-use Rattle.process_line_laws.specs.Told.{MayBeAdded, MayBeSent, meant, text_added, texts_sent, told_in}
-use Rattle.process_line_laws.specs.Hosts.{Asks, Machines, Shortens, WasSent, done, head_of, is_who, keep, with_machine}
-use Rattle.process_line_laws.specs.Comes.{IsActOf, kept_by, process_there}
-use Rattle.process_line_laws.proofs.Answered.{ComesOf, HasAnswered, NoAct, OneAct, asked_comes, nothing_comes, shortened_comes}
+use Rattle.process_line_laws.specs.Told.{texts_sent}
+use Rattle.process_line_laws.specs.Hosts.{Asks, Machines, Shortens, WasSent, head_of, is_who, with_machine}
+use Rattle.process_line_laws.specs.Comes.{kept_by, process_there}
+use Rattle.process_line_laws.proofs.Answered.{ComesOf, HasAnswered, asked_comes, nothing_comes, shortened_comes}
 use Rattle.process_line_laws.proofs.Effects.{node_acted, node_stays}
 use Rattle.process_line_laws.proofs.Logs.{KeepsBy, keeps_more}
 use Rattle.process_line_laws.proofs.ReadAnswers.{node_meant}
@@ -47,7 +45,7 @@ export_is_no_packet give None name p is = give_is_no_packet give name p is
 
 line_is_no_packet : (start keeping : Bool) (give : Option (ℕ × ℕ)) (o : Option ℕ) (name : List ℕ) (p : Packet)
     → (if start then AsksNode BeginBallot else (if keeping then AsksNode TellKept else export_request (give_request give) o)) ≡ AsksNode
-        (TakePacket name p) → ⊥
+    (TakePacket name p) → ⊥
 line_is_no_packet true keeping give o name p is = cc
 line_is_no_packet false true give o name p is = cc
 line_is_no_packet false false give o name p is = export_is_no_packet give o name p is
@@ -78,7 +76,7 @@ text_sent name sent text has =
     let IsOneOf : List ℕ → Type 0 = λ t. (q : Packet) × Contains sent q × (packet_text name q ≡ t) in
     All-contains IsOneOf (map (packet_text name) sent) text
     (All-map IsOneOf (packet_text name) sent
-        (All-weaker (Contains sent) (λ q. IsOneOf (packet_text name q)) (λ q there. (q, there, refl)) sent (All-contains_itself sent))) has
+    (All-weaker (Contains sent) (λ q. IsOneOf (packet_text name q)) (λ q there. (q, there, refl)) sent (All-contains_itself sent))) has
 
 -- ---- a node among the processes
 
@@ -109,8 +107,10 @@ module _ (g : Group) (m : Machines) (acts : List Act) (stands : Stands g m acts)
   -- the machines with an act of the node, whatever its log has become
   pub node_stands : (a : Act) (d : NodeDone) (log : List ℕ) → acted g s a ≡ with_node_done i d s → laws.MayAct g s a
       → KeepsBy (head_of g (NodeOf i)) log (kept_by (as_process d.node))
-      → Stands g (record { machine = with_machine (NodeOf i) (record { runs = Some (as_process d.node); log = log }) m.machine;
-          sent = m.sent ++ texts_sent g.name d.answer.sends }) (acts ++ a ∷ [])
+      → Stands g (record {
+        machine = with_machine (NodeOf i) (record { runs = Some (as_process d.node); log = log }) m.machine;
+        sent = m.sent ++ texts_sent g.name d.answer.sends;
+      }) (acts ++ a ∷ [])
   node_stands a d log is may keeps =
       stands_with g m acts stands (NodeOf i) (as_process d.node) log head keeps a d.answer.sends may
       (subst (λ (x : Acted). Moves g s x.after (NodeOf i) (as_process d.node)) (sym is) (node_moved d))
@@ -123,7 +123,7 @@ module _ (g : Group) (m : Machines) (acts : List Act) (stands : Stands g m acts)
   was_sent (TakePacket name p) asked request handed = λ of.
       let read = packet_below asked.first asked.below name p request in
       let one = text_sent g.name s.sent asked.below
-          (subst (λ ts. Contains ts asked.below) stands.stand.sent (handed (record { group = name; packet = p }) read of)) in
+      (subst (λ ts. Contains ts asked.below) stands.stand.sent (handed (record { group = name; packet = p }) read of)) in
       let again = sym (ap packet_in one.2) ∙ packet_written g.name one.0 (sent_written g acts (NodeOf i) stands.history head one.0 one.1) in
       let same = same_Some _ _ (sym again ∙ read) in
       subst (Contains s.sent) (ap (λ (r : GroupPacket). r.packet) same) one.1
@@ -152,13 +152,15 @@ module _ (g : Group) (m : Machines) (acts : List Act) (stands : Stands g m acts)
       added = tells.added;
       read = node_meant c self new said tells
           (answer_written g acts (NodeDoes i c) (NodeOf i) stands.history may head tells.answer.sends
-              (ap (λ (x : Acted). x.after.sent) whole));
+          (ap (λ (x : Acted). x.after.sent) whole));
       is = ap (λ (x : Acted). x.answer) whole;
       keeps = keeps_more node_keeps (kept_of_node new) tells.added tells.adds;
       stands = λ log keeps.
           subst (λ x. Stands g
-              (record { machine = with_machine (NodeOf i) (record { runs = Some (process.Node x); log = log }) m.machine;
-              sent = m.sent ++ texts_sent g.name tells.answer.sends }) (acts ++ NodeDoes i c ∷ []))
+          (record {
+            machine = with_machine (NodeOf i) (record { runs = Some (process.Node x); log = log }) m.machine;
+            sent = m.sent ++ texts_sent g.name tells.answer.sends;
+          }) (acts ++ NodeDoes i c ∷ []))
           (sym new_is)
           (node_stands (NodeDoes i c) d log whole may (subst (λ x. KeepsBy (head_of g (NodeOf i)) log (kept_of_node x)) new_is keeps));
     }
@@ -175,13 +177,13 @@ module _ (g : Group) (m : Machines) (acts : List Act) (stands : Stands g m acts)
           → ComesOf g m acts (Asks (NodeOf i) asked (process.Node new) said) said
       by_request (AsksNode c) is tells =
           inl (asked_comes g m acts (NodeOf i) (process.Node new) said (NodeDoes i c)
-              (node_answered c new said tells (was_sent c asked is handed)) asked (c, is, refl))
+          (node_answered c new said tells (was_sent c asked is handed)) asked (c, is, refl))
       by_request NoPacket is none =
           inr (nothing_comes g m acts stands (NodeOf i) head (as_process n) node_there asked (process.Node new) said
-              (process_refusal_text model.Foreign) (ap process.Node none.0) none.1 (inl (is, none.1)))
+          (process_refusal_text model.Foreign) (ap process.Node none.0) none.1 (inl (is, none.1)))
       by_request NoNodeCommand is none =
           inr (nothing_comes g m acts stands (NodeOf i) head (as_process n) node_there asked (process.Node new) said (codes "L6")
-              (ap process.Node none.0) none.1 (inr (is, none.1)))
+          (ap process.Node none.0) none.1 (inr (is, none.1)))
 
   pub node_shortens : (next : Process) (said : List ℕ) → Answers (process.Node self) (codes "keep") [] next said
       → ComesOf g m acts (Shortens (NodeOf i) next said) said
@@ -189,9 +191,9 @@ module _ (g : Group) (m : Machines) (acts : List Act) (stands : Stands g m acts)
   node_shortens (process.Agent x) said answers = absurd answers
   node_shortens (process.Node new) said answers =
       let told : record { answer = saying (KeptIs (kept_text (kept_of_node self))); node = n }
-          ≡ record { answer = answers.answer; node = new.node } = answers.does.does in
+      ≡ record { answer = answers.answer; node = new.node } = answers.does.does in
       let same : kept_of_node self ≡ kept_of_node new =
       ap₂ (λ (a : Group) (x : Node). model.kept_among a x.kept) (sym answers.does.group) (ap (λ (e : NodeDone). e.node) told) in
       inl (shortened_comes g m acts (NodeOf i) (process.Node new) said (NodeDoes i TellKept)
-          (node_answered TellKept new said answers tt) head refl
+      (node_answered TellKept new said answers tt) head refl
       (ap (λ (e : NodeDone). e.answer) (sym told) ∙ ap (λ k. saying (KeptIs (kept_text k))) same))

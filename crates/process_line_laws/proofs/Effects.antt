@@ -1,15 +1,13 @@
 -- What an act makes of the one process that does it, and that it leaves all others as they were.
-use Rattle.std.proofs.Common.{◌≡◌, ◌⊎◌, ℕ, ◌<◌, ◌≤◌, Bool, true, false, List, [], ◌∷◌, ◌++◌, length, Option, Some, None, refl, sym, ap, subst, ◌∙◌, arith, inl, inr, eqb-true}
-use Rattle.std.specs.Prelude.{◌==◌, if◌then◌else◌, slice_get, slice_set}
+use Rattle.std.proofs.Common.{◌≡◌, ℕ, Bool, false, List, [], ◌∷◌, ◌++◌, Option, Some, None, refl, sym, ap, ◌∙◌}
+use Rattle.std.specs.Prelude.{◌==◌, if◌then◌else◌, slice_get}
 use Rattle.std.proofs.lemmas.Bool.{eq-eqb, true≢false}
-use Rattle.std.proofs.lemmas.Option.{none-some, same_Some, slice_get_within}
+use Rattle.std.proofs.lemmas.Option.{none-some, same_Some}
 use Rattle.metering_model.specs.World.{Node}
-use Rattle.group_laws.proofs.Steps.{length-slice_set}
 use Rattle.group_laws.proofs.WithoutObservers.{set_other}
 use Rattle.process_laws.specs.LocalSteps.{Group, NodeDone, AgentDone, OfModel, refusing}
 use Rattle.process_laws.specs.Histories.{Processes, Act, Acted, IsHistory, MayAct, acted, after, by_node, with_agent_done, with_node_done}
 use Rattle.process_laws.proofs.MatchedActs.{after_more}
-use Rattle.process_laws.proofs.NodeSteps.{get_set}
 use Rattle.metering_model.specs.declared.Refusal.TheVariants.{NoNode}
 
 -- ---- one act more, behind a history

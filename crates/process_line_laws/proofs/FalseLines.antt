@@ -1,5 +1,5 @@
 -- What goes wrong where a host hands on a packet that nobody sent: two files of one month that differ. All else is as it should be.
-use Rattle.std.proofs.Common.{◌≡◌, ℕ, ◌≤◌, List, [], ◌∷◌, ◌++◌, length, Option, Some, None, refl, ap, arith, codes, All}
+use Rattle.std.proofs.Common.{◌≡◌, ℕ, ◌≤◌, List, [], ◌∷◌, ◌++◌, Some, None, refl, ap, arith, codes}
 use Rattle.std.specs.Prelude.{slice_index}
 use Rattle.std.specs.Fmt.{digits}
 use Rattle.std.proofs.lemmas.List.Elements.{All-nil, All-cons}
@@ -13,17 +13,15 @@ use Rattle.metering_model.specs.World.{Decided, Node, Snapshot}
 use Rattle.metering_model.proofs.Samples.{issuer_1, row_1, sheet_0}
 use Rattle.process_laws.specs.LocalSteps.{ExportPeriod, HasExported, HasTaken, saying}
 use Rattle.process_laws.proofs.EachAct.{◌⨾◌}
-use Rattle.packet_text.specs.PacketText.{packet_in}
 use Rattle.log_text.specs.LogText.{Learns, NodeOf}
 use Rattle.process_text.specs.declared.processes.Process.{Process}
 use Rattle.process_text.specs.declared.processes.Process.TheVariants as process
 use Rattle.process_player.specs.Runs.{Asked, Does}
-use Rattle.process_line_laws.specs.Told.{told_in}
-use Rattle.process_line_laws.specs.Hosts.{HostAct, IsHostHistory, Machines, WasSent, begun_machines, done, said_by}
+use Rattle.process_line_laws.specs.Hosts.{HostAct, IsHostHistory, Machines, begun_machines, done, said_by}
 use Rattle.process_line_laws.specs.Comes.{IsFileOf}
 use Rattle.process_line_laws.proofs.Files.{bytes_agree}
 use Rattle.process_line_laws.proofs.WorkedGroup.{asked_node, node_answers, node_may, node_self, one}
-use Rattle.process_line_laws.proofs.WorkedLines.{b, carried, carries, carries_batch, closes, closes_month, empty_file, o1, takes, with_command}
+use Rattle.process_line_laws.proofs.WorkedLines.{b, carried, carries, closes, empty_file, o1, takes, with_command}
 
 abbrev pub high : List ℕ
 high = 1 ∷ []
@@ -72,9 +70,9 @@ exports_it_so : IsHostHistory one (done one carried takes_it) (exports_it ∷ []
 unfolding days_from_civil day_count days_of_years days_of_months worth_of decimals_of digits
 exports_it_so =
     node_may _ 1 o2 o2 (codes "export 0") [] _ refl
-        (node_answers 1 o2 o2 (codes "export 0") [] (ExportPeriod 0)
-            (saying (HasExported exported)) None _ refl refl refl refl refl refl refl)
-        (λ p read of. absurd (none-some p read)) ⨾ tt
+    (node_answers 1 o2 o2 (codes "export 0") [] (ExportPeriod 0)
+    (saying (HasExported exported)) None _ refl refl refl refl refl refl refl)
+    (λ p read of. absurd (none-some p read)) ⨾ tt
 
 -- ---- two files
 
@@ -98,4 +96,4 @@ so_a_made_up_packet_makes_no_history : IsHostHistory one (begun_machines one) al
 so_a_made_up_packet_makes_no_history history =
     their_bytes_differ
     (bytes_agree one all history (asked_node 0 (codes "export 0") [] _ empty_file) exports_it (6, omega arith, refl)
-        (12, omega arith, refl) 0 (of_month _ refl) (of_month_too _ refl))
+    (12, omega arith, refl) 0 (of_month _ refl) (of_month_too _ refl))

@@ -1,5 +1,5 @@
 -- What begins as a file of a period is the file of a snapshot that the history exports; so two of one period are one.
-use Rattle.std.proofs.Common.{◌≡◌, ◌⊎◌, ℕ, ◌+◌, ◌<◌, ◌^◌, Bool, true, false, not, List, [], ◌∷◌, ◌++◌, length, drop, Option, Some, None, Result, Ok, Err, codes, decimal, refl, sym, ap, subst, ◌∙◌, arith, inl, inr, append_assoc}
+use Rattle.std.proofs.Common.{◌≡◌, ◌⊎◌, ℕ, ◌+◌, Bool, true, false, not, List, [], ◌∷◌, ◌++◌, drop, Option, Some, None, Result, Ok, Err, codes, decimal, refl, sym, ap, subst, ◌∙◌, arith, inl, inr, append_assoc}
 use Rattle.std.specs.Prelude.{◌==◌, if◌then◌else◌, slice_get}
 use Rattle.std.specs.List.{Contains}
 use Rattle.std.proofs.lemmas.Bool.{and_parts}
@@ -7,7 +7,7 @@ use Rattle.std.proofs.lemmas.List.Elements.{Contains-append_cases, Contains-appe
 use Rattle.metering_model.specs.Batch.{Batch, lacks}
 use Rattle.metering_model.specs.Holding.{Holding, held, put, up_to}
 use Rattle.metering_model.specs.Dates.{IsPeriod}
-use Rattle.metering_model.specs.Transcript.{file_of, if_any, line, line_count, with_number}
+use Rattle.metering_model.specs.Transcript.{file_of, line_count, with_number}
 use Rattle.metering_model.specs.World.{CarriesBatch, Node, Offer, Packet, Prepare, Snapshot, current_period}
 use Rattle.metering_model.specs.Deliveries.{handled}
 use Rattle.metering_model.specs.Step.{started_node}
@@ -16,7 +16,7 @@ use Rattle.metering_model.specs.declared.Refusal.{Refusal}
 use Rattle.metering_model.proofs.Decimals.{decimal_is_one, decimal_lacks_blank}
 use Rattle.process_laws.specs.LocalSteps as model
 use Rattle.process_laws.specs.LocalSteps.{Answer, Group, NodeCommand, TakePacket, BeginBallot, ExportPeriod, TellKept, SendBatch, AgentCommand, JournalBatch, SendAgain, TellJournal, NodeDone, Words, HasTaken, HasBegun, HasJournaled, HasExported, KeptIs, HasSent, NodeWentOn, AgentWentOn, RefusedFor, OfModel, refusing, saying}
-use Rattle.process_laws.specs.Histories.{Act, Acted, AgentDoes, AgentGoesOn, NodeDoes, NodeGoesOn, Processes, IsHistory, acted, after, answers, begun, by_node, with_node_done}
+use Rattle.process_laws.specs.Histories.{Act, Acted, AgentDoes, AgentGoesOn, NodeDoes, NodeGoesOn, Processes, acted, after, answers, begun, by_node, with_node_done}
 use Rattle.process_laws.proofs.AgreedExports.{batches_are_journaled, each_batch_once, files_are_the_same, next_begins_there}
 use Rattle.log_text.specs.LogText.{AgentOf, NodeOf}
 use Rattle.group_process.specs.Selves.{AgentSelf}
@@ -82,7 +82,7 @@ period_told s period rest low is =
     ap (λ t. t ++ file_of s) (append_assoc mine lines (10 ∷ [])) ∙ append_assoc mine (lines ++ 10 ∷ []) (file_of s) in
     decimal_is_one s.period period (omega (arith, low))
     (sym (up_to_space mine _ (decimal_lacks_blank s.period))
-        ∙ ap before_space (sym one ∙ behind ∙ append_assoc yours (codes " lines ") rest) ∙ up_to_space yours _ (decimal_lacks_blank period))
+    ∙ ap before_space (sym one ∙ behind ∙ append_assoc yours (codes " lines ") rest) ∙ up_to_space yours _ (decimal_lacks_blank period))
 
 -- ---- an answer that exports does no more
 
@@ -113,8 +113,10 @@ module _ (s : Snapshot) where
   beginning_alone g i n = by_ballot (model.next_ballot g i n)
     where
       by_ballot : (r : Result ℕ Refusal) → IsAlone (elim r as (λ _. NodeDone) [
-        | Ok ballot ↦ record { answer = record { words = HasBegun ballot; sends = Some (Prepare (current_period n) ballot) };
-            node = started_node g.voters ballot n }
+        | Ok ballot ↦ record {
+          answer = record { words = HasBegun ballot; sends = Some (Prepare (current_period n) ballot) };
+          node = started_node g.voters ballot n;
+        }
         | Err why ↦ model.unmoved (refusing (OfModel why)) n
       ]).answer
       by_ballot (Ok ballot) is = absurd (cc)
@@ -217,8 +219,11 @@ said_exports name said x xs period alone says file =
 
 exported_later : (x : Answer) (xs : List Answer) (period : ℕ) (last : List ℕ) → IsExported xs period last → IsExported (x ∷ xs) period last
 exported_later x xs period last it =
-    record { snapshot = it.snapshot; has = Contains-append_right (x ∷ []) xs (saying (HasExported it.snapshot)) it.has;
-    made_of = it.made_of }
+    record {
+      snapshot = it.snapshot;
+      has = Contains-append_right (x ∷ []) xs (saying (HasExported it.snapshot)) it.has;
+      made_of = it.made_of;
+    }
 
 module _ (g : Group) (h : HostAct) (period : ℕ) (file : IsFileOf period (told_in (said_by h)).last) where
   abbrev Exports : List Answer → Type 0
@@ -273,10 +278,10 @@ module _ (g : Group) (hosts : List HostAct) (history : IsHostHistory g (begun_ma
         second = t.made_of;
         once = λ agent seq above below over under.
             sym s.made_of.same ∙ each_batch_once g it.acts it.is_history s.snapshot t.snapshot s.has t.has agent seq above below over under
-                ∙ t.made_of.same;
+            ∙ t.made_of.same;
         follows = λ next.
             next_begins_there g it.acts it.is_history s.snapshot t.snapshot s.has t.has
-                (ap (λ p. p + 1) s.made_of.same ∙ next ∙ sym t.made_of.same);
+            (ap (λ p. p + 1) s.made_of.same ∙ next ∙ sym t.made_of.same);
       }
 
 -- ---- of one file
@@ -292,7 +297,7 @@ of_journals g hosts history h has period file =
       made_of = s.made_of;
       batches = λ agent a runs.
           let same : (after g (begun g) it.acts).journals agent ≡ a.journal =
-              its_journal _ a (it.stand.running (AgentOf agent) (process.Agent a) runs) in
+          its_journal _ a (it.stand.running (AgentOf agent) (process.Agent a) runs) in
           batches_are_journaled g it.acts it.is_history s.snapshot s.has agent ∙ ap (up_to s.snapshot.to) same;
     }
   where

@@ -1,5 +1,5 @@
 -- The first answer of a text ends where its last line says, whatever stands behind it.
-use Rattle.std.proofs.Common.{◌≡◌, ℕ, zero, suc, ◌+◌, ◌≤◌, ◌^◌, true, List, [], ◌∷◌, ◌++◌, length, map, take, drop, Option, Some, None, codes, decimal}
+use Rattle.std.proofs.Common.{◌≡◌, ℕ, zero, suc, ◌≤◌, true, List, [], ◌∷◌, ◌++◌, length, map, take, drop, Option, Some, None, codes, decimal}
 use Rattle.std.proofs.Common.{refl, sym, ap, ap₂, ◌∙◌, subst, arith, append-nil, append_assoc, length-append}
 use Rattle.std.specs.Prelude.{◌==◌, not, unwrap_or}
 use Rattle.std.specs.List.{flat_map, join_with_byte, list_all}
@@ -7,7 +7,7 @@ use Rattle.std.proofs.Math.Seq.{take-append_seam, drop-append_seam}
 use Rattle.std.proofs.lemmas.Bool.{and_from}
 use Rattle.metering_model.specs.Batch.{lacks}
 use Rattle.metering_model.specs.BatchReading.{Lines, lines_in, lines_of_parts, whole_in}
-use Rattle.metering_model.specs.File.{fields_of_row, file, header_line, quoted, row_text}
+use Rattle.metering_model.specs.File.{fields_of_row, header_line, quoted, row_text}
 use Rattle.metering_model.specs.KeptText.{HasText, KeptAmong, kept_text, text_of_lines}
 use Rattle.metering_model.specs.Row.{Row}
 use Rattle.metering_model.specs.Rows.{rows}
@@ -31,7 +31,7 @@ use Rattle.log_text.proofs.IncrementLaws.{increment_lacks_feed, increment_lines_
 use Rattle.log_text.proofs.LogLaws.{lines_above}
 use Rattle.log_text.proofs.WrittenLines.{feeds_end_lines}
 use Rattle.process_text.specs.Answers.{added_text, answer_text, lines_of_packet, packet_sent_text, process_refusal_text, sent_text, words_text}
-use Rattle.process_line_laws.specs.Told.{CanBeCounted, FirstTold, MayBeAdded, MayBeSent, Place, ToLog, ToNodes, Section, Told, behind_space, first_by, first_told, in_place, just, lines_under, meant, section_said, texts_sent, with_lines}
+use Rattle.process_line_laws.specs.Told.{CanBeCounted, FirstTold, MayBeAdded, MayBeSent, Place, ToLog, ToNodes, Section, Told, first_by, first_told, in_place, just, lines_under, meant, section_said, texts_sent, with_lines}
 use Rattle.process_line_laws.proofs.ReadAnswers.{increment_said, lines_of_sent, past_space, send_lacks_feed, send_words, sent_is_lines, sent_lacks_feed, packet_said}
 
 -- the text is first, and told so, with that behind it
@@ -58,13 +58,13 @@ last_first : (l : List ℕ) (body : List (List ℕ)) (behind : List ℕ) → lac
     → IsFirst (text_of_lines (l ∷ body)) behind (just (text_of_lines (l ∷ body)))
 last_first l body behind whole all none count m enough =
     let above : lines_in (text_of_lines (l ∷ body) ++ behind)
-        ≡ record { lines = (l ∷ body) ++ (lines_in behind).lines; rest = (lines_in behind).rest } =
+    ≡ record { lines = (l ∷ body) ++ (lines_in behind).lines; rest = (lines_in behind).rest } =
     lines_above (l ∷ body) behind (and_from _ _ whole all) in
     ap (λ (x : Lines). first_by m x.lines x.rest) above ∙ by_most m (subst (λ (x : Lines). length x.lines ≤ m) above enough)
   where
     by_most : (m : ℕ) → length ((l ∷ body) ++ (lines_in behind).lines) ≤ m
         → first_by m ((l ∷ body) ++ (lines_in behind).lines) (lines_in behind).rest
-            ≡ record { told = just (text_of_lines (l ∷ body)); behind = behind }
+        ≡ record { told = just (text_of_lines (l ∷ body)); behind = behind }
     by_most zero enough = absurd (omega (arith, enough))
     by_most (suc m) enough =
         let more = (lines_in behind).lines in
@@ -86,9 +86,9 @@ text_below : (x text behind : List ℕ) → lacks 10 x ≡ true → section_said
 text_below x text behind whole none count ends =
     let body = (lines_in text).lines in
     let same : text_of_lines body ≡ text = sym (append-nil (text_of_lines body)) ∙ ap (λ r. text_of_lines body ++ r) (sym ends)
-        ∙ lines_give_back text in
+    ∙ lines_give_back text in
     subst (λ t. IsFirst (line x ++ t) behind (just (line x ++ t))) same
-        (last_first x body behind whole (lines_lack text) none (count ∙ feeds_end_lines text))
+    (last_first x body behind whole (lines_lack text) none (count ∙ feeds_end_lines text))
 
 -- ---- each line has no line feed
 
@@ -130,7 +130,7 @@ why_lacks_feed NoAgent = refl
 why_lacks_feed Observer = refl
 why_lacks_feed (BadKept fault) =
     both_lack (kept_code_text fault.code) (with_number (codes " line ") fault.line) (kept_code_lacks_feed fault.code)
-        (decimal_lacks_feed fault.line)
+    (decimal_lacks_feed fault.line)
 why_lacks_feed NotKept = refl
 
 process_why_lacks_feed : (why : ProcessRefusal) → lacks 10 (process_refusal_text why) ≡ true
@@ -189,7 +189,7 @@ words_first : (w : Words) (behind : List ℕ) → CanBeCounted w → IsFirst (wo
 unfolding exported_line
 words_first (HasTaken learned) behind can =
     one_line (codes "delivered" ++ if_any (codes " learned ") learned) behind
-        (both_lack (codes "delivered") (if_any (codes " learned ") learned) refl (learned_lacks_feed learned)) refl refl
+    (both_lack (codes "delivered") (if_any (codes " learned ") learned) refl (learned_lacks_feed learned)) refl refl
 words_first (HasBegun ballot) behind can =
     one_line (with_number (codes "started ballot ") ballot) behind (decimal_lacks_feed ballot) refl refl
 words_first (HasJournaled seq) behind can = one_line (with_number (codes "journaled seq ") seq) behind (decimal_lacks_feed seq) refl refl
@@ -197,16 +197,16 @@ words_first (HasExported s) behind can =
     let n = line_count (file_of s) in
     text_below (exported_line s.period n) (file_of s) behind
     (both_lack (with_number (codes "exported period ") s.period) (with_number (codes " lines ") n) (decimal_lacks_feed s.period)
-        (decimal_lacks_feed n)) refl
+    (decimal_lacks_feed n)) refl
     (file_counted s.period n can) (file_ends s)
 words_first (KeptIs text) behind can =
     text_below (with_number (codes "kept lines ") (line_count text)) text behind (decimal_lacks_feed (line_count text)) refl
-        (kept_counted (line_count text) can.0) can.1
+    (kept_counted (line_count text) can.0) can.1
 words_first HasSent behind can = one_line (codes "sent") behind refl refl refl
 words_first (NodeWentOn period round) behind can =
     one_line (with_number (codes "begun period ") period ++ with_number (codes " round ") round) behind
     (both_lack (with_number (codes "begun period ") period) (with_number (codes " round ") round) (decimal_lacks_feed period)
-        (decimal_lacks_feed round)) refl refl
+    (decimal_lacks_feed round)) refl refl
 words_first (AgentWentOn seq) behind can = one_line (with_number (codes "begun seq ") seq) behind (decimal_lacks_feed seq) refl refl
 words_first (RefusedFor why) behind can =
     one_line (codes "refused " ++ process_refusal_text why) behind (process_why_lacks_feed why) refl refl
@@ -223,13 +223,13 @@ counted_first : (l : List ℕ) (body : List (List ℕ)) (place : Place) (text be
 counted_first l body place text behind t whole all said later m enough =
     let below = text ++ behind in
     let above : lines_in ((text_of_lines (l ∷ body) ++ text) ++ behind)
-        ≡ record { lines = (l ∷ body) ++ (lines_in below).lines; rest = (lines_in below).rest } =
+    ≡ record { lines = (l ∷ body) ++ (lines_in below).lines; rest = (lines_in below).rest } =
     ap lines_in (append_assoc (text_of_lines (l ∷ body)) text behind) ∙ lines_above (l ∷ body) below (and_from _ _ whole all) in
     ap (λ (x : Lines). first_by m x.lines x.rest) above ∙ by_most m (subst (λ (x : Lines). length x.lines ≤ m) above enough)
   where
     by_most : (m : ℕ) → length ((l ∷ body) ++ (lines_in (text ++ behind)).lines) ≤ m
         → first_by m ((l ∷ body) ++ (lines_in (text ++ behind)).lines) (lines_in (text ++ behind)).rest
-            ≡ record { told = with_lines place (text_of_lines body) t; behind = behind }
+        ≡ record { told = with_lines place (text_of_lines body) t; behind = behind }
     by_most zero enough = absurd (omega (arith, enough))
     by_most (suc m) enough =
         let more = (lines_in (text ++ behind)).lines in
@@ -237,7 +237,7 @@ counted_first l body place text behind t whole all said later m enough =
         let size = length-append body more in
         ap (by_section l (body ++ more) rest m) said
         ∙ ap₂ (λ taken left. with_first place (text_of_lines taken) (first_by m left rest)) (take-append_seam body more)
-            (drop-append_seam body more)
+        (drop-append_seam body more)
         ∙ ap (with_first place (text_of_lines body)) (later m (omega (arith, enough, size)))
 
 increment_first : (agents : ℕ) (i : Increment) (text behind : List ℕ) (t : Told) → HasIncrementText agents i → IsFirst text behind t
@@ -246,7 +246,7 @@ increment_first agents i text behind t has later =
     let n = lines_of_increment i in
     subst (λ u. IsFirst ((ended (section (codes "kept ") n) ++ u) ++ text) behind (with_lines ToLog u t)) (increment_lines_are_text i)
     (counted_first (section (codes "kept ") n) (lines_of i) ToLog text behind t (section_lacks_feed (codes "kept ") n refl)
-        (increment_lacks_feed agents i has) (increment_said agents i has) later)
+    (increment_lacks_feed agents i has) (increment_said agents i has) later)
 
 packet_first : (name : List ℕ) (to : Option ℕ) (p : Packet) (text behind : List ℕ) (t : Told) → HasPacketText name p → IsFirst text behind t
     → IsFirst (packet_sent_text name to p ++ text) behind (with_lines ToNodes (packet_text name p) t)
@@ -254,7 +254,7 @@ packet_first name to p text behind t has later =
     let n = lines_of_packet p in
     subst (λ u. IsFirst ((ended (section (send_words to) n) ++ u) ++ text) behind (with_lines ToNodes u t)) (sent_is_lines name p)
     (counted_first (section (send_words to) n) (lines_of_sent name p) ToNodes text behind t (send_lacks_feed to n)
-        (sent_lacks_feed name p has) (packet_said name to p has) later)
+    (sent_lacks_feed name p has) (packet_said name to p has) later)
 
 -- ---- the whole
 
@@ -279,8 +279,10 @@ answer_first name to agents (Some i) a behind may sent can =
     ap (λ t. first_told (t ++ behind)) (append_assoc above below (words_text a.words))
     ∙ so_first (above ++ (below ++ words_text a.words)) behind _
     (increment_first agents i (below ++ words_text a.words) behind _ may (sends_first name to a.sends a.words behind sent can))
-    ∙ ap (λ t. let x : FirstTold = record { told = record { kept = t; sent = texts_sent name a.sends; last = words_text a.words };
-        behind = behind } in x) (append-nil (increment_text i))
+    ∙ ap (λ t. let x : FirstTold = record {
+      told = record { kept = t; sent = texts_sent name a.sends; last = words_text a.words };
+      behind = behind;
+    } in x) (append-nil (increment_text i))
 
 pub kept_is_whole : (k : KeptAmong) → HasText k → (lines_in (kept_text k)).rest ≡ []
 kept_is_whole k has = ap (λ (x : Lines). x.rest) (lines_of_kept_text k (writable_of k has))

@@ -21,7 +21,7 @@ pub first_begins : (word t l : List ℕ) (ls : List (List ℕ)) → lacks 10 wor
 first_begins [] t l ls whole is = (l, refl)
 first_begins (c ∷ word) t l ls whole is =
     by_parts (slice_split (λ x. x == 10) (word ++ t))
-        (λ p ps e. first_begins word t p ps (and_parts (not (c == 10)) (lacks 10 word) whole).1 e)
+    (λ p ps e. first_begins word t p ps (and_parts (not (c == 10)) (lacks 10 word) whole).1 e)
     (ap (λ x. x.lines) (sym (before_first c (word ++ t) (and_parts (not (c == 10)) (lacks 10 word) whole).0)) ∙ is)
   where
     by_parts : (ps : List (List ℕ))

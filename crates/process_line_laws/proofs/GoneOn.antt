@@ -1,25 +1,20 @@
 -- A process that is begun with the log that is stored goes on with what is kept.
-use Rattle.std.proofs.Common.{◌≡◌, ◌⊎◌, ℕ, ◌+◌, ◌<◌, ◌≤◌, true, List, [], ◌∷◌, ◌++◌, length, Option, Some, None, Result, Ok, Err, refl, sym, ap, ap₂, subst, ◌∙◌, arith, append-nil, inl}
-use Rattle.std.specs.Prelude.{slice_get, nat_le}
+use Rattle.std.proofs.Common.{◌≡◌, ℕ, ◌+◌, ◌≤◌, true, List, [], ◌∷◌, ◌++◌, length, Some, None, Result, Ok, Err, refl, sym, ap, ap₂, subst, ◌∙◌, arith, append-nil, inl}
+use Rattle.std.specs.Prelude.{slice_get}
 use Rattle.std.specs.List.{list_all}
 use Rattle.std.proofs.lemmas.Bool.{and_from, and_parts, ltb-true}
-use Rattle.metering_model.specs.FirstFailure.{◌>>=◌}
 use Rattle.metering_model.specs.Batch.{lacks}
 use Rattle.metering_model.specs.BatchReading.{Lines, fields_in, is_same, lines_in}
-use Rattle.metering_model.specs.Holding.{Holding}
-use Rattle.metering_model.specs.JournalRules.{next_seq}
 use Rattle.metering_model.specs.KeptText.{KeptAmong}
 use Rattle.metering_model.specs.Sheet.{Sheet, Issuer}
 use Rattle.metering_model.specs.Transcript.{line}
-use Rattle.metering_model.specs.World.{Kept, Node, wake}
+use Rattle.metering_model.specs.World.{Node, wake}
 use Rattle.metering_model.proofs.Splitting.{lines_of_text}
 use Rattle.metering_model.proofs.StepLaws.{ok_same, step_ok, test_step}
 use Rattle.group_laws.proofs.WithoutObservers.{some_at}
 use Rattle.byte_text.proofs.PastLines.{lines_lack}
-use Rattle.process_laws.specs.LocalSteps as model
-use Rattle.process_laws.specs.LocalSteps.{AgentDone, AgentWentOn, Answer, Group, NodeDone, NodeWentOn, agent_goes_on, kept_among, journal_kept, node_goes_on, saying}
-use Rattle.process_laws.specs.Histories as laws
-use Rattle.process_laws.specs.Histories.{Act, Acted, AgentGoesOn, NodeGoesOn, Processes, acted, after, begun, with_agent_done, with_node_done}
+use Rattle.process_laws.specs.LocalSteps.{AgentDone, Answer, Group, NodeDone, agent_goes_on, node_goes_on}
+use Rattle.process_laws.specs.Histories.{Act, Acted, AgentGoesOn, NodeGoesOn, Processes, acted, after, begun, with_node_done}
 use Rattle.input_sections.specs.declared.faults.ScheduleFault.TheVariants.{Refused}
 use Rattle.input_sections.specs.declared.faults.ScheduleFault.{ScheduleFault}
 use Rattle.input_sections.specs.declared.faults.ScheduleCode.{ScheduleCode}
@@ -36,17 +31,17 @@ use Rattle.process_player.specs.Starts as starts
 use Rattle.process_player.specs.Starts.{Begins, HasLog, HasNone, IsStored, Preamble, group_of, head_of, is_kind_of, kind_word, own_of, preamble_in}
 use Rattle.process_player.proofs.PreambleLaws.{log_limits, preamble_log}
 use Rattle.group_process.specs.Selves.{AgentSelf, NodeSelf}
-use Rattle.process_line_laws.specs.Told.{just, texts_sent, told_in}
+use Rattle.process_line_laws.specs.Told.{just, texts_sent}
 use Rattle.process_line_laws.specs.Hosts as hosts
 use Rattle.process_line_laws.specs.Hosts.{GoesOn, IsThatLog, Machines, MayGoOn, done, kind_of, with_machine}
-use Rattle.process_line_laws.specs.Comes.{SaysJust, kept_by, process_there}
+use Rattle.process_line_laws.specs.Comes.{SaysJust}
 use Rattle.process_line_laws.proofs.Answered.{ComesOf, OneAct}
 use Rattle.process_line_laws.proofs.AskedAgents.{agent_among, agent_keeps, agent_stands}
 use Rattle.process_line_laws.proofs.AskedNodes.{node_keeps, node_stands}
 use Rattle.process_line_laws.proofs.Effects.{node_acted}
-use Rattle.process_line_laws.proofs.Logs.{KeepsBy, read_is_kept}
+use Rattle.process_line_laws.proofs.Logs.{read_is_kept}
 use Rattle.process_line_laws.proofs.ReadAnswers.{begun_read, so_told}
-use Rattle.process_line_laws.proofs.Stands.{OneStands, Stands}
+use Rattle.process_line_laws.proofs.Stands.{Stands}
 
 -- ---- the head line of an input
 
@@ -74,7 +69,7 @@ first_lacks c u r h = by_lines (lines_left u) (lines_lack (left u)) h
     by_lines [] all e = absurd (cc)
     by_lines (l ∷ ls) all e =
         subst (λ (x : List ℕ × Unread). lacks 10 x.0 ≡ true) (ok_same {E = ScheduleFault} _ r e)
-            (and_parts (lacks 10 l) (list_all (lacks 10) ls) all).0
+        (and_parts (lacks 10 l) (list_all (lacks 10) ls) all).0
 
 -- the head line by itself is read as what a new log is
 abbrev IsOwn : ReadLog → Type 0
@@ -169,11 +164,16 @@ module _ (g : Group) (m : Machines) (acts : List Act) (stands : Stands g m acts)
         says = says_begun (NodeOf i) text (process.Node (record { group = g; number = i; node = wake n.kept })) d.answer act
             (ap (λ (x : Acted). x.answer) whole) refl refl;
         stands = subst (λ ts. Stands g
-            (record { machine = with_machine (NodeOf i)
-            (record { runs = Some (process.Node (record { group = g; number = i; node = wake n.kept }));
-            log = (m.machine (NodeOf i)).log }) m.machine; sent = ts }) (acts ++ act ∷ [])) (append-nil m.sent)
+            (record {
+              machine = with_machine (NodeOf i)
+                  (record {
+                    runs = Some (process.Node (record { group = g; number = i; node = wake n.kept }));
+                    log = (m.machine (NodeOf i)).log;
+                  }) m.machine;
+              sent = ts;
+            }) (acts ++ act ∷ [])) (append-nil m.sent)
             (node_stands g m acts stands i n found head act d (m.machine (NodeOf i)).log whole (n, found, refl)
-                (node_keeps g m acts stands i n found head));
+            (node_keeps g m acts stands i n found head));
       }
 
   agent_goes : (a : ℕ) (text : List ℕ) → IsLogHead (hosts.head_of g (AgentOf a))
@@ -188,11 +188,16 @@ module _ (g : Group) (m : Machines) (acts : List Act) (stands : Stands g m acts)
         says = says_begun (AgentOf a) text
             (process.Agent (record { group = g; number = a; journal = s.journals a })) d.answer act refl refl refl;
         stands = subst (λ ts. Stands g
-            (record { machine = with_machine (AgentOf a)
-            (record { runs = Some (process.Agent (record { group = g; number = a; journal = s.journals a }));
-            log = (m.machine (AgentOf a)).log }) m.machine; sent = ts }) (acts ++ act ∷ [])) (append-nil m.sent)
+            (record {
+              machine = with_machine (AgentOf a)
+                  (record {
+                    runs = Some (process.Agent (record { group = g; number = a; journal = s.journals a }));
+                    log = (m.machine (AgentOf a)).log;
+                  }) m.machine;
+              sent = ts;
+            }) (acts ++ act ∷ [])) (append-nil m.sent)
             (agent_stands g m acts stands a head act d (m.machine (AgentOf a)).log refl (among.0, among.1, refl)
-                (agent_keeps g m acts stands a head));
+            (agent_keeps g m acts stands a head));
       }
 
   by_goes : (w : Who) (text : List ℕ) (first : Process) (kept : KeptAmong) → IsLogHead (hosts.head_of g w)
@@ -212,11 +217,11 @@ module _ (g : Group) (m : Machines) (acts : List Act) (stands : Stands g m acts)
       let same = read_is_kept (agent_keeps g m acts stands a head) head read in
       let is : process.Agent x ≡ process.Agent (record { group = g; number = a; journal = s.journals a }) =
       ap process.Agent (goes.0
-          ∙ ap (λ (k : KeptAmong). let y : AgentSelf = record { group = g; number = a; journal = k.kept.holding } in y) same) in
+      ∙ ap (λ (k : KeptAmong). let y : AgentSelf = record { group = g; number = a; journal = k.kept.holding } in y) same) in
       subst (IsOne (AgentOf a) text) (sym is) (agent_goes a text head)
 
   pub gone_on : (w : Who) (text : List ℕ) (first : Process) → MayGoOn g m w text first
       → ComesOf g m acts (GoesOn w text first) (begun_text first)
   gone_on w text first may =
       inl (by_goes w text first may.begins.kept (own_head g m w text first may) (stored_is_read g m w text first may)
-          (goes_on_so g m w text first may))
+      (goes_on_so g m w text first may))

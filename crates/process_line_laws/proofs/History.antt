@@ -1,5 +1,5 @@
 -- The acts of hosts come, one after another, to acts of a history.
-use Rattle.std.proofs.Common.{◌≡◌, ◌⊎◌, ℕ, ◌≤◌, List, [], ◌∷◌, ◌++◌, length, Option, Some, None, Ok, refl, sym, ap, subst, ◌∙◌, inl, inr, append_assoc, append-nil}
+use Rattle.std.proofs.Common.{◌≡◌, ℕ, List, [], ◌∷◌, ◌++◌, Option, Some, None, refl, sym, subst, inl, inr, append_assoc, append-nil}
 use Rattle.std.specs.Prelude.{slice_get}
 use Rattle.std.specs.Option.{option_map}
 use Rattle.std.specs.List.{Contains}
@@ -7,16 +7,16 @@ use Rattle.std.proofs.lemmas.List.Elements.{All-contains_itself, All-weaker}
 use Rattle.std.proofs.lemmas.Option.{none-some, same_Some}
 use Rattle.metering_model.specs.World.{Node}
 use Rattle.process_laws.specs.LocalSteps.{Answer, Group}
-use Rattle.process_laws.specs.Histories.{Act, IsHistory, Processes, acted, after, answers, begun}
+use Rattle.process_laws.specs.Histories.{Act, Processes, after, answers, begun}
 use Rattle.packet_text.specs.PacketText.{HasPacketText}
-use Rattle.log_text.specs.LogText.{AgentOf, IsLogHead, NodeOf, Who, log_in, most_log_bytes}
+use Rattle.log_text.specs.LogText.{AgentOf, NodeOf, Who}
 use Rattle.process_text.specs.declared.processes.Process.{Process}
 use Rattle.process_text.specs.declared.processes.Process.TheVariants as process
 use Rattle.process_text.specs.Answers.{Answers}
 use Rattle.process_player.specs.Runs.{Asked}
-use Rattle.process_line_laws.specs.Hosts.{Asks, GoesOn, HostAct, IsHanded, IsHostHistory, Machines, MayAsk, MayDo, MayGoOn, MayShorten, Shortens, WasSent, all_done, begun_machines, done, head_of, said_by}
-use Rattle.process_line_laws.specs.Comes.{AreTold, AsksNothing, ComeToHistory, IsActOf, SaysJust, StandFor, kept_by, process_there}
-use Rattle.process_line_laws.proofs.Answered.{ComesOf, NoAct, OneAct}
+use Rattle.process_line_laws.specs.Hosts.{Asks, GoesOn, HostAct, IsHanded, IsHostHistory, Machines, MayAsk, MayDo, MayShorten, Shortens, all_done, begun_machines, done, said_by}
+use Rattle.process_line_laws.specs.Comes.{AreTold, AsksNothing, ComeToHistory, StandFor}
+use Rattle.process_line_laws.proofs.Answered.{ComesOf}
 use Rattle.process_line_laws.proofs.AskedAgents.{agent_asked, agent_shortens}
 use Rattle.process_line_laws.proofs.AskedNodes.{node_asked, node_shortens}
 use Rattle.process_line_laws.proofs.Effects.{after_one}
@@ -43,11 +43,11 @@ module _ (g : Group) (m : Machines) (acts : List Act) (stands : Stands g m acts)
       let n = node_found g i (slice_get s.nodes i) may.old old.0 in
       node_asked g m acts stands i n.0 n.1 old.1 asked next said
       (subst (λ p. Answers p asked.first asked.below next said) (sym n.2) may.does.answers)
-          (subst (λ p. IsHanded g m.sent p asked) (sym n.2) may.handed)
+      (subst (λ p. IsHanded g m.sent p asked) (sym n.2) may.handed)
   asks_comes (AgentOf a) asked next said may =
       let old = (stands.stand.each (AgentOf a)).there may.old may.runs in
       agent_asked g m acts stands a old.1 asked next said
-          (subst (λ p. Answers p asked.first asked.below next said) (sym (same_Some _ may.old old.0)) may.does.answers)
+      (subst (λ p. Answers p asked.first asked.below next said) (sym (same_Some _ may.old old.0)) may.does.answers)
 
   shortens_comes : (w : Who) (next : Process) (said : List ℕ) → MayShorten m w next said → ComesOf g m acts (Shortens w next said) said
   shortens_comes (NodeOf i) next said may =
@@ -57,7 +57,7 @@ module _ (g : Group) (m : Machines) (acts : List Act) (stands : Stands g m acts)
   shortens_comes (AgentOf a) next said may =
       let old = (stands.stand.each (AgentOf a)).there may.old may.runs in
       agent_shortens g m acts stands a old.1 next said
-          (subst (λ p. Answers p _ _ next said) (sym (same_Some _ may.old old.0)) may.does.answers)
+      (subst (λ p. Answers p _ _ next said) (sym (same_Some _ may.old old.0)) may.does.answers)
 
   act_comes : (h : HostAct) → MayDo g m h → ComesOf g m acts h (said_by h)
   act_comes (Asks w asked next said) may = asks_comes w asked next said may
@@ -87,8 +87,11 @@ come_on g (h ∷ hs) m before stands history = elim (act_comes g m before stands
       let rest = come_on g hs (done g m h) (before ++ one.act ∷ []) one.stands history.1 in
       record {
         acts = one.act ∷ rest.acts;
-        told = inl (one.is, one.says,
-            subst (λ s. AreTold g.name hs rest.acts (answers g s rest.acts)) (after_one g (begun g) before one.act) rest.told);
+        told = inl (
+          one.is,
+          one.says,
+          subst (λ s. AreTold g.name hs rest.acts (answers g s rest.acts)) (after_one g (begun g) before one.act) rest.told,
+        );
         stands = subst (Stands g (all_done g (done g m h) hs)) (append_assoc before (one.act ∷ []) rest.acts) rest.stands;
       }
   | inr none ↦
@@ -110,7 +113,7 @@ stand_for g m acts stands =
       sent = all.sent;
       texts = λ w p is.
           All-weaker (Contains sent) (HasPacketText g.name)
-              (λ q has. sent_written g acts w stands.history ((all.each w).there p is).1 q has) sent
+          (λ q has. sent_written g acts w stands.history ((all.each w).there p is).1 q has) sent
           (All-contains_itself sent);
     }
 

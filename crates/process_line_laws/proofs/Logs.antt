@@ -1,6 +1,6 @@
 -- A log grows with what is kept, and is read as that; and what is kept may take the place of all that it says.
-use Rattle.std.proofs.Common.{◌≡◌, ℕ, ◌+◌, ◌≤◌, true, List, [], ◌∷◌, ◌++◌, length, drop, All, Option, Some, None, Ok, codes, decimal}
-use Rattle.std.proofs.Common.{refl, sym, ap, ap₂, ◌∙◌, subst, arith, append-nil, append_assoc}
+use Rattle.std.proofs.Common.{◌≡◌, ℕ, ◌≤◌, true, List, [], ◌∷◌, ◌++◌, length, Option, Some, None, Ok, codes, decimal}
+use Rattle.std.proofs.Common.{refl, sym, ap, ◌∙◌, subst, arith, append-nil, append_assoc}
 use Rattle.std.specs.List.{flat_map}
 use Rattle.std.proofs.lemmas.List.Concat.{flat_map-append}
 use Rattle.std.proofs.lemmas.List.Elements.{All-nil}
@@ -8,10 +8,8 @@ use Rattle.std.proofs.lemmas.Option.{same_Some, none-some}
 use Rattle.metering_model.specs.BatchReading.{lines_in}
 use Rattle.metering_model.specs.KeptText.{HasText, IsCutAmong, KeptAmong, kept_text}
 use Rattle.metering_model.specs.Transcript.{line_count}
-use Rattle.metering_model.specs.World.{Kept}
 use Rattle.metering_model.proofs.HoldingLaws.{IsHolding-nil}
 use Rattle.metering_model.proofs.StepLaws.{ok_same}
-use Rattle.metering_model.specs.Batch.{Batch}
 use Rattle.process_laws.specs.LocalSteps.{KeptIs}
 use Rattle.log_text.specs.LogText.{GoOn, HasIncrementText, HasLog, Increment, IsLogHead, LogHead, LogTextFault, ReadLog, among_with, base_text, goes_on, head_text, increment_text, kept_after, kept_at_first, log_in, log_text, most_log_bytes, nothing_kept, section_line}
 use Rattle.log_text.proofs.KeptFirst.{after_has_text}

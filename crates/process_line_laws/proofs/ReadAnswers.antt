@@ -1,17 +1,16 @@
 -- An answer is read as it is meant, from its last part up: what stands below a part does not change how the part is read.
-use Rattle.std.proofs.Common.{◌≡◌, ℕ, zero, suc, ◌+◌, ◌≤◌, ◌^◌, Bool, true, false, not, List, [], ◌∷◌, ◌++◌, length, take, drop, Option, Some, None, codes, decimal}
+use Rattle.std.proofs.Common.{◌≡◌, ℕ, zero, suc, ◌+◌, ◌≤◌, Bool, true, false, not, List, [], ◌∷◌, ◌++◌, length, take, drop, Option, Some, None, codes, decimal}
 use Rattle.std.proofs.Common.{refl, sym, ap, ap₂, ◌∙◌, subst, arith, append-nil, append_assoc, length-append}
 use Rattle.std.specs.Prelude.{◌==◌, if◌then◌else◌}
 use Rattle.std.specs.List.{list_all}
 use Rattle.std.specs.Option.{option_map}
 use Rattle.std.proofs.Math.Seq.{take-append_seam, drop-append_seam}
 use Rattle.std.proofs.lemmas.Bool.{and_parts, and_from}
-use Rattle.std.proofs.lemmas.List.{length-map}
-use Rattle.metering_model.specs.Batch.{Batch, IsWellFormed, lacks, line_of_fields}
+use Rattle.metering_model.specs.Batch.{Batch, IsWellFormed, lacks}
 use Rattle.metering_model.specs.BatchReading.{Lines, lines_in, whole_in}
 use Rattle.metering_model.specs.KeptText.{KeptAmong, text_of_lines}
 use Rattle.metering_model.specs.Transcript.{file_of, if_any, line_count, with_number}
-use Rattle.metering_model.specs.World.{Node, Packet, CarriesBatch, Prepare, Promise, Accept, Accepted, Decided}
+use Rattle.metering_model.specs.World.{Packet, CarriesBatch, Prepare, Promise, Accept, Accepted, Decided}
 use Rattle.metering_model.proofs.BatchLaws.{batch_lines, lines_are_text}
 use Rattle.metering_model.proofs.Decimals.{decimal_lacks_blank, decimal_lacks_feed}
 use Rattle.metering_model.proofs.FieldLaws.{whole_written}
@@ -19,11 +18,11 @@ use Rattle.metering_model.proofs.LineLaws.{line_lacks_feed}
 use Rattle.metering_model.proofs.Splitting.{ended, lines_give_back, lines_of_text, list_all_both}
 use Rattle.process_laws.specs.LocalSteps as model
 use Rattle.process_laws.specs.LocalSteps.{Answer, Words, HasTaken, HasBegun, HasJournaled, HasExported, KeptIs, HasSent, NodeWentOn, AgentWentOn, RefusedFor}
-use Rattle.packet_text.specs.PacketText.{◌>>=◌, HasPacketText, IsSent, packet_fields, packet_text, text_below, lines_of_batch}
+use Rattle.packet_text.specs.PacketText.{◌>>=◌, HasPacketText, IsSent, packet_text, text_below, lines_of_batch}
 use Rattle.packet_text.proofs.PacketLaws.{line_fields, packet_line}
 use Rattle.packet_text.proofs.SentNumbers.{group_is_inner}
 use Rattle.packet_text.proofs.SentPackets.{fields_are_inner}
-use Rattle.log_text.specs.LogText.{HasIncrementText, Increment, BeginsRound, SetsBallots, Learns, Takes, increment_text, lines_of_increment, section_in}
+use Rattle.log_text.specs.LogText.{HasIncrementText, Increment, BeginsRound, SetsBallots, Learns, Takes, increment_text, lines_of_increment}
 use Rattle.log_text.proofs.IncrementLaws.{batch_lacks_feed, batch_size, increment_lacks_feed, increment_lines_are_text, increment_size, increment_some, lines_of, section, section_lacks_feed}
 use Rattle.log_text.proofs.LogLaws.{lines_above}
 use Rattle.process_text.specs.declared.processes.Process.{Process}
@@ -31,7 +30,7 @@ use Rattle.process_text.specs.declared.processes.Process.TheVariants as process
 use Rattle.group_process.specs.Added.{AddsJust}
 use Rattle.group_process.specs.Selves.{AgentSelf, NodeSelf, kept_of_agent, kept_of_node}
 use Rattle.process_text.specs.Answers.{TellsAgent, TellsNode, added_text, addressee_of, addressee_text, answer_text, begun_text, lines_of_packet, packet_sent_text, process_refusal_text, refused_text, sent_text, words_text}
-use Rattle.process_line_laws.specs.Told.{MayBeAdded, MayBeSent, Place, ToLog, ToNodes, Section, Told, behind_space, in_place, just, meant, packet_lines, section_said, text_added, texts_sent, told_by, told_in, with_lines}
+use Rattle.process_line_laws.specs.Told.{MayBeAdded, MayBeSent, Place, ToLog, ToNodes, Section, Told, behind_space, in_place, just, meant, packet_lines, section_said, texts_sent, told_by, told_in, with_lines}
 use Rattle.process_line_laws.proofs.FirstLines.{first_begins}
 
 -- the text is read so, however many lines there may be at most
@@ -62,7 +61,7 @@ word_read : (word t : List ℕ) → lacks 10 word ≡ true → ((more : List ℕ
 word_read word t whole none m enough =
     let text = word ++ t in
     last_told (lines_in text).lines (lines_in text).rest m
-        (λ l ls is. let b = first_begins word t l ls whole is in ap section_said b.1 ∙ none b.0)
+    (λ l ls is. let b = first_begins word t l ls whole is in ap section_said b.1 ∙ none b.0)
     ∙ ap just (lines_give_back text)
 
 pub refused_read : (why : List ℕ) → IsReadAs (refused_text why) (just (refused_text why))
@@ -74,7 +73,7 @@ words_read (HasBegun ballot) = word_read (codes "started ballot ") (decimal ball
 words_read (HasJournaled seq) = word_read (codes "journaled seq ") (decimal seq ++ 10 ∷ []) refl (λ more. refl)
 words_read (HasExported s) =
     word_read (codes "exported period ")
-        ((decimal s.period ++ with_number (codes " lines ") (line_count (file_of s)) ++ 10 ∷ []) ++ file_of s) refl (λ more. refl)
+    ((decimal s.period ++ with_number (codes " lines ") (line_count (file_of s)) ++ 10 ∷ []) ++ file_of s) refl (λ more. refl)
 words_read (KeptIs text) = word_read (codes "kept lines ") ((decimal (line_count text) ++ 10 ∷ []) ++ text) refl (λ more. refl)
 words_read HasSent = word_read (codes "sent") (10 ∷ []) refl (λ more. refl)
 words_read (NodeWentOn period round) =
@@ -94,7 +93,7 @@ counted_read : (l : List ℕ) (body : List (List ℕ)) (place : Place) (text : L
     → IsReadAs (text_of_lines (l ∷ body) ++ text) (with_lines place (text_of_lines body) t)
 counted_read l body place text t whole all said later m enough =
     let above : lines_in (text_of_lines (l ∷ body) ++ text)
-        ≡ record { lines = (l ∷ body) ++ (lines_in text).lines; rest = (lines_in text).rest } =
+    ≡ record { lines = (l ∷ body) ++ (lines_in text).lines; rest = (lines_in text).rest } =
     lines_above (l ∷ body) text (and_from _ _ whole all) in
     ap (λ (x : Lines). told_by m x.lines x.rest) above ∙ by_most m (subst (λ (x : Lines). length x.lines ≤ m) above enough)
   where
@@ -111,7 +110,7 @@ counted_read l body place text t whole all said later m enough =
         let size = length-append body (lines_in text).lines in
         ap (by_section l (body ++ (lines_in text).lines) (lines_in text).rest m) said
         ∙ ap₂ (λ taken left. with_lines place (text_of_lines taken) (told_by m left (lines_in text).rest))
-            (take-append_seam body (lines_in text).lines) (drop-append_seam body (lines_in text).lines)
+        (take-append_seam body (lines_in text).lines) (drop-append_seam body (lines_in text).lines)
         ∙ ap (with_lines place (text_of_lines body)) (later m (omega (arith, enough, size)))
 
 -- what is said of a number of lines for the log, or of a packet
@@ -143,7 +142,7 @@ increment_read agents i text t has later =
     let n = lines_of_increment i in
     subst (λ u. IsReadAs ((ended (section (codes "kept ") n) ++ u) ++ text) (with_lines ToLog u t)) (increment_lines_are_text i)
     (counted_read (section (codes "kept ") n) (lines_of i) ToLog text t (section_lacks_feed (codes "kept ") n refl)
-        (increment_lacks_feed agents i has) (increment_said agents i has) later)
+    (increment_lacks_feed agents i has) (increment_said agents i has) later)
 
 -- ---- what is sent
 
@@ -249,7 +248,7 @@ pub packet_said : (name : List ℕ) (to : Option ℕ) (p : Packet) → HasPacket
 packet_said name to p has =
     let size = under_size p in
     send_said to (lines_of_packet p) (omega (arith, size)) (packet_few p has.packet)
-        ∙ ap (λ k. Some (in_place ToNodes k)) (sym (sent_size name p))
+    ∙ ap (λ k. Some (in_place ToNodes k)) (sym (sent_size name p))
 
 packet_read : (name : List ℕ) (to : Option ℕ) (p : Packet) (text : List ℕ) (t : Told) → HasPacketText name p → IsReadAs text t
     → IsReadAs (packet_sent_text name to p ++ text) (with_lines ToNodes (packet_text name p) t)
@@ -257,7 +256,7 @@ packet_read name to p text t has later =
     let n = lines_of_packet p in
     subst (λ u. IsReadAs ((ended (section (send_words to) n) ++ u) ++ text) (with_lines ToNodes u t)) (sent_is_lines name p)
     (counted_read (section (send_words to) n) (lines_of_sent name p) ToNodes text t (send_lacks_feed to n) (sent_lacks_feed name p has)
-        (packet_said name to p has) later)
+    (packet_said name to p has) later)
 
 -- ---- the whole
 
@@ -276,7 +275,7 @@ answer_meant name to agents (Some i) a may sent =
     let below = sent_text name to a.sends in
     ap told_in (append_assoc above below (words_text a.words))
     ∙ so_told (above ++ (below ++ words_text a.words)) _
-        (increment_read agents i (below ++ words_text a.words) _ may (sends_read name to a.sends a.words sent))
+    (increment_read agents i (below ++ words_text a.words) _ may (sends_read name to a.sends a.words sent))
     ∙ ap (λ t. record { kept = t; sent = texts_sent name a.sends; last = words_text a.words }) (append-nil (increment_text i))
 
 -- ---- the numbers

@@ -1,11 +1,10 @@
 -- Machines, and the processes that they stand for: what is known of the two before each act of a host, and what one act makes of both.
-use Rattle.std.proofs.Common.{◌≡◌, ℕ, ◌+◌, ◌<◌, ◌≤◌, Bool, true, false, List, [], ◌∷◌, ◌++◌, length, map, Option, Some, None, refl, sym, ap, subst, ◌∙◌, arith, eqb-true, append-nil, length-append}
-use Rattle.std.specs.Prelude.{◌==◌, if◌then◌else◌, slice_get, replicate}
+use Rattle.std.proofs.Common.{◌≡◌, ℕ, ◌+◌, ◌≤◌, Bool, true, false, List, [], ◌∷◌, ◌++◌, length, map, Option, Some, None, refl, sym, ap, subst, ◌∙◌, arith, eqb-true, append-nil}
+use Rattle.std.specs.Prelude.{if◌then◌else◌, slice_get, replicate}
 use Rattle.std.specs.List.{Contains}
 use Rattle.std.specs.Option.{option_map}
 use Rattle.std.proofs.lemmas.List.Elements.{All-contains, Contains-push}
 use Rattle.std.proofs.lemmas.Option.{none-some, same_Some}
-use Rattle.metering_model.specs.KeptText.{KeptAmong}
 use Rattle.metering_model.specs.World.{Node, Packet, new_kept, wake}
 use Rattle.metering_model.specs.Step.{play}
 use Rattle.group_laws.proofs.Steps.{get-replicate, length-replicate}
@@ -14,7 +13,7 @@ use Rattle.process_laws.specs.Histories.{Processes, Act, IsHistory, MayAct, acte
 use Rattle.process_laws.proofs.DoneByWorld.{is_done_by_world}
 use Rattle.packet_text.specs.PacketText.{HasPacketText, packet_text}
 use Rattle.packet_text.proofs.SentByRuns.{run_written}
-use Rattle.log_text.specs.LogText.{AgentOf, IsLogHead, LogHead, NodeOf, Who, nothing_kept}
+use Rattle.log_text.specs.LogText.{AgentOf, IsLogHead, NodeOf, Who}
 use Rattle.process_text.specs.declared.processes.Process.{Process}
 use Rattle.process_text.specs.declared.processes.Process.TheVariants as process
 use Rattle.process_line_laws.specs.Told.{MayBeSent, texts_sent}
@@ -41,20 +40,21 @@ pub record Stands (g : Group) (m : Machines) (acts : List Act) : Type 0 where
 
 -- ---- before anything
 
-
 new_stands : (g : Group) (w : Who) → OneStands g (begun g) w ((begun_machines g).machine w)
 new_stands g (NodeOf i) =
-    record { there = λ p is. absurd (none-some p is);
-    keeps = λ p is. by_node (slice_get (replicate (g.voters + g.observers) (wake new_kept)) i) refl p is }
+    record {
+      there = λ p is. absurd (none-some p is);
+      keeps = λ p is. by_node (slice_get (replicate (g.voters + g.observers) (wake new_kept)) i) refl p is;
+    }
   where
     by_node : (o : Option Node) → slice_get (replicate (g.voters + g.observers) (wake new_kept)) i ≡ o → (p : Process)
         → option_map (λ n. process.Node (record { group = g; number = i; node = n })) o ≡ Some p
-            → KeepsBy (head_of g (NodeOf i)) ((begun_machines g).machine (NodeOf i)).log (kept_by p)
+        → KeepsBy (head_of g (NodeOf i)) ((begun_machines g).machine (NodeOf i)).log (kept_by p)
     by_node None is p e = absurd (none-some p e)
     by_node (Some n) is p e =
         subst (λ q. KeepsBy (head_of g (NodeOf i)) ((begun_machines g).machine (NodeOf i)).log (kept_by q))
         (ap (λ m. process.Node (record { group = g; number = i; node = m }))
-            (sym (get-replicate (g.voters + g.observers) i (wake new_kept) n is)) ∙ same_Some _ p e)
+        (sym (get-replicate (g.voters + g.observers) i (wake new_kept) n is)) ∙ same_Some _ p e)
         (keeps_nothing (head_of g (NodeOf i)))
 new_stands g (AgentOf a) = record {
   there = λ p is. absurd (none-some p is);
@@ -63,8 +63,10 @@ new_stands g (AgentOf a) = record {
 }
 
 pub begun_stands : (g : Group) → Stands g (begun_machines g) []
-begun_stands g = record { history = tt;
-    stand = record { size = length-replicate (g.voters + g.observers) (wake new_kept); each = new_stands g; sent = refl } }
+begun_stands g = record {
+  history = tt;
+  stand = record { size = length-replicate (g.voters + g.observers) (wake new_kept); each = new_stands g; sent = refl };
+}
 
 -- ---- what is sent in a history may be written
 
@@ -76,18 +78,18 @@ sent_written g acts w history head p has =
     let few : g.voters ≤ 99 = omega (arith, nodes) in
     All-contains (HasPacketText g.name) (play (opened g by.room) by.events).1.packets p
     (run_written by.room g.voters g.observers g.agents g.sheet g.issuer by.events g.name head.group few head.agents.0 head.agents.1)
-        ((by.left.sent p).0 has)
+    ((by.left.sent p).0 has)
 
 -- of an act that may be done next
 pub answer_written : (g : Group) (acts : List Act) (a : Act) (w : Who) → IsHistory g (begun g) acts → MayAct g (after g (begun g) acts) a
     → IsLogHead (head_of g w)
     → (sends : Option Packet) → (acted g (after g (begun g) acts) a).after.sent ≡ sent_with sends (after g (begun g) acts).sent
-        → MayBeSent g.name sends
+    → MayBeSent g.name sends
 answer_written g acts a w history may head None sent = tt
 answer_written g acts a w history may head (Some p) sent =
     sent_written g (acts ++ a ∷ []) w (history_more g (begun g) acts a history may) head p
     (subst (λ ps. Contains ps p) (sym (ap (λ (s : Processes). s.sent) (after_one g (begun g) acts a) ∙ sent))
-        (Contains-push (after g (begun g) acts).sent p))
+    (Contains-push (after g (begun g) acts).sent p))
 
 -- ---- one act more
 
@@ -104,7 +106,7 @@ pub record Moves (g : Group) (s s' : Processes) (w : Who) (next : Process) : Typ
 
 module _ (g : Group) (s s' : Processes) (w : Who) (next : Process) (log : List ℕ) (machine : Who → Machine)
     (moves : Moves g s s' w next) (head : IsLogHead (head_of g w)) (keeps : KeepsBy (head_of g w) log (kept_by next))
-        (each : (v : Who) → OneStands g s v (machine v)) where
+    (each : (v : Who) → OneStands g s v (machine v)) where
   abbrev new : Machine
   new = record { runs = Some next; log = log }
 
@@ -143,8 +145,10 @@ module _ (g : Group) (m : Machines) (acts : List Act) (stands : Stands g m acts)
   pub stands_with : (a : Act) (sends : Option Packet) → MayAct g s a → Moves g s (acted g s a).after w next
       → length (acted g s a).after.nodes ≡ length s.nodes
       → (acted g s a).after.sent ≡ sent_with sends s.sent
-      → Stands g (record { machine = with_machine w (record { runs = Some next; log = log }) m.machine;
-          sent = m.sent ++ texts_sent g.name sends }) (acts ++ a ∷ [])
+      → Stands g (record {
+        machine = with_machine w (record { runs = Some next; log = log }) m.machine;
+        sent = m.sent ++ texts_sent g.name sends;
+      }) (acts ++ a ∷ [])
   stands_with a sends may moves size sent = record {
     history = history_more g (begun g) acts a stands.history may;
     stand = subst (AllStand g _) (sym (after_one g (begun g) acts a)) (record {

@@ -1,13 +1,12 @@
 -- How the processes of a worked group are begun in lines, and asked.
-use Rattle.std.proofs.Common.{◌≡◌, ℕ, true, List, [], ◌∷◌, ◌++◌, length, Option, Some, None, Ok, refl, sym, ap, subst, arith, codes}
+use Rattle.std.proofs.Common.{◌≡◌, ℕ, true, List, ◌++◌, length, Option, Some, None, Ok, refl, sym, subst, codes}
 use Rattle.std.specs.List.{list_all}
 use Rattle.std.specs.Str.{is_utf8, chars}
-use Rattle.metering_model.specs.Batch.{Batch, lacks}
+use Rattle.metering_model.specs.Batch.{lacks}
 use Rattle.metering_model.specs.Holding.{Holding}
 use Rattle.metering_model.specs.NumberText.{worth_of}
-use Rattle.metering_model.specs.KeptText.{KeptAmong}
 use Rattle.metering_model.specs.Schedule.{TextLines, lines_text}
-use Rattle.metering_model.specs.World.{Kept, Node, new_kept, wake}
+use Rattle.metering_model.specs.World.{Node, new_kept}
 use Rattle.metering_model.proofs.Samples.{issuer_1, issuer_1_lines, sheet_0, sheet_0_lines}
 use Rattle.process_laws.specs.LocalSteps as model
 use Rattle.process_laws.specs.LocalSteps.{AgentCommand, Answer, Group, NodeCommand}
@@ -18,17 +17,15 @@ use Rattle.sheet_text.specs.Keys.{base_under, commitment_category_under, day_und
 use Rattle.sheet_text.specs.Names.{key_name}
 use Rattle.sheet_text.specs.RowReading.{commitment_in, price_row_in, region_in}
 use Rattle.sheet_text.proofs.WorkedSteps.{scan_numeral, days_from_civil, day_count, days_of_years, days_of_months, skip_ws, skip_from, special, body, one_line, quoted, simple_key, key_after, underscore_fits, decimal_number, plain_number, number, word_value, word_len, unquoted, along_header, along_dots, at_key, define, key_equals, val, atom, header_key, expression, line, lines, skip_bom, parse_document}
-use Rattle.log_text.specs.LogText.{AgentOf, Increment, NodeOf, ReadLog, Who, head_text, log_in}
+use Rattle.log_text.specs.LogText.{AgentOf, Increment, NodeOf, ReadLog, Who, log_in}
 use Rattle.group_process.specs.Added.{AddsJust}
 use Rattle.group_process.specs.Selves.{AgentSelf, NodeSelf, kept_of_agent, kept_of_node}
-use Rattle.process_text.specs.declared.processes.Process.{Process}
 use Rattle.process_text.specs.declared.processes.Process.TheVariants as process
 use Rattle.process_text.specs.Answers.{AnswersAgent, AnswersNode, addressee_of, answer_text}
 use Rattle.process_text.specs.Requests.{AsksAgent, AsksNode, agent_request, lines_below, node_request}
-use Rattle.process_player.specs.declared.heads.ProcessKind.{ProcessKind}
 use Rattle.process_player.specs.declared.heads.ProcessKind.TheVariants as kind
 use Rattle.process_player.specs.Starts.{Preamble, preamble_in}
-use Rattle.process_player.specs.Runs.{Asked, Does}
+use Rattle.process_player.specs.Runs.{Does}
 use Rattle.process_line_laws.specs.Hosts.{Asks, HostAct, Machines, MayAsk, WasSent, head_of}
 
 -- one voter, one observer and one agent

@@ -1,9 +1,7 @@
 -- A history in lines: the voter closes the first month before it has the agent's batch, the observer learns the cut and exports the same
 -- bytes, and
 -- the voter goes on with a shorter log.
-use Rattle.std.proofs.Common.{◌≡◌, ℕ, ◌≤◌, true, List, [], ◌∷◌, ◌++◌, length, Option, Some, None, Ok, Err, refl, subst, arith, codes, All}
-use Rattle.std.specs.Prelude.{slice_get}
-use Rattle.std.specs.List.{Contains}
+use Rattle.std.proofs.Common.{◌≡◌, ℕ, ◌≤◌, List, [], ◌∷◌, ◌++◌, Some, None, Ok, Err, refl, subst, arith, codes}
 use Rattle.std.specs.Fmt.{digits}
 use Rattle.std.proofs.lemmas.List.Elements.{All-nil, All-cons}
 use Rattle.std.proofs.lemmas.Option.{none-some, same_Some}
@@ -13,23 +11,20 @@ use Rattle.metering_model.specs.Ballot.{Vote}
 use Rattle.metering_model.specs.Batch.{Batch, IsWellFormed}
 use Rattle.metering_model.specs.BatchReading.{batch_in}
 use Rattle.metering_model.specs.Cut.{Cut}
-use Rattle.metering_model.specs.Dates.{IsPeriod}
 use Rattle.metering_model.specs.File.{header_line}
-use Rattle.metering_model.specs.KeptText.{IsBallotNumber, IsCutAmong, KeptAmong}
+use Rattle.metering_model.specs.KeptText.{IsBallotNumber, IsCutAmong}
 use Rattle.metering_model.specs.Schedule.{TextLines, lines_text}
-use Rattle.metering_model.specs.World.{Accept, Accepted, CarriesBatch, Good, Kept, Node, Packet, Prepare, Promise, Snapshot, new_kept, wake}
+use Rattle.metering_model.specs.World.{Accept, Accepted, CarriesBatch, Good, Node, Packet, Prepare, Promise, Snapshot, new_kept, wake}
 use Rattle.metering_model.specs.declared.Version.TheVariants.{B1}
 use Rattle.metering_model.proofs.BatchLaws.{IsWellFormed-read}
 use Rattle.metering_model.proofs.Samples.{issuer_1, reading_1, sheet_0}
 use Rattle.process_laws.specs.LocalSteps as model
 use Rattle.process_laws.specs.LocalSteps.{Answer, BeginBallot, ExportPeriod, HasBegun, HasExported, HasJournaled, HasTaken, JournalBatch, KeptIs, NodeCommand, TakePacket, TellKept, Words, saying}
 use Rattle.process_laws.proofs.EachAct.{◌⨾◌}
-use Rattle.packet_text.specs.PacketText.{GroupPacket, packet_in}
-use Rattle.log_text.specs.LogText.{AgentOf, BeginsRound, Learns, NodeOf, SetsBallots, Takes, Who, log_in}
+use Rattle.log_text.specs.LogText.{AgentOf, BeginsRound, Learns, NodeOf, SetsBallots, Takes, log_in}
 use Rattle.process_text.specs.declared.processes.Process.TheVariants as process
 use Rattle.process_player.specs.Starts.{HasLog, HasNone}
-use Rattle.process_line_laws.specs.Told.{told_in}
-use Rattle.process_line_laws.specs.Hosts.{GoesOn, HostAct, IsHostHistory, Machines, MayGoOn, Shortens, all_done, begun_machines, done}
+use Rattle.process_line_laws.specs.Hosts.{GoesOn, HostAct, IsHostHistory, Machines, Shortens, all_done, begun_machines, done}
 use Rattle.process_line_laws.specs.Comes.{ComeToHistory}
 use Rattle.process_line_laws.proofs.History.{come_to_history}
 use Rattle.process_line_laws.proofs.WorkedGroup.{agent_may, agent_read, agent_self, agent_text, asked_agent, asked_node, node_answers, node_may, node_self, observer_read, observer_text, one, own, preamble_of, voter_read, voter_text}
@@ -100,10 +95,10 @@ closes =
     GoesOn (NodeOf 0) (voter_text ++ codes "new\n") (process.Node (node_self 0 new_node))
     ∷ asked_node 0 (codes "start") [] v1 (codes "kept 1\nround|1\nsend all 1\nP1|one|prepare|0|1\nstarted ballot 1\n")
     ∷ asked_node 0 (codes "packet 1") (codes "P1|one|prepare|0|1" ∷ []) v2
-        (codes "kept 1\nballot|0|1|0\nsend 0 1\nP1|one|promise|0|0|1|0\ndelivered\n")
+    (codes "kept 1\nballot|0|1|0\nsend 0 1\nP1|one|promise|0|0|1|0\ndelivered\n")
     ∷ asked_node 0 (codes "packet 1") (codes "P1|one|promise|0|0|1|0" ∷ []) v3 (codes "send all 1\nP1|one|accept|0|1|0\ndelivered\n")
     ∷ asked_node 0 (codes "packet 1") (codes "P1|one|accept|0|1|0" ∷ []) v4
-        (codes "kept 1\nballot|0|1|1|0\nsend all 1\nP1|one|accepted|0|0|1|0\ndelivered\n")
+    (codes "kept 1\nballot|0|1|1|0\nsend all 1\nP1|one|accepted|0|0|1|0\ndelivered\n")
     ∷ asked_node 0 (codes "packet 1") (codes "P1|one|accepted|0|0|1|0" ∷ []) v5 (codes "kept 1\nlearned|0|0\ndelivered learned 0\n")
     ∷ asked_node 0 (codes "export 0") [] v5 empty_file
     ∷ []
@@ -141,34 +136,34 @@ closes_month =
       log = refl;
     } ⨾
     node_may _ 0 new_node v1 (codes "start") [] _ refl
-        (node_answers 0 new_node v1 (codes "start") [] BeginBallot (and_sends (HasBegun 1) (Prepare 0 1))
-            (Some (BeginsRound 1)) _ refl refl refl refl refl ((omega arith, omega arith), refl, refl) refl)
-        (λ p read of. absurd (none-some p read)) ⨾
+    (node_answers 0 new_node v1 (codes "start") [] BeginBallot (and_sends (HasBegun 1) (Prepare 0 1))
+    (Some (BeginsRound 1)) _ refl refl refl refl refl ((omega arith, omega arith), refl, refl) refl)
+    (λ p read of. absurd (none-some p read)) ⨾
     node_may _ 0 v1 v2 (codes "packet 1") (codes "P1|one|prepare|0|1" ∷ []) _ refl
-        (node_answers 0 v1 v2 (codes "packet 1") (codes "P1|one|prepare|0|1" ∷ []) (takes (Prepare 0 1))
-            (and_sends (HasTaken None) (Promise 0 0 1 None))
-            (Some (SetsBallots 0 (record { promised = Some 1; vote = None }))) _ refl refl refl refl refl
-            ((omega arith, promised, no_vote), refl, refl) refl)
-        (λ p read of. (0, omega arith, refl)) ⨾
+    (node_answers 0 v1 v2 (codes "packet 1") (codes "P1|one|prepare|0|1" ∷ []) (takes (Prepare 0 1))
+    (and_sends (HasTaken None) (Promise 0 0 1 None))
+    (Some (SetsBallots 0 (record { promised = Some 1; vote = None }))) _ refl refl refl refl refl
+    ((omega arith, promised, no_vote), refl, refl) refl)
+    (λ p read of. (0, omega arith, refl)) ⨾
     node_may _ 0 v2 v3 (codes "packet 1") (codes "P1|one|promise|0|0|1|0" ∷ []) _ refl
-        (node_answers 0 v2 v3 (codes "packet 1") (codes "P1|one|promise|0|0|1|0" ∷ []) (takes (Promise 0 0 1 None))
-            (and_sends (HasTaken None) (Accept 0 1 low)) None _ refl refl refl refl refl refl refl)
-        (λ p read of. (1, omega arith, refl)) ⨾
+    (node_answers 0 v2 v3 (codes "packet 1") (codes "P1|one|promise|0|0|1|0" ∷ []) (takes (Promise 0 0 1 None))
+    (and_sends (HasTaken None) (Accept 0 1 low)) None _ refl refl refl refl refl refl refl)
+    (λ p read of. (1, omega arith, refl)) ⨾
     node_may _ 0 v3 v4 (codes "packet 1") (codes "P1|one|accept|0|1|0" ∷ []) _ refl
-        (node_answers 0 v3 v4 (codes "packet 1") (codes "P1|one|accept|0|1|0" ∷ []) (takes (Accept 0 1 low))
-            (and_sends (HasTaken None) (Accepted 0 0 1 low))
-            (Some (SetsBallots 0
-            (record { promised = Some 1; vote = Some (record { ballot = 1; cut = low }) }))) _ refl refl refl refl refl
-            ((omega arith, promised, its_vote), refl, refl) refl)
-        (λ p read of. (2, omega arith, refl)) ⨾
+    (node_answers 0 v3 v4 (codes "packet 1") (codes "P1|one|accept|0|1|0" ∷ []) (takes (Accept 0 1 low))
+    (and_sends (HasTaken None) (Accepted 0 0 1 low))
+    (Some (SetsBallots 0
+    (record { promised = Some 1; vote = Some (record { ballot = 1; cut = low }) }))) _ refl refl refl refl refl
+    ((omega arith, promised, its_vote), refl, refl) refl)
+    (λ p read of. (2, omega arith, refl)) ⨾
     node_may _ 0 v4 v5 (codes "packet 1") (codes "P1|one|accepted|0|0|1|0" ∷ []) _ refl
-        (node_answers 0 v4 v5 (codes "packet 1") (codes "P1|one|accepted|0|0|1|0" ∷ []) (takes (Accepted 0 0 1 low))
-            (saying (HasTaken (Some 0))) (Some (Learns 0 low)) _ refl refl refl refl refl ((omega arith, among), refl, refl) refl)
-        (λ p read of. (3, omega arith, refl)) ⨾
+    (node_answers 0 v4 v5 (codes "packet 1") (codes "P1|one|accepted|0|0|1|0" ∷ []) (takes (Accepted 0 0 1 low))
+    (saying (HasTaken (Some 0))) (Some (Learns 0 low)) _ refl refl refl refl refl ((omega arith, among), refl, refl) refl)
+    (λ p read of. (3, omega arith, refl)) ⨾
     node_may _ 0 v5 v5 (codes "export 0") [] _ refl
-        (node_answers 0 v5 v5 (codes "export 0") [] (ExportPeriod 0)
-            (saying (HasExported exported)) None _ refl refl refl refl refl refl refl)
-        (λ p read of. absurd (none-some p read)) ⨾ tt
+    (node_answers 0 v5 v5 (codes "export 0") [] (ExportPeriod 0)
+    (saying (HasExported exported)) None _ refl refl refl refl refl refl refl)
+    (λ p read of. absurd (none-some p read)) ⨾ tt
 
 -- ---- what is done behind it
 
@@ -180,10 +175,10 @@ abbrev pub carries : List HostAct
 carries =
     GoesOn (AgentOf 1) (agent_text ++ codes "new\n") (process.Agent (agent_self []))
     ∷ asked_agent (codes "journal 2") batch_lines (b ∷ [])
-        (codes "kept 3\nbatch 2\n" ++ batch_text ++ codes "send all 3\nP1|one|batch|2\n" ++ batch_text ++ codes "journaled seq 1\n")
+    (codes "kept 3\nbatch 2\n" ++ batch_text ++ codes "send all 3\nP1|one|batch|2\n" ++ batch_text ++ codes "journaled seq 1\n")
     ∷ GoesOn (NodeOf 1) (observer_text ++ codes "new\n") (process.Node (node_self 1 new_node))
     ∷ asked_node 1 (codes "packet 3") (codes "P1|one|batch|2" ∷ batch_lines) o1
-        (codes "kept 3\nbatch 2\n" ++ batch_text ++ codes "delivered\n")
+    (codes "kept 3\nbatch 2\n" ++ batch_text ++ codes "delivered\n")
     ∷ []
 
 abbrev pub carried : Machines
@@ -214,8 +209,8 @@ carries_batch =
       log = refl;
     } ⨾
     agent_may _ [] (b ∷ []) (codes "journal 2") batch_lines (JournalBatch (Good batch_text)) (and_sends (HasJournaled 1) (CarriesBatch b))
-        (Some (Takes b)) _
-        refl refl refl refl refl refl (is_batch, refl, refl) refl ⨾
+    (Some (Takes b)) _
+    refl refl refl refl refl refl (is_batch, refl, refl) refl ⨾
     record {
       begins = record {
         preamble = preamble_of (NodeOf 1) observer_text;
@@ -234,9 +229,9 @@ carries_batch =
       log = refl;
     } ⨾
     node_may _ 1 new_node o1 (codes "packet 3") (codes "P1|one|batch|2" ∷ batch_lines) _ refl
-        (node_answers 1 new_node o1 (codes "packet 3") (codes "P1|one|batch|2" ∷ batch_lines) (takes (CarriesBatch b))
-            (saying (HasTaken None)) (Some (Takes b)) _ refl refl refl refl refl (is_batch, refl, refl) refl)
-        (λ p read of. (4, omega arith, refl)) ⨾ tt
+    (node_answers 1 new_node o1 (codes "packet 3") (codes "P1|one|batch|2" ∷ batch_lines) (takes (CarriesBatch b))
+    (saying (HasTaken None)) (Some (Takes b)) _ refl refl refl refl refl (is_batch, refl, refl) refl)
+    (λ p read of. (4, omega arith, refl)) ⨾ tt
 
 -- what the voter keeps takes the place of its log
 abbrev short : List ℕ
@@ -260,13 +255,13 @@ learns_cut : IsHostHistory one carried learns
 unfolding days_from_civil day_count days_of_years days_of_months worth_of decimals_of digits
 learns_cut =
     node_may _ 1 o1 o2 (codes "packet 1") (codes "P1|one|accepted|0|0|1|0" ∷ []) _ refl
-        (node_answers 1 o1 o2 (codes "packet 1") (codes "P1|one|accepted|0|0|1|0" ∷ []) (takes (Accepted 0 0 1 low))
-            (saying (HasTaken (Some 0))) (Some (Learns 0 low)) _ refl refl refl refl refl ((omega arith, among), refl, refl) refl)
-        (λ p read of. (3, omega arith, refl)) ⨾
+    (node_answers 1 o1 o2 (codes "packet 1") (codes "P1|one|accepted|0|0|1|0" ∷ []) (takes (Accepted 0 0 1 low))
+    (saying (HasTaken (Some 0))) (Some (Learns 0 low)) _ refl refl refl refl refl ((omega arith, among), refl, refl) refl)
+    (λ p read of. (3, omega arith, refl)) ⨾
     node_may _ 1 o2 o2 (codes "export 0") [] _ refl
-        (node_answers 1 o2 o2 (codes "export 0") [] (ExportPeriod 0)
-            (saying (HasExported exported)) None _ refl refl refl refl refl refl refl)
-        (λ p read of. absurd (none-some p read)) ⨾
+    (node_answers 1 o2 o2 (codes "export 0") [] (ExportPeriod 0)
+    (saying (HasExported exported)) None _ refl refl refl refl refl refl refl)
+    (λ p read of. absurd (none-some p read)) ⨾
     record {
       old = process.Node (node_self 0 v5);
       runs = refl;
@@ -291,9 +286,9 @@ learns_cut =
       log = refl;
     } ⨾
     node_may _ 0 (wake v5.kept) (wake v5.kept) (codes "export 0") [] _ refl
-        (node_answers 0 (wake v5.kept) (wake v5.kept) (codes "export 0") [] (ExportPeriod 0)
-            (saying (HasExported exported)) None _ refl refl refl refl refl refl refl)
-        (λ p read of. absurd (none-some p read))
+    (node_answers 0 (wake v5.kept) (wake v5.kept) (codes "export 0") [] (ExportPeriod 0)
+    (saying (HasExported exported)) None _ refl refl refl refl refl refl refl)
+    (λ p read of. absurd (none-some p read))
     ⨾ tt
 
 -- ---- all of it

@@ -1,5 +1,5 @@
 -- What a history of hosts comes to, in the words of process_laws; and what files it shows.
-use Rattle.std.specs.Prelude.{◌≡◌, ◌⊎◌, ℕ, ◌+◌, ◌<◌, ◌≤◌, List, [], ◌∷◌, ◌++◌, length, map, All, Option, Some, None, Ok, slice_get, codes}
+use Rattle.std.specs.Prelude.{◌≡◌, ◌⊎◌, ℕ, ◌+◌, ◌<◌, ◌≤◌, List, [], ◌∷◌, ◌++◌, length, map, All, Option, Some, Ok, slice_get, codes}
 use Rattle.std.specs.Option.{option_map}
 use Rattle.metering_model.specs.Cut.{last_of}
 use Rattle.metering_model.specs.Dates.{IsPeriod}
@@ -16,10 +16,9 @@ use Rattle.group_process.specs.Selves.{AgentSelf, kept_of_agent, kept_of_node}
 use Rattle.process_text.specs.declared.processes.Process.{Process}
 use Rattle.process_text.specs.declared.processes.Process.TheVariants as process
 use Rattle.process_text.specs.Answers.{process_refusal_text, refused_text, words_text}
-use Rattle.process_text.specs.Requests.{AgentRequest, AsksAgent, AsksNode, NoAgentCommand, NoNodeCommand, NoPacket, NodeRequest, agent_request, node_request}
-use Rattle.process_player.specs.Runs.{Asked}
-use Rattle.process_line_laws.specs.Told.{Told, texts_sent, told_in}
-use Rattle.process_line_laws.specs.Hosts.{Asks, GoesOn, HostAct, Machine, Machines, Shortens, all_done, begun_machines, head_of, said_by}
+use Rattle.process_text.specs.Requests.{AsksAgent, AsksNode, NoAgentCommand, NoNodeCommand, NoPacket, agent_request, node_request}
+use Rattle.process_line_laws.specs.Told.{texts_sent, told_in}
+use Rattle.process_line_laws.specs.Hosts.{Asks, GoesOn, HostAct, Machines, Shortens, all_done, begun_machines, head_of, said_by}
 
 -- ---- each act and its answer
 

@@ -14,7 +14,7 @@ use Rattle.process_player.specs.declared.heads.ProcessKind.{ProcessKind}
 use Rattle.process_player.specs.declared.heads.ProcessKind.TheVariants as kind
 use Rattle.process_player.specs.Starts.{Begins, HasLog, HasNone, IsStored}
 use Rattle.process_player.specs.Runs.{Asked, Does}
-use Rattle.process_line_laws.specs.Told.{Told, told_in}
+use Rattle.process_line_laws.specs.Told.{told_in}
 
 -- ---- what there is
 
