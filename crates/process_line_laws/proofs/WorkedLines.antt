@@ -1,6 +1,5 @@
 -- A history in lines: the voter closes the first month before it has the agent's batch, the observer learns the cut and exports the same
--- bytes, and
--- the voter goes on with a shorter log.
+-- bytes, and the voter goes on with a shorter log.
 use Rattle.std.proofs.Common.{◌≡◌, ℕ, ◌≤◌, List, [], ◌∷◌, ◌++◌, Some, None, Ok, Err, refl, subst, arith, codes}
 use Rattle.std.specs.Fmt.{digits}
 use Rattle.std.proofs.lemmas.List.Elements.{All-nil, All-cons}

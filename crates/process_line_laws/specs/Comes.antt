@@ -69,8 +69,7 @@ kept_by (process.Node n) = kept_of_node n
 kept_by (process.Agent a) = kept_of_agent a
 
 -- Each process that was begun is what they have come to, its log is read as what it keeps, unless it has got too long, and the texts that
--- were told to
--- be sent are those of the packets that were sent, which can be read back.
+-- were told to be sent are those of the packets that were sent, which can be read back.
 pub record StandFor (g : Group) (m : Machines) (s : Processes) : Type 0 where
   pub running : (w : Who) (p : Process) → (m.machine w).runs ≡ Some p → process_there g s w ≡ Some p
   pub logs : (w : Who) (p : Process) → (m.machine w).runs ≡ Some p → length (m.machine w).log ≤ most_log_bytes

@@ -1,6 +1,5 @@
--- What the hosts of all processes of a group do, in lines: they begin processes, ask them, and read what these answer. So the premises are
--- here that a
--- host has to keep, each told of texts that it has in hand.
+-- What the hosts of all processes of a group do, in lines: they begin processes, ask them, and read what these answer. So here are the
+-- premises that a host has to keep, each told of texts that it has in hand.
 use Rattle.std.specs.Prelude.{◌≡◌, ℕ, ◌==◌, Bool, true, false, if◌then◌else◌, List, [], ◌∷◌, ◌++◌, length, drop, Option, Some, None, codes}
 use Rattle.std.specs.List.{Contains}
 use Rattle.metering_model.specs.KeptText.{KeptAmong}
@@ -40,11 +39,9 @@ begun_machines g = record { machine = λ w. record { runs = None; log = head_tex
 -- ---- what happens
 
 pub data HostAct : Type 0 where
-  -- The process is asked that, says this, and is another then. So it is here once the host has read the answer's lines for the log, to the
-  -- last of
-  -- them, and has stored them; where there are none, once anything of the answer has left the process, and else it may be left out. What it
-  -- says may
-  -- never have left, behind those lines, and the process may have stopped.
+  -- The process is asked that, says this, and is another then. An act is here once its host has read what is for the log, to the last line,
+  -- and has stored it; where there is nothing for the log, once something of the answer left the process, and else it may be left out. The
+  -- rest of what is said may never have left, and the process may have stopped.
   Asks : Who → Asked → (next : Process) → (said : List ℕ) → HostAct
   -- a process is begun with that text, the first one or the next, whenever the one before was stopped
   GoesOn : Who → (text : List ℕ) → (first : Process) → HostAct
@@ -71,8 +68,7 @@ abbrev pub short_log : LogHead → (last : List ℕ) → List ℕ
 short_log h last = head_text h ++ codes "kept " ++ drop (length (codes "kept lines ")) last
 
 -- What is told to be kept is appended to the log, and not the line above it that counts the lines. What is told to be sent counts as sent
--- from here on,
--- also where it is lost on its way.
+-- from here on, also where it is lost on its way.
 abbrev pub done : Group → Machines → HostAct → Machines
 done g m (Asks w asked next said) = record {
   machine = with_machine w (record { runs = Some next; log = (m.machine w).log ++ (told_in said).kept }) m.machine;
@@ -143,8 +139,7 @@ MayDo g m (GoesOn w text first) = MayGoOn g m w text first
 MayDo g m (Shortens w next said) = MayShorten m w next said
 
 -- Each act may be done where it stands. Machines have no common order: it is any that keeps each one's own, and in which a packet is told
--- to be sent
--- before it is handed on; once, often or never, to any node, in any order.
+-- to be sent before it is handed on; once, often or never, to any node, in any order.
 abbrev pub IsHostHistory : Group → Machines → List HostAct → Type 0
 IsHostHistory g m [] = Unit {0}
 IsHostHistory g m (h ∷ hs) = MayDo g m h × IsHostHistory g (done g m h) hs
