@@ -25,6 +25,11 @@ parts_join Unlike = append-nil (ending_line Unlike)
 parts_join TooLong = append-nil (ending_line TooLong)
 parts_join NotClosed = append-nil (ending_line NotClosed)
 
+-- four texts behind one, put there in turn, as the two pairs that they are
+pub put_in_turn : (before a b c d : List ℕ) → before ++ a ++ b ++ c ++ d ≡ before ++ (a ++ b ++ (c ++ d))
+put_in_turn before a b c d =
+    append_assoc (before ++ a ++ b) c d ∙ (ap (λ (x : List ℕ). x ++ (c ++ d)) (append_assoc before a b) ∙ append_assoc before (a ++ b) (c ++ d))
+
 -- a part of the second text behind all of the first is a part of both
 pub part_of_both : (old between new : Option (List ℕ)) (first last : List ℕ) (r : Result (Unit {0}) Failed) → Appends old between first
     → OnErr r (AppendsPrefix between new last) → OnErr r (AppendsPrefix old new (first ++ last))
