@@ -1,4 +1,4 @@
-# What `rate`, `play`, `files`, `sheets` and `schedule` share: the program that is measured, a room for what is made, and callgrind. It is read by them and
+# What `rate`, `play`, `files`, `sheets`, `schedule` and `processes` share: the program that is measured, a room for what is made, and callgrind. It is read by them and
 # is no script of its own.
 
 room=$(mktemp -d)
