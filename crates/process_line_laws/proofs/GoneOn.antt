@@ -29,7 +29,7 @@ use Rattle.process_text.specs.Answers.{begun_text, words_text}
 use Rattle.process_player.specs.declared.heads.ProcessKind.{ProcessKind}
 use Rattle.process_player.specs.Starts as starts
 use Rattle.process_player.specs.Starts.{Begins, HasLog, HasNone, IsStored, Preamble, group_of, head_of, is_kind_of, kind_word, own_of, preamble_in}
-use Rattle.process_player.proofs.PreambleLaws.{log_limits, preamble_log}
+use Rattle.process_player.proofs.PreambleLaws.{log_limits, own_read as read_of_own, preamble_log}
 use Rattle.group_process.specs.Selves.{AgentSelf, NodeSelf}
 use Rattle.process_line_laws.specs.Told.{just, texts_sent}
 use Rattle.process_line_laws.specs.Hosts as hosts
@@ -116,7 +116,7 @@ module _ (g : Group) (m : Machines) (w : Who) (text : List ℕ) (first : Process
   p = may.begins.preamble
 
   pub own_head : IsLogHead (hosts.head_of g w)
-  own_head = subst IsLogHead may.head (log_limits p.own (preamble_log (kind_of w) may.begins.first p may.begins.is_read)).0
+  own_head = subst IsLogHead may.head (log_limits p.own (read_of_own (preamble_log (kind_of w) may.begins.first p may.begins.is_read))).0
 
   pub stored_is_read : log_in (m.machine w).log ≡ Ok (record { head = hosts.head_of g w; kept = may.begins.kept })
   stored_is_read =
