@@ -314,7 +314,7 @@ module _ (k : ProcessKind) {a a' b : List ℕ} {r s : ℕ} {l m : Option (List �
         let none : ys ≡ [] = subst IsAtEnd is last.1 in
         let nothing : drop at b ++ ys ≡ [] =
         ap (λ n. drop n b ++ ys) last.0 ∙ ap (λ t. drop (length b) t ++ ys) (sym (append-nil b)) ∙ ap (λ t. t ++ ys) (drop-append_seam b []) ∙ none in
-        subst (λ t. IsJudged k (take at b) t) (sym nothing) (IsAll (take at b))
+        subst (λ t. IsJudged k (take at b) t) (sym nothing) (IsAll (take at b) it.none)
     | inr wrong ↦ subst (λ t. IsJudged k t (drop at b ++ ys)) (sym wrong.are_lines) (IsUpToWrong wrong.lines (drop at b ++ ys) wrong.whole wrong.wrong)
   ]
 

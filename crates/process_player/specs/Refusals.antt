@@ -48,9 +48,9 @@ pub data EndWrong (k : ProcessKind) : TextLines → Type 0 where
   AtIssuer : (ls : TextLines) (n : ℕ) (l : List ℕ) → section_lines (codes "sheet ") most_sheet_lines (drop 2 ls) ≡ Some n
       → length ls ≡ 2 + n → number_behind (codes "issuer ") most_issuer_lines l ≡ None → EndWrong k (ls ++ l ∷ [])
 
--- The front is all that there is; or it is whole lines, a preamble and nothing else, or up to the first that is another.
+-- The front is all that there is, and no preamble; or it is whole lines, a preamble and nothing else, or up to the first that is another.
 pub data IsJudged (k : ProcessKind) : (front more : List ℕ) → Type 0 where
-  IsAll : (front : List ℕ) → IsJudged k front []
+  IsAll : (front : List ℕ) → preamble_lines (lines_in front).lines ≡ None → IsJudged k front []
   IsPreamble : (ls : TextLines) (more : List ℕ) → list_all (lacks 10) ls ≡ true → preamble_lines ls ≡ Some (length ls)
       → IsJudged k (lines_text ls) more
   IsUpToWrong : (ls : TextLines) (more : List ℕ) → list_all (lacks 10) ls ≡ true → EndWrong k ls

@@ -58,7 +58,7 @@ fn kept_of(alloc: Global, head: &LogHead, text: &[u8]) -> Result<Kept, ProcessFa
 }
 
 /// Reads what a process stored last, and takes it: a log, below a line of that number that says how many lines it has, or
-/// None for the line `new`. The room of a log is given back.
+/// None for the line `new`. The room of the log, and of what stands before it, is given back.
 pub(crate) fn read_stored<S: Source>(
     alloc: Global,
     own: &Log,
@@ -82,6 +82,7 @@ pub(crate) fn read_stored<S: Source>(
     };
     if is_same(&unread.ahead()[..end - 1], b"new") {
         unread.take(end);
+        unread.release();
         return Ok(None);
     }
     let Some(lines) = log_lines(&unread.ahead()[..end - 1]) else {

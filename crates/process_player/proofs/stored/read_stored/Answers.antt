@@ -27,7 +27,7 @@ pub returns-then-is_same-clause-taken : goal.returns-then-is_same-clause-taken
 returns-then-is_same-clause-taken g c =
     let end = c.in-Some.end in
     let is = ap (λ t. is_same (take (end - 1) t) (codes "new")) (sym c.ahead.ensures) ∙ sym c.is_same.ensures ∙ c.if-is_same.true in
-    new_taken c.args.own.now c.mark.ensures.bytes c.lines_end.ensures.takes (first g (goal.at.returns-then-is_same-clause-taken g c).In-Some) is c.take.ensures.bytes
+    new_taken c.args.own.now c.mark.ensures.bytes c.lines_end.ensures.takes (first g (goal.at.returns-then-is_same-clause-taken g c).In-Some) is (c.release.ensures.bytes ∙ c.take.ensures.bytes)
 
 pub returns-clause-taken : goal.returns-clause-taken
 returns-clause-taken g c =
@@ -35,7 +35,7 @@ returns-clause-taken g c =
     let all = c.in-Some-2.all in
     let read = ap (λ t. log_in (take (all - end) (drop end t))) (sym c.ahead-3.ensures) ∙ c.in_ok-kept.ensures.kept ∙ ap (λ h. Ok (record { head = h; kept = c.in_ok-kept.kept })) c.head.ensures in
     log_taken c.args.own.now c.mark.ensures.bytes c.lines_end.ensures.takes (first g (goal.at.returns-clause-taken g c).In-Some) c.lines_end-2.ensures.takes (rw c.in-Some-2.is at c.in_ok-all.ensures.found)
-    (says g (goal.at.returns-clause-taken g c).In-Some-log_lines) read (c.release.ensures.bytes ∙ c.take-2.ensures.bytes)
+    (says g (goal.at.returns-clause-taken g c).In-Some-log_lines) read (c.release-2.ensures.bytes ∙ c.take-2.ensures.bytes)
 
 pub returns-in_default-log_lines-clause-refused : goal.returns-in_default-log_lines-clause-refused
 returns-in_default-log_lines-clause-refused g c =
