@@ -1,3 +1,4 @@
+pub mod AloneLaws
 pub mod Among
 mod KeptLemmas
 mod LastCut

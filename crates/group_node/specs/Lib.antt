@@ -2,3 +2,4 @@ pub mod Inner
 pub mod Packets
 pub mod Nodes
 pub mod Handling
+pub mod Alone

@@ -2,6 +2,8 @@
 #![tactic(auto)]
 
 mod answering;
+mod beginning;
+mod exporting;
 mod handling;
 mod learning;
 mod nodes;
