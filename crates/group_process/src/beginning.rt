@@ -9,13 +9,8 @@ ghost use Rattle.group_process.specs.Selves.{kept_of_node};
 use crate::added::Added;
 use crate::nodes::NodeProcess;
 use crate::refusals::ProcessRefusal;
-use group_events::Period;
 use group_node::Packet;
-use metering_model::Refusal;
 use node_kept::Ballot;
-
-/// A node begins no more ballots than this.
-const MOST_ROUNDS: u16 = 10_000;
 
 /// What came of a ballot that a node began.
 #[derive(Drop)]
@@ -35,15 +30,10 @@ impl NodeProcess {
             (kept_of_node self.new) (increment_after begun.added (kept_of_node self.new))) }
         ensures unchanged { OnErr result (self.new ≡ self.old) }
     {
-        if self.number >= self.group.voters {
-            return Err(ProcessRefusal::OfModel(Refusal::Observer));
-        }
-        let Some(period) = Period::new(self.node.current_period()) else {
-            return Err(ProcessRefusal::OfModel(Refusal::AllClosed));
+        let period = match self.node.period_to_begin(self.number) {
+            Ok(period) => period,
+            Err(refusal) => return Err(ProcessRefusal::OfModel(refusal)),
         };
-        if self.node.round() >= MOST_ROUNDS {
-            return Err(ProcessRefusal::OfModel(Refusal::NoBallot));
-        }
         let ballot = self.node.start(self.number);
         Ok(Begun {
             ballot,

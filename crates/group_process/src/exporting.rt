@@ -17,28 +17,6 @@ use std::alloc::{AllocError, Global};
 use std::sync::Arc;
 
 impl NodeProcess {
-    /// The cut that the node has learned for the period before, shared; the zero cut where there is none.
-    fn cut_before(&self, alloc: Global, period: u16) -> Result<Arc<Cut>, AllocError>
-        ensures { IfOk result (λ cut. arc_value cut
-            ≡ cut_before self.now.group.agents self.now.node.kept.learned period) }
-    {
-        let before = if period == 0 {
-            None
-        } else {
-            self.node.learned(period - 1)
-        };
-        match before {
-            Some(cut) => Arc::try_clone(cut),
-            None => {
-                let zero = Cut::zero(alloc, self.group.agents)?;
-                match Arc::new(alloc, zero) {
-                    Ok(cut) => Ok(cut),
-                    Err(_) => Err(AllocError),
-                }
-            }
-        }
-    }
-
     /// Whether the cut of a period, which has to be learned, goes on from that of the period before. The first goes on from the
     /// zero cut, as each entry is at least 0.
     fn goes_on(&self, period: u16) -> bool
@@ -88,14 +66,11 @@ impl NodeProcess {
         // holding.
         let store = self.node.store();
         let (_voters, _agents) = (self.node.voters(), store.agents());
-        let learned = self.node.current_period();
-        let (Some(of), Some(to)) = (Period::new(period), self.node.learned(period)) else {
-            return Ok(Err(ProcessRefusal::OfModel(Refusal::NotClosed { learned })));
+        let (of, to) = match self.node.cut_to_export(period) {
+            Ok(found) => found,
+            Err(refusal) => return Ok(Err(ProcessRefusal::OfModel(refusal))),
         };
-        if let Some((agent, seq)) = store.first_missing(to) {
-            return Ok(Err(ProcessRefusal::OfModel(Refusal::Missing { agent, seq })));
-        }
-        let from = self.cut_before(alloc, period)?;
+        let from = self.node.cut_before(alloc, period)?;
         if !self.has_growing_cuts(period) {
             return Ok(Err(ProcessRefusal::Unfit));
         }

@@ -85,9 +85,6 @@ good_told w text b r e f = sym (rw (e, f) refl)
 -- ---- deliveries
 
 module _ (w : World) (k i : ℕ) (q : Packet) (n : Node) (sent : slice_get w.packets k ≡ Some q) (found : slice_get w.nodes i ≡ Some n) where
-  pub may_with_room : nat_lt (length w.packets) w.room ≡ true → MayDeliver w k i
-  may_with_room e = record { packet = slice_get_within w.packets k q sent; node = slice_get_within w.nodes i n found; room = λ m p here there some. ltb-true _ _ e }
-
   pub may_in_silence : is_some (handled w i n q).sends ≡ false → MayDeliver w k i
   may_in_silence none = record {
     packet = slice_get_within w.packets k q sent;

@@ -10,6 +10,3 @@ found_at f xs k x low e = slice_get-map f xs k ∙ ap (option_map f) (slice_get-
 -- what an option is seen to have is what it has
 pub seen : {A B : Type 0} (f : A → B) (o : Option A) (x : A) (r : Option B) → option_map f o ≡ r → o ≡ Some x → r ≡ Some (f x)
 seen f o x r e s = sym e ∙ ap (option_map f) s
-
-pub seen_none : {A B : Type 0} (f : A → B) (o : Option A) (r : Option B) → option_map f o ≡ r → o ≡ None → r ≡ None
-seen_none f o r e s = sym e ∙ ap (option_map f) s

@@ -45,9 +45,6 @@ module _ (w : World) (b : Batch) where
 -- ---- a packet is delivered
 
 module _ (w : World) (k i : ℕ) where
-  pub no_packet : slice_get w.packets k ≡ None → on_delivery w k i ≡ Err NoPacket
-  no_packet e = rw e refl
-
   pub no_node : (p : Packet) → slice_get w.packets k ≡ Some p → slice_get w.nodes i ≡ None → on_delivery w k i ≡ Err NoNode
   no_node p e f = rw (e, f) refl
 
@@ -55,63 +52,24 @@ module _ (w : World) (k i : ℕ) where
     pub delivers : handled w i n p ≡ record { node = m; sends = None; learns = learns } → on_delivery w k i ≡ Ok (Delivered None learns, with_node_at i m w)
     delivers e = rw (sent, found, e) refl
 
-    pub no_room_for_answer : (q : Packet) → handled w i n p ≡ record { node = m; sends = Some q; learns = learns } → nat_lt (length w.packets) w.room ≡ false → on_delivery w k i ≡ Err WorldFull
-    no_room_for_answer q e f = rw (sent, found, e, f) refl
-
     pub delivers_and_sends : (q : Packet) → handled w i n p ≡ record { node = m; sends = Some q; learns = learns } → nat_lt (length w.packets) w.room ≡ true
         → on_delivery w k i ≡ Ok (Delivered (Some (length w.packets)) learns, with_packet q (with_node_at i m w))
     delivers_and_sends q e f = rw (sent, found, e, f) refl
 
--- ---- a node starts
+-- ---- a node starts, or restarts
 
-module _ (w : World) (i : ℕ) where
-  pub nothing_starts : slice_get w.nodes i ≡ None → on_start w i ≡ Err NoNode
-  nothing_starts e = rw e refl
+module _ (w : World) (i : ℕ) (n : Node) (found : slice_get w.nodes i ≡ Some n) where
+  pub starts : votes w i ≡ true → nat_lt (current_period n) 1_200 ≡ true → nat_lt n.kept.round 10_000 ≡ true → nat_lt (length w.packets) w.room ≡ true
+      → on_start w i
+      ≡ Ok (Started (ballot_of (n.kept.round + 1) i (voter_count w)) (length w.packets), with_packet (Prepare (current_period n) (ballot_of (n.kept.round + 1) i (voter_count w))) (with_node_at i (started_node (voter_count w) (ballot_of (n.kept.round + 1) i (voter_count w)) n) w))
+  starts v e f g = rw (found, v, e, f, g) refl
 
-  module _ (n : Node) (found : slice_get w.nodes i ≡ Some n) where
-    pub observer_starts_nothing : votes w i ≡ false → on_start w i ≡ Err Observer
-    observer_starts_nothing v = rw (found, v) refl
-
-    pub all_closed : votes w i ≡ true → nat_lt (current_period n) 1_200 ≡ false → on_start w i ≡ Err AllClosed
-    all_closed v e = rw (found, v, e) refl
-
-    pub no_ballot : votes w i ≡ true → nat_lt (current_period n) 1_200 ≡ true → nat_lt n.kept.round 10_000 ≡ false → on_start w i ≡ Err NoBallot
-    no_ballot v e f = rw (found, v, e, f) refl
-
-    pub no_room_for_start : votes w i ≡ true → nat_lt (current_period n) 1_200 ≡ true → nat_lt n.kept.round 10_000 ≡ true → nat_lt (length w.packets) w.room ≡ false → on_start w i ≡ Err WorldFull
-    no_room_for_start v e f g = rw (found, v, e, f, g) refl
-
-    pub starts : votes w i ≡ true → nat_lt (current_period n) 1_200 ≡ true → nat_lt n.kept.round 10_000 ≡ true → nat_lt (length w.packets) w.room ≡ true
-        → on_start w i
-        ≡ Ok (Started (ballot_of (n.kept.round + 1) i (voter_count w)) (length w.packets), with_packet (Prepare (current_period n) (ballot_of (n.kept.round + 1) i (voter_count w))) (with_node_at i (started_node (voter_count w) (ballot_of (n.kept.round + 1) i (voter_count w)) n) w))
-    starts v e f g = rw (found, v, e, f, g) refl
-
-  -- ---- a node restarts
-
-  pub nothing_restarts : slice_get w.nodes i ≡ None → on_restart w i ≡ Err NoNode
-  nothing_restarts e = rw e refl
-
-  pub restarts : (n : Node) → slice_get w.nodes i ≡ Some n → on_restart w i ≡ Ok (Restarted, with_node_at i (wake n.kept) w)
-  restarts n e = rw e refl
+  pub restarts : on_restart w i ≡ Ok (Restarted, with_node_at i (wake n.kept) w)
+  restarts = rw found refl
 
 -- ---- a node exports
 
 module _ (w : World) (i p : ℕ) where
-  pub nothing_exports : slice_get w.nodes i ≡ None → snapshot w i p ≡ Err NoNode
-  nothing_exports e = rw e refl
-
-  module _ (n : Node) (found : slice_get w.nodes i ≡ Some n) where
-    pub not_closed : slice_get n.kept.learned p ≡ None → snapshot w i p ≡ Err (NotClosed (current_period n))
-    not_closed e = rw (found, e) refl
-
-    pub missing : (to : Cut) (absent : ℕ × ℕ) → slice_get n.kept.learned p ≡ Some to → first_missing n.kept.holding to ≡ Some absent → snapshot w i p ≡ Err (Missing absent.0 absent.1)
-    missing to absent e f = rw (found, e, f) refl
-
-    pub exports : (to : Cut) → slice_get n.kept.learned p ≡ Some to → first_missing n.kept.holding to ≡ None
-        → snapshot w i p
-        ≡ Ok (record { period = p; from = cut_before w.agents n.kept.learned p; to = to; batches = up_to to n.kept.holding; sheet = w.sheet; issuer = w.issuer })
-    exports to e f = rw (found, e, f) refl
-
   -- the reply to it is the snapshot, or why there is none, and the world stays
   pub exported_told : (s : Snapshot) → snapshot w i p ≡ Ok s → ◌≡◌ {A = Outcome} (Exported s, w) (step w (Export i p))
   exported_told s e = sym (rw e refl)

@@ -29,10 +29,6 @@ at_entry P (y ∷ ys) (suc k) x all e = at_entry P ys k x (All-tail P y ys all) 
 pub node_here : (w : World) (i : ℕ) (n : Node) → IsReached w → slice_get w.nodes i ≡ Some n → IsNode (voter_count w) w.agents w.journals n
 node_here w i n h found = at_entry (IsNode (voter_count w) w.agents w.journals) w.nodes i n (limits_here w h).each_node found
 
--- the packet that was sent is one
-pub packet_here : (w : World) (k : ℕ) (q : Packet) → IsReached w → slice_get w.packets k ≡ Some q → IsPacket (voter_count w) w.agents w.journals q
-packet_here w k q h sent = at_entry (IsPacket (voter_count w) w.agents w.journals) w.packets k q (limits_here w h).each_packet sent
-
 -- Where nothing is missing below it, the first sequence that is absent is the next one.
 pub next_is_absent : (sheet : Sheet) (h : Holding) (agent r : ℕ) → MeetsJournalRules sheet h → held h agent r ≡ None → 1 ≤ r
     → ((seq : ℕ) → 1 ≤ seq → seq < r → is_some (held h agent seq) ≡ true) → r ≡ next_seq h agent
@@ -67,24 +63,6 @@ module _ (sheet : Sheet) (h journals : Holding) (to : Cut) (is_holding : IsHoldi
   -- the batches up to the cut are the journals', and so keep the rules
   pub rules_of_export : MeetsJournalRules sheet (up_to to h)
   rules_of_export = subst (MeetsJournalRules sheet) (sym (same_up_to to h journals is_holding rules.is_holding agree)) (MeetsJournalRules-up_to sheet to journals rules)
-
--- none of them is missing
-pub export_lacks_nothing : (h : Holding) (to : Cut) → first_missing h to ≡ None → first_missing (up_to to h) to ≡ None
-export_lacks_nothing h to none = nothing_missing (up_to to h) to (λ agent seq some low. ap is_some (held-up_to to h agent seq low) ∙ held-up_to_where h to none agent seq some low)
-
--- the cut that was learned for the period before
-pub learned_before : (agents p : ℕ) (cuts : List Cut) (cut : Cut) → 1 ≤ p → slice_get cuts (p - 1) ≡ Some cut → cut ≡ cut_before agents cuts p
-learned_before agents zero cuts cut from found = absurd (omega (arith, from))
-learned_before agents (suc q) cuts cut from found =
-    let back : suc q - 1 ≡ q = omega arith in
-    sym (ap (λ o. unwrap_or o (zero_cut agents)) (sym (ap (slice_get cuts) back) ∙ found))
-
--- and the zero cut where there is none
-pub none_before : (agents p : ℕ) (cuts : List Cut) → (1 ≤ p → slice_get cuts (p - 1) ≡ None) → zero_cut agents ≡ cut_before agents cuts p
-none_before agents zero cuts none = refl
-none_before agents (suc q) cuts none =
-    let back : suc q - 1 ≡ q = omega arith in
-    sym (ap (λ o. unwrap_or o (zero_cut agents)) (sym (ap (slice_get cuts) back) ∙ none (omega arith)))
 
 -- snapshots of the same parts are the same
 pub same_parts : (period : ℕ) (f from t to : Cut) (h holding : Holding) (s sheet : Sheet) (i issuer : Issuer) → f ≡ from → t ≡ to → h ≡ holding → s ≡ sheet → i ≡ issuer

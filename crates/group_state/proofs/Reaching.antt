@@ -29,10 +29,6 @@ play_reached w es h = record {
   leads = play-append (opening h.voters h.observers h.agents h.sheet h.issuer) h.events es ∙ ap (λ u. (play u es).1) h.leads;
 }
 
--- and so does one step
-pub step_reached : (w : World) (e : Event) → IsReached w → IsReached (step w e).1
-step_reached w e h = play_reached w (e ∷ []) h
-
 -- the headline of the run that led here
 pub headline_here : (w : World) (h : IsReached w) → HoldsAfter h.voters h.observers h.agents h.sheet h.issuer h.events (play (opening h.voters h.observers h.agents h.sheet h.issuer) h.events).0 w
 headline_here w h =

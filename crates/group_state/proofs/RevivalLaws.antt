@@ -28,22 +28,7 @@ text_here w i n h found =
 module _ (w : World) (i : ℕ) where
   -- ---- the text of what a node keeps
 
-  pub nobody_keeps : slice_get w.nodes i ≡ None → ◌≡◌ {A = Outcome} (Refused NoNode, w) (step w (Keep i))
-  nobody_keeps e = sym (rw e refl)
-
-  pub keep_told : (n : Node) → slice_get w.nodes i ≡ Some n → ◌≡◌ {A = Outcome} (KeptText (kept_text (kept_now w n)), w) (step w (Keep i))
-  keep_told n e = sym (rw e refl)
-
   -- ---- a revival
-
-  pub nobody_revives : (offer : KeptOffer) → slice_get w.nodes i ≡ None → on_revival w i offer ≡ Err NoNode
-  nobody_revives offer e = rw e refl
-
-  pub bad_text : (n : Node) (fault : KeptTextFault) → slice_get w.nodes i ≡ Some n → on_revival w i (KeptBad fault) ≡ Err (BadKept fault)
-  bad_text n fault e = rw e refl
-
-  pub revival_refused : (offer : KeptOffer) (refusal : Refusal) → on_revival w i offer ≡ Err refusal → ◌≡◌ {A = Outcome} (Refused refusal, w) (step w (Revive i offer))
-  revival_refused offer refusal e = sym (ap (or_refused w) e)
 
   module _ (n : Node) (k : KeptAmong) (reached : IsReached w) (found : slice_get w.nodes i ≡ Some n) (has : HasText k) where
     abbrev with_test : Bool → Result Outcome Refusal

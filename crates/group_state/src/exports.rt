@@ -1,11 +1,10 @@
 //! A node exports a period.
 
-ghost use Rattle.std.specs.Prelude.{◌≡◌, ◌≤◌, IfOk};
+ghost use Rattle.std.specs.Prelude.{◌≡◌, IfOk};
 ghost use Rattle.std.specs.Arc.{arc_value};
 ghost use Rattle.metering_model.specs.Holding.{up_to};
 ghost use Rattle.metering_model.specs.World.{Export};
 ghost use Rattle.metering_model.specs.Step.{cut_before, snapshot, step};
-ghost use Rattle.metering_model.specs.Limits.{most_agents};
 ghost use Rattle.group_events.specs.Replies.{reply_of};
 ghost use Rattle.group_state.specs.Reached.{IsReached};
 ghost use Rattle.group_state.specs.Inner.Allowed.{MayTake};
@@ -17,30 +16,6 @@ use metering_model::Refusal;
 use sheet_text::Issuer;
 use std::alloc::{AllocError, Global};
 use std::sync::Arc;
-
-/// The cut that a node has learned for the period before, shared; the zero cut where there is none.
-fn cut_before(alloc: Global, node: &Node, agents: u8, period: u16) -> Result<Arc<Cut>, AllocError>
-    requires from { 1 ≤ agents }
-    requires to { agents ≤ most_agents }
-    ensures { IfOk result (λ cut. arc_value cut
-        ≡ cut_before agents node.now.node.kept.learned period) }
-{
-    let before = if period == 0 {
-        None
-    } else {
-        node.learned(period - 1)
-    };
-    match before {
-        Some(cut) => Arc::try_clone(cut),
-        None => {
-            let zero = Cut::zero(alloc, agents)?;
-            match Arc::new(alloc, zero) {
-                Ok(cut) => Ok(cut),
-                Err(_) => Err(AllocError),
-            }
-        }
-    }
-}
 
 impl GroupState {
     /// What the file of a period is made of at a node that has each batch up to its cut.
@@ -61,7 +36,7 @@ impl GroupState {
           issuer = self.now.issuer;
         }) }
     {
-        let from = cut_before(alloc, node, self.journals.agents(), period.number())?;
+        let from = node.cut_before(alloc, period.number())?;
         let to = Arc::try_clone(to)?;
         let sheet = Arc::try_clone(&self.sheet)?;
         let issuer = Arc::try_clone(&self.issuer)?;
@@ -82,13 +57,10 @@ impl GroupState {
         let Some(asked) = self.node(node) else {
             return Ok(Err(Refusal::NoNode));
         };
-        let learned = asked.current_period();
-        let (Some(of), Some(to)) = (Period::new(period), asked.learned(period)) else {
-            return Ok(Err(Refusal::NotClosed { learned }));
+        let (of, to) = match asked.cut_to_export(period) {
+            Ok(found) => found,
+            Err(refusal) => return Ok(Err(refusal)),
         };
-        if let Some((agent, seq)) = asked.store().first_missing(to) {
-            return Ok(Err(Refusal::Missing { agent, seq }));
-        }
         let taken = self.take_snapshot(alloc, asked, of, to)?;
         Ok(Ok(taken))
     }

@@ -17,9 +17,6 @@ use group_node::{Node, Packet};
 use metering_model::Refusal;
 use std::alloc::{AllocError, Global};
 
-/// A node begins no more ballots than this.
-const MOST_ROUNDS: u16 = 10_000;
-
 /// Node i begins its next ballot, of that period, and its first packet stands after those that were there.
 fn begin(
     packets: &mut Vec<Packet>,
@@ -49,18 +46,10 @@ impl GroupState {
         ensures { MatchResult result (λ period. MayBegin self.now node period)
             (λ refusal. on_start self.now node ≡ Err refusal) }
     {
-        let Some(starter) = self.nodes.get(usize::from(node)) else {
+        let Some(starter) = self.node(node) else {
             return Err(Refusal::NoNode);
         };
-        if node >= self.voters {
-            return Err(Refusal::Observer);
-        }
-        let Some(period) = Period::new(starter.current_period()) else {
-            return Err(Refusal::AllClosed);
-        };
-        if starter.round() >= MOST_ROUNDS {
-            return Err(Refusal::NoBallot);
-        }
+        let period = starter.period_to_begin(node)?;
         if !self.has_room() {
             return Err(Refusal::WorldFull);
         }

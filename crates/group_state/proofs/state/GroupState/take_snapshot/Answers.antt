@@ -8,7 +8,7 @@ use Rattle.group_state.proofs.state.GroupState.take_snapshot.Goals as goal
 
 pub returns : goal.returns
 returns c =
-    let agents = c.agents.ensures.value ∙ ap (λ (w : World). w.agents) c.self.view_is in
+    let agents = c.requires.among in
     let from = c.in_ok-from.ensures ∙ ap₂ (λ a p. cut_before a c.args.node.now.node.kept.learned p) agents c.number.ensures.value in
     let sheet = c.in_ok-sheet.ensures ∙ ap (λ (w : World). w.sheet) c.self.view_is in
     let issuer = c.in_ok-issuer.ensures ∙ ap (λ (w : World). w.issuer) c.self.view_is in
