@@ -1,18 +1,18 @@
 -- The transcript of one event more.
-use Rattle.std.proofs.Common.{◌≡◌, ℕ, ◌+◌, ◌<◌, ◌⊎◌, List, [], ◌∷◌, ◌++◌, length, map, take, drop, get_or, Option, inl, inr, ⊎_elim, sym, ap, subst, ◌∙◌, arith, append_assoc}
+use Rattle.std.proofs.Common.{◌≡◌, ℕ, ◌+◌, ◌<◌, ◌⊎◌, List, [], ◌∷◌, ◌++◌, length, map, take, drop, Option, Some, inl, inr, ⊎_elim, sym, ap, subst, ◌∙◌, arith, append_assoc}
 use Rattle.std.specs.Io.KnownBytes.{Appends}
+use Rattle.std.specs.List.{slice_get}
 use Rattle.std.proofs.KnownBytes.{Appends-trans}
 use Rattle.std.proofs.lemmas.List.{append-nil, map-append, map_more, take-append-drop, take_all}
 use Rattle.std.proofs.lemmas.Grind.{flat_map-append}
+use Rattle.std.proofs.lemmas.Option.{get_or_from_slice_get, slice_get_within}
 use Rattle.counted_io.specs.Writing.{AppendsPrefix}
 use Rattle.counted_io.proofs.Prefixes.{prefix_behind, prefix_within}
 use Rattle.metering_model.specs.World.{World, Event}
-use Rattle.metering_model.specs.Schedule as model
+use Rattle.metering_model.specs.Schedule.{Planned, event_of}
 use Rattle.metering_model.specs.Step.{play, step}
 use Rattle.metering_model.specs.Transcript.{reply_text, transcript}
 use Rattle.metering_model.proofs.PlayLaws.{play-last, replies-append}
-use Rattle.schedule_reader.specs.declared.events.Planned.{Planned}
-use Rattle.schedule_reader.specs.Events.{planned_of}
 use Rattle.schedule_player.specs.Inner.Playing.{IsTold, IsWorldAfter, events_of, text_of, world_after}
 
 -- events behind others
@@ -24,39 +24,32 @@ text_last : (w : World) (es : List Event) (e : Event) → text_of w (es ++ e ∷
 text_last w es e = text_parts w es (e ∷ []) ∙ ap (λ t. text_of w es ++ t) (append-nil (reply_text (step (play w es).1 e).0))
 
 events_split : (events : List Planned) (i : ℕ) → events_of events ≡ events_of (take i events) ++ events_of (drop i events)
-events_split events i =
-    ap events_of (sym (take-append-drop i events))
-    ∙ (ap (map model.event_of) (map-append planned_of (take i events) (drop i events))
-    ∙ map-append model.event_of (map planned_of (take i events)) (map planned_of (drop i events)))
+events_split events i = ap events_of (sym (take-append-drop i events)) ∙ map-append event_of (take i events) (drop i events)
 
-events_more : (events : List Planned) (i : ℕ) (default : Planned) → i < length events
-    → events_of (take (i + 1) events) ≡ events_of (take i events) ++ model.event_of (planned_of (get_or events i default)) ∷ []
-events_more events i default less =
-    ap (map model.event_of) (map_more planned_of events i default less)
-    ∙ map-append model.event_of (map planned_of (take i events)) (planned_of (get_or events i default) ∷ [])
+events_more : (events : List Planned) (i : ℕ) (e : Planned) → slice_get events i ≡ Some e
+    → events_of (take (i + 1) events) ≡ events_of (take i events) ++ event_of e ∷ []
+events_more events i e at =
+    map_more event_of events i e (slice_get_within events i e at)
+    ∙ ap (λ x. events_of (take i events) ++ event_of x ∷ []) (get_or_from_slice_get events i e e at)
 
-module _ (w u v : World) (events : List Planned) (i : ℕ) (default : Planned) (less : i < length events) where
-  -- what happens next
-  abbrev next : Event
-  next = model.event_of (planned_of (get_or events i default))
-
+module _ (w u v : World) (events : List Planned) (i : ℕ) (e : Planned) (at : slice_get events i ≡ Some e) where
   -- the world after one event more
-  pub world_more : u ≡ world_after w events i → v ≡ (step u (model.event_of (planned_of (get_or events i default)))).1 → v ≡ world_after w events (i + 1)
+  pub world_more : u ≡ world_after w events i → v ≡ (step u (event_of e)).1 → v ≡ world_after w events (i + 1)
   world_more here after =
-      after ∙ (ap (λ x. (step x next).1) here ∙ (sym (play-last w (events_of (take i events)) next) ∙ ap (λ es. (play w es).1) (sym (events_more events i default less))))
+      after ∙ (ap (λ x. (step x (event_of e)).1) here ∙ (sym (play-last w (events_of (take i events)) (event_of e)) ∙ ap (λ es. (play w es).1) (sym (events_more events i e at))))
 
   -- the world where one event more was done, or not
-  pub world_left : u ≡ world_after w events i → (v ≡ u) ⊎ (v ≡ (step u (model.event_of (planned_of (get_or events i default)))).1) → IsWorldAfter w events i v
-  world_left here = ⊎_elim (λ same. inl (same ∙ here)) (λ stepped. inr (less, world_more here stepped))
+  pub world_left : u ≡ world_after w events i → (v ≡ u) ⊎ (v ≡ (step u (event_of e)).1) → IsWorldAfter w events i v
+  world_left here = ⊎_elim (λ same. inl (same ∙ here)) (λ stepped. inr (slice_get_within events i e at, world_more here stepped))
 
   -- what was written and what waits, after one event more
   pub text_more : (written waits more : List ℕ) → u ≡ world_after w events i → written ++ waits ≡ text_of w (events_of (take i events))
-      → more ≡ waits ++ reply_text (step u (model.event_of (planned_of (get_or events i default)))).0 → written ++ more ≡ text_of w (events_of (take (i + 1) events))
+      → more ≡ waits ++ reply_text (step u (event_of e)).0 → written ++ more ≡ text_of w (events_of (take (i + 1) events))
   text_more written waits more here so_far after =
-      let text = reply_text (step u next).0 in
+      let text = reply_text (step u (event_of e)).0 in
       ap (λ t. written ++ t) after ∙ (sym (append_assoc written waits text) ∙ (ap (λ t. t ++ text) so_far
-      ∙ (ap (λ x. text_of w (events_of (take i events)) ++ reply_text (step x next).0) here
-      ∙ (sym (text_last w (events_of (take i events)) next) ∙ ap (text_of w) (sym (events_more events i default less))))))
+      ∙ (ap (λ x. text_of w (events_of (take i events)) ++ reply_text (step x (event_of e)).0) here
+      ∙ (sym (text_last w (events_of (take i events)) (event_of e)) ∙ ap (text_of w) (sym (events_more events i e at))))))
 
 -- some of what waits is written
 pub still_all : (written part waits more text : List ℕ) → part ++ waits ≡ more → written ++ more ≡ text → (written ++ part) ++ waits ≡ text

@@ -1,15 +1,13 @@
 -- What was written of a schedule, as what was written of the input that it was read from.
-use Rattle.std.proofs.Common.{◌≡◌, ◌+◌, ℕ, ◌<◌, ◌≤◌, ◌⊎◌, List, [], length, map, take, Option, Some, None, Result, Ok, Err, IsOk, OnOk, inl, inr, refl, sym, subst, ◌∙◌, arith, ⊎_elim}
+use Rattle.std.proofs.Common.{◌≡◌, ◌+◌, ℕ, ◌<◌, ◌≤◌, ◌⊎◌, List, [], length, take, Option, Some, None, Result, Ok, Err, IsOk, OnOk, inl, inr, refl, sym, subst, ◌∙◌, arith, ⊎_elim}
 use Rattle.std.specs.Io.KnownBytes.{Appends, Keeps}
-use Rattle.std.proofs.lemmas.List.{append-nil, length-map, take-map}
+use Rattle.std.proofs.lemmas.List.{append-nil}
 use Rattle.counted_io.specs.Writing.{AppendsPrefix}
 use Rattle.metering_model.specs.SheetRules.{IsSheet, IsIssuer}
-use Rattle.metering_model.specs.Schedule as model
 use Rattle.metering_model.proofs.StepLaws.{step_ok}
 use Rattle.metering_model.specs.World.{opening}
 use Rattle.metering_model.specs.Transcript.{transcript}
 use Rattle.schedule_reader.specs.declared.schedules.Schedule.{Schedule}
-use Rattle.schedule_reader.specs.Events.{planned_of}
 use Rattle.schedule_reader.specs.Schedules.{ReadSchedule, group_in, schedule_in}
 use Rattle.schedule_reader.specs.Forms.{IsRead}
 use Rattle.transcript_laws.proofs.EveryTranscript.{holds_of_bytes}
@@ -32,7 +30,7 @@ module _ (input : List ℕ) (s : Schedule) (taken : schedule_in input ≡ Ok (re
     is_read = taken;
     form = form;
     is_transcript = refl;
-    headline = holds_of_bytes s.voters s.observers s.agents s.sheet s.issuer (events_of s.events.items) rules.0 rules.1;
+    headline = holds_of_bytes s.voters s.observers s.agents s.sheet s.issuer (events_of s.events) rules.0 rules.1;
   }
 
   pub played_input : {T E : Type 0} (r : Result T E) (old new : Option (List ℕ)) → OnOk r (Appends old new (transcript (replies_to (read_of s) (read_of s).events)))
@@ -44,24 +42,21 @@ module _ (input : List ℕ) (s : Schedule) (taken : schedule_in input ≡ Ok (re
       → (text : List ℕ) × IsTranscriptOf (Some input) input text × AppendsPrefix old new text
   prefix_of_whole old new prefix = (transcript (replies_to (read_of s) (read_of s).events), whole, prefix)
 
-  first_of : (done : ℕ) → done < length s.events.items → IsTranscriptOfFirst (read_of s) done (text_of (opening s.voters s.observers s.agents s.sheet s.issuer) (events_of (take done s.events.items)))
-  first_of done within =
-      let same : take done (map planned_of s.events.items) ≡ map planned_of (take done s.events.items) = take-map planned_of done s.events.items in
-      let P = λ (events : List model.Planned). IsTranscriptOfFirst (read_of s) done (transcript (replies_to (read_of s) events)) in
-      subst P same (record {
-        within = omega (arith, within, length-map s.events.items planned_of);
-        is_transcript = refl;
-        headline = holds_of_bytes s.voters s.observers s.agents s.sheet s.issuer (map model.event_of (take done (map planned_of s.events.items))) rules.0 rules.1;
-      })
+  first_of : (done : ℕ) → done < length s.events → IsTranscriptOfFirst (read_of s) done (text_of (opening s.voters s.observers s.agents s.sheet s.issuer) (events_of (take done s.events)))
+  first_of done within = record {
+    within = within;
+    is_transcript = refl;
+    headline = holds_of_bytes s.voters s.observers s.agents s.sheet s.issuer (events_of (take done s.events)) rules.0 rules.1;
+  }
 
   pub prefix_of_input : (old new : Option (List ℕ))
-      → Keeps old new ⊎ AppendsFirst old new (opening s.voters s.observers s.agents s.sheet s.issuer) s.events.items
+      → Keeps old new ⊎ AppendsFirst old new (opening s.voters s.observers s.agents s.sheet s.issuer) s.events
       → (text : List ℕ) × IsPrefixOfTranscript (Some input) input text × Appends old new text
   prefix_of_input old new =
       ⊎_elim
       (λ kept. ([], record { is_input = refl; is_prefix = inl refl }, kept_appends old new kept))
       (λ first. (
-        text_of (opening s.voters s.observers s.agents s.sheet s.issuer) (events_of (take first.0 s.events.items)),
+        text_of (opening s.voters s.observers s.agents s.sheet s.issuer) (events_of (take first.0 s.events)),
         record {
           is_input = refl;
           is_prefix = inr (record { schedule = read_of s; is_read = taken; form = form; done = first.0; is_first = first_of first.0 first.1 });

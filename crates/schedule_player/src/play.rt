@@ -1,6 +1,6 @@
 //! `focusd play`: the transcript of a schedule.
 
-ghost use Rattle.std.specs.Prelude.{◌≡◌, ◌≢◌, ◌+◌, ◌≤◌, ◌⊎◌, List, ℕ, All, Ok, Err, Some, IfOk, IfErr, IfSome, IsOk, OnOk};
+ghost use Rattle.std.specs.Prelude.{◌≡◌, ◌≢◌, ◌+◌, ◌≤◌, ◌⊎◌, List, ℕ, Ok, Err, Some, IfOk, IfErr, IfSome, IsOk, OnOk};
 ghost use Rattle.std.specs.Io.KnownBytes.{Appends, IsAtEnd, Keeps};
 ghost use Rattle.metering_model.specs.Limits.{most_agents, most_nodes, most_input_bytes};
 ghost use Rattle.counted_io.specs.Counts.{count_after};
@@ -11,7 +11,6 @@ ghost use Rattle.metering_model.specs.World.{opening};
 ghost use Rattle.metering_model.specs.Transcript.{transcript};
 ghost use Rattle.program_input.specs.declared.ScheduleFault.{ScheduleFault};
 ghost use Rattle.schedule_reader.specs.Schedules.{group_in, schedule_in};
-ghost use Rattle.schedule_reader.specs.Events.{HasWholeLines};
 ghost use Rattle.program_input.specs.Faults.{tells_of_reader, tells_of_writer};
 ghost use Rattle.schedule_player.specs.Transcripts.{IsPrefixOfTranscript, IsTranscriptOf, replies_to};
 ghost use Rattle.schedule_player.specs.Inner.Playing.{AppendsFirst, read_of};
@@ -57,7 +56,6 @@ fn play_schedule<W: Sink>(
 ) -> Result<(), PlayFault>
     requires nodes { (1 ≤ schedule.voters) × (schedule.voters + schedule.observers ≤ most_nodes) }
     requires agents { (1 ≤ schedule.agents) × (schedule.agents ≤ most_agents) }
-    requires lines { All HasWholeLines schedule.events.items }
     ensures writes { Writes result (W.contents writer.old) (W.contents writer.new)
         (W.failed_calls writer.old) (W.failed_calls writer.new)
         (transcript (replies_to (read_of schedule.entry) (read_of schedule.entry).events)) }
@@ -66,7 +64,7 @@ fn play_schedule<W: Sink>(
         ⊎ AppendsFirst (W.contents writer.old) (W.contents writer.new)
         (opening schedule.entry.voters schedule.entry.observers schedule.entry.agents
         schedule.entry.sheet schedule.entry.issuer)
-        schedule.entry.events.items }
+        schedule.entry.events }
     ensures others { (result ≢ Err PlayFault.Read)
         × ((fault : ScheduleFault) → result ≢ Err (PlayFault.Schedule fault))
         × ((refusal : Refusal) → result ≢ Err (PlayFault.Refused refusal)) }

@@ -1,6 +1,6 @@
 //! The events of a schedule, one after the other, and the lines of their replies.
 
-ghost use Rattle.std.specs.Prelude.{◌≡◌, ◌<◌, ◌≤◌, ◌⊎◌, ◌++◌, [], ℕ, List, All, length, take, IfOk, OnOk, OnErr};
+ghost use Rattle.std.specs.Prelude.{◌≡◌, ◌<◌, ◌≤◌, ◌⊎◌, ◌++◌, [], ℕ, List, length, take, IfOk, OnOk, OnErr};
 ghost use Rattle.std.specs.Io.KnownBytes.{Appends};
 ghost use Rattle.metering_model.specs.Schedule.{event_of};
 ghost use Rattle.metering_model.specs.Step.{step};
@@ -14,7 +14,7 @@ use crate::events::event_of;
 use crate::reply_lines::ReplyLines;
 use counted_io::{Failed, Sink};
 use group_core::World;
-use schedule_reader::Planned;
+use schedule_reader::{Events, Planned};
 use std::alloc::{AllocError, Global};
 
 /// Does one event, and puts the text of its reply after what waits. Where an allocation fails, nothing of it waits.
@@ -69,11 +69,10 @@ fn write_many<W: Sink>(lines: &mut ReplyLines, writer: &mut W) -> Result<(), Fai
 fn play_on<W: Sink>(
     alloc: Global,
     world: &mut World,
-    events: &[Planned<'_>],
+    events: &Events<'_>,
     lines: &mut ReplyLines,
     writer: &mut W,
 ) -> Result<usize, Failed>
-    requires whole { All HasWholeLines events.now }
     requires none_wait { lines.old.text ≡ [] }
     requires held { IsHeldOf world.old lines.old.held }
     ensures played { IfOk result
@@ -83,8 +82,9 @@ fn play_on<W: Sink>(
         (W.failed_calls writer.old) (W.failed_calls writer.new)
         (text_of world.old (events_of events.now)) }
 {
-    for (done, planned) in events.iter().enumerate() {
-        let Ok(()) = play_event(alloc, world, planned, lines) else {
+    for done in 0..events.len() {
+        let planned = events.at(done);
+        let Ok(()) = play_event(alloc, world, &planned, lines) else {
             return Ok(done);
         };
         write_many(lines, writer)?;
@@ -97,10 +97,9 @@ fn play_on<W: Sink>(
 pub(crate) fn play_events<W: Sink>(
     alloc: Global,
     world: World,
-    events: &[Planned<'_>],
+    events: &Events<'_>,
     writer: &mut W,
 ) -> Result<usize, Failed>
-    requires { All HasWholeLines events.now }
     ensures within { IfOk result (λ done. done ≤ length events.now) }
     ensures played { IfOk result
         (λ done. Appends (W.contents writer.old) (W.contents writer.new)

@@ -1,5 +1,5 @@
 -- Of what was read of a schedule the line behind it is counted in the text.
-use Rattle.std.proofs.Common.{◌≡◌, ℕ, Bool, true, false, cond, List, length, Some, Result, Ok, codes, refl, ◌∙◌, subst, leb-true}
+use Rattle.std.proofs.Common.{◌≡◌, ℕ, Bool, true, false, cond, List, length, Ok, codes, sym, ◌∙◌, subst, leb-true, ◌≤◌}
 use Rattle.std.specs.Prelude.{nat_le}
 use Rattle.metering_model.specs.BatchReading.{is_same}
 use Rattle.metering_model.specs.Schedule.{Planned}
@@ -9,6 +9,7 @@ use Rattle.input_sections.specs.declared.faults.ScheduleCode.TheVariants.{Head, 
 use Rattle.input_sections.specs.Sections.{IsCounted, Unread, left, lines_left, whole_of, begins_with, first_line, number_behind, section_of, section_in, sheet_section, issuer_section}
 use Rattle.input_sections.proofs.CountedLines.{GoesOn, IsLeftOf, left_behind, whole_counted, lines_counted, first_counted, section_counted, sheet_counted, issuer_counted}
 use Rattle.schedule_reader.specs.Schedules.{Preamble, event_of_line, line_event, journal_event, revival_of_line, revival_event, event_in, head_line, nodes_behind, nodes_line, number_line, group_in, preamble_in}
+use Rattle.schedule_reader.proofs.ScheduleForms.{group_read}
 
 -- what goes on behind what goes on
 on_behind : (u v w : Unread) → GoesOn u v → GoesOn v w → GoesOn u w
@@ -101,3 +102,10 @@ preamble_counted text p h =
     let at_sheet = left_behind text group.0.3 sheet.0.1 above (sheet_counted group.0.3 sheet.0 above.counted sheet.1) in
     subst (λ q. IsLeftOf text q.rest) (ok_same _ _ issuer.2)
     (left_behind text sheet.0.1 issuer.0.1 at_sheet (issuer_counted sheet.0.1 issuer.0 at_sheet.counted issuer.1))
+
+-- so their text is not too long
+pub preamble_short : (text : List ℕ) (p : Preamble) → preamble_in text ≡ Ok p → length p.rest.text ≤ 16_777_216
+unfolding preamble_in
+preamble_short text p h =
+    let group = step_ok (group_in text) _ p h in
+    subst (λ t. length t ≤ 16_777_216) (sym (preamble_counted text p h).text_is) (group_read text group.0 group.1).short

@@ -10,3 +10,4 @@ pub mod WrittenSchedules
 pub mod WorkedFaults
 pub mod PreambleLaws
 pub mod CountedEvents
+pub mod PackedLaws

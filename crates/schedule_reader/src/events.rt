@@ -1,12 +1,13 @@
 //! The events of a schedule, one line or one journal at a time.
 
-ghost use Rattle.std.specs.Prelude.{◌≡◌, ◌≢◌, ◌≤◌, All, Ok, Err, Some, map, codes, option_map, IfOk, IfErr, IfSome, MatchResult};
-ghost use Rattle.metering_model.specs.Limits.{last_period, last_node, last_packet, most_revival_lines};
+ghost use Rattle.std.specs.Prelude.{◌≡◌, ◌≢◌, ◌≤◌, Ok, Err, Some, length, codes, option_map, IfOk, IfErr, IfSome, MatchResult};
+ghost use Rattle.metering_model.specs.Limits.{last_period, last_node, last_packet, most_input_bytes, most_revival_lines};
 ghost use Rattle.metering_model.specs.Schedule.{PlansDelivery, PlansStart, PlansRestart, PlansExport, PlansKeep};
 ghost use Rattle.schedule_reader.specs.Events.{HasWholeLines, planned_of};
 ghost use Rattle.schedule_reader.specs.Schedules.{one_behind, two_behind, event_of_line, line_event, journal_event, revival_of_line, revival_event, event_in, events_in};
 
 use crate::lines::{one_behind, two_behind};
+use crate::packed::{Events, Packed};
 use input_sections::{ScheduleCode, ScheduleFault, Unread, lines_below, read_section};
 use std::alloc::Global;
 
@@ -118,6 +119,7 @@ fn line_event<'a>(unread: &Unread<'a>) -> Result<(Planned<'a>, Unread<'a>), Sche
         (λ fault. line_event unread.now ≡ Err fault) }
     ensures want { IfErr result (λ fault. fault ≢ ScheduleFault.OutOfMemory) }
     ensures lines { IfOk result (λ r. HasWholeLines r.0) }
+    ensures text { IfOk result (λ r. r.1.text ≡ unread.now.text) }
 {
     let (line, rest) = unread.first_line(ScheduleCode::Event)?;
     match event_of_line(line) {
@@ -136,6 +138,7 @@ fn journal_event<'a>(unread: &Unread<'a>) -> Result<(Planned<'a>, Unread<'a>), S
         (λ fault. journal_event unread.now ≡ Err fault) }
     ensures want { IfErr result (λ fault. fault ≢ ScheduleFault.OutOfMemory) }
     ensures lines { IfOk result (λ r. HasWholeLines r.0) }
+    ensures text { IfOk result (λ r. r.1.text ≡ unread.now.text) }
 {
     let section = read_section(unread, ScheduleCode::Event, b"journal ", 1_001)?;
     Ok((Planned::Journal(section.text), section.rest))
@@ -161,6 +164,7 @@ fn revival_event<'a>(unread: &Unread<'a>) -> Result<(Planned<'a>, Unread<'a>), S
         (λ fault. revival_event unread.now ≡ Err fault) }
     ensures want { IfErr result (λ fault. fault ≢ ScheduleFault.OutOfMemory) }
     ensures lines { IfOk result (λ r. HasWholeLines r.0) }
+    ensures text { IfOk result (λ r. r.1.text ≡ unread.now.text) }
 {
     let line = unread.line();
     let (opening, below) = unread.first_line(ScheduleCode::Event)?;
@@ -187,6 +191,7 @@ pub fn event_in<'a>(unread: &Unread<'a>) -> Result<(Planned<'a>, Unread<'a>), Sc
         (λ fault. event_in unread.now ≡ Err fault) }
     ensures want { IfErr result (λ fault. fault ≢ ScheduleFault.OutOfMemory) }
     ensures lines { IfOk result (λ r. HasWholeLines r.0) }
+    ensures text { IfOk result (λ r. r.1.text ≡ unread.now.text) }
 {
     if unread.begins_with(b"journal ") {
         journal_event(unread)
@@ -197,29 +202,30 @@ pub fn event_in<'a>(unread: &Unread<'a>) -> Result<(Planned<'a>, Unread<'a>), Sc
     }
 }
 
-/// The events until nothing is left, and no more than `most`.
+/// The events until nothing is left, and no more than `most`. The lines of each end where what is left after it begins.
 pub(crate) fn events_in<'a>(
     alloc: Global,
     unread: Unread<'a>,
     most: usize,
-) -> Result<Vec<Planned<'a>>, ScheduleFault>
-    ensures taken { IfOk result
-        (λ events. events_in most unread.entry ≡ Ok (map planned_of events.items)) }
-    ensures lines { IfOk result (λ events. All HasWholeLines events.items) }
+) -> Result<Events<'a>, ScheduleFault>
+    requires { length unread.text ≤ most_input_bytes }
+    ensures taken { IfOk result (λ events. events_in most unread.entry ≡ Ok events) }
     ensures refused { IfErr result
         (λ fault. fault ≢ ScheduleFault.OutOfMemory → events_in most unread.entry ≡ Err fault) }
 {
-    let mut events = Vec::new(alloc);
+    let text = unread.left();
+    let first = unread.from();
+    let mut packed = Vec::new(alloc);
     let mut here = unread;
     for _ in 0..most {
         if here.left().is_empty() {
-            return Ok(events);
+            return Ok(Events::of(text, packed));
         }
         let (event, rest) = event_in(&here)?;
-        let Ok(_) = events.push(event) else {
+        let Ok(_) = packed.push(Packed::of(&event, rest.from() - first)) else {
             return Err(ScheduleFault::OutOfMemory);
         };
         here = rest;
     }
-    Ok(events)
+    Ok(Events::of(text, packed))
 }

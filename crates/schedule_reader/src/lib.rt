@@ -4,7 +4,9 @@
 mod events;
 pub mod laws;
 mod lines;
+mod packed;
 mod schedules;
 
 pub use events::{Planned, event_in};
+pub use packed::Events;
 pub use schedules::{Preamble, Schedule};

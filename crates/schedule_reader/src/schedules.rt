@@ -1,14 +1,14 @@
 //! A whole schedule.
 
-ghost use Rattle.std.specs.Prelude.{◌≡◌, ◌≢◌, ◌+◌, ◌≤◌, All, Ok, Err, IfOk, IfErr, IsOk, MatchResult, length, map, codes};
+ghost use Rattle.std.specs.Prelude.{◌≡◌, ◌≢◌, ◌+◌, ◌≤◌, Ok, Err, IfOk, IfErr, IsOk, MatchResult, length, codes};
 ghost use Rattle.metering_model.specs.Limits.{most_agents, most_nodes};
 ghost use Rattle.metering_model.specs.SheetRules.{IsSheet, IsIssuer};
-ghost use Rattle.schedule_reader.specs.Events.{HasWholeLines, planned_of};
 ghost use Rattle.schedule_reader.specs.Schedules.{head_line, nodes_line, number_line, group_in, preamble_in, schedule_in};
 ghost use Rattle.schedule_reader.specs.Forms.{IsRead};
 
-use crate::events::{Planned, events_in};
+use crate::events::events_in;
 use crate::lines::nodes_behind;
+use crate::packed::Events;
 use byte_text::is_same;
 use input_sections::{
     Issuer, ScheduleCode, ScheduleFault, Sheet, Unread, number_behind, read_issuer, read_sheet,
@@ -28,7 +28,7 @@ pub struct Schedule<'a> {
     pub sheet: Sheet,
     pub issuer: Issuer,
     /// What happens to the group, in order.
-    pub events: Vec<Planned<'a>>,
+    pub events: Events<'a>,
 }
 
 /// What is left after the first line of a schedule.
@@ -170,7 +170,7 @@ impl<'a> Schedule<'a> {
               agents = s.agents;
               sheet = s.sheet;
               issuer = s.issuer;
-              events = map planned_of s.events.items;
+              events = s.events;
             })) }
         ensures refused { IfErr result
             (λ fault. fault ≢ ScheduleFault.OutOfMemory → schedule_in text.now ≡ Err fault) }
@@ -183,9 +183,8 @@ impl<'a> Schedule<'a> {
               agents = s.agents;
               sheet = s.sheet;
               issuer = s.issuer;
-              events = map planned_of s.events.items;
+              events = s.events;
             })) }
-        ensures lines { IfOk result (λ s. All HasWholeLines s.events.items) }
         ensures rules { IfOk result (λ s. IsSheet s.sheet × IsIssuer s.issuer) }
     {
         let above = Preamble::read(alloc, text)?;

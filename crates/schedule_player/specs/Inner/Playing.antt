@@ -3,19 +3,17 @@ use Rattle.std.specs.Prelude.{◌≡◌, ℕ, ◌+◌, ◌<◌, ◌≤◌, ◌�
 use Rattle.std.specs.Io.KnownBytes.{Appends}
 use Rattle.metering_model.specs.World.{World, Event}
 use Rattle.metering_model.specs.Step.{play}
-use Rattle.metering_model.specs.Schedule as model
+use Rattle.metering_model.specs.Schedule.{Planned, event_of}
 use Rattle.metering_model.specs.Transcript.{transcript}
-use Rattle.schedule_reader.specs.declared.events.Planned.{Planned}
 use Rattle.schedule_reader.specs.declared.schedules.Schedule.{Schedule}
-use Rattle.schedule_reader.specs.Events.{planned_of}
 use Rattle.schedule_reader.specs.Schedules.{ReadSchedule}
 
 abbrev pub read_of : Schedule → ReadSchedule
-read_of s = record { voters = s.voters; observers = s.observers; agents = s.agents; sheet = s.sheet; issuer = s.issuer; events = map planned_of s.events.items }
+read_of s = record { voters = s.voters; observers = s.observers; agents = s.agents; sheet = s.sheet; issuer = s.issuer; events = s.events }
 
 -- what happens to the group, by the model
 abbrev pub events_of : List Planned → List Event
-events_of events = map model.event_of (map planned_of events)
+events_of events = map event_of events
 
 -- the transcript of these events from this world on
 abbrev pub text_of : World → List Event → List ℕ
