@@ -15,8 +15,8 @@ use Rattle.metering_model.proofs.Splitting.{cut_whole, list_all_both, lines_give
 use Rattle.byte_text.proofs.LineLemmas.{lines_at_feed}
 use Rattle.byte_text.proofs.PastLines.{lines_behind, lines_lack}
 use Rattle.byte_text.proofs.SplitLemmas.{split_nowhere}
-use Rattle.line_source.specs.Lines.{AreBetween, AreFewer, AreInFront, IsLineAt}
-use Rattle.line_source.specs.Reading.{IsEnded, Takes}
+use Rattle.line_source.specs.Lines.{AreBetween, AreInFront, IsLineAt}
+use Rattle.line_source.specs.Reading.{Takes}
 
 -- ---- the first line
 
@@ -144,15 +144,15 @@ module _ {from end count : ℕ} {text : List ℕ} (it : AreBetween from end text
       }
 
   -- no other line is there
-  pub fewer_between : (asked : ℕ) (left : Option (List ℕ)) → count < asked → IsEnded (drop end text) left → AreFewer from asked text left
-  fewer_between asked left few ended =
+  pub fewer_between : (asked : ℕ) → count < asked → lacks 10 (drop end text) ≡ true → length (lines_in (drop from text)).lines < asked
+  fewer_between asked few none_ends =
       let rest = drop end text in
       let ordered = it.ordered in
       let counted = it.counted in
       let behind : drop from text ≡ lines_text it.lines ++ rest =
       ap (drop from) (sym (take-append-drop end text)) ∙ drop-append-le from (take end text) rest (omega (arith, ordered, end_size)) ∙ ap (λ t. t ++ rest) it.are_lines in
-      let none : (lines_in rest).lines ≡ [] = ap (λ ps. (lines_of_parts ps).lines) (cut_whole 10 rest ended.0) in
+      let none : (lines_in rest).lines ≡ [] = ap (λ ps. (lines_of_parts ps).lines) (cut_whole 10 rest none_ends) in
       let all : (lines_in (drop from text)).lines ≡ it.lines =
       ap (λ t. (lines_in t).lines) behind ∙ ap (λ (x : Lines). x.lines) (lines_behind it.lines rest it.whole) ∙ ap (λ ls. it.lines ++ ls) none ∙ append-nil it.lines in
       let size = ap length all in
-      (omega (arith, size, counted, few), ended.1)
+      omega (arith, size, counted, few)

@@ -1,12 +1,13 @@
 -- Reading on, and taking what was read: one after the other, and a line by its parts.
-use Rattle.std.proofs.Common.{◌≡◌, ℕ, ◌+◌, true, List, [], ◌∷◌, ◌++◌, take, drop, Option, refl, sym, ap, ◌∙◌, arith, append_assoc, append-nil, subst}
+use Rattle.std.proofs.Common.{◌≡◌, ℕ, ◌+◌, ◌≤◌, Bool, true, false, List, [], ◌∷◌, ◌++◌, take, drop, Option, refl, sym, ap, ◌∙◌, arith, append_assoc, append-nil, length, leb, leb-true, subst}
 use Rattle.std.proofs.KnownBytes.{Consumes-trans}
+use Rattle.std.proofs.lemmas.Bool.{leb-false}
 use Rattle.std.proofs.lemmas.List.{length-append}
 use Rattle.metering_model.specs.Batch.{lacks}
 use Rattle.metering_model.specs.Transcript.{line}
 use Rattle.metering_model.proofs.Splitting.{list_all_both}
 use Rattle.line_source.specs.Lines.{IsLineAt}
-use Rattle.line_source.specs.Reading.{Takes, TakesLine, TakesPart}
+use Rattle.line_source.specs.Reading.{ReadsUpTo, Takes, TakesLine, TakesPart}
 
 -- ---- bytes that came, and those that were taken
 
@@ -51,6 +52,16 @@ module _ {a b : List ℕ} {r s : ℕ} {l m : Option (List ℕ)} {xs : List ℕ} 
   -- whatever is taken then
   pub taken_on : {c : List ℕ} {t : ℕ} {n : Option (List ℕ)} → (taken : List ℕ) × Takes b c s t m n taken → (taken : List ℕ) × Takes a c r t l n taken
   taken_on next = (xs ++ next.0, takes_on next.1)
+
+-- ---- within so many bytes
+
+-- one call after the other reads no further than each does
+pub up_to_on : (most : ℕ) (a b c : List ℕ) → ReadsUpTo most a b → ReadsUpTo most b c → ReadsUpTo most a c
+up_to_on most a b c first next longer = by (leb (length c) (length b)) refl
+  where
+    by : (is_first : Bool) → leb (length c) (length b) ≡ is_first → length c ≤ most + 65_536
+    by true e = let low = leb-true (length c) (length b) e in let in_first = first (omega (arith, low, longer)) in omega (arith, low, in_first)
+    by false e = next (leb-false (length c) (length b) e)
 
 -- ---- a line by its parts
 

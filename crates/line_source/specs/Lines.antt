@@ -6,6 +6,8 @@ use Rattle.metering_model.specs.Batch.{lacks}
 use Rattle.metering_model.specs.BatchReading.{lines_in}
 use Rattle.metering_model.specs.Transcript.{line}
 use Rattle.metering_model.specs.Schedule.{TextLines, lines_text}
+use Rattle.line_source.specs.declared.lines.Found.{Found}
+use Rattle.line_source.specs.declared.lines.Found.TheVariants as found
 
 -- a line ends at that byte
 pub record IsLineAt (text : List ℕ) (at : ℕ) : Type 0 where
@@ -39,3 +41,13 @@ pub record AreBetween (from end : ℕ) (text : List ℕ) (count : ℕ) : Type 0 
 -- fewer lines stand behind that place, and no more comes
 abbrev pub AreFewer : ℕ → ℕ → List ℕ → Option (List ℕ) → Type 0
 AreFewer from count text left = (length (lines_in (drop from text)).lines < count) × IsAtEnd left
+
+-- fewer lines stand behind that place, and more than so many bytes are ahead in all
+abbrev pub AreCutOff : (from count most : ℕ) → List ℕ → Type 0
+AreCutOff from count most text = (length (lines_in (drop from text)).lines < count) × (most < length text)
+
+-- what is said of lines that are looked for within so many bytes
+abbrev pub IsFound : (from count most : ℕ) → List ℕ → Option (List ℕ) → Found → Type 0
+IsFound from count most text left (found.Lines end) = AreBetween from end text count
+IsFound from count most text left found.Fewer = AreFewer from count text left
+IsFound from count most text left found.CutOff = AreCutOff from count most text

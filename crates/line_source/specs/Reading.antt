@@ -1,5 +1,5 @@
 -- Reading ahead, and what was taken of it.
-use Rattle.std.specs.Prelude.{◌≡◌, ℕ, ◌+◌, true, List, ◌++◌, length, Option}
+use Rattle.std.specs.Prelude.{◌≡◌, ℕ, ◌+◌, ◌<◌, ◌≤◌, true, List, ◌++◌, length, Option}
 use Rattle.std.specs.Io.KnownBytes.{Consumes, IsAtEnd}
 use Rattle.metering_model.specs.Batch.{lacks}
 use Rattle.metering_model.specs.Transcript.{line}
@@ -31,3 +31,7 @@ pub record TakesLine (ahead rest : List ℕ) (read read' : ℕ) (left left' : Op
 -- no byte is left that ends a line, neither ahead nor to be read
 abbrev pub IsEnded : List ℕ → Option (List ℕ) → Type 0
 IsEnded rest left = (lacks 10 rest ≡ true) × IsAtEnd left
+
+-- More is read only while no more than so many bytes are ahead: so what is ahead then passes them by a block at most.
+abbrev pub ReadsUpTo : (most : ℕ) (ahead ahead' : List ℕ) → Type 0
+ReadsUpTo most ahead ahead' = length ahead < length ahead' → length ahead' ≤ most + 65_536

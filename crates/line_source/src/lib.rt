@@ -6,5 +6,7 @@ mod lines;
 mod unread;
 
 pub use faults::SourceFault;
-pub use lines::{line_end, lines_end, lines_in_front, pass_line, read_ahead};
+pub use lines::{
+    Found, line_end, lines_end, lines_end_within, lines_in_front, pass_line, read_ahead,
+};
 pub use unread::Unread;

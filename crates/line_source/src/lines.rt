@@ -1,17 +1,28 @@
 //! Lines of what a source gives.
 
-ghost use Rattle.std.specs.Prelude.{◌≡◌, ◌+◌, ◌<◌, ◌≤◌, ℕ, List, [], length, drop, true, false, Ok, IfOk, MatchOption};
+ghost use Rattle.std.specs.Prelude.{◌≡◌, ◌+◌, ◌<◌, ◌≤◌, ◌⊎◌, ℕ, List, [], length, drop, true, false, Ok, IfOk, MatchOption};
 ghost use Rattle.std.specs.Io.KnownBytes.{IsAtEnd};
 ghost use Rattle.metering_model.specs.Limits.{most_transcript_bytes};
 ghost use Rattle.metering_model.specs.Batch.{lacks};
 ghost use Rattle.line_source.specs.Calls.{ReadsWithin};
-ghost use Rattle.line_source.specs.Lines.{AreBetween, AreFewer, AreInFront, IsLineAt, IsShareOf};
-ghost use Rattle.line_source.specs.Reading.{IsEnded, Takes, TakesLine, TakesPart};
+ghost use Rattle.line_source.specs.Lines.{AreBetween, AreFewer, AreInFront, IsFound, IsLineAt, IsShareOf};
+ghost use Rattle.line_source.specs.Reading.{IsEnded, ReadsUpTo, Takes, TakesLine, TakesPart};
 
 use crate::faults::SourceFault;
 use crate::unread::Unread;
 use byte_text::find_byte;
 use counted_io::Source;
+
+/// What came of lines that are looked for within so many bytes.
+#[derive(Clone, Copy, Debug, PartialEq, Eq)]
+pub enum Found {
+    /// They are ahead, and end at that place.
+    Lines(usize),
+    /// No more comes, and fewer are ahead.
+    Fewer,
+    /// Fewer are ahead, and more bytes than those: no more is read.
+    CutOff,
+}
 
 /// Where the first line of a text ends, at its line feed.
 fn first_feed(text: &[u8]) -> Option<usize>
@@ -21,19 +32,22 @@ fn first_feed(text: &[u8]) -> Option<usize>
 }
 
 /// Reads until the line ends that begins behind the first bytes ahead, so many, and returns how long it is: None where no
-/// more comes. No byte is searched twice, however often more is read.
+/// more comes, or more than the most bytes are ahead. No byte is searched twice, however often more is read.
 fn line_length<S: Source>(
     unread: &mut Unread,
     source: &mut S,
     from: usize,
+    most: usize,
 ) -> Result<Option<usize>, SourceFault>
     requires read { unread.old.read ≤ most_transcript_bytes }
     requires from { from ≤ length unread.old.bytes }
     ensures takes { Takes unread.old.bytes unread.new.bytes unread.old.read unread.new.read
         (S.remaining source.old) (S.remaining source.new) [] }
     ensures found { IfOk result (λ found. MatchOption found
-        (IsEnded (drop from unread.new.bytes) (S.remaining source.new))
+        ((lacks 10 (drop from unread.new.bytes) ≡ true)
+        × (IsAtEnd (S.remaining source.new) ⊎ (most < length unread.new.bytes)))
         (IsLineAt (drop from unread.new.bytes))) }
+    ensures block { ReadsUpTo most unread.old.bytes unread.new.bytes }
     ensures reads { ReadsWithin result unread.new.read (S.failed_calls source.old)
         (S.failed_calls source.new) }
 {
@@ -43,7 +57,11 @@ fn line_length<S: Source>(
         if let Some(length) = first_feed(fresh) {
             return Ok(Some(scanned + length));
         }
-        scanned = unread.ahead().len() - from;
+        let length = unread.ahead().len();
+        if length > most {
+            return Ok(None);
+        }
+        scanned = length - from;
         let is_more = unread.fill(source)?;
         if !is_more {
             return Ok(None);
@@ -64,7 +82,46 @@ pub fn line_end<S: Source>(
     ensures reads { ReadsWithin result unread.new.read (S.failed_calls source.old)
         (S.failed_calls source.new) }
 {
-    line_length(unread, source, 0)
+    let found = line_length(unread, source, 0, usize::MAX)?;
+    // For the proof alone: a slice ends within a usize.
+    let _ahead = unread.ahead();
+    Ok(found)
+}
+
+/// Reads until so many whole lines are ahead behind the first bytes, or more than the most bytes are ahead in all: then no more
+/// is read. A line without end takes no more room than these and a block.
+pub fn lines_end_within<S: Source>(
+    unread: &mut Unread,
+    source: &mut S,
+    from: usize,
+    count: u64,
+    most: usize,
+) -> Result<Found, SourceFault>
+    requires read { unread.old.read ≤ most_transcript_bytes }
+    requires from { from ≤ length unread.old.bytes }
+    ensures takes { Takes unread.old.bytes unread.new.bytes unread.old.read unread.new.read
+        (S.remaining source.old) (S.remaining source.new) [] }
+    ensures found { IfOk result (IsFound from count most
+        unread.new.bytes (S.remaining source.new)) }
+    ensures block { ReadsUpTo most unread.old.bytes unread.new.bytes }
+    ensures reads { ReadsWithin result unread.new.read (S.failed_calls source.old)
+        (S.failed_calls source.new) }
+{
+    let mut end = from;
+    let mut passed = 0;
+    while passed < count {
+        let Some(length) = line_length(unread, source, end, most)? else {
+            if unread.ahead().len() > most {
+                return Ok(Found::CutOff);
+            }
+            return Ok(Found::Fewer);
+        };
+        // For the proof alone: a slice ends within a usize.
+        let _ahead = unread.ahead();
+        end += length + 1;
+        passed += 1;
+    }
+    Ok(Found::Lines(end))
 }
 
 /// Reads until so many whole lines are ahead behind the first bytes, and returns how many bytes these and the lines have
@@ -85,18 +142,13 @@ pub fn lines_end<S: Source>(
     ensures reads { ReadsWithin result unread.new.read (S.failed_calls source.old)
         (S.failed_calls source.new) }
 {
-    let mut end = from;
-    let mut passed = 0;
-    while passed < count {
-        let Some(length) = line_length(unread, source, end)? else {
-            return Ok(None);
-        };
-        // For the proof alone: a slice ends within a usize.
-        let _ahead = unread.ahead();
-        end += length + 1;
-        passed += 1;
+    let found = lines_end_within(unread, source, from, count, usize::MAX)?;
+    // No slice has more bytes than a usize, so nothing is cut off.
+    let _ahead = unread.ahead();
+    match found {
+        Found::Lines(end) => Ok(Some(end)),
+        Found::Fewer | Found::CutOff => Ok(None),
     }
-    Ok(Some(end))
 }
 
 /// Reads until so many bytes are ahead, and returns whether they are: where not, no more come.

@@ -160,6 +160,7 @@ impl Unread {
             (S.remaining source.old) (S.remaining source.new) [] }
         ensures more { result ≡ Ok true → length self.old.bytes < length self.new.bytes }
         ensures end { result ≡ Ok false → (self.new ≡ self.old) × IsAtEnd (S.remaining source.new) }
+        ensures block { length self.new.bytes ≤ length self.old.bytes + 65_536 }
         ensures reads { ReadsWithin result self.new.read (S.failed_calls source.old)
             (S.failed_calls source.new) }
     {

@@ -1,20 +1,40 @@
-use Rattle.std.proofs.Common.{◌≡◌, ℕ, ◌+◌, ◌≤◌, List, rules, arith, ap, drop, length}
+use Rattle.std.proofs.Common.{◌≡◌, ◌⊎◌, inl, inr, ℕ, ◌+◌, ◌<◌, ◌≤◌, List, true, rules, arith, ap, drop, length}
+use Rattle.std.specs.Io.KnownBytes.{IsAtEnd}
 use Rattle.std.proofs.lemmas.List.{length-drop}
+use Rattle.metering_model.specs.Batch.{lacks}
 use Rattle.line_source.specs.Lines.{AreBetween, IsLineAt}
 use Rattle.line_source.proofs.LineTexts.{between_on, fewer_between, one_more_between}
-use Rattle.line_source.proofs.Taking.{reads_on}
-use Rattle.line_source.proofs.lines.lines_end.Given as given
-use Rattle.line_source.proofs.lines.lines_end.Goals.{After-line_length, In-Some}
-use Rattle.line_source.proofs.lines.lines_end.Goals as goal
+use Rattle.line_source.proofs.Taking.{reads_on, up_to_on}
+use Rattle.line_source.proofs.lines.lines_end_within.Given as given
+use Rattle.line_source.proofs.lines.lines_end_within.Goals.{After-line_length, In-Some, In_default}
+use Rattle.line_source.proofs.lines.lines_end_within.Goals as goal
 
 -- the lines are there still, behind which more was read
 between : (g : given.Over) (c : After-line_length g) → AreBetween c.args.from c.loop-passed.end c.line_length.new.unread.bytes c.loop-passed.passed
 between g c = between_on c.loop-passed.invariant.between c.line_length.ensures.takes
 
+-- no more lines are
+none_ends : (g : given.Over) (c : In_default g)
+    → (lacks 10 (drop c.loop-passed.end c.line_length.new.unread.bytes) ≡ true)
+    × (IsAtEnd (g.S.Source.remaining c.line_length.new.source) ⊎ (c.args.most < length c.line_length.new.unread.bytes))
+none_ends g c = rw c.in_default.is at c.in_ok-length.ensures.found
+
+pub returns-then-ahead-most-clause-found : goal.returns-then-ahead-most-clause-found
+returns-then-ahead-most-clause-found g c =
+    let at = goal.at.returns-then-ahead-most-clause-found g c in
+    let none = none_ends g at.In_default in
+    (fewer_between (between g at.After-line_length) c.args.count (omega (arith, c.loop-passed-test.true)) none.0, omega (arith, c.if-ahead-most.true, ap length c.ahead.ensures))
+
 pub returns-in_default-clause-found : goal.returns-in_default-clause-found
 returns-in_default-clause-found g c =
-    let lines = between g (goal.at.returns-in_default-clause-found g c).After-line_length in
-    fewer_between lines c.args.count (g.S.Source.remaining c.line_length.new.source) (omega (arith, c.loop-passed-test.true)) (rw c.in_default.is at c.in_ok-length.ensures.found)
+    let at = goal.at.returns-in_default-clause-found g c in
+    let none = none_ends g at.In_default in (
+      fewer_between (between g at.After-line_length) c.args.count (omega (arith, c.loop-passed-test.true)) none.0,
+      elim none.1 [
+        | inl ended ↦ ended
+        | inr more ↦ absurd (omega (arith, more, c.if-ahead-most.false, ap length c.ahead.ensures))
+      ],
+    )
 
 -- and the next one is
 next : (g : given.Over) (c : In-Some g) → IsLineAt (drop c.loop-passed.end c.line_length.new.unread.bytes) c.in-Some.length
@@ -37,6 +57,7 @@ loop-passed-preserved g c = record {
   between = one_more_between (between g (goal.at.loop-passed-preserved g c).After-line_length) c.in-Some.length (next g (goal.at.loop-passed-preserved g c).In-Some);
   few = omega arith;
   takes = reads_on c.loop-passed.invariant.takes c.line_length.ensures.takes;
+  block = up_to_on c.args.most c.args.unread.now.bytes c.loop-passed.unread.bytes c.line_length.new.unread.bytes c.loop-passed.invariant.block c.line_length.ensures.block;
   short = c.in_ok-length.ensures.reads.within;
   quiet = search rules;
 }
