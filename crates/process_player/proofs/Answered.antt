@@ -1,11 +1,10 @@
 -- Whole answers, however many.
 use Rattle.std.proofs.Common.{◌⊎◌, ℕ, List, Option, inl, inr}
-use Rattle.process_text.specs.declared.processes.Process.{Process}
 use Rattle.process_player.specs.declared.heads.ProcessKind.{ProcessKind}
-use Rattle.process_player.specs.Runs.{HasAnswered, Runs}
+use Rattle.process_player.specs.Runs.{HasAnswered, RunsWhole}
 
 -- What a call that stops leaves, whatever it left to read.
 pub has_answered : (Same : Type 0) (k : ProcessKind) (known left old new : Option (List ℕ))
-    → Same ⊎ ((last : Process) × (piece : List ℕ) × Runs k known left old new last piece) → Same ⊎ HasAnswered k known old new
+    → Same ⊎ RunsWhole k known left old new → Same ⊎ HasAnswered k known old new
 has_answered Same k known left old new (inl same) = inl same
-has_answered Same k known left old new (inr it) = inr (record { left = left; last = it.0; piece = it.1; runs = it.2 })
+has_answered Same k known left old new (inr it) = inr (record { left = left; whole = it })

@@ -1,5 +1,5 @@
 -- Where a preamble ends that is ahead.
-use Rattle.std.proofs.Common.{◌≡◌, ℕ, ◌+◌, ◌-◌, ◌<◌, ◌≤◌, false, List, [], ◌∷◌, ◌++◌, length, take, drop, Option, Some, None, inl, inr, Ok, Err, codes, refl, sym, ap, ◌∙◌, subst, arith, append_assoc, append-nil}
+use Rattle.std.proofs.Common.{◌≡◌, ◌≢◌, ℕ, ◌+◌, ◌-◌, ◌<◌, ◌≤◌, true, false, List, [], ◌∷◌, ◌++◌, length, take, drop, Option, Some, None, inl, inr, Ok, Err, codes, refl, sym, ap, ◌∙◌, subst, arith, append_assoc, append-nil}
 use Rattle.std.specs.Option.{option_map}
 use Rattle.std.specs.Io.KnownBytes.{Consumes, IsAtEnd}
 use Rattle.std.proofs.Math.Seq.{drop-append_seam, take-append_seam}
@@ -17,15 +17,17 @@ use Rattle.metering_model.proofs.Splitting.{lines_give_back, lines_of_text}
 use Rattle.input_sections.specs.declared.faults.ScheduleFault.{ScheduleFault}
 use Rattle.input_sections.specs.Sections.{Unread, left, lines_left, number_behind}
 use Rattle.byte_text.proofs.PastLines.{lines_behind}
-use Rattle.line_source.specs.Lines.{AreBetween, AreFewer}
+use Rattle.line_source.specs.declared.lines.Found.{Found}
+use Rattle.line_source.specs.declared.lines.Found.TheVariants as found_at
+use Rattle.line_source.specs.Lines.{AreBetween, IsFound}
 use Rattle.line_source.specs.Reading.{Takes}
 use Rattle.log_text.specs.LogText.{ReadLog}
 use Rattle.process_player.specs.declared.heads.ProcessKind.{ProcessKind}
 use Rattle.process_player.specs.declared.preambles.Judged.{Judged}
 use Rattle.process_player.specs.declared.preambles.Judged.TheVariants.{Whole, Part}
-use Rattle.process_player.specs.Starts.{Preamble, kind_word, preamble_in}
-use Rattle.process_player.specs.Refusals.{AtFirst, AtIssuer, AtSheet, EndWrong, IsAll, IsJudged, IsPreamble, IsUpToWrong, RefusesPreamble, preamble_lines, section_below, section_lines, with_issuer}
-use Rattle.process_player.specs.Inner.Fronts.{IsNoPreamble, IsNoSection, IsPreambleTo, IsSection, IsSectionTo, IsWrongAt, end_of}
+use Rattle.process_player.specs.Starts.{Preamble, heads_log, kind_word, preamble_in}
+use Rattle.process_player.specs.Refusals.{AtFirst, AtIssuer, AtSecond, AtSheet, EndWrong, IsAll, IsJudged, IsPreamble, IsTooLong, IsUpToWrong, RefusesPreamble, preamble_lines, section_below, section_lines, with_issuer}
+use Rattle.process_player.specs.Inner.Fronts.{AreAbsent, AreHeads, IsLast, IsNoPreamble, IsNoSection, IsPreambleTo, IsSection, IsSectionTo, IsWrongAt, end_of}
 use Rattle.process_player.specs.Inner.Reading.{HasRead, Passes}
 use Rattle.process_player.specs.Inner.Refusing.{OfAll}
 use Rattle.process_player.proofs.Passing.{passes_front, passes_of}
@@ -83,6 +85,12 @@ module _ {from end count : ℕ} {text : List ℕ} (it : AreBetween from end text
             ∙ sym (flat_map-append line it.lines next.lines);
       }
 
+-- where not all lines were found, no more is read
+pub absent : (from count : ℕ) (text : List ℕ) (left : Option (List ℕ)) (found : Found) → IsFound from count 16_777_216 text left found → ((end : ℕ) → found ≢ found_at.Lines end) → AreAbsent from count text left
+absent from count text left (found_at.Lines end) it none = absurd (none end refl)
+absent from count text left found_at.Fewer it none = (it.0, inl it.1)
+absent from count text left found_at.CutOff it none = (it.0, inr it.1)
+
 -- ---- a section
 
 one_line : (ls : TextLines) → length ls ≡ 1 → (l : List ℕ) × (ls ≡ l ∷ [])
@@ -95,7 +103,7 @@ no_line [] h = refl
 no_line (l ∷ ls) h = absurd (omega (arith, h))
 
 -- the line that opens it does not come
-pub none_opens : (word : List ℕ) (most from end : ℕ) (text : List ℕ) (left : Option (List ℕ)) → from ≤ length text → end ≡ length text → AreFewer from 1 text left → IsNoSection word most from end text left
+pub none_opens : (word : List ℕ) (most from end : ℕ) (text : List ℕ) (left : Option (List ℕ)) → from ≤ length text → end ≡ length text → AreAbsent from 1 text left → IsNoSection word most from end text left
 none_opens word most from end text left long is few = record {
   ordered = omega (arith, long, is);
   none =
@@ -138,7 +146,7 @@ module _ {from opening : ℕ} {text : List ℕ} (it : AreBetween from opening te
     says = ap (number_behind word most) (sym is_part) ∙ said
 
     -- fewer lines come than it says
-    pub too_few : (end : ℕ) → end ≡ length after → AreFewer opening n after m → IsNoSection word most from end after m
+    pub too_few : (end : ℕ) → end ≡ length after → AreAbsent opening n after m → IsNoSection word most from end after m
     too_few end is few =
         let rest = (lines_in (drop opening after)).lines in
         let there = between_more it more in
@@ -167,28 +175,77 @@ few_lines [] h = refl
 few_lines (l ∷ []) h = refl
 few_lines (l ∷ m ∷ ls) h = absurd (omega (arith, h))
 
--- they do not come
-pub no_heads : (k : ProcessKind) (count end : ℕ) (text : List ℕ) (left : Option (List ℕ)) → count ≤ 2 → end ≡ length text → AreFewer 0 count text left → IsNoPreamble k end text left
-no_heads k count end text left most is few = record {
+-- the first does not come
+pub no_first : (k : ProcessKind) (end : ℕ) (text : List ℕ) (left : Option (List ℕ)) → end ≡ length text → AreAbsent 0 1 text left → IsNoPreamble k end text left
+no_first k end text left is few = record {
   none =
       ap (λ t. preamble_lines (lines_in t).lines) (take_all end text (omega (arith, is)))
-      ∙ few_lines (lines_in text).lines (let fewer = few.0 in omega (arith, fewer, most));
+      ∙ few_lines (lines_in text).lines (let fewer = few.0 in omega (arith, fewer));
   judged = inl (is, few.1);
 }
 
--- the first is another
+is_front : {end : ℕ} {text : List ℕ} (it : AreBetween 0 end text 1) → take (end - 1) text ≡ (is_one it).0
+is_front {end} {text} it = ap (λ n. take n text) (omega arith) ∙ is_part it
+
+-- it is another
 pub other_first : (k : ProcessKind) {end : ℕ} {text : List ℕ} {left : Option (List ℕ)} → AreBetween 0 end text 1 → is_same (take (end - 1) text) (kind_word k) ≡ false → IsNoPreamble k end text left
 other_first k {end} {text} {left} it other =
     let one = is_one it in
-    let same : take (end - 1) text ≡ one.0 = ap (λ n. take n text) (omega arith) ∙ is_part it in
     record {
       none = ap preamble_lines (are_alone it);
       judged = inr (record {
         lines = it.lines;
         whole = it.whole;
         are_lines = it.are_lines;
-        wrong = subst (EndWrong k) (sym one.1) (AtFirst one.0 (ap (λ l. is_same l (kind_word k)) (sym same) ∙ other));
+        wrong = subst (EndWrong k) (sym one.1) (AtFirst one.0 (ap (λ l. is_same l (kind_word k)) (sym (is_front it)) ∙ other));
       });
+    }
+
+module _ (k : ProcessKind) {first : ℕ} {text after : List ℕ} {r s : ℕ} {l m : Option (List ℕ)} (it : AreBetween 0 first text 1) (more : Takes text after r s l m []) where
+  -- the second does not come
+  pub no_second : (end : ℕ) → end ≡ length after → AreAbsent first 1 after m → IsNoPreamble k end after m
+  no_second end is few =
+      let rest = (lines_in (drop first after)).lines in
+      let there = between_more it more in
+      let all : (lines_in after).lines ≡ there.lines ++ rest = lines_from there in
+      let fewer = few.0 in
+      let counted = there.counted in
+      record {
+        none =
+            ap (λ t. preamble_lines (lines_in t).lines) (take_all end after (omega (arith, is)))
+            ∙ few_lines (lines_in after).lines (omega (arith, ap length all, length-append there.lines rest, counted, fewer));
+        judged = inl (is, few.1);
+      }
+
+  module _ {both : ℕ} (next : AreBetween first both after 1) where
+    abbrev two_lines : AreBetween 0 both after 2
+    two_lines = two_between (between_more it more) next
+
+    are_two : two_lines.lines ≡ (is_one it).0 ∷ (is_one next).0 ∷ []
+    are_two = ap (λ ls. ls ++ next.lines) (is_one it).1 ∙ ap (λ ls. (is_one it).0 ∷ ls) (is_one next).1
+
+    -- it heads no log of such a process
+    pub other_second : {left : Option (List ℕ)} → heads_log k (take (both - 1 - first) (drop first after)) ≡ false → IsNoPreamble k both after left
+    other_second other = record {
+      none =
+          ap (λ t. preamble_lines (lines_in t).lines) two_lines.are_lines ∙ ap (λ (x : Lines). preamble_lines x.lines) (lines_of_text two_lines.lines two_lines.whole) ∙ ap preamble_lines are_two;
+      judged = inr (record {
+        lines = two_lines.lines;
+        whole = two_lines.whole;
+        are_lines = two_lines.are_lines;
+        wrong = subst (EndWrong k) (sym are_two) (AtSecond (is_one it).0 (is_one next).0 (ap (heads_log k) (sym (is_part next)) ∙ other));
+      });
+    }
+
+    -- both are there
+    pub heads_found : is_same (take (first - 1) text) (kind_word k) ≡ true → heads_log k (take (both - 1 - first) (drop first after)) ≡ true → AreHeads k both after
+    heads_found is_first is_head = record {
+      between = two_lines;
+      one = (is_one it).0;
+      own = (is_one next).0;
+      are_these = are_two;
+      is_first = ap (λ l. is_same l (kind_word k)) (sym (is_front it)) ∙ is_first;
+      is_head = ap (heads_log k) (sym (is_part next)) ∙ is_head;
     }
 
 -- ---- a preamble
@@ -304,17 +361,24 @@ module _ (k : ProcessKind) {a a' b : List ℕ} {r s : ℕ} {l m : Option (List �
         (passes_front (passes_of takes) c (take end b) (sym (take-append-drop end b) ∙ ap (λ t. take end b ++ t) (sym behind)));
   }
 
+  -- all that is ahead is judged: no more comes, or it is too long
+  is_last : (at : ℕ) → preamble_lines (lines_in (take at b)).lines ≡ None → IsLast at b m → {ys : List ℕ} → m ≡ Some ys → IsJudged k (take at b) (drop at b ++ ys)
+  is_last at none last {ys} is = elim last.1 [
+    | inl over ↦
+        let no_more : ys ≡ [] = subst IsAtEnd is over in
+        let nothing : drop at b ++ ys ≡ [] =
+        ap (λ n. drop n b ++ ys) last.0 ∙ ap (λ t. drop (length b) t ++ ys) (sym (append-nil b)) ∙ ap (λ t. t ++ ys) (drop-append_seam b []) ∙ no_more in
+        subst (λ t. IsJudged k (take at b) t) (sym nothing) (IsAll (take at b) none)
+    | inr long ↦ IsTooLong (take at b) (drop at b ++ ys) (let size = ap length (take_all at b (omega (arith, last.0))) in omega (arith, long, size)) none
+  ]
+
   -- or it is refused
   is_judged : (at : Judged) → IsPreambleTo k b m at → {ys : List ℕ} → m ≡ Some ys → IsJudged k (take (end_of at) b) (drop (end_of at) b ++ ys)
   is_judged (Whole at) it {ys} is =
       let ls = it.between.lines in
       subst (λ t. IsJudged k t (drop at b ++ ys)) (sym it.between.are_lines) (IsPreamble ls (drop at b ++ ys) it.between.whole (it.said ∙ ap Some (sym it.between.counted)))
   is_judged (Part at) it {ys} is = elim it.judged [
-    | inl last ↦
-        let none : ys ≡ [] = subst IsAtEnd is last.1 in
-        let nothing : drop at b ++ ys ≡ [] =
-        ap (λ n. drop n b ++ ys) last.0 ∙ ap (λ t. drop (length b) t ++ ys) (sym (append-nil b)) ∙ ap (λ t. t ++ ys) (drop-append_seam b []) ∙ none in
-        subst (λ t. IsJudged k (take at b) t) (sym nothing) (IsAll (take at b) it.none)
+    | inl last ↦ is_last at it.none last is
     | inr wrong ↦ subst (λ t. IsJudged k t (drop at b ++ ys)) (sym wrong.are_lines) (IsUpToWrong wrong.lines (drop at b ++ ys) wrong.whole wrong.wrong)
   ]
 

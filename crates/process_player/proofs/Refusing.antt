@@ -1,8 +1,9 @@
 -- What is refused, where it is known what is ahead and still to come.
-use Rattle.std.proofs.Common.{◌≡◌, ◌≢◌, ℕ, ◌+◌, ◌<◌, List, [], ◌∷◌, ◌++◌, length, Option, Some, None, IfSome, inl, inr, sym, ap, ◌∙◌, subst, arith, append_assoc}
+use Rattle.std.proofs.Common.{◌≡◌, ◌≢◌, ℕ, ◌+◌, ◌<◌, ◌≤◌, List, [], ◌∷◌, ◌++◌, length, Option, Some, None, IfSome, inl, inr, sym, ap, ◌∙◌, subst, arith, append_assoc}
 use Rattle.std.proofs.lemmas.List.{length-append}
 use Rattle.input_sections.specs.declared.faults.ScheduleFault.{ScheduleFault}
 use Rattle.input_sections.specs.declared.faults.ScheduleFault.TheVariants as section
+use Rattle.line_source.specs.Reading.{ReadsUpTo, Takes}
 use Rattle.log_text.specs.LogText.{ReadLog}
 use Rattle.metering_model.specs.Sheet.{Sheet, Issuer}
 use Rattle.metering_model.specs.Transcript.{line}
@@ -11,7 +12,7 @@ use Rattle.process_player.specs.declared.faults.ProcessFault.{ProcessFault}
 use Rattle.process_player.specs.declared.faults.ProcessFault.TheVariants as fault
 use Rattle.process_player.specs.declared.heads.ProcessKind.{ProcessKind}
 use Rattle.process_player.specs.Refusals.{Behind, RefusesPreamble, Rejects}
-use Rattle.process_player.specs.Inner.Calls.{AreTaken, IsLong, IsOfServing}
+use Rattle.process_player.specs.Inner.Calls.{AreTaken, IsLong, IsOfReading, IsOfServing}
 use Rattle.process_player.specs.Inner.Reading.{HasBegun, HasRead, Passes, ServesOne}
 use Rattle.process_player.specs.Inner.Refusing.{OfAll, RejectsPreamble, RejectsStored}
 use Rattle.process_player.specs.Inner.Told.{fault_of_section}
@@ -61,6 +62,25 @@ serving_on so fault.OutOfMemory it = tt
 
 -- ---- the preamble
 
+-- what is read of it is never too long, since no more than a block is read behind its limit
+pub never_long : {a b : List ℕ} {r s : ℕ} {l m : Option (List ℕ)} → Takes a b r s l m [] → ReadsUpTo 16_777_216 a b → r ≡ length a → r ≤ 4_294_967_296 → 4_294_967_296 < s → ⊥
+never_long {a} {b} {r} {s} takes block all few long =
+    let counted = takes.counted in
+    let size : length a + length takes.came ≡ length b = sym (length-append a takes.came) ∙ ap length takes.joined in
+    let within = block (omega (arith, counted, size, all, few, long)) in
+    absurd (omega (arith, counted, size, all, long, within))
+
+pub reading_rejects : (k : ProcessKind) {P : Type 0} → (P → ⊥) → (e : ProcessFault) (a : List ℕ) (l : Option (List ℕ)) → IsOfReading P e → OfAll (RejectsPreamble k e) a l
+reading_rejects k never e a None it = tt
+reading_rejects k never fault.Read a (Some xs) it = tt
+reading_rejects k never (fault.Section why) a (Some xs) it = absurd it
+reading_rejects k never (fault.Log code number) a (Some xs) it = absurd it
+reading_rejects k never fault.OtherLog a (Some xs) it = absurd it
+reading_rejects k never fault.NoJournal a (Some xs) it = absurd it
+reading_rejects k never fault.TooLong a (Some xs) it = never it
+reading_rejects k never fault.Write a (Some xs) it = absurd it
+reading_rejects k never fault.OutOfMemory a (Some xs) it = tt
+
 pub section_rejects : (k : ProcessKind) (a : List ℕ) (l : Option (List ℕ)) (why : ScheduleFault) → (why ≢ section.OutOfMemory → OfAll (λ text. RefusesPreamble k text why) a l) → OfAll (RejectsPreamble k (fault_of_section why)) a l
 section_rejects k a None why it = tt
 section_rejects k a (Some xs) (section.Refused code number) it = it (λ h. cc)
@@ -75,7 +95,7 @@ preamble_rejects k (fault.Section why) a (Some xs) it = inl it
 preamble_rejects k (fault.Log code number) a (Some xs) it = absurd it
 preamble_rejects k fault.OtherLog a (Some xs) it = absurd it
 preamble_rejects k fault.NoJournal a (Some xs) it = absurd it
-preamble_rejects k fault.TooLong a (Some xs) it = it
+preamble_rejects k fault.TooLong a (Some xs) it = absurd it
 preamble_rejects k fault.Write a (Some xs) it = absurd it
 preamble_rejects k fault.OutOfMemory a (Some xs) it = tt
 
@@ -98,10 +118,6 @@ module _ {k : ProcessKind} {own : ReadLog} {sheet : Sheet} {issuer : Issuer} {ne
     holds = subst (λ n. Holds own n (b ++ ys)) (sym it.counted) holds;
   }
 
-  too_long : {xs ys : List ℕ} (it : HasRead k own sheet issuer next a b (Some xs) (Some ys)) → 4_294_967_296 < length (b ++ ys) → 4_294_967_296 < length (a ++ xs)
-  too_long {xs} {ys} it long =
-      omega (arith, long, ap length (is_behind it ∙ append_assoc it.text b ys), length-append it.text (b ++ ys))
-
   pub stored_rejects : (e : ProcessFault) {l m : Option (List ℕ)} → HasRead k own sheet issuer next a b l m → OfAll (RejectsStored own next e) b m → OfAll (λ input. Rejects k input e) a l
   stored_rejects e {l = None} it holds = tt
   stored_rejects e {l = Some xs} {m = None} it holds = absurd it.passes.consumed
@@ -110,7 +126,7 @@ module _ {k : ProcessKind} {own : ReadLog} {sheet : Sheet} {issuer : Issuer} {ne
   stored_rejects (fault.Log code number) {l = Some xs} {m = Some ys} it holds = behind _ it holds
   stored_rejects fault.OtherLog {l = Some xs} {m = Some ys} it holds = behind _ it holds
   stored_rejects fault.NoJournal {l = Some xs} {m = Some ys} it holds = absurd holds
-  stored_rejects fault.TooLong {l = Some xs} {m = Some ys} it holds = too_long it holds
+  stored_rejects fault.TooLong {l = Some xs} {m = Some ys} it holds = behind _ it holds
   stored_rejects fault.Write {l = Some xs} {m = Some ys} it holds = absurd holds
   stored_rejects fault.OutOfMemory {l = Some xs} {m = Some ys} it holds = tt
 
@@ -119,6 +135,22 @@ pub known_input : (k : ProcessKind) (e : ProcessFault) (a : List ℕ) (l : Optio
 known_input k e a None none it = tt
 known_input k e a (Some xs) none it = subst (λ t. Rejects k (t ++ xs) e) none it
 
+-- what is too long stands behind what began the process
+long_behind : {k : ProcessKind} {p : Process} {b xs ys : List ℕ} → HasBegun k p [] b (Some xs) (Some ys) → 4_294_967_296 < length (b ++ ys) → Behind k xs (λ own next stored. 4_294_967_296 < length stored)
+long_behind {b} {xs} {ys} begun long =
+    let it = begun.begins in
+    record {
+      preamble = it.preamble;
+      first = it.first;
+      stored = it.stored ++ (b ++ ys);
+      joined =
+          begun.passes.consumed ∙ ap (λ t. t ++ ys) begun.passes.joined ∙ append_assoc begun.text b ys
+          ∙ ap (λ t. t ++ (b ++ ys)) it.joined ∙ append_assoc it.first it.stored (b ++ ys);
+      is_read = it.is_read;
+      whole = it.whole;
+      holds = omega (arith, long, length-append it.stored (b ++ ys));
+    }
+
 pub serving_rejects : {k : ProcessKind} {p : Process} {b : List ℕ} {l m : Option (List ℕ)} → HasBegun k p [] b l m → (e : ProcessFault) → IsOfServing (IsLong b m) e → IfSome l (λ input. Rejects k input e)
 serving_rejects {l = None} begun e it = tt
 serving_rejects {l = Some xs} begun fault.Read it = tt
@@ -126,6 +158,7 @@ serving_rejects {l = Some xs} begun (fault.Section why) it = absurd it
 serving_rejects {l = Some xs} begun (fault.Log code number) it = absurd it
 serving_rejects {l = Some xs} begun fault.OtherLog it = absurd it
 serving_rejects {l = Some xs} begun fault.NoJournal it = absurd it
-serving_rejects {b} {l = Some xs} {m} begun fault.TooLong it = long_before (length begun.text) [] b (Some xs) m (passes_taken begun.passes) it
+serving_rejects {l = Some xs} {m = None} begun fault.TooLong it = absurd begun.passes.consumed
+serving_rejects {l = Some xs} {m = Some ys} begun fault.TooLong it = long_behind begun it
 serving_rejects {l = Some xs} begun fault.Write it = tt
 serving_rejects {l = Some xs} begun fault.OutOfMemory it = tt

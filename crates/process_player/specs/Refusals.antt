@@ -5,7 +5,7 @@ use Rattle.std.specs.Option.{option_map}
 use Rattle.metering_model.specs.Batch.{lacks}
 use Rattle.metering_model.specs.BatchReading.{is_same, lines_in}
 use Rattle.metering_model.specs.KeptText.{KeptAmong}
-use Rattle.metering_model.specs.Limits.{most_issuer_lines, most_sheet_lines, most_transcript_bytes}
+use Rattle.metering_model.specs.Limits.{most_input_bytes, most_issuer_lines, most_sheet_lines, most_transcript_bytes}
 use Rattle.metering_model.specs.Schedule.{TextLines, lines_text}
 use Rattle.metering_model.specs.Transcript.{line}
 use Rattle.input_sections.specs.declared.faults.ScheduleFault.{ScheduleFault}
@@ -18,7 +18,7 @@ use Rattle.group_process.specs.Journals.{keeps_journal_of}
 use Rattle.process_player.specs.declared.faults.ProcessFault.{ProcessFault}
 use Rattle.process_player.specs.declared.faults.ProcessFault.TheVariants as fault
 use Rattle.process_player.specs.declared.heads.ProcessKind.{ProcessKind}
-use Rattle.process_player.specs.Starts.{Preamble, kind_word, preamble_in}
+use Rattle.process_player.specs.Starts.{Preamble, heads_log, kind_word, preamble_in}
 
 -- ---- what is judged as a preamble
 
@@ -40,17 +40,22 @@ with_issuer ls (Some n) = option_map (λ m. 2 + n + m) (section_lines (codes "is
 abbrev pub preamble_lines : TextLines → Option ℕ
 preamble_lines ls = with_issuer ls (section_lines (codes "sheet ") most_sheet_lines (drop 2 ls))
 
--- The last of these lines is another than has to stand there: the first of all, or one that opens the sheet or the issuer.
+-- The last of these lines is another than has to stand there: the first of all, the second, which heads no log of such a
+-- process, or one that opens the sheet or the issuer.
 pub data EndWrong (k : ProcessKind) : TextLines → Type 0 where
   AtFirst : (l : List ℕ) → is_same l (kind_word k) ≡ false → EndWrong k (l ∷ [])
+  AtSecond : (one l : List ℕ) → heads_log k l ≡ false → EndWrong k (one ∷ l ∷ [])
   AtSheet : (ls : TextLines) (l : List ℕ) → length ls ≡ 2
       → number_behind (codes "sheet ") most_sheet_lines l ≡ None → EndWrong k (ls ++ l ∷ [])
   AtIssuer : (ls : TextLines) (n : ℕ) (l : List ℕ) → section_lines (codes "sheet ") most_sheet_lines (drop 2 ls) ≡ Some n
       → length ls ≡ 2 + n → number_behind (codes "issuer ") most_issuer_lines l ≡ None → EndWrong k (ls ++ l ∷ [])
 
--- The front is all that there is, and no preamble; or it is whole lines, a preamble and nothing else, or up to the first that is another.
+-- The front is all that there is, and no preamble; or none has ended in it, and it has more bytes than one may have, whatever
+-- follows; or it is whole lines, a preamble and nothing else, or up to the first that is another.
 pub data IsJudged (k : ProcessKind) : (front more : List ℕ) → Type 0 where
   IsAll : (front : List ℕ) → preamble_lines (lines_in front).lines ≡ None → IsJudged k front []
+  IsTooLong : (front more : List ℕ) → most_input_bytes < length front → preamble_lines (lines_in front).lines ≡ None
+      → IsJudged k front more
   IsPreamble : (ls : TextLines) (more : List ℕ) → list_all (lacks 10) ls ≡ true → preamble_lines ls ≡ Some (length ls)
       → IsJudged k (lines_text ls) more
   IsUpToWrong : (ls : TextLines) (more : List ℕ) → list_all (lacks 10) ls ≡ true → EndWrong k ls
@@ -131,6 +136,6 @@ Rejects k input (fault.Section why) = RefusesPreamble k input why ⊎ Behind k i
 Rejects k input (fault.Log at_fault number) = Behind k input (λ own next stored. RefusesLog own stored at_fault number)
 Rejects k input fault.OtherLog = Behind k input (λ own next stored. RefusesHead own stored)
 Rejects k input fault.NoJournal = Behind k input (λ own next stored. RefusesJournal own stored)
-Rejects k input fault.TooLong = most_transcript_bytes < length input
+Rejects k input fault.TooLong = Behind k input (λ own next stored. most_transcript_bytes < length stored)
 Rejects k input fault.Write = Unit {0}
 Rejects k input fault.OutOfMemory = Unit {0}

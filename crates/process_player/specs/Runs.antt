@@ -66,12 +66,16 @@ pub record Runs (k : ProcessKind) (known known' old new : Option (List ℕ)) (la
   pub is_run : IsRun k bytes last said piece
   pub written : Appends old new said
 
--- The input has begun a process, and just whole answers were written, to what it asks first.
-pub record HasAnswered (k : ProcessKind) (known old new : Option (List ℕ)) : Type 0 where
-  pub left : Option (List ℕ)
+-- The input has begun a process, and just whole answers were written, to what it asks first. The rest was read, or is left.
+pub record RunsWhole (k : ProcessKind) (known known' old new : Option (List ℕ)) : Type 0 where
   pub last : Process
   pub piece : List ℕ
-  pub runs : Runs k known left old new last piece
+  pub runs : Runs k known known' old new last piece
+
+-- the same, whatever was left
+pub record HasAnswered (k : ProcessKind) (known old new : Option (List ℕ)) : Type 0 where
+  pub left : Option (List ℕ)
+  pub whole : RunsWhole k known left old new
 
 -- All bytes came, and the piece behind the last command is none: it has no line, or fewer lines than belong to its first.
 pub record RunsToEnd (k : ProcessKind) (known known' old new : Option (List ℕ)) : Type 0 where

@@ -1,5 +1,5 @@
 -- With what a process is begun: two lines that tell what it is, the price sheet, the issuer, and what it stored last.
-use Rattle.std.specs.Prelude.{◌≡◌, ℕ, Bool, true, false, List, [], ◌∷◌, ◌++◌, length, Some, Result, Ok, codes}
+use Rattle.std.specs.Prelude.{◌≡◌, ℕ, Bool, true, false, List, [], ◌∷◌, ◌++◌, length, Some, Result, Ok, Err, codes}
 use Rattle.metering_model.specs.FirstFailure.{◌>>=◌, holds_or}
 use Rattle.metering_model.specs.BatchReading.{is_same, lines_in}
 use Rattle.metering_model.specs.KeptText.{KeptAmong}
@@ -11,7 +11,7 @@ use Rattle.input_sections.specs.declared.faults.ScheduleFault.{ScheduleFault}
 use Rattle.input_sections.specs.declared.faults.ScheduleFault.TheVariants.{Refused}
 use Rattle.input_sections.specs.declared.faults.ScheduleCode.TheVariants as code
 use Rattle.input_sections.specs.Sections.{Unread, first_line, left, whole_of, sheet_section, issuer_section, told}
-use Rattle.log_text.specs.LogText.{ReadLog, Who, NodeOf, AgentOf, log_in, most_kept_lines, section_in}
+use Rattle.log_text.specs.LogText.{LogTextFault, ReadLog, Who, NodeOf, AgentOf, log_in, most_kept_lines, section_in}
 use Rattle.group_process.specs.Journals.{keeps_journal_of}
 use Rattle.process_text.specs.declared.processes.Process.{Process}
 use Rattle.process_text.specs.declared.processes.Process.TheVariants as process
@@ -29,6 +29,15 @@ is_kind_of kind.Node (NodeOf node) = true
 is_kind_of kind.Node (AgentOf agent) = false
 is_kind_of kind.Agent (NodeOf node) = false
 is_kind_of kind.Agent (AgentOf agent) = true
+
+-- it is the log of such a process
+abbrev pub is_log_of : ProcessKind → Result ReadLog LogTextFault → Bool
+is_log_of k (Ok own) = is_kind_of k own.head.who
+is_log_of k (Err fault) = false
+
+-- the line heads a log of such a process
+abbrev pub heads_log : ProcessKind → List ℕ → Bool
+heads_log k l = is_log_of k (log_in (line l))
 
 -- The log of a process that has stored nothing is its own line: the head of each of its logs.
 abbrev pub own_of : ProcessKind → Unread → Result (ReadLog × Unread) ScheduleFault

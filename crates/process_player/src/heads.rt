@@ -5,7 +5,7 @@ ghost use Rattle.metering_model.specs.Transcript.{line};
 ghost use Rattle.input_sections.specs.declared.faults.ScheduleFault.{ScheduleFault};
 ghost use Rattle.log_text.specs.Heads.{who_of};
 ghost use Rattle.log_text.specs.LogText.{log_in};
-ghost use Rattle.process_player.specs.Starts.{head_of, is_kind_of, kind_word, own_of};
+ghost use Rattle.process_player.specs.Starts.{head_of, heads_log, is_kind_of, kind_word, own_of};
 
 use byte_text::is_same;
 use input_sections::{ScheduleCode, ScheduleFault, Unread};
@@ -74,6 +74,17 @@ fn log_of_line(alloc: Global, text: &[u8]) -> Result<Log, ScheduleFault>
         Ok(own) => Ok(own),
         Err(LogFault::Refused { .. }) => Err(other_head()),
         Err(LogFault::OutOfMemory) => Err(ScheduleFault::OutOfMemory),
+    }
+}
+
+/// Whether a line heads a log of such a process.
+pub(crate) fn heads_log(alloc: Global, kind: ProcessKind, text: &[u8]) -> Result<bool, AllocError>
+    ensures { IfOk result (λ is. is ≡ heads_log kind text.now) }
+{
+    match log_of_line(alloc, text) {
+        Ok(own) => Ok(is_kind_of(kind, own.head().who())),
+        Err(ScheduleFault::Refused { .. }) => Ok(false),
+        Err(ScheduleFault::OutOfMemory) => Err(AllocError),
     }
 }
 

@@ -2,10 +2,10 @@
 
 ghost use Rattle.std.specs.Prelude.{◌≡◌, ◌≢◌, ◌<◌, ◌≤◌, [], length, IfErr, IfOk, Ok, Err};
 ghost use Rattle.process_player.specs.declared.faults.ProcessFault.{ProcessFault};
-ghost use Rattle.metering_model.specs.Limits.{most_transcript_bytes};
+ghost use Rattle.metering_model.specs.Limits.{most_input_bytes, most_transcript_bytes};
 ghost use Rattle.input_sections.specs.declared.faults.ScheduleFault.{ScheduleFault};
 ghost use Rattle.input_sections.specs.Sections as sections;
-ghost use Rattle.line_source.specs.Reading.{Takes};
+ghost use Rattle.line_source.specs.Reading.{ReadsUpTo, Takes};
 ghost use Rattle.process_player.specs.Starts.{preamble_in};
 ghost use Rattle.process_player.specs.Inner.Calls.{IsOfReading, Reads};
 ghost use Rattle.process_player.specs.Inner.Fronts.{AreHeadsTo, IsPreambleTo, IsSectionTo, end_of};
@@ -13,15 +13,18 @@ ghost use Rattle.process_player.specs.Inner.Reading.{HasRead};
 ghost use Rattle.process_player.specs.Inner.Refusing.{OfAll, RejectsPreamble};
 
 use crate::faults::{ProcessFault, fault_of_section};
-use crate::heads::{ProcessKind, first_word, read_head};
+use crate::heads::{ProcessKind, first_word, heads_log, read_head};
 use byte_text::is_same;
 use counted_io::Source;
 use input_sections::{
     Issuer, ScheduleFault, Sheet, Unread as Left, number_behind, read_issuer, read_sheet,
 };
-use line_source::{Unread, lines_end};
+use line_source::{Found, Unread, lines_end_within};
 use log_text::Log;
 use std::alloc::Global;
+
+/// More bytes than these are too many for what stands before the log.
+const MOST_BYTES: usize = 16_777_216;
 
 /// What stands before the log.
 #[derive(Drop)]
@@ -39,7 +42,7 @@ pub(crate) struct Preamble {
 pub(crate) enum Judged {
     /// What is looked for, which is all there.
     Whole(usize),
-    /// What tells that it isn't: lines up to the first that is another, or all, where no more comes.
+    /// What tells that it isn't: lines up to the first that is another, or all, where no more comes, or more is ahead than may be.
     Part(usize),
 }
 
@@ -79,7 +82,7 @@ fn preamble_in(alloc: Global, kind: ProcessKind, text: &[u8]) -> Result<Preamble
 }
 
 /// Reads until a section is ahead behind the first bytes, a line with a word and a number of lines, and these. Where it isn't
-/// there, the line has another form, or no more comes.
+/// there, the line has another form, no more comes, or more is ahead than a preamble may have.
 fn section_end<S: Source>(
     unread: &mut Unread,
     source: &mut S,
@@ -95,25 +98,28 @@ fn section_end<S: Source>(
     ensures found { IfOk result
         (IsSectionTo word.now most from unread.new.bytes (S.remaining source.new)) }
     ensures within { IfOk result (λ judged. end_of judged ≤ length unread.new.bytes) }
+    ensures block { ReadsUpTo most_input_bytes unread.old.bytes unread.new.bytes }
     ensures reads { Reads result unread.new.read (S.failed_calls source.old)
         (S.failed_calls source.new) }
     ensures others { IfErr result (IsOfReading (most_transcript_bytes < unread.new.read)) }
 {
-    let Some(opening) = lines_end(unread, source, from, 1)? else {
+    let Found::Lines(opening) = lines_end_within(unread, source, from, 1, MOST_BYTES)? else {
         return Ok(Judged::Part(unread.ahead().len()));
     };
     let Some(lines) = number_behind(&unread.ahead()[from..opening - 1], word, most) else {
         return Ok(Judged::Part(opening));
     };
-    let Some(end) = lines_end(unread, source, opening, u64::from(lines))? else {
+    let count = u64::from(lines);
+    let Found::Lines(end) = lines_end_within(unread, source, opening, count, MOST_BYTES)? else {
         return Ok(Judged::Part(unread.ahead().len()));
     };
     Ok(Judged::Whole(end))
 }
 
-/// Reads until the first two lines are ahead, of which the first is the kind's. It is judged alone where it isn't, so that a
-/// stream of another kind is read no further.
+/// Reads until the first two lines are ahead, of which the first is the kind's, and the second heads a log of such a process. What
+/// has another form is judged with nothing behind it, so that no more is read than tells it.
 fn heads_end<S: Source>(
+    alloc: Global,
     kind: ProcessKind,
     unread: &mut Unread,
     source: &mut S,
@@ -123,24 +129,32 @@ fn heads_end<S: Source>(
         (S.remaining source.old) (S.remaining source.new) [] }
     ensures found { IfOk result (AreHeadsTo kind unread.new.bytes (S.remaining source.new)) }
     ensures within { IfOk result (λ judged. end_of judged ≤ length unread.new.bytes) }
+    ensures block { ReadsUpTo most_input_bytes unread.old.bytes unread.new.bytes }
     ensures reads { Reads result unread.new.read (S.failed_calls source.old)
         (S.failed_calls source.new) }
     ensures others { IfErr result (IsOfReading (most_transcript_bytes < unread.new.read)) }
 {
-    let Some(first) = lines_end(unread, source, 0, 1)? else {
+    let Found::Lines(first) = lines_end_within(unread, source, 0, 1, MOST_BYTES)? else {
         return Ok(Judged::Part(unread.ahead().len()));
     };
     if !is_same(&unread.ahead()[..first - 1], first_word(kind)) {
         return Ok(Judged::Part(first));
     }
-    let Some(both) = lines_end(unread, source, 0, 2)? else {
+    let Found::Lines(both) = lines_end_within(unread, source, first, 1, MOST_BYTES)? else {
         return Ok(Judged::Part(unread.ahead().len()));
     };
+    let Ok(is_head) = heads_log(alloc, kind, &unread.ahead()[first..both - 1]) else {
+        return Err(ProcessFault::OutOfMemory);
+    };
+    if !is_head {
+        return Ok(Judged::Part(both));
+    }
     Ok(Judged::Whole(both))
 }
 
 /// Reads until the whole preamble is ahead, or what tells that it isn't there.
 fn preamble_end<S: Source>(
+    alloc: Global,
     kind: ProcessKind,
     unread: &mut Unread,
     source: &mut S,
@@ -150,11 +164,12 @@ fn preamble_end<S: Source>(
         (S.remaining source.old) (S.remaining source.new) [] }
     ensures found { IfOk result (IsPreambleTo kind unread.new.bytes (S.remaining source.new)) }
     ensures within { IfOk result (λ judged. end_of judged ≤ length unread.new.bytes) }
+    ensures block { ReadsUpTo most_input_bytes unread.old.bytes unread.new.bytes }
     ensures reads { Reads result unread.new.read (S.failed_calls source.old)
         (S.failed_calls source.new) }
     ensures others { IfErr result (IsOfReading (most_transcript_bytes < unread.new.read)) }
 {
-    let head = match heads_end(kind, unread, source)? {
+    let head = match heads_end(alloc, kind, unread, source)? {
         Judged::Whole(head) => head,
         Judged::Part(end) => return Ok(Judged::Part(end)),
     };
@@ -183,7 +198,7 @@ pub(crate) fn read_preamble<S: Source>(
     ensures no_write { result ≢ Err ProcessFault.Write }
 {
     unread.mark();
-    let judged = preamble_end(kind, unread, source)?;
+    let judged = preamble_end(alloc, kind, unread, source)?;
     let end = end_of(judged);
     match preamble_in(alloc, kind, &unread.ahead()[..end]) {
         Ok(preamble) => {

@@ -10,7 +10,7 @@ ghost use Rattle.process_text.specs.declared.processes.Process.{Process};
 ghost use Rattle.process_player.specs.declared.faults.ProcessFault.{ProcessFault};
 ghost use Rattle.process_player.specs.Faults.{IsRefusal, tells_of_reader, tells_of_writer};
 ghost use Rattle.process_player.specs.Refusals.{Rejects};
-ghost use Rattle.process_player.specs.Runs.{Runs, RunsToEnd, RunsTorn};
+ghost use Rattle.process_player.specs.Runs.{RunsToEnd, RunsTorn, RunsWhole};
 ghost use Rattle.process_player.specs.Inner.Calls.{IsLong, IsOfReading, IsOfServing, Reads};
 ghost use Rattle.process_player.specs.Inner.Reading.{Continues, ContinuesWithin, EndsHere, IsCommandAt, IsTorn, Passes, ServesOne, StopsWithin};
 
@@ -216,9 +216,8 @@ pub fn process_text<R: Source, W: Sink>(
     // What is refused begins nothing, and at another fault but `Write` whole answers stand, or nothing was begun.
     ensures untouched { IfErr result (λ fault. IsRefusal fault → writer.new ≡ writer.old) }
     ensures whole { IfErr result (λ fault. fault ≢ ProcessFault.Write
-        → (writer.new ≡ writer.old) ⊎ ((last : Process) × (piece : List ℕ)
-        × Runs kind (R.remaining reader.old) (R.remaining reader.new)
-        (W.contents writer.old) (W.contents writer.new) last piece)) }
+        → (writer.new ≡ writer.old) ⊎ RunsWhole kind (R.remaining reader.old)
+        (R.remaining reader.new) (W.contents writer.old) (W.contents writer.new)) }
 
     // After `Write` a prefix of an answer stands behind whole ones.
     ensures torn { result ≡ Err ProcessFault.Write

@@ -144,6 +144,45 @@ fn is_no_agent(alloc: Global, log: &[u8], why: &str) -> bool {
     is_unbegun(alloc, ProcessKind::Agent, &[AGENT, SECTIONS, log], why)
 }
 
+/// Whether a node refuses what a reader gives in these words, and leaves at least so many bytes there.
+fn is_refused_early(alloc: Global, reader: FakeReader<'_>, why: &str, left: usize) -> bool {
+    let mut reader = Counted::new(reader);
+    let mut writer = Counted::new(FakeWriter::new(Vec::new(alloc)));
+    let Err(fault) = process_text(alloc, ProcessKind::Node, &mut reader, &mut writer) else {
+        return false;
+    };
+    match format!(in alloc; "{fault}") {
+        Ok(told) => told.as_str() == why && left <= reader.inner().rest.len(),
+        Err(_) => false,
+    }
+}
+
+/// Whether a node refuses a second line that is no head of its log before more is read: it takes no byte behind it.
+fn is_second_line_alone(alloc: Global) -> bool {
+    let Ok(input) = joined(alloc, &[b"NODE 1\nG1|prod-eu|agent|1|1|0|1\n", SECTIONS]) else {
+        return false;
+    };
+    let reader = FakeReader::new(&input).byte_by_byte();
+    is_refused_early(alloc, reader, "refused L2 line 2", SECTIONS.len())
+}
+
+/// Whether a node refuses a second line of more than 16,777,216 bytes, without a line feed, when it has taken two blocks more at
+/// most: 1,048,576 bytes more stand there.
+fn is_long_line_cut(alloc: Global) -> bool {
+    let Ok(mut input) = joined(alloc, &[b"NODE 1\n"]) else {
+        return false;
+    };
+    let Ok(()) = input.resize(17_825_792, b'G') else {
+        return false;
+    };
+    is_refused_early(
+        alloc,
+        FakeReader::new(&input),
+        "refused L8 line 1",
+        1_048_576 - 131_072,
+    )
+}
+
 #[test]
 fn what_begins_no_node_is_refused(rt: HostRuntime) {
     let alloc = rt.alloc();
@@ -192,6 +231,8 @@ fn what_begins_no_node_is_refused(rt: HostRuntime) {
             "refused log: of another process",
         )
     );
+    assert!(rt; is_second_line_alone(alloc));
+    assert!(rt; is_long_line_cut(alloc));
 }
 
 #[test]

@@ -1,24 +1,34 @@
 -- Where a preamble ends in what is ahead, by its lines, and what of it is judged.
-use Rattle.std.specs.Prelude.{◌≡◌, ℕ, ◌≤◌, true, List, [], ◌∷◌, length, take, drop, Option, Some, None, ◌⊎◌}
+use Rattle.std.specs.Prelude.{◌≡◌, ℕ, ◌<◌, ◌≤◌, true, List, [], ◌∷◌, length, take, drop, Option, Some, None, ◌⊎◌}
 use Rattle.std.specs.List.{list_all}
 use Rattle.std.specs.Io.KnownBytes.{IsAtEnd}
 use Rattle.metering_model.specs.Batch.{lacks}
-use Rattle.metering_model.specs.BatchReading.{lines_in}
+use Rattle.metering_model.specs.BatchReading.{is_same, lines_in}
+use Rattle.metering_model.specs.Limits.{most_input_bytes}
 use Rattle.metering_model.specs.Schedule.{TextLines, lines_text}
 use Rattle.input_sections.specs.Sections.{number_behind}
 use Rattle.line_source.specs.Lines.{AreBetween}
 use Rattle.process_player.specs.declared.heads.ProcessKind.{ProcessKind}
 use Rattle.process_player.specs.declared.preambles.Judged.{Judged}
 use Rattle.process_player.specs.declared.preambles.Judged.TheVariants.{Whole, Part}
+use Rattle.process_player.specs.Starts.{heads_log, kind_word}
 use Rattle.process_player.specs.Refusals.{EndWrong, preamble_lines, section_lines}
 
 abbrev pub end_of : Judged → ℕ
 end_of (Whole end) = end
 end_of (Part end) = end
 
--- no more comes behind that place
+-- nothing more is read: no more comes, or more is ahead than a preamble may have
+abbrev pub IsOver : (text : List ℕ) (left : Option (List ℕ)) → Type 0
+IsOver text left = IsAtEnd left ⊎ (most_input_bytes < length text)
+
+-- that place is the end of all that is read
 abbrev pub IsLast : (end : ℕ) (text : List ℕ) (left : Option (List ℕ)) → Type 0
-IsLast end text left = (end ≡ length text) × IsAtEnd left
+IsLast end text left = (end ≡ length text) × IsOver text left
+
+-- so many lines are not ahead behind that place
+abbrev pub AreAbsent : (from count : ℕ) (text : List ℕ) (left : Option (List ℕ)) → Type 0
+AreAbsent from count text left = (length (lines_in (drop from text)).lines < count) × IsOver text left
 
 -- a section stands from the one place to the other
 pub record IsSection (word : List ℕ) (most from end : ℕ) (text : List ℕ) : Type 0 where
@@ -61,9 +71,17 @@ pub record IsPreambleAt (end : ℕ) (text : List ℕ) : Type 0 where
   pub between : AreBetween 0 end text count
   pub said : preamble_lines between.lines ≡ Some count
 
--- two lines stand at the front, the first of them the kind's
+-- two lines stand at the front and end there: the kind's, and one that heads a log of such a process
+pub record AreHeads (k : ProcessKind) (end : ℕ) (text : List ℕ) : Type 0 where
+  pub between : AreBetween 0 end text 2
+  pub one : List ℕ
+  pub own : List ℕ
+  pub are_these : between.lines ≡ one ∷ own ∷ []
+  pub is_first : is_same one (kind_word k) ≡ true
+  pub is_head : heads_log k own ≡ true
+
 abbrev pub AreHeadsTo : ProcessKind → (text : List ℕ) (left : Option (List ℕ)) → Judged → Type 0
-AreHeadsTo k text left (Whole end) = AreBetween 0 end text 2
+AreHeadsTo k text left (Whole end) = AreHeads k end text
 AreHeadsTo k text left (Part end) = IsNoPreamble k end text left
 
 abbrev pub IsPreambleTo : ProcessKind → (text : List ℕ) (left : Option (List ℕ)) → Judged → Type 0

@@ -19,7 +19,7 @@ RejectsPreamble k (fault.Section why) text = RefusesPreamble k text why
 RejectsPreamble k (fault.Log code number) text = ⊥
 RejectsPreamble k fault.OtherLog text = ⊥
 RejectsPreamble k fault.NoJournal text = ⊥
-RejectsPreamble k fault.TooLong text = most_transcript_bytes < length text
+RejectsPreamble k fault.TooLong text = ⊥
 RejectsPreamble k fault.Write text = ⊥
 RejectsPreamble k fault.OutOfMemory text = Unit {0}
 

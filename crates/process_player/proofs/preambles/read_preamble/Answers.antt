@@ -1,8 +1,9 @@
 -- Just what is read as a preamble is taken, and what is judged is refused.
-use Rattle.std.proofs.Common.{sym, subst}
+use Rattle.std.proofs.Common.{◌∙◌, sym, ap, length, subst, arith}
+use Rattle.std.proofs.lemmas.Result.{err_from_is_err_and}
 use Rattle.process_player.specs.Inner.Refusing.{OfAll, RejectsPreamble}
 use Rattle.process_player.proofs.Ends.{preamble_refused, preamble_taken}
-use Rattle.process_player.proofs.Refusing.{section_rejects}
+use Rattle.process_player.proofs.Refusing.{never_long, reading_rejects, section_rejects}
 use Rattle.process_player.proofs.preambles.read_preamble.Goals as goal
 
 pub returns-in-Ok-clause-read : goal.returns-in-Ok-clause-read
@@ -20,3 +21,10 @@ returns-in-Err-clause-refused g c =
     (λ other.
     preamble_refused c.args.kind c.mark.ensures.bytes c.preamble_end.ensures.takes c.in_ok-judged.judged c.in_ok-judged.ensures.found c.end_of-end.result c.end_of-end.ensures
     why (rw c.ahead.ensures at (c.in-Err.ensures.refused other))))
+
+pub returns-in_err-judged-clause-refused : goal.returns-in_err-judged-clause-refused
+returns-in_err-judged-clause-refused g c =
+    let p = err_from_is_err_and c.from_residual.result c.from_residual.ensures.1 in
+    rw (p.1, p.2)
+    (reading_rejects c.args.kind (never_long c.preamble_end.ensures.takes c.preamble_end.ensures.block (c.mark.ensures.read ∙ sym (ap length c.mark.ensures.bytes)) (omega (arith, c.mark.ensures.within, c.requires)))
+    c.in_err-judged.field-0.0 c.args.unread.now.bytes (g.S.Source.remaining c.args.source.now) c.in_err-judged.ensures.others)

@@ -5,48 +5,48 @@ use Rattle.line_source.specs.Lines.{AreBetween}
 use Rattle.process_player.proofs.Between.{between_long}
 use Rattle.process_player.proofs.Ends.{not_said, section_found, too_few}
 use Rattle.process_player.proofs.preambles.section_end.Given as given
-use Rattle.process_player.proofs.preambles.section_end.Goals.{In-Some, In-Some-number_behind}
+use Rattle.process_player.proofs.preambles.section_end.Goals.{In-Lines, In-Some}
 use Rattle.process_player.proofs.preambles.section_end.Goals as goal
 
-line_there : (g : given.Over) (c : In-Some g) → AreBetween c.args.from c.in-Some.opening c.lines_end.new.unread.bytes 1
-line_there g c = rw c.in-Some.is at c.in_ok-opening.ensures.found
+line_there : (g : given.Over) (c : In-Lines g) → AreBetween c.args.from c.in-Lines.opening c.lines_end_within.new.unread.bytes 1
+line_there g c = rw c.in-Lines.is at c.in_ok-opening.ensures.found
 
-behind : (g : given.Over) (c : In-Some g) → c.args.from + 1 ≤ c.in-Some.opening
+behind : (g : given.Over) (c : In-Lines g) → c.args.from + 1 ≤ c.in-Lines.opening
 behind g c = between_long (line_there g c)
 
 pub overflow_sub-opening : goal.overflow_sub-opening
-overflow_sub-opening g c = omega (arith, behind g (goal.at.overflow_sub-opening g c).In-Some)
+overflow_sub-opening g c = omega (arith, behind g (goal.at.overflow_sub-opening g c).In-Lines)
 
 pub slice_bounds-number_behind-count : goal.slice_bounds-number_behind-count
-slice_bounds-number_behind-count g c = omega (arith, behind g (goal.at.slice_bounds-number_behind-count g c).In-Some)
+slice_bounds-number_behind-count g c = omega (arith, behind g (goal.at.slice_bounds-number_behind-count g c).In-Lines)
 
 pub slice_bounds-number_behind-start : goal.slice_bounds-number_behind-start
-slice_bounds-number_behind-start g c = omega (arith, behind g (goal.at.slice_bounds-number_behind-start g c).In-Some)
+slice_bounds-number_behind-start g c = omega (arith, behind g (goal.at.slice_bounds-number_behind-start g c).In-Lines)
 
 pub returns-in_default-number_behind-clause-found : goal.returns-in_default-number_behind-clause-found
 returns-in_default-number_behind-clause-found g c =
     let from = c.args.from in
-    let opening = c.in-Some.opening in
+    let opening = c.in-Lines.opening in
     let none = ap (λ t. number_behind c.args.word.now c.args.most (take (opening - 1 - from) (drop from t))) (sym c.ahead-2.ensures) ∙ sym c.in_default-number_behind.ensures.value in
-    not_said (line_there g (goal.at.returns-in_default-number_behind-clause-found g c).In-Some) c.args.word.now c.args.most none
+    not_said (line_there g (goal.at.returns-in_default-number_behind-clause-found g c).In-Lines) c.args.word.now c.args.most none
 
 -- the line says so many lines
-says : (g : given.Over) (c : In-Some-number_behind g)
-    → number_behind c.args.word.now c.args.most (take (c.in-Some.opening - 1 - c.args.from) (drop c.args.from c.lines_end.new.unread.bytes)) ≡ Some c.in-Some-number_behind.lines
+says : (g : given.Over) (c : In-Some g)
+    → number_behind c.args.word.now c.args.most (take (c.in-Lines.opening - 1 - c.args.from) (drop c.args.from c.lines_end_within.new.unread.bytes)) ≡ Some c.in-Some.lines
 says g c =
     let from = c.args.from in
-    let opening = c.in-Some.opening in
-    ap (λ t. number_behind c.args.word.now c.args.most (take (opening - 1 - from) (drop from t))) (sym c.ahead-2.ensures) ∙ sym c.in-Some-number_behind.ensures.value
+    let opening = c.in-Lines.opening in
+    ap (λ t. number_behind c.args.word.now c.args.most (take (opening - 1 - from) (drop from t))) (sym c.ahead-2.ensures) ∙ sym c.in-Some.ensures.value
 
 pub returns-in_default-2-clause-found : goal.returns-in_default-2-clause-found
 returns-in_default-2-clause-found g c =
-    let said = says g (goal.at.returns-in_default-2-clause-found g c).In-Some-number_behind ∙ ap Some (sym c.from.ensures) in
+    let said = says g (goal.at.returns-in_default-2-clause-found g c).In-Some ∙ ap Some (sym c.from.ensures) in
     let few = rw c.in_default-2.is at c.in_ok-end.ensures.found in
-    too_few (line_there g (goal.at.returns-in_default-2-clause-found g c).In-Some) c.args.word.now c.args.most c.from.result said c.lines_end-2.ensures.takes
+    too_few (line_there g (goal.at.returns-in_default-2-clause-found g c).In-Lines) c.args.word.now c.args.most c.from.result said c.lines_end_within-2.ensures.takes
     (length c.ahead-in_default-2.result.now) (ap length c.ahead-in_default-2.ensures) few
 
 pub returns-clause-found : goal.returns-clause-found
 returns-clause-found g c =
-    let said = says g (goal.at.returns-clause-found g c).In-Some-number_behind ∙ ap Some (sym c.from.ensures) in
-    let lines = rw c.in-Some-2.is at c.in_ok-end.ensures.found in
-    section_found (line_there g (goal.at.returns-clause-found g c).In-Some) c.args.word.now c.args.most c.from.result said c.lines_end-2.ensures.takes c.in-Some-2.end lines
+    let said = says g (goal.at.returns-clause-found g c).In-Some ∙ ap Some (sym c.from.ensures) in
+    let lines = rw c.in-Lines-2.is at c.in_ok-end.ensures.found in
+    section_found (line_there g (goal.at.returns-clause-found g c).In-Lines) c.args.word.now c.args.most c.from.result said c.lines_end_within-2.ensures.takes c.in-Lines-2.end lines

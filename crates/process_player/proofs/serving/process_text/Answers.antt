@@ -20,7 +20,7 @@ returns-in-Ok-write_begun-clause-whole g c =
     on_err c.serve.result
     (λ fault it other.
     let so = it other in
-    inr (so.0, c.serve.new.unread.bytes, runs_of (begun g c) c.in-Ok-write_begun.ensures.written so.1))
+    inr (record { last = so.0; piece = c.serve.new.unread.bytes; runs = runs_of (begun g c) c.in-Ok-write_begun.ensures.written so.1 }))
     c.serve.ensures.stopped
 
 pub returns-in-Ok-write_begun-clause-torn : goal.returns-in-Ok-write_begun-clause-torn
