@@ -1,4 +1,4 @@
-use Rattle.std.proofs.Common.{◌+◌, ◌++◌, length, sym, subst, ap, ◌∙◌, rules, arith}
+use Rattle.std.proofs.Common.{◌+◌, ◌<◌, ◌++◌, length, sym, subst, ap, ◌∙◌, rules, arith}
 use Rattle.std.proofs.KnownBytes.{Appends-trans}
 use Rattle.std.proofs.lemmas.Option.{slice_get_within}
 use Rattle.schedule_player.specs.Inner.Held.{IsHeldOf}
@@ -12,7 +12,7 @@ loop-done-preserved g c =
     let so = c.loop-done.invariant in
     let events = c.args.events.now in
     let i = c.loop-done.done in
-    let at = c.at.ensures.event in
+    let at = c.at-planned.ensures.event in
     let part = c.in_ok-write_many.ensures.written in (
       (
         so.0.0 ++ part.0,
@@ -31,7 +31,7 @@ returns-in_default-clause-played g c =
     let so = c.loop-done.invariant in
     let events = c.args.events.now in
     let i = c.loop-done.done in
-    let at = c.at.ensures.event in
+    let at = c.at-planned.ensures.event in
     let kept = c.in_default.ensures.kept in
     record {
       within = omega (arith, slice_get_within events i _ at);
@@ -45,7 +45,7 @@ returns-in_err-write_many-clause-fails g c =
     let so = c.loop-done.invariant in
     let events = c.args.events.now in
     let i = c.loop-done.done in
-    let at = c.at.ensures.event in
+    let at = c.at-planned.ensures.event in
     let told : IsTold (g.W.Sink.contents c.args.writer.now) (g.W.Sink.contents c.loop-done.writer) c.play_event.new.lines.text c.args.world.now events (i + 1) = (
       so.0.0,
       so.0.1,
