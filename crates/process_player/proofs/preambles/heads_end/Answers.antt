@@ -1,13 +1,13 @@
 -- A line that is there has its line feed, and it is judged with nothing behind it where it is another.
-use Rattle.std.proofs.Common.{◌+◌, ◌-◌, ◌≡◌, ◌≤◌, false, take, drop, length, ap, ◌∙◌, sym, arith}
+use Rattle.std.proofs.Common.{◌-◌, ◌≡◌, true, take, drop, length, ap, ◌∙◌, sym, arith}
 use Rattle.metering_model.specs.BatchReading.{is_same}
 use Rattle.line_source.specs.Lines.{AreBetween}
 use Rattle.line_source.proofs.Taking.{reads_on, up_to_on}
 use Rattle.process_player.specs.Starts.{heads_log, kind_word}
 use Rattle.process_player.proofs.Between.{between_long}
-use Rattle.process_player.proofs.Ends.{absent, heads_found, no_first, no_second, other_first, other_second}
+use Rattle.process_player.proofs.Ends.{absent, heads_found, no_second, other_first, other_second}
 use Rattle.process_player.proofs.preambles.heads_end.Given as given
-use Rattle.process_player.proofs.preambles.heads_end.Goals.{In-Lines, In-Lines-2}
+use Rattle.process_player.proofs.preambles.heads_end.Goals.{In-Lines, In-Lines-2, In-Ok}
 use Rattle.process_player.proofs.preambles.heads_end.Goals as goal
 
 first : (g : given.Over) (c : In-Lines g) → AreBetween 0 c.in-Lines.first c.lines_end_within.new.unread.bytes 1
@@ -25,3 +25,46 @@ returns-then-not-is_same-clause-found g c =
     other_first c.args.kind (first g (goal.at.returns-then-not-is_same-clause-found g c).In-Lines)
     (ap (λ t. is_same (take (end - 1) t) (kind_word c.args.kind)) (sym c.ahead-2.ensures) ∙ ap (is_same (take (end - 1) c.ahead-2.result.now)) (sym c.first_word.ensures)
     ∙ sym c.is_same.ensures ∙ c.if-not-is_same.true)
+
+pub returns-in_default-2-clause-takes : goal.returns-in_default-2-clause-takes
+returns-in_default-2-clause-takes g c = reads_on c.in_ok-first.ensures.takes c.in_ok-both.ensures.takes
+
+pub returns-in_default-2-clause-block : goal.returns-in_default-2-clause-block
+returns-in_default-2-clause-block g c =
+    up_to_on 16_777_216 c.args.unread.now.bytes c.lines_end_within.new.unread.bytes c.lines_end_within-2.new.unread.bytes c.in_ok-first.ensures.block c.in_ok-both.ensures.block
+
+pub returns-in_default-2-clause-found : goal.returns-in_default-2-clause-found
+returns-in_default-2-clause-found g c =
+    no_second c.args.kind (first g (goal.at.returns-in_default-2-clause-found g c).In-Lines) c.in_ok-both.ensures.takes (length c.ahead-in_default-2.result.now) (ap length c.ahead-in_default-2.ensures)
+    (absent c.in-Lines.first 1 c.lines_end_within-2.new.unread.bytes (g.S.Source.remaining c.lines_end_within-2.new.source) c.in_ok-both.field-0 c.in_ok-both.ensures.found c.in_default-2.not-Lines)
+
+pub slice_bounds-heads_log-count : goal.slice_bounds-heads_log-count
+slice_bounds-heads_log-count g c = omega (arith, between_long (second g (goal.at.slice_bounds-heads_log-count g c).In-Lines-2))
+
+pub slice_bounds-heads_log-start : goal.slice_bounds-heads_log-start
+slice_bounds-heads_log-start g c = omega (arith, between_long (second g (goal.at.slice_bounds-heads_log-start g c).In-Lines-2))
+
+-- whether the second line heads a log of such a process
+said : (g : given.Over) (c : In-Ok g)
+    → heads_log c.args.kind (take (c.in-Lines-2.both - 1 - c.in-Lines.first) (drop c.in-Lines.first c.lines_end_within-2.new.unread.bytes)) ≡ c.in-Ok.is_head
+said g c =
+    let from = c.in-Lines.first in
+    let both = c.in-Lines-2.both in
+    ap (λ t. heads_log c.args.kind (take (both - 1 - from) (drop from t))) (sym c.ahead-3.ensures) ∙ sym c.in-Ok.ensures
+
+pub returns-then-not-is_head-clause-found : goal.returns-then-not-is_head-clause-found
+returns-then-not-is_head-clause-found g c =
+    let at = goal.at.returns-then-not-is_head-clause-found g c in
+    other_second c.args.kind (first g at.In-Lines) c.in_ok-both.ensures.takes (second g at.In-Lines-2) (said g at.In-Ok ∙ c.if-not-is_head.true)
+
+-- the first is the kind's
+is_kinds : (g : given.Over) (c : In-Ok g) → is_same (take (c.in-Lines.first - 1) c.lines_end_within.new.unread.bytes) (kind_word c.args.kind) ≡ true
+is_kinds g c =
+    let end = c.in-Lines.first in
+    ap (λ t. is_same (take (end - 1) t) (kind_word c.args.kind)) (sym c.ahead-2.ensures) ∙ ap (is_same (take (end - 1) c.ahead-2.result.now)) (sym c.first_word.ensures)
+    ∙ sym c.is_same.ensures ∙ c.if-not-is_same.false
+
+pub returns-clause-found : goal.returns-clause-found
+returns-clause-found g c =
+    let at = goal.at.returns-clause-found g c in
+    heads_found c.args.kind (first g at.In-Lines) c.in_ok-both.ensures.takes (second g at.In-Lines-2) (is_kinds g at.In-Ok) (said g at.In-Ok ∙ c.if-not-is_head.false)

@@ -2,8 +2,9 @@
 use Rattle.std.proofs.Common.{◌≡◌, ◌+◌, ◌-◌, ◌≤◌, Some, take, drop, length, sym, ap, ◌∙◌, arith}
 use Rattle.input_sections.specs.Sections.{number_behind}
 use Rattle.line_source.specs.Lines.{AreBetween}
+use Rattle.line_source.proofs.Taking.{reads_on}
 use Rattle.process_player.proofs.Between.{between_long}
-use Rattle.process_player.proofs.Ends.{not_said, section_found, too_few}
+use Rattle.process_player.proofs.Ends.{absent, not_said, section_found, too_few}
 use Rattle.process_player.proofs.preambles.section_end.Given as given
 use Rattle.process_player.proofs.preambles.section_end.Goals.{In-Lines, In-Some}
 use Rattle.process_player.proofs.preambles.section_end.Goals as goal
@@ -40,13 +41,16 @@ says g c =
 
 pub returns-in_default-2-clause-found : goal.returns-in_default-2-clause-found
 returns-in_default-2-clause-found g c =
-    let said = says g (goal.at.returns-in_default-2-clause-found g c).In-Some ∙ ap Some (sym c.from.ensures) in
-    let few = rw c.in_default-2.is at c.in_ok-end.ensures.found in
-    too_few (line_there g (goal.at.returns-in_default-2-clause-found g c).In-Lines) c.args.word.now c.args.most c.from.result said c.lines_end_within-2.ensures.takes
+    let said = says g (goal.at.returns-in_default-2-clause-found g c).In-Some ∙ ap Some (sym c.from-count.ensures) in
+    let few = absent c.in-Lines.opening c.from-count.result c.lines_end_within-2.new.unread.bytes (g.S.Source.remaining c.lines_end_within-2.new.source) c.in_ok-end.field-0 c.in_ok-end.ensures.found c.in_default-2.not-Lines in
+    too_few (line_there g (goal.at.returns-in_default-2-clause-found g c).In-Lines) c.args.word.now c.args.most c.from-count.result said c.lines_end_within-2.ensures.takes
     (length c.ahead-in_default-2.result.now) (ap length c.ahead-in_default-2.ensures) few
 
 pub returns-clause-found : goal.returns-clause-found
 returns-clause-found g c =
-    let said = says g (goal.at.returns-clause-found g c).In-Some ∙ ap Some (sym c.from.ensures) in
+    let said = says g (goal.at.returns-clause-found g c).In-Some ∙ ap Some (sym c.from-count.ensures) in
     let lines = rw c.in-Lines-2.is at c.in_ok-end.ensures.found in
-    section_found (line_there g (goal.at.returns-clause-found g c).In-Lines) c.args.word.now c.args.most c.from.result said c.lines_end_within-2.ensures.takes c.in-Lines-2.end lines
+    section_found (line_there g (goal.at.returns-clause-found g c).In-Lines) c.args.word.now c.args.most c.from-count.result said c.lines_end_within-2.ensures.takes c.in-Lines-2.end lines
+
+pub returns-in_default-2-clause-takes : goal.returns-in_default-2-clause-takes
+returns-in_default-2-clause-takes g c = reads_on c.in_ok-opening.ensures.takes c.in_ok-end.ensures.takes
