@@ -1,7 +1,7 @@
 //! The words of a refusal.
 
 ghost use Rattle.std.specs.Prelude.{◌≡◌, ◌+◌, ◌≤◌, ◌++◌, length};
-ghost use Rattle.metering_model.specs.Transcript.{code_text, fault_text, kept_code_text, kept_fault_text, refusal_text, with_number};
+ghost use Rattle.metering_model.specs.Transcript.{code_text, kept_code_text, refusal_text, with_number};
 
 use byte_text::Line;
 use metering_model::{BatchCode, BatchFault, KeptCode, KeptTextFault, Refusal};

@@ -1,6 +1,6 @@
 //! Which later batches of one agent amend a batch.
 
-ghost use Rattle.std.specs.Prelude.{◌≡◌, ◌<◌, All, MatchOption, IfOk, OnOk, []};
+ghost use Rattle.std.specs.Prelude.{◌≡◌, ◌<◌, MatchOption, IfOk, OnOk, []};
 ghost use Rattle.batch_store.specs.Inner.Amenders.{pair_of, IsListed, AreListed, KeepsListed, NoneListed, IsLastListed};
 
 use batch_view::Amendment;

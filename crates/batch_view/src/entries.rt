@@ -11,12 +11,11 @@ ghost use Rattle.batch_view.specs.Inner.Entries.{field_total, FitsRecord, IsEntr
 
 use crate::lines::next_line;
 use crate::packed::PackedEntry;
-use metering_model::{BatchCode, BatchFault, Kind, Version};
+use metering_model::{BatchCode, Kind, Version};
 use record_view::{
     Numbers, Record, Span, Stamp, StampReader, Value, field_spans, kept_reading, read_exact,
     read_plain,
 };
-use std::alloc::Global;
 
 /// What a record is, without its texts.
 #[derive(Clone, Copy)]

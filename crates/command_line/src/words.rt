@@ -1,6 +1,6 @@
 //! The words of the command line.
 
-ghost use Rattle.std.specs.Prelude.{Bool, ◌≡◌, ◌≢◌, ◌≤◌, ℕ, ℤ, Err, IfOk, IfSome, None, Option, Some, codes, false, map, pos, string_bytes, []};
+ghost use Rattle.std.specs.Prelude.{Bool, ◌≡◌, ◌≢◌, ◌≤◌, ℕ, ℤ, Err, IfOk, IfSome, None, Option, Some, false, map, string_bytes, []};
 ghost use Rattle.clap.specs.Words.{app_of, found_of, kind_of, new_app, rows_of, rule_of, with_rule, with_subcommand};
 ghost use Rattle.schedule_writer.specs.declared.asked.Request.{Request};
 ghost use Rattle.clap.specs.declared.builder.command.Command.TheViews.{out-Command};
@@ -9,7 +9,6 @@ ghost use Rattle.command_line.specs.declared.commands.Kind.{Kind};
 ghost use Rattle.sheet_changes.specs.declared.changes.Asked.{Asked};
 ghost use Rattle.command_line.specs.CommandLine.{bare_grammar, check_grammar, flag_option, grammar_of_focusd, kind_text, number_option, period_grammar, threads_grammar, Asks, AsksForHelp, GivesAsked, GivesDay, GivesFlag, GivesKind, GivesNumber, GivesPeriod, GivesRequest, GivesSize, GivesThrough, IsNamed, schedule_grammar, sheets_grammar, text_option};
 ghost use Rattle.command_line.specs.Inner.Requests.{IsRequestFor};
-ghost use Rattle.clap.specs.declared.builder.value_parser.ValueParser.TheVariants.{Signed};
 
 use crate::commands::{Command, Kind};
 use clap::error::ErrorKind;

@@ -5,7 +5,7 @@ ghost use Rattle.std.specs.List.{flat_map, slice_get};
 ghost use Rattle.metering_model.specs.Batch.{Batch, Reading, Reads, Record as ModelRecord};
 ghost use Rattle.batch_view.specs.Asked.{asked_in, record_asked};
 ghost use Rattle.batch_view.specs.Batches.{batch_of};
-ghost use Rattle.fault_lines.specs.Ahead.{AreLatest, ahead_in, ahead_of, days_of, is_ahead, later, latest, start_day, told_of_record};
+ghost use Rattle.fault_lines.specs.Ahead.{AreLatest, ahead_in, ahead_of, is_ahead, later, latest, start_day, told_of_record};
 ghost use Rattle.fault_lines.specs.Told.{told_at};
 
 use crate::batches::put_place;

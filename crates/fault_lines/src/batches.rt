@@ -17,7 +17,7 @@ use batch_view::{BatchView, Reading, Record};
 use byte_text::put_numbered;
 use metering_model::{BatchFault, Refusal};
 use price_sheet::Sheet;
-use std::alloc::{AllocError, Global};
+use std::alloc::AllocError;
 
 /// Appends the code of a refusal and what it tells, but for a line.
 fn put_words(told: &mut Vec<u8>, refusal: Refusal) -> Result<(), AllocError>

@@ -1,13 +1,12 @@
 //! Keys of a sheet or of an issuer that no reader takes.
 
-ghost use Rattle.std.specs.Prelude.{◌≡◌, [], not, ◌+◌, ◌++◌, Some, None, IfOk, MatchOption, OnOk, map, filter, length};
+ghost use Rattle.std.specs.Prelude.{◌≡◌, [], not, ◌+◌, ◌++◌, Some, None, IfOk, MatchOption, OnOk, map, filter};
 ghost use Rattle.std.specs.List.{flat_map, list_any, position};
-ghost use Rattle.std.specs.Str.{is_utf8};
 ghost use Rattle.toml.specs.Parse.{parse_document};
 ghost use Rattle.toml.specs.View.{table_view};
 ghost use Rattle.metering_model.specs.BatchReading.{lines_in};
 ghost use Rattle.sheet_text.specs.Keys.{rows_under};
-ghost use Rattle.fault_lines.specs.UnknownKeys.{behind_sheet, first_word, from_first, is_blank, is_key, is_of_key, is_taken, keys_left, opens_table, shown, stands_before_key, table_below, table_of, told_along, told_of_keys, told_of_section, told_unknown, unknown_from, unknown_from_issuer, unknown_in_issuer, unknown_in_sheet, unknown_on, up_to_first, with_key, with_rows, with_rows_under, with_table};
+ghost use Rattle.fault_lines.specs.UnknownKeys.{first_word, from_first, is_blank, is_key, is_of_key, is_taken, keys_left, opens_table, shown, stands_before_key, table_below, table_of, told_along, told_of_keys, told_of_section, told_unknown, unknown_from, unknown_from_issuer, unknown_in_issuer, unknown_in_sheet, unknown_on, with_key, with_rows, with_rows_under, with_table};
 
 use crate::batches::put_place;
 use byte_text::{first_line, is_same, line_count};

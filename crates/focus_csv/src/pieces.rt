@@ -1,10 +1,8 @@
 //! The pieces of one line, held for the next.
 
 ghost use Rattle.std.specs.Prelude.{◌≡◌, [], ◌∷◌, ◌++◌, map, false, IsTrue, OnOk, OnErr};
-ghost use Rattle.std.specs.List.{flat_map};
-ghost use Rattle.metering_model.specs.NumberText.{spelling};
 ghost use Rattle.metering_model.specs.Row.{Row};
-ghost use Rattle.metering_model.specs.File.{json_object, quoted, row_text};
+ghost use Rattle.metering_model.specs.File.{json_object, row_text};
 ghost use Rattle.focus_row.specs.Rows.{model_row};
 ghost use Rattle.focus_csv.specs.Inner.Beginnings.{BeginsWith};
 ghost use Rattle.focus_csv.specs.Inner.Pieces.{AreOf, line_bytes};

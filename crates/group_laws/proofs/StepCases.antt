@@ -13,7 +13,7 @@ use Rattle.metering_model.specs.declared.Refusal.{Refusal}
 use Rattle.metering_model.specs.declared.Refusal.TheVariants.{NoPacket, NoNode, NoAgent, WrongSeq, AllClosed, NoBallot, WorldFull, Observer, NotKept}
 use Rattle.metering_model.specs.declared.BrokenRule.TheVariants.{BadTarget, Unpriced}
 use Rattle.metering_model.specs.Ballot.{ballot_of}
-use Rattle.metering_model.specs.World.{World, Node, Packet, CarriesBatch, Prepare, Offer, Good, Bad, Event, Journal, Deliver, Start, Restart, Export, Keep, Revive, KeptOffer, KeptGood, KeptBad, Delivered, Reply, voter_count, votes, current_period, wake, with_node_at, with_packet, next_packet}
+use Rattle.metering_model.specs.World.{World, Node, Packet, CarriesBatch, Prepare, Offer, Good, Bad, Event, Journal, Deliver, Start, Restart, Export, Keep, Revive, KeptOffer, KeptGood, KeptBad, Delivered, voter_count, votes, current_period, wake, with_node_at, with_packet, next_packet}
 use Rattle.metering_model.specs.World as world
 use Rattle.metering_model.specs.Deliveries.{Handled, handled}
 use Rattle.metering_model.specs.declared.KeptTextFault.{KeptTextFault}

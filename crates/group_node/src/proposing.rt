@@ -1,12 +1,11 @@
 //! What a node proposes.
-ghost use Rattle.std.specs.Prelude.{◌≡◌, ℕ, ◌<◌, length, if◌then◌else◌, IfOk, IfSome, OnErr, Some, None, Option};
+ghost use Rattle.std.specs.Prelude.{◌≡◌, ◌<◌, length, IfOk, IfSome, OnErr, Some, None, Option};
 ghost use Rattle.std.specs.List.{last_or};
 ghost use Rattle.std.specs.Option.{option_copied, option_map};
 ghost use Rattle.std.specs.Arc.{arc_value};
 ghost use Rattle.metering_model.specs.Dates.{IsBaseMonth};
 ghost use Rattle.metering_model.specs.Ballot.{Attempt as ModelAttempt};
-ghost use Rattle.metering_model.specs.Front.{front};
-ghost use Rattle.metering_model.specs.World.{Promise, current_period, last_cut};
+ghost use Rattle.metering_model.specs.World.{Promise, current_period};
 ghost use Rattle.node_kept.specs.Promises.{after_promise};
 ghost use Rattle.group_node.specs.Packets.{packet_of};
 ghost use Rattle.group_node.specs.Nodes.{IsNodeAmong};
@@ -16,7 +15,7 @@ ghost use Rattle.group_node.specs.Inner.Proposing.{proposal_at, accept_at, await
 use crate::nodes::Node;
 use crate::packets::Packet;
 use crate::voting::share_vote;
-use node_kept::{Attempt, Ballot, Store, Vote};
+use node_kept::{Attempt, Ballot, Vote};
 use period_cut::{Cut, Month, Period};
 use std::alloc::{AllocError, Global};
 use std::sync::Arc;

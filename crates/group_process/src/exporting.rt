@@ -2,7 +2,6 @@
 
 ghost use Rattle.std.specs.Prelude.{◌≡◌, ◌+◌, ◌<◌, length, take, IfOk};
 ghost use Rattle.metering_model.specs.Cut.{zero_cut};
-ghost use Rattle.std.specs.Arc.{arc_value};
 ghost use Rattle.metering_model.specs.Step.{cut_before};
 ghost use Rattle.process_laws.specs.LocalSteps.{are_growing, exporting};
 ghost use Rattle.group_process.specs.Answers.{exported_answer};
@@ -10,9 +9,8 @@ ghost use Rattle.group_process.specs.Inner.Growing.{goes_on};
 
 use crate::nodes::NodeProcess;
 use crate::refusals::ProcessRefusal;
-use group_events::{Cut, Period, Snapshot};
+use group_events::Snapshot;
 use journal_rules::first_broken_up_to;
-use metering_model::Refusal;
 use std::alloc::{AllocError, Global};
 use std::sync::Arc;
 

@@ -6,13 +6,11 @@ use Rattle.metering_model.specs.Holding.{placed, put}
 use Rattle.metering_model.specs.JournalRules.{next_seq, first_broken}
 use Rattle.metering_model.specs.declared.BrokenRule.TheVariants.{BadTarget as BreaksTarget, Unpriced as BreaksPrice}
 use Rattle.metering_model.specs.declared.Refusal.{Refusal}
-use Rattle.metering_model.specs.declared.Refusal.TheVariants.{NoPacket, NoNode, NoAgent, WrongSeq, BadTarget, Unpriced, AllClosed, NoBallot, WorldFull, NotClosed, Missing, Observer}
+use Rattle.metering_model.specs.declared.Refusal.TheVariants.{NoNode, NoAgent, WrongSeq, BadTarget, Unpriced, WorldFull}
 use Rattle.metering_model.specs.Ballot.{ballot_of}
-use Rattle.metering_model.specs.Cut.{Cut}
 use Rattle.metering_model.specs.World.{World, Node, Packet, CarriesBatch, Prepare, Journaled, Delivered, Started, Restarted, Exported, Refused, Export, Snapshot, voter_count, votes, current_period, wake, with_node_at, with_packet}
 use Rattle.metering_model.specs.Deliveries.{handled}
-use Rattle.metering_model.specs.Step.{Outcome, on_batch, on_delivery, on_start, on_restart, started_node, snapshot, cut_before, first_missing, step}
-use Rattle.metering_model.specs.Holding.{up_to}
+use Rattle.metering_model.specs.Step.{Outcome, on_batch, on_delivery, on_start, on_restart, started_node, snapshot, step}
 
 -- ---- a batch is journaled
 

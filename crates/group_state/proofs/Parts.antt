@@ -1,5 +1,5 @@
 -- What the parts of a reached world keep.
-use Rattle.std.proofs.Common.{◌≡◌, ℕ, zero, suc, ◌-◌, ◌<◌, ◌≤◌, true, List, [], ◌∷◌, length, arith, refl, sym, subst, ap, ◌∙◌, Option, Some, None}
+use Rattle.std.proofs.Common.{◌≡◌, ℕ, zero, suc, ◌-◌, ◌<◌, ◌≤◌, true, List, [], ◌∷◌, length, arith, sym, subst, Option, Some, None}
 use Rattle.std.specs.Prelude.{slice_get, unwrap_or, All}
 use Rattle.std.specs.Option.{is_some}
 use Rattle.std.proofs.lemmas.Option.{same_Some, none-some}
@@ -8,14 +8,13 @@ use Rattle.metering_model.specs.Sheet.{Sheet, Issuer}
 use Rattle.metering_model.specs.Cut.{Cut, IsAtLeast, GrowsFrom, IsGrowing, zero_cut}
 use Rattle.metering_model.specs.Holding.{Holding, IsHolding, IsPartOf, AgreeUpTo, held, up_to}
 use Rattle.metering_model.specs.JournalRules.{MeetsJournalRules, next_seq}
-use Rattle.metering_model.specs.World.{World, Node, Packet, Snapshot, voter_count}
-use Rattle.metering_model.specs.Step.{cut_before, first_missing}
-use Rattle.metering_model.proofs.HoldingLaws.{same_up_to, held-up_to}
+use Rattle.metering_model.specs.World.{World, Node, Snapshot, voter_count}
+use Rattle.metering_model.specs.Step.{cut_before}
+use Rattle.metering_model.proofs.HoldingLaws.{same_up_to}
 use Rattle.metering_model.proofs.Journals.{next_not_held}
-use Rattle.metering_model.proofs.MissingLaws.{nothing_missing, held-up_to_where}
 use Rattle.metering_model.proofs.NextLaws.{held_below_next}
 use Rattle.metering_model.proofs.RulesUpToCut.{MeetsJournalRules-up_to}
-use Rattle.group_laws.specs.EveryRun.{IsNode, IsPacket, IsJournaledCut}
+use Rattle.group_laws.specs.EveryRun.{IsNode, IsJournaledCut}
 use Rattle.group_state.specs.Reached.{IsReached}
 use Rattle.group_state.proofs.Reaching.{limits_here}
 

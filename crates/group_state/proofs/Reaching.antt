@@ -1,9 +1,9 @@
 -- What every reached world keeps, and what a step and a run do to what some run led to.
-use Rattle.std.proofs.Common.{ℕ, List, [], ◌∷◌, ◌++◌, refl, subst, ap, ◌∙◌}
+use Rattle.std.proofs.Common.{ℕ, List, [], ◌++◌, refl, subst, ap, ◌∙◌}
 use Rattle.metering_model.specs.Sheet.{Sheet, Issuer}
 use Rattle.metering_model.specs.Limits.{most_packets}
 use Rattle.metering_model.specs.World.{World, Event, voter_count, opening}
-use Rattle.metering_model.specs.Step.{step, play}
+use Rattle.metering_model.specs.Step.{play}
 use Rattle.metering_model.proofs.PlayLaws.{play-append}
 use Rattle.group_laws.specs.Headline.{HoldsAfter}
 use Rattle.group_laws.specs.EveryRun.{KeepsLimits}

@@ -1,16 +1,16 @@
 -- What a keep and a revival are answered.
-use Rattle.std.proofs.Common.{◌≡◌, ℕ, ◌≤◌, Bool, refl, sym, ap, subst, ◌∙◌, arith, Some, None, Result, Ok, Err}
+use Rattle.std.proofs.Common.{◌≡◌, ℕ, ◌≤◌, Bool, ap, subst, ◌∙◌, arith, Some, Result, Ok, Err}
 use Rattle.std.specs.Prelude.{slice_get}
 use Rattle.std.proofs.lemmas.Bool.{false_from_ne_true}
 use Rattle.metering_model.specs.FirstFailure.{◌>>=◌, holds_or}
 use Rattle.metering_model.specs.BatchReading.{is_same}
 use Rattle.metering_model.specs.declared.KeptTextFault.{KeptTextFault}
 use Rattle.metering_model.specs.declared.Refusal.{Refusal}
-use Rattle.metering_model.specs.declared.Refusal.TheVariants.{NoNode, BadKept, NotKept}
+use Rattle.metering_model.specs.declared.Refusal.TheVariants.{NotKept}
 use Rattle.metering_model.specs.Limits.{most_packets}
-use Rattle.metering_model.specs.World.{World, Node, Keep, Revive, Restart, KeptOffer, KeptGood, KeptBad, KeptText, Restarted, Refused, wake, with_node_at}
+use Rattle.metering_model.specs.World.{World, Node, Revive, Restart, KeptGood, Restarted, wake, with_node_at}
 use Rattle.metering_model.specs.KeptText.{KeptAmong, HasText, kept_text}
-use Rattle.metering_model.specs.Step.{Outcome, on_revival, or_refused, or_bad_kept, kept_now, step}
+use Rattle.metering_model.specs.Step.{Outcome, on_revival, or_bad_kept, kept_now, step}
 use Rattle.metering_model.proofs.FieldLaws.{same_read}
 use Rattle.metering_model.proofs.KeptLaws.{kept_written, read_back, writable_of}
 use Rattle.group_laws.proofs.Revivals.{own_text_is_taken, each_has_text}

@@ -10,10 +10,9 @@ ghost use Rattle.group_state.specs.Reached.{IsReached};
 ghost use Rattle.group_state.specs.Inner.Allowed.{MayTake};
 
 use crate::GroupState;
-use group_events::{Cut, Period, Reply, Sheet, Snapshot};
+use group_events::{Cut, Period, Reply, Snapshot};
 use group_node::Node;
 use metering_model::Refusal;
-use sheet_text::Issuer;
 use std::alloc::{AllocError, Global};
 use std::sync::Arc;
 

@@ -1,13 +1,11 @@
 //! A node begins a ballot of its own, or restarts.
 
-ghost use Rattle.std.specs.Prelude.{◌≡◌, ◌+◌, ◌++◌, ◌∷◌, ◌<◌, ◌≤◌, [], Err, length, map, IfOk, OnErr, MatchResult};
-ghost use Rattle.metering_model.specs.Ballot.{ballot_of};
-ghost use Rattle.metering_model.specs.World.{Prepare, Restart, Start, Started, current_period};
-ghost use Rattle.metering_model.specs.Step.{on_start, started_node, step};
+ghost use Rattle.std.specs.Prelude.{◌≡◌, ◌<◌, Err, length, map, IfOk, OnErr, MatchResult};
+ghost use Rattle.metering_model.specs.World.{Prepare, Restart, Start, Started};
+ghost use Rattle.metering_model.specs.Step.{on_start, step};
 ghost use Rattle.metering_model.specs.Limits.{most_packets, most_rounds};
 ghost use Rattle.group_node.specs.Packets.{packet_of};
 ghost use Rattle.group_events.specs.Replies.{reply_of};
-ghost use Rattle.group_state.specs.Reached.{IsReached};
 ghost use Rattle.group_state.specs.Inner.Allowed.{MayBegin};
 ghost use Rattle.group_state.specs.Inner.Members.{Begins};
 

@@ -1,6 +1,6 @@
 //! What is warned of, though nothing is refused for it.
 
-ghost use Rattle.std.specs.Prelude.{◌≡◌, [], ◌++◌, List, OnOk};
+ghost use Rattle.std.specs.Prelude.{◌≡◌, ◌++◌, List, OnOk};
 ghost use Rattle.metering_model.specs.Batch.{Batch};
 ghost use Rattle.group_events.specs.Events.{event_of};
 ghost use Rattle.schedule_player.specs.Replies.{reply_of};

@@ -8,7 +8,7 @@ ghost use Rattle.group_events.specs.Replies.{reply_of};
 ghost use Rattle.node_book.specs.Books.{Log as ModelLog, node_total, opened};
 ghost use Rattle.node_book.specs.Kept.{entry_of};
 ghost use Rattle.node_book.specs.Logs.{log_of, plan_of};
-ghost use Rattle.node_book.specs.Agreement.{Agree, ExportsEach, FilesAgree, IsLogAt, events_by, is_event_of_node, is_same_worker, may_do, told_to, worker_at};
+ghost use Rattle.node_book.specs.Agreement.{Agree, FilesAgree, IsLogAt, events_by, is_event_of_node, is_same_worker, may_do, told_to, worker_at};
 
 use crate::logs::exports_each;
 use crate::{Book, Done, Entry, Log, Plan};

@@ -8,7 +8,7 @@ ghost use Rattle.metering_model.specs.Step.{step};
 ghost use Rattle.metering_model.specs.History.{IsLegal};
 ghost use Rattle.group_laws.specs.Headline.{HoldsAfter};
 ghost use Rattle.group_events.specs.Events.{event_of};
-ghost use Rattle.group_events.specs.Replies.{is_exported, is_kept_text, is_refused, reply_of};
+ghost use Rattle.group_events.specs.Replies.{is_exported, is_kept_text, is_refused};
 ghost use Rattle.node_book.specs.Books.{opened};
 ghost use Rattle.node_book.specs.Kept.{entry_of, told_of};
 

@@ -1,5 +1,5 @@
 //! What a node keeps, in parts and as one.
-ghost use Rattle.std.specs.Prelude.{◌≡◌, ◌↔◌, ◌≤◌, map, All, IsTrue};
+ghost use Rattle.std.specs.Prelude.{◌≡◌, ◌↔◌, map, All, IsTrue};
 ghost use Rattle.std.specs.Arc.{arc_value};
 ghost use Rattle.metering_model.specs.KeptText.{HasText};
 ghost use Rattle.batch_store.specs.Limits.{IsCut};

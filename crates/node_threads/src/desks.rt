@@ -1,6 +1,6 @@
 //! What the threads of a run share, and what they tell each other.
 
-ghost use Rattle.std.specs.Prelude.{◌≡◌, ◌+◌, ◌≤◌, vec_len};
+ghost use Rattle.std.specs.Prelude.{◌+◌, ◌≤◌, vec_len};
 ghost use Rattle.metering_model.specs.Limits.{most_agents, most_nodes};
 
 use crate::boards::Board;

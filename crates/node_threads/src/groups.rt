@@ -1,6 +1,6 @@
 //! A run from its plan to its logs.
 
-ghost use Rattle.std.specs.Prelude.{◌≡◌, ◌+◌, ◌≤◌, length, map, vec_len, IfOk};
+ghost use Rattle.std.specs.Prelude.{◌≡◌, ◌+◌, ◌≤◌, map, vec_len, IfOk};
 ghost use Rattle.metering_model.specs.Limits.{most_agents, most_periods, most_nodes};
 ghost use Rattle.metering_model.specs.History.{IsLegal};
 ghost use Rattle.group_laws.specs.Headline.{HoldsAfter};

@@ -1,6 +1,6 @@
 //! The numbers of a packet's line, each read from its field.
 
-ghost use Rattle.std.specs.Prelude.{◌≡◌, ◌<◌, ◌≤◌, ◌∷◌, length, MatchOption};
+ghost use Rattle.std.specs.Prelude.{◌≡◌, ◌<◌, ◌≤◌, length, MatchOption};
 ghost use Rattle.std.specs.List.{list_all};
 ghost use Rattle.metering_model.specs.BatchReading.{fields_in, whole_in};
 ghost use Rattle.metering_model.specs.Limits.{most_agents, most_journal_lines};

@@ -1,7 +1,6 @@
 //! Packets, written as text.
 
 ghost use Rattle.std.specs.Prelude.{◌≡◌, [], ◌∷◌, ◌++◌, codes, decimal, map, OnErr, OnOk};
-ghost use Rattle.std.specs.Arc.{arc_value};
 ghost use Rattle.std.specs.Option.{option_copied};
 ghost use Rattle.batch_view.specs.Batches.{batch_of};
 ghost use Rattle.group_node.specs.Packets.{packet_of};

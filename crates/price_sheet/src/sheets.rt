@@ -1,6 +1,6 @@
 //! The price sheet.
 
-ghost use Rattle.std.specs.Prelude.{◌≡◌, ◌≢◌, ◌↔◌, ◌≤◌, Ok, Err, IfOk, IfErr, IsOk, IsTrue, [], length, map};
+ghost use Rattle.std.specs.Prelude.{◌≡◌, ◌≢◌, ◌↔◌, ◌≤◌, Ok, Err, IfOk, IfErr, IsOk, IsTrue, length, map};
 ghost use Rattle.std.specs.Option.{option_copied};
 ghost use Rattle.metering_model.specs.Limits.{most_sheet_rows};
 ghost use Rattle.toml.specs.View.{table_view};
@@ -9,7 +9,7 @@ ghost use Rattle.metering_model.specs.Dates.{IsBaseMonth};
 ghost use Rattle.metering_model.specs.SheetRules.{IsSheet};
 ghost use Rattle.metering_model.specs.PriceInForce.{price_in_force, commitment_with, region_named};
 ghost use Rattle.sheet_text.specs.Keys.{base_under};
-ghost use Rattle.price_sheet.specs.SheetReading.{prices_in, commitments_in, regions_in, empty_sheet, sheet_of_rows, sheet_in, sheet_of_text};
+ghost use Rattle.price_sheet.specs.SheetReading.{empty_sheet, sheet_of_rows, sheet_in, sheet_of_text};
 
 use crate::commitment_table::read_commitments;
 use crate::id_table::IdTable;

@@ -5,7 +5,7 @@ use Rattle.std.proofs.lemmas.Bool.{and_parts}
 use Rattle.metering_model.specs.Holding.{Holding}
 use Rattle.metering_model.specs.KeptText.{kept_text}
 use Rattle.process_laws.specs.LocalSteps as model
-use Rattle.process_laws.specs.LocalSteps.{AgentCommand, AgentDone, Answer, Group, KeptIs, TellJournal, agent_does, saying}
+use Rattle.process_laws.specs.LocalSteps.{AgentCommand, AgentDone, Group, KeptIs, TellJournal, saying}
 use Rattle.process_laws.specs.Histories as laws
 use Rattle.process_laws.specs.Histories.{Processes, Act, Acted, AgentDoes, acted, after, begun, with_agent_done}
 use Rattle.log_text.specs.LogText.{AgentOf, IsLogHead, NodeOf, Who}

@@ -9,9 +9,9 @@ use Rattle.metering_model.specs.KeptText.{kept_text}
 use Rattle.metering_model.specs.World.{Node, Packet}
 use Rattle.group_laws.proofs.Steps.{length-slice_set}
 use Rattle.process_laws.specs.LocalSteps as model
-use Rattle.process_laws.specs.LocalSteps.{Answer, Group, NodeCommand, TakePacket, BeginBallot, ExportPeriod, TellKept, SendBatch, NodeDone, KeptIs, is_of_group, node_does, saying}
+use Rattle.process_laws.specs.LocalSteps.{Group, NodeCommand, TakePacket, BeginBallot, ExportPeriod, TellKept, SendBatch, NodeDone, KeptIs, node_does, saying}
 use Rattle.process_laws.specs.Histories as laws
-use Rattle.process_laws.specs.Histories.{Processes, Act, Acted, NodeDoes, acted, after, begun, by_node, with_node_done}
+use Rattle.process_laws.specs.Histories.{Processes, Act, Acted, NodeDoes, acted, after, begun, with_node_done}
 use Rattle.process_laws.proofs.NodeSteps.{get_set}
 use Rattle.packet_text.specs.PacketText.{GroupPacket, packet_in, packet_text}
 use Rattle.packet_text.proofs.PacketLaws.{packet_written}

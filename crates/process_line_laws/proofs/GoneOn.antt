@@ -28,7 +28,7 @@ use Rattle.process_text.specs.declared.processes.Process.TheVariants as process
 use Rattle.process_text.specs.Answers.{begun_text, words_text}
 use Rattle.process_player.specs.declared.heads.ProcessKind.{ProcessKind}
 use Rattle.process_player.specs.Starts as starts
-use Rattle.process_player.specs.Starts.{Begins, HasLog, HasNone, IsStored, Preamble, group_of, head_of, is_kind_of, kind_word, own_of, preamble_in}
+use Rattle.process_player.specs.Starts.{HasLog, HasNone, IsStored, Preamble, group_of, head_of, is_kind_of, kind_word, own_of, preamble_in}
 use Rattle.process_player.proofs.PreambleLaws.{log_limits, own_read as read_of_own, preamble_log}
 use Rattle.group_process.specs.Selves.{AgentSelf, NodeSelf}
 use Rattle.process_line_laws.specs.Told.{just, texts_sent}

@@ -1,8 +1,8 @@
 //! What a host reads, and what all that the hosts of a group do comes to.
 
-ghost use Rattle.std.specs.Prelude.{◌≡◌, ℕ, List, [], ◌∷◌, ◌++◌, length, Option};
+ghost use Rattle.std.specs.Prelude.{◌≡◌, ℕ, List, [], ◌++◌, length, Option};
 ghost use Rattle.std.specs.List.{Contains};
-ghost use Rattle.metering_model.specs.BatchReading.{Lines, lines_in};
+ghost use Rattle.metering_model.specs.BatchReading.{lines_in};
 ghost use Rattle.metering_model.specs.KeptText.{HasText, KeptAmong, kept_text};
 ghost use Rattle.metering_model.specs.World.{Packet};
 ghost use Rattle.process_laws.specs.LocalSteps as model;
@@ -12,7 +12,7 @@ ghost use Rattle.log_text.specs.LogText.{HasIncrementText, Increment, increment_
 ghost use Rattle.group_process.specs.Selves.{AgentSelf, NodeSelf};
 ghost use Rattle.process_text.specs.declared.processes.Process.{Process};
 ghost use Rattle.process_text.specs.Answers.{TellsAgent, TellsNode, answer_text, begun_text, lines_of_packet, refused_text};
-ghost use Rattle.process_line_laws.specs.Told.{CanBeCounted, FirstTold, MayBeAdded, MayBeSent, first_told, just, meant, told_in};
+ghost use Rattle.process_line_laws.specs.Told.{CanBeCounted, MayBeAdded, MayBeSent, first_told, just, meant, told_in};
 ghost use Rattle.process_line_laws.specs.Hosts.{HostAct, IsHostHistory, all_done, begun_machines, said_by};
 ghost use Rattle.process_line_laws.specs.Comes.{AreMadeOf, ComeToHistory, IsFileOf, IsOfJournals};
 

@@ -1,7 +1,6 @@
 -- What a process answers, as lines of text: first what its log gets, then what it sends, and last the line that tells what came of it,
 -- so that who reads an answer knows where it ends.
-use Rattle.std.specs.Prelude.{◌≡◌, ℕ, ◌+◌, ◌%◌, List, [], ◌∷◌, ◌++◌, Option, Some, None, codes, decimal}
-use Rattle.metering_model.specs.Batch.{Batch}
+use Rattle.std.specs.Prelude.{◌≡◌, ℕ, ◌+◌, ◌%◌, List, [], ◌++◌, Option, Some, None, codes, decimal}
 use Rattle.metering_model.specs.World.{Packet, CarriesBatch, Prepare, Promise, Accept, Accepted, Decided, Exported, KeptText, Node, current_period}
 use Rattle.metering_model.specs.Holding.{Holding}
 use Rattle.metering_model.specs.JournalRules.{next_seq}

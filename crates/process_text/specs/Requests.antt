@@ -1,7 +1,6 @@
 -- What a process is asked by a line of text and the lines that it says to be below it.
 use Rattle.std.specs.Prelude.{ℕ, ◌+◌, ◌==◌, if◌then◌else◌, List, length, take, drop, Option, Some, None, unwrap_or, codes}
 use Rattle.std.specs.List.{position}
-use Rattle.std.specs.Option.{option_map}
 use Rattle.metering_model.specs.Limits.{last_period, last_sequence, most_agents, most_journal_lines}
 use Rattle.metering_model.specs.BatchReading.{is_same, whole_in}
 use Rattle.metering_model.specs.World.{offer_of}

@@ -8,9 +8,8 @@ ghost use Rattle.metering_model.specs.World as world;
 ghost use Rattle.process_laws.specs.LocalSteps.{Foreign, NodeWentOn};
 ghost use Rattle.group_events.specs.Batches.{batch_of};
 ghost use Rattle.group_node.specs.Packets.{packet_of};
-ghost use Rattle.packet_text.specs.PacketText.{lines_of_batch, packet_text};
 ghost use Rattle.log_text.specs.Increments.{increment_of};
-ghost use Rattle.log_text.specs.LogText.{increment_text, lines_of_increment, section_line};
+ghost use Rattle.log_text.specs.LogText.{lines_of_increment, section_line};
 ghost use Rattle.group_process.specs.Answers.{refusal_of};
 ghost use Rattle.process_text.specs.Answers.{added_text, addressee, addressee_text, asker, lines_of_packet, packet_sent_text, process_refusal_text, refused_text, words_text};
 

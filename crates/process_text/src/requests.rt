@@ -1,7 +1,7 @@
 //! What a node and an agent are asked: a line, and the lines that it says to be below it.
 
 ghost use Rattle.std.specs.Prelude.{◌≡◌, ◌≤◌, codes, IfOk, IfSome};
-ghost use Rattle.std.specs.Option.{option_map, unwrap_or};
+ghost use Rattle.std.specs.Option.{unwrap_or};
 ghost use Rattle.metering_model.specs.Limits.{most_journal_lines};
 ghost use Rattle.metering_model.specs.World as world;
 ghost use Rattle.input_sections.specs.Sections.{number_behind};

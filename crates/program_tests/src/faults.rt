@@ -9,7 +9,7 @@ use metering_model::{
 };
 use node_kept::KeptFault;
 use program_input::{PlayFault, ScheduleCode, ScheduleFault};
-use std::alloc::{AllocError, Global};
+use std::alloc::AllocError;
 use std::fmt::Display;
 
 /// Appends what is told of each fault, with a point after it.

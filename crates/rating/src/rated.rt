@@ -1,7 +1,6 @@
 //! What a charge comes to.
 
-ghost use Rattle.std.specs.Prelude.{◌≡◌, ◌<◌, ◌≤◌, ◌≤ℤ◌, ◌-ℤ◌, pos, unsigned_abs};
-ghost use Rattle.metering_model.specs.NumberText.{delta_limit, value_limit};
+ghost use Rattle.std.specs.Prelude.{◌≡◌, ◌<◌, pos};
 ghost use Rattle.metering_model.specs.Rating as model;
 
 use crate::rounding::difference;

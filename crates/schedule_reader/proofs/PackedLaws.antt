@@ -5,7 +5,7 @@ use Rattle.std.proofs.Math.Seq.{drop-append_seam, take-append_seam}
 use Rattle.std.proofs.lemmas.List.{append-nil, drop-drop, length-append, length-drop}
 use Rattle.metering_model.specs.BatchReading.{lines_in}
 use Rattle.metering_model.specs.Schedule as model
-use Rattle.metering_model.specs.Schedule.{lines_text, planned_text}
+use Rattle.metering_model.specs.Schedule.{planned_text}
 use Rattle.metering_model.specs.Transcript.{line, with_number}
 use Rattle.input_sections.specs.Sections.{Unread, left}
 use Rattle.schedule_reader.specs.declared.events.Planned.{Planned}

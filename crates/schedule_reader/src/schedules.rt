@@ -1,6 +1,6 @@
 //! A whole schedule.
 
-ghost use Rattle.std.specs.Prelude.{◌≡◌, ◌≢◌, ◌+◌, ◌≤◌, Ok, Err, IfOk, IfErr, IsOk, MatchResult, length, codes};
+ghost use Rattle.std.specs.Prelude.{◌≡◌, ◌≢◌, ◌+◌, ◌≤◌, Ok, Err, IfOk, IfErr, IsOk, MatchResult};
 ghost use Rattle.metering_model.specs.Limits.{most_agents, most_nodes};
 ghost use Rattle.metering_model.specs.SheetRules.{IsSheet, IsIssuer};
 ghost use Rattle.schedule_reader.specs.Schedules.{head_line, nodes_line, number_line, group_in, preamble_in, schedule_in};

@@ -16,7 +16,7 @@ use crate::plans::{Plan, Seen};
 use batch_store::Store;
 use group_events::{Event, Offer};
 use input_sections::{ScheduleFault, Unread};
-use price_sheet::{Issuer, Sheet};
+use price_sheet::Issuer;
 use schedule_player::{World, event_of, opening_world};
 use schedule_reader::{Planned, Preamble, event_in};
 use std::alloc::Global;

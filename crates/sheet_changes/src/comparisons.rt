@@ -1,6 +1,6 @@
 //! From which days a new sheet goes on from an old one.
 
-ghost use Rattle.std.specs.Prelude.{◌≡◌, ◌++◌, ◌∷◌, List, ℕ, [], OnOk};
+ghost use Rattle.std.specs.Prelude.{◌≡◌, ◌++◌, List, ℕ, OnOk};
 ghost use Rattle.metering_model.specs.Transcript.{line};
 ghost use Rattle.sheet_changes.specs.Changes.{IsLikeness, IsLikenessText};
 ghost use Rattle.sheet_changes.specs.Likenesses.{likeness_of};

@@ -1,9 +1,8 @@
 //! The rows of prices.
 
-ghost use Rattle.std.specs.Prelude.{◌≡◌, ◌≤◌, ◌↔◌, IsTrue, map};
+ghost use Rattle.std.specs.Prelude.{◌≡◌, ◌≤◌, ◌↔◌, IsTrue};
 ghost use Rattle.metering_model.specs.Limits.{most_units};
 ghost use Rattle.toml.specs.View.{table_view};
-ghost use Rattle.metering_model.specs.SheetRules.{IsPriceRow};
 ghost use Rattle.sheet_text.specs.RowReading.{price_row_in};
 ghost use Rattle.sheet_text.specs.Gives.{Gives};
 

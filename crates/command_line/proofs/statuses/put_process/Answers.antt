@@ -1,4 +1,4 @@
-use Rattle.std.proofs.Common.{◌≡◌, ◌∙◌, ◌++◌, ℕ, List, ap, ap₂, sym, codes, decimal}
+use Rattle.std.proofs.Common.{◌∙◌, ◌++◌, ℕ, List, ap, ap₂, sym, codes, decimal}
 use Rattle.process_player.specs.declared.faults.ProcessFault.{ProcessFault}
 use Rattle.command_line.specs.Endings.{log_code_text, process_message}
 use Rattle.command_line.proofs.PartLaws.{put_in_turn}

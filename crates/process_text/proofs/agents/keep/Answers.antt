@@ -1,4 +1,4 @@
-use Rattle.std.proofs.Common.{◌++◌, sym, subst, ◌∙◌}
+use Rattle.std.proofs.Common.{sym, subst, ◌∙◌}
 use Rattle.packet_text.proofs.Pieces.{then_ok}
 use Rattle.process_laws.specs.LocalSteps.{TellJournal}
 use Rattle.process_text.specs.Requests.{AsksAgent}
