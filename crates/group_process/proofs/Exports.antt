@@ -5,7 +5,7 @@ use Rattle.std.specs.Prelude.{not, slice_get}
 use Rattle.std.specs.Option.{is_some}
 use Rattle.metering_model.specs.declared.BrokenRule.{BrokenRule}
 use Rattle.metering_model.specs.declared.Refusal.{Refusal}
-use Rattle.metering_model.specs.Sheet.{Issuer, Sheet}
+use Rattle.metering_model.specs.Sheet.{Sheet}
 use Rattle.metering_model.specs.Cut.{Cut, zero_cut}
 use Rattle.metering_model.specs.Holding.{Holding, IsHolding, records_in_order, up_to}
 use Rattle.metering_model.specs.JournalRules.{MeetsJournalRules, first_broken}
@@ -24,11 +24,6 @@ pub export_met : (h : Holding) (cut to end : Cut) (s sheet : Sheet) (o : Option 
 export_met h cut to end s sheet o ok whole broken none same_cut same_to same_sheet =
     let here = subst (λ x. first_broken s (up_to x h) (records_in_order (up_to x h)) ≡ None) same_to (sym broken ∙ none_of o none) in
     subst (λ x. MeetsJournalRules x (up_to end h)) same_sheet (rules_met h end ok (subst (λ x. first_missing h x ≡ None) same_cut (sym whole)) s here)
-
--- snapshots of the same parts are the same
-pub same_parts : (period : ℕ) (f from t to : Cut) (h holding : Holding) (s sheet : Sheet) (i issuer : Issuer) → f ≡ from → t ≡ to → h ≡ holding → s ≡ sheet → i ≡ issuer
-    → ◌≡◌ {A = Snapshot} (record { period = period; from = f; to = t; batches = up_to t h; sheet = s; issuer = i }) (record { period = period; from = from; to = to; batches = up_to to holding; sheet = sheet; issuer = issuer })
-same_parts period f from t to h holding s sheet i issuer a b c d e = cc
 
 -- What a node exports that has learned the period and has each batch up to its cut, where the cuts grow and no batch breaks a rule.
 pub exported_told : (g : Group) (n : Node) (p : ℕ) (to : Cut) → slice_get n.kept.learned p ≡ Some to → first_missing n.kept.holding to ≡ None

@@ -28,7 +28,8 @@ use Rattle.group_state.specs.Inner.Members.{IsMember, AreMembers, Begins, next_b
 use Rattle.group_state.specs.Inner.Allowed.{MayJournal, MayDeliver, HandsOver, MayBegin, MayTake}
 use Rattle.group_state.proofs.Lookups.{found_at}
 use Rattle.group_state.proofs.Outcomes.{wrong_seq, no_room_for_batch, journals_batch, delivers, delivers_and_sends, starts, restarts}
-use Rattle.group_state.proofs.Parts.{at_entry, node_here, learned_size, grows_from_before, rules_of_export}
+use Rattle.group_laws.proofs.Limits.{at_entry}
+use Rattle.group_state.proofs.Parts.{node_here, learned_size, grows_from_before, rules_of_export}
 use Rattle.group_state.proofs.Reaching.{limits_here, still_open}
 
 abbrev pub nodes_in : List NodeAmong → List Node

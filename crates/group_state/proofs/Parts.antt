@@ -1,28 +1,22 @@
 -- What the parts of a reached world keep.
 use Rattle.std.proofs.Common.{◌≡◌, ℕ, zero, suc, ◌-◌, ◌<◌, ◌≤◌, true, List, [], ◌∷◌, length, arith, sym, subst, Option, Some, None}
-use Rattle.std.specs.Prelude.{slice_get, unwrap_or, All}
+use Rattle.std.specs.Prelude.{slice_get, unwrap_or}
 use Rattle.std.specs.Option.{is_some}
 use Rattle.std.proofs.lemmas.Option.{same_Some, none-some}
-use Rattle.std.proofs.lemmas.List.Elements.{All-head, All-tail}
-use Rattle.metering_model.specs.Sheet.{Sheet, Issuer}
+use Rattle.metering_model.specs.Sheet.{Sheet}
 use Rattle.metering_model.specs.Cut.{Cut, IsAtLeast, GrowsFrom, IsGrowing, zero_cut}
 use Rattle.metering_model.specs.Holding.{Holding, IsHolding, IsPartOf, AgreeUpTo, held, up_to}
 use Rattle.metering_model.specs.JournalRules.{MeetsJournalRules, next_seq}
-use Rattle.metering_model.specs.World.{World, Node, Snapshot, voter_count}
+use Rattle.metering_model.specs.World.{World, Node, voter_count}
 use Rattle.metering_model.specs.Step.{cut_before}
 use Rattle.metering_model.proofs.HoldingLaws.{same_up_to}
 use Rattle.metering_model.proofs.Journals.{next_not_held}
 use Rattle.metering_model.proofs.NextLaws.{held_below_next}
 use Rattle.metering_model.proofs.RulesUpToCut.{MeetsJournalRules-up_to}
+use Rattle.group_laws.proofs.Limits.{at_entry}
 use Rattle.group_laws.specs.EveryRun.{IsNode, IsJournaledCut}
 use Rattle.group_state.specs.Reached.{IsReached}
 use Rattle.group_state.proofs.Reaching.{limits_here}
-
--- what holds of each element holds of the one at a place
-pub at_entry : {A : Type 0} (P : A → Type 0) (xs : List A) (k : ℕ) (x : A) → All P xs → slice_get xs k ≡ Some x → P x
-at_entry P [] k x all e = absurd (none-some x e)
-at_entry P (y ∷ ys) zero x all e = subst P (same_Some y x e) (All-head P y ys all)
-at_entry P (y ∷ ys) (suc k) x all e = at_entry P ys k x (All-tail P y ys all) e
 
 -- the node that is found is one
 pub node_here : (w : World) (i : ℕ) (n : Node) → IsReached w → slice_get w.nodes i ≡ Some n → IsNode (voter_count w) w.agents w.journals n
@@ -62,8 +56,3 @@ module _ (sheet : Sheet) (h journals : Holding) (to : Cut) (is_holding : IsHoldi
   -- the batches up to the cut are the journals', and so keep the rules
   pub rules_of_export : MeetsJournalRules sheet (up_to to h)
   rules_of_export = subst (MeetsJournalRules sheet) (sym (same_up_to to h journals is_holding rules.is_holding agree)) (MeetsJournalRules-up_to sheet to journals rules)
-
--- snapshots of the same parts are the same
-pub same_parts : (period : ℕ) (f from t to : Cut) (h holding : Holding) (s sheet : Sheet) (i issuer : Issuer) → f ≡ from → t ≡ to → h ≡ holding → s ≡ sheet → i ≡ issuer
-    → ◌≡◌ {A = Snapshot} (record { period = period; from = f; to = t; batches = up_to t h; sheet = s; issuer = i }) (record { period = period; from = from; to = to; batches = up_to to holding; sheet = sheet; issuer = issuer })
-same_parts period f from t to h holding s sheet i issuer a b c d e = cc

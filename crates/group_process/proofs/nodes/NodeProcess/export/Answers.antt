@@ -7,7 +7,8 @@ use Rattle.metering_model.specs.Step.{cut_before, first_missing}
 use Rattle.journal_rules.specs.Stores.{Stored}
 use Rattle.group_node.proofs.AloneLaws.{learned_whole}
 use Rattle.group_process.specs.Selves.{NodeSelf}
-use Rattle.group_process.proofs.Exports.{export_met, exported_told, same_parts, unbroken_told}
+use Rattle.group_events.proofs.Parts.{same_parts}
+use Rattle.group_process.proofs.Exports.{export_met, exported_told, unbroken_told}
 use Rattle.group_process.proofs.Growing.{goes_on_from_before, learned_size, period_within}
 use Rattle.group_process.proofs.nodes.NodeProcess.export.Goals as goal
 

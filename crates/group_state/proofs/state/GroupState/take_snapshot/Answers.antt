@@ -3,7 +3,7 @@ use Rattle.std.proofs.lemmas.Result.{IfOk-weaker}
 use Rattle.metering_model.specs.World.{World}
 use Rattle.metering_model.specs.Step.{cut_before}
 use Rattle.journal_rules.specs.Stores.{Stored}
-use Rattle.group_state.proofs.Parts.{same_parts}
+use Rattle.group_events.proofs.Parts.{same_parts}
 use Rattle.group_state.proofs.state.GroupState.take_snapshot.Goals as goal
 
 pub returns : goal.returns
