@@ -13,7 +13,7 @@ ghost use Rattle.focus_csv.specs.Rows.{joined};
 ghost use Rattle.focus_csv.specs.Faults.{is_sink_fault};
 
 use counted_io::Sink;
-use focus_csv::{CsvFault, RowsBetween, put_file, rows_between};
+use focus_csv::{CsvFault, RowsBetween, put_file_in, rows_between};
 use group_events::Snapshot;
 use split::write_split;
 use std::alloc::{AllocError, Global};
@@ -22,6 +22,7 @@ use std::thread::Threads;
 mod split;
 mod whole;
 
+pub use focus_csv::LineRoom;
 pub use whole::ExportRows;
 
 /// What has the bytes of a period's file: a [`Snapshot`].
@@ -90,7 +91,23 @@ impl ExportFile for Snapshot {
     }
 
     fn put_csv(&self, alloc: Global, text: &mut Vec<u8>) -> Result<(), AllocError> {
-        let batches = batches_of(alloc, self)?;
-        put_file(alloc, &batches, text)
+        let mut room = LineRoom::new();
+        put_csv_in(alloc, &mut room, self, text)
     }
+}
+
+/// Appends the file of a snapshot, the same bytes that [`ExportFile::put_csv`] appends, whose lines are made in memory
+/// that a file before has used and the next may use again. An error is an allocation failure, and leaves the text's bytes
+/// as they were.
+pub fn put_csv_in(
+    alloc: Global,
+    room: &mut LineRoom,
+    snapshot: &Snapshot,
+    text: &mut Vec<u8>,
+) -> Result<(), AllocError>
+    ensures put { OnOk result (text.new.items ≡ text.old.items ++ file_of snapshot.now) }
+    ensures kept { OnErr result (text.new.items ≡ text.old.items) }
+{
+    let batches = batches_of(alloc, snapshot)?;
+    put_file_in(alloc, room, &batches, text)
 }

@@ -7,6 +7,7 @@ mod Looks
 mod OneMore
 mod PlainTags
 mod ReadBack
+mod RowBefore
 mod RowTexts
 mod Sinks
 mod TagJson

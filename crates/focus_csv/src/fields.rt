@@ -21,6 +21,9 @@ fn put_next(odd: &mut OddFields, text: &mut Vec<u8>, field: &[u8]) -> Result<(),
     text.extend_from_slice(field)
 }
 
+/// So many bytes most pieces have at most: their memory is asked for at once, and not as they grow.
+const PIECE_ROOM: usize = 64;
+
 /// Makes a piece that of these fields, each after a comma.
 pub(crate) fn make_piece(
     odd: &mut OddFields,
@@ -30,6 +33,7 @@ pub(crate) fn make_piece(
     ensures { OnOk result (piece.new.items ≡ behind (map (λ f. f.now) fields.now)) }
 {
     piece.clear();
+    piece.reserve(PIECE_ROOM)?;
     for field in fields {
         put_next(odd, piece, *field)?;
     }

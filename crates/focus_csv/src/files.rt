@@ -12,8 +12,9 @@ ghost use Rattle.focus_csv.specs.Rows.{batch_lines};
 ghost use Rattle.focus_csv.specs.Inner.Beginnings.{BeginsWith};
 
 use crate::CsvFault;
-use crate::lines::{header_text, put_lines};
+use crate::lines::{HeldLine, header_text};
 use crate::pieces::LinePieces;
+use crate::rooms::LineRoom;
 use crate::writing::write_text;
 use counted_io::Sink;
 use focus_row::{BatchRows, FocusRow, RowsBetween};
@@ -23,7 +24,7 @@ use std::alloc::{AllocError, Global};
 /// as before, or has some of the lines after it.
 fn put_part<'a>(
     walk: &mut BatchRows<'_, 'a>,
-    pieces: &mut LinePieces,
+    held: &mut HeldLine<'a>,
     rows: &mut Vec<FocusRow<'a>>,
     text: &mut Vec<u8>,
 ) -> Result<(), AllocError>
@@ -34,7 +35,7 @@ fn put_part<'a>(
     ensures begins { BeginsWith text.new.items text.old.items }
 {
     walk.next_rows(rows)?;
-    put_lines(pieces, rows, text)?;
+    held.put_lines(rows, text)?;
     Ok(())
 }
 
@@ -42,7 +43,7 @@ fn put_part<'a>(
 /// as before, or has some of the lines after it.
 fn put_walk<'a>(
     walk: &mut BatchRows<'_, 'a>,
-    pieces: &mut LinePieces,
+    held: &mut HeldLine<'a>,
     rows: &mut Vec<FocusRow<'a>>,
     text: &mut Vec<u8>,
 ) -> Result<(), AllocError>
@@ -50,7 +51,7 @@ fn put_walk<'a>(
     ensures begins { OnErr result (BeginsWith text.new.items text.old.items) }
 {
     while !walk.is_done() {
-        put_part(walk, pieces, rows, text)?;
+        put_part(walk, held, rows, text)?;
     }
     Ok(())
 }
@@ -60,7 +61,7 @@ fn put_walk<'a>(
 fn put_batch<'a>(
     batches: &RowsBetween<'a>,
     k: usize,
-    pieces: &mut LinePieces,
+    held: &mut HeldLine<'a>,
     rows: &mut Vec<FocusRow<'a>>,
     text: &mut Vec<u8>,
 ) -> Result<(), AllocError>
@@ -70,7 +71,7 @@ fn put_batch<'a>(
     ensures begins { OnErr result (BeginsWith text.new.items text.old.items) }
 {
     let mut walk = batches.walk(k);
-    put_walk(&mut walk, pieces, rows, text)?;
+    put_walk(&mut walk, held, rows, text)?;
     Ok(())
 }
 
@@ -78,6 +79,7 @@ fn put_batch<'a>(
 /// as before, or has some of the lines after it.
 fn put_each(
     alloc: Global,
+    room: &mut LineRoom,
     batches: &RowsBetween<'_>,
     from: usize,
     to: usize,
@@ -90,11 +92,12 @@ fn put_each(
         ++ batch_lines (take (to - from) (drop from batches.now))) }
     ensures begins { OnErr result (BeginsWith text.new.items text.old.items) }
 {
-    let mut pieces = LinePieces::new(alloc);
+    let mut held = HeldLine::of(room.take(alloc));
     let mut rows = Vec::new(alloc);
     for k in from..to {
-        put_batch(batches, k, &mut pieces, &mut rows, text)?;
+        put_batch(batches, k, &mut held, &mut rows, text)?;
     }
+    room.keep(held.into_pieces());
     Ok(())
 }
 
@@ -115,7 +118,7 @@ pub fn put_batches(
     ensures kept { OnErr result (text.new.items ≡ text.old.items) }
 {
     let before = text.len();
-    match put_each(alloc, batches, from, to, text) {
+    match put_each(alloc, &mut LineRoom::new(), batches, from, to, text) {
         Ok(()) => Ok(()),
         Err(error) => {
             text.truncate(before);
@@ -134,9 +137,23 @@ pub fn put_file(
     ensures put { OnOk result (text.new.items ≡ text.old.items ++ file (joined batches.now)) }
     ensures kept { OnErr result (text.new.items ≡ text.old.items) }
 {
+    put_file_in(alloc, &mut LineRoom::new(), batches, text)
+}
+
+/// Appends the file of rows, the same bytes that [`put_file`] appends, whose lines are made in memory that a file before
+/// has used and the next may use again. An error is an allocation failure, and leaves the text's bytes as they were.
+pub fn put_file_in(
+    alloc: Global,
+    room: &mut LineRoom,
+    batches: &RowsBetween<'_>,
+    text: &mut Vec<u8>,
+) -> Result<(), AllocError>
+    ensures put { OnOk result (text.new.items ≡ text.old.items ++ file (joined batches.now)) }
+    ensures kept { OnErr result (text.new.items ≡ text.old.items) }
+{
     let before = text.len();
     text.extend_from_slice(header_text())?;
-    match put_each(alloc, batches, 0, batches.batches(), text) {
+    match put_each(alloc, room, batches, 0, batches.batches(), text) {
         Ok(()) => Ok(()),
         Err(error) => {
             text.truncate(before);
@@ -165,7 +182,7 @@ pub fn write_rows<W: Sink>(
     ensures count { W.failed_calls sink.new
         ≡ count_after (is_sink_fault result) (W.failed_calls sink.old) }
 {
-    let mut pieces = LinePieces::new(alloc);
+    let mut held = HeldLine::of(LinePieces::new(alloc));
     let mut rows = Vec::new(alloc);
     let mut text = Vec::new(alloc);
     if text.extend_from_slice(header_text()).is_err() {
@@ -176,7 +193,7 @@ pub fn write_rows<W: Sink>(
             return Err(fault);
         }
         text.clear();
-        let Ok(()) = put_batch(batches, k, &mut pieces, &mut rows, &mut text) else {
+        let Ok(()) = put_batch(batches, k, &mut held, &mut rows, &mut text) else {
             return Err(CsvFault::OutOfMemory);
         };
     }

@@ -1,9 +1,10 @@
 //! The CSV file of rows of charges.
 #![tactic(auto)]
 
-pub use files::{put_batches, put_file, write_rows};
+pub use files::{put_batches, put_file, put_file_in, write_rows};
 pub use focus_row::{RowsBetween, rows_between};
 pub use lines::header_text;
+pub use rooms::LineRoom;
 use thiserror::Error;
 pub use whole::{row_texts, write_file};
 
@@ -15,6 +16,7 @@ mod numbers;
 mod odd;
 mod pieces;
 mod quoting;
+mod rooms;
 mod tags;
 mod texts;
 mod whole;

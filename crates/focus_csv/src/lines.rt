@@ -1,14 +1,38 @@
 //! The lines of the file.
 
-ghost use Rattle.std.specs.Prelude.{◌≡◌, ◌<◌, ◌++◌, ◌∷◌, [], length, map, slice_index_or, OnOk, OnErr};
+ghost use Rattle.std.specs.Prelude.{◌≡◌, ◌<◌, ◌++◌, ◌∷◌, [], false, length, map, slice_index_or, IsTrue, IfOk, OnErr, OnOk};
 ghost use Rattle.std.specs.List.{flat_map};
 ghost use Rattle.metering_model.specs.File.{header_line, row_text};
 ghost use Rattle.focus_row.specs.Rows.{model_row};
 ghost use Rattle.focus_csv.specs.Inner.Beginnings.{BeginsWith};
+ghost use Rattle.focus_csv.specs.Inner.Pieces.{AreOf};
 
 use crate::pieces::LinePieces;
 use focus_row::FocusRow;
 use std::alloc::AllocError;
+use std::marker::Model;
+
+/// The pieces of the last line, and the row that they are of: the next line is made of them, whatever batch its row
+/// is of.
+#[derive(Drop)]
+pub(crate) struct HeldLine<'a> {
+    pieces: LinePieces,
+    /// There is none before the first line.
+    row: Option<FocusRow<'a>>,
+}
+
+impl<'a> Model for HeldLine<'a> {
+    ghost use Rattle.std.specs.Prelude.{⊤};
+    ghost use Rattle.std.specs.Option.{option_map};
+    ghost use Rattle.focus_row.specs.Rows.{model_row};
+    ghost use Rattle.focus_csv.specs.Inner.Pieces.{AreOfLast};
+
+    ghost Value = { ⊤ };
+
+    ghost view = { λ _. tt };
+
+    ghost invariant = { λ h. AreOfLast (option_map model_row h.row) h.pieces };
+}
 
 /// The row at a place.
 fn row_at<'a, 'b>(rows: &'a [FocusRow<'b>], i: usize) -> &'a FocusRow<'b>
@@ -18,29 +42,88 @@ fn row_at<'a, 'b>(rows: &'a [FocusRow<'b>], i: usize) -> &'a FocusRow<'b>
     &rows[i]
 }
 
-/// Appends the lines of the rows, in order. The pieces of a line are held for the next one. At an allocation failure
-/// the text is as before, or has some of the lines after it.
+/// Makes the pieces those of the row at a place, from those of the row before it, which for the first is another one.
+fn set_at(
+    pieces: &mut LinePieces,
+    last: &FocusRow<'_>,
+    rows: &[FocusRow<'_>],
+    i: usize,
+) -> Result<(), AllocError>
+    requires within { i < length rows.now }
+    requires held { IsTrue pieces.old.are_held
+        → AreOf pieces.old (model_row (slice_index_or (last.now ∷ rows.now) i last.now)) }
+    ensures of { OnOk result
+        (AreOf pieces.new (model_row (slice_index_or rows.now i last.now))) }
+    ensures forgotten { OnErr result (pieces.new.are_held ≡ false) }
+{
+    let row = row_at(rows, i);
+    if i == 0 {
+        pieces.set(last, row)
+    } else {
+        pieces.set(row_at(rows, i - 1), row)
+    }
+}
+
+/// Appends the lines of rows that follow another one, whose pieces may be held; then those of the last are. At an
+/// allocation failure the text is as before, or has some of the lines after it, and none are held.
 pub(crate) fn put_lines(
     pieces: &mut LinePieces,
+    last: &FocusRow<'_>,
     rows: &[FocusRow<'_>],
     text: &mut Vec<u8>,
 ) -> Result<(), AllocError>
+    requires { IsTrue pieces.old.are_held → AreOf pieces.old (model_row last.now) }
     ensures put { OnOk result
         (text.new.items ≡ text.old.items ++ flat_map row_text (map model_row rows.now)) }
+    ensures held { OnOk result (IsTrue pieces.new.are_held → AreOf pieces.new
+        (model_row (slice_index_or (last.now ∷ rows.now) (length rows.now) last.now))) }
     ensures begins { OnErr result (BeginsWith text.new.items text.old.items) }
+    ensures forgotten { OnErr result (pieces.new.are_held ≡ false) }
 {
-    if rows.is_empty() {
-        return Ok(());
-    }
-    pieces.forget();
-    let mut before = row_at(rows, 0);
     for i in 0..rows.len() {
-        let row = row_at(rows, i);
-        pieces.set(before, row)?;
-        pieces.put(text)?;
-        before = row;
+        set_at(pieces, last, rows, i)?;
+        let Ok(()) = pieces.put(text) else {
+            pieces.forget();
+            return Err(AllocError);
+        };
     }
     Ok(())
+}
+
+impl<'a> HeldLine<'a> {
+    /// Before the first line: whatever the pieces were, they are made anew.
+    pub(crate) fn of(pieces: LinePieces) -> HeldLine<'a> {
+        let mut pieces = pieces;
+        pieces.forget();
+        HeldLine { pieces, row: None }
+    }
+
+    /// The pieces, whose memory may be used again.
+    pub(crate) fn into_pieces(self) -> LinePieces {
+        self.pieces
+    }
+
+    /// Appends the lines of the rows, in order, and takes the last of them out. At an allocation failure the text is as
+    /// before, or has some of the lines after it.
+    pub(crate) fn put_lines(
+        &mut self,
+        rows: &mut Vec<FocusRow<'a>>,
+        text: &mut Vec<u8>,
+    ) -> Result<(), AllocError>
+        ensures put { OnOk result
+            (text.new.items ≡ text.old.items ++ flat_map row_text (map model_row rows.old.items)) }
+        ensures begins { OnErr result (BeginsWith text.new.items text.old.items) }
+    {
+        if rows.is_empty() {
+            return Ok(());
+        }
+        match &self.row {
+            Some(row) => put_lines(&mut self.pieces, row, rows, text)?,
+            None => put_lines(&mut self.pieces, row_at(rows, 0), rows, text)?,
+        }
+        self.row = rows.pop();
+        Ok(())
+    }
 }
 
 /// The header line of every file: the names of the 38 columns in order, and a line feed.

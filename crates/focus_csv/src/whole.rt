@@ -23,7 +23,9 @@ fn lines_behind(alloc: Global, head: &[u8], rows: &[FocusRow<'_>]) -> Result<Vec
 {
     let mut text = Vec::new(alloc);
     text.extend_from_slice(head)?;
-    put_lines(&mut LinePieces::new(alloc), rows, &mut text)?;
+    if let Some(first) = rows.first() {
+        put_lines(&mut LinePieces::new(alloc), first, rows, &mut text)?;
+    }
     Ok(text)
 }
 

@@ -10,6 +10,7 @@ ghost use Rattle.schedule_player.specs.Inner.Writing.{FailsWithin};
 
 use crate::reply_texts::{has_file, set_file, set_line};
 use counted_io::{Failed, Sink, write_all};
+use export_file::LineRoom;
 use group_events::{Period, Reply};
 use std::alloc::{AllocError, Global};
 use std::marker::Model;
@@ -30,6 +31,8 @@ pub(crate) struct ReplyLines {
     /// The line of the last reply with a file or a kept text, and this.
     line: Vec<u8>,
     file: Vec<u8>,
+    /// In which the lines of files are made.
+    room: LineRoom,
     /// Whether the file waits after the lines.
     waits: bool,
     /// The period of the export that `line` and `file` tell of, where they tell of one.
@@ -100,6 +103,7 @@ fn add_line(words: &mut Vec<u8>, lines: &mut Vec<u8>, reply: &Reply) -> Result<(
 /// Makes a line and a file those of a reply. Where they are of an export of the same period, they are its own.
 fn hold(
     alloc: Global,
+    room: &mut LineRoom,
     reply: &Reply,
     held: &mut Option<Period>,
     line: &mut Vec<u8>,
@@ -116,7 +120,7 @@ fn hold(
         return Ok(());
     }
     *held = None;
-    set_file(alloc, reply, line, file)?;
+    set_file(alloc, room, reply, line, file)?;
     *held = exported(reply);
     Ok(())
 }
@@ -132,6 +136,7 @@ impl ReplyLines {
             words: Vec::new(alloc),
             line: Vec::new(alloc),
             file: Vec::new(alloc),
+            room: LineRoom::new(),
             waits: false,
             held: None,
         }
@@ -149,7 +154,14 @@ impl ReplyLines {
         if !has_file(reply) {
             return add_line(&mut self.words, &mut self.lines, reply);
         }
-        hold(alloc, reply, &mut self.held, &mut self.line, &mut self.file)?;
+        hold(
+            alloc,
+            &mut self.room,
+            reply,
+            &mut self.held,
+            &mut self.line,
+            &mut self.file,
+        )?;
         self.lines.extend_from_slice(&self.line)?;
         self.waits = true;
         Ok(())

@@ -7,14 +7,15 @@ ghost use Rattle.schedule_player.specs.Inner.Held.{has_file};
 
 use answer_words::replies;
 use byte_text::line_count;
-use export_file::ExportFile;
+use export_file::{LineRoom, put_csv_in};
 use group_events::{Reply, Snapshot};
 use std::alloc::{AllocError, Global};
 
-/// Appends an export's file to one text, and to the other what stands above it: the period, and how many lines the file
-/// has.
+/// Appends an export's file to one text, made in memory that the next file may use again, and to the other what stands
+/// above it: the period, and how many lines the file has.
 fn put_exported(
     alloc: Global,
+    room: &mut LineRoom,
     snapshot: &Snapshot,
     line: &mut Vec<u8>,
     file: &mut Vec<u8>,
@@ -25,7 +26,7 @@ fn put_exported(
         ++ (with_number (codes "exported period ") snapshot.now.period
         ++ with_number (codes " lines ") (line_count (file_of snapshot.now)))) }
 {
-    snapshot.put_csv(alloc, file)?;
+    put_csv_in(alloc, room, snapshot, file)?;
     replies::put_exported(line, snapshot.period(), line_count(file))
 }
 
@@ -83,6 +84,7 @@ pub(crate) fn set_line(line: &mut Vec<u8>, reply: &Reply) -> Result<(), AllocErr
 /// Puts a file or a kept text into one text, and what stands above it into the other.
 fn put_file(
     alloc: Global,
+    room: &mut LineRoom,
     reply: &Reply,
     line: &mut Vec<u8>,
     file: &mut Vec<u8>,
@@ -94,7 +96,7 @@ fn put_file(
         ≡ reply_text (reply_of reply.now)) }
 {
     match reply {
-        Reply::Exported(snapshot) => put_exported(alloc, snapshot, line, file),
+        Reply::Exported(snapshot) => put_exported(alloc, room, snapshot, line, file),
         Reply::KeptText(text) => put_kept(text, line, file),
         // No other has one.
         _ => Ok(()),
@@ -104,6 +106,7 @@ fn put_file(
 /// Makes one text the line of a reply, and the other the file or the kept text that stands after it.
 pub(crate) fn set_file(
     alloc: Global,
+    room: &mut LineRoom,
     reply: &Reply,
     line: &mut Vec<u8>,
     file: &mut Vec<u8>,
@@ -113,7 +116,7 @@ pub(crate) fn set_file(
 {
     line.clear();
     file.clear();
-    put_file(alloc, reply, line, file)?;
+    put_file(alloc, room, reply, line, file)?;
     line.push(b'\n')?;
     Ok(())
 }

@@ -1,5 +1,5 @@
 -- The pieces of a line that are those of a row.
-use Rattle.std.specs.Prelude.{◌≡◌, ℕ, List, [], ◌∷◌, ◌++◌, string_bytes}
+use Rattle.std.specs.Prelude.{◌≡◌, ℕ, false, IsTrue, List, [], ◌∷◌, ◌++◌, Option, MatchOption, string_bytes}
 use Rattle.metering_model.specs.NumberText.{spelling}
 use Rattle.metering_model.specs.File.{json_object, price_or_null, quantity_or_null, quoted}
 use Rattle.metering_model.specs.Row.{Row}
@@ -54,3 +54,7 @@ pub record AreOf (p : LinePieces) (r : Row) : Type 0 where
   pub numbers : AreNumbersOf p.numbers r
   pub texts : AreTextsOf p.texts r
   pub tags : p.tags.items ≡ behind (json_object r.tags ∷ [])
+
+-- The pieces, where they are held, are those of the last row. Before the first row none are.
+abbrev pub AreOfLast : Option Row → LinePieces → Type 0
+AreOfLast row p = MatchOption row (p.are_held ≡ false) (λ r. IsTrue p.are_held → AreOf p r)

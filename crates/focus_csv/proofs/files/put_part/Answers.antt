@@ -22,8 +22,7 @@ pub returns-clause-put : goal.returns-clause-put
 returns-clause-put c =
     let old = c.args.text.now.items in
     let now = map model_row c.next_rows.new.rows.items in
-    let put = c.in_ok-put_lines.ensures.put ∙ ap (λ rs. old ++ flat_map row_text (map model_row rs)) c.deref.ensures.value in
-    some_put old _ now c.next_rows.new.self.rows _ put c.in_ok-next_rows.ensures.rows
+    some_put old _ now c.next_rows.new.self.rows _ c.in_ok-put_lines.ensures.put c.in_ok-next_rows.ensures.rows
 
 pub returns-clause-begins : goal.returns-clause-begins
 returns-clause-begins c = (_, c.in_ok-put_lines.ensures.put)

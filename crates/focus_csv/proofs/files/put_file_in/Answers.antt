@@ -1,7 +1,7 @@
 use Rattle.std.proofs.Common.{◌≡◌, ◌∙◌, length, rules, arith}
 use Rattle.focus_csv.proofs.BeginningLaws.{cut_back, longer_begins}
 use Rattle.focus_csv.proofs.FileParts.{file_behind}
-use Rattle.focus_csv.proofs.files.put_file.Goals as goal
+use Rattle.focus_csv.proofs.files.put_file_in.Goals as goal
 
 pub returns-in-Err-clause-kept : goal.returns-in-Err-clause-kept
 returns-in-Err-clause-kept c =

@@ -1,0 +1,28 @@
+-- The row before one of some rows, which for the first of them is another one.
+use Rattle.std.proofs.Common.{◌≡◌, ℕ, zero, suc, ◌+◌, ◌-◌, ◌<◌, List, ◌∷◌, length, get_or, sym, ap, subst, ◌∙◌, arith}
+use Rattle.std.proofs.lemmas.List.{get_or_default}
+use Rattle.std.specs.Option.{option_map}
+use Rattle.std.specs.Prelude.{IsTrue, Option, Some}
+use Rattle.focus_row.specs.Rows.{FocusRow, model_row}
+use Rattle.focus_csv.specs.Inner.Pieces.{AreOf, AreOfLast}
+use Rattle.focus_csv.specs.declared.pieces.LinePieces.{LinePieces}
+
+-- for the next one it is the row itself
+pub itself_is : {X : Type 0} (first : X) (rows : List X) (i next : ℕ) → next ≡ i + 1 → get_or (first ∷ rows) next first ≡ get_or rows i first
+itself_is first rows i zero e = absurd (omega (arith, e))
+itself_is first rows i (suc k) e = ap (λ n. get_or rows n first) (omega (arith, e))
+
+-- for each but the first it is the row at the place below
+pub below_is : {X : Type 0} (first : X) (rows : List X) (i : ℕ) (row : X) → (i ≡ 0 → ⊥) → i < length rows → row ≡ get_or rows (i - 1) row
+    → get_or (first ∷ rows) i first ≡ row
+below_is first rows i row some lt is =
+    itself_is first rows (i - 1) i (omega (arith, some)) ∙ get_or_default rows (i - 1) first row (omega (arith, some, lt)) ∙ sym is
+
+-- The pieces of the last of some rows are those of the row that is taken out of them.
+pub last_taken : (pieces : LinePieces) (first : FocusRow) (lent rows : List FocusRow) (n : ℕ) (taken : Option FocusRow) → lent ≡ rows
+    → n ≡ length lent → 0 < n → taken ≡ Some (get_or rows (n - 1) first)
+    → (IsTrue pieces.are_held → AreOf pieces (model_row (get_or (first ∷ lent) (length lent) first))) → AreOfLast (option_map model_row taken) pieces
+last_taken pieces first lent rows n taken same count some is held =
+    let last : get_or (first ∷ lent) (length lent) first ≡ get_or rows (n - 1) first =
+        itself_is first lent (n - 1) (length lent) (omega (arith, count, some)) ∙ ap (λ xs. get_or xs (n - 1) first) same in
+    subst (λ o. AreOfLast (option_map model_row o) pieces) (sym is) (λ true. subst (λ r. AreOf pieces (model_row r)) last (held true))

@@ -1,0 +1,32 @@
+//! Memory that is kept from one file to the next.
+
+use crate::pieces::LinePieces;
+use std::alloc::Global;
+
+/// Memory in which the lines of a file are made: that of their pieces, and of the writer for odd texts. It is taken from
+/// one file to the next, so that only the first asks for it. What was made in it is never used again.
+#[derive(Drop)]
+pub struct LineRoom {
+    /// There are none before the first file, nor after one that could not be made.
+    pieces: Option<LinePieces>,
+}
+
+impl LineRoom {
+    /// Without any memory; none is asked for.
+    pub fn new() -> LineRoom {
+        LineRoom { pieces: None }
+    }
+
+    /// Takes the pieces out, or new ones, which are empty.
+    pub(crate) fn take(&mut self, alloc: Global) -> LinePieces {
+        match self.pieces.take() {
+            Some(pieces) => pieces,
+            None => LinePieces::new(alloc),
+        }
+    }
+
+    /// Keeps pieces for the next file.
+    pub(crate) fn keep(&mut self, pieces: LinePieces) {
+        self.pieces = Some(pieces);
+    }
+}
