@@ -1,7 +1,9 @@
 //! Votes, each counted once: a learner's tally.
 ghost use Rattle.std.specs.Prelude.{◌≡◌, ◌<◌, ◌≤◌, [], OnOk, OnErr, IfOk, if◌then◌else◌, Some, None, option_map};
 ghost use Rattle.std.specs.Arc.{arc_value};
-ghost use Rattle.metering_model.specs.Ballot.{with_node, accepting_at, with_accepted, has_majority};
+ghost use Rattle.std.specs.BTreeMap.{insert_entry};
+ghost use Rattle.std.specs.Ordering.{nat_cmp};
+ghost use Rattle.metering_model.specs.Ballot.{nobody, with_node, accepting_at, with_accepted, has_majority};
 ghost use Rattle.metering_model.specs.Limits.{most_nodes};
 
 use crate::ballots::Vote;
@@ -59,23 +61,31 @@ impl Tally {
         ensures unchanged { OnErr result (self.new ≡ self.old) }
     {
         let ballot = vote.ballot.number();
-        let accepting = self.accepting_with(ballot, from);
-        let is_chosen = accepting.has_majority();
-        match self.sets.insert(ballot, accepting) {
-            Ok(_) => {}
-            Err(_) => return Err(AllocError),
-        }
+        let is_chosen = match self.sets.get_mut(&ballot) {
+            Some(accepting) => {
+                *accepting = accepting.with(from);
+                accepting.has_majority()
+            }
+            None => self.put_first(ballot, from)?,
+        };
         Ok(is_chosen.then_some(vote.cut))
     }
 
-    // Which nodes accepted at the ballot, with one more.
-    fn accepting_with(&self, ballot: u32, from: u8) -> NodeSet
-        requires { from < self.now.nodes }
-        ensures { result ≡ with_node from (accepting_at self.now.nodes ballot self.now.accepting) }
+    // Counts the first that accepted at a ballot, and returns whether it is a majority.
+    fn put_first(&mut self, ballot: u32, from: u8) -> Result<bool, AllocError>
+        requires { from < self.old.nodes }
+        ensures nodes { self.new.nodes ≡ self.old.nodes }
+        ensures accepting { OnOk result
+            (self.new.accepting
+            ≡ insert_entry nat_cmp self.old.accepting ballot
+            (with_node from (nobody self.old.nodes))) }
+        ensures chosen { IfOk result (λ is_chosen. is_chosen
+            ≡ has_majority self.old.nodes (with_node from (nobody self.old.nodes))) }
+        ensures unchanged { OnErr result (self.new ≡ self.old) }
     {
-        match self.sets.get(&ballot) {
-            Some(accepting) => accepting.with(from),
-            None => NodeSet::nobody(self.nodes).with(from),
-        }
+        let accepting = NodeSet::nobody(self.nodes).with(from);
+        let is_chosen = accepting.has_majority();
+        self.sets.insert(ballot, accepting)?;
+        Ok(is_chosen)
     }
 }
