@@ -24,5 +24,5 @@ pub last_taken : (pieces : LinePieces) (first : FocusRow) (lent rows : List Focu
     → (IsTrue pieces.are_held → AreOf pieces (model_row (get_or (first ∷ lent) (length lent) first))) → AreOfLast (option_map model_row taken) pieces
 last_taken pieces first lent rows n taken same count some is held =
     let last : get_or (first ∷ lent) (length lent) first ≡ get_or rows (n - 1) first =
-        itself_is first lent (n - 1) (length lent) (omega (arith, count, some)) ∙ ap (λ xs. get_or xs (n - 1) first) same in
+    itself_is first lent (n - 1) (length lent) (omega (arith, count, some)) ∙ ap (λ xs. get_or xs (n - 1) first) same in
     subst (λ o. AreOfLast (option_map model_row o) pieces) (sym is) (λ true. subst (λ r. AreOf pieces (model_row r)) last (held true))

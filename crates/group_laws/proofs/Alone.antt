@@ -1,6 +1,8 @@
 -- What an observer teaches a voter it could have been taught by the votes of a majority: so the voters of a group do alone what
 -- they do with observers.
-use Rattle.std.proofs.Common.{◌≡◌, ◌↔◌, ℕ, zero, suc, ◌+◌, ◌<◌, ◌≤◌, Bool, true, false, cond, not, ◌&&◌, List, [], ◌∷◌, ◌++◌, length, length-set, get_or, refl, sym, ap, ◌∙◌, subst, arith, Option, Some, None, inl, inr, ok_or, All, unwrap_or, eqb-true, eq-eqb, leb-true, filter, zip, nat_le, Ordering, Less, Equal, Greater}
+use Rattle.std.proofs.Common.{◌≡◌, ◌↔◌, ℕ, zero, suc, ◌+◌, ◌<◌, ◌≤◌, Bool, true, false, cond, not, ◌&&◌, List, [], ◌∷◌, ◌++◌, length, length-set}
+use Rattle.std.proofs.Common.{get_or, refl, sym, ap, ◌∙◌, subst, arith, Option, Some, None, inl, inr, ok_or, All, unwrap_or, eqb-true, eq-eqb}
+use Rattle.std.proofs.Common.{leb-true, filter, zip, nat_le, Ordering, Less, Equal, Greater}
 use Rattle.std.specs.Prelude.{slice_get, slice_set, ◌==◌}
 use Rattle.std.specs.Option.{option_map}
 use Rattle.std.specs.List.{count_by, list_any, range_with_len}

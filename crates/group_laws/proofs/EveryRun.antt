@@ -94,7 +94,9 @@ module _ (room voters observers agents : ℕ) (sheet : Sheet) (issuer : Issuer) 
   fitting_here : IsFitting (voter_count (play (opening_with room voters observers agents sheet issuer) events).1) (play (opening_with room voters observers agents sheet issuer) events).1
   fitting_here = subst (λ N. IsFitting N (play (opening_with room voters observers agents sheet issuer) events).1) (sym fitting.told.kept.count) fitting
 
-  exports : (s : Snapshot) → Contains (play (opening_with room voters observers agents sheet issuer) events).0 (Exported s) → IsExport (play (opening_with room voters observers agents sheet issuer) events).1 (the_cuts (play (opening_with room voters observers agents sheet issuer) events).1 fitting_here) s
+  exports : (s : Snapshot) → Contains (play (opening_with room voters observers agents sheet issuer) events).0 (Exported s)
+      → IsExport (play (opening_with room voters observers agents sheet issuer) events).1
+      (the_cuts (play (opening_with room voters observers agents sheet issuer) events).1 fitting_here) s
   exports s has =
       let at = element_of _ _ has in
       let taken = all_taken voters events (opening_with room voters observers agents sheet issuer) forms_first (IsFitting-opening room voters observers agents sheet issuer) at.0 s at.1 in

@@ -14,7 +14,9 @@ use Rattle.metering_model.specs.JournalRules.{next_seq, first_broken}
 use Rattle.metering_model.specs.Sheet.{Sheet, Issuer}
 use Rattle.metering_model.specs.declared.Refusal.{Refusal}
 use Rattle.metering_model.specs.declared.Refusal.TheVariants.{NoPacket, NoNode, NoAgent, WrongSeq, AllClosed, NoBallot, WorldFull, Observer, NotKept}
-use Rattle.metering_model.specs.World.{World, Node, Packet, CarriesBatch, Prepare, Promise, Accept, Accepted, Decided, Event, Journal, Deliver, Start, Restart, Export, Keep, Revive, KeptOffer, Delivered, Reply, Refused, Exported, Snapshot, votes, current_period, wake, new_kept, with_node_at, with_packet, next_packet, opening_with}
+use Rattle.metering_model.specs.World.{World, Node, Packet, CarriesBatch, Prepare, Promise, Accept, Accepted, Decided, Event, Journal, Deliver}
+use Rattle.metering_model.specs.World.{Start, Restart, Export, Keep, Revive, KeptOffer, Delivered, Reply, Refused, Exported, Snapshot, votes}
+use Rattle.metering_model.specs.World.{current_period, wake, new_kept, with_node_at, with_packet, next_packet, opening_with}
 use Rattle.metering_model.specs.Deliveries.{Handled, handled}
 use Rattle.metering_model.specs.KeptText.{kept_text}
 use Rattle.metering_model.specs.Step.{Outcome, batch_of, on_batch, on_delivery, on_start, on_export, on_revival, kept_of, kept_now, after_delivery, outcome_of, or_refused, unless_broken, snapshot, step, play}

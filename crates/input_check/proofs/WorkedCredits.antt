@@ -11,7 +11,10 @@ use Rattle.sheet_text.specs.Keys.{value_under, text_under, label_under, base_und
 use Rattle.sheet_text.specs.RowReading.{price_row_in, commitment_in, region_in}
 use Rattle.sheet_text.specs.IssuerReading.{currency_under, issuer_in, issuer_of_text}
 use Rattle.price_sheet.specs.SheetReading.{next_price, next_commitment, next_region, sheet_of_rows, sheet_in, sheet_of_text}
-use Rattle.sheet_text.proofs.WorkedSteps.{scan_numeral, days_from_civil, day_count, days_of_years, days_of_months, skip_ws, skip_from, special, body, one_line, quoted, simple_key, key_after, underscore_fits, decimal_number, plain_number, number, word_value, word_len, unquoted, along_header, along_dots, at_key, define, key_equals, val, atom, header_key, expression, line, lines, skip_bom, parse_document}
+use Rattle.sheet_text.proofs.WorkedSteps.{scan_numeral, days_from_civil, day_count, days_of_years, days_of_months, skip_ws, skip_from, special, body}
+use Rattle.sheet_text.proofs.WorkedSteps.{one_line, quoted, simple_key, key_after, underscore_fits, decimal_number, plain_number, number, word_value}
+use Rattle.sheet_text.proofs.WorkedSteps.{word_len, unquoted, along_header, along_dots, at_key, define, key_equals, val, atom, header_key}
+use Rattle.sheet_text.proofs.WorkedSteps.{expression, line, lines, skip_bom, parse_document}
 use Rattle.metering_model.specs.NumberText.{worth_of}
 use Rattle.input_sections.specs.declared.faults.ScheduleFault.{ScheduleFault}
 use Rattle.input_sections.specs.Sections.{section_in, read_as, sheet_section, issuer_section}
@@ -46,5 +49,11 @@ credits_from_text_to_transcript : played (schedule_in (lines_text schedule_lines
     codes "exported period 0 lines 3" ∷ header_line ∷
     codes "-2.5,A-100,Payer,EUR,2025-02-01T00:00:00Z,2025-01-01T00:00:00Z,Credit,,Launch credit,One-Time,2025-02-01T00:00:00Z,2025-01-31T00:00:00Z,,,,,,,-2.5,,-2.5,Sample Cloud Ltd,-2.5,,,,,Sample Cloud,Sample Books,,,,Other,Billing,,,acc-7,{}" ∷
     codes "-0.025,A-100,Payer,EUR,2025-02-01T00:00:00Z,2025-01-01T00:00:00Z,Credit,,Outage,One-Time,2025-01-10T02:00:00Z,2025-01-10T00:00:00Z,,,,,,,-0.025,,-0.025,Sample Cloud Ltd,-0.025,,,,,Sample Cloud,Sample Books,,,vm-1,Other,Billing,,,,\"{\"\"note\"\":\"\"b\"\",\"\"team\"\":\"\"a\"\"}\"" ∷ []))
-unfolding schedule_in group_in head_line nodes_line number_line events_in event_in line_event journal_event revival_event section_in read_as sheet_section issuer_section is_utf8 chars lib.Utf8.encode price_row_in commitment_in region_in next_price next_commitment next_region sheet_of_rows sheet_in sheet_of_text currency_under issuer_in issuer_of_text key_name value_under text_under label_under base_under day_under price_under per_under service_category_under commitment_category_under rows_in rows_under parse_document lines line expression skip_bom skip_from skip_ws header_key key_equals key_after simple_key val atom quoted one_line body special define along_header along_dots at_key unquoted word_len word_value number underscore_fits plain_number decimal_number scan_numeral days_from_civil day_count days_of_years days_of_months worth_of decimals_of digits
+unfolding schedule_in group_in head_line nodes_line number_line events_in event_in line_event journal_event revival_event section_in read_as
+    sheet_section issuer_section is_utf8 chars lib.Utf8.encode price_row_in commitment_in region_in next_price next_commitment next_region
+    sheet_of_rows sheet_in sheet_of_text currency_under issuer_in issuer_of_text key_name value_under text_under label_under base_under day_under
+    price_under per_under service_category_under commitment_category_under rows_in rows_under parse_document lines line expression skip_bom skip_from
+    skip_ws header_key key_equals key_after simple_key val atom quoted one_line body special define along_header along_dots at_key unquoted word_len
+    word_value number underscore_fits plain_number decimal_number scan_numeral days_from_civil day_count days_of_years days_of_months worth_of
+    decimals_of digits
 credits_from_text_to_transcript = refl

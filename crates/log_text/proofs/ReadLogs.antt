@@ -6,7 +6,9 @@ use Rattle.metering_model.specs.BatchReading.{Lines, fields_in, lines_in, with_l
 use Rattle.metering_model.specs.KeptText.{KeptAmong}
 use Rattle.node_kept.specs.Kept.{IsKept}
 use Rattle.node_kept.proofs.WholeTexts.{nothing_left}
-use Rattle.log_text.specs.LogText.{ReadBase, Increment, BeginsRound, SetsBallots, Learns, Takes, KeptThere, LogCode, LogHead, LogTextFault, ReadLog, BadHead, BadIncrement, TooLong, Torn, among_with, at_log_line, first_increment, base_in, goes_on, head_in, increments_in, lines_of_increment, log_below, log_in, log_of_lines, most_log_bytes}
+use Rattle.log_text.specs.LogText.{ReadBase, Increment, BeginsRound, SetsBallots, Learns, Takes, KeptThere, LogCode, LogHead, LogTextFault, ReadLog}
+use Rattle.log_text.specs.LogText.{BadHead, BadIncrement, TooLong, Torn, among_with, at_log_line, first_increment, base_in, goes_on, head_in}
+use Rattle.log_text.specs.LogText.{increments_in, lines_of_increment, log_below, log_in, log_of_lines, most_log_bytes}
 use Rattle.log_text.specs.Faults.{IsFaultOf}
 use Rattle.log_text.specs.declared.faults.LogFault.{LogFault}
 use Rattle.log_text.specs.declared.faults.LogFault.TheVariants.{Refused, OutOfMemory}

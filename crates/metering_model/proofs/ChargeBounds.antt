@@ -54,9 +54,23 @@ rated_small p c kind was now ok rates h k =
     q = pricing_quantity p.per now -ℤ pricing_quantity p.per was
 
     by_kind : (kind : PricedKind) (c : Option Commitment) → ((d : Commitment) → c ≡ Some d → d.rate < price_limit) → unsigned_abs (now -ℤ was) < delta_limit → unsigned_abs (pricing_quantity p.per now -ℤ pricing_quantity p.per was) < delta_limit → AreWithinLimits (amounts_of (rated p c kind was now))
-    by_kind Usage None rates units quantity = record { consumed = units; priced = quantity; list = cost_small p.list _ ok.list quantity; contracted = cost_small p.contracted _ ok.contracted quantity; billed = cost_small p.contracted _ ok.contracted quantity; effective = cost_small p.contracted _ ok.contracted quantity }
+    by_kind Usage None rates units quantity = record {
+      consumed = units;
+      priced = quantity;
+      list = cost_small p.list _ ok.list quantity;
+      contracted = cost_small p.contracted _ ok.contracted quantity;
+      billed = cost_small p.contracted _ ok.contracted quantity;
+      effective = cost_small p.contracted _ ok.contracted quantity;
+    }
     by_kind Usage (Some d) rates units quantity = record { consumed = units; priced = quantity; list = cost_small p.list _ ok.list quantity; contracted = cost_small p.contracted _ ok.contracted quantity; billed = nothing_small; effective = cost_small d.rate _ (rates d refl) quantity }
-    by_kind Purchase None rates units quantity = record { consumed = omega arith; priced = quantity; list = cost_small p.list _ ok.list quantity; contracted = cost_small p.contracted _ ok.contracted quantity; billed = cost_small p.contracted _ ok.contracted quantity; effective = cost_small p.contracted _ ok.contracted quantity }
+    by_kind Purchase None rates units quantity = record {
+      consumed = omega arith;
+      priced = quantity;
+      list = cost_small p.list _ ok.list quantity;
+      contracted = cost_small p.contracted _ ok.contracted quantity;
+      billed = cost_small p.contracted _ ok.contracted quantity;
+      effective = cost_small p.contracted _ ok.contracted quantity;
+    }
     by_kind Purchase (Some d) rates units quantity = record { consumed = omega arith; priced = quantity; list = cost_small p.list _ ok.list quantity; contracted = cost_small p.contracted _ ok.contracted quantity; billed = cost_small p.contracted _ ok.contracted quantity; effective = nothing_small }
 
 charge_small : (kind : Option PricedKind) (price : Option PriceRow) (c : Option Commitment) (was now : ℤ) → ((p : PriceRow) → price ≡ Some p → IsPriceRow p) → ((d : Commitment) → c ≡ Some d → d.rate < price_limit) →

@@ -16,7 +16,10 @@ use Rattle.metering_model.specs.Cut.{Cut}
 use Rattle.metering_model.specs.Holding.{Holding, IsHolding, comes_before, is_in_order}
 use Rattle.metering_model.specs.Ballot.{Vote}
 use Rattle.metering_model.specs.World.{KeptTextFault}
-use Rattle.metering_model.specs.KeptText.{HasExtra, KeptAmong, KeptHead, IsCutAmong, IsBallotNumber, HasText, IsKeptText, BatchesRead, promised_number, vote_number, vote_cuts, cut_text, kept_text, at_kept_line, kept_head_in, cuts_in, text_of_lines, batches_in, ballot_numbered, cuts_of_vote, vote_of, kept_of_parts, kept_below, kept_of_lines, kept_in}
+use Rattle.metering_model.specs.KeptText.{HasExtra, KeptAmong, KeptHead, IsCutAmong, IsBallotNumber, HasText, IsKeptText, BatchesRead}
+use Rattle.metering_model.specs.KeptText.{promised_number, vote_number, vote_cuts, cut_text, kept_text, at_kept_line, kept_head_in, cuts_in}
+use Rattle.metering_model.specs.KeptText.{text_of_lines, batches_in, ballot_numbered, cuts_of_vote, vote_of, kept_of_parts, kept_below}
+use Rattle.metering_model.specs.KeptText.{kept_of_lines, kept_in}
 use Rattle.metering_model.proofs.StepLaws.{step_ok, step_iff, ok_same, ok_step_from}
 use Rattle.metering_model.proofs.Splitting.{ended, parts_at, cut_join, join_passes, lines_give_back, lines_of_text}
 use Rattle.metering_model.proofs.Decimals.{decimal_is_one, decimal_lacks_feed, decimal_lacks_bar}

@@ -1,5 +1,5 @@
 -- The samples that the worked examples speak of.
-use Rattle.std.specs.Prelude.{ℕ, List, [], ◌∷◌, pos, codes}
+use Rattle.std.specs.Prelude.{ℕ, List, [], ◌∷◌, ◌++◌, pos, codes}
 use Rattle.metering_model.specs.Sheet.{PriceRow, Commitment, Region, Sheet, Issuer, Compute, Storage}
 use Rattle.metering_model.specs.declared.CommitmentCategory.TheVariants.{Usage}
 use Rattle.metering_model.specs.Schedule.{TextLines}
@@ -131,4 +131,6 @@ reading_1 = codes "U|2025-01-10T00:00:00Z|2025-01-10T02:00:00Z|acc-7|vm-1|cpu|54
 
 -- the line of a file for that reading, under the first sheet
 abbrev pub row_1 : List ℕ
-row_1 = codes "0.12,A-100,Payer,USD,2025-02-01T00:00:00Z,2025-01-01T00:00:00Z,Usage,,Virtual CPU time,Usage-Based,2025-01-10T02:00:00Z,2025-01-10T00:00:00Z,,,,,5400,Seconds,0.12,0.08,0.12,Sample Cloud Ltd,0.15,0.1,Standard,1.5,Hours,Sample Cloud,Sample Cloud,,,vm-1,Compute,Sample Compute,cpu,cpu-od,acc-7,\"{\"\"env\"\":\"\"prod\"\"}\""
+row_1 = codes "0.12,A-100,Payer,USD,2025-02-01T00:00:00Z,2025-01-01T00:00:00Z,Usage,,Virtual CPU time,Usage-Based,2025-01-10T02:00:00Z,"
+    ++ codes "2025-01-10T00:00:00Z,,,,,5400,Seconds,0.12,0.08,0.12,Sample Cloud Ltd,0.15,0.1,Standard,1.5,Hours,Sample Cloud,Sample Cloud,,"
+    ++ codes ",vm-1,Compute,Sample Compute,cpu,cpu-od,acc-7,\"{\"\"env\"\":\"\"prod\"\"}\""

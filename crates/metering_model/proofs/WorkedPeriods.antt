@@ -82,7 +82,9 @@ correction_transcript : transcript_of sheet_0 issuer_1 correction ≡
     codes "journaled packet 5" ∷ codes "delivered" ∷ codes "started ballot 2 packet 6" ∷
     codes "delivered sent 7" ∷ codes "delivered sent 8" ∷ codes "delivered sent 9" ∷ codes "delivered learned 1" ∷
     codes "exported period 1 lines 2" ∷ header_line ∷
-    codes "0.04,A-100,Payer,USD,2025-03-01T00:00:00Z,2025-02-01T00:00:00Z,Usage,Correction,Virtual CPU time,Usage-Based,2025-01-10T02:00:00Z,2025-01-10T00:00:00Z,,,,,1800,Seconds,0.04,0.08,0.04,Sample Cloud Ltd,0.05,0.1,Standard,0.5,Hours,Sample Cloud,Sample Cloud,,,vm-1,Compute,Sample Compute,cpu,cpu-od,acc-7,\"{\"\"env\"\":\"\"prod\"\"}\"" ∷
+    (codes "0.04,A-100,Payer,USD,2025-03-01T00:00:00Z,2025-02-01T00:00:00Z,Usage,Correction,Virtual CPU time,Usage-Based,"
+    ++ codes "2025-01-10T02:00:00Z,2025-01-10T00:00:00Z,,,,,1800,Seconds,0.04,0.08,0.04,Sample Cloud Ltd,0.05,0.1,Standard,0.5,Hours,"
+    ++ codes "Sample Cloud,Sample Cloud,,,vm-1,Compute,Sample Compute,cpu,cpu-od,acc-7,\"{\"\"env\"\":\"\"prod\"\"}\"") ∷
     codes "exported period 0 lines 2" ∷ header_line ∷ row_1 ∷ [])
 unfolding days_from_civil day_count days_of_years days_of_months worth_of decimals_of digits
 correction_transcript = refl
@@ -114,7 +116,9 @@ amendment_inside_one_period_transcript : transcript_of sheet_0 issuer_1 amendmen
     lines_text (codes "journaled packet 0" ∷ codes "delivered" ∷ codes "journaled packet 1" ∷ codes "delivered" ∷
     codes "started ballot 1 packet 2" ∷ codes "delivered sent 3" ∷ codes "delivered sent 4" ∷
     codes "delivered sent 5" ∷ codes "delivered learned 0" ∷ codes "exported period 0 lines 2" ∷ header_line ∷
-    codes "0.16,A-100,Payer,USD,2025-02-01T00:00:00Z,2025-01-01T00:00:00Z,Usage,,Virtual CPU time,Usage-Based,2025-01-10T02:00:00Z,2025-01-10T00:00:00Z,,,,,7200,Seconds,0.16,0.08,0.16,Sample Cloud Ltd,0.2,0.1,Standard,2,Hours,Sample Cloud,Sample Cloud,,,vm-1,Compute,Sample Compute,cpu,cpu-od,acc-7,\"{\"\"env\"\":\"\"prod\"\"}\"" ∷
+    (codes "0.16,A-100,Payer,USD,2025-02-01T00:00:00Z,2025-01-01T00:00:00Z,Usage,,Virtual CPU time,Usage-Based,2025-01-10T02:00:00Z,"
+    ++ codes "2025-01-10T00:00:00Z,,,,,7200,Seconds,0.16,0.08,0.16,Sample Cloud Ltd,0.2,0.1,Standard,2,Hours,Sample Cloud,Sample Cloud,,,"
+    ++ codes "vm-1,Compute,Sample Compute,cpu,cpu-od,acc-7,\"{\"\"env\"\":\"\"prod\"\"}\"") ∷
     [])
 unfolding days_from_civil day_count days_of_years days_of_months worth_of decimals_of digits
 amendment_inside_one_period_transcript = refl
@@ -230,7 +234,9 @@ amendments_out_of_order_in_turn_transcript : transcript_of sheet_0 issuer_1 amen
     codes "journaled packet 10" ∷ codes "delivered" ∷ codes "started ballot 3 packet 11" ∷
     codes "delivered sent 12" ∷ codes "delivered sent 13" ∷ codes "delivered sent 14" ∷
     codes "delivered learned 2" ∷ codes "exported period 2 lines 2" ∷ header_line ∷
-    codes "-0.04,A-100,Payer,USD,2025-04-01T00:00:00Z,2025-03-01T00:00:00Z,Usage,Correction,Virtual CPU time,Usage-Based,2025-01-10T02:00:00Z,2025-01-10T00:00:00Z,,,,,-1800,Seconds,-0.04,0.08,-0.04,Sample Cloud Ltd,-0.05,0.1,Standard,-0.5,Hours,Sample Cloud,Sample Cloud,,,vm-1,Compute,Sample Compute,cpu,cpu-od,acc-7,\"{\"\"env\"\":\"\"prod\"\"}\"" ∷
+    (codes "-0.04,A-100,Payer,USD,2025-04-01T00:00:00Z,2025-03-01T00:00:00Z,Usage,Correction,Virtual CPU time,Usage-Based,"
+    ++ codes "2025-01-10T02:00:00Z,2025-01-10T00:00:00Z,,,,,-1800,Seconds,-0.04,0.08,-0.04,Sample Cloud Ltd,-0.05,0.1,Standard,-0.5,Hours,"
+    ++ codes "Sample Cloud,Sample Cloud,,,vm-1,Compute,Sample Compute,cpu,cpu-od,acc-7,\"{\"\"env\"\":\"\"prod\"\"}\"") ∷
     [])
 unfolding days_from_civil day_count days_of_years days_of_months worth_of decimals_of digits
 amendments_out_of_order_in_turn_transcript = refl

@@ -20,7 +20,11 @@ use Rattle.metering_model.proofs.Samples.{january_2025, sheet_0, sheet_with_regi
 -- ---- the table of columns, written out
 
 header_line_text : header_line
-    ≡ codes "BilledCost,BillingAccountId,BillingAccountName,BillingCurrency,BillingPeriodEnd,BillingPeriodStart,ChargeCategory,ChargeClass,ChargeDescription,ChargeFrequency,ChargePeriodEnd,ChargePeriodStart,CommitmentDiscountCategory,CommitmentDiscountId,CommitmentDiscountStatus,CommitmentDiscountType,ConsumedQuantity,ConsumedUnit,ContractedCost,ContractedUnitPrice,EffectiveCost,InvoiceIssuerName,ListCost,ListUnitPrice,PricingCategory,PricingQuantity,PricingUnit,ProviderName,PublisherName,RegionId,RegionName,ResourceId,ServiceCategory,ServiceName,SkuId,SkuPriceId,SubAccountId,Tags"
+    ≡ (codes "BilledCost,BillingAccountId,BillingAccountName,BillingCurrency,BillingPeriodEnd,BillingPeriodStart,ChargeCategory,"
+    ++ codes "ChargeClass,ChargeDescription,ChargeFrequency,ChargePeriodEnd,ChargePeriodStart,CommitmentDiscountCategory,"
+    ++ codes "CommitmentDiscountId,CommitmentDiscountStatus,CommitmentDiscountType,ConsumedQuantity,ConsumedUnit,ContractedCost,"
+    ++ codes "ContractedUnitPrice,EffectiveCost,InvoiceIssuerName,ListCost,ListUnitPrice,PricingCategory,PricingQuantity,PricingUnit,"
+    ++ codes "ProviderName,PublisherName,RegionId,RegionName,ResourceId,ServiceCategory,ServiceName,SkuId,SkuPriceId,SubAccountId,Tags")
 header_line_text = refl
 
 number_of_columns : length columns ≡ 38
@@ -131,8 +135,12 @@ both_formats_transcript : transcript_of sheet_with_region issuer_1 both_formats 
     lines_text (codes "journaled packet 0" ∷ codes "journaled packet 1" ∷ codes "journaled packet 2" ∷ codes "delivered" ∷ codes "delivered" ∷ codes "delivered" ∷
     codes "started ballot 1 packet 3" ∷ codes "delivered sent 4" ∷ codes "delivered sent 5" ∷ codes "delivered sent 6" ∷ codes "delivered learned 0" ∷
     codes "exported period 0 lines 3" ∷ header_line ∷
-    codes "0.16,A-100,Payer,USD,2025-02-01T00:00:00Z,2025-01-01T00:00:00Z,Usage,,Virtual CPU time,Usage-Based,2025-01-10T02:00:00Z,2025-01-10T00:00:00Z,,,,,7200,Seconds,0.16,0.08,0.16,Sample Cloud Ltd,0.2,0.1,Standard,2,Hours,Sample Cloud,Sample Cloud,,,vm-1,Compute,Sample Compute,cpu,cpu-od,acc-7,\"{\"\"env\"\":\"\"prod\"\"}\"" ∷
-    codes "0.08,A-100,Payer,USD,2025-02-01T00:00:00Z,2025-01-01T00:00:00Z,Usage,,Virtual CPU time,Usage-Based,2025-01-10T02:00:00Z,2025-01-10T00:00:00Z,,,,,3600,Seconds,0.08,0.08,0.08,Sample Cloud Ltd,0.1,0.1,Standard,1,Hours,Sample Cloud,Sample Cloud,eu-1,Europe 1,vm-1,Compute,Sample Compute,cpu,cpu-od,acc-7,\"{\"\"env\"\":\"\"prod\"\"}\"" ∷
+    (codes "0.16,A-100,Payer,USD,2025-02-01T00:00:00Z,2025-01-01T00:00:00Z,Usage,,Virtual CPU time,Usage-Based,2025-01-10T02:00:00Z,"
+    ++ codes "2025-01-10T00:00:00Z,,,,,7200,Seconds,0.16,0.08,0.16,Sample Cloud Ltd,0.2,0.1,Standard,2,Hours,Sample Cloud,Sample Cloud,,,"
+    ++ codes "vm-1,Compute,Sample Compute,cpu,cpu-od,acc-7,\"{\"\"env\"\":\"\"prod\"\"}\"") ∷
+    (codes "0.08,A-100,Payer,USD,2025-02-01T00:00:00Z,2025-01-01T00:00:00Z,Usage,,Virtual CPU time,Usage-Based,2025-01-10T02:00:00Z,"
+    ++ codes "2025-01-10T00:00:00Z,,,,,3600,Seconds,0.08,0.08,0.08,Sample Cloud Ltd,0.1,0.1,Standard,1,Hours,Sample Cloud,Sample Cloud,"
+    ++ codes "eu-1,Europe 1,vm-1,Compute,Sample Compute,cpu,cpu-od,acc-7,\"{\"\"env\"\":\"\"prod\"\"}\"") ∷
     [])
 unfolding days_from_civil day_count days_of_years days_of_months worth_of decimals_of digits
 both_formats_transcript = refl

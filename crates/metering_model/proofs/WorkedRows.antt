@@ -1,5 +1,5 @@
 -- Files of one batch, columns of single rows, and batches that are not due.
-use Rattle.std.specs.Prelude.{◌≡◌, ℕ, List, [], ◌∷◌, map, Option, Some, None, Ok, Err, ℤ, pos, codes, refl}
+use Rattle.std.specs.Prelude.{◌≡◌, ℕ, List, [], ◌∷◌, ◌++◌, map, Option, Some, None, Ok, Err, ℤ, pos, codes, refl}
 use Rattle.std.specs.Fmt.{digits}
 use Rattle.jiff_core.specs.Calendar.{days_from_civil, day_count, days_of_years, days_of_months}
 use Rattle.metering_model.specs.NumberText.{worth_of, decimals_of}
@@ -32,7 +32,9 @@ first_run : file (rows_between empty_sheet (with_batch [] (lines_text flat_batch
     header_line ∷
     codes "-2.5,A-100,Payer,USD,2025-02-01T00:00:00Z,2025-01-01T00:00:00Z,Credit,,Launch credit,One-Time,2025-02-01T00:00:00Z,2025-01-31T00:00:00Z,,,,,,,-2.5,,-2.5,Sample Cloud Ltd,-2.5,,,,,Sample Cloud,Sample Cloud,,,,Other,Billing,,,acc-7,{}" ∷
     codes "0.475,A-100,Payer,USD,2025-02-01T00:00:00Z,2025-01-01T00:00:00Z,Tax,,VAT,One-Time,2025-02-01T00:00:00Z,2025-01-31T00:00:00Z,,,,,,,0.475,,0.475,Sample Cloud Ltd,0.475,,,,,Sample Cloud,Sample Cloud,,,,Other,Billing,,,acc-7,{}" ∷
-    codes "-0.025,A-100,Payer,USD,2025-02-01T00:00:00Z,2025-01-01T00:00:00Z,Adjustment,,\"Goodwill, May\",One-Time,2025-02-01T00:00:00Z,2025-01-31T00:00:00Z,,,,,,,-0.025,,-0.025,Sample Cloud Ltd,-0.025,,,,,Sample Cloud,Sample Cloud,,,,Other,Billing,,,acc-7,\"{\"\"note\"\":\"\"say \\\"\"hi\\\"\"\"\"}\"" ∷
+    (codes "-0.025,A-100,Payer,USD,2025-02-01T00:00:00Z,2025-01-01T00:00:00Z,Adjustment,,\"Goodwill, May\",One-Time,2025-02-01T00:00:00Z,"
+    ++ codes "2025-01-31T00:00:00Z,,,,,,,-0.025,,-0.025,Sample Cloud Ltd,-0.025,,,,,Sample Cloud,Sample Cloud,,,,Other,Billing,,,acc-7,"
+    ++ codes "\"{\"\"note\"\":\"\"say \\\"\"hi\\\"\"\"\"}\"") ∷
     [])
 unfolding days_from_civil day_count days_of_years days_of_months worth_of decimals_of digits
 first_run = refl
@@ -79,7 +81,9 @@ there_and_back = refl
 
 under_a_commitment : file (rows_between sheet_1 (with_batch [] (lines_text (codes "B1|1|1|1" ∷ codes "U|2025-01-10T00:00:00Z|2025-01-10T02:00:00Z|acc-7|vm-1|cpu|5400|cm-1|env=prod" ∷ []))) 0 0 1) ≡ lines_text (
     header_line ∷
-    codes "0,A-100,Payer,USD,2025-02-01T00:00:00Z,2025-01-01T00:00:00Z,Usage,,Virtual CPU time,Usage-Based,2025-01-10T02:00:00Z,2025-01-10T00:00:00Z,Usage,cm-1,Used,Reserved,5400,Seconds,0.12,0.08,0.075,Sample Cloud Ltd,0.15,0.1,Committed,1.5,Hours,Sample Cloud,Sample Cloud,,,vm-1,Compute,Sample Compute,cpu,cpu-od,acc-7,\"{\"\"env\"\":\"\"prod\"\"}\"" ∷
+    (codes "0,A-100,Payer,USD,2025-02-01T00:00:00Z,2025-01-01T00:00:00Z,Usage,,Virtual CPU time,Usage-Based,2025-01-10T02:00:00Z,"
+    ++ codes "2025-01-10T00:00:00Z,Usage,cm-1,Used,Reserved,5400,Seconds,0.12,0.08,0.075,Sample Cloud Ltd,0.15,0.1,Committed,1.5,Hours,"
+    ++ codes "Sample Cloud,Sample Cloud,,,vm-1,Compute,Sample Compute,cpu,cpu-od,acc-7,\"{\"\"env\"\":\"\"prod\"\"}\"") ∷
     [])
 unfolding days_from_civil day_count days_of_years days_of_months worth_of decimals_of digits
 under_a_commitment = refl

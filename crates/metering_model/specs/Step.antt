@@ -11,7 +11,11 @@ use Rattle.metering_model.specs.Holding.{Holding, placed, held, put, up_to}
 use Rattle.metering_model.specs.JournalRules.{BrokenRule, next_seq, first_broken}
 use Rattle.metering_model.specs.declared.BrokenRule.TheVariants.{BadTarget as BreaksTarget, Unpriced as BreaksPrice}
 use Rattle.metering_model.specs.Ballot.{ballot_of, new_attempt}
-use Rattle.metering_model.specs.World.{CarriesBatch, Prepare, Node, World, Offer, Good, Bad, Event, Journal, Deliver, Start, Restart, Export, Keep, Revive, KeptTextFault, KeptOffer, KeptGood, KeptBad, Snapshot, Reply, Journaled, Delivered, Started, Restarted, Exported, KeptText, Refused, Refusal, BadBatch, WrongSeq, BadTarget, Unpriced, NoPacket, NoNode, NotClosed, Missing, AllClosed, NoBallot, NoAgent, Observer, BadKept, NotKept, voter_count, votes, current_period, wake, with_node_at, with_packet, next_packet}
+use Rattle.metering_model.specs.World.{CarriesBatch, Prepare, Node, World, Offer, Good, Bad, Event, Journal, Deliver, Start, Restart, Export, Keep}
+use Rattle.metering_model.specs.World.{Revive, KeptTextFault, KeptOffer, KeptGood, KeptBad, Snapshot, Reply, Journaled, Delivered, Started}
+use Rattle.metering_model.specs.World.{Restarted, Exported, KeptText, Refused, Refusal, BadBatch, WrongSeq, BadTarget, Unpriced, NoPacket, NoNode}
+use Rattle.metering_model.specs.World.{NotClosed, Missing, AllClosed, NoBallot, NoAgent, Observer, BadKept, NotKept, voter_count, votes}
+use Rattle.metering_model.specs.World.{current_period, wake, with_node_at, with_packet, next_packet}
 use Rattle.metering_model.specs.Deliveries.{Handled, handled}
 use Rattle.metering_model.specs.KeptText.{KeptAmong, kept_text, kept_in}
 

@@ -19,7 +19,9 @@ use Rattle.metering_model.specs.World.{Packet, CarriesBatch, Prepare, Promise, A
 use Rattle.metering_model.specs.Deliveries.{Handled, silent, sending, if_votes, proposal, after_promise, handled}
 use Rattle.metering_model.specs.Step.{batch_of, cut_before, first_missing, started_node, unless_broken, unless_missing}
 use Rattle.sheet_laws.proofs.TwoRuns.{priced_broken}
-use Rattle.process_laws.specs.LocalSteps.{Group, NodeCommand, TakePacket, BeginBallot, ExportPeriod, TellKept, SendBatch, AgentCommand, JournalBatch, SendAgain, TellJournal, OfModel, Foreign, Unfit, Words, HasBegun, HasExported, HasJournaled, HasSent, saying, refusing, sending_held, bare_world, is_of_group, are_growing, is_unbroken}
+use Rattle.process_laws.specs.LocalSteps.{Group, NodeCommand, TakePacket, BeginBallot, ExportPeriod, TellKept, SendBatch, AgentCommand, JournalBatch}
+use Rattle.process_laws.specs.LocalSteps.{SendAgain, TellJournal, OfModel, Foreign, Unfit, Words, HasBegun, HasExported, HasJournaled, HasSent}
+use Rattle.process_laws.specs.LocalSteps.{saying, refusing, sending_held, bare_world, is_of_group, are_growing, is_unbroken}
 use Rattle.process_laws.specs.LocalSteps.{NodeDone, unmoved, after_handling, taking, next_ballot, beginning, is_fit, exporting, node_does, AgentDone, unmoved_journal, agent_does}
 use Rattle.price_change_laws.specs.SheetedHistories.{group_under, lacks_price, answer_under, IsTakenOver}
 

@@ -8,7 +8,10 @@ use Rattle.sheet_text.specs.declared.faults.SheetFault.{SheetFault}
 use Rattle.sheet_text.specs.Names.{key_name}
 use Rattle.sheet_text.specs.Keys.{value_under, text_under, label_under, base_under, day_under, price_under, per_under, service_category_under, commitment_category_under, rows_in, rows_under}
 use Rattle.sheet_text.specs.RowReading.{price_row_in, commitment_in, region_in}
-use Rattle.sheet_text.proofs.WorkedSteps.{parse_document, lines, line, expression, skip_bom, skip_from, skip_ws, header_key, key_equals, key_after, simple_key, val, atom, quoted, one_line, body, special, define, along_header, along_dots, at_key, unquoted, word_len, word_value, number, underscore_fits, plain_number, decimal_number, scan_numeral, days_from_civil, day_count, days_of_years, days_of_months}
+use Rattle.sheet_text.proofs.WorkedSteps.{parse_document, lines, line, expression, skip_bom, skip_from, skip_ws, header_key, key_equals, key_after}
+use Rattle.sheet_text.proofs.WorkedSteps.{simple_key, val, atom, quoted, one_line, body, special, define, along_header, along_dots, at_key, unquoted}
+use Rattle.sheet_text.proofs.WorkedSteps.{word_len, word_value, number, underscore_fits, plain_number, decimal_number, scan_numeral, days_from_civil}
+use Rattle.sheet_text.proofs.WorkedSteps.{day_count, days_of_years, days_of_months}
 use Rattle.metering_model.specs.NumberText.{worth_of}
 use Rattle.price_sheet.specs.SheetReading.{next_price, next_commitment, next_region, sheet_of_rows, sheet_in, sheet_of_text}
 
@@ -16,19 +19,35 @@ abbrev pub sheet_of : List (List ℕ) → Result Sheet SheetFault
 sheet_of ls = sheet_of_text (lines_text ls)
 
 one_price : sheet_of sheet_0_lines ≡ Ok sheet_0
-unfolding price_row_in commitment_in region_in next_price next_commitment next_region sheet_of_rows sheet_in sheet_of_text key_name value_under text_under label_under base_under day_under price_under per_under service_category_under commitment_category_under rows_in rows_under parse_document lines line expression skip_bom skip_from skip_ws header_key key_equals key_after simple_key val atom quoted one_line body special define along_header along_dots at_key unquoted word_len word_value number underscore_fits plain_number decimal_number scan_numeral days_from_civil day_count days_of_years days_of_months worth_of
+unfolding price_row_in commitment_in region_in next_price next_commitment next_region sheet_of_rows sheet_in sheet_of_text key_name value_under
+    text_under label_under base_under day_under price_under per_under service_category_under commitment_category_under rows_in rows_under
+    parse_document lines line expression skip_bom skip_from skip_ws header_key key_equals key_after simple_key val atom quoted one_line body special
+    define along_header along_dots at_key unquoted word_len word_value number underscore_fits plain_number decimal_number scan_numeral days_from_civil
+    day_count days_of_years days_of_months worth_of
 one_price = refl
 
 three_prices_and_a_commitment : sheet_of sheet_1_lines ≡ Ok sheet_1
-unfolding price_row_in commitment_in region_in next_price next_commitment next_region sheet_of_rows sheet_in sheet_of_text key_name value_under text_under label_under base_under day_under price_under per_under service_category_under commitment_category_under rows_in rows_under parse_document lines line expression skip_bom skip_from skip_ws header_key key_equals key_after simple_key val atom quoted one_line body special define along_header along_dots at_key unquoted word_len word_value number underscore_fits plain_number decimal_number scan_numeral days_from_civil day_count days_of_years days_of_months worth_of
+unfolding price_row_in commitment_in region_in next_price next_commitment next_region sheet_of_rows sheet_in sheet_of_text key_name value_under
+    text_under label_under base_under day_under price_under per_under service_category_under commitment_category_under rows_in rows_under
+    parse_document lines line expression skip_bom skip_from skip_ws header_key key_equals key_after simple_key val atom quoted one_line body special
+    define along_header along_dots at_key unquoted word_len word_value number underscore_fits plain_number decimal_number scan_numeral days_from_civil
+    day_count days_of_years days_of_months worth_of
 three_prices_and_a_commitment = refl
 
 a_price_and_a_region : sheet_of sheet_with_region_lines ≡ Ok sheet_with_region
-unfolding price_row_in commitment_in region_in next_price next_commitment next_region sheet_of_rows sheet_in sheet_of_text key_name value_under text_under label_under base_under day_under price_under per_under service_category_under commitment_category_under rows_in rows_under parse_document lines line expression skip_bom skip_from skip_ws header_key key_equals key_after simple_key val atom quoted one_line body special define along_header along_dots at_key unquoted word_len word_value number underscore_fits plain_number decimal_number scan_numeral days_from_civil day_count days_of_years days_of_months worth_of
+unfolding price_row_in commitment_in region_in next_price next_commitment next_region sheet_of_rows sheet_in sheet_of_text key_name value_under
+    text_under label_under base_under day_under price_under per_under service_category_under commitment_category_under rows_in rows_under
+    parse_document lines line expression skip_bom skip_from skip_ws header_key key_equals key_after simple_key val atom quoted one_line body special
+    define along_header along_dots at_key unquoted word_len word_value number underscore_fits plain_number decimal_number scan_numeral days_from_civil
+    day_count days_of_years days_of_months worth_of
 a_price_and_a_region = refl
 
 no_rows : sheet_of (codes "base = \"2025-01\"" ∷ []) ≡ Ok (record { base = 24_300; prices = []; commitments = []; regions = [] })
-unfolding price_row_in commitment_in region_in next_price next_commitment next_region sheet_of_rows sheet_in sheet_of_text key_name value_under text_under label_under base_under day_under price_under per_under service_category_under commitment_category_under rows_in rows_under parse_document lines line expression skip_bom skip_from skip_ws header_key key_equals key_after simple_key val atom quoted one_line body special define along_header along_dots at_key unquoted word_len word_value number underscore_fits plain_number decimal_number scan_numeral days_from_civil day_count days_of_years days_of_months worth_of
+unfolding price_row_in commitment_in region_in next_price next_commitment next_region sheet_of_rows sheet_in sheet_of_text key_name value_under
+    text_under label_under base_under day_under price_under per_under service_category_under commitment_category_under rows_in rows_under
+    parse_document lines line expression skip_bom skip_from skip_ws header_key key_equals key_after simple_key val atom quoted one_line body special
+    define along_header along_dots at_key unquoted word_len word_value number underscore_fits plain_number decimal_number scan_numeral days_from_civil
+    day_count days_of_years days_of_months worth_of
 no_rows = refl
 
 -- ---- two prices of one SKU, from the first and from the fifteenth of January 2025; the later one stands first
@@ -56,7 +75,11 @@ abbrev two_prices : Sheet
 two_prices = record sheet_0 { prices = later_cpu ∷ cpu ∷ [] }
 
 two_prices_of_one_sku : sheet_of (take 1 sheet_0_lines ++ (later_lines ++ drop 1 sheet_0_lines)) ≡ Ok two_prices
-unfolding price_row_in commitment_in region_in next_price next_commitment next_region sheet_of_rows sheet_in sheet_of_text key_name value_under text_under label_under base_under day_under price_under per_under service_category_under commitment_category_under rows_in rows_under parse_document lines line expression skip_bom skip_from skip_ws header_key key_equals key_after simple_key val atom quoted one_line body special define along_header along_dots at_key unquoted word_len word_value number underscore_fits plain_number decimal_number scan_numeral days_from_civil day_count days_of_years days_of_months worth_of
+unfolding price_row_in commitment_in region_in next_price next_commitment next_region sheet_of_rows sheet_in sheet_of_text key_name value_under
+    text_under label_under base_under day_under price_under per_under service_category_under commitment_category_under rows_in rows_under
+    parse_document lines line expression skip_bom skip_from skip_ws header_key key_equals key_after simple_key val atom quoted one_line body special
+    define along_header along_dots at_key unquoted word_len word_value number underscore_fits plain_number decimal_number scan_numeral days_from_civil
+    day_count days_of_years days_of_months worth_of
 two_prices_of_one_sku = refl
 
 -- what an hour costs by list on a day, by the sheet that the lines are

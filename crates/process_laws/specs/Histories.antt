@@ -11,7 +11,10 @@ use Rattle.metering_model.specs.declared.Refusal.TheVariants.{Missing, NoAgent, 
 use Rattle.metering_model.specs.Step.{batch_of, play, step}
 use Rattle.group_laws.specs.Headline.{HoldsAfter}
 use Rattle.group_laws.specs.OneAgent.{batches_of}
-use Rattle.process_laws.specs.LocalSteps.{Group, NodeCommand, TakePacket, BeginBallot, ExportPeriod, TellKept, SendBatch, AgentCommand, JournalBatch, SendAgain, TellJournal, OfModel, Foreign, HasTaken, HasBegun, HasJournaled, HasExported, KeptIs, HasSent, NodeWentOn, AgentWentOn, Answer, saying, refusing, is_of_group, kept_among, journal_kept, NodeDone, node_does, node_goes_on, AgentDone, agent_does, agent_goes_on}
+use Rattle.process_laws.specs.LocalSteps.{Group, NodeCommand, TakePacket, BeginBallot, ExportPeriod, TellKept, SendBatch, AgentCommand, JournalBatch}
+use Rattle.process_laws.specs.LocalSteps.{SendAgain, TellJournal, OfModel, Foreign, HasTaken, HasBegun, HasJournaled, HasExported, KeptIs, HasSent}
+use Rattle.process_laws.specs.LocalSteps.{NodeWentOn, AgentWentOn, Answer, saying, refusing, is_of_group, kept_among, journal_kept, NodeDone}
+use Rattle.process_laws.specs.LocalSteps.{node_does, node_goes_on, AgentDone, agent_does, agent_goes_on}
 
 -- ---- what happens
 

@@ -15,7 +15,9 @@ use Rattle.metering_model.specs.declared.Refusal.TheVariants.{Missing, NoNode}
 use Rattle.metering_model.specs.declared.Refusal.{Refusal}
 use Rattle.metering_model.proofs.Decimals.{decimal_is_one, decimal_lacks_blank}
 use Rattle.process_laws.specs.LocalSteps as model
-use Rattle.process_laws.specs.LocalSteps.{Answer, Group, NodeCommand, TakePacket, BeginBallot, ExportPeriod, TellKept, SendBatch, AgentCommand, JournalBatch, SendAgain, TellJournal, NodeDone, Words, HasTaken, HasBegun, HasJournaled, HasExported, KeptIs, HasSent, NodeWentOn, AgentWentOn, RefusedFor, OfModel, refusing, saying}
+use Rattle.process_laws.specs.LocalSteps.{Answer, Group, NodeCommand, TakePacket, BeginBallot, ExportPeriod, TellKept, SendBatch, AgentCommand}
+use Rattle.process_laws.specs.LocalSteps.{JournalBatch, SendAgain, TellJournal, NodeDone, Words, HasTaken, HasBegun, HasJournaled, HasExported}
+use Rattle.process_laws.specs.LocalSteps.{KeptIs, HasSent, NodeWentOn, AgentWentOn, RefusedFor, OfModel, refusing, saying}
 use Rattle.process_laws.specs.Histories.{Act, Acted, AgentDoes, AgentGoesOn, NodeDoes, NodeGoesOn, Processes, acted, after, answers, begun, by_node, with_node_done}
 use Rattle.process_laws.proofs.AgreedExports.{batches_are_journaled, each_batch_once, files_are_the_same, next_begins_there}
 use Rattle.log_text.specs.LogText.{AgentOf, NodeOf}

@@ -16,7 +16,10 @@ use Rattle.sheet_text.specs.IssuerReading.{currency_under, issuer_in, issuer_of_
 use Rattle.sheet_text.specs.Keys.{base_under, commitment_category_under, day_under, label_under, per_under, price_under, rows_in, rows_under, service_category_under, text_under, value_under}
 use Rattle.sheet_text.specs.Names.{key_name}
 use Rattle.sheet_text.specs.RowReading.{commitment_in, price_row_in, region_in}
-use Rattle.sheet_text.proofs.WorkedSteps.{scan_numeral, days_from_civil, day_count, days_of_years, days_of_months, skip_ws, skip_from, special, body, one_line, quoted, simple_key, key_after, underscore_fits, decimal_number, plain_number, number, word_value, word_len, unquoted, along_header, along_dots, at_key, define, key_equals, val, atom, header_key, expression, line, lines, skip_bom, parse_document}
+use Rattle.sheet_text.proofs.WorkedSteps.{scan_numeral, days_from_civil, day_count, days_of_years, days_of_months, skip_ws, skip_from, special, body}
+use Rattle.sheet_text.proofs.WorkedSteps.{one_line, quoted, simple_key, key_after, underscore_fits, decimal_number, plain_number, number, word_value}
+use Rattle.sheet_text.proofs.WorkedSteps.{word_len, unquoted, along_header, along_dots, at_key, define, key_equals, val, atom, header_key}
+use Rattle.sheet_text.proofs.WorkedSteps.{expression, line, lines, skip_bom, parse_document}
 use Rattle.log_text.specs.LogText.{AgentOf, Increment, NodeOf, ReadLog, Who, log_in}
 use Rattle.group_process.specs.Added.{AddsJust}
 use Rattle.group_process.specs.Selves.{AgentSelf, NodeSelf, kept_of_agent, kept_of_node}
@@ -56,15 +59,30 @@ preamble_of w text =
     record { own = own w; sheet = sheet_0; issuer = issuer_1; rest = record { text = text; from = length text; line = 25 } }
 
 pub voter_read : preamble_in kind.Node voter_text ≡ Ok (preamble_of (NodeOf 0) voter_text)
-unfolding preamble_in log_in section_in read_as sheet_section issuer_section is_utf8 chars lib.Utf8.encode price_row_in commitment_in region_in next_price next_commitment next_region sheet_of_rows sheet_in sheet_of_text currency_under issuer_in issuer_of_text key_name value_under text_under label_under base_under day_under price_under per_under service_category_under commitment_category_under rows_in rows_under parse_document lines line expression skip_bom skip_from skip_ws header_key key_equals key_after simple_key val atom quoted one_line body special define along_header along_dots at_key unquoted word_len word_value number underscore_fits plain_number decimal_number scan_numeral days_from_civil day_count days_of_years days_of_months worth_of
+unfolding preamble_in log_in section_in read_as sheet_section issuer_section is_utf8 chars lib.Utf8.encode price_row_in commitment_in region_in
+    next_price next_commitment next_region sheet_of_rows sheet_in sheet_of_text currency_under issuer_in issuer_of_text key_name value_under
+    text_under label_under base_under day_under price_under per_under service_category_under commitment_category_under rows_in rows_under
+    parse_document lines line expression skip_bom skip_from skip_ws header_key key_equals key_after simple_key val atom quoted one_line body special
+    define along_header along_dots at_key unquoted word_len word_value number underscore_fits plain_number decimal_number scan_numeral days_from_civil
+    day_count days_of_years days_of_months worth_of
 voter_read = refl
 
 pub observer_read : preamble_in kind.Node observer_text ≡ Ok (preamble_of (NodeOf 1) observer_text)
-unfolding preamble_in log_in section_in read_as sheet_section issuer_section is_utf8 chars lib.Utf8.encode price_row_in commitment_in region_in next_price next_commitment next_region sheet_of_rows sheet_in sheet_of_text currency_under issuer_in issuer_of_text key_name value_under text_under label_under base_under day_under price_under per_under service_category_under commitment_category_under rows_in rows_under parse_document lines line expression skip_bom skip_from skip_ws header_key key_equals key_after simple_key val atom quoted one_line body special define along_header along_dots at_key unquoted word_len word_value number underscore_fits plain_number decimal_number scan_numeral days_from_civil day_count days_of_years days_of_months worth_of
+unfolding preamble_in log_in section_in read_as sheet_section issuer_section is_utf8 chars lib.Utf8.encode price_row_in commitment_in region_in
+    next_price next_commitment next_region sheet_of_rows sheet_in sheet_of_text currency_under issuer_in issuer_of_text key_name value_under
+    text_under label_under base_under day_under price_under per_under service_category_under commitment_category_under rows_in rows_under
+    parse_document lines line expression skip_bom skip_from skip_ws header_key key_equals key_after simple_key val atom quoted one_line body special
+    define along_header along_dots at_key unquoted word_len word_value number underscore_fits plain_number decimal_number scan_numeral days_from_civil
+    day_count days_of_years days_of_months worth_of
 observer_read = refl
 
 pub agent_read : preamble_in kind.Agent agent_text ≡ Ok (preamble_of (AgentOf 1) agent_text)
-unfolding preamble_in log_in section_in read_as sheet_section issuer_section is_utf8 chars lib.Utf8.encode price_row_in commitment_in region_in next_price next_commitment next_region sheet_of_rows sheet_in sheet_of_text currency_under issuer_in issuer_of_text key_name value_under text_under label_under base_under day_under price_under per_under service_category_under commitment_category_under rows_in rows_under parse_document lines line expression skip_bom skip_from skip_ws header_key key_equals key_after simple_key val atom quoted one_line body special define along_header along_dots at_key unquoted word_len word_value number underscore_fits plain_number decimal_number scan_numeral days_from_civil day_count days_of_years days_of_months worth_of
+unfolding preamble_in log_in section_in read_as sheet_section issuer_section is_utf8 chars lib.Utf8.encode price_row_in commitment_in region_in
+    next_price next_commitment next_region sheet_of_rows sheet_in sheet_of_text currency_under issuer_in issuer_of_text key_name value_under
+    text_under label_under base_under day_under price_under per_under service_category_under commitment_category_under rows_in rows_under
+    parse_document lines line expression skip_bom skip_from skip_ws header_key key_equals key_after simple_key val atom quoted one_line body special
+    define along_header along_dots at_key unquoted word_len word_value number underscore_fits plain_number decimal_number scan_numeral days_from_civil
+    day_count days_of_years days_of_months worth_of
 agent_read = refl
 
 -- ---- how they are asked

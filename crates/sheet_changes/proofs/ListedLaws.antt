@@ -202,7 +202,9 @@ module _ (old new : Sheet) (old_ok : IsSheet old) (new_ok : IsSheet new) where
       rows : All (λ r. r.from <ℤ day → StaysOn old new r.sku r.from) (old.prices ++ new.prices)
       rows =
           All-weaker (Contains (old.prices ++ new.prices)) (λ r. r.from <ℤ day → StaysOn old new r.sku r.from)
-          (λ r has early. stays_unlisted r.sku r.from (All-contains (λ d. d.day <ℤ day → is_some (price_in_force old d.sku d.day) ≡ true → (date : List ℕ) → price_lines old new d date ≡ []) (price_days old new) (price_day r) none.prices (mapped_there price_day (old.prices ++ new.prices) r has) early))
+          (λ r has early. stays_unlisted r.sku r.from (All-contains (λ d. d.day <ℤ day → is_some (price_in_force old d.sku d.day) ≡ true
+          → (date : List ℕ) → price_lines old new d date ≡ []) (price_days old new) (price_day r) none.prices
+          (mapped_there price_day (old.prices ++ new.prices) r has) early))
           (old.prices ++ new.prices) (All-contains_itself (old.prices ++ new.prices))
 
   none_of_price : (day : ℤ) → GoesOnFrom day old new → (d : PriceDay) → d.day <ℤ day → is_some (price_in_force old d.sku d.day) ≡ true → (date : List ℕ) → price_lines old new d date ≡ []

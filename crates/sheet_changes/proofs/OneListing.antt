@@ -69,7 +69,9 @@ module _ {K : Type 0} (R : K → K → Ordering) (total : IsTotalOrder R) where
       let first = same_first x xs y ys up_x up_y into back in
       by_first (one_order xs ys) first (subst (λ w. IsStrictlySortedBy R (w ∷ ys)) (sym first) up_y) (λ z has. subst (λ w. Contains (w ∷ ys) z) (sym first) (into z has)) (λ z has. back z (subst (λ w. Contains (w ∷ ys) z) first has))
     where
-      by_first : (IsStrictlySortedBy R xs → IsStrictlySortedBy R ys → ((z : K) → Contains xs z → Contains ys z) → ((z : K) → Contains ys z → Contains xs z) → xs ≡ ys) → x ≡ y → IsStrictlySortedBy R (x ∷ ys) → ((z : K) → Contains (x ∷ xs) z → Contains (x ∷ ys) z) → ((z : K) → Contains (x ∷ ys) z → Contains (x ∷ xs) z) → x ∷ xs ≡ y ∷ ys
+      by_first : (IsStrictlySortedBy R xs → IsStrictlySortedBy R ys → ((z : K) → Contains xs z → Contains ys z)
+          → ((z : K) → Contains ys z → Contains xs z) → xs ≡ ys) → x ≡ y → IsStrictlySortedBy R (x ∷ ys)
+          → ((z : K) → Contains (x ∷ xs) z → Contains (x ∷ ys) z) → ((z : K) → Contains (x ∷ ys) z → Contains (x ∷ xs) z) → x ∷ xs ≡ y ∷ ys
       by_first rest first up to from =
           ap₂ (λ a more. a ∷ more) first (rest (rest_sorted x xs up_x) (rest_sorted x ys up) (same_rest x xs ys up_x to) (same_rest x ys xs up from))
 

@@ -16,7 +16,9 @@ use Rattle.metering_model.specs.declared.Refusal.TheVariants.{Unpriced as IsUnpr
 use Rattle.metering_model.specs.Front.{front}
 use Rattle.metering_model.specs.KeptText.{kept_text}
 use Rattle.metering_model.specs.Ballot.{Vote, Attempt, with_promise, has_majority}
-use Rattle.metering_model.specs.World.{Packet, CarriesBatch, Prepare, Promise, Accept, Accepted, Decided, Node, World, Offer, Event, Journal, Deliver, Start, Restart, Export, Keep, Revive, Snapshot, Reply, Journaled, Delivered, Started, Restarted, Exported, KeptText, Refused, voter_count, votes, current_period, last_cut, with_packet, next_packet, opening}
+use Rattle.metering_model.specs.World.{Packet, CarriesBatch, Prepare, Promise, Accept, Accepted, Decided, Node, World, Offer, Event, Journal}
+use Rattle.metering_model.specs.World.{Deliver, Start, Restart, Export, Keep, Revive, Snapshot, Reply, Journaled, Delivered, Started, Restarted}
+use Rattle.metering_model.specs.World.{Exported, KeptText, Refused, voter_count, votes, current_period, last_cut, with_packet, next_packet, opening}
 use Rattle.metering_model.specs.Deliveries.{Handled, silent, sending, if_votes, proposal, after_promise, handled}
 use Rattle.metering_model.specs.Step.{Outcome, batch_of, unless_broken, on_batch, after_delivery, first_missing, unless_missing, kept_of, kept_now, snapshot, outcome_of, or_refused, replies_then, step, play}
 use Rattle.sheet_laws.specs.Runs.{under_sheet, world_under, AreAllPriced, PricesAllOf}

@@ -54,24 +54,36 @@ run_under sheet = play (opening 1 0 1 sheet issuer_1) two_months
 
 abbrev pub january : TextLines
 january = header_line
-    ∷ codes "0.12,A-100,Payer,USD,2025-02-01T00:00:00Z,2025-01-01T00:00:00Z,Usage,,Virtual CPU time,Usage-Based,2025-01-10T02:00:00Z,2025-01-10T00:00:00Z,,,,,5400,Seconds,0.12,0.08,0.12,Sample Cloud Ltd,0.15,0.1,Standard,1.5,Hours,Sample Cloud,Sample Cloud,eu-1,Europe 1,vm-1,Compute,Sample Compute,cpu,cpu-od,acc-7,\"{\"\"env\"\":\"\"prod\"\"}\""
-    ∷ codes "0,A-100,Payer,USD,2025-02-01T00:00:00Z,2025-01-01T00:00:00Z,Usage,,Virtual CPU time,Usage-Based,2025-01-11T02:00:00Z,2025-01-11T01:00:00Z,Usage,cm-1,Used,Reserved,3600,Seconds,0.08,0.08,0.05,Sample Cloud Ltd,0.1,0.1,Committed,1,Hours,Sample Cloud,Sample Cloud,,,vm-1,Compute,Sample Compute,cpu,cpu-od,acc-7,{}"
+    ∷ (codes "0.12,A-100,Payer,USD,2025-02-01T00:00:00Z,2025-01-01T00:00:00Z,Usage,,Virtual CPU time,Usage-Based,2025-01-10T02:00:00Z,"
+    ++ codes "2025-01-10T00:00:00Z,,,,,5400,Seconds,0.12,0.08,0.12,Sample Cloud Ltd,0.15,0.1,Standard,1.5,Hours,Sample Cloud,Sample Cloud,"
+    ++ codes "eu-1,Europe 1,vm-1,Compute,Sample Compute,cpu,cpu-od,acc-7,\"{\"\"env\"\":\"\"prod\"\"}\"")
+    ∷ (codes "0,A-100,Payer,USD,2025-02-01T00:00:00Z,2025-01-01T00:00:00Z,Usage,,Virtual CPU time,Usage-Based,2025-01-11T02:00:00Z,"
+    ++ codes "2025-01-11T01:00:00Z,Usage,cm-1,Used,Reserved,3600,Seconds,0.08,0.08,0.05,Sample Cloud Ltd,0.1,0.1,Committed,1,Hours,"
+    ++ codes "Sample Cloud,Sample Cloud,,,vm-1,Compute,Sample Compute,cpu,cpu-od,acc-7,{}")
     ∷ codes "-2.5,A-100,Payer,USD,2025-02-01T00:00:00Z,2025-01-01T00:00:00Z,Credit,,goodwill,One-Time,2025-01-13T00:00:00Z,2025-01-12T00:00:00Z,,,,,,,-2.5,,-2.5,Sample Cloud Ltd,-2.5,,,,,Sample Cloud,Sample Cloud,,,,Other,Billing,,,acc-7,{}"
     ∷ []
 
 -- the correction and the late row, which both sheets give
 abbrev pub of_january : TextLines
 of_january =
-    codes "0.04,A-100,Payer,USD,2025-03-01T00:00:00Z,2025-02-01T00:00:00Z,Usage,Correction,Virtual CPU time,Usage-Based,2025-01-10T02:00:00Z,2025-01-10T00:00:00Z,,,,,1800,Seconds,0.04,0.08,0.04,Sample Cloud Ltd,0.05,0.1,Standard,0.5,Hours,Sample Cloud,Sample Cloud,eu-1,Europe 1,vm-1,Compute,Sample Compute,cpu,cpu-od,acc-7,\"{\"\"env\"\":\"\"prod\"\"}\""
-    ∷ codes "0.08,A-100,Payer,USD,2025-03-01T00:00:00Z,2025-02-01T00:00:00Z,Usage,,Virtual CPU time,Usage-Based,2025-01-20T01:00:00Z,2025-01-20T00:00:00Z,,,,,3600,Seconds,0.08,0.08,0.08,Sample Cloud Ltd,0.1,0.1,Standard,1,Hours,Sample Cloud,Sample Cloud,,,vm-1,Compute,Sample Compute,cpu,cpu-od,acc-7,{}"
+    (codes "0.04,A-100,Payer,USD,2025-03-01T00:00:00Z,2025-02-01T00:00:00Z,Usage,Correction,Virtual CPU time,Usage-Based,"
+    ++ codes "2025-01-10T02:00:00Z,2025-01-10T00:00:00Z,,,,,1800,Seconds,0.04,0.08,0.04,Sample Cloud Ltd,0.05,0.1,Standard,0.5,Hours,"
+    ++ codes "Sample Cloud,Sample Cloud,eu-1,Europe 1,vm-1,Compute,Sample Compute,cpu,cpu-od,acc-7,\"{\"\"env\"\":\"\"prod\"\"}\"")
+    ∷ (codes "0.08,A-100,Payer,USD,2025-03-01T00:00:00Z,2025-02-01T00:00:00Z,Usage,,Virtual CPU time,Usage-Based,2025-01-20T01:00:00Z,"
+    ++ codes "2025-01-20T00:00:00Z,,,,,3600,Seconds,0.08,0.08,0.08,Sample Cloud Ltd,0.1,0.1,Standard,1,Hours,Sample Cloud,Sample Cloud,,,"
+    ++ codes "vm-1,Compute,Sample Compute,cpu,cpu-od,acc-7,{}")
     ∷ []
 
 -- and the row of February under each of them
 abbrev pub by_the_hour : List ℕ
-by_the_hour = codes "0.08,A-100,Payer,USD,2025-03-01T00:00:00Z,2025-02-01T00:00:00Z,Usage,,Virtual CPU time,Usage-Based,2025-02-03T01:00:00Z,2025-02-03T00:00:00Z,,,,,3600,Seconds,0.08,0.08,0.08,Sample Cloud Ltd,0.1,0.1,Standard,1,Hours,Sample Cloud,Sample Cloud,as-1,as-1,vm-1,Compute,Sample Compute,cpu,cpu-od,acc-7,{}"
+by_the_hour = codes "0.08,A-100,Payer,USD,2025-03-01T00:00:00Z,2025-02-01T00:00:00Z,Usage,,Virtual CPU time,Usage-Based,2025-02-03T01:00:00Z,"
+    ++ codes "2025-02-03T00:00:00Z,,,,,3600,Seconds,0.08,0.08,0.08,Sample Cloud Ltd,0.1,0.1,Standard,1,Hours,Sample Cloud,Sample Cloud,"
+    ++ codes "as-1,as-1,vm-1,Compute,Sample Compute,cpu,cpu-od,acc-7,{}"
 
 abbrev pub by_the_minute : List ℕ
-by_the_minute = codes "0.09,A-100,Payer,USD,2025-03-01T00:00:00Z,2025-02-01T00:00:00Z,Usage,,Virtual CPU minutes,Usage-Based,2025-02-03T01:00:00Z,2025-02-03T00:00:00Z,,,,,3600,CPU Seconds,0.09,0.0015,0.09,Sample Cloud Ltd,0.12,0.002,Standard,60,Minutes,Sample Cloud,Sample Cloud,as-1,Asia 1,vm-1,Other,Sample Machines,cpu,cpu-min,acc-7,{}"
+by_the_minute = codes "0.09,A-100,Payer,USD,2025-03-01T00:00:00Z,2025-02-01T00:00:00Z,Usage,,Virtual CPU minutes,Usage-Based,2025-02-03T01:00:00Z,"
+    ++ codes "2025-02-03T00:00:00Z,,,,,3600,CPU Seconds,0.09,0.0015,0.09,Sample Cloud Ltd,0.12,0.002,Standard,60,Minutes,Sample Cloud,"
+    ++ codes "Sample Cloud,as-1,Asia 1,vm-1,Other,Sample Machines,cpu,cpu-min,acc-7,{}"
 
 abbrev pub told_first : TextLines
 told_first = codes "journaled packet 0" ∷ codes "delivered" ∷ codes "started ballot 1 packet 1" ∷ codes "delivered sent 2" ∷

@@ -9,7 +9,10 @@ use Rattle.sheet_text.specs.declared.names.Key.TheVariants as keys
 use Rattle.sheet_text.specs.Names.{Key, key_name}
 use Rattle.sheet_text.specs.Keys.{KeyFault, value_under, text_under, label_under, day_under, price_under, per_under, service_category_under, commitment_category_under}
 use Rattle.sheet_text.specs.RowReading.{price_row_in, commitment_in, region_in}
-use Rattle.sheet_text.proofs.WorkedSteps.{days_from_civil, day_count, days_of_years, days_of_months, scan_numeral, skip_ws, skip_from, special, body, one_line, quoted, simple_key, key_after, underscore_fits, decimal_number, plain_number, number, word_value, word_len, unquoted, along_header, along_dots, at_key, define, key_equals, val, atom, expression, line, lines, skip_bom, parse_document}
+use Rattle.sheet_text.proofs.WorkedSteps.{days_from_civil, day_count, days_of_years, days_of_months, scan_numeral, skip_ws, skip_from, special, body}
+use Rattle.sheet_text.proofs.WorkedSteps.{one_line, quoted, simple_key, key_after, underscore_fits, decimal_number, plain_number, number, word_value}
+use Rattle.sheet_text.proofs.WorkedSteps.{word_len, unquoted, along_header, along_dots, at_key, define, key_equals, val, atom, expression, line}
+use Rattle.sheet_text.proofs.WorkedSteps.{lines, skip_bom, parse_document}
 use Rattle.metering_model.specs.NumberText.{worth_of}
 
 -- ---- a price
@@ -49,7 +52,10 @@ net_out = record {
 }
 
 each_value_of_a_price_stands_under_its_key : price_of price_lines ≡ Some (Ok net_out)
-unfolding parse_document lines line expression skip_bom skip_from skip_ws key_equals key_after simple_key val atom quoted one_line body special define along_header along_dots at_key unquoted word_len word_value number underscore_fits plain_number decimal_number scan_numeral key_name value_under text_under label_under day_under price_under per_under service_category_under price_row_in days_from_civil day_count days_of_years days_of_months worth_of
+unfolding parse_document lines line expression skip_bom skip_from skip_ws key_equals key_after simple_key val atom quoted one_line body special define
+    along_header along_dots at_key unquoted word_len word_value number underscore_fits plain_number decimal_number scan_numeral key_name value_under
+    text_under label_under day_under price_under per_under service_category_under price_row_in days_from_civil day_count days_of_years days_of_months
+    worth_of
 each_value_of_a_price_stands_under_its_key = refl
 
 -- the lines without the one that so many stand before
@@ -62,16 +68,25 @@ tells_missing key = Some (Err (Missing key))
 
 each_key_of_a_price_is_missed_by_its_name : map (λ n. price_of (without n price_lines)) (0 ∷ 1 ∷ 2 ∷ 3 ∷ 4 ∷ 5 ∷ 6 ∷ 7 ∷ 8 ∷ 9 ∷ 10 ∷ [])
     ≡ map tells_missing (keys.Sku ∷ keys.PriceId ∷ keys.From ∷ keys.Description ∷ keys.Service ∷ keys.Category ∷ keys.ConsumedUnit ∷ keys.PricingUnit ∷ keys.Per ∷ keys.List ∷ keys.Contracted ∷ [])
-unfolding parse_document lines line expression skip_bom skip_from skip_ws key_equals key_after simple_key val atom quoted one_line body special define along_header along_dots at_key unquoted word_len word_value number underscore_fits plain_number decimal_number scan_numeral key_name value_under text_under label_under day_under price_under per_under service_category_under price_row_in days_from_civil day_count days_of_years days_of_months worth_of
+unfolding parse_document lines line expression skip_bom skip_from skip_ws key_equals key_after simple_key val atom quoted one_line body special define
+    along_header along_dots at_key unquoted word_len word_value number underscore_fits plain_number decimal_number scan_numeral key_name value_under
+    text_under label_under day_under price_under per_under service_category_under price_row_in days_from_civil day_count days_of_years days_of_months
+    worth_of
 each_key_of_a_price_is_missed_by_its_name = refl
 
 -- in TOML keys of a table may stand in any order
 the_last_key_first : price_of (codes "contracted = \"0.0725\"" ∷ without 10 price_lines) ≡ Some (Ok net_out)
-unfolding parse_document lines line expression skip_bom skip_from skip_ws key_equals key_after simple_key val atom quoted one_line body special define along_header along_dots at_key unquoted word_len word_value number underscore_fits plain_number decimal_number scan_numeral key_name value_under text_under label_under day_under price_under per_under service_category_under price_row_in days_from_civil day_count days_of_years days_of_months worth_of
+unfolding parse_document lines line expression skip_bom skip_from skip_ws key_equals key_after simple_key val atom quoted one_line body special define
+    along_header along_dots at_key unquoted word_len word_value number underscore_fits plain_number decimal_number scan_numeral key_name value_under
+    text_under label_under day_under price_under per_under service_category_under price_row_in days_from_civil day_count days_of_years days_of_months
+    worth_of
 the_last_key_first = refl
 
 an_unknown_key_is_passed_over : price_of (codes "colour = \"red\"" ∷ price_lines) ≡ Some (Ok net_out)
-unfolding parse_document lines line expression skip_bom skip_from skip_ws key_equals key_after simple_key val atom quoted one_line body special define along_header along_dots at_key unquoted word_len word_value number underscore_fits plain_number decimal_number scan_numeral key_name value_under text_under label_under day_under price_under per_under service_category_under price_row_in days_from_civil day_count days_of_years days_of_months worth_of
+unfolding parse_document lines line expression skip_bom skip_from skip_ws key_equals key_after simple_key val atom quoted one_line body special define
+    along_header along_dots at_key unquoted word_len word_value number underscore_fits plain_number decimal_number scan_numeral key_name value_under
+    text_under label_under day_under price_under per_under service_category_under price_row_in days_from_civil day_count days_of_years days_of_months
+    worth_of
 an_unknown_key_is_passed_over = refl
 
 -- ---- a commitment

@@ -248,7 +248,9 @@ module _ (later : TextLines) where
   both_are_shown first second (suc (suc period)) one e = absurd (none-some one e)
 
 abbrev again : TextLines
-again = header_line ∷ codes "0.16,A-100,Payer,USD,2025-03-01T00:00:00Z,2025-02-01T00:00:00Z,Usage,Correction,Virtual CPU time,Usage-Based,2025-01-10T02:00:00Z,2025-01-10T00:00:00Z,,,,,7200,Seconds,0.16,0.08,0.16,Sample Cloud Ltd,0.2,0.1,Standard,2,Hours,Sample Cloud,Sample Cloud,,,vm-1,Compute,Sample Compute,cpu,cpu-od,acc-7,\"{\"\"env\"\":\"\"prod\"\"}\"" ∷ []
+again = header_line ∷ (codes "0.16,A-100,Payer,USD,2025-03-01T00:00:00Z,2025-02-01T00:00:00Z,Usage,Correction,Virtual CPU time,Usage-Based,"
+    ++ codes "2025-01-10T02:00:00Z,2025-01-10T00:00:00Z,,,,,7200,Seconds,0.16,0.08,0.16,Sample Cloud Ltd,0.2,0.1,Standard,2,Hours,"
+    ++ codes "Sample Cloud,Sample Cloud,,,vm-1,Compute,Sample Compute,cpu,cpu-od,acc-7,\"{\"\"env\"\":\"\"prod\"\"}\"") ∷ []
 
 -- 0.12 and 0.16 are shown, where two hours are 0.16
 charging_again_does_not_add_up : AddUp (two_files january again) corrected_journals two_cuts → ⊥
@@ -264,7 +266,9 @@ charging_again_does_not_add_up adds_up =
     second = record { before = codes "exported period 0 lines 2" ∷ january; lines = again; after = []; whole = refl; is_text = refl; is_shown = refl }
 
 abbrev unsaid : TextLines
-unsaid = header_line ∷ codes "0.04,A-100,Payer,USD,2025-03-01T00:00:00Z,2025-02-01T00:00:00Z,Usage,,Virtual CPU time,Usage-Based,2025-01-10T02:00:00Z,2025-01-10T00:00:00Z,,,,,1800,Seconds,0.04,0.08,0.04,Sample Cloud Ltd,0.05,0.1,Standard,0.5,Hours,Sample Cloud,Sample Cloud,,,vm-1,Compute,Sample Compute,cpu,cpu-od,acc-7,\"{\"\"env\"\":\"\"prod\"\"}\"" ∷ []
+unsaid = header_line ∷ (codes "0.04,A-100,Payer,USD,2025-03-01T00:00:00Z,2025-02-01T00:00:00Z,Usage,,Virtual CPU time,Usage-Based,2025-01-10T02:00:00Z,"
+    ++ codes "2025-01-10T00:00:00Z,,,,,1800,Seconds,0.04,0.08,0.04,Sample Cloud Ltd,0.05,0.1,Standard,0.5,Hours,Sample Cloud,Sample Cloud,,"
+    ++ codes ",vm-1,Compute,Sample Compute,cpu,cpu-od,acc-7,\"{\"\"env\"\":\"\"prod\"\"}\"") ∷ []
 
 -- two lines are new, of one reading
 an_unsaid_correction_is_new_twice : AreNewOnce (two_files january unsaid) corrected_journals two_cuts → ⊥

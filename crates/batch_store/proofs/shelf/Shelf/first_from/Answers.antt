@@ -24,4 +24,6 @@ pub returns-in-None : goal.returns-in-None
 returns-in-None c =
     let between : c.range-later.result ≡ filed_from c.max-first.result c.self.inside.ahead.entries = search rules in
     let none = rest_all deref_pair c.range-later.result c.next.new.self c.next.result c.in-None.is c.next.ensures.steps in
-    sym (from_least c.self.inside.whole c.self.inside.ahead.entries c.args.self.now c.args.seq c.max-first.result c.self.view_is c.self.invariant c.max-first.ensures) ∙ no_later c.self.inside.whole c.self.inside.ahead.entries c.args.self.now c.max-first.result c.self.view_is c.self.invariant (omega arith) (sym between ∙ none)
+    sym (from_least c.self.inside.whole c.self.inside.ahead.entries c.args.self.now c.args.seq c.max-first.result c.self.view_is c.self.invariant
+    c.max-first.ensures) ∙ no_later c.self.inside.whole c.self.inside.ahead.entries c.args.self.now c.max-first.result c.self.view_is
+    c.self.invariant (omega arith) (sym between ∙ none)

@@ -10,7 +10,9 @@ loop-agent-init c = Adds-before_first c.args.self.now.batches c.args.from.now c.
 
 pub loop-agent-preserved : goal.loop-agent-preserved
 loop-agent-preserved c =
-    Adds-agent c.args.self.now.batches c.args.from.now c.args.to.now c.loop-agent.agent c.get.result c.get-in-loop-agent.result c.loop-agent.places.items c.add_amended.new.places.items (omega arith) c.get.ensures.value c.get-in-loop-agent.ensures.value c.loop-agent.invariant c.in_ok-add_amended.ensures
+    Adds-agent c.args.self.now.batches c.args.from.now c.args.to.now c.loop-agent.agent c.get.result c.get-in-loop-agent.result
+    c.loop-agent.places.items c.add_amended.new.places.items (omega arith) c.get.ensures.value c.get-in-loop-agent.ensures.value
+    c.loop-agent.invariant c.in_ok-add_amended.ensures
 
 pub returns : goal.returns
 returns c =

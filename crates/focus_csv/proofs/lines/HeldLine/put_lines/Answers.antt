@@ -10,12 +10,12 @@ pub invariant_of-self-2 : goal.invariant_of-self-2
 invariant_of-self-2 c =
     let some : 0 < c.args.rows.now.len = search rules in
     elim c.match-self.branch [
-      in-Some+in_ok-put_lines-in-Some w ↦
+      | in-Some+in_ok-put_lines-in-Some w ↦
           subst (λ s. AreOfLast (option_map model_row c.pop-self-inside.result) s.pieces) (sym w.self-inside-is)
           (last_taken w.put_lines.new.pieces w.in-Some.row w.deref.result.now c.args.rows.now.items c.args.rows.now.len c.pop-self-inside.result
           w.deref.ensures.value (omega (arith, w.deref.ensures.len)) some (c.pop-self-inside.ensures.value w.in-Some.row some)
           w.in_ok-put_lines-in-Some.ensures.held)
-    | in-None+in_ok-put_lines-in-None w ↦
+      | in-None+in_ok-put_lines-in-None w ↦
           subst (λ s. AreOfLast (option_map model_row c.pop-self-inside.result) s.pieces) (sym w.self-inside-is)
           (last_taken w.put_lines-in-None.new.pieces w.row_at.result.now w.deref-in-None-2.result.now c.args.rows.now.items c.args.rows.now.len
           c.pop-self-inside.result w.deref-in-None-2.ensures.value (omega (arith, w.deref-in-None-2.ensures.len)) some
