@@ -224,16 +224,20 @@ module _ (k : ProcessKind) {first : ℕ} {text after : List ℕ} {r s : ℕ} {l 
     are_two : two_lines.lines ≡ (is_one it).0 ∷ (is_one next).0 ∷ []
     are_two = ap (λ ls. ls ++ next.lines) (is_one it).1 ∙ ap (λ ls. (is_one it).0 ∷ ls) (is_one next).1
 
-    -- it heads no log of such a process
-    pub other_second : {left : Option (List ℕ)} → heads_log k (take (both - 1 - first) (drop first after)) ≡ false → IsNoPreamble k both after left
-    other_second other = record {
+    -- the first is the kind's
+    right_first : is_same (take (first - 1) text) (kind_word k) ≡ true → is_same (is_one it).0 (kind_word k) ≡ true
+    right_first is_first = ap (λ l. is_same l (kind_word k)) (sym (is_front it)) ∙ is_first
+
+    -- the second heads no log of such a process
+    pub other_second : {left : Option (List ℕ)} → is_same (take (first - 1) text) (kind_word k) ≡ true → heads_log k (take (both - 1 - first) (drop first after)) ≡ false → IsNoPreamble k both after left
+    other_second is_first other = record {
       none =
           ap (λ t. preamble_lines (lines_in t).lines) two_lines.are_lines ∙ ap (λ (x : Lines). preamble_lines x.lines) (lines_of_text two_lines.lines two_lines.whole) ∙ ap preamble_lines are_two;
       judged = inr (record {
         lines = two_lines.lines;
         whole = two_lines.whole;
         are_lines = two_lines.are_lines;
-        wrong = subst (EndWrong k) (sym are_two) (AtSecond (is_one it).0 (is_one next).0 (ap (heads_log k) (sym (is_part next)) ∙ other));
+        wrong = subst (EndWrong k) (sym are_two) (AtSecond (is_one it).0 (is_one next).0 (right_first is_first) (ap (heads_log k) (sym (is_part next)) ∙ other));
       });
     }
 
@@ -244,8 +248,7 @@ module _ (k : ProcessKind) {first : ℕ} {text after : List ℕ} {r s : ℕ} {l 
       one = (is_one it).0;
       own = (is_one next).0;
       are_these = are_two;
-      is_first = ap (λ l. is_same l (kind_word k)) (sym (is_front it)) ∙ is_first;
-      is_head = ap (heads_log k) (sym (is_part next)) ∙ is_head;
+      right = (right_first is_first, ap (heads_log k) (sym (is_part next)) ∙ is_head);
     }
 
 -- ---- a preamble
@@ -272,16 +275,23 @@ wrong_at k {from} {end} {count} {text} {one} front last is wrong =
       wrong = subst (λ ls. EndWrong k (front.lines ++ ls)) (sym is) wrong;
     }
 
-module _ (k : ProcessKind) {head : ℕ} {text after : List ℕ} {r s : ℕ} {l m : Option (List ℕ)} (it : AreBetween 0 head text 2) (more : Takes text after r s l m []) where
+module _ (k : ProcessKind) {head : ℕ} {text after : List ℕ} {r s : ℕ} {l m : Option (List ℕ)} (heads : AreHeads k head text) (more : Takes text after r s l m []) where
+  abbrev it : AreBetween 0 head text 2
+  it = heads.between
+
   abbrev on : AreBetween 0 head after 2
   on = between_more it more
+
+  -- the line behind them opens no sheet
+  sheet_wrong : (one : List ℕ) → number_behind (codes "sheet ") 200_000 one ≡ None → EndWrong k (it.lines ++ one ∷ [])
+  sheet_wrong one none = subst (λ ls. EndWrong k (ls ++ one ∷ [])) (sym heads.are_these) (AtSheet heads.one heads.own one heads.right none)
 
   pub no_sheet : (end : ℕ) → end ≤ length after → IsNoSection (codes "sheet ") 200_000 head end after m → IsNoPreamble k end after m
   no_sheet end within none = record {
     none = no_sheet_lines (between_up_to end none.ordered within on) none.none;
     judged = elim none.judged [
       | inl last ↦ inl last
-      | inr other ↦ inr (wrong_at k on other.between other.is_one (AtSheet it.lines other.one it.counted other.said))
+      | inr other ↦ inr (wrong_at k on other.between other.is_one (sheet_wrong other.one other.said))
     ];
   }
 
@@ -311,8 +321,12 @@ module _ (k : ProcessKind) {head : ℕ} {text after : List ℕ} {r s : ℕ} {l m
         ap (with_issuer (front_lines ++ rest)) (of_sheet rest)
         ∙ ap (λ x. option_map (λ k. 2 + first.count + k) (section_lines (codes "issuer ") 100 x)) (behind_two front_lines rest (2 + first.count) front_size)
 
-    sheet_alone : section_lines (codes "sheet ") 200_000 (drop 2 front_lines) ≡ Some first.count
-    sheet_alone = ap (λ ls. section_lines (codes "sheet ") 200_000 (drop 2 ls)) (sym (append-nil front_lines)) ∙ of_sheet []
+    -- the line behind them opens no issuer
+    issuer_wrong : (one : List ℕ) → number_behind (codes "issuer ") 100 one ≡ None → EndWrong k (front_lines ++ one ∷ [])
+    issuer_wrong one none =
+        let sheet_lines = first.between.lines in
+        subst (λ ls. EndWrong k ((ls ++ sheet_lines) ++ one ∷ [])) (sym heads.are_these)
+        (AtIssuer heads.one heads.own sheet_lines one heads.right (first.said ∙ ap Some (sym first.between.counted)) none)
 
     pub preamble_found : (judged : Judged) → end_of judged ≤ length last → IsSectionTo (codes "issuer ") 100 sheet last n judged → IsPreambleTo k last n judged
     preamble_found (Whole end) within next = record {
@@ -326,7 +340,7 @@ module _ (k : ProcessKind) {head : ℕ} {text after : List ℕ} {r s : ℕ} {l m
           ∙ by_issuer (lines_in (drop sheet (take end last))).lines ∙ ap (option_map (λ k. 2 + first.count + k)) none.none;
       judged = elim none.judged [
         | inl end ↦ inl end
-        | inr other ↦ inr (wrong_at k (two_between last_head last_sheet) other.between other.is_one (AtIssuer front_lines first.count other.one sheet_alone front_size other.said))
+        | inr other ↦ inr (wrong_at k (two_between last_head last_sheet) other.between other.is_one (issuer_wrong other.one other.said))
       ];
     }
 

@@ -40,15 +40,21 @@ with_issuer ls (Some n) = option_map (λ m. 2 + n + m) (section_lines (codes "is
 abbrev pub preamble_lines : TextLines → Option ℕ
 preamble_lines ls = with_issuer ls (section_lines (codes "sheet ") most_sheet_lines (drop 2 ls))
 
--- The last of these lines is another than has to stand there: the first of all, the second, which heads no log of such a
--- process, or one that opens the sheet or the issuer.
+-- two lines are what has to stand first: the kind's, and one that heads a log of such a process
+abbrev pub HeadsAreRight : ProcessKind → (one own : List ℕ) → Type 0
+HeadsAreRight k one own = (is_same one (kind_word k) ≡ true) × (heads_log k own ≡ true)
+
+-- The last of these lines is another than has to stand there, and the first that is: the first of all; the second, behind the
+-- kind's, which heads no log of such a process; the third, behind two right ones, which opens no sheet; or the one behind
+-- these and a sheet's lines, whatever they say, just so many as the one that opens it tells, which opens no issuer.
 pub data EndWrong (k : ProcessKind) : TextLines → Type 0 where
   AtFirst : (l : List ℕ) → is_same l (kind_word k) ≡ false → EndWrong k (l ∷ [])
-  AtSecond : (one l : List ℕ) → heads_log k l ≡ false → EndWrong k (one ∷ l ∷ [])
-  AtSheet : (ls : TextLines) (l : List ℕ) → length ls ≡ 2
-      → number_behind (codes "sheet ") most_sheet_lines l ≡ None → EndWrong k (ls ++ l ∷ [])
-  AtIssuer : (ls : TextLines) (n : ℕ) (l : List ℕ) → section_lines (codes "sheet ") most_sheet_lines (drop 2 ls) ≡ Some n
-      → length ls ≡ 2 + n → number_behind (codes "issuer ") most_issuer_lines l ≡ None → EndWrong k (ls ++ l ∷ [])
+  AtSecond : (one l : List ℕ) → is_same one (kind_word k) ≡ true → heads_log k l ≡ false → EndWrong k (one ∷ l ∷ [])
+  AtSheet : (one own l : List ℕ) → HeadsAreRight k one own
+      → number_behind (codes "sheet ") most_sheet_lines l ≡ None → EndWrong k (one ∷ own ∷ l ∷ [])
+  AtIssuer : (one own : List ℕ) (sheet : TextLines) (l : List ℕ) → HeadsAreRight k one own
+      → section_lines (codes "sheet ") most_sheet_lines sheet ≡ Some (length sheet)
+      → number_behind (codes "issuer ") most_issuer_lines l ≡ None → EndWrong k (one ∷ own ∷ sheet ++ l ∷ [])
 
 -- The front is all that there is, and no preamble; or none has ended in it, and it has more bytes than one may have, whatever
 -- follows; or it is whole lines, a preamble and nothing else, or up to the first that is another.

@@ -3,7 +3,7 @@ use Rattle.std.specs.Prelude.{◌≡◌, ℕ, ◌<◌, ◌≤◌, true, List, []
 use Rattle.std.specs.List.{list_all}
 use Rattle.std.specs.Io.KnownBytes.{IsAtEnd}
 use Rattle.metering_model.specs.Batch.{lacks}
-use Rattle.metering_model.specs.BatchReading.{is_same, lines_in}
+use Rattle.metering_model.specs.BatchReading.{lines_in}
 use Rattle.metering_model.specs.Limits.{most_input_bytes}
 use Rattle.metering_model.specs.Schedule.{TextLines, lines_text}
 use Rattle.input_sections.specs.Sections.{number_behind}
@@ -11,8 +11,7 @@ use Rattle.line_source.specs.Lines.{AreBetween}
 use Rattle.process_player.specs.declared.heads.ProcessKind.{ProcessKind}
 use Rattle.process_player.specs.declared.preambles.Judged.{Judged}
 use Rattle.process_player.specs.declared.preambles.Judged.TheVariants.{Whole, Part}
-use Rattle.process_player.specs.Starts.{heads_log, kind_word}
-use Rattle.process_player.specs.Refusals.{EndWrong, preamble_lines, section_lines}
+use Rattle.process_player.specs.Refusals.{EndWrong, HeadsAreRight, preamble_lines, section_lines}
 
 abbrev pub end_of : Judged → ℕ
 end_of (Whole end) = end
@@ -53,7 +52,7 @@ abbrev pub IsSectionTo : (word : List ℕ) (most from : ℕ) (text : List ℕ) (
 IsSectionTo word most from text left (Whole end) = IsSection word most from end text
 IsSectionTo word most from text left (Part end) = IsNoSection word most from end text left
 
--- whole lines stand up to there, of which the last is wrong
+-- whole lines stand up to there, of which the last is the first that is wrong
 pub record IsWrongAt (k : ProcessKind) (end : ℕ) (text : List ℕ) : Type 0 where
   pub lines : TextLines
   pub whole : list_all (lacks 10) lines ≡ true
@@ -77,8 +76,7 @@ pub record AreHeads (k : ProcessKind) (end : ℕ) (text : List ℕ) : Type 0 whe
   pub one : List ℕ
   pub own : List ℕ
   pub are_these : between.lines ≡ one ∷ own ∷ []
-  pub is_first : is_same one (kind_word k) ≡ true
-  pub is_head : heads_log k own ≡ true
+  pub right : HeadsAreRight k one own
 
 abbrev pub AreHeadsTo : ProcessKind → (text : List ℕ) (left : Option (List ℕ)) → Judged → Type 0
 AreHeadsTo k text left (Whole end) = AreHeads k end text

@@ -52,17 +52,17 @@ said g c =
     let both = c.in-Lines-2.both in
     ap (λ t. heads_log c.args.kind (take (both - 1 - from) (drop from t))) (sym c.ahead-3.ensures) ∙ sym c.in-Ok.ensures
 
-pub returns-then-not-is_head-clause-found : goal.returns-then-not-is_head-clause-found
-returns-then-not-is_head-clause-found g c =
-    let at = goal.at.returns-then-not-is_head-clause-found g c in
-    other_second c.args.kind (first g at.In-Lines) c.in_ok-both.ensures.takes (second g at.In-Lines-2) (said g at.In-Ok ∙ c.if-not-is_head.true)
-
 -- the first is the kind's
 is_kinds : (g : given.Over) (c : In-Ok g) → is_same (take (c.in-Lines.first - 1) c.lines_end_within.new.unread.bytes) (kind_word c.args.kind) ≡ true
 is_kinds g c =
     let end = c.in-Lines.first in
     ap (λ t. is_same (take (end - 1) t) (kind_word c.args.kind)) (sym c.ahead-2.ensures) ∙ ap (is_same (take (end - 1) c.ahead-2.result.now)) (sym c.first_word.ensures)
     ∙ sym c.is_same.ensures ∙ c.if-not-is_same.false
+
+pub returns-then-not-is_head-clause-found : goal.returns-then-not-is_head-clause-found
+returns-then-not-is_head-clause-found g c =
+    let at = goal.at.returns-then-not-is_head-clause-found g c in
+    other_second c.args.kind (first g at.In-Lines) c.in_ok-both.ensures.takes (second g at.In-Lines-2) (is_kinds g at.In-Ok) (said g at.In-Ok ∙ c.if-not-is_head.true)
 
 pub returns-clause-found : goal.returns-clause-found
 returns-clause-found g c =

@@ -1,5 +1,4 @@
 -- The two lines, the sheet and the issuer stand one behind the other.
-use Rattle.line_source.specs.Lines.{AreBetween}
 use Rattle.line_source.specs.Reading.{ReadsUpTo}
 use Rattle.line_source.proofs.Taking.{reads_on, up_to_on}
 use Rattle.process_player.specs.Inner.Fronts.{AreHeads}
@@ -11,15 +10,12 @@ use Rattle.process_player.proofs.preambles.preamble_end.Goals as goal
 heads_there : (g : given.Over) (c : In-Whole g) → AreHeads c.args.kind c.in-Whole.head c.heads_end.new.unread.bytes
 heads_there g c = rw c.in-Whole.is at c.in_ok-head.ensures.found
 
-head_there : (g : given.Over) (c : In-Whole g) → AreBetween 0 c.in-Whole.head c.heads_end.new.unread.bytes 2
-head_there g c = (heads_there g c).between
-
 pub returns-in-Part-2-clause-takes : goal.returns-in-Part-2-clause-takes
 returns-in-Part-2-clause-takes g c = reads_on c.in_ok-head.ensures.takes c.in_ok-sheet.ensures.takes
 
 pub returns-in-Part-2-clause-found : goal.returns-in-Part-2-clause-found
 returns-in-Part-2-clause-found g c =
-    no_sheet c.args.kind (head_there g (goal.at.returns-in-Part-2-clause-found g c).In-Whole) c.in_ok-sheet.ensures.takes c.in-Part-2.end
+    no_sheet c.args.kind (heads_there g (goal.at.returns-in-Part-2-clause-found g c).In-Whole) c.in_ok-sheet.ensures.takes c.in-Part-2.end
     (rw c.in-Part-2.is at c.in_ok-sheet.ensures.within) (rw c.in-Part-2.is at c.in_ok-sheet.ensures.found)
 
 pub returns-in_err-judged-clause-takes : goal.returns-in_err-judged-clause-takes
@@ -30,7 +26,7 @@ returns-clause-takes g c = reads_on (reads_on c.in_ok-head.ensures.takes c.in_ok
 
 pub returns-clause-found : goal.returns-clause-found
 returns-clause-found g c =
-    preamble_found c.args.kind (head_there g (goal.at.returns-clause-found g c).In-Whole) c.in_ok-sheet.ensures.takes (rw c.in-Whole-2.is at c.in_ok-sheet.ensures.found) c.section_end-2.ensures.takes
+    preamble_found c.args.kind (heads_there g (goal.at.returns-clause-found g c).In-Whole) c.in_ok-sheet.ensures.takes (rw c.in-Whole-2.is at c.in_ok-sheet.ensures.found) c.section_end-2.ensures.takes
     c.in_ok-judged.judged c.in_ok-judged.ensures.within c.in_ok-judged.ensures.found
 
 pub returns-in-Part-2-clause-block : goal.returns-in-Part-2-clause-block
