@@ -44,12 +44,13 @@ preamble_lines ls = with_issuer ls (section_lines (codes "sheet ") most_sheet_li
 abbrev pub HeadsAreRight : ProcessKind → (one own : List ℕ) → Type 0
 HeadsAreRight k one own = (is_same one (kind_word k) ≡ true) × (heads_log k own ≡ true)
 
--- The last of these lines is another than has to stand there, and the first that is: the first of all; the second, behind the
--- kind's, which heads no log of such a process; the third, behind two right ones, which opens no sheet; or the one behind
--- these and a sheet's lines, whatever they say, just so many as the one that opens it tells, which opens no issuer.
+-- The last of these lines is the first that is another than has to stand there: the first of all, which is not the kind's; the
+-- second, behind the kind's, which heads no log of such a process; the third, behind two right ones, which opens no sheet; or
+-- one behind two right ones and a sheet section, which opens no issuer. What the lines within that section say counts not here.
 pub data EndWrong (k : ProcessKind) : TextLines → Type 0 where
   AtFirst : (l : List ℕ) → is_same l (kind_word k) ≡ false → EndWrong k (l ∷ [])
-  AtSecond : (one l : List ℕ) → is_same one (kind_word k) ≡ true → heads_log k l ≡ false → EndWrong k (one ∷ l ∷ [])
+  AtSecond : (one l : List ℕ) → is_same one (kind_word k) ≡ true
+      → heads_log k l ≡ false → EndWrong k (one ∷ l ∷ [])
   AtSheet : (one own l : List ℕ) → HeadsAreRight k one own
       → number_behind (codes "sheet ") most_sheet_lines l ≡ None → EndWrong k (one ∷ own ∷ l ∷ [])
   AtIssuer : (one own : List ℕ) (sheet : TextLines) (l : List ℕ) → HeadsAreRight k one own
