@@ -1,4 +1,3 @@
-pub mod AloneLaws
 pub mod Among
 mod KeptLemmas
 mod LastCut

@@ -1,8 +1,8 @@
 //! Between which cuts a node exports a period.
 
-ghost use Rattle.std.specs.Prelude.{◌≡◌, Ok, Err, IfOk, MatchResult};
+ghost use Rattle.std.specs.Prelude.{◌≡◌, Ok, Err, IfOk, MatchResult, None, Some, slice_get};
 ghost use Rattle.std.specs.Arc.{arc_value};
-ghost use Rattle.metering_model.specs.Step.{cut_before};
+ghost use Rattle.metering_model.specs.Step.{cut_before, first_missing};
 ghost use Rattle.group_node.specs.Alone.{cut_to_export};
 
 use crate::nodes::Node;
@@ -15,9 +15,12 @@ impl Node {
     /// The cut that the node has learned for a period, up to which it has each batch. A period that it has not learned is
     /// refused, or else the first batch that is absent.
     pub fn cut_to_export(&self, period: u16) -> Result<(Period, &Arc<Cut>), Refusal>
-        ensures { MatchResult result (λ found. (found.0 ≡ period)
+        ensures found { MatchResult result (λ found. (found.0 ≡ period)
             × (cut_to_export period self.now ≡ Ok (arc_value found.1.now)))
             (λ refusal. cut_to_export period self.now ≡ Err refusal) }
+        ensures whole { IfOk result (λ found.
+            (slice_get self.now.node.kept.learned period ≡ Some (arc_value found.1.now))
+            × (first_missing self.now.node.kept.holding (arc_value found.1.now) ≡ None)) }
     {
         // For the proof alone: its clause says that each learned cut has an entry for each agent.
         let _voters = self.voters();
