@@ -29,7 +29,7 @@ const MOST_PARTS: usize = 32;
 const LEAST_PARTS: usize = 3;
 
 /// For each row so many bytes are asked for at once, so that the lines of a part seldom outgrow their room.
-const LINE_ROOM: usize = 400;
+const ROW_BYTES: usize = 400;
 
 /// Room for the lines of one part of the batches.
 #[derive(Drop)]
@@ -53,7 +53,7 @@ fn part_start(all: usize, size: usize, k: usize) -> usize
 fn text_for(alloc: Global, rows: usize) -> Vec<u8>
     ensures { result.items ≡ [] }
 {
-    match Vec::with_capacity(alloc, rows.saturating_mul(LINE_ROOM)) {
+    match Vec::with_capacity(alloc, rows.saturating_mul(ROW_BYTES)) {
         Ok(text) => text,
         Err(_) => Vec::new(alloc),
     }

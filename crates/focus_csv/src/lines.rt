@@ -93,9 +93,12 @@ pub(crate) fn put_lines(
 impl<'a> HeldLine<'a> {
     /// Before the first line: whatever the pieces were, they are made anew.
     pub(crate) fn of(pieces: LinePieces) -> HeldLine<'a> {
-        let mut pieces = pieces;
-        pieces.forget();
-        HeldLine { pieces, row: None }
+        let mut unheld = pieces;
+        unheld.forget();
+        HeldLine {
+            pieces: unheld,
+            row: None,
+        }
     }
 
     /// The pieces, whose memory may be used again.

@@ -46,7 +46,7 @@ HeadsAreRight k one own = (is_same one (kind_word k) ≡ true) × (heads_log k o
 
 -- The last of these lines is the first that is another than has to stand there: the first of all, which is not the kind's; the
 -- second, behind the kind's, which heads no log of such a process; the third, behind two right ones, which opens no sheet; or
--- one behind two right ones and a sheet section, which opens no issuer. What the lines within that section say counts not here.
+-- one behind two right ones and a sheet section, which opens no issuer. What the lines within that section say does not count here.
 pub data EndWrong (k : ProcessKind) : TextLines → Type 0 where
   AtFirst : (l : List ℕ) → is_same l (kind_word k) ≡ false → EndWrong k (l ∷ [])
   AtSecond : (one l : List ℕ) → is_same one (kind_word k) ≡ true
