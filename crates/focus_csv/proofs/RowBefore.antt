@@ -1,6 +1,5 @@
 -- The row before one of some rows, which for the first of them is another one.
 use Rattle.std.proofs.Common.{◌≡◌, ℕ, zero, suc, ◌+◌, ◌-◌, ◌<◌, List, ◌∷◌, length, get_or, sym, ap, subst, ◌∙◌, arith}
-use Rattle.std.proofs.lemmas.List.{get_or_default}
 use Rattle.std.specs.Option.{option_map}
 use Rattle.std.specs.Prelude.{IsTrue, Option, Some}
 use Rattle.focus_row.specs.Rows.{FocusRow, model_row}
@@ -11,12 +10,6 @@ use Rattle.focus_csv.specs.declared.pieces.LinePieces.{LinePieces}
 pub itself_is : {X : Type 0} (first : X) (rows : List X) (i next : ℕ) → next ≡ i + 1 → get_or (first ∷ rows) next first ≡ get_or rows i first
 itself_is first rows i zero e = absurd (omega (arith, e))
 itself_is first rows i (suc k) e = ap (λ n. get_or rows n first) (omega (arith, e))
-
--- for each but the first it is the row at the place below
-pub below_is : {X : Type 0} (first : X) (rows : List X) (i : ℕ) (row : X) → (i ≡ 0 → ⊥) → i < length rows → row ≡ get_or rows (i - 1) row
-    → get_or (first ∷ rows) i first ≡ row
-below_is first rows i row some lt is =
-    itself_is first rows (i - 1) i (omega (arith, some)) ∙ get_or_default rows (i - 1) first row (omega (arith, some, lt)) ∙ sym is
 
 -- The pieces of the last of some rows are those of the row that is taken out of them.
 pub last_taken : (pieces : LinePieces) (first : FocusRow) (lent rows : List FocusRow) (n : ℕ) (taken : Option FocusRow) → lent ≡ rows

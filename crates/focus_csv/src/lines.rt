@@ -42,34 +42,12 @@ fn row_at<'a, 'b>(rows: &'a [FocusRow<'b>], i: usize) -> &'a FocusRow<'b>
     &rows[i]
 }
 
-/// Makes the pieces those of the row at a place, from those of the row before it, which for the first is another one.
-fn set_at(
-    pieces: &mut LinePieces,
-    last: &FocusRow<'_>,
-    rows: &[FocusRow<'_>],
-    i: usize,
-) -> Result<(), AllocError>
-    requires within { i < length rows.now }
-    requires held { IsTrue pieces.old.are_held
-        → AreOf pieces.old (model_row (slice_index_or (last.now ∷ rows.now) i last.now)) }
-    ensures of { OnOk result
-        (AreOf pieces.new (model_row (slice_index_or rows.now i last.now))) }
-    ensures forgotten { OnErr result (pieces.new.are_held ≡ false) }
-{
-    let row = row_at(rows, i);
-    if i == 0 {
-        pieces.set(last, row)
-    } else {
-        pieces.set(row_at(rows, i - 1), row)
-    }
-}
-
 /// Appends the lines of rows that follow another one, whose pieces may be held; then those of the last are. At an
 /// allocation failure the text is as before, or has some of the lines after it, and none are held.
-pub(crate) fn put_lines(
+pub(crate) fn put_lines<'x, 'a>(
     pieces: &mut LinePieces,
-    last: &FocusRow<'_>,
-    rows: &[FocusRow<'_>],
+    last: &'x FocusRow<'a>,
+    rows: &'x [FocusRow<'a>],
     text: &mut Vec<u8>,
 ) -> Result<(), AllocError>
     requires { IsTrue pieces.old.are_held → AreOf pieces.old (model_row last.now) }
@@ -80,12 +58,15 @@ pub(crate) fn put_lines(
     ensures begins { OnErr result (BeginsWith text.new.items text.old.items) }
     ensures forgotten { OnErr result (pieces.new.are_held ≡ false) }
 {
+    let mut before = last;
     for i in 0..rows.len() {
-        set_at(pieces, last, rows, i)?;
+        let row = row_at(rows, i);
+        pieces.set(before, row)?;
         let Ok(()) = pieces.put(text) else {
             pieces.forget();
             return Err(AllocError);
         };
+        before = row;
     }
     Ok(())
 }

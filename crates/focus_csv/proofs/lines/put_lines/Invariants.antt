@@ -10,5 +10,6 @@ use Rattle.focus_csv.proofs.lines.put_lines.Given as goal
 abbrev pub invariant-loop-i : goal.invariant-loop-i
 invariant-loop-i l = record {
   text : l.text.items ≡ l.initial.text.items ++ flat_map row_text (map model_row (take l.i l.rows));
-  held : IsTrue l.pieces.are_held → AreOf l.pieces (model_row (slice_index_or (l.last ∷ l.rows) l.i l.last));
+  before : l.before ≡ slice_index_or (l.last ∷ l.rows) l.i l.last;
+  held : IsTrue l.pieces.are_held → AreOf l.pieces (model_row l.before);
 }
