@@ -1,7 +1,8 @@
 -- The row before one of some rows, which for the first of them is another one.
 use Rattle.std.proofs.Common.{◌≡◌, ℕ, zero, suc, ◌+◌, ◌-◌, ◌<◌, List, ◌∷◌, length, get_or, sym, ap, subst, ◌∙◌, arith}
+use Rattle.std.proofs.lemmas.Bool.{false≢true}
 use Rattle.std.specs.Option.{option_map}
-use Rattle.std.specs.Prelude.{IsTrue, Option, Some}
+use Rattle.std.specs.Prelude.{IfSome, IsTrue, Option, None, Some}
 use Rattle.focus_row.specs.Rows.{FocusRow, model_row}
 use Rattle.focus_csv.specs.Inner.Pieces.{AreOf, AreOfLast}
 use Rattle.focus_csv.specs.declared.pieces.LinePieces.{LinePieces}
@@ -10,6 +11,12 @@ use Rattle.focus_csv.specs.declared.pieces.LinePieces.{LinePieces}
 pub itself_is : {X : Type 0} (first : X) (rows : List X) (i next : ℕ) → next ≡ i + 1 → get_or (first ∷ rows) next first ≡ get_or rows i first
 itself_is first rows i zero e = absurd (omega (arith, e))
 itself_is first rows i (suc k) e = ap (λ n. get_or rows n first) (omega (arith, e))
+
+-- Where the pieces are held, they are of the row that is held, and so of the row before.
+pub held_of_last : (row : Option FocusRow) (pieces : LinePieces) (before : FocusRow) → AreOfLast (option_map model_row row) pieces
+    → IfSome row (λ r. before ≡ r) → IsTrue pieces.are_held → AreOf pieces (model_row before)
+held_of_last None pieces before none same held = absurd (false≢true (sym none ∙ held))
+held_of_last (Some r) pieces before of same held = subst (λ b. AreOf pieces (model_row b)) (sym same) (of held)
 
 -- The pieces of the last of some rows are those of the row that is taken out of them.
 pub last_taken : (pieces : LinePieces) (first : FocusRow) (lent rows : List FocusRow) (n : ℕ) (taken : Option FocusRow) → lent ≡ rows

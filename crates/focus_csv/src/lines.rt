@@ -1,6 +1,6 @@
 //! The lines of the file.
 
-ghost use Rattle.std.specs.Prelude.{◌≡◌, ◌<◌, ◌++◌, ◌∷◌, [], false, length, map, slice_index_or, IsTrue, OnErr, OnOk};
+ghost use Rattle.std.specs.Prelude.{◌≡◌, ◌<◌, ◌++◌, ◌∷◌, [], false, length, map, slice_index_or, IfSome, IsTrue, OnErr, OnOk};
 ghost use Rattle.std.specs.List.{flat_map};
 ghost use Rattle.metering_model.specs.File.{header_line, row_text};
 ghost use Rattle.focus_row.specs.Rows.{model_row};
@@ -40,6 +40,17 @@ fn row_at<'a, 'b>(rows: &'a [FocusRow<'b>], i: usize) -> &'a FocusRow<'b>
     ensures { result.now ≡ slice_index_or rows.now i result.now }
 {
     &rows[i]
+}
+
+/// The row that is held, or else the first of the next ones, of which there are some.
+fn row_before<'x, 'a>(held: &'x Option<FocusRow<'a>>, rows: &'x [FocusRow<'a>]) -> &'x FocusRow<'a>
+    requires { 0 < length rows.now }
+    ensures { IfSome held.now (λ row. result.now ≡ row) }
+{
+    match held {
+        Some(row) => row,
+        None => row_at(rows, 0),
+    }
 }
 
 /// Appends the lines of rows that follow another one, whose pieces may be held; then those of the last are. At an
@@ -101,10 +112,7 @@ impl<'a> HeldLine<'a> {
         if rows.is_empty() {
             return Ok(());
         }
-        match &self.row {
-            Some(row) => put_lines(&mut self.pieces, row, rows, text)?,
-            None => put_lines(&mut self.pieces, row_at(rows, 0), rows, text)?,
-        }
+        put_lines(&mut self.pieces, row_before(&self.row, rows), rows, text)?;
         self.row = rows.pop();
         Ok(())
     }

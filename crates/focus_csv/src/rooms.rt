@@ -4,7 +4,8 @@ use crate::pieces::LinePieces;
 use std::alloc::Global;
 
 /// Memory in which the lines of a file are made: that of their pieces, and of the writer for odd texts. It is taken from
-/// one file to the next, so that only the first asks for it. What was made in it is never used again.
+/// one file to the next, which asks for more only where a text of it is longer than those before, or is the first odd
+/// one, and for all of it where the file before could not be made. What was made in it is never used again.
 #[derive(Drop)]
 pub struct LineRoom {
     /// There are none before the first file, nor after one that could not be made.
