@@ -9,6 +9,7 @@ mod PlainTags
 mod ReadBack
 mod RowBefore
 mod RowTexts
+mod SameTexts
 mod Sinks
 mod TagJson
 mod TagTexts

@@ -1,6 +1,6 @@
 //! Fields of a line, as a reader of CSV takes them back.
 
-ghost use Rattle.std.specs.Prelude.{◌≡◌, ◌∷◌, ◌++◌, map, OnOk, OnErr};
+ghost use Rattle.std.specs.Prelude.{◌≡◌, ◌≤◌, ◌∷◌, ◌++◌, length, map, take, IfSome, OnOk, OnErr};
 ghost use Rattle.std.specs.List.{flat_map};
 ghost use Rattle.metering_model.specs.File.{quoted};
 ghost use Rattle.focus_csv.specs.Inner.Beginnings.{BeginsWith};
@@ -40,8 +40,31 @@ pub(crate) fn make_piece(
     Ok(())
 }
 
-/// Appends pieces, one after the other. At an allocation failure the text is as before, or has some of them after it.
-pub(crate) fn put_pieces(text: &mut Vec<u8>, pieces: &[&[u8]]) -> Result<(), AllocError>
+/// So many bytes most lines have at most.
+const LINE_ROOM: usize = 512;
+
+/// Copies pieces into a line, one after the other, and returns how many bytes they have; None where it has not so many.
+/// A line of known length is filled without a test of what memory there is for each of its pieces.
+fn fill(line: &mut [u8], pieces: &[&[u8]]) -> Option<usize>
+    ensures length { length line.new ≡ length line.old }
+    ensures filled { IfSome result (λ count. (count ≤ length line.new)
+        × (take count line.new ≡ flat_map (λ t. t) (map (λ p. p.now) pieces.now))) }
+{
+    let mut at = 0;
+    for piece in pieces {
+        if piece.len() > line.len() - at {
+            return None;
+        }
+        let to = at + piece.len();
+        line[at..to].copy_from_slice(*piece);
+        at = to;
+    }
+    Some(at)
+}
+
+/// Appends pieces of a long line, one after the other. At an allocation failure the text is as before, or has some of
+/// them after it.
+fn put_long(text: &mut Vec<u8>, pieces: &[&[u8]]) -> Result<(), AllocError>
     ensures put { OnOk result
         (text.new.items ≡ text.old.items ++ flat_map (λ t. t) (map (λ p. p.now) pieces.now)) }
     ensures begins { OnErr result (BeginsWith text.new.items text.old.items) }
@@ -50,4 +73,17 @@ pub(crate) fn put_pieces(text: &mut Vec<u8>, pieces: &[&[u8]]) -> Result<(), All
         text.extend_from_slice(*piece)?;
     }
     Ok(())
+}
+
+/// Appends pieces, one after the other. At an allocation failure the text is as before, or has some of them after it.
+pub(crate) fn put_pieces(text: &mut Vec<u8>, pieces: &[&[u8]]) -> Result<(), AllocError>
+    ensures put { OnOk result
+        (text.new.items ≡ text.old.items ++ flat_map (λ t. t) (map (λ p. p.now) pieces.now)) }
+    ensures begins { OnErr result (BeginsWith text.new.items text.old.items) }
+{
+    let mut line = [0; LINE_ROOM];
+    match fill(&mut line, pieces) {
+        Some(count) => text.extend_from_slice(&line[..count]),
+        None => put_long(text, pieces),
+    }
 }

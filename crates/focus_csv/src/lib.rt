@@ -8,6 +8,7 @@ pub use rooms::LineRoom;
 use thiserror::Error;
 pub use whole::{row_texts, write_file};
 
+mod alike;
 mod fields;
 mod files;
 pub mod laws;

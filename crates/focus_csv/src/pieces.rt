@@ -8,6 +8,7 @@ ghost use Rattle.focus_csv.specs.Inner.Beginnings.{BeginsWith};
 ghost use Rattle.focus_csv.specs.Inner.Pieces.{AreOf, line_bytes};
 ghost use Rattle.focus_csv.specs.Inner.Runs.{behind, line_runs};
 
+use crate::alike::are_alike;
 use crate::fields::put_pieces;
 use crate::numbers::NumberPieces;
 use crate::odd::OddFields;
@@ -69,7 +70,7 @@ impl LinePieces {
         ensures texts { self.new.texts ≡ self.old.texts }
         ensures held { self.new.are_held ≡ self.old.are_held }
     {
-        if is_held && before.tags.text() == row.tags.text() {
+        if is_held && are_alike(before.tags.text(), row.tags.text()) {
             return Ok(());
         }
         set_tags(&mut self.odd, &mut self.tags, row.tags)

@@ -7,6 +7,7 @@ ghost use Rattle.focus_row.specs.Rows.{model_row};
 ghost use Rattle.focus_csv.specs.Inner.Runs.{behind, billing_columns, charge_columns, moment_columns, unit_columns, issuer_columns, category_columns, pricing_columns, seller_columns, region_columns, resource_columns, service_columns, account_columns};
 ghost use Rattle.focus_csv.specs.Inner.Pieces.{AreTextsOf, text_bytes};
 
+use crate::alike::{are_alike, are_both_alike};
 use crate::fields::make_piece;
 use crate::odd::OddFields;
 use focus_row::FocusRow;
@@ -69,11 +70,11 @@ fn set_billing(
     ensures { OnOk result (piece.new.items ≡ behind (billing_columns (model_row row.now))) }
 {
     if are_held
-        && before.billing_account_id == row.billing_account_id
-        && before.billing_account_name == row.billing_account_name
-        && before.billing_currency == row.billing_currency
-        && before.billing_period_end == row.billing_period_end
-        && before.billing_period_start == row.billing_period_start
+        && are_alike(before.billing_account_id, row.billing_account_id)
+        && are_alike(before.billing_account_name, row.billing_account_name)
+        && are_alike(before.billing_currency, row.billing_currency)
+        && are_alike(&before.billing_period_end, &row.billing_period_end)
+        && are_alike(&before.billing_period_start, &row.billing_period_start)
     {
         return Ok(());
     }
@@ -92,10 +93,10 @@ fn set_charge(
     ensures { OnOk result (piece.new.items ≡ behind (charge_columns (model_row row.now))) }
 {
     if are_held
-        && before.charge_category == row.charge_category
-        && before.charge_class == row.charge_class
-        && before.charge_description == row.charge_description
-        && before.charge_frequency == row.charge_frequency
+        && are_alike(before.charge_category, row.charge_category)
+        && are_both_alike(before.charge_class, row.charge_class)
+        && are_alike(before.charge_description, row.charge_description)
+        && are_alike(before.charge_frequency, row.charge_frequency)
     {
         return Ok(());
     }
@@ -123,12 +124,21 @@ fn set_moment(
     ensures { OnOk result (piece.new.items ≡ behind (moment_columns (model_row row.now))) }
 {
     if are_held
-        && before.charge_period_end == row.charge_period_end
-        && before.charge_period_start == row.charge_period_start
-        && before.commitment_discount_category == row.commitment_discount_category
-        && before.commitment_discount_id == row.commitment_discount_id
-        && before.commitment_discount_status == row.commitment_discount_status
-        && before.commitment_discount_type == row.commitment_discount_type
+        && are_alike(before.charge_period_end, row.charge_period_end)
+        && are_alike(before.charge_period_start, row.charge_period_start)
+        && are_both_alike(
+            before.commitment_discount_category,
+            row.commitment_discount_category,
+        )
+        && are_both_alike(before.commitment_discount_id, row.commitment_discount_id)
+        && are_both_alike(
+            before.commitment_discount_status,
+            row.commitment_discount_status,
+        )
+        && are_both_alike(
+            before.commitment_discount_type,
+            row.commitment_discount_type,
+        )
     {
         return Ok(());
     }
@@ -157,7 +167,7 @@ fn set_unit(
     requires { IsTrue are_held → piece.old.items ≡ behind (unit_columns (model_row before.now)) }
     ensures { OnOk result (piece.new.items ≡ behind (unit_columns (model_row row.now))) }
 {
-    if are_held && before.consumed_unit == row.consumed_unit {
+    if are_held && are_both_alike(before.consumed_unit, row.consumed_unit) {
         return Ok(());
     }
     make_piece(odd, piece, &[text_or_null(row.consumed_unit)])
@@ -174,7 +184,7 @@ fn set_issuer(
     requires { IsTrue are_held → piece.old.items ≡ behind (issuer_columns (model_row before.now)) }
     ensures { OnOk result (piece.new.items ≡ behind (issuer_columns (model_row row.now))) }
 {
-    if are_held && before.invoice_issuer_name == row.invoice_issuer_name {
+    if are_held && are_alike(before.invoice_issuer_name, row.invoice_issuer_name) {
         return Ok(());
     }
     make_piece(odd, piece, &[row.invoice_issuer_name])
@@ -192,7 +202,7 @@ fn set_category(
         → piece.old.items ≡ behind (category_columns (model_row before.now)) }
     ensures { OnOk result (piece.new.items ≡ behind (category_columns (model_row row.now))) }
 {
-    if are_held && before.pricing_category == row.pricing_category {
+    if are_held && are_both_alike(before.pricing_category, row.pricing_category) {
         return Ok(());
     }
     make_piece(odd, piece, &[text_or_null(row.pricing_category)])
@@ -209,7 +219,7 @@ fn set_pricing(
     requires { IsTrue are_held → piece.old.items ≡ behind (pricing_columns (model_row before.now)) }
     ensures { OnOk result (piece.new.items ≡ behind (pricing_columns (model_row row.now))) }
 {
-    if are_held && before.pricing_unit == row.pricing_unit {
+    if are_held && are_both_alike(before.pricing_unit, row.pricing_unit) {
         return Ok(());
     }
     make_piece(odd, piece, &[text_or_null(row.pricing_unit)])
@@ -227,8 +237,8 @@ fn set_seller(
     ensures { OnOk result (piece.new.items ≡ behind (seller_columns (model_row row.now))) }
 {
     if are_held
-        && before.provider_name == row.provider_name
-        && before.publisher_name == row.publisher_name
+        && are_alike(before.provider_name, row.provider_name)
+        && are_alike(before.publisher_name, row.publisher_name)
     {
         return Ok(());
     }
@@ -246,7 +256,10 @@ fn set_region(
     requires { IsTrue are_held → piece.old.items ≡ behind (region_columns (model_row before.now)) }
     ensures { OnOk result (piece.new.items ≡ behind (region_columns (model_row row.now))) }
 {
-    if are_held && before.region_id == row.region_id && before.region_name == row.region_name {
+    if are_held
+        && are_both_alike(before.region_id, row.region_id)
+        && are_both_alike(before.region_name, row.region_name)
+    {
         return Ok(());
     }
     make_piece(
@@ -268,7 +281,7 @@ fn set_resource(
         → piece.old.items ≡ behind (resource_columns (model_row before.now)) }
     ensures { OnOk result (piece.new.items ≡ behind (resource_columns (model_row row.now))) }
 {
-    if are_held && before.resource_id == row.resource_id {
+    if are_held && are_both_alike(before.resource_id, row.resource_id) {
         return Ok(());
     }
     make_piece(odd, piece, &[text_or_null(row.resource_id)])
@@ -286,10 +299,10 @@ fn set_service(
     ensures { OnOk result (piece.new.items ≡ behind (service_columns (model_row row.now))) }
 {
     if are_held
-        && before.service_category == row.service_category
-        && before.service_name == row.service_name
-        && before.sku_id == row.sku_id
-        && before.sku_price_id == row.sku_price_id
+        && are_alike(before.service_category, row.service_category)
+        && are_alike(before.service_name, row.service_name)
+        && are_both_alike(before.sku_id, row.sku_id)
+        && are_both_alike(before.sku_price_id, row.sku_price_id)
     {
         return Ok(());
     }
@@ -316,7 +329,7 @@ fn set_account(
     requires { IsTrue are_held → piece.old.items ≡ behind (account_columns (model_row before.now)) }
     ensures { OnOk result (piece.new.items ≡ behind (account_columns (model_row row.now))) }
 {
-    if are_held && before.sub_account_id == row.sub_account_id {
+    if are_held && are_both_alike(before.sub_account_id, row.sub_account_id) {
         return Ok(());
     }
     make_piece(odd, piece, &[text_or_null(row.sub_account_id)])

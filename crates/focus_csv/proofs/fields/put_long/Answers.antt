@@ -2,7 +2,7 @@
 use Rattle.std.proofs.Common.{◌<◌, ◌∙◌, length, rules, arith}
 use Rattle.focus_csv.proofs.BeginningLaws.{on_err}
 use Rattle.focus_csv.proofs.OneMore.{put_more}
-use Rattle.focus_csv.proofs.fields.put_pieces.Goals as goal
+use Rattle.focus_csv.proofs.fields.put_long.Goals as goal
 
 pub loop-piece-preserved : goal.loop-piece-preserved
 loop-piece-preserved c =
