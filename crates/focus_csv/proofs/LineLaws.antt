@@ -1,5 +1,5 @@
 -- A line is its pieces, one behind the other.
-use Rattle.std.proofs.Common.{◌≡◌, ℕ, ◌<◌, ◌^◌, List, [], ◌∷◌, ◌++◌, map, ℤ, unsigned_abs, refl, sym, ap, ap₂, ◌∙◌, append_assoc}
+use Rattle.std.proofs.Common.{◌≡◌, ℕ, ◌<◌, ◌^◌, List, [], ◌∷◌, ◌++◌, map, ℤ, unsigned_abs, string_bytes, refl, sym, ap, ap₂, ◌∙◌, append_assoc}
 use Rattle.std.specs.List.{flat_map, join_with_byte}
 use Rattle.std.proofs.lemmas.List.{append-nil}
 use Rattle.std.proofs.lemmas.Grind.{flat_map-append}
@@ -7,6 +7,8 @@ use Rattle.metering_model.specs.NumberText.{spelling}
 use Rattle.metering_model.specs.Row.{Row}
 use Rattle.metering_model.specs.File.{quoted, row_text}
 use Rattle.metering_model.proofs.LineFeeds.{spelling_quoted}
+use Rattle.focus_csv.specs.declared.pieces.LinePieces.{LinePieces}
+use Rattle.focus_csv.specs.Inner.Pieces.{AreOf, piece_list}
 use Rattle.focus_csv.specs.Inner.Runs.{behind, line_runs}
 
 joined : (f : List ℕ) (fs : List (List ℕ)) → join_with_byte 44 (map quoted (f ∷ fs)) ≡ quoted f ++ behind fs
@@ -23,13 +25,26 @@ line_is r =
     ap (λ t. t ++ 10 ∷ [])
     (ap (λ t. quoted first ++ t) (runs_joined (line_runs r)) ∙ sym (joined first (flat_map (λ x. x) (line_runs r))))
 
--- a line that is put behind a text
-pub line_put : (text first : List ℕ) (pieces : List (List ℕ)) (r : Row) → first ≡ quoted (spelling 12 r.billed_cost) → pieces ≡ map behind (line_runs r)
-    → ((text ++ first) ++ flat_map (λ t. t) pieces) ++ 10 ∷ [] ≡ text ++ row_text r
-line_put text first pieces r is are =
-    ap (λ t. t ++ 10 ∷ []) (append_assoc text first (flat_map (λ t. t) pieces))
-    ∙ append_assoc text (first ++ flat_map (λ t. t) pieces) (10 ∷ [])
-    ∙ ap (λ t. text ++ t) (ap₂ (λ f ps. (f ++ flat_map (λ t. t) ps) ++ 10 ∷ []) is are ∙ line_is r)
+-- the line of the pieces of a row
+pub line_of_all : (p : LinePieces) (r : Row) → AreOf p r → flat_map (λ x. x) (piece_list p) ≡ row_text r
+line_of_all p r are =
+    let n = are.numbers in
+    let t = are.texts in
+    let rest : List (List ℕ) =
+    p.texts.billing.items ∷ p.texts.charge.items ∷ p.texts.moment.items ∷ string_bytes p.numbers.consumed_quantity ∷ p.texts.unit.items
+    ∷ string_bytes p.numbers.contracted_cost ∷ string_bytes p.numbers.contracted_unit_price ∷ string_bytes p.numbers.effective_cost ∷ p.texts.issuer.items
+    ∷ string_bytes p.numbers.list_cost ∷ string_bytes p.numbers.list_unit_price ∷ p.texts.category.items ∷ string_bytes p.numbers.pricing_quantity
+    ∷ p.texts.pricing.items ∷ p.texts.seller.items ∷ p.texts.region.items ∷ p.texts.resource.items ∷ p.texts.service.items ∷ p.texts.account.items ∷ p.tags.items
+    ∷ [] in
+    let first = string_bytes p.numbers.billed_cost in
+    let is : rest ≡ map behind (line_runs r) =
+    λ i. t.billing i ∷ t.charge i ∷ t.moment i ∷ n.consumed_quantity i ∷ t.unit i ∷ n.contracted_cost i ∷ n.contracted_unit_price i ∷ n.effective_cost i ∷ t.issuer i
+    ∷ n.list_cost i ∷ n.list_unit_price i ∷ t.category i ∷ n.pricing_quantity i ∷ t.pricing i ∷ t.seller i ∷ t.region i ∷ t.resource i ∷ t.service i ∷ t.account i
+    ∷ are.tags i ∷ [] in
+    ap (λ l. first ++ l) (flat_map-append (λ x. x) rest ((10 ∷ []) ∷ []))
+    ∙ sym (append_assoc first (flat_map (λ x. x) rest) (10 ∷ []))
+    ∙ ap₂ (λ f ps. (f ++ flat_map (λ x. x) ps) ++ 10 ∷ []) n.billed_cost is
+    ∙ line_is r
 
 -- ---- numbers
 

@@ -41,7 +41,7 @@ pub(crate) fn make_piece(
 }
 
 /// So many bytes most lines have at most.
-const LINE_ROOM: usize = 512;
+pub(crate) const LINE_ROOM: usize = 512;
 
 /// Copies pieces into a line, one after the other, and returns how many bytes they have; None where it has not so many.
 /// A line of known length is filled without a test of what memory there is for each of its pieces.
@@ -75,14 +75,18 @@ fn put_long(text: &mut Vec<u8>, pieces: &[&[u8]]) -> Result<(), AllocError>
     Ok(())
 }
 
-/// Appends pieces, one after the other. At an allocation failure the text is as before, or has some of them after it.
-pub(crate) fn put_pieces(text: &mut Vec<u8>, pieces: &[&[u8]]) -> Result<(), AllocError>
+/// Appends pieces, one after the other, which are put together in room for a line. At an allocation failure the text is as
+/// before, or has some of them after it.
+pub(crate) fn put_pieces(
+    line: &mut [u8],
+    text: &mut Vec<u8>,
+    pieces: &[&[u8]],
+) -> Result<(), AllocError>
     ensures put { OnOk result
         (text.new.items ≡ text.old.items ++ flat_map (λ t. t) (map (λ p. p.now) pieces.now)) }
     ensures begins { OnErr result (BeginsWith text.new.items text.old.items) }
 {
-    let mut line = [0; LINE_ROOM];
-    match fill(&mut line, pieces) {
+    match fill(line, pieces) {
         Some(count) => text.extend_from_slice(&line[..count]),
         None => put_long(text, pieces),
     }

@@ -4,9 +4,8 @@ ghost use Rattle.std.specs.Prelude.{◌≡◌, [], ◌∷◌, ◌++◌, map, fal
 ghost use Rattle.metering_model.specs.Row.{Row};
 ghost use Rattle.metering_model.specs.File.{json_object, row_text};
 ghost use Rattle.focus_row.specs.Rows.{model_row};
-ghost use Rattle.focus_csv.specs.Inner.Beginnings.{BeginsWith};
-ghost use Rattle.focus_csv.specs.Inner.Pieces.{AreOf, line_bytes};
-ghost use Rattle.focus_csv.specs.Inner.Runs.{behind, line_runs};
+ghost use Rattle.focus_csv.specs.Inner.Pieces.{AreOf, line_bytes, piece_list};
+ghost use Rattle.focus_csv.specs.Inner.Runs.{behind};
 
 use crate::alike::are_alike;
 use crate::fields::put_pieces;
@@ -29,8 +28,8 @@ pub(crate) struct LinePieces {
     are_held: bool,
 }
 
-/// How many pieces stand after the first number.
-const PIECES: usize = 20;
+/// How many pieces a line has, with its line feed.
+const PIECES: usize = 22;
 
 impl LinePieces {
     /// Pieces of no row, all of them empty.
@@ -96,12 +95,12 @@ impl LinePieces {
         Ok(())
     }
 
-    /// All pieces but the first number.
-    fn behind_first(&self) -> [&[u8]; PIECES]
-        ensures { (r : Row) → AreOf self.now r
-            → map (λ p. p.now) result ≡ map behind (line_runs r) }
+    /// All pieces in the order of the line, and its line feed.
+    fn all(&self) -> [&[u8]; PIECES]
+        ensures { map (λ p. p.now) result ≡ piece_list self.now }
     {
         [
+            self.numbers.billed_cost.as_bytes(),
             self.texts.billing.as_slice(),
             self.texts.charge.as_slice(),
             self.texts.moment.as_slice(),
@@ -122,29 +121,18 @@ impl LinePieces {
             self.texts.service.as_slice(),
             self.texts.account.as_slice(),
             self.tags.as_slice(),
+            b"\n",
         ]
     }
 
-    /// Appends the line. At an allocation failure the text is as before, or has some of the line after it.
-    fn append(&self, text: &mut Vec<u8>) -> Result<(), AllocError>
-        ensures put { OnOk result
-            ((r : Row) → AreOf self.now r → text.new.items ≡ text.old.items ++ row_text r) }
-        ensures begins { OnErr result (BeginsWith text.new.items text.old.items) }
-    {
-        text.extend_from_slice(self.numbers.billed_cost.as_bytes())?;
-        put_pieces(text, &self.behind_first())?;
-        text.push(b'\n')?;
-        Ok(())
-    }
-
-    /// Appends the line. At an allocation failure the text is as before.
-    pub(crate) fn put(&self, text: &mut Vec<u8>) -> Result<(), AllocError>
+    /// Appends the line, put together in room for one. At an allocation failure the text is as before.
+    pub(crate) fn put(&self, line: &mut [u8], text: &mut Vec<u8>) -> Result<(), AllocError>
         ensures put { OnOk result
             ((r : Row) → AreOf self.now r → text.new.items ≡ text.old.items ++ row_text r) }
         ensures kept { OnErr result (text.new.items ≡ text.old.items) }
     {
         let begin = text.len();
-        match self.append(text) {
+        match put_pieces(line, text, &self.all()) {
             Ok(()) => Ok(()),
             Err(error) => {
                 text.truncate(begin);

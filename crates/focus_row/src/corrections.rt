@@ -56,38 +56,6 @@ impl<'a> BetweenCuts<'a> {
         self.store.value_at(place, upto).unwrap()
     }
 
-    /// The row of a reading above `from`: it is charged whole.
-    #[inline(always)]
-    fn new_row(
-        &self,
-        near: RegionColumns<'a>,
-        place: RecordPlace,
-        reading: &Reading<'a>,
-    ) -> FocusRow<'a>
-        requires near { IsNamed self.now.sheet (option_copied near.id) (option_copied near.name) }
-        requires place { IsUpTo self.now.agents self.now.to (position_of place) }
-        requires there { reading_at self.now.batches (position_of place)
-            ≡ Some (model_reading reading.now) }
-        ensures row { model_row result
-            ≡ row self.now.sheet self.now.issuer (model_reading reading.now) self.now.period New
-            (pos 0)
-            (value_at self.now.batches (position_of place) (last_of self.now.to place.agent)) }
-        ensures named { IsNamed self.now.sheet (option_copied result.region_id)
-            (option_copied result.region_name) }
-    {
-        let nothing = Value::new(0).unwrap();
-        let now = self.value(place, self.to.get(place.agent));
-        row(
-            &self.billing,
-            self.sheet,
-            near,
-            reading,
-            ChargeClass::New,
-            nothing,
-            now,
-        )
-    }
-
     /// The row of a reading up to `from` from its value there to the one at `to`, where these differ.
     fn correction(
         &self,
@@ -180,7 +148,22 @@ impl<'a> BetweenCuts<'a> {
         if place.seq <= self.from.get(place.agent) {
             return self.put_correction(rows, near, place, reading);
         }
-        if rows.push(self.new_row(near, place, reading)).is_err() {
+        // A reading above `from` is charged whole. The row is handed from one call to the other as it is: in a function
+        // of its own its 750 bytes were cleared and copied once more.
+        let nothing = Value::new(0).unwrap();
+        let now = self.value(place, self.to.get(place.agent));
+        if rows
+            .push(row(
+                &self.billing,
+                self.sheet,
+                near,
+                reading,
+                ChargeClass::New,
+                nothing,
+                now,
+            ))
+            .is_err()
+        {
             return Err(AllocError);
         }
         Ok(())

@@ -24,6 +24,15 @@ number_bytes p =
 abbrev pub line_bytes : LinePieces → List ℕ
 line_bytes p = number_bytes p.numbers ++ text_bytes p.texts ++ p.tags.items
 
+-- all pieces in the order of the line, and its line feed
+abbrev pub piece_list : LinePieces → List (List ℕ)
+piece_list p =
+    string_bytes p.numbers.billed_cost ∷ p.texts.billing.items ∷ p.texts.charge.items ∷ p.texts.moment.items ∷ string_bytes p.numbers.consumed_quantity
+    ∷ p.texts.unit.items ∷ string_bytes p.numbers.contracted_cost ∷ string_bytes p.numbers.contracted_unit_price ∷ string_bytes p.numbers.effective_cost
+    ∷ p.texts.issuer.items ∷ string_bytes p.numbers.list_cost ∷ string_bytes p.numbers.list_unit_price ∷ p.texts.category.items
+    ∷ string_bytes p.numbers.pricing_quantity ∷ p.texts.pricing.items ∷ p.texts.seller.items ∷ p.texts.region.items ∷ p.texts.resource.items
+    ∷ p.texts.service.items ∷ p.texts.account.items ∷ p.tags.items ∷ (10 ∷ []) ∷ []
+
 pub record AreTextsOf (p : TextPieces) (r : Row) : Type 0 where
   pub billing : p.billing.items ≡ behind (billing_columns r)
   pub charge : p.charge.items ≡ behind (charge_columns r)
