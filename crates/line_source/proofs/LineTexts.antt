@@ -1,5 +1,5 @@
 -- Lines that stand in a text: the first one, those at its front, and those behind its first bytes.
-use Rattle.std.proofs.Common.{◌≡◌, ℕ, ◌+◌, ◌<◌, ◌≤◌, true, List, [], ◌∷◌, ◌++◌, length, take, drop, Option, Some, None, refl, sym, ap, ◌∙◌, arith, append_assoc, append-nil}
+use Rattle.std.proofs.Common.{◌≡◌, ℕ, ◌+◌, ◌<◌, ◌≤◌, true, List, [], ◌∷◌, ◌++◌, length, take, drop, Option, Some, None, refl, sym, ap, ◌∙◌, arith, append_assoc, append-nil, subst}
 use Rattle.std.specs.List.{list_all, position}
 use Rattle.std.specs.Prelude.{◌==◌}
 use Rattle.std.proofs.lemmas.Bool.{and_parts, and_from}
@@ -104,19 +104,22 @@ none_between text from within = record {
 }
 
 module _ {from end count : ℕ} {text : List ℕ} (it : AreBetween from end text count) where
-  -- they stay where more is read
-  pub between_on : {after : List ℕ} {r s : ℕ} {l m : Option (List ℕ)} → Takes text after r s l m [] → AreBetween from end after count
-  between_on {after} reads =
+  -- they stay where more is ahead
+  pub between_before : (came : List ℕ) → AreBetween from end (text ++ came) count
+  between_before came =
       let within = it.within in
-      let longer = ap length (sym reads.joined) ∙ length-append text reads.came in
       record {
         lines = it.lines;
         whole = it.whole;
         counted = it.counted;
         ordered = it.ordered;
-        within = omega (arith, within, longer);
-        are_lines = ap (λ t. drop from (take end t)) (sym reads.joined) ∙ ap (drop from) (take-append-le end text reads.came within) ∙ it.are_lines;
+        within = omega (arith, within, length-append text came);
+        are_lines = ap (drop from) (take-append-le end text came within) ∙ it.are_lines;
       }
+
+  -- and where more is read
+  pub between_on : {after : List ℕ} {r s : ℕ} {l m : Option (List ℕ)} → Takes text after r s l m [] → AreBetween from end after count
+  between_on reads = subst (λ t. AreBetween from end t count) reads.joined (between_before reads.came)
 
   end_size : length (take end text) ≡ end
   end_size = length-take-le end text it.within

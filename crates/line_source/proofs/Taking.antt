@@ -2,12 +2,12 @@
 use Rattle.std.proofs.Common.{◌≡◌, ℕ, ◌+◌, ◌≤◌, Bool, true, false, List, [], ◌∷◌, ◌++◌, take, drop, Option, refl, sym, ap, ◌∙◌, arith, append_assoc, append-nil, length, leb, leb-true, subst}
 use Rattle.std.proofs.KnownBytes.{Consumes-trans}
 use Rattle.std.proofs.lemmas.Bool.{leb-false}
-use Rattle.std.proofs.lemmas.List.{length-append}
+use Rattle.std.proofs.lemmas.List.{length-append, nil_from_length}
 use Rattle.metering_model.specs.Batch.{lacks}
 use Rattle.metering_model.specs.Transcript.{line}
 use Rattle.metering_model.proofs.Splitting.{list_all_both}
 use Rattle.line_source.specs.Lines.{IsLineAt}
-use Rattle.line_source.specs.Reading.{ReadsUpTo, Takes, TakesLine, TakesPart}
+use Rattle.line_source.specs.Reading.{IsLastBlock, ReadsUpTo, ReadsWhile, Takes, TakesLine, TakesPart}
 
 -- ---- bytes that came, and those that were taken
 
@@ -62,6 +62,36 @@ up_to_on most a b c first next longer = by (leb (length c) (length b)) refl
     by : (is_first : Bool) → leb (length c) (length b) ≡ is_first → length c ≤ most + 65_536
     by true e = let low = leb-true (length c) (length b) e in let in_first = first (omega (arith, low, longer)) in omega (arith, low, in_first)
     by false e = next (leb-false (length c) (length b) e)
+
+-- ---- only while what is ahead does not suffice
+
+-- one call after the other, each only for want of the same
+pub while_on : {a b c : List ℕ} {r s t : ℕ} {l m n : Option (List ℕ)} (is_short : List ℕ → Type 0)
+    → Takes a b r s l m [] → Takes b c s t m n [] → ReadsWhile is_short a b → ReadsWhile is_short b c → ReadsWhile is_short a c
+while_on {a} {b} {c} is_short it then first next longer = by (leb (length c) (length b)) refl
+  where
+    by : (is_first : Bool) → leb (length c) (length b) ≡ is_first → IsLastBlock is_short a c
+    by true e =
+        let low = leb-true (length c) (length b) e in
+        let none : then.came ≡ [] = nil_from_length then.came (let size = ap length then.joined in omega (arith, low, size, length-append b then.came)) in
+        let same : b ≡ c = sym (append-nil b) ∙ ap (λ t. b ++ t) (sym none) ∙ then.joined in
+        subst (IsLastBlock is_short a) same (first (omega (arith, low, longer)))
+    by false e =
+        let more = next (leb-false (length c) (length b) e) in
+        let held : b ++ more.before ≡ a ++ (it.came ++ more.before) = ap (λ t. t ++ more.before) (sym it.joined) ∙ append_assoc a it.came more.before in
+        record {
+          before = it.came ++ more.before;
+          last = more.last;
+          joined = more.joined ∙ ap (λ t. t ++ more.last) held;
+          block = more.block;
+          short = subst is_short held more.short;
+        }
+
+-- where what does not suffice for the one does not for the other either
+pub while_for : {a b : List ℕ} {is_short is_shorter : List ℕ → Type 0} → ((before : List ℕ) → is_short (a ++ before) → is_shorter (a ++ before)) → ReadsWhile is_short a b → ReadsWhile is_shorter a b
+while_for weaker it longer =
+    let more = it longer in
+    record { before = more.before; last = more.last; joined = more.joined; block = more.block; short = weaker more.before more.short }
 
 -- ---- a line by its parts
 

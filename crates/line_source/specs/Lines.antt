@@ -46,6 +46,10 @@ AreFewer from count text left = (length (lines_in (drop from text)).lines < coun
 abbrev pub AreCutOff : (from count most : ℕ) → List ℕ → Type 0
 AreCutOff from count most text = (length (lines_in (drop from text)).lines < count) × (most < length text)
 
+-- fewer lines stand behind that place, and no more than so many bytes are ahead in all
+abbrev pub AreShort : (from count most : ℕ) → List ℕ → Type 0
+AreShort from count most text = (length (lines_in (drop from text)).lines < count) × (length text ≤ most)
+
 -- what is said of lines that are looked for within so many bytes
 abbrev pub IsFound : (from count most : ℕ) → List ℕ → Option (List ℕ) → Found → Type 0
 IsFound from count most text left (found.Lines end) = AreBetween from end text count

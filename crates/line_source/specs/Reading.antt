@@ -35,3 +35,17 @@ IsEnded rest left = (lacks 10 rest ≡ true) × IsAtEnd left
 -- More is read only while no more than so many bytes are ahead: so what is ahead then passes them by a block at most.
 abbrev pub ReadsUpTo : (most : ℕ) (ahead ahead' : List ℕ) → Type 0
 ReadsUpTo most ahead ahead' = length ahead < length ahead' → length ahead' ≤ most + 65_536
+
+-- The last block that was read: what was ahead before it did not suffice.
+pub record IsLastBlock (is_short : List ℕ → Type 0) (ahead ahead' : List ℕ) : Type 0 where
+  -- what came before the last block
+  pub before : List ℕ
+  -- and that block, which may be short
+  pub last : List ℕ
+  pub joined : ahead' ≡ (ahead ++ before) ++ last
+  pub block : length last ≤ 65_536
+  pub short : is_short (ahead ++ before)
+
+-- More is read only while what is ahead does not suffice: so if anything was read, what was ahead before the last block did not.
+abbrev pub ReadsWhile : (is_short : List ℕ → Type 0) (ahead ahead' : List ℕ) → Type 0
+ReadsWhile is_short ahead ahead' = length ahead < length ahead' → IsLastBlock is_short ahead ahead'

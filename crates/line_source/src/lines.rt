@@ -4,9 +4,11 @@ ghost use Rattle.std.specs.Prelude.{◌≡◌, ◌+◌, ◌<◌, ◌≤◌, ◌�
 ghost use Rattle.std.specs.Io.KnownBytes.{IsAtEnd};
 ghost use Rattle.metering_model.specs.Limits.{most_transcript_bytes};
 ghost use Rattle.metering_model.specs.Batch.{lacks};
+ghost use Rattle.metering_model.specs.BatchReading.{lines_in};
 ghost use Rattle.line_source.specs.Calls.{ReadsWithin};
-ghost use Rattle.line_source.specs.Lines.{AreBetween, AreFewer, AreInFront, IsFound, IsLineAt, IsShareOf};
-ghost use Rattle.line_source.specs.Reading.{IsEnded, ReadsUpTo, Takes, TakesLine, TakesPart};
+ghost use Rattle.line_source.specs.Inner.Wants.{IsLineShort};
+ghost use Rattle.line_source.specs.Lines.{AreBetween, AreFewer, AreInFront, AreShort, IsFound, IsLineAt, IsShareOf};
+ghost use Rattle.line_source.specs.Reading.{IsEnded, ReadsUpTo, ReadsWhile, Takes, TakesLine, TakesPart};
 
 use crate::faults::SourceFault;
 use crate::unread::Unread;
@@ -48,6 +50,7 @@ fn line_length<S: Source>(
         × (IsAtEnd (S.remaining source.new) ⊎ (most < length unread.new.bytes)))
         (IsLineAt (drop from unread.new.bytes))) }
     ensures block { ReadsUpTo most unread.old.bytes unread.new.bytes }
+    ensures last { ReadsWhile (IsLineShort from most) unread.old.bytes unread.new.bytes }
     ensures reads { ReadsWithin result unread.new.read (S.failed_calls source.old)
         (S.failed_calls source.new) }
 {
@@ -79,6 +82,7 @@ pub fn line_end<S: Source>(
         (S.remaining source.old) (S.remaining source.new) [] }
     ensures found { IfOk result (λ found. MatchOption found
         (IsEnded unread.new.bytes (S.remaining source.new)) (IsLineAt unread.new.bytes)) }
+    ensures last { ReadsWhile (λ held. lacks 10 held ≡ true) unread.old.bytes unread.new.bytes }
     ensures reads { ReadsWithin result unread.new.read (S.failed_calls source.old)
         (S.failed_calls source.new) }
 {
@@ -104,6 +108,7 @@ pub fn lines_end_within<S: Source>(
     ensures found { IfOk result (IsFound from count most
         unread.new.bytes (S.remaining source.new)) }
     ensures block { ReadsUpTo most unread.old.bytes unread.new.bytes }
+    ensures last { ReadsWhile (AreShort from count most) unread.old.bytes unread.new.bytes }
     ensures reads { ReadsWithin result unread.new.read (S.failed_calls source.old)
         (S.failed_calls source.new) }
 {
@@ -139,6 +144,8 @@ pub fn lines_end<S: Source>(
     ensures found { IfOk result (λ found. MatchOption found
         (AreFewer from count unread.new.bytes (S.remaining source.new))
         (λ end. AreBetween from end unread.new.bytes count)) }
+    ensures last { ReadsWhile (λ held. length (lines_in (drop from held)).lines < count)
+        unread.old.bytes unread.new.bytes }
     ensures reads { ReadsWithin result unread.new.read (S.failed_calls source.old)
         (S.failed_calls source.new) }
 {
@@ -163,6 +170,7 @@ pub fn read_ahead<S: Source>(
     ensures enough { result ≡ Ok true → wanted ≤ length unread.new.bytes }
     ensures ended { result ≡ Ok false → (length unread.new.bytes < wanted)
         × IsAtEnd (S.remaining source.new) }
+    ensures last { ReadsWhile (λ held. length held < wanted) unread.old.bytes unread.new.bytes }
     ensures reads { ReadsWithin result unread.new.read (S.failed_calls source.old)
         (S.failed_calls source.new) }
 {
