@@ -20,8 +20,8 @@ use threads_player::ThreadsFault;
 pub enum Fault {
     /// The command line.
     Line(LineFault),
-    /// `rate` or `play`, the sections of `sheets` or `schedule`, or a device of any but `file` and
-    /// `threads`.
+    /// `rate` or `play`, the sections of `sheets` or `schedule`, or a device, or want of memory, of any
+    /// but `file`, `threads`, `node` and `agent`.
     Play(PlayFault),
     /// `check` wrote so many lines of what is wrong.
     Faults(u64),

@@ -10,7 +10,7 @@ use Rattle.metering_model.specs.File.{file, header_line, row_text}
 use Rattle.metering_model.specs.Row.{Row}
 use Rattle.focus_csv.specs.Rows.{batch_lines, joined}
 use Rattle.export_file.specs.declared.split.Room.{Room}
-use Rattle.export_file.specs.Parts.{part_of, texts_in}
+use Rattle.export_file.specs.Inner.Parts.{part_of, texts_in}
 
 -- what holds whatever the answer is
 pub on_err : {T E P : Type 0} (r : Result T E) → P → OnErr r P

@@ -8,7 +8,7 @@ ghost use Rattle.counted_io.specs.Counts.{Rises, count_after};
 ghost use Rattle.counted_io.specs.Writing.{AppendsPrefix};
 ghost use Rattle.metering_model.specs.File.{file, header_line};
 ghost use Rattle.focus_csv.specs.Rows.{batch_lines, joined};
-ghost use Rattle.export_file.specs.Parts.{part_of, texts_in};
+ghost use Rattle.export_file.specs.Inner.Parts.{part_of, texts_in};
 ghost use Rattle.export_file.specs.Inner.Writing.{Writes};
 
 use counted_io::{Failed, Sink, write_all};

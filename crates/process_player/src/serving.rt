@@ -201,8 +201,8 @@ fn write_begun<W: Sink>(
 /// 4,294,967,296.
 ///
 /// With Ok the input has ended, perhaps within a command, which is not done then. After `Section`, `Log`, `OtherLog` and
-/// `NoJournal`, by which nothing is begun, nothing was written; after each other fault whole answers of first commands were, and
-/// after `Write` a prefix of one behind them.
+/// `NoJournal`, by which nothing is begun, nothing was written; after each other fault whole answers of first commands were, or
+/// nothing, and after `Write` a prefix of one behind them.
 pub fn process_text<R: Source, W: Sink>(
     alloc: Global,
     kind: ProcessKind,

@@ -15,7 +15,7 @@ pub enum WriteFault {
     /// The journals refuse a batch: in the words of `check`, with the line of the input, and without a line feed.
     #[error("refused")]
     Refused(Vec<u8>),
-    /// The schedule would have more bytes, or more packets, than a schedule may have.
+    /// The schedule would have more bytes, packets or periods than a schedule may have.
     #[error("too long")]
     TooLong,
     /// What was to be written does not close the months as it should.

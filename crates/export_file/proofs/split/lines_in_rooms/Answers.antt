@@ -1,7 +1,7 @@
 -- Each room has the lines of its part.
 use Rattle.std.proofs.Common.{◌≡◌, ◌<◌, ◌∙◌, length, sym, subst, ap, rules, arith}
 use Rattle.std.specs.List.{list_all}
-use Rattle.export_file.specs.Parts.{texts_in}
+use Rattle.export_file.specs.Inner.Parts.{texts_in}
 use Rattle.export_file.proofs.PartLaws.{all_changed, all_joined}
 use Rattle.export_file.proofs.split.lines_in_rooms.Goals as goal
 

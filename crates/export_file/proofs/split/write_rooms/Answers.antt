@@ -6,7 +6,7 @@ use Rattle.std.specs.Io.KnownBytes.{Appends}
 use Rattle.counted_io.specs.Writing.{AppendsPrefix}
 use Rattle.counted_io.proofs.Prefixes.{prefix_behind, prefix_within}
 use Rattle.metering_model.specs.File.{header_line}
-use Rattle.export_file.specs.Parts.{texts_in}
+use Rattle.export_file.specs.Inner.Parts.{texts_in}
 use Rattle.export_file.proofs.PartLaws.{on_err, one_more_room, rest_behind}
 use Rattle.export_file.proofs.split.write_rooms.Goals as goal
 

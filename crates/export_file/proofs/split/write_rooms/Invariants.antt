@@ -2,7 +2,7 @@
 use Rattle.std.proofs.Common.{◌≡◌, ◌++◌, ◌∷◌, [], take}
 use Rattle.std.specs.Io.KnownBytes.{Appends}
 use Rattle.metering_model.specs.File.{header_line}
-use Rattle.export_file.specs.Parts.{texts_in}
+use Rattle.export_file.specs.Inner.Parts.{texts_in}
 use Rattle.export_file.proofs.split.write_rooms.Given as goal
 
 abbrev pub invariant-loop-i : goal.invariant-loop-i
