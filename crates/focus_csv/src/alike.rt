@@ -39,8 +39,8 @@ fn ends_alike<const LANES: usize>(left: &[u8], right: &[u8]) -> bool
     begin_alike::<LANES>(left, right) && begin_alike::<LANES>(&left[behind..], &right[behind..])
 }
 
-/// Whether two texts are the same bytes. Most fields of a row have few, which are compared in one step or two and without
-/// a call.
+/// Whether two texts are the same bytes. Most fields of a row have 4 to 32, which are compared in two steps and without a
+/// call; others are compared by the library.
 #[inline(always)]
 pub(crate) fn are_alike(left: &[u8], right: &[u8]) -> bool
     ensures { IsTrue result ↔ (left.now ≡ right.now) }

@@ -43,8 +43,8 @@ pub(crate) fn make_piece(
 /// So many bytes most lines have at most.
 pub(crate) const LINE_ROOM: usize = 512;
 
-/// Copies pieces into a line, one after the other, and returns how many bytes they have; None where it has not so many.
-/// A line of known length is filled without a test of what memory there is for each of its pieces.
+/// Copies pieces into a line, one after the other, and returns how many bytes they have; None where one finds no room. So
+/// the memory of the text is asked for once for a line, and not for each of its pieces.
 fn fill(line: &mut [u8], pieces: &[&[u8]]) -> Option<usize>
     ensures length { length line.new ≡ length line.old }
     ensures filled { IfSome result (λ count. (count ≤ length line.new)

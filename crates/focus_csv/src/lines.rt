@@ -43,7 +43,7 @@ fn row_at<'a, 'b>(rows: &'a [FocusRow<'b>], i: usize) -> &'a FocusRow<'b>
     &rows[i]
 }
 
-/// The row that is held, or else the first of the next ones, of which there are some.
+/// The row that is held. Where there is none, no piece is held either, and any row does: it is the first of the next ones.
 fn row_before<'x, 'a>(held: &'x Option<FocusRow<'a>>, rows: &'x [FocusRow<'a>]) -> &'x FocusRow<'a>
     requires { 0 < length rows.now }
     ensures { IfSome held.now (λ row. result.now ≡ row) }

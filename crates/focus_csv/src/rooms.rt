@@ -4,8 +4,9 @@ use crate::pieces::LinePieces;
 use std::alloc::Global;
 
 /// Memory in which the lines of a file are made: that of their pieces, and of the writer for odd texts. It is taken from
-/// one file to the next, which asks for more only where a text of it is longer than those before, or is the first odd
-/// one, and for all of it where the file before could not be made. What was made in it is never used again.
+/// one file to the next, which asks for more where a text of it is longer than those before, is the first odd one, or
+/// comes after 65,536 bytes of odd ones, and for all of it where the file before could not be made. What was made in it is
+/// never used again.
 #[derive(Drop)]
 pub struct LineRoom {
     /// There are none before the first file, nor after one that could not be made.

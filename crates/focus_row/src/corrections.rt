@@ -148,8 +148,8 @@ impl<'a> BetweenCuts<'a> {
         if place.seq <= self.from.get(place.agent) {
             return self.put_correction(rows, near, place, reading);
         }
-        // A reading above `from` is charged whole. The row is handed from one call to the other as it is: in a function
-        // of its own its 750 bytes were cleared and copied once more.
+        // A reading above `from` is charged whole. The call stands here, and in no function of its own, so that the row,
+        // some 750 bytes, is not copied once more.
         let nothing = Value::new(0).unwrap();
         let now = self.value(place, self.to.get(place.agent));
         if rows

@@ -36,16 +36,16 @@ IsEnded rest left = (lacks 10 rest ≡ true) × IsAtEnd left
 abbrev pub ReadsUpTo : (most : ℕ) (ahead ahead' : List ℕ) → Type 0
 ReadsUpTo most ahead ahead' = length ahead < length ahead' → length ahead' ≤ most + 65_536
 
--- The last block that was read: what was ahead before it did not suffice.
+-- The last bytes that were read, a block at most, and perhaps by several reads: what was ahead before them did not suffice.
 pub record IsLastBlock (is_short : List ℕ → Type 0) (ahead ahead' : List ℕ) : Type 0 where
-  -- what came before the last block
+  -- what came before them
   pub before : List ℕ
-  -- and that block, which may be short
+  -- and they themselves
   pub last : List ℕ
   pub joined : ahead' ≡ (ahead ++ before) ++ last
   pub block : length last ≤ 65_536
   pub short : is_short (ahead ++ before)
 
--- More is read only while what is ahead does not suffice: so if anything was read, what was ahead before the last block did not.
+-- More is read only while what is ahead does not suffice: so if anything was read, what was ahead before the last bytes did not.
 abbrev pub ReadsWhile : (is_short : List ℕ → Type 0) (ahead ahead' : List ℕ) → Type 0
 ReadsWhile is_short ahead ahead' = length ahead < length ahead' → IsLastBlock is_short ahead ahead'
