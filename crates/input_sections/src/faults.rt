@@ -5,10 +5,10 @@ use thiserror::Error;
 /// Which rule a line breaks.
 #[derive(Clone, Copy, Debug, PartialEq, Eq, Drop, Error)]
 pub enum ScheduleCode {
-    /// L1: the first line is not that of a schedule.
+    /// L1: the first line is not that of a schedule, or of a process of a group.
     #[error("L1")]
     Head,
-    /// L2: no line with the number of nodes.
+    /// L2: no line with the number of nodes; of a process, no head line of its log.
     #[error("L2")]
     Nodes,
     /// L3: no line with the number of agents.
@@ -20,7 +20,7 @@ pub enum ScheduleCode {
     /// L5: no line that opens an issuer, or no issuer after it.
     #[error("L5")]
     Issuer,
-    /// L6: the line is no event.
+    /// L6: the line is no event; of a process, it does not say what was stored.
     #[error("L6")]
     Event,
     /// L7: fewer lines follow than the line says, or the last one has no line feed.
