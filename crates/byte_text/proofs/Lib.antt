@@ -3,6 +3,7 @@ pub mod LaneLaws
 pub mod LineFeeds
 pub mod LineLemmas
 pub mod PastLines
+pub mod SameTexts
 pub mod SplitLemmas
 pub mod Texts
 pub mod WholeLaws

@@ -1,7 +1,7 @@
-//! Bytes and lines found and counted, and texts compared.
+//! Bytes and lines found and counted.
 
 ghost use Rattle.std.specs.Prelude.{◌≡◌, ◌+◌, ◌==◌, ◌<◌, ◌≤◌, [], ◌∷◌, length, take, position, MatchOption};
-ghost use Rattle.metering_model.specs.BatchReading.{fields_in, is_same, lines_in, with_line};
+ghost use Rattle.metering_model.specs.BatchReading.{fields_in, lines_in, with_line};
 ghost use Rattle.metering_model.specs.Transcript.{line_count};
 ghost use Rattle.byte_text.specs.Lines.{IsPast};
 ghost use Rattle.byte_text.specs.Runs.{lowest_set};
@@ -83,14 +83,6 @@ pub fn line_count(text: &[u8]) -> usize
     let (some, behind) = feeds_in_steps::<16>(behind);
     let (few, last) = feeds_in_steps::<4>(behind);
     many + some + few + feeds_by_bytes(last)
-}
-
-/// Whether two texts are the same bytes.
-#[tactic(auto, using(crate::proofs::Texts::same_is))]
-pub fn is_same(left: &[u8], right: &[u8]) -> bool
-    ensures { result ≡ is_same left.now right.now }
-{
-    left == right
 }
 
 /// How many bytes the first `count` lines have, each with its line feed; None where the text has fewer lines.

@@ -1,64 +1,16 @@
-//! Whether two texts are the same bytes.
+//! Whether two fields are the same.
 
-ghost use Rattle.std.specs.Prelude.{◌≡◌, ◌↔◌, ◌<◌, ◌≤◌, ◌*◌, IsTrue, length, take};
+ghost use Rattle.std.specs.Prelude.{◌≡◌, ◌↔◌, IsTrue};
 ghost use Rattle.std.specs.Option.{option_copied};
 
-use std::simd::prelude::*;
+use byte_text::is_same;
 
-/// So many bytes of both texts are compared in one step.
-const LANES: usize = 16;
-
-/// So many of shorter ones are.
-const FEW_LANES: usize = 8;
-
-/// So many of the shortest for which a step is worth it.
-const LEAST_LANES: usize = 4;
-
-/// Whether the first bytes are the same, so many as are compared at once.
-#[inline(always)]
-fn begin_alike<const LANES: usize>(left: &[u8], right: &[u8]) -> bool
-    requires lanes { (0 < LANES) × (LANES ≤ 64) }
-    requires left { LANES ≤ length left.now }
-    requires right { LANES ≤ length right.now }
-    ensures { IsTrue result ↔ (take LANES left.now ≡ take LANES right.now) }
-{
-    let differ = Simd::<u8, LANES>::from_slice(left).simd_ne(Simd::from_slice(right));
-    differ.to_bitmask() == 0
-}
-
-/// Whether two texts of one length are the same, by their first bytes and their last, which together are all of them.
-#[inline(always)]
-fn ends_alike<const LANES: usize>(left: &[u8], right: &[u8]) -> bool
-    requires lanes { (0 < LANES) × (LANES ≤ 64) }
-    requires from { LANES ≤ length left.now }
-    requires to { length left.now ≤ 2 * LANES }
-    requires same_length { length left.now ≡ length right.now }
-    ensures { IsTrue result ↔ (left.now ≡ right.now) }
-{
-    let behind = left.len() - LANES;
-    begin_alike::<LANES>(left, right) && begin_alike::<LANES>(&left[behind..], &right[behind..])
-}
-
-/// Whether two texts are the same bytes. Most fields of a row have 4 to 32, which are compared in two steps and without a
-/// call; others are compared by the library.
+/// Whether two texts are the same bytes.
 #[inline(always)]
 pub(crate) fn are_alike(left: &[u8], right: &[u8]) -> bool
     ensures { IsTrue result ↔ (left.now ≡ right.now) }
 {
-    let count = left.len();
-    if count != right.len() {
-        return false;
-    }
-    if count > 2 * LANES || count < LEAST_LANES {
-        return left == right;
-    }
-    if count >= LANES {
-        return ends_alike::<LANES>(left, right);
-    }
-    if count >= FEW_LANES {
-        return ends_alike::<FEW_LANES>(left, right);
-    }
-    ends_alike::<LEAST_LANES>(left, right)
+    is_same(left, right)
 }
 
 /// Whether two texts are the same bytes, or both are null.

@@ -1,6 +1,6 @@
 use Rattle.std.proofs.Common.{◌-◌, length, take, drop, ap}
-use Rattle.focus_csv.proofs.SameTexts.{all_by_ends}
-use Rattle.focus_csv.proofs.alike.ends_alike.Goals as goal
+use Rattle.byte_text.proofs.SameTexts.{all_by_ends}
+use Rattle.byte_text.proofs.alike.ends_alike.Goals as goal
 
 pub returns-then-begin_alike : goal.returns-then-begin_alike
 returns-then-begin_alike g c =

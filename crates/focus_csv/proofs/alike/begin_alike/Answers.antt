@@ -1,5 +1,0 @@
-use Rattle.focus_csv.proofs.SameTexts.{told_by_mask}
-use Rattle.focus_csv.proofs.alike.begin_alike.Goals as goal
-
-pub returns : goal.returns
-returns g c = told_by_mask g.row.LANES c.args.left.now c.args.right.now c.requires.lanes.1 c.requires.left c.requires.right
