@@ -27,7 +27,7 @@ abbrev pub latest : List ℤ → Option ℤ
 latest [] = None
 latest (d ∷ ds) = Some (later d (latest ds))
 
--- more than a year after that day, where there is one
+-- more than 366 days after that day, where there is one
 abbrev pub is_ahead : Option ℤ → ℤ → Bool
 is_ahead None d = false
 is_ahead (Some e) d = int_lt (e +ℤ pos most_days_ahead) d

@@ -80,7 +80,7 @@ amendment_rules seq index value =
     (field.Sequence, is_some (whole_in 1 last_sequence seq)) ∷ (field.Index, is_some (whole_in 0 last_index index))
     ∷ (field.Value, is_some (result_ok (value_in value))) ∷ []
 
--- none of a line that has no letter, or another number of fields
+-- none of a line of fewer than nine fields that are not four, or whose letter is none of a kind
 abbrev pub line_rules : List (List ℕ) → List (RecordField × Bool)
 line_rules (letter ∷ seq ∷ index ∷ value ∷ []) = if is_same letter (codes "X") then amendment_rules seq index value else []
 line_rules (letter ∷ start ∷ end ∷ account ∷ resource ∷ key ∷ value ∷ commitment ∷ tags ∷ region) =

@@ -97,10 +97,10 @@ most_journal_lines = 1_001
 abbrev pub most_revival_lines : ℕ
 most_revival_lines = 200_000
 
--- bytes of an input of `rate`, `play` or `check` (The program)
+-- bytes of an input, but of `file`, and of what stands before the log of a `node` or an `agent` (The program)
 abbrev pub most_input_bytes : ℕ
 most_input_bytes = 16_777_216
 
--- bytes of an input of `file`, which is a transcript (The program)
+-- bytes of an input of `file`, which is a transcript, and of a log and of each command of `node` and `agent` (The program)
 abbrev pub most_transcript_bytes : ℕ
 most_transcript_bytes = 4_294_967_296
