@@ -11,6 +11,7 @@ pub use record_view::{Reading, Record};
 mod amendments;
 mod asked;
 mod batch;
+mod bytes;
 mod entries;
 mod extents;
 mod first_fault;

@@ -1,19 +1,21 @@
 //! Batches that keep their bytes.
 
-ghost use Rattle.std.specs.Prelude.{◌≡◌, ◌↔◌, ◌<◌, ℕ, length, take, Ok, Err, IfOk, IfErr, IfSome, IsSome, None, Some, MatchOption, MatchResult};
+ghost use Rattle.std.specs.Prelude.{◌≡◌, ◌↔◌, ◌<◌, ◌≤◌, ℕ, length, take, Ok, Err, IfOk, IfErr, IfSome, IsSome, None, Some, MatchOption, MatchResult};
 ghost use Rattle.std.specs.Arc.{arc_value};
-ghost use Rattle.std.specs.List.{list_all};
+ghost use Rattle.std.specs.List.{list_all, slice_range};
 ghost use Rattle.metering_model.specs.BatchReading.{batch_in};
 ghost use Rattle.metering_model.specs.Front.{starts_before};
 ghost use Rattle.batch_view.specs.Batches.{batch_of};
 ghost use Rattle.batch_view.specs.Kept.{AreAmendmentsOf, AreFieldSpans, value_given_in};
 ghost use Rattle.batch_view.specs.Offers.{IsOfferOf};
 ghost use Rattle.batch_view.specs.Extents.{extent_in};
+ghost use Rattle.batch_view.specs.Inner.Bytes.{AreThere, bytes_in};
 ghost use Rattle.batch_view.specs.Inner.Kept.{IfFault, KeepsBatch};
 ghost use Rattle.batch_view.specs.Inner.Given.{HasReading, LacksReading};
 
 use crate::amendments::{is_before, last_amendment, latest_start, sorted_amendments};
 use crate::batch::BatchView;
+use crate::bytes::BatchBytes;
 use crate::entries::{Found, entry_at, field_total};
 use crate::extents::first_batch;
 use crate::first_fault::check_batch;
@@ -44,7 +46,7 @@ pub struct Amendment {
 /// position that each names, and the latest start of a reading.
 #[derive(Drop)]
 pub struct OwnedBatch {
-    bytes: Vec<u8>,
+    bytes: BatchBytes,
     head: Head,
     entries: Vec<PackedEntry>,
     amendments: Vec<Amendment>,
@@ -53,24 +55,18 @@ pub struct OwnedBatch {
 
 impl Model for OwnedBatch {
     ghost use Rattle.std.specs.Prelude.{ℕ, List};
+    ghost use Rattle.batch_view.specs.Inner.Bytes.{AreThere, bytes_in};
     ghost use Rattle.batch_view.specs.Inner.Kept.{KeepsParts};
 
     ghost Value = { List ℕ };
 
-    ghost view = { λ b. b.bytes.items };
+    ghost view = { λ b. bytes_in b.bytes };
 
-    ghost invariant = { λ b.
-        KeepsParts b.bytes.items b.head b.entries.items b.amendments.items b.latest };
+    ghost invariant = { λ b. AreThere b.bytes
+        × KeepsParts (bytes_in b.bytes) b.head b.entries.items b.amendments.items b.latest };
 }
 
 impl OwnedBatch {
-    /// The bytes that were kept.
-    fn into_bytes(self) -> Vec<u8>
-        ensures { result.items ≡ self }
-    {
-        self.bytes
-    }
-
     /// The batch that is kept.
     pub fn view(&self) -> BatchView<'_>
         ensures { result ≡ self.now }
@@ -83,7 +79,7 @@ impl OwnedBatch {
         ensures bytes { result.now ≡ self.now }
         ensures batch { batch_in self.now ≡ Ok (batch_of self.now) }
     {
-        &self.bytes
+        self.bytes.as_slice()
     }
 
     /// Where the fields of the record at that index stand, from left to right, in bytes from the beginning of the
@@ -156,20 +152,18 @@ pub enum Offer {
     Bad(BatchFault),
 }
 
-/// Shares the batch with what its entries tell. Where there is no memory the bytes are handed back.
+/// Shares the batch with what its entries tell.
 fn keep_parts(
     alloc: Global,
-    bytes: Vec<u8>,
+    bytes: BatchBytes,
     head: Head,
     entries: Vec<PackedEntry>,
-) -> Result<Arc<OwnedBatch>, Vec<u8>>
-    requires { KeepsBatch bytes.items head entries.items }
-    ensures shared { IfOk result (λ batch. arc_value batch ≡ bytes.items) }
-    ensures back { IfErr result (λ back. back.items ≡ bytes.items) }
+) -> Result<Arc<OwnedBatch>, AllocError>
+    requires there { AreThere bytes }
+    requires keeps { KeepsBatch (bytes_in bytes) head entries.items }
+    ensures { IfOk result (λ batch. arc_value batch ≡ bytes_in bytes) }
 {
-    let Ok(amendments) = sorted_amendments(alloc, &entries, head.count) else {
-        return Err(bytes);
-    };
+    let amendments = sorted_amendments(alloc, &entries, head.count)?;
     let latest = latest_start(&entries);
     let batch = OwnedBatch {
         bytes,
@@ -180,33 +174,41 @@ fn keep_parts(
     };
     match Arc::new(alloc, batch) {
         Ok(shared) => Ok(shared),
-        Err(refused) => Err(refused.value.into_bytes()),
+        Err(_) => Err(AllocError),
+    }
+}
+
+/// What comes of bytes for which there is no memory: their fault, if they are no batch.
+fn unkept_offer(bytes: &[u8]) -> Result<Offer, AllocError>
+    ensures answer { IfOk result (IsOfferOf bytes.now) }
+    ensures want { IfErr result (λ _. batch_in bytes.now ≡ Ok (batch_of bytes.now)) }
+{
+    match check_batch(bytes) {
+        Ok(_) => Err(AllocError),
+        Err(fault) => Ok(Offer::Bad(fault)),
     }
 }
 
 /// What comes of bytes of which this was kept.
 fn offer_of(
     alloc: Global,
-    bytes: Vec<u8>,
+    bytes: BatchBytes,
     kept: Result<(Head, Vec<PackedEntry>), Unkept>,
-) -> Result<Offer, AllocFailed<Vec<u8>>>
-    requires { MatchResult kept
-        (λ kept. KeepsBatch bytes.items kept.0 kept.1.items)
-        (λ why. IfFault why (λ fault. batch_in bytes.items ≡ Err fault)) }
-    ensures answer { IfOk result (IsOfferOf bytes.items) }
-    ensures back { IfErr result (λ refused. refused.value.items ≡ bytes.items) }
-    ensures want { IfErr result (λ _. batch_in bytes.items ≡ Ok (batch_of bytes.items)) }
+) -> Result<Offer, AllocError>
+    requires there { AreThere bytes }
+    requires kept { MatchResult kept
+        (λ kept. KeepsBatch (bytes_in bytes) kept.0 kept.1.items)
+        (λ why. IfFault why (λ fault. batch_in (bytes_in bytes) ≡ Err fault)) }
+    ensures answer { IfOk result (IsOfferOf (bytes_in bytes)) }
+    ensures want { IfErr result (λ _. batch_in (bytes_in bytes) ≡ Ok (batch_of (bytes_in bytes))) }
 {
     match kept {
         Ok((head, entries)) => match keep_parts(alloc, bytes, head, entries) {
             Ok(batch) => Ok(Offer::Good(batch)),
-            Err(value) => Err(AllocFailed { value }),
+            Err(error) => Err(error),
         },
         Err(Unkept::Fault(fault)) => Ok(Offer::Bad(fault)),
-        Err(Unkept::NoMemory) => match check_batch(&bytes) {
-            Ok(_) => Err(AllocFailed { value: bytes }),
-            Err(fault) => Ok(Offer::Bad(fault)),
-        },
+        Err(Unkept::NoMemory) => unkept_offer(bytes.as_slice()),
     }
 }
 
@@ -218,20 +220,51 @@ impl Offer {
         ensures answer { IfOk result (IsOfferOf bytes.items) }
         ensures want { IfErr result (λ _. batch_in bytes.items ≡ Ok (batch_of bytes.items)) }
     {
-        match Offer::read_or_back(alloc, bytes) {
-            Ok(offer) => Ok(offer),
-            Err(_) => Err(AllocError),
-        }
+        let kept = keep_batch(alloc, &bytes);
+        offer_of(alloc, BatchBytes::Own(bytes), kept)
     }
 
-    /// As `read`, but an allocation failure returns the bytes.
+    /// As `read`, but an allocation failure returns the bytes. They are copied once.
     pub fn read_or_back(alloc: Global, bytes: Vec<u8>) -> Result<Offer, AllocFailed<Vec<u8>>>
         ensures answer { IfOk result (IsOfferOf bytes.items) }
         ensures back { IfErr result (λ refused. refused.value.items ≡ bytes.items) }
         ensures want { IfErr result (λ _. batch_in bytes.items ≡ Ok (batch_of bytes.items)) }
     {
-        let kept = keep_batch(alloc, &bytes);
-        offer_of(alloc, bytes, kept)
+        let offer = match Vec::from_slice(alloc, &bytes) {
+            Ok(copied) => Offer::read(alloc, copied),
+            Err(_) => unkept_offer(&bytes),
+        };
+        match offer {
+            Ok(offer) => Ok(offer),
+            Err(_) => Err(AllocFailed { value: bytes }),
+        }
+    }
+
+    /// As `read`, of the bytes of a text from one place to before another. The batch keeps the text, and no copy of its
+    /// bytes, so that a text of many batches stands in memory once, for as long as one of them is kept.
+    pub fn read_within(
+        alloc: Global,
+        text: &Arc<Vec<u8>>,
+        from: usize,
+        to: usize,
+    ) -> Result<Offer, AllocError>
+        requires order { from ≤ to }
+        requires within { to ≤ length (arc_value text.now).items }
+        ensures answer { IfOk result (IsOfferOf (slice_range (arc_value text.now).items from to)) }
+        ensures want { IfErr result (λ _. batch_in (slice_range (arc_value text.now).items from to)
+            ≡ Ok (batch_of (slice_range (arc_value text.now).items from to))) }
+    {
+        let bytes = &text[from..to];
+        let Ok(shared) = Arc::try_clone(text) else {
+            return unkept_offer(bytes);
+        };
+        let kept = keep_batch(alloc, bytes);
+        let own = BatchBytes::Within {
+            text: shared,
+            from,
+            to,
+        };
+        offer_of(alloc, own, kept)
     }
 
     /// The batch that stands first in a text, as `read` offers it, and its length in bytes: its head line and the lines
@@ -258,7 +291,7 @@ impl Offer {
             };
         };
         let kept = keep_below(alloc, &bytes, head);
-        match offer_of(alloc, bytes, kept) {
+        match offer_of(alloc, BatchBytes::Own(bytes), kept) {
             Ok(offer) => Ok(Some((offer, length))),
             Err(_) => Err(AllocError),
         }

@@ -1,11 +1,15 @@
 -- Fields of a line that are too many or too few.
-use Rattle.std.proofs.Common.{◌≡◌, ℕ, ◌≤◌, List, [], ◌∷◌, length, Some, None, refl, ap₂, arith}
+use Rattle.std.proofs.Common.{◌≡◌, ℕ, ◌≤◌, List, [], ◌∷◌, length, Some, None, Ok, refl, ap, ap₂, ◌∙◌, arith}
 use Rattle.std.specs.Prelude.{◌==◌}
 use Rattle.std.specs.Option.{option_map}
 use Rattle.std.proofs.lemmas.List.Splits.{length-slice_split}
-use Rattle.metering_model.specs.BatchReading.{fields_in}
-use Rattle.metering_model.specs.World.{Packet}
-use Rattle.packet_text.specs.PacketText.{GroupPacket, batch_packet_in, prepare_in, sent_vote_in, some_vote_in}
+use Rattle.std.specs.Result.{result_ok}
+use Rattle.std.proofs.lemmas.Bool.{eq-eqb}
+use Rattle.metering_model.specs.Batch.{Batch}
+use Rattle.metering_model.specs.BatchReading.{batch_in, fields_in, whole_in}
+use Rattle.metering_model.specs.World.{Packet, CarriesBatch}
+use Rattle.packet_text.specs.PacketText.{GroupPacket, batch_packet_in, lines_of_batch, prepare_in, sent_vote_in, some_vote_in}
+use Rattle.packet_text.proofs.OptionSteps.{step_iff, test_iff}
 use Rattle.packet_text.proofs.SentNumbers.{vote_goes_on}
 use Rattle.packet_text.specs.declared.reading.Unread.{Unread}
 use Rattle.packet_text.specs.declared.reading.Unread.TheVariants.{NoPacket, NoMemory}
@@ -43,3 +47,14 @@ of_parts r group p g e = ap₂ (λ (name : List ℕ) (sent : Packet). record { g
 pub no_packet_so : (why : Unread) (P Q : Type 0) → (P → Q) → IfNoPacket why P → IfNoPacket why Q
 no_packet_so NoPacket P Q so p = so p
 no_packet_so NoMemory P Q so p = tt
+
+-- a batch below its line, which has as many lines as are said
+pub batch_there : (numbers below : List ℕ) (lines : ℕ) (b : Batch) → fields_in numbers ≡ numbers ∷ [] → whole_in 1 1_001 numbers ≡ Some lines → batch_in below ≡ Ok b
+    → lines ≡ lines_of_batch b → batch_packet_in (fields_in numbers) below ≡ Some (CarriesBatch b)
+batch_there numbers below lines b fields said is same =
+    ap (λ fs. batch_packet_in fs below) fields
+    ∙ (step_iff (whole_in 1 1_001 numbers) _ _).1 (
+      lines,
+      said,
+      (step_iff (result_ok (batch_in below)) _ _).1 (b, ap result_ok is, (test_iff (lines == lines_of_batch b) _ _).1 (eq-eqb lines (lines_of_batch b) same, refl)),
+    )
