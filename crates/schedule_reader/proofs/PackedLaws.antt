@@ -1,18 +1,16 @@
 -- Where an event's lines stand in the text, and what is kept of it there.
 use Rattle.std.proofs.Common.{◌≡◌, ℕ, ◌+◌, ◌-◌, ◌≤◌, List, ◌++◌, length, drop, take, Ok, sym, ap, ap₂, subst, ◌∙◌, arith, append_assoc, codes}
-use Rattle.std.specs.List.{slice_range}
 use Rattle.std.proofs.Math.Seq.{drop-append_seam, take-append_seam}
 use Rattle.std.proofs.lemmas.List.{append-nil, drop-drop, length-append, length-drop}
 use Rattle.metering_model.specs.BatchReading.{lines_in}
 use Rattle.metering_model.specs.Schedule as model
 use Rattle.metering_model.specs.Schedule.{planned_text}
 use Rattle.metering_model.specs.Transcript.{line, with_number}
-use Rattle.input_sections.specs.Sections.{Unread, left}
+use Rattle.input_sections.specs.Sections.{Unread}
 use Rattle.schedule_reader.specs.declared.events.Planned.{Planned}
 use Rattle.schedule_reader.specs.declared.events.Planned.TheVariants.{Journal, Deliver, Start, Restart, Export, Keep, Revive}
-use Rattle.schedule_reader.specs.Events.{HasWholeLines, planned_of}
+use Rattle.schedule_reader.specs.Events.{EndsAt, HasWholeLines, lines_of, planned_of}
 use Rattle.schedule_reader.specs.Schedules.{event_in}
-use Rattle.schedule_reader.specs.Inner.Packed.{lines_of}
 use Rattle.schedule_reader.proofs.EventForms.{event_read}
 
 -- the text of an event ends with the lines that are lent for it
@@ -29,39 +27,33 @@ ends_with_lines (Revive node text) whole =
     let head = line (with_number (with_number (codes "revive ") node ++ codes " ") (length (lines_in text.now).lines)) in
     (head, ap (λ t. head ++ t) whole)
 
--- These lines end at a place of what is lent.
-pub record EndsAt (lent : List ℕ) (end : ℕ) (lines : List ℕ) : Type 0 where
-  pub room : length lines ≤ end
-  pub within : end ≤ length lent
-  pub are : slice_range lent (end - length lines) end ≡ lines
-
--- The lines that stand before a place of the text end there, where what is lent begins no later than what stands before them.
-ends_at : (text head lines : List ℕ) (first from to : ℕ) → first ≤ from → from ≤ length text → to ≤ length text → drop from text ≡ (head ++ lines) ++ drop to text
-    → (from ≤ to) × EndsAt (drop first text) (to - first) lines
-ends_at text head lines first from to begins here there is =
+-- the lines that stand before a place of the text end there
+ends_at : (text head lines : List ℕ) (from to : ℕ) → from ≤ length text → to ≤ length text → drop from text ≡ (head ++ lines) ++ drop to text
+    → (from ≤ to) × EndsAt text to lines
+ends_at text head lines from to here there is =
     let long : to ≡ from + length head + length lines =
     omega (arith, here, there, ap length is, length-append (head ++ lines) (drop to text), length-append head lines, length-drop from text, length-drop to text) in
-    let at : ℕ = to - first - length lines in
-    let place : first + at ≡ from + length head = omega (arith, long, begins) in
-    let rest : drop at (drop first text) ≡ lines ++ drop to text =
-    drop-drop at first text ∙ ap (λ n. drop n text) place ∙ sym (drop-drop (length head) from text)
+    let at : ℕ = to - length lines in
+    let place : at ≡ from + length head = omega (arith, long) in
+    let rest : drop at text ≡ lines ++ drop to text =
+    ap (λ n. drop n text) place ∙ sym (drop-drop (length head) from text)
     ∙ ap (drop (length head)) (is ∙ append_assoc head lines (drop to text)) ∙ drop-append_seam head (lines ++ drop to text) in
-    let many : to - first - at ≡ length lines = omega (arith, long, begins) in (
+    let many : to - at ≡ length lines = omega (arith, long) in (
       omega (arith, long),
       record {
-        room = omega (arith, long, begins);
-        within = omega (arith, there, length-drop first text);
+        room = omega (arith, long);
+        within = there;
         are = ap₂ take many rest ∙ take-append_seam lines (drop to text);
       },
     )
 
 -- the lines of an event that was read end where what is left behind it begins
-pub event_ends : (first u v : Unread) (e : Planned) (end : ℕ) → end ≡ v.from - first.from → u.text ≡ first.text → first.from ≤ u.from → u.from ≤ length first.text
+pub event_ends : (text : List ℕ) (u v : Unread) (e : Planned) (end : ℕ) → end ≡ v.from → u.text ≡ text → u.from ≤ length text
     → v.text ≡ u.text → v.from ≤ length v.text → HasWholeLines e → event_in u ≡ Ok (planned_of e, v)
-    → (u.from ≤ v.from) × EndsAt (left first) end (lines_of e)
-event_ends first u v e end place same begins here next there whole is =
+    → (u.from ≤ v.from) × EndsAt text end (lines_of e)
+event_ends text u v e end place same here next there whole is =
     let front = ends_with_lines e whole in
-    let text : v.text ≡ first.text = next ∙ same in
-    let ends = ends_at first.text front.0 (lines_of e) first.from u.from v.from begins here (subst (λ t. v.from ≤ length t) text there)
-    (ap (drop u.from) (sym same) ∙ (event_read u (planned_of e, v) is).0 ∙ ap₂ (λ a t. a ++ drop v.from t) front.1 text) in
-    (ends.0, subst (λ n. EndsAt (left first) n (lines_of e)) (sym place) ends.1)
+    let all : v.text ≡ text = next ∙ same in
+    let ends = ends_at text front.0 (lines_of e) u.from v.from here (subst (λ t. v.from ≤ length t) all there)
+    (ap (drop u.from) (sym same) ∙ (event_read u (planned_of e, v) is).0 ∙ ap₂ (λ a t. a ++ drop v.from t) front.1 all) in
+    (ends.0, subst (λ n. EndsAt text n (lines_of e)) (sym place) ends.1)

@@ -1,9 +1,9 @@
 //! The events of a schedule, one line or one journal at a time.
 
-ghost use Rattle.std.specs.Prelude.{◌≡◌, ◌≢◌, ◌≤◌, Ok, Err, Some, length, codes, option_map, IfOk, IfErr, IfSome, MatchResult};
+ghost use Rattle.std.specs.Prelude.{◌≡◌, ◌≢◌, ◌≤◌, ℕ, List, Ok, Err, Some, length, codes, option_map, IfOk, IfErr, IfSome, MatchResult};
 ghost use Rattle.metering_model.specs.Limits.{last_period, last_node, last_packet, most_input_bytes, most_revival_lines};
 ghost use Rattle.metering_model.specs.Schedule.{PlansDelivery, PlansStart, PlansRestart, PlansExport, PlansKeep};
-ghost use Rattle.schedule_reader.specs.Events.{HasWholeLines, planned_of};
+ghost use Rattle.schedule_reader.specs.Events.{EndsAt, HasWholeLines, StandsFrom, lines_of, planned_of};
 ghost use Rattle.schedule_reader.specs.Schedules.{one_behind, two_behind, event_of_line, line_event, journal_event, revival_of_line, revival_event, event_in, events_in};
 
 use crate::lines::{one_behind, two_behind};
@@ -37,6 +37,21 @@ pub enum Planned<'a> {
     Keep { node: u8 },
     /// A node restarts from these lines, each with its line feed.
     Revive { node: u8, text: &'a [u8] },
+}
+
+impl<'a> Planned<'a> {
+    /// Where in a text the lines begin that it journals, which end at a place. Of another event it says nothing.
+    #[inline(always)]
+    pub fn journal_from(&self, end: usize) -> usize
+        requires { length (lines_of self.now) ≤ end }
+        ensures { (text : List ℕ) → EndsAt text end (lines_of self.now)
+            → StandsFrom text result self.now }
+    {
+        match self {
+            Planned::Journal(lines) => end - lines.len(),
+            _ => 0,
+        }
+    }
 }
 
 fn delivery<'a>(line: &'a [u8]) -> Option<Planned<'a>>
@@ -202,19 +217,21 @@ pub fn event_in<'a>(unread: &Unread<'a>) -> Result<(Planned<'a>, Unread<'a>), Sc
     }
 }
 
-/// The events until nothing is left, and no more than `most`. The lines of each end where what is left after it begins.
+/// The events of a text, of which this is not read, until nothing is left, and no more than `most`. The lines of each end
+/// where what is left after it begins.
 pub(crate) fn events_in<'a>(
     alloc: Global,
+    text: &'a [u8],
     unread: Unread<'a>,
     most: usize,
 ) -> Result<Events<'a>, ScheduleFault>
-    requires { length unread.text ≤ most_input_bytes }
-    ensures taken { IfOk result (λ events. events_in most unread.entry ≡ Ok events) }
+    requires of { unread.text ≡ text.now }
+    requires short { length unread.text ≤ most_input_bytes }
+    ensures taken { IfOk result (λ events. events_in most unread.entry ≡ Ok events.planned) }
+    ensures text { IfOk result (λ events. events.text ≡ text.now) }
     ensures refused { IfErr result
         (λ fault. fault ≢ ScheduleFault.OutOfMemory → events_in most unread.entry ≡ Err fault) }
 {
-    let text = unread.left();
-    let first = unread.from();
     let mut packed = Vec::new(alloc);
     let mut here = unread;
     for _ in 0..most {
@@ -222,7 +239,7 @@ pub(crate) fn events_in<'a>(
             return Ok(Events::of(text, packed));
         }
         let (event, rest) = event_in(&here)?;
-        let Ok(_) = packed.push(Packed::of(&event, rest.from() - first)) else {
+        let Ok(_) = packed.push(Packed::of(&event, rest.from())) else {
             return Err(ScheduleFault::OutOfMemory);
         };
         here = rest;

@@ -3,8 +3,9 @@
 ghost use Rattle.std.specs.Prelude.{◌≡◌, ◌<◌, ◌≤◌, ◌-◌, ℕ, List, All, Some, length, map};
 ghost use Rattle.std.specs.List.{slice_get, slice_range};
 ghost use Rattle.metering_model.specs.Limits.{most_input_bytes};
-ghost use Rattle.schedule_reader.specs.Events.{HasWholeLines, planned_of};
-ghost use Rattle.schedule_reader.specs.Inner.Packed.{IsPackedIn, lines_of, unpacked};
+ghost use Rattle.schedule_reader.specs.Events.{HasWholeLines, StandsFrom, lines_of, planned_of};
+ghost use Rattle.schedule_reader.specs.declared.events.Planned.{Planned};
+ghost use Rattle.schedule_reader.specs.Inner.Packed.{IsPackedIn, unpacked};
 
 use crate::events::Planned;
 use std::marker::Model;
@@ -80,7 +81,8 @@ impl Packed {
     }
 }
 
-/// Events as they stand in a schedule, in their order. What is journaled, or revived from, stays in the schedule's text.
+/// Events as they stand in a schedule, in their order, and the schedule's text, in which what is journaled, or revived
+/// from, stays.
 #[derive(Drop)]
 pub struct Events<'a> {
     text: &'a [u8],
@@ -88,13 +90,14 @@ pub struct Events<'a> {
 }
 
 impl<'a> Model for Events<'a> {
-    ghost use Rattle.std.specs.Prelude.{List, All, map};
-    ghost use Rattle.metering_model.specs.Schedule.{Planned as ModelPlanned};
+    ghost use Rattle.std.specs.Prelude.{All, map};
+    ghost use Rattle.schedule_reader.specs.Events.{EventsIn};
     ghost use Rattle.schedule_reader.specs.Inner.Packed.{IsPackedIn, unpacked};
 
-    ghost Value = { List ModelPlanned };
+    ghost Value = { EventsIn };
 
-    ghost view = { λ e. map (unpacked e.text.now) e.packed.items };
+    ghost view = { λ e.
+        record { planned = map (unpacked e.text.now) e.packed.items; text = e.text.now } };
 
     ghost invariant = { λ e. All (IsPackedIn e.text.now) e.packed.items };
 }
@@ -103,24 +106,37 @@ impl<'a> Events<'a> {
     /// The events that these stand for in a text.
     pub(crate) fn of(text: &'a [u8], packed: Vec<Packed>) -> Events<'a>
         requires { All (IsPackedIn text.now) packed.items }
-        ensures { result ≡ map (unpacked text.now) packed.items }
+        ensures planned { result.planned ≡ map (unpacked text.now) packed.items }
+        ensures text { result.text ≡ text.now }
     {
         Events { text, packed }
     }
 
     /// How many events these are.
     pub fn len(&self) -> usize
-        ensures { result ≡ length self.now }
+        ensures { result ≡ length self.now.planned }
     {
         self.packed.len()
     }
 
     /// The event of this index, which is counted from 0.
     pub fn at(&self, index: usize) -> Planned<'a>
-        requires { index < length self.now }
-        ensures event { slice_get self.now index ≡ Some (planned_of result) }
+        requires { index < length self.now.planned }
+        ensures event { slice_get self.now.planned index ≡ Some (planned_of result) }
         ensures lines { HasWholeLines result }
     {
         self.packed[index].lent(self.text)
+    }
+
+    /// Where in the text the lines begin that the event of this index journals. Of another event it says nothing.
+    pub fn journal_from(&self, index: usize) -> usize
+        requires { index < length self.now.planned }
+        ensures { (event : Planned) → slice_get self.now.planned index ≡ Some (planned_of event)
+            → HasWholeLines event → StandsFrom self.now.text result event }
+    {
+        match self.packed[index] {
+            Packed::Journal { from, .. } => from as usize,
+            _ => 0,
+        }
     }
 }

@@ -170,7 +170,7 @@ impl<'a> Schedule<'a> {
               agents = s.agents;
               sheet = s.sheet;
               issuer = s.issuer;
-              events = s.events;
+              events = s.events.planned;
             })) }
         ensures refused { IfErr result
             (λ fault. fault ≢ ScheduleFault.OutOfMemory → schedule_in text.now ≡ Err fault) }
@@ -183,8 +183,9 @@ impl<'a> Schedule<'a> {
               agents = s.agents;
               sheet = s.sheet;
               issuer = s.issuer;
-              events = s.events;
+              events = s.events.planned;
             })) }
+        ensures text { IfOk result (λ s. s.events.text ≡ text.now) }
         ensures rules { IfOk result (λ s. IsSheet s.sheet × IsIssuer s.issuer) }
     {
         let above = Preamble::read(alloc, text)?;
@@ -196,7 +197,7 @@ impl<'a> Schedule<'a> {
             issuer,
             rest,
         } = above;
-        let events = events_in(alloc, rest, text.len())?;
+        let events = events_in(alloc, text, rest, text.len())?;
         Ok(Schedule {
             voters,
             observers,

@@ -1,9 +1,8 @@
 -- An event from what is kept of it, and the text.
-use Rattle.std.specs.Prelude.{◌≡◌, ℕ, ◌≤◌, List, [], length, ⊤}
+use Rattle.std.specs.Prelude.{◌≡◌, ℕ, ◌≤◌, List, length, ⊤}
 use Rattle.std.specs.List.{slice_range}
 use Rattle.metering_model.specs.BatchReading.{lines_in}
 use Rattle.metering_model.specs.Schedule as model
-use Rattle.schedule_reader.specs.declared.events.Planned as lent
 use Rattle.schedule_reader.specs.declared.packed.Packed.{Packed}
 use Rattle.schedule_reader.specs.declared.packed.Packed.TheVariants.{Journal, Deliver, Start, Restart, Export, Keep, Revive}
 
@@ -31,13 +30,3 @@ IsPackedIn text (Restart node) = ⊤
 IsPackedIn text (Export node period) = ⊤
 IsPackedIn text (Keep node) = ⊤
 IsPackedIn text (Revive node from to) = AreLinesAt text from to
-
--- what is lent of the text for an event: nothing where it has no lines
-abbrev pub lines_of : lent.Planned → List ℕ
-lines_of (lent.TheVariants.Journal text) = text.now
-lines_of (lent.TheVariants.Deliver packet node) = []
-lines_of (lent.TheVariants.Start node) = []
-lines_of (lent.TheVariants.Restart node) = []
-lines_of (lent.TheVariants.Export node period) = []
-lines_of (lent.TheVariants.Keep node) = []
-lines_of (lent.TheVariants.Revive node text) = text.now
