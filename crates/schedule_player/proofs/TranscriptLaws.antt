@@ -30,7 +30,7 @@ module _ (input : List ℕ) (s : Schedule) (taken : schedule_in input ≡ Ok (re
     is_read = taken;
     form = form;
     is_transcript = refl;
-    headline = holds_of_bytes s.voters s.observers s.agents s.sheet s.issuer (events_of s.events) rules.0 rules.1;
+    headline = holds_of_bytes s.voters s.observers s.agents s.sheet s.issuer (events_of s.events.planned) rules.0 rules.1;
   }
 
   pub played_input : {T E : Type 0} (r : Result T E) (old new : Option (List ℕ)) → OnOk r (Appends old new (transcript (replies_to (read_of s) (read_of s).events)))
@@ -42,21 +42,21 @@ module _ (input : List ℕ) (s : Schedule) (taken : schedule_in input ≡ Ok (re
       → (text : List ℕ) × IsTranscriptOf (Some input) input text × AppendsPrefix old new text
   prefix_of_whole old new prefix = (transcript (replies_to (read_of s) (read_of s).events), whole, prefix)
 
-  first_of : (done : ℕ) → done < length s.events → IsTranscriptOfFirst (read_of s) done (text_of (opening s.voters s.observers s.agents s.sheet s.issuer) (events_of (take done s.events)))
+  first_of : (done : ℕ) → done < length s.events.planned → IsTranscriptOfFirst (read_of s) done (text_of (opening s.voters s.observers s.agents s.sheet s.issuer) (events_of (take done s.events.planned)))
   first_of done within = record {
     within = within;
     is_transcript = refl;
-    headline = holds_of_bytes s.voters s.observers s.agents s.sheet s.issuer (events_of (take done s.events)) rules.0 rules.1;
+    headline = holds_of_bytes s.voters s.observers s.agents s.sheet s.issuer (events_of (take done s.events.planned)) rules.0 rules.1;
   }
 
   pub prefix_of_input : (old new : Option (List ℕ))
-      → Keeps old new ⊎ AppendsFirst old new (opening s.voters s.observers s.agents s.sheet s.issuer) s.events
+      → Keeps old new ⊎ AppendsFirst old new (opening s.voters s.observers s.agents s.sheet s.issuer) s.events.planned
       → (text : List ℕ) × IsPrefixOfTranscript (Some input) input text × Appends old new text
   prefix_of_input old new =
       ⊎_elim
       (λ kept. ([], record { is_input = refl; is_prefix = inl refl }, kept_appends old new kept))
       (λ first. (
-        text_of (opening s.voters s.observers s.agents s.sheet s.issuer) (events_of (take first.0 s.events)),
+        text_of (opening s.voters s.observers s.agents s.sheet s.issuer) (events_of (take first.0 s.events.planned)),
         record {
           is_input = refl;
           is_prefix = inr (record { schedule = read_of s; is_read = taken; form = form; done = first.0; is_first = first_of first.0 first.1 });

@@ -7,7 +7,7 @@ mod playing;
 mod reply_lines;
 mod reply_texts;
 
-pub use events::event_of;
+pub use events::{event_of, event_within};
 pub use group_core::World;
 pub use group_events::Reply;
 pub use play::{opening_world, play_text};

@@ -1,6 +1,7 @@
 //! `focusd play`: the transcript of a schedule.
 
 ghost use Rattle.std.specs.Prelude.{◌≡◌, ◌≢◌, ◌+◌, ◌≤◌, ◌⊎◌, List, ℕ, Ok, Err, IfOk, IfErr, IfSome, IsOk, OnOk};
+ghost use Rattle.std.specs.Arc.{arc_value};
 ghost use Rattle.std.specs.Io.KnownBytes.{Appends, IsAtEnd, Keeps};
 ghost use Rattle.metering_model.specs.Limits.{most_agents, most_nodes, most_input_bytes};
 ghost use Rattle.counted_io.specs.Counts.{count_after};
@@ -48,14 +49,16 @@ pub fn opening_world(
     World::new(alloc, voters, observers, agents, sheet, issuer)
 }
 
-/// Plays a schedule that was read, and writes its transcript.
+/// Plays a schedule that was read in a text, and writes its transcript.
 fn play_schedule<W: Sink>(
     alloc: Global,
+    text: &Arc<Vec<u8>>,
     schedule: Schedule<'_>,
     writer: &mut W,
 ) -> Result<(), PlayFault>
     requires nodes { (1 ≤ schedule.voters) × (schedule.voters + schedule.observers ≤ most_nodes) }
     requires agents { (1 ≤ schedule.agents) × (schedule.agents ≤ most_agents) }
+    requires text { schedule.events.text ≡ (arc_value text.now).items }
     ensures writes { Writes result (W.contents writer.old) (W.contents writer.new)
         (W.failed_calls writer.old) (W.failed_calls writer.new)
         (transcript (replies_to (read_of schedule.entry) (read_of schedule.entry).events)) }
@@ -64,7 +67,7 @@ fn play_schedule<W: Sink>(
         ⊎ AppendsFirst (W.contents writer.old) (W.contents writer.new)
         (opening schedule.entry.voters schedule.entry.observers schedule.entry.agents
         schedule.entry.sheet schedule.entry.issuer)
-        schedule.entry.events }
+        schedule.entry.events.planned }
     ensures others { (result ≢ Err PlayFault.Read)
         × ((fault : ScheduleFault) → result ≢ Err (PlayFault.Schedule fault))
         × ((refusal : Refusal) → result ≢ Err (PlayFault.Refused refusal)) }
@@ -80,7 +83,7 @@ fn play_schedule<W: Sink>(
     let Ok(world) = opening_world(alloc, voters, observers, agents, sheet, issuer) else {
         return Err(PlayFault::OutOfMemory);
     };
-    let Ok(done) = play_events(alloc, world, &events, writer) else {
+    let Ok(done) = play_events(alloc, world, text, &events, writer) else {
         return Err(PlayFault::Write);
     };
     if done == events.len() {
@@ -90,8 +93,14 @@ fn play_schedule<W: Sink>(
     }
 }
 
-/// Plays the schedule that an input is, and writes its transcript.
-fn play_input<W: Sink>(alloc: Global, input: &[u8], writer: &mut W) -> Result<(), PlayFault>
+/// Plays the schedule that an input is, of which the text is shared, and writes its transcript.
+fn play_input<W: Sink>(
+    alloc: Global,
+    text: &Arc<Vec<u8>>,
+    input: &[u8],
+    writer: &mut W,
+) -> Result<(), PlayFault>
+    requires { input.now ≡ (arc_value text.now).items }
     ensures writes { WritesTranscript result input.now
         (W.contents writer.old) (W.contents writer.new)
         (W.failed_calls writer.old) (W.failed_calls writer.new) }
@@ -104,9 +113,24 @@ fn play_input<W: Sink>(alloc: Global, input: &[u8], writer: &mut W) -> Result<()
     ensures no_refusal { (refusal : Refusal) → result ≢ Err (PlayFault.Refused refusal) }
 {
     match Schedule::read(alloc, input) {
-        Ok(schedule) => play_schedule(alloc, schedule, writer),
+        Ok(schedule) => play_schedule(alloc, text, schedule, writer),
         Err(fault) => Err(PlayFault::from(fault)),
     }
+}
+
+/// Why an input is not played for which there is no memory: its first fault as a schedule, or out of memory. Nothing is
+/// written.
+fn unplayed(alloc: Global, input: &[u8]) -> PlayFault
+    ensures section { (fault : ScheduleFault) → result ≡ PlayFault.Schedule fault
+        → (fault ≢ ScheduleFault.OutOfMemory) × (schedule_in input.now ≡ Err fault) }
+    ensures want { result ≡ PlayFault.OutOfMemory → IsOk (group_in input.now) }
+    ensures others { (result ≢ PlayFault.Read) × (result ≢ PlayFault.Write)
+        × ((refusal : Refusal) → result ≢ PlayFault.Refused refusal) }
+{
+    if let Err(fault) = Schedule::read(alloc, input) {
+        return PlayFault::from(fault);
+    }
+    PlayFault::OutOfMemory
 }
 
 /// Plays the schedule that a reader gives, and writes its transcript. At most 16,777,217 bytes are read. After
@@ -150,5 +174,8 @@ pub fn play_text<R: Source, W: Sink>(
         ≡ count_after (tells_of_writer result) (W.failed_calls writer.old) }
 {
     let input = read_input(alloc, reader)?;
-    play_input(alloc, &input, writer)
+    match Arc::new(alloc, input) {
+        Ok(text) => play_input(alloc, &text, &text, writer),
+        Err(refused) => Err(unplayed(alloc, &refused.value)),
+    }
 }

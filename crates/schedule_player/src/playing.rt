@@ -1,30 +1,36 @@
 //! The events of a schedule, one after the other, and the lines of their replies.
 
 ghost use Rattle.std.specs.Prelude.{◌≡◌, ◌<◌, ◌≤◌, ◌⊎◌, ◌++◌, [], ℕ, List, length, take, IfOk, OnOk, OnErr};
+ghost use Rattle.std.specs.Arc.{arc_value};
 ghost use Rattle.std.specs.Io.KnownBytes.{Appends};
 ghost use Rattle.metering_model.specs.Schedule.{event_of};
 ghost use Rattle.metering_model.specs.Step.{step};
 ghost use Rattle.metering_model.specs.Transcript.{reply_text};
-ghost use Rattle.schedule_reader.specs.Events.{HasWholeLines, planned_of};
+ghost use Rattle.schedule_reader.specs.Events.{HasWholeLines, StandsFrom, planned_of};
 ghost use Rattle.schedule_player.specs.Inner.Held.{IsAfter, IsHeldOf};
 ghost use Rattle.schedule_player.specs.Inner.Playing.{HasPlayed, events_of, text_of};
 ghost use Rattle.schedule_player.specs.Inner.Writing.{FailsWithin};
 
-use crate::events::event_of;
+use crate::events::event_within;
 use crate::reply_lines::ReplyLines;
 use counted_io::{Failed, Sink};
 use group_core::World;
 use schedule_reader::{Events, Planned};
 use std::alloc::{AllocError, Global};
+use std::sync::Arc;
 
-/// Does one event, and puts the text of its reply after what waits. Where an allocation fails, nothing of it waits.
+/// Does one event, of which what is journaled stands in the text from a place on, and puts the text of its reply after
+/// what waits. Where an allocation fails, nothing of it waits.
 fn play_event(
     alloc: Global,
     world: &mut World,
+    text: &Arc<Vec<u8>>,
     planned: &Planned<'_>,
+    from: usize,
     lines: &mut ReplyLines,
 ) -> Result<(), AllocError>
     requires whole { HasWholeLines planned.now }
+    requires there { StandsFrom (arc_value text.now).items from planned.now }
     requires held { IsHeldOf world.old lines.old.held }
     ensures text { OnOk result
         (lines.new.text ≡ lines.old.text
@@ -38,7 +44,7 @@ fn play_event(
         ((world.new ≡ world.old) ⊎
         (world.new ≡ (step world.old (event_of (planned_of planned.now))).1)) }
 {
-    let event = event_of(alloc, planned)?;
+    let event = event_within(alloc, text, planned, from)?;
     let reply = world.step(alloc, &event)?;
     lines.add(alloc, &reply)
 }
@@ -64,27 +70,30 @@ fn write_many<W: Sink>(lines: &mut ReplyLines, writer: &mut W) -> Result<(), Fai
     }
 }
 
-/// Does the events in turn, as long as memory is found, and returns how many were done. What a transcript says of their
+/// Does the events of a text in turn, as long as memory is found, and returns how many were done. What a transcript says of their
 /// replies was written, or waits, and little of it waits.
 fn play_on<W: Sink>(
     alloc: Global,
     world: &mut World,
+    text: &Arc<Vec<u8>>,
     events: &Events<'_>,
     lines: &mut ReplyLines,
     writer: &mut W,
 ) -> Result<usize, Failed>
+    requires text { events.now.text ≡ (arc_value text.now).items }
     requires none_wait { lines.old.text ≡ [] }
     requires held { IsHeldOf world.old lines.old.held }
     ensures played { IfOk result
-        (λ done. HasPlayed world.old events.now done world.new
+        (λ done. HasPlayed world.old events.now.planned done world.new
         (W.contents writer.old) (W.contents writer.new) lines.new.text) }
     ensures fails { FailsWithin result (W.contents writer.old) (W.contents writer.new)
         (W.failed_calls writer.old) (W.failed_calls writer.new)
-        (text_of world.old (events_of events.now)) }
+        (text_of world.old (events_of events.now.planned)) }
 {
     for done in 0..events.len() {
         let planned = events.at(done);
-        let Ok(()) = play_event(alloc, world, &planned, lines) else {
+        let from = events.journal_from(done);
+        let Ok(()) = play_event(alloc, world, text, &planned, from, lines) else {
             return Ok(done);
         };
         write_many(lines, writer)?;
@@ -92,25 +101,27 @@ fn play_on<W: Sink>(
     Ok(events.len())
 }
 
-/// Does the events in turn, as long as memory is found, and writes just what a transcript says of the replies of those
+/// Does the events of a text in turn, as long as memory is found, and writes just what a transcript says of the replies of those
 /// that were done. It answers how many these are.
 pub(crate) fn play_events<W: Sink>(
     alloc: Global,
     world: World,
+    text: &Arc<Vec<u8>>,
     events: &Events<'_>,
     writer: &mut W,
 ) -> Result<usize, Failed>
-    ensures within { IfOk result (λ done. done ≤ length events.now) }
+    requires { events.now.text ≡ (arc_value text.now).items }
+    ensures within { IfOk result (λ done. done ≤ length events.now.planned) }
     ensures played { IfOk result
         (λ done. Appends (W.contents writer.old) (W.contents writer.new)
-        (text_of world (events_of (take done events.now)))) }
+        (text_of world (events_of (take done events.now.planned)))) }
     ensures fails { FailsWithin result (W.contents writer.old) (W.contents writer.new)
         (W.failed_calls writer.old) (W.failed_calls writer.new)
-        (text_of world (events_of events.now)) }
+        (text_of world (events_of events.now.planned)) }
 {
     let mut world = world;
     let mut lines = ReplyLines::new(alloc);
-    let done = play_on(alloc, &mut world, events, &mut lines, writer)?;
+    let done = play_on(alloc, &mut world, text, events, &mut lines, writer)?;
     lines.write(writer)?;
     Ok(done)
 }

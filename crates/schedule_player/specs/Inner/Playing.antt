@@ -9,7 +9,7 @@ use Rattle.schedule_reader.specs.declared.schedules.Schedule.{Schedule}
 use Rattle.schedule_reader.specs.Schedules.{ReadSchedule}
 
 abbrev pub read_of : Schedule → ReadSchedule
-read_of s = record { voters = s.voters; observers = s.observers; agents = s.agents; sheet = s.sheet; issuer = s.issuer; events = s.events }
+read_of s = record { voters = s.voters; observers = s.observers; agents = s.agents; sheet = s.sheet; issuer = s.issuer; events = s.events.planned }
 
 -- what happens to the group, by the model
 abbrev pub events_of : List Planned → List Event

@@ -1,27 +1,27 @@
-use Rattle.std.proofs.Common.{refl, rules, sym}
+use Rattle.std.proofs.Common.{refl, rules, sym, ap, ◌∙◌}
 use Rattle.program_input.specs.declared.ScheduleFault.TheVariants.{OutOfMemory}
 use Rattle.schedule_player.proofs.PlayedLaws.{longer_schedule, plain_fault, told_of_known, of_known, cut_of_known, prefix_of_known, nothing_of}
 use Rattle.schedule_player.proofs.play.play_text.Goals as goal
 
-pub returns-clause-transcript : goal.returns-clause-transcript
-returns-clause-transcript g c =
+pub returns-in-Ok-clause-transcript : goal.returns-in-Ok-clause-transcript
+returns-in-Ok-clause-transcript g c =
     of_known c.play_input.result (g.R.Source.remaining c.args.reader.now) _ _ c.in_ok-input.input.items c.in_ok-input.ensures.whole
-    (rw c.deref.ensures.value at c.play_input.ensures.writes.transcript)
+    (rw (c.deref-in-Ok.ensures.value ∙ ap (λ v. v.items) (c.deref.ensures ∙ c.in-Ok.ensures.ok)) at c.play_input.ensures.writes.transcript)
 
-pub returns-clause-prefix : goal.returns-clause-prefix
-returns-clause-prefix g c = λ is.
+pub returns-in-Ok-clause-prefix : goal.returns-in-Ok-clause-prefix
+returns-in-Ok-clause-prefix g c = λ is.
     cut_of_known (g.R.Source.remaining c.args.reader.now) _ _ c.in_ok-input.input.items c.in_ok-input.ensures.whole
-    (rw c.deref.ensures.value at (c.play_input.ensures.writes.prefix is))
+    (rw (c.deref-in-Ok.ensures.value ∙ ap (λ v. v.items) (c.deref.ensures ∙ c.in-Ok.ensures.ok)) at (c.play_input.ensures.writes.prefix is))
 
-pub returns-clause-section : goal.returns-clause-section
-returns-clause-section g c = λ fault is.
+pub returns-in-Ok-clause-section : goal.returns-in-Ok-clause-section
+returns-in-Ok-clause-section g c = λ fault is.
     told_of_known (g.R.Source.remaining c.args.reader.now) c.in_ok-input.input.items fault c.in_ok-input.ensures.whole
-    (rw c.deref.ensures.value at (c.play_input.ensures.section fault is).1)
+    (rw (c.deref-in-Ok.ensures.value ∙ ap (λ v. v.items) (c.deref.ensures ∙ c.in-Ok.ensures.ok)) at (c.play_input.ensures.section fault is).1)
 
-pub returns-clause-memory : goal.returns-clause-memory
-returns-clause-memory g c = λ is.
+pub returns-in-Ok-clause-memory : goal.returns-in-Ok-clause-memory
+returns-in-Ok-clause-memory g c = λ is.
     prefix_of_known (g.R.Source.remaining c.args.reader.now) _ _ c.in_ok-input.input.items c.in_ok-input.ensures.whole
-    (rw c.deref.ensures.value at (c.play_input.ensures.writes.memory is))
+    (rw (c.deref-in-Ok.ensures.value ∙ ap (λ v. v.items) (c.deref.ensures ∙ c.in-Ok.ensures.ok)) at (c.play_input.ensures.writes.memory is))
 
 pub returns-in_err-input-clause-section : goal.returns-in_err-input-clause-section
 returns-in_err-input-clause-section g c = λ fault is.

@@ -10,7 +10,7 @@ use Rattle.schedule_player.proofs.playing.play_on.Goals as goal
 pub loop-done-preserved : goal.loop-done-preserved
 loop-done-preserved g c =
     let so = c.loop-done.invariant in
-    let events = c.args.events.now in
+    let events = c.args.events.now.planned in
     let i = c.loop-done.done in
     let at = c.at-planned.ensures.event in
     let part = c.in_ok-write_many.ensures.written in (
@@ -29,7 +29,7 @@ loop-done-preserved g c =
 pub returns-in_default-clause-played : goal.returns-in_default-clause-played
 returns-in_default-clause-played g c =
     let so = c.loop-done.invariant in
-    let events = c.args.events.now in
+    let events = c.args.events.now.planned in
     let i = c.loop-done.done in
     let at = c.at-planned.ensures.event in
     let kept = c.in_default.ensures.kept in
@@ -43,7 +43,7 @@ returns-in_default-clause-played g c =
 pub returns-in_err-write_many-clause-fails : goal.returns-in_err-write_many-clause-fails
 returns-in_err-write_many-clause-fails g c =
     let so = c.loop-done.invariant in
-    let events = c.args.events.now in
+    let events = c.args.events.now.planned in
     let i = c.loop-done.done in
     let at = c.at-planned.ensures.event in
     let told : IsTold (g.W.Sink.contents c.args.writer.now) (g.W.Sink.contents c.loop-done.writer) c.play_event.new.lines.text c.args.world.now events (i + 1) = (

@@ -7,8 +7,8 @@ use Rattle.schedule_player.proofs.playing.play_on.Given as goal
 -- failed, and what is at hand is of this world.
 abbrev pub invariant-loop-done : goal.invariant-loop-done
 invariant-loop-done g l =
-    IsTold (g.W.Sink.contents l.fn.writer) (g.W.Sink.contents l.writer) l.lines.text l.fn.world l.events l.done
-    × (l.world ≡ world_after l.fn.world l.events l.done)
+    IsTold (g.W.Sink.contents l.fn.writer) (g.W.Sink.contents l.writer) l.lines.text l.fn.world l.events.planned l.done
+    × (l.world ≡ world_after l.fn.world l.events.planned l.done)
     × (g.W.Sink.failed_calls l.writer ≡ g.W.Sink.failed_calls l.fn.writer)
     × IsHeldOf l.world l.lines.held
     × (length l.lines.text < 65_536)
