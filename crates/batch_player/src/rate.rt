@@ -81,14 +81,6 @@ pub fn rate_text<R: Source, W: Sink>(
     rate_input_text(alloc, period, input, writer)
 }
 
-/// Takes the bytes before a place away. No room is asked for.
-fn drop_before(bytes: &mut Vec<u8>, from: usize)
-    requires { from ≤ vec_len bytes.old }
-    ensures { bytes.new.items ≡ drop from bytes.old.items }
-{
-    bytes.drain(..from);
-}
-
 /// Writes the file of an input that was read.
 fn rate_input_text<W: Sink>(
     alloc: Global,
@@ -115,9 +107,15 @@ fn rate_input_text<W: Sink>(
         Ok(given) => given,
         Err(fault) => return Err(PlayFault::from(fault)),
     };
-    let mut batch = input;
-    drop_before(&mut batch, given.batch_from);
-    rate_batch(alloc, period, &given.sheet, &given.issuer, batch, writer)
+    rate_behind(
+        alloc,
+        period,
+        &given.sheet,
+        &given.issuer,
+        input,
+        given.batch_from,
+        writer,
+    )
 }
 
 /// Writes the file of one batch in a billing period, from the zero cut to its front, by a sheet and an issuer.
@@ -150,11 +148,51 @@ pub fn rate_batch<W: Sink>(
     ensures no_read { result ≢ Err PlayFault.Read }
     ensures no_section { (fault : ScheduleFault) → result ≢ Err (PlayFault.Schedule fault) }
 {
-    let batch = match Offer::read_or_back(alloc, input) {
+    rate_behind(alloc, period, sheet, issuer, input, 0, writer)
+}
+
+/// The same of the batch that an input is from a place on, which stays where it is.
+fn rate_behind<W: Sink>(
+    alloc: Global,
+    period: Period,
+    sheet: &Sheet,
+    issuer: &Issuer,
+    input: Vec<u8>,
+    from: usize,
+    writer: &mut W,
+) -> Result<(), PlayFault>
+    requires { from ≤ vec_len input }
+    ensures file { OnOk result
+        ((text : List ℕ)
+        × (file_by sheet.now issuer.now period (drop from input.items) ≡ Ok text)
+        × Appends (W.contents writer.old) (W.contents writer.new) text) }
+    ensures prefix { result ≡ Err PlayFault.Write
+        → (text : List ℕ)
+        × (file_by sheet.now issuer.now period (drop from input.items) ≡ Ok text)
+        × AppendsPrefix (W.contents writer.old) (W.contents writer.new) text }
+    ensures refused { (refusal : Refusal) → result ≡ Err (PlayFault.Refused refusal)
+        → file_by sheet.now issuer.now period (drop from input.items) ≡ Err refusal }
+    ensures memory { result ≡ Err PlayFault.OutOfMemory
+        → journaled_in sheet.now issuer.now (drop from input.items)
+        ≡ Ok (batch_of (drop from input.items)) }
+    ensures kept { IfErr result (λ fault. fault ≢ PlayFault.Write → writer.new ≡ writer.old) }
+    ensures writes { W.failed_calls writer.new
+        ≡ count_after (tells_of_writer result) (W.failed_calls writer.old) }
+    ensures no_read { result ≢ Err PlayFault.Read }
+    ensures no_section { (fault : ScheduleFault) → result ≢ Err (PlayFault.Schedule fault) }
+{
+    let to = input.len();
+    let input = match Arc::new(alloc, input) {
+        Ok(shared) => shared,
+        Err(unkept) => return Err(fault_of_unkept(sheet, &unkept.value[from..])),
+    };
+    let batch = match Offer::read_within(alloc, &input, from, to) {
         Ok(Offer::Good(batch)) => batch,
         Ok(Offer::Bad(fault)) => return Err(PlayFault::Refused(Refusal::BadBatch(fault))),
-        Err(unkept) => return Err(fault_of_unkept(sheet, &unkept.value)),
+        Err(_) => return Err(fault_of_unkept(sheet, &input[from..])),
     };
+    // The batch keeps it, until its file is made.
+    drop(input);
     let text = file_of_batch(alloc, period, sheet, issuer, batch)?;
     match write_all(writer, &text) {
         Ok(()) => Ok(()),

@@ -18,9 +18,9 @@ returns-clause-file g c =
     let has = c.in-Ok.given in
     let given : RateInput = record { sheet = has.sheet; issuer = has.issuer; batch = drop has.batch_from input } in
     let taken = rw c.deref.ensures.value at c.in-Ok.ensures.taken in
-    let filed = rw c.drop_before.ensures at c.rate_batch.ensures.file in
-    filed_input c.args.period input given taken c.in-Ok.ensures.rules.0 c.in-Ok.ensures.rules.1 c.rate_batch.result
-    (Appends (g.W.Sink.contents c.args.writer.now) (g.W.Sink.contents c.rate_batch.new.writer)) filed
+    let filed = c.rate_behind.ensures.file in
+    filed_input c.args.period input given taken c.in-Ok.ensures.rules.0 c.in-Ok.ensures.rules.1 c.rate_behind.result
+    (Appends (g.W.Sink.contents c.args.writer.now) (g.W.Sink.contents c.rate_behind.new.writer)) filed
 
 pub returns-clause-prefix : goal.returns-clause-prefix
 returns-clause-prefix g c = λ is.
@@ -28,9 +28,9 @@ returns-clause-prefix g c = λ is.
     let has = c.in-Ok.given in
     let given : RateInput = record { sheet = has.sheet; issuer = has.issuer; batch = drop has.batch_from input } in
     let taken = rw c.deref.ensures.value at c.in-Ok.ensures.taken in
-    let filed = rw c.drop_before.ensures at (c.rate_batch.ensures.prefix is) in
+    let filed = c.rate_behind.ensures.prefix is in
     prefix_of_input c.args.period input given taken c.in-Ok.ensures.rules.0 c.in-Ok.ensures.rules.1
-    (AppendsPrefix (g.W.Sink.contents c.args.writer.now) (g.W.Sink.contents c.rate_batch.new.writer)) filed
+    (AppendsPrefix (g.W.Sink.contents c.args.writer.now) (g.W.Sink.contents c.rate_behind.new.writer)) filed
 
 pub returns-clause-refused : goal.returns-clause-refused
 returns-clause-refused g c = λ refusal is.
@@ -38,5 +38,5 @@ returns-clause-refused g c = λ refusal is.
     let has = c.in-Ok.given in
     let given : RateInput = record { sheet = has.sheet; issuer = has.issuer; batch = drop has.batch_from input } in
     let taken = rw c.deref.ensures.value at c.in-Ok.ensures.taken in
-    let refused = rw c.drop_before.ensures at (c.rate_batch.ensures.refused refusal is) in
+    let refused = c.rate_behind.ensures.refused refusal is in
     rated_well c.args.period input given taken ∙ ap or_refused refused
