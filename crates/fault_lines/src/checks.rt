@@ -2,6 +2,7 @@
 //! warned.
 
 ghost use Rattle.std.specs.Prelude.{◌≡◌, ◌≢◌, ◌⊎◌, ◌+◌, ◌++◌, ℕ, List, [], Ok, Err, IfOk, IfErr, OnOk};
+ghost use Rattle.std.specs.Arc.{arc_value};
 ghost use Rattle.std.specs.Io.KnownBytes.{Appends, IsAtEnd};
 ghost use Rattle.counted_io.specs.Counts.{count_after};
 ghost use Rattle.counted_io.specs.Reading.{ConsumesAtMost};
@@ -17,6 +18,7 @@ use byte_text::line_count;
 use counted_io::{Sink, Source, write_all};
 use program_input::{PlayFault, read_input};
 use std::alloc::{AllocError, Global};
+use std::sync::Arc;
 
 /// What an input is checked as.
 pub trait Check {
@@ -32,18 +34,19 @@ pub trait Check {
     /// An input of more than 16,777,216 bytes is not read to its end, so of any such that alone is said.
     ghost long: { (c : Self) → SaysTooLong (said_of c) (warned_of c) };
 
-    /// Appends what is wrong with an input to a text, and to another of what it is warned. An error is an allocation failure,
-    /// after which a part may have been appended.
+    /// Appends what is wrong with an input to a text, and to another of what it is warned. The input is shared, so that what
+    /// is read of it need not be copied. An error is an allocation failure, after which a part may have been appended.
     fn put(
         &self,
         alloc: Global,
-        input: &[u8],
+        input: &Arc<Vec<u8>>,
         told: &mut Vec<u8>,
         warnings: &mut Vec<u8>,
     ) -> Result<(), AllocError>
-        ensures said { OnOk result (told.new.items ≡ told.old.items ++ said_of self.now input.now) }
-        ensures warned { OnOk result
-            (warnings.new.items ≡ warnings.old.items ++ warned_of self.now input.now) };
+        ensures said { OnOk result
+            (told.new.items ≡ told.old.items ++ said_of self.now (arc_value input.now).items) }
+        ensures warned { OnOk result (warnings.new.items
+            ≡ warnings.old.items ++ warned_of self.now (arc_value input.now).items) };
 }
 
 /// Writes a text, of which so many lines are counted, and answers how many.
@@ -67,25 +70,28 @@ fn write_said<W: Sink>(text: &[u8], count: u64, writer: &mut W) -> Result<u64, P
 fn write_checked<C: Check, W: Sink>(
     alloc: Global,
     check: &C,
-    input: &[u8],
+    input: Vec<u8>,
     writer: &mut W,
 ) -> Result<u64, PlayFault>
     ensures said { IfOk result
         (λ count. Appends (W.contents writer.old) (W.contents writer.new)
-        (C.said_of check.now input.now ++ C.warned_of check.now input.now)
-        × (count ≡ line_count (C.said_of check.now input.now))) }
+        (C.said_of check.now input.items ++ C.warned_of check.now input.items)
+        × (count ≡ line_count (C.said_of check.now input.items))) }
     ensures prefix { result ≡ Err PlayFault.Write
         → AppendsPrefix (W.contents writer.old) (W.contents writer.new)
-        (C.said_of check.now input.now ++ C.warned_of check.now input.now) }
+        (C.said_of check.now input.items ++ C.warned_of check.now input.items) }
     ensures fault { IfErr result
         (λ fault. (fault ≡ PlayFault.Write) ⊎ (fault ≡ PlayFault.OutOfMemory)) }
     ensures memory { result ≡ Err PlayFault.OutOfMemory → writer.new ≡ writer.old }
     ensures writes { W.failed_calls writer.new
         ≡ count_after (tells_of_writer result) (W.failed_calls writer.old) }
 {
+    let Ok(input) = Arc::new(alloc, input) else {
+        return Err(PlayFault::OutOfMemory);
+    };
     let mut said = Vec::new(alloc);
     let mut warned = Vec::new(alloc);
-    if check.put(alloc, input, &mut said, &mut warned).is_err() {
+    if check.put(alloc, &input, &mut said, &mut warned).is_err() {
         return Err(PlayFault::OutOfMemory);
     }
     // A warning is no fault: it stands behind them, and is not counted.
@@ -139,7 +145,7 @@ pub fn check_input<C: Check, R: Source, W: Sink>(
         ≡ count_after (tells_of_writer result) (W.failed_calls writer.old) }
 {
     match read_input(alloc, reader) {
-        Ok(input) => write_checked(alloc, check, &input, writer),
+        Ok(input) => write_checked(alloc, check, input, writer),
         Err(PlayFault::Schedule(_)) => write_said(b"line 1: L8\n", 1, writer),
         Err(fault) => Err(fault),
     }

@@ -1,6 +1,7 @@
 //! `focusd check`: what is wrong with an input.
 
 ghost use Rattle.std.specs.Prelude.{◌+◌, ◌≡◌, ◌≢◌, ◌++◌, ℕ, List, [], Ok, Err, IfOk, IfErr, OnOk};
+ghost use Rattle.std.specs.Arc.{arc_value};
 ghost use Rattle.std.specs.Io.KnownBytes.{Appends, IsAtEnd};
 ghost use Rattle.metering_model.specs.Limits.{most_input_bytes};
 ghost use Rattle.counted_io.specs.Counts.{count_after};
@@ -21,21 +22,23 @@ use counted_io::{Sink, Source};
 use fault_lines::{Check, check_input};
 use schedule_player::PlayFault;
 use std::alloc::{AllocError, Global};
+use std::sync::Arc;
 
 /// Appends what is wrong with an input of a kind, a line for each thing, or nothing, and in another place what is warned of.
 fn put_faults(
     alloc: Global,
     kind: InputKind,
-    text: &[u8],
+    text: &Arc<Vec<u8>>,
     told: &mut Vec<u8>,
     warned: &mut Vec<u8>,
 ) -> Result<(), AllocError>
-    ensures said { OnOk result (told.new.items ≡ told.old.items ++ said_of_input_as kind text.now) }
-    ensures warned { OnOk result
-        (warned.new.items ≡ warned.old.items ++ warned_of_input_as kind text.now) }
+    ensures said { OnOk result
+        (told.new.items ≡ told.old.items ++ said_of_input_as kind (arc_value text.now).items) }
+    ensures warned { OnOk result (warned.new.items
+        ≡ warned.old.items ++ warned_of_input_as kind (arc_value text.now).items) }
 {
     match kind {
-        InputKind::Play => check_schedule(alloc, text, told, warned),
+        InputKind::Play => check_schedule(alloc, text, text, told, warned),
         InputKind::Rate => check_rating(alloc, text, told, warned),
     }
 }
@@ -61,7 +64,7 @@ impl Check for OfKind {
     fn put(
         &self,
         alloc: Global,
-        input: &[u8],
+        input: &Arc<Vec<u8>>,
         told: &mut Vec<u8>,
         warnings: &mut Vec<u8>,
     ) -> Result<(), AllocError> {
@@ -90,7 +93,7 @@ impl Check for OfFirstLine {
     fn put(
         &self,
         alloc: Global,
-        input: &[u8],
+        input: &Arc<Vec<u8>>,
         told: &mut Vec<u8>,
         warnings: &mut Vec<u8>,
     ) -> Result<(), AllocError> {

@@ -1,13 +1,14 @@
 //! The events of a schedule that are refused.
 
 ghost use Rattle.std.specs.Prelude.{◌≡◌, ◌≤◌, ◌+◌, [], ◌++◌, List, IfOk, OnOk};
+ghost use Rattle.std.specs.Arc.{arc_value};
 ghost use Rattle.metering_model.specs.Limits.{most_agents, most_nodes};
 ghost use Rattle.metering_model.specs.Batch.{Batch};
 ghost use Rattle.metering_model.specs.Schedule.{event_of};
 ghost use Rattle.metering_model.specs.Step.{step};
 ghost use Rattle.metering_model.specs.World as model;
 ghost use Rattle.schedule_player.specs.Replies.{reply_of};
-ghost use Rattle.schedule_reader.specs.Events.{HasWholeLines, planned_of};
+ghost use Rattle.schedule_reader.specs.Events.{HasWholeLines, StandsFrom, planned_of};
 ghost use Rattle.schedule_reader.specs.Schedules.{events_in};
 ghost use Rattle.input_check.specs.Checks.{line_of_kept, said_of_events, said_of_refused, said_of_reply, said_of_schedule};
 ghost use Rattle.fault_lines.specs.Ahead.{AreLatest, ahead_of_all};
@@ -20,9 +21,10 @@ use crate::warnings::put_ahead_of;
 use fault_lines::{LatestDays, put_at, put_fault, put_refused_text, put_unknown_on};
 use input_sections::{ScheduleFault, Unread};
 use metering_model::Refusal;
-use schedule_player::{Reply, World, event_of, opening_world};
+use schedule_player::{Reply, World, event_within, opening_world};
 use schedule_reader::{Planned, Preamble, event_in};
 use std::alloc::{AllocError, Global};
+use std::sync::Arc;
 
 /// The line of a schedule on which its sheet opens, behind its head, its nodes and its agents.
 const SHEET_LINE: u32 = 4;
@@ -108,17 +110,20 @@ fn breaks_rule(reply: &Reply) -> bool
     )
 }
 
-/// Does one event, which begins on a line.
+/// Does one event, which begins on a line; what it journals stands in the text from a place on.
 fn check_event(
     alloc: Global,
     world: &mut World,
     line: u32,
+    text: &Arc<Vec<u8>>,
     planned: &Planned<'_>,
+    from: usize,
     told: &mut Vec<u8>,
     latest: &mut LatestDays,
     warned: &mut Vec<u8>,
 ) -> Result<(), AllocError>
-    requires { HasWholeLines planned.now }
+    requires lines { HasWholeLines planned.now }
+    requires there { StandsFrom (arc_value text.now).items from planned.now }
     ensures said { OnOk result
         (told.new.items ≡ told.old.items
         ++ said_of_reply line world.old (planned_of planned.now)
@@ -135,7 +140,7 @@ fn check_event(
     ensures world { OnOk result
         (world.new ≡ (step world.old (event_of (planned_of planned.now))).1) }
 {
-    let event = event_of(alloc, planned)?;
+    let event = event_within(alloc, text, planned, from)?;
     let reply = world.step(alloc, &event)?;
     let bad = if breaks_rule(&reply) {
         world.bad_record(&event)
@@ -146,16 +151,18 @@ fn check_event(
     put_ahead_of(latest, warned, line, &event, &reply)
 }
 
-/// Does the events that are left in turn, no more than `most`, and answers the fault of the first that is none, or of what
+/// Does the events that are left of a text in turn, no more than `most`, and answers the fault of the first that is none, or of what
 /// stands where one would: that is not done, nor what stands behind it. No file of an export is made.
 fn check_events(
     alloc: Global,
     world: &mut World,
+    text: &Arc<Vec<u8>>,
     unread: Unread<'_>,
     most: usize,
     told: &mut Vec<u8>,
     warned: &mut Vec<u8>,
 ) -> Result<Option<ScheduleFault>, AllocError>
+    requires { unread.text ≡ (arc_value text.now).items }
     ensures said { OnOk result
         (told.new.items ≡ told.old.items ++ said_of_events most world.old unread.entry) }
     ensures ahead { OnOk result (warned.new.items
@@ -172,11 +179,14 @@ fn check_events(
             Ok(parts) => parts,
             Err(fault) => return Ok(Some(fault)),
         };
+        let from = planned.journal_from(rest.from());
         check_event(
             alloc,
             world,
             here.line(),
+            text,
             &planned,
+            from,
             told,
             &mut latest,
             warned,
@@ -189,6 +199,7 @@ fn check_events(
 /// Plays the events behind what stands above them, no more than `most`, in a group in which nothing has happened.
 fn check_behind(
     alloc: Global,
+    text: &Arc<Vec<u8>>,
     above: Preamble<'_>,
     most: usize,
     told: &mut Vec<u8>,
@@ -196,6 +207,7 @@ fn check_behind(
 ) -> Result<Option<ScheduleFault>, AllocError>
     requires nodes { (1 ≤ above.voters) × (above.voters + above.observers ≤ most_nodes) }
     requires agents { (1 ≤ above.agents) × (above.agents ≤ most_agents) }
+    requires text { above.rest.text ≡ (arc_value text.now).items }
     ensures said { OnOk result (told.new.items ≡ told.old.items ++ said_of_events most
         (model.opening above.entry.voters above.entry.observers above.entry.agents above.entry.sheet
         above.entry.issuer) above.entry.rest) }
@@ -214,17 +226,19 @@ fn check_behind(
         rest,
     } = above;
     let mut world = opening_world(alloc, voters, observers, agents, sheet, issuer)?;
-    check_events(alloc, &mut world, rest, most, told, warned)
+    check_events(alloc, &mut world, text, rest, most, told, warned)
 }
 
-/// Appends what is said of a text that is to be a schedule, and in another place what is warned of. Where it turns out to be none,
+/// Appends what is said of a text, which is shared, and is to be a schedule, and in another place what is warned of. Where it turns out to be none,
 /// what was said and warned of is taken back.
 pub(crate) fn check_schedule(
     alloc: Global,
+    shared: &Arc<Vec<u8>>,
     text: &[u8],
     told: &mut Vec<u8>,
     warned: &mut Vec<u8>,
 ) -> Result<(), AllocError>
+    requires { text.now ≡ (arc_value shared.now).items }
     ensures said { OnOk result (told.new.items ≡ told.old.items ++ said_of_schedule text.now) }
     ensures warned { OnOk result
         (warned.new.items ≡ warned.old.items ++ warned_of_schedule text.now) }
@@ -236,7 +250,7 @@ pub(crate) fn check_schedule(
     let said_before = told.len();
     let warned_before = warned.len();
     put_unknown_on(alloc, warned, text, SHEET_LINE)?;
-    match check_behind(alloc, above, text.len(), told, warned)? {
+    match check_behind(alloc, shared, above, text.len(), told, warned)? {
         Some(fault) => {
             told.truncate(said_before);
             warned.truncate(warned_before);

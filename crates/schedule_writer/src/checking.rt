@@ -212,7 +212,7 @@ impl Check for ToSchedule {
     fn put(
         &self,
         alloc: Global,
-        input: &[u8],
+        input: &Arc<Vec<u8>>,
         told: &mut Vec<u8>,
         warnings: &mut Vec<u8>,
     ) -> Result<(), AllocError> {

@@ -22,6 +22,7 @@ use fault_lines::{Check, check_input, put_fault, put_unknown_keys};
 use input_sections::{ScheduleCode, ScheduleFault, Unread, read_section};
 use program_input::PlayFault;
 use std::alloc::{AllocError, Global};
+use std::sync::Arc;
 
 /// The first fault of the two sections and of what stands behind them, if there is one.
 fn take_sheets(alloc: Global, text: &[u8]) -> Result<(), ScheduleFault>
@@ -77,6 +78,23 @@ fn put_warnings(alloc: Global, told: &mut Vec<u8>, text: &[u8]) -> Result<(), Al
     }
 }
 
+/// Appends what is wrong with a text that is to be two sections, and of what it is warned where nothing is.
+fn put_checked(
+    alloc: Global,
+    text: &[u8],
+    told: &mut Vec<u8>,
+    warned: &mut Vec<u8>,
+) -> Result<(), AllocError>
+    ensures said { OnOk result (told.new.items ≡ told.old.items ++ said_of_two_sheets text.now) }
+    ensures warned { OnOk result
+        (warned.new.items ≡ warned.old.items ++ warned_of_two_sheets text.now) }
+{
+    match take_sheets(alloc, text) {
+        Ok(()) => put_warnings(alloc, warned, text),
+        Err(fault) => put_fault(alloc, told, text, fault),
+    }
+}
+
 /// What an input of two sheets is checked as.
 struct TwoSheets;
 
@@ -92,14 +110,11 @@ impl Check for TwoSheets {
     fn put(
         &self,
         alloc: Global,
-        input: &[u8],
+        input: &Arc<Vec<u8>>,
         told: &mut Vec<u8>,
         warnings: &mut Vec<u8>,
     ) -> Result<(), AllocError> {
-        match take_sheets(alloc, input) {
-            Ok(()) => put_warnings(alloc, warnings, input),
-            Err(fault) => put_fault(alloc, told, input, fault),
-        }
+        put_checked(alloc, input, told, warnings)
     }
 }
 

@@ -1,6 +1,8 @@
-use Rattle.std.proofs.Common.{◌≡◌, ◌+◌, ◌-◌, ◌<◌, ◌≤◌, suc, length, ap, arith}
+use Rattle.std.proofs.Common.{◌≡◌, ◌+◌, ◌-◌, ◌<◌, ◌≤◌, suc, length, ap, ◌∙◌, subst, arith}
+use Rattle.std.specs.Arc.{arc_value}
 use Rattle.std.proofs.lemmas.Bool.Decides.{nat_tests}
 use Rattle.input_sections.specs.Sections.{left}
+use Rattle.schedule_reader.proofs.PackedLaws.{event_ends}
 use Rattle.input_check.proofs.FaultLoop.{found_at_end, found_here, found_next, found_none}
 use Rattle.input_check.proofs.CountedBatches.{warned_all, warned_at_end, warned_more, warned_whole}
 use Rattle.input_check.proofs.SaidLaws.{said_all, said_at_end, said_more, said_whole}
@@ -56,6 +58,23 @@ returns-in-Err-clause-fault c =
     let some : 0 < length (left c.loop.here) = grind (arith, nat_tests, same, c.is_empty.ensures, c.if-is_empty.false) in
     found_here _ _ k c.loop.here _ c.in-Err.fault more some c.in-Err.ensures.event c.loop.invariant.1
 
+-- What is journaled stands before what is left.
+pub journal_from-from-requires : goal.journal_from-from-requires
+journal_from-from-requires c =
+    let rest = c.in-Ok.parts.1 in
+    let there : rest.from ≤ length rest.text = omega (arith, c.from.ensures.value, c.from.ensures.within) in
+    (event_ends (arc_value c.args.text.now).items c.loop.here rest c.in-Ok.parts.0 c.from.result c.from.ensures.value c.loop.invariant.3.0 c.loop.invariant.3.1
+    c.in-Ok.ensures.text there c.in-Ok.ensures.lines c.in-Ok.ensures.event).1.room
+
+pub check_event-requires-clause-there : goal.check_event-requires-clause-there
+check_event-requires-clause-there c =
+    let rest = c.in-Ok.parts.1 in
+    let text = (arc_value c.args.text.now).items in
+    let there : rest.from ≤ length rest.text = omega (arith, c.from.ensures.value, c.from.ensures.within) in
+    let ends = event_ends text c.loop.here rest c.in-Ok.parts.0 c.from.result c.from.ensures.value c.loop.invariant.3.0 c.loop.invariant.3.1
+    c.in-Ok.ensures.text there c.in-Ok.ensures.lines c.in-Ok.ensures.event in
+    c.journal_from-from.ensures text ends.1
+
 pub loop-preserved : goal.loop-preserved
 loop-preserved c =
     let k = c.args.most - (c.loop.counter + 1) in
@@ -63,6 +82,8 @@ loop-preserved c =
     let same = ap length c.left.ensures in
     let some : 0 < length (left c.loop.here) = grind (arith, nat_tests, same, c.is_empty.ensures, c.if-is_empty.false) in
     let said = rw c.line.ensures.value at c.in_ok-check_event.ensures.said in
+    let text = c.in-Ok.ensures.text ∙ c.loop.invariant.3.0 in
+    let there : c.in-Ok.parts.1.from ≤ length c.in-Ok.parts.1.text = omega (arith, c.from.ensures.value, c.from.ensures.within) in
     let ahead = c.loop.invariant.2 in (
       said_more c.loop.told.items k c.loop.world c.loop.here _ _ _ _ _ _ more some c.in-Ok.ensures.event said c.in_ok-check_event.ensures.world c.loop.invariant.0,
       found_next _ _ k c.loop.here _ _ _ more some c.in-Ok.ensures.event c.loop.invariant.1,
@@ -72,6 +93,7 @@ loop-preserved c =
         warned_more c.loop.warned.items ahead.0 c.loop.world c.loop.here k _ _ _ _ _ _ more some c.in-Ok.ensures.event
             (rw c.line.ensures.value at (c.in_ok-check_event.ensures.ahead ahead.0 ahead.1)) c.in_ok-check_event.ensures.world ahead.2,
       ),
+      (text, subst (λ t. c.in-Ok.parts.1.from ≤ length t) text there),
     )
 
 pub returns-clause-said : goal.returns-clause-said

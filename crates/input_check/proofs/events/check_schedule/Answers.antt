@@ -1,8 +1,12 @@
 use Rattle.std.proofs.Common.{◌≡◌, ◌++◌, length, rules, sym, ap, ◌∙◌, arith}
+use Rattle.schedule_reader.proofs.CountedEvents.{preamble_counted}
 use Rattle.input_check.proofs.SaidLaws.{both_on_ok, events_there, in_two_parts, no_events, no_schedule, on_ok, put_instead, taken_back}
 use Rattle.input_check.proofs.WarnedLaws.{events_warned, no_events_warned, no_preamble_warned}
 use Rattle.fault_lines.proofs.KeysOnLine.{still}
 use Rattle.input_check.proofs.events.check_schedule.Goals as goal
+
+pub check_behind-requires-clause-text : goal.check_behind-requires-clause-text
+check_behind-requires-clause-text c = (preamble_counted c.args.text.now _ c.in-Ok.ensures.taken).text_is ∙ c.requires
 
 pub returns-in-Err-clause-said : goal.returns-in-Err-clause-said
 returns-in-Err-clause-said c =
