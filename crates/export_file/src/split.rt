@@ -13,7 +13,7 @@ ghost use Rattle.export_file.specs.Inner.Writing.{Writes};
 
 use counted_io::{Failed, Sink, write_all};
 use focus_csv::laws::a_file_is_written_in_parts;
-use focus_csv::{CsvFault, RowsBetween, header_text, put_batches, put_file};
+use focus_csv::{CsvFault, RowsBetween, header_text, put_batches, put_file, text_for};
 use rayon::current_num_threads;
 use rayon::prelude::*;
 use std::alloc::{AllocError, Global};
@@ -27,9 +27,6 @@ const MOST_PARTS: usize = 32;
 
 /// Two parts of few rows take longer than one: their threads cost more than they save.
 const LEAST_PARTS: usize = 3;
-
-/// For each row so many bytes are asked for at once, so that the lines of a part seldom outgrow their room.
-const ROW_BYTES: usize = 400;
 
 /// Room for the lines of one part of the batches.
 #[derive(Drop)]
@@ -46,16 +43,6 @@ fn part_start(all: usize, size: usize, k: usize) -> usize
     match k.checked_mul(size) {
         Some(from) => from.min(all),
         None => all,
-    }
-}
-
-/// An empty text with room for about so many lines, or without where there is none: it can still grow.
-fn text_for(alloc: Global, rows: usize) -> Vec<u8>
-    ensures { result.items ≡ [] }
-{
-    match Vec::with_capacity(alloc, rows.saturating_mul(ROW_BYTES)) {
-        Ok(text) => text,
-        Err(_) => Vec::new(alloc),
     }
 }
 

@@ -1,6 +1,6 @@
 //! Fields of a line, as a reader of CSV takes them back.
 
-ghost use Rattle.std.specs.Prelude.{◌≡◌, ◌≤◌, ◌∷◌, ◌++◌, length, map, take, IfSome, OnOk, OnErr};
+ghost use Rattle.std.specs.Prelude.{◌≡◌, ◌<◌, ◌≤◌, ◌∷◌, ◌++◌, None, length, map, take, IfSome, OnOk, OnErr};
 ghost use Rattle.std.specs.List.{flat_map};
 ghost use Rattle.metering_model.specs.File.{quoted};
 ghost use Rattle.focus_csv.specs.Inner.Beginnings.{BeginsWith};
@@ -41,14 +41,15 @@ pub(crate) fn make_piece(
 }
 
 /// So many bytes most lines have at most.
-pub(crate) const LINE_ROOM: usize = 512;
+pub(crate) const LINE_BYTES: usize = 512;
 
 /// Copies pieces into a line, one after the other, and returns how many bytes they have; None where one finds no room. So
 /// the memory of the text is asked for once for a line, and not for each of its pieces.
 fn fill(line: &mut [u8], pieces: &[&[u8]]) -> Option<usize>
-    ensures length { length line.new ≡ length line.old }
     ensures filled { IfSome result (λ count. (count ≤ length line.new)
         × (take count line.new ≡ flat_map (λ t. t) (map (λ p. p.now) pieces.now))) }
+    ensures none { result ≡ None
+        → length line.new < length (flat_map (λ t. t) (map (λ p. p.now) pieces.now)) }
 {
     let mut at = 0;
     for piece in pieces {

@@ -4,7 +4,7 @@
 pub use files::{put_batches, put_file, put_file_in, write_rows};
 pub use focus_row::{RowsBetween, rows_between};
 pub use lines::header_text;
-pub use rooms::LineRoom;
+pub use rooms::{LineRoom, text_for};
 use thiserror::Error;
 pub use whole::{row_texts, write_file};
 

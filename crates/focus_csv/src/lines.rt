@@ -7,7 +7,7 @@ ghost use Rattle.focus_row.specs.Rows.{model_row};
 ghost use Rattle.focus_csv.specs.Inner.Beginnings.{BeginsWith};
 ghost use Rattle.focus_csv.specs.Inner.Pieces.{AreOf};
 
-use crate::fields::LINE_ROOM;
+use crate::fields::LINE_BYTES;
 use crate::pieces::LinePieces;
 use focus_row::FocusRow;
 use std::alloc::AllocError;
@@ -70,7 +70,7 @@ pub(crate) fn put_lines<'x, 'a>(
     ensures begins { OnErr result (BeginsWith text.new.items text.old.items) }
     ensures forgotten { OnErr result (pieces.new.are_held ≡ false) }
 {
-    let mut line = [0; LINE_ROOM];
+    let mut line = [0; LINE_BYTES];
     let mut before = last;
     for i in 0..rows.len() {
         let row = row_at(rows, i);

@@ -1,7 +1,22 @@
 //! Memory that is kept from one file to the next.
 
+ghost use Rattle.std.specs.Prelude.{◌≡◌, []};
+
 use crate::pieces::LinePieces;
 use std::alloc::Global;
+
+/// For each row so many bytes are asked for at once, so that its lines seldom outgrow their room.
+const ROW_BYTES: usize = 400;
+
+/// An empty text with room for a file of about so many rows, or without where there is none: it can still grow.
+pub fn text_for(alloc: Global, rows: usize) -> Vec<u8>
+    ensures { result.items ≡ [] }
+{
+    match Vec::with_capacity(alloc, rows.saturating_mul(ROW_BYTES)) {
+        Ok(text) => text,
+        Err(_) => Vec::new(alloc),
+    }
+}
 
 /// Memory in which the lines of a file are made: that of their pieces, and of the writer for odd texts. It is taken from
 /// one file to the next, which asks for more where a text of it is longer than those before, is the first odd one, or
