@@ -97,8 +97,8 @@ pub record IsMadeOf (period : ℕ) (last : List ℕ) (s : Snapshot) : Type 0 whe
   pub bytes : last ≡ words_text (HasExported s)
   pub same : s.period ≡ period
 
--- What two files are made of: no batch is in both unless they are of one period, and a period's begins where that of the one before it
--- ends.
+-- What two files are made of: no batch is between the cuts of both unless they are of one period, and a period's cuts begin where those of
+-- the one before it end.
 pub record AreMadeOf (period other : ℕ) (one two : List ℕ) : Type 0 where
   pub s : Snapshot
   pub t : Snapshot

@@ -63,8 +63,9 @@ pub fn lines_come_to_a_history()
 {}
 
 /// So any two answers in lines that begin as a file of one period are the same bytes, of whichever processes and whenever.
-/// What two files are made of has no batch in common but where they are of one period, and a period's begins where that of
-/// the one before ends; and of each agent a file has just what that agent's process has journaled, up to the period's cut.
+/// No batch stands between the two cuts of two files but where they are of one period, and a period's cuts begin where those
+/// of the one before end; and of each agent a file is made of just what that agent's process has journaled, up to the later
+/// cut.
 pub fn files_in_lines_agree()
     ensures bytes { (g : Group) (hosts : List HostAct) → IsHostHistory g (begun_machines g) hosts →
         (h k : HostAct) → Contains hosts h → Contains hosts k → (period : ℕ)
