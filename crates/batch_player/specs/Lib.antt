@@ -1,4 +1,5 @@
 pub mod RateInput
+pub mod Calls
 pub mod Charges
 pub mod Files
 pub mod Inner

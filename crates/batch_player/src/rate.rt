@@ -1,11 +1,9 @@
 //! `focusd rate`: the file of one batch.
 
-ghost use Rattle.std.specs.Prelude.{◌+◌, ◌≡◌, ◌≢◌, ◌≤◌, List, ℕ, [], Ok, Err, Some, None, IfOk, IfErr, IfSome, OnOk, drop, vec_len};
+ghost use Rattle.std.specs.Prelude.{◌+◌, ◌≡◌, ◌≢◌, ◌≤◌, List, ℕ, [], Ok, Err, Some, None, IfOk, IfErr, IfSome, IsOk, OnOk, drop, vec_len};
 ghost use Rattle.std.specs.Arc.{arc_value};
-ghost use Rattle.std.specs.Io.KnownBytes.{Appends, IsAtEnd};
+ghost use Rattle.std.specs.Io.KnownBytes.{Appends};
 ghost use Rattle.metering_model.specs.Limits.{most_agents, most_input_bytes};
-ghost use Rattle.counted_io.specs.Counts.{count_after};
-ghost use Rattle.counted_io.specs.Reading.{ConsumesAtMost};
 ghost use Rattle.counted_io.specs.Writing.{AppendsPrefix};
 ghost use Rattle.metering_model.specs.Cut.{zero_cut};
 ghost use Rattle.metering_model.specs.Front.{front};
@@ -19,9 +17,11 @@ ghost use Rattle.batch_view.specs.Batches.{batch_of};
 ghost use Rattle.input_sections.specs.declared.faults.ScheduleFault.{ScheduleFault};
 ghost use Rattle.metering_model.specs.RatedAlone.{file_by, journaled_in};
 ghost use Rattle.batch_player.specs.RateInput.{rated_file};
+ghost use Rattle.batch_player.specs.Calls.{WritesAlone};
 ghost use Rattle.batch_player.specs.Charges.{IsFileOf};
 ghost use Rattle.batch_player.specs.Inner.Calls.{FailsAtWrites};
 ghost use Rattle.program_input.specs.Faults.{tells_of_reader, tells_of_writer};
+ghost use Rattle.program_input.specs.Streams.{UsesStreams};
 
 use crate::files::file_between;
 use batch_view::{BatchView, Offer, OwnedBatch};
@@ -60,22 +60,19 @@ pub fn rate_text<R: Source, W: Sink>(
     ensures refused { (refusal : Refusal) → result ≡ Err (PlayFault.Refused refusal)
         → IfSome (R.remaining reader.old)
         (λ input. rated_file period input ≡ Err (PlayFault.Refused refusal)) }
+
+    // A section is refused for a rule, and never for want of memory.
     ensures section { (fault : ScheduleFault) → result ≡ Err (PlayFault.Schedule fault)
-        → IfSome (R.remaining reader.old)
+        → (fault ≢ ScheduleFault.OutOfMemory) × IfSome (R.remaining reader.old)
         (λ input. rated_file period input ≡ Err (PlayFault.Schedule fault)) }
-    ensures plain_memory { result ≢ Err (PlayFault.Schedule ScheduleFault.OutOfMemory) }
     ensures untouched { IfErr result (λ fault. fault ≢ PlayFault.Write → writer.new ≡ writer.old) }
-    ensures read { ConsumesAtMost (most_input_bytes + 1) (R.remaining reader.old)
-        (R.remaining reader.new) }
 
-    // With Ok nothing is left to read.
-    ensures end { OnOk result (IsAtEnd (R.remaining reader.new)) }
-
-    // `Read` and `Write` come of one failed call each, and no other call fails.
-    ensures reads { R.failed_calls reader.new
-        ≡ count_after (tells_of_reader result) (R.failed_calls reader.old) }
-    ensures writes { W.failed_calls writer.new
-        ≡ count_after (tells_of_writer result) (W.failed_calls writer.old) }
+    // With Ok nothing is left to read. `Read` and `Write` come of one failed call each, and no other call fails.
+    ensures streams { UsesStreams (most_input_bytes + 1) (IsOk result)
+        (tells_of_reader result) (tells_of_writer result)
+        (R.remaining reader.old) (R.remaining reader.new)
+        (R.failed_calls reader.old) (R.failed_calls reader.new)
+        (W.failed_calls writer.old) (W.failed_calls writer.new) }
 {
     let input = read_input(alloc, reader)?;
     rate_input_text(alloc, period, input, writer)
@@ -143,10 +140,7 @@ pub fn rate_batch<W: Sink>(
     ensures kept { IfErr result (λ fault. fault ≢ PlayFault.Write → writer.new ≡ writer.old) }
 
     // `Write` comes of one failed call, and no other call fails.
-    ensures writes { W.failed_calls writer.new
-        ≡ count_after (tells_of_writer result) (W.failed_calls writer.old) }
-    ensures no_read { result ≢ Err PlayFault.Read }
-    ensures no_section { (fault : ScheduleFault) → result ≢ Err (PlayFault.Schedule fault) }
+    ensures calls { WritesAlone result (W.failed_calls writer.old) (W.failed_calls writer.new) }
 {
     rate_behind(alloc, period, sheet, issuer, input, 0, writer)
 }
@@ -176,10 +170,7 @@ fn rate_behind<W: Sink>(
         → journaled_in sheet.now issuer.now (drop from input.items)
         ≡ Ok (batch_of (drop from input.items)) }
     ensures kept { IfErr result (λ fault. fault ≢ PlayFault.Write → writer.new ≡ writer.old) }
-    ensures writes { W.failed_calls writer.new
-        ≡ count_after (tells_of_writer result) (W.failed_calls writer.old) }
-    ensures no_read { result ≢ Err PlayFault.Read }
-    ensures no_section { (fault : ScheduleFault) → result ≢ Err (PlayFault.Schedule fault) }
+    ensures calls { WritesAlone result (W.failed_calls writer.old) (W.failed_calls writer.new) }
 {
     let to = input.len();
     let input = match Arc::new(alloc, input) {

@@ -1,4 +1,13 @@
 pub mod PartLaws
 pub mod RequestLaws
 pub mod WordLaws
-pub mod RunLaws
+pub mod FailedCalls
+pub mod PlayRuns
+pub mod CheckRuns
+pub mod FileRuns
+pub mod ThreadsRuns
+pub mod ProcessRuns
+pub mod SheetsRuns
+pub mod ScheduleRuns
+pub mod ShownTexts
+pub mod WholeRuns

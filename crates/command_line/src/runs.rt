@@ -1,7 +1,7 @@
 //! A run of the program, from what the process gave to the status that it ends with.
 
 ghost use Rattle.std.specs.Prelude.{◌≡◌, ◌≢◌, ◌+◌, ◌++◌, ℕ, List, [], Option, Ok, Err, IfOk, IfErr, IfSome, IsErr, OnErr, OnOk, false, is_err, map, string_bytes};
-ghost use Rattle.std.specs.Io.KnownBytes.{Appends, IsAtEnd};
+ghost use Rattle.std.specs.Io.KnownBytes.{Appends};
 ghost use Rattle.std.specs.IoError.{error_kind};
 ghost use Rattle.std.specs.declared.io.ErrorKind.TheVariants.{OutOfMemory as NoMemory};
 ghost use Rattle.counted_io.specs.Counts.{count_after};
@@ -9,9 +9,8 @@ ghost use Rattle.counted_io.specs.Reading.{ConsumesAtMost};
 ghost use Rattle.counted_io.specs.Writing.{AppendsPrefix};
 ghost use Rattle.metering_model.specs.Limits.{most_input_bytes, most_transcript_bytes};
 ghost use Rattle.metering_model.specs.Transcript.{line_count};
-ghost use Rattle.metering_model.specs.declared.Refusal.{Refusal};
-ghost use Rattle.program_input.specs.Faults.{tells_of_reader, tells_of_writer};
-ghost use Rattle.program_input.specs.declared.ScheduleFault.{ScheduleFault};
+ghost use Rattle.program_input.specs.Faults.{RefusesNothing, tells_of_reader, tells_of_writer};
+ghost use Rattle.program_input.specs.Streams.{UsesStreams};
 ghost use Rattle.threads_player.specs.declared.sizes.Size.{Size};
 ghost use Rattle.threads_player.specs.Groups.{IsSize};
 ghost use Rattle.command_line.specs.declared.commands.Command.{Command};
@@ -142,19 +141,16 @@ fn say<R: Source, W: Sink>(
     ensures ahead { result ≡ Ok 0 → (input warned : List ℕ)
         × IsChecked kind (R.remaining reader.old) input [] warned
         × Appends (W.contents writer.old) (W.contents writer.new) warned }
-    ensures end { result ≡ Ok 0 → IsAtEnd (R.remaining reader.new) }
     ensures prefix { result ≡ Err PlayFault.Write → (input said warned : List ℕ)
         × IsChecked kind (R.remaining reader.old) input said warned
         × AppendsPrefix (W.contents writer.old) (W.contents writer.new) (said ++ warned) }
     ensures untouched { IfErr result (λ fault. fault ≢ PlayFault.Write → writer.new ≡ writer.old) }
-    ensures no_section { (fault : ScheduleFault) → result ≢ Err (PlayFault.Schedule fault) }
-    ensures no_refusal { (refusal : Refusal) → result ≢ Err (PlayFault.Refused refusal) }
-    ensures read { ConsumesAtMost (most_input_bytes + 1)
-        (R.remaining reader.old) (R.remaining reader.new) }
-    ensures reads { R.failed_calls reader.new
-        ≡ count_after (tells_of_reader result) (R.failed_calls reader.old) }
-    ensures writes { W.failed_calls writer.new
-        ≡ count_after (tells_of_writer result) (W.failed_calls writer.old) }
+    ensures refuses { RefusesNothing result }
+    ensures streams { UsesStreams (most_input_bytes + 1) (result ≡ Ok 0)
+        (tells_of_reader result) (tells_of_writer result)
+        (R.remaining reader.old) (R.remaining reader.new)
+        (R.failed_calls reader.old) (R.failed_calls reader.new)
+        (W.failed_calls writer.old) (W.failed_calls writer.new) }
 {
     match kind {
         None => check_text(alloc, reader, writer),

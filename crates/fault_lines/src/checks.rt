@@ -3,15 +3,13 @@
 
 ghost use Rattle.std.specs.Prelude.{◌≡◌, ◌≢◌, ◌⊎◌, ◌+◌, ◌++◌, ℕ, List, [], Ok, Err, IfOk, IfErr, OnOk};
 ghost use Rattle.std.specs.Arc.{arc_value};
-ghost use Rattle.std.specs.Io.KnownBytes.{Appends, IsAtEnd};
+ghost use Rattle.std.specs.Io.KnownBytes.{Appends};
 ghost use Rattle.counted_io.specs.Counts.{count_after};
-ghost use Rattle.counted_io.specs.Reading.{ConsumesAtMost};
 ghost use Rattle.counted_io.specs.Writing.{AppendsPrefix};
 ghost use Rattle.metering_model.specs.Limits.{most_input_bytes};
 ghost use Rattle.metering_model.specs.Transcript.{line_count};
-ghost use Rattle.metering_model.specs.declared.Refusal.{Refusal};
-ghost use Rattle.input_sections.specs.declared.faults.ScheduleFault.{ScheduleFault};
-ghost use Rattle.program_input.specs.Faults.{tells_of_reader, tells_of_writer};
+ghost use Rattle.program_input.specs.Faults.{RefusesNothing, tells_of_reader, tells_of_writer};
+ghost use Rattle.program_input.specs.Streams.{UsesStreams};
 ghost use Rattle.fault_lines.specs.Checked.{IsSaid, SaysLines, SaysTooLong};
 
 use byte_text::line_count;
@@ -120,12 +118,11 @@ pub fn check_input<C: Check, R: Source, W: Sink>(
         × Appends (W.contents writer.old) (W.contents writer.new) (said ++ warned)
         × (count ≡ line_count said)) }
 
-    // Where nothing is wrong, just the warnings were written, and nothing is left to read.
+    // Where nothing is wrong, just the warnings were written.
     ensures ahead { result ≡ Ok 0 → (input warned : List ℕ)
         × IsSaid (C.said_of check.now) (C.warned_of check.now)
         (R.remaining reader.old) input [] warned
         × Appends (W.contents writer.old) (W.contents writer.new) warned }
-    ensures end { result ≡ Ok 0 → IsAtEnd (R.remaining reader.new) }
 
     // After `Write` a prefix of it was, and never all of it.
     ensures prefix { result ≡ Err PlayFault.Write → (input said warned : List ℕ)
@@ -133,16 +130,14 @@ pub fn check_input<C: Check, R: Source, W: Sink>(
         (R.remaining reader.old) input said warned
         × AppendsPrefix (W.contents writer.old) (W.contents writer.new) (said ++ warned) }
     ensures untouched { IfErr result (λ fault. fault ≢ PlayFault.Write → writer.new ≡ writer.old) }
-    ensures no_section { (fault : ScheduleFault) → result ≢ Err (PlayFault.Schedule fault) }
-    ensures no_refusal { (refusal : Refusal) → result ≢ Err (PlayFault.Refused refusal) }
-    ensures read { ConsumesAtMost (most_input_bytes + 1) (R.remaining reader.old)
-        (R.remaining reader.new) }
+    ensures refuses { RefusesNothing result }
 
-    // `Read` and `Write` come of one failed call each, and no other call fails.
-    ensures reads { R.failed_calls reader.new
-        ≡ count_after (tells_of_reader result) (R.failed_calls reader.old) }
-    ensures writes { W.failed_calls writer.new
-        ≡ count_after (tells_of_writer result) (W.failed_calls writer.old) }
+    // Where nothing is wrong, nothing is left to read. `Read` and `Write` come of one failed call each, and no other call fails.
+    ensures streams { UsesStreams (most_input_bytes + 1) (result ≡ Ok 0)
+        (tells_of_reader result) (tells_of_writer result)
+        (R.remaining reader.old) (R.remaining reader.new)
+        (R.failed_calls reader.old) (R.failed_calls reader.new)
+        (W.failed_calls writer.old) (W.failed_calls writer.new) }
 {
     match read_input(alloc, reader) {
         Ok(input) => write_checked(alloc, check, input, writer),

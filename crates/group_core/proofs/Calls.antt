@@ -8,7 +8,7 @@ use Rattle.metering_model.specs.Step.{or_refused, snapshot, step, play}
 use Rattle.metering_model.proofs.PlayLaws.{play-last, replies-last}
 use Rattle.group_laws.specs.Headline.{AtMostOneIsChosen}
 use Rattle.group_state.specs.Reached.{IsReached}
-use Rattle.group_core.specs.Headline.{HasOneList, LearnsWhatIsChosen, ChargesOnce, IsExportOf, AreExportsOf, ExportsAgree, IsSameGroup, ListGrows, ExportsStay, AnswersEach}
+use Rattle.group_core.specs.Headline.{HasOneList, LearnsWhatIsChosen, ChargesOnce, IsExportOf, AreExportsOf, ExportsAgree, IsSameGroup, ListGrows, ExportsStay, AnswersEach, HasHeadline, IsLater}
 use Rattle.group_state.proofs.Reaching.{play_reached}
 use Rattle.group_core.proofs.Worlds.{one_chosen_here, one_list_here, learned_here, charged_once_here}
 use Rattle.group_core.proofs.Runs.{same_group_in_run, grows_in_run, stay_in_run, exports_in_run, agree_in_run, answers_in_run}
@@ -51,6 +51,12 @@ module _ (w u : World) (es : List Event) (rs : List Reply) (h : IsReached w) (ru
   pub stay : ExportsStay w u
   stay = of_run (λ rs u. ExportsStay w u) (stay_in_run w es h)
 
+  pub headline : HasHeadline u rs
+  headline = record { one_cut = one_cut; learned = learned; cuts = one_list; charged_once = charges_once; exports = exports; agree = agree }
+
+  pub later : IsLater w u
+  later = record { group = same_group; grows = grows; stay = stay }
+
 -- ---- one event more
 
 pub play_more : (w u v : World) (es : List Event) (rs : List Reply) (e : Event) (r : Reply) → (rs, u) ≡ play w es → (r, v) ≡ step u e → (rs ++ r ∷ [], v) ≡ play w (es ++ e ∷ [])
@@ -86,14 +92,8 @@ module _ {R E : Type 0} (meaning : R → Reply) (result : Result R E) (w u : Wor
   pub reached_after_call : IsReached u
   reached_after_call = still_reached w u run_of_call.0 run_of_call.1 h run_of_call.2
 
-  pub same_group_after_call : IsSameGroup w u
-  same_group_after_call = same_group w u run_of_call.0 run_of_call.1 h run_of_call.2
-
-  pub grows_in_call : ListGrows w u
-  grows_in_call = grows w u run_of_call.0 run_of_call.1 h run_of_call.2
-
-  pub stay_in_call : ExportsStay w u
-  stay_in_call = stay w u run_of_call.0 run_of_call.1 h run_of_call.2
+  pub later_after_call : IsLater w u
+  later_after_call = later w u run_of_call.0 run_of_call.1 h run_of_call.2
 
   pub exports_of_call : IfOk result (λ r. AreExportsOf u (meaning r ∷ []))
   exports_of_call = either result done

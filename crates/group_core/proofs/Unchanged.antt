@@ -1,6 +1,6 @@
 -- What a refused event, an answered export and a kept text leave: the world as it was. And what a revival from another text is
 -- answered.
-use Rattle.std.proofs.Common.{◌≡◌, ℕ, true, false, Option, Some, None, Result, Ok, Err, IfOk, refl, sym, ap, ◌∙◌, subst, nat_lt, nat_le, ok_or}
+use Rattle.std.proofs.Common.{◌≡◌, ℕ, false, Option, Some, None, Result, Ok, Err, IfOk, refl, sym, ap, ◌∙◌, subst, nat_lt, nat_le, ok_or}
 use Rattle.std.specs.Prelude.{◌==◌, slice_get}
 use Rattle.metering_model.specs.FirstFailure.{◌>>=◌, holds_or}
 use Rattle.metering_model.specs.declared.Refusal.{Refusal}
@@ -16,11 +16,10 @@ use Rattle.metering_model.specs.Step.{Outcome, on_batch, on_journal, on_delivery
 use Rattle.group_laws.specs.Revivals.{refusal_of_other}
 use Rattle.group_laws.proofs.Revivals.{other_is_refused}
 use Rattle.group_state.specs.Words.{is_exported, is_kept_text, is_refused}
+use Rattle.group_core.specs.Headline.{IsUnchangedAt}
 
-record LeavesAsItWas (w : World) (r : Result Outcome Refusal) : Type 0 where
-  pub refused : is_refused (or_refused w r).0 ≡ true → (or_refused w r).1 ≡ w
-  pub exported : is_exported (or_refused w r).0 ≡ true → (or_refused w r).1 ≡ w
-  pub kept : is_kept_text (or_refused w r).0 ≡ true → (or_refused w r).1 ≡ w
+abbrev LeavesAsItWas : World → Result Outcome Refusal → Type 0
+LeavesAsItWas w r = IsUnchangedAt (or_refused w r).0 w (or_refused w r).1
 
 by_refusal : (w : World) (e : Refusal) → LeavesAsItWas w (Err e)
 by_refusal w e = record { refused = λ is. refl; exported = λ is. refl; kept = λ is. refl }
@@ -95,17 +94,9 @@ outcome_leaves w (Revive i offer) = revival_leaves w i offer
 
 -- the same of a call that answers and changes as a step does
 module _ {R E : Type 0} (meaning : R → Reply) (w u : World) (e : Event) where
-  pub if_refused : (result : Result R E) → IfOk result (λ r. (meaning r, u) ≡ step w e) → IfOk result (λ r. is_refused (meaning r) ≡ true → u ≡ w)
-  if_refused (Ok r) done = subst (λ (o : Outcome). is_refused o.0 ≡ true → o.1 ≡ w) (sym done) (outcome_leaves w e).refused
-  if_refused (Err why) done = tt
-
-  pub if_exported : (result : Result R E) → IfOk result (λ r. (meaning r, u) ≡ step w e) → IfOk result (λ r. is_exported (meaning r) ≡ true → u ≡ w)
-  if_exported (Ok r) done = subst (λ (o : Outcome). is_exported o.0 ≡ true → o.1 ≡ w) (sym done) (outcome_leaves w e).exported
-  if_exported (Err why) done = tt
-
-  pub if_kept : (result : Result R E) → IfOk result (λ r. (meaning r, u) ≡ step w e) → IfOk result (λ r. is_kept_text (meaning r) ≡ true → u ≡ w)
-  if_kept (Ok r) done = subst (λ (o : Outcome). is_kept_text o.0 ≡ true → o.1 ≡ w) (sym done) (outcome_leaves w e).kept
-  if_kept (Err why) done = tt
+  pub unchanged : (result : Result R E) → IfOk result (λ r. (meaning r, u) ≡ step w e) → IfOk result (λ r. IsUnchangedAt (meaning r) w u)
+  unchanged (Ok r) done = subst (λ (o : Outcome). IsUnchangedAt o.0 w o.1) (sym done) (outcome_leaves w e)
+  unchanged (Err why) done = tt
 
   -- an offer that is not the text of what the node keeps is refused
   pub if_other : (node : ℕ) (n : Node) (offer : KeptOffer) → e ≡ Revive node offer → slice_get w.nodes node ≡ Some n → (offer ≡ KeptGood (kept_text (kept_now w n)) → ⊥)

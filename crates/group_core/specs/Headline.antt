@@ -1,6 +1,6 @@
 -- The headline of the calls of a world: what holds of the world, of the replies of a call, and from before the call to after
 -- it. The words underneath are those of the headline over every list of events.
-use Rattle.std.specs.Prelude.{◌≡◌, ℕ, ◌⊎◌, List, length, Some, Ok, slice_get}
+use Rattle.std.specs.Prelude.{◌≡◌, ℕ, true, ◌⊎◌, List, length, Some, Ok, slice_get}
 use Rattle.std.specs.List.{Contains}
 use Rattle.metering_model.specs.Batch.{Batch}
 use Rattle.metering_model.specs.Cut.{Cut}
@@ -8,7 +8,8 @@ use Rattle.metering_model.specs.Holding.{IsPartOf, held}
 use Rattle.metering_model.specs.Chosen.{IsChosen}
 use Rattle.metering_model.specs.World.{World, Node, Offer, Event, Journal, Export, Snapshot, Reply, Journaled, Exported, node_count, voter_count}
 use Rattle.metering_model.specs.Step.{batch_of}
-use Rattle.group_laws.specs.Headline.{IsPrefixOf, AreTheCuts, IsExport, AreChargedOnce}
+use Rattle.group_state.specs.Words.{is_exported, is_kept_text, is_refused}
+use Rattle.group_laws.specs.Headline.{AtMostOneIsChosen, IsPrefixOf, AreTheCuts, IsExport, AreChargedOnce}
 
 -- The chosen cuts are one growing list, within the journals and due, of which each node has learned a prefix. There is just
 -- one such list.
@@ -59,6 +60,28 @@ ListGrows before after = (cuts later : List Cut) → AreTheCuts before cuts → 
 -- What was an export is one of the later world too.
 abbrev pub ExportsStay : World → World → Type 0
 ExportsStay before after = (s : Snapshot) → IsExportOf before s → IsExportOf after s
+
+-- A later world of the same group: to the list of chosen cuts more may have been added, and exports are exports still.
+pub record IsLater (before after : World) : Type 0 where
+  pub group : IsSameGroup before after
+  pub grows : ListGrows before after
+  pub stay : ExportsStay before after
+
+-- The headline of a call, of the world after it and of its replies: a period has one chosen cut at most, what a node has learned
+-- was chosen, the chosen cuts are one list, nothing is charged as new twice, and the exports are of that list.
+pub record HasHeadline (w : World) (replies : List Reply) : Type 0 where
+  pub one_cut : AtMostOneIsChosen w
+  pub learned : LearnsWhatIsChosen w
+  pub cuts : HasOneList w
+  pub charged_once : ChargesOnce w
+  pub exports : AreExportsOf w replies
+  pub agree : ExportsAgree w replies
+
+-- The world is as it was where the reply is a refusal, an export or a kept text.
+pub record IsUnchangedAt (reply : Reply) (before after : World) : Type 0 where
+  pub refused : is_refused reply ≡ true → after ≡ before
+  pub exported : is_exported reply ≡ true → after ≡ before
+  pub kept : is_kept_text reply ≡ true → after ≡ before
 
 -- one of the events handed in the batch, and was answered `Journaled`
 abbrev pub IsJournaledBy : List Event → List Reply → Batch → Type 0

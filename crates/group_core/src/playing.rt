@@ -2,9 +2,8 @@
 
 ghost use Rattle.std.specs.Prelude.{◌≡◌, ◌<◌, [], length, map, take, IfOk, IfErr, OnOk, OnErr};
 ghost use Rattle.metering_model.specs.Step.{play};
-ghost use Rattle.group_laws.specs.Headline.{AtMostOneIsChosen};
 ghost use Rattle.group_state.specs.Words.{event_of, reply_of};
-ghost use Rattle.group_core.specs.Headline.{AnswersEach, AreExportsOf, ChargesOnce, ExportsAgree, ExportsStay, HasOneList, IsSameGroup, LearnsWhatIsChosen, ListGrows};
+ghost use Rattle.group_core.specs.Headline.{AnswersEach, HasHeadline, IsLater};
 ghost use Rattle.group_core.specs.Playing.{replies_in};
 
 use crate::World;
@@ -27,22 +26,15 @@ impl World {
         ensures run { IfOk result
             (λ replies. (map reply_of replies.items, self.new)
             ≡ play self.old (map event_of events.now)) }
-        ensures short { IfErr result (λ why. length why.replies.items < length events.now) }
         ensures stopped { IfErr result
-            (λ why. (map reply_of why.replies.items, self.new)
-            ≡ play self.old (map event_of (take (length why.replies.items) events.now))) }
-        ensures one_cut { AtMostOneIsChosen self.new }
-        ensures learned { LearnsWhatIsChosen self.new }
-        ensures cuts { HasOneList self.new }
-        ensures exports { AreExportsOf self.new (replies_in result) }
-        ensures agree { ExportsAgree self.new (replies_in result) }
-        ensures charged_once { ChargesOnce self.new }
+            (λ why. (length why.replies.items < length events.now)
+            × ((map reply_of why.replies.items, self.new)
+            ≡ play self.old (map event_of (take (length why.replies.items) events.now)))) }
+        ensures headline { HasHeadline self.new (replies_in result) }
         ensures answers { AnswersEach self.old
             (map event_of (take (length (replies_in result)) events.now))
             (replies_in result) self.new }
-        ensures group { IsSameGroup self.old self.new }
-        ensures grows { ListGrows self.old self.new }
-        ensures stay { ExportsStay self.old self.new }
+        ensures later { IsLater self.old self.new }
     {
         self.reached();
         let mut replies = Vec::new(alloc);

@@ -1,6 +1,6 @@
 //! A group, whose type keeps that some run leads to it.
 
-ghost use Rattle.std.specs.Prelude.{◌≡◌, ◌≢◌, ℕ, ◌+◌, ◌≤◌, true, Some, slice_get, IfOk, OnErr, [], ◌∷◌};
+ghost use Rattle.std.specs.Prelude.{◌≡◌, ◌≢◌, ℕ, ◌+◌, ◌≤◌, Some, slice_get, IfOk, OnErr, [], ◌∷◌};
 ghost use Rattle.std.specs.Option.{option_map};
 ghost use Rattle.std.specs.Arc.{arc_value};
 ghost use Rattle.metering_model.specs.Limits.{most_agents, most_nodes, most_packets};
@@ -10,10 +10,10 @@ ghost use Rattle.metering_model.specs.Step.{kept_now, snapshot, step};
 ghost use Rattle.group_laws.specs.Headline.{AtMostOneIsChosen};
 ghost use Rattle.group_laws.specs.EveryRun.{KeepsLimits};
 ghost use Rattle.group_laws.specs.Revivals.{refusal_of_other};
-ghost use Rattle.group_state.specs.Words.{event_of, is_exported, is_kept_text, is_refused, reply_of};
+ghost use Rattle.group_state.specs.Words.{event_of, reply_of};
 ghost use Rattle.group_state.specs.Reached.{IsReached};
 ghost use Rattle.group_state.specs.BadRecords.{bad_record};
-ghost use Rattle.group_core.specs.Headline.{AreExportsOf, ChargesOnce, ExportsStay, HasOneList, IsExportOf, IsSameGroup, LearnsWhatIsChosen, ListGrows};
+ghost use Rattle.group_core.specs.Headline.{AreExportsOf, ChargesOnce, HasOneList, IsExportOf, IsLater, IsUnchangedAt, LearnsWhatIsChosen};
 
 use group_state::{Event, GroupState, Reply, Snapshot};
 use metering_model::Refusal;
@@ -98,21 +98,15 @@ impl World {
         ensures ok { IfOk result
             (λ reply. (reply_of reply, self.new) ≡ step self.old (event_of event.now)) }
         ensures err { OnErr result (self.new ≡ self.old) }
-        ensures refused { IfOk result
-            (λ reply. is_refused (reply_of reply) ≡ true → self.new ≡ self.old) }
-        ensures exported { IfOk result
-            (λ reply. is_exported (reply_of reply) ≡ true → self.new ≡ self.old) }
-        ensures kept { IfOk result
-            (λ reply. is_kept_text (reply_of reply) ≡ true → self.new ≡ self.old) }
+        ensures unchanged { IfOk result
+            (λ reply. IsUnchangedAt (reply_of reply) self.old self.new) }
         ensures others { (node : ℕ) (n : Node) (offer : KeptOffer)
             → event_of event.now ≡ Revive node offer → slice_get self.old.nodes node ≡ Some n →
             offer ≢ KeptGood (kept_text (kept_now self.old n)) →
             IfOk result (λ reply. (reply_of reply ≡ Refused (refusal_of_other offer))
             × (self.new ≡ self.old)) }
         ensures exports { IfOk result (λ reply. AreExportsOf self.new (reply_of reply ∷ [])) }
-        ensures group { IsSameGroup self.old self.new }
-        ensures grows { ListGrows self.old self.new }
-        ensures stay { ExportsStay self.old self.new }
+        ensures later { IsLater self.old self.new }
     {
         self.state.step(alloc, event)
     }

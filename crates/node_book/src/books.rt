@@ -1,6 +1,6 @@
 //! A group, and the history that led it where it is.
 
-ghost use Rattle.std.specs.Prelude.{◌≡◌, ◌+◌, ◌≤◌, ◌++◌, ◌∷◌, [], length, map, true, IfOk, OnErr};
+ghost use Rattle.std.specs.Prelude.{◌≡◌, ◌+◌, ◌≤◌, ◌++◌, ◌∷◌, [], length, map, IfOk, OnErr};
 ghost use Rattle.std.specs.Arc.{arc_value};
 ghost use Rattle.metering_model.specs.Limits.{most_agents, most_nodes};
 ghost use Rattle.metering_model.specs.World.{opening};
@@ -8,7 +8,7 @@ ghost use Rattle.metering_model.specs.Step.{step};
 ghost use Rattle.metering_model.specs.History.{IsLegal};
 ghost use Rattle.group_laws.specs.Headline.{HoldsAfter};
 ghost use Rattle.group_events.specs.Events.{event_of};
-ghost use Rattle.group_events.specs.Replies.{is_exported, is_kept_text, is_refused};
+ghost use Rattle.group_core.specs.Headline.{IsUnchangedAt};
 ghost use Rattle.node_book.specs.Books.{opened};
 ghost use Rattle.node_book.specs.Kept.{entry_of, told_of};
 
@@ -131,15 +131,8 @@ impl Book {
             } ∷ []) }
         ensures world { IfOk result
             (λ _. self.new.world ≡ (step self.old.world (event_of event)).1) }
-        ensures refused { IfOk result
-            (λ receipt. is_refused (told_of receipt).reply ≡ true
-            → self.new.world ≡ self.old.world) }
-        ensures exported { IfOk result
-            (λ receipt. is_exported (told_of receipt).reply ≡ true
-            → self.new.world ≡ self.old.world) }
-        ensures kept { IfOk result
-            (λ receipt. is_kept_text (told_of receipt).reply ≡ true
-            → self.new.world ≡ self.old.world) }
+        ensures unchanged { IfOk result
+            (λ receipt. IsUnchangedAt (told_of receipt).reply self.old.world self.new.world) }
         ensures group { opened self.new ≡ opened self.old }
         ensures receipt { IfOk result (λ receipt. told_of receipt
             ≡ record {

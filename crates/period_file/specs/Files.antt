@@ -1,5 +1,5 @@
 -- What is answered of an input that is asked for a period's file.
-use Rattle.std.specs.Prelude.{◌≡◌, ℕ, nat_le, if◌then◌else◌, List, length, Option, IfSome, Result, Ok, Err}
+use Rattle.std.specs.Prelude.{◌≡◌, ℕ, nat_le, if◌then◌else◌, List, length, Option, IfSome, Result, Ok, Err, OnErr}
 use Rattle.std.specs.Io.KnownBytes.{Appends}
 use Rattle.metering_model.specs.Limits.{most_transcript_bytes}
 use Rattle.counted_io.specs.Writing.{AppendsPrefix, AppendsSome}
@@ -48,3 +48,10 @@ pub record AppendsLess (known : Option (List ℕ)) (period : ℕ) (old new : Opt
   pub input : List ℕ
   pub is_input : IfSome known (λ bytes. input ≡ bytes)
   pub appended : AppendsPrefix old new (part_of (first_file period input))
+
+-- What an answer that is a fault leaves of the file: of a torn one all that the input has, after `Write` less than that, and else
+-- a front of it.
+pub record WritesAtFault {A : Type 0} (answer : Result A FileFault) (known : Option (List ℕ)) (period : ℕ) (old new : Option (List ℕ)) : Type 0 where
+  pub torn : answer ≡ Err fault.Torn → AppendsPart known period old new
+  pub front : OnErr answer (AppendsFront known period old new)
+  pub prefix : answer ≡ Err fault.Write → AppendsLess known period old new

@@ -1,16 +1,15 @@
 //! The first file of a period in what a source gives.
 
-ghost use Rattle.std.specs.Prelude.{◌+◌, ◌≡◌, ◌<◌, ◌≤◌, ℕ, List, Some, None, Ok, Err, IfOk, IfErr, IfSome, OnOk, OnErr};
+ghost use Rattle.std.specs.Prelude.{◌≡◌, ◌<◌, ◌≤◌, ℕ, List, Some, None, Ok, Err, IfOk, IfErr, IfSome, OnOk, OnErr};
 ghost use Rattle.std.specs.Io.KnownBytes.{Appends, IsAtEnd};
 ghost use Rattle.metering_model.specs.Limits.{most_transcript_bytes};
 ghost use Rattle.counted_io.specs.Counts.{count_after};
-ghost use Rattle.counted_io.specs.Reading.{ConsumesAtMost};
 ghost use Rattle.counted_io.specs.Writing.{AppendsPrefix, AppendsSome};
 ghost use Rattle.line_source.specs.Calls.{ReadsWithin};
 ghost use Rattle.line_source.specs.Lines.{IsShareOf};
 ghost use Rattle.line_source.specs.Reading.{IsEnded, Takes};
-ghost use Rattle.period_file.specs.Faults.{tells_of_reader, tells_of_writer};
-ghost use Rattle.period_file.specs.Files.{AppendsFront, AppendsLess, AppendsPart, IsFileOf, IsRefusal, file_in};
+ghost use Rattle.period_file.specs.Faults.{UsesStreams, tells_of_writer};
+ghost use Rattle.period_file.specs.Files.{IsFileOf, IsRefusal, WritesAtFault, file_in};
 ghost use Rattle.period_file.specs.Inner.Calls.{CopiesWithin};
 ghost use Rattle.period_file.specs.Inner.Reading.{Copies, CopiesAhead, EndsUntold, Finds, Stops, StopsAhead};
 
@@ -144,26 +143,15 @@ pub fn file_text<R: Source, W: Sink>(
         → IfSome (R.remaining reader.old) (λ input. file_in period input ≡ Err fault)) }
     ensures none { result ≡ Err FileFault.NoFile → writer.new ≡ writer.old }
 
-    // Of a torn file all went out that the input has, and at each other fault a front of that.
-    ensures torn { result ≡ Err FileFault.Torn → AppendsPart (R.remaining reader.old) period
-        (W.contents writer.old) (W.contents writer.new) }
-    ensures front { OnErr result (AppendsFront (R.remaining reader.old) period
-        (W.contents writer.old) (W.contents writer.new)) }
-
-    // After `Write` it is a prefix of it, and never all.
-    ensures prefix { result ≡ Err FileFault.Write → AppendsLess (R.remaining reader.old) period
+    // Of a torn file all went out that the input has, at each other fault a front of that, and after `Write` never all.
+    ensures stopped { WritesAtFault result (R.remaining reader.old) period
         (W.contents writer.old) (W.contents writer.new) }
 
-    // `Read` and `Write` come of one failed call each, and no other call fails.
-    ensures reads { R.failed_calls reader.new
-        ≡ count_after (tells_of_reader result) (R.failed_calls reader.old) }
-    ensures writes { W.failed_calls writer.new
-        ≡ count_after (tells_of_writer result) (W.failed_calls writer.old) }
-
-    // With Ok nothing is left to read.
-    ensures end { OnOk result (IsAtEnd (R.remaining reader.new)) }
-    ensures read { ConsumesAtMost (most_transcript_bytes + 1) (R.remaining reader.old)
-        (R.remaining reader.new) }
+    // With Ok nothing is left to read. `Read` and `Write` come of one failed call each, and no other call fails.
+    ensures streams { UsesStreams result
+        (R.remaining reader.old) (R.remaining reader.new)
+        (R.failed_calls reader.old) (R.failed_calls reader.new)
+        (W.failed_calls writer.old) (W.failed_calls writer.new) }
 {
     let mut unread = Unread::new(alloc);
     let Some(count) = find_line_above(period, &mut unread, reader)? else {

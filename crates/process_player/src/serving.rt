@@ -8,10 +8,10 @@ ghost use Rattle.counted_io.specs.Writing.{AppendsPrefix};
 ghost use Rattle.process_text.specs.Answers.{Answers, begun_text};
 ghost use Rattle.process_text.specs.declared.processes.Process.{Process};
 ghost use Rattle.process_player.specs.declared.faults.ProcessFault.{ProcessFault};
-ghost use Rattle.process_player.specs.Faults.{IsRefusal, tells_of_reader, tells_of_writer};
+ghost use Rattle.process_player.specs.Faults.{FailsAsTold, IsRefusal, tells_of_writer};
 ghost use Rattle.process_player.specs.Refusals.{Rejects};
 ghost use Rattle.process_player.specs.Runs.{RunsToEnd, RunsTorn, RunsWhole};
-ghost use Rattle.process_player.specs.Inner.Calls.{IsLong, IsOfReading, IsOfServing, Reads};
+ghost use Rattle.process_player.specs.Inner.Calls.{IsLong, IsOfReading, IsOfServing, Reads, ReadsAndWrites};
 ghost use Rattle.process_player.specs.Inner.Reading.{Continues, ContinuesWithin, EndsHere, IsCommandAt, IsTorn, Passes, ServesOne, StopsWithin};
 
 use crate::beginning::begin;
@@ -108,10 +108,9 @@ fn serve_one<S: Source, W: Sink>(
     ensures torn { result ≡ Err ProcessFault.Write → StopsWithin process.old
         unread.old.bytes (S.remaining source.old) (S.remaining source.new)
         (W.contents writer.old) (W.contents writer.new) }
-    ensures reads { Reads result unread.new.read (S.failed_calls source.old)
-        (S.failed_calls source.new) }
-    ensures writes { W.failed_calls writer.new
-        ≡ count_after (tells_of_writer result) (W.failed_calls writer.old) }
+    ensures calls { ReadsAndWrites result unread.new.read
+        (S.failed_calls source.old) (S.failed_calls source.new)
+        (W.failed_calls writer.old) (W.failed_calls writer.new) }
     ensures others { IfErr result
         (IsOfServing (IsLong unread.old.bytes (S.remaining source.old))) }
 {
@@ -229,10 +228,9 @@ pub fn process_text<R: Source, W: Sink>(
         (λ input. Rejects kind input fault)) }
 
     // `Read` and `Write` come of one failed call each, and no other call fails.
-    ensures reads { R.failed_calls reader.new
-        ≡ count_after (tells_of_reader result) (R.failed_calls reader.old) }
-    ensures writes { W.failed_calls writer.new
-        ≡ count_after (tells_of_writer result) (W.failed_calls writer.old) }
+    ensures calls { FailsAsTold result
+        (R.failed_calls reader.old) (R.failed_calls reader.new)
+        (W.failed_calls writer.old) (W.failed_calls writer.new) }
 {
     let mut unread = Unread::new(alloc);
     let mut process = match begin(alloc, kind, &mut unread, reader) {

@@ -39,3 +39,8 @@ tells_of_writer (Err (Refused refusal)) = false
 pub record EndsInReading {A : Type 0} (answer : Result A PlayFault) : Type 0 where
   pub no_write : answer ≢ Err Write
   pub no_refusal : (refusal : Refusal) → answer ≢ Err (Refused refusal)
+
+-- The answer of a call that refuses nothing: it tells of no section, and of no batch.
+pub record RefusesNothing {A : Type 0} (answer : Result A PlayFault) : Type 0 where
+  pub no_section : (fault : ScheduleFault) → answer ≢ Err (Schedule fault)
+  pub no_refusal : (refusal : Refusal) → answer ≢ Err (Refused refusal)

@@ -1,3 +1,4 @@
 pub mod Faults
 pub mod Inner
 pub mod Sections
+pub mod Streams

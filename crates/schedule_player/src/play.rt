@@ -1,18 +1,16 @@
 //! `focusd play`: the transcript of a schedule.
 
-ghost use Rattle.std.specs.Prelude.{◌≡◌, ◌≢◌, ◌+◌, ◌≤◌, ◌⊎◌, List, ℕ, Ok, Err, IfOk, IfErr, IfSome, IsOk, OnOk};
+ghost use Rattle.std.specs.Prelude.{◌≡◌, ◌≢◌, ◌+◌, ◌≤◌, ◌⊎◌, List, ℕ, Ok, Err, IfOk, IfErr, IsOk, OnOk};
 ghost use Rattle.std.specs.Arc.{arc_value};
-ghost use Rattle.std.specs.Io.KnownBytes.{Appends, IsAtEnd, Keeps};
+ghost use Rattle.std.specs.Io.KnownBytes.{Appends, Keeps};
 ghost use Rattle.metering_model.specs.Limits.{most_agents, most_nodes, most_input_bytes};
-ghost use Rattle.counted_io.specs.Counts.{count_after};
-ghost use Rattle.counted_io.specs.Reading.{ConsumesAtMost};
 ghost use Rattle.counted_io.specs.Writing.{AppendsPrefix};
 ghost use Rattle.metering_model.specs.declared.Refusal.{Refusal};
 ghost use Rattle.metering_model.specs.World.{opening};
 ghost use Rattle.metering_model.specs.Transcript.{transcript};
 ghost use Rattle.program_input.specs.declared.ScheduleFault.{ScheduleFault};
 ghost use Rattle.schedule_reader.specs.Schedules.{group_in, schedule_in};
-ghost use Rattle.program_input.specs.Faults.{tells_of_reader, tells_of_writer};
+ghost use Rattle.schedule_player.specs.Faults.{TellsFaults, UsesStreams, tells_of_reader, tells_of_writer};
 ghost use Rattle.schedule_player.specs.Transcripts.{IsPrefixOfTranscript, IsTranscriptOf, replies_to};
 ghost use Rattle.schedule_player.specs.Inner.Playing.{AppendsFirst, read_of};
 ghost use Rattle.schedule_player.specs.Inner.Writing.{Writes, WritesTranscript};
@@ -151,27 +149,22 @@ pub fn play_text<R: Source, W: Sink>(
     ensures prefix { result ≡ Err PlayFault.Write → (input text : List ℕ)
         × IsTranscriptOf (R.remaining reader.old) input text
         × AppendsPrefix (W.contents writer.old) (W.contents writer.new) text }
-    ensures section { (fault : ScheduleFault) → result ≡ Err (PlayFault.Schedule fault)
-        → IfSome (R.remaining reader.old) (λ input. schedule_in input ≡ Err fault) }
     ensures memory { result ≡ Err PlayFault.OutOfMemory → (input text : List ℕ)
         × IsPrefixOfTranscript (R.remaining reader.old) input text
         × Appends (W.contents writer.old) (W.contents writer.new) text }
-    ensures plain_memory { result ≢ Err (PlayFault.Schedule ScheduleFault.OutOfMemory) }
-    ensures unrefused { (refusal : Refusal) → result ≢ Err (PlayFault.Refused refusal) }
+
+    // A section is refused as the input's first fault, and never for want of memory. `Refused` is never answered.
+    ensures faults { TellsFaults result (R.remaining reader.old) }
     ensures untouched { IfErr result
         (λ fault. fault ≢ PlayFault.Write → fault ≢ PlayFault.OutOfMemory
         → writer.new ≡ writer.old) }
-    ensures read { ConsumesAtMost (most_input_bytes + 1) (R.remaining reader.old)
-        (R.remaining reader.new) }
 
-    // With Ok nothing is left to read.
-    ensures end { OnOk result (IsAtEnd (R.remaining reader.new)) }
-
-    // `Read` and `Write` come of one failed call each, and no other call fails.
-    ensures reads { R.failed_calls reader.new
-        ≡ count_after (tells_of_reader result) (R.failed_calls reader.old) }
-    ensures writes { W.failed_calls writer.new
-        ≡ count_after (tells_of_writer result) (W.failed_calls writer.old) }
+    // With Ok nothing is left to read. `Read` and `Write` come of one failed call each, and no other call fails.
+    ensures streams { UsesStreams (most_input_bytes + 1) (IsOk result)
+        (tells_of_reader result) (tells_of_writer result)
+        (R.remaining reader.old) (R.remaining reader.new)
+        (R.failed_calls reader.old) (R.failed_calls reader.new)
+        (W.failed_calls writer.old) (W.failed_calls writer.new) }
 {
     let input = read_input(alloc, reader)?;
     match Arc::new(alloc, input) {

@@ -1,19 +1,15 @@
 //! `focusd check --kind schedule`: what is wrong with an input that is to have a schedule, and what is odd.
 
 ghost use Rattle.std.specs.Prelude.{◌≡◌, ◌≢◌, ◌++◌, ◌+◌, ◌≤◌, ℕ, List, Some, Ok, Err, IfOk, IfErr, OnOk, [], ◌∷◌, length, map, take};
-ghost use Rattle.std.specs.Io.KnownBytes.{Appends, IsAtEnd};
-ghost use Rattle.counted_io.specs.Counts.{count_after};
-ghost use Rattle.counted_io.specs.Reading.{ConsumesAtMost};
+ghost use Rattle.std.specs.Io.KnownBytes.{Appends};
 ghost use Rattle.counted_io.specs.Writing.{AppendsPrefix};
 ghost use Rattle.metering_model.specs.Batch.{Batch};
 ghost use Rattle.metering_model.specs.Limits.{most_input_bytes};
 ghost use Rattle.metering_model.specs.RatedAlone as model;
 ghost use Rattle.metering_model.specs.Step.{play, step};
 ghost use Rattle.metering_model.specs.Transcript.{line_count};
-ghost use Rattle.metering_model.specs.declared.Refusal.{Refusal};
-ghost use Rattle.input_sections.specs.declared.faults.ScheduleFault.{ScheduleFault};
 ghost use Rattle.fault_lines.specs.Ahead.{AreLatest, ahead_of_all};
-ghost use Rattle.schedule_player.specs.Faults.{tells_of_reader, tells_of_writer};
+ghost use Rattle.schedule_player.specs.Faults.{RefusesNothing, UsesStreams, tells_of_reader, tells_of_writer};
 ghost use Rattle.schedule_writer.specs.Checks.{IsSaidOf, if_journaled, journaled_of, said_of_input, told_of_answer, told_of_batches, warned_of_input};
 ghost use Rattle.schedule_writer.specs.Refusals.{answer_to, journal_of};
 ghost use Rattle.schedule_writer.specs.Inputs.{batches_of, item_at, items_in};
@@ -247,19 +243,14 @@ pub fn check_schedule_input<R: Source, W: Sink>(
         × IsSaidOf (R.remaining reader.old) input said warned
         × AppendsPrefix (W.contents writer.old) (W.contents writer.new) (said ++ warned) }
     ensures untouched { IfErr result (λ fault. fault ≢ PlayFault.Write → writer.new ≡ writer.old) }
-    ensures no_section { (fault : ScheduleFault) → result ≢ Err (PlayFault.Schedule fault) }
-    ensures no_refusal { (refusal : Refusal) → result ≢ Err (PlayFault.Refused refusal) }
-    ensures read { ConsumesAtMost (most_input_bytes + 1) (R.remaining reader.old)
-        (R.remaining reader.new) }
+    ensures refuses { RefusesNothing result }
 
-    // Where nothing is wrong, nothing is left to read.
-    ensures end { result ≡ Ok 0 → IsAtEnd (R.remaining reader.new) }
-
-    // `Read` and `Write` come of one failed call each, and no other call fails.
-    ensures reads { R.failed_calls reader.new
-        ≡ count_after (tells_of_reader result) (R.failed_calls reader.old) }
-    ensures writes { W.failed_calls writer.new
-        ≡ count_after (tells_of_writer result) (W.failed_calls writer.old) }
+    // Where nothing is wrong, nothing is left to read. `Read` and `Write` come of one failed call each, and no other call fails.
+    ensures streams { UsesStreams (most_input_bytes + 1) (result ≡ Ok 0)
+        (tells_of_reader result) (tells_of_writer result)
+        (R.remaining reader.old) (R.remaining reader.new)
+        (R.failed_calls reader.old) (R.failed_calls reader.new)
+        (W.failed_calls writer.old) (W.failed_calls writer.new) }
 {
     check_input(alloc, &ToSchedule, reader, writer)
 }

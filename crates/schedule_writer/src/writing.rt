@@ -1,17 +1,14 @@
 //! `focusd schedule`: from batches to a schedule that closes their months.
 
-ghost use Rattle.std.specs.Prelude.{◌≡◌, ◌≢◌, ◌⊎◌, ◌+◌, ◌≤◌, ℕ, List, Some, Ok, Err, IfOk, IfErr, IfSome, OnOk, OnErr, false, map, max, unwrap_or, Vec};
+ghost use Rattle.std.specs.Prelude.{◌≡◌, ◌≢◌, ◌+◌, ◌≤◌, ℕ, List, Some, Ok, Err, IfOk, IfErr, IfSome, IsOk, OnOk, OnErr, false, map, max, unwrap_or};
 ghost use Rattle.std.specs.Io.KnownBytes.{Appends, IsAtEnd};
-ghost use Rattle.std.specs.declared.alloc.Global.{Global};
 ghost use Rattle.counted_io.specs.Counts.{count_after};
 ghost use Rattle.counted_io.specs.Reading.{ConsumesAtMost};
 ghost use Rattle.counted_io.specs.Writing.{AppendsPrefix};
 ghost use Rattle.metering_model.specs.Limits.{last_period, most_agents, most_input_bytes, most_nodes};
-ghost use Rattle.input_sections.specs.declared.faults.ScheduleFault.{ScheduleFault};
-ghost use Rattle.input_sections.specs.RateInput.{rate_input_in};
-ghost use Rattle.schedule_writer.specs.Faults.{tells_of_reader, tells_of_writer};
+ghost use Rattle.schedule_player.specs.Faults.{UsesStreams};
+ghost use Rattle.schedule_writer.specs.Faults.{TellsFaults, tells_of_reader, tells_of_writer};
 ghost use Rattle.schedule_writer.specs.Inputs.{above_last, least_last};
-ghost use Rattle.schedule_writer.specs.Refusals.{IsRefusedAt, IsTaken};
 ghost use Rattle.schedule_writer.specs.Requests.{IsRequest};
 ghost use Rattle.schedule_writer.specs.Schedules.{IsScheduleOf};
 ghost use Rattle.schedule_writer.specs.Inner.Certified.{IsCertified};
@@ -260,29 +257,18 @@ pub fn schedule_text<R: Source, W: Sink>(
     ensures prefix { result ≡ Err WriteFault.Write → (input text : List ℕ)
         × IsScheduleOf request (R.remaining reader.old) input text
         × AppendsPrefix (W.contents writer.old) (W.contents writer.new) text }
-    ensures section { (fault : ScheduleFault) → result ≡ Err (WriteFault.Section fault)
-        → IfSome (R.remaining reader.old) (λ input. rate_input_in input ≡ Err fault) }
 
-    // What is told of the first batch that is not journaled, as `check` tells it.
-    ensures refused { (told : Vec ℕ Global) → result ≡ Err (WriteFault.Refused told)
-        → IfSome (R.remaining reader.old) (λ input. IsRefusedAt input told.items) }
-
-    // No refusal of a section or of a batch is told as one of these.
-    ensures taken { (result ≡ Err WriteFault.TooLong) ⊎ (result ≡ Err WriteFault.NotClosed)
-        → IfSome (R.remaining reader.old) IsTaken }
-    ensures plain_memory { result ≢ Err (WriteFault.Section ScheduleFault.OutOfMemory) }
+    // A refused section is the input's first fault; of the first batch that is not journaled `check`'s words are told; and
+    // `TooLong` and `NotClosed` hide neither.
+    ensures faults { TellsFaults result (R.remaining reader.old) }
     ensures untouched { IfErr result (λ fault. fault ≢ WriteFault.Write → writer.new ≡ writer.old) }
-    ensures read { ConsumesAtMost (most_input_bytes + 1) (R.remaining reader.old)
-        (R.remaining reader.new) }
 
-    // With Ok nothing is left to read.
-    ensures end { OnOk result (IsAtEnd (R.remaining reader.new)) }
-
-    // `Read` and `Write` come of one failed call each, and no other call fails.
-    ensures reads { R.failed_calls reader.new
-        ≡ count_after (tells_of_reader result) (R.failed_calls reader.old) }
-    ensures writes { W.failed_calls writer.new
-        ≡ count_after (tells_of_writer result) (W.failed_calls writer.old) }
+    // With Ok nothing is left to read. `Read` and `Write` come of one failed call each, and no other call fails.
+    ensures streams { UsesStreams (most_input_bytes + 1) (IsOk result)
+        (tells_of_reader result) (tells_of_writer result)
+        (R.remaining reader.old) (R.remaining reader.new)
+        (R.failed_calls reader.old) (R.failed_calls reader.new)
+        (W.failed_calls writer.old) (W.failed_calls writer.new) }
 {
     let input = input_of(alloc, reader)?;
     let text = schedule_for_input(alloc, request, &input)?;

@@ -1,9 +1,8 @@
 //! `focusd sheets`: what a new price sheet does to closed months.
 
-ghost use Rattle.std.specs.Prelude.{◌≡◌, ◌≢◌, ◌↔◌, ◌+◌, [], ℕ, List, Ok, Err, IfOk, IfErr, IfSome, IsTrue, OnOk};
-ghost use Rattle.std.specs.Io.KnownBytes.{Appends, IsAtEnd};
+ghost use Rattle.std.specs.Prelude.{◌≡◌, ◌≢◌, ◌↔◌, ◌+◌, [], ℕ, List, Ok, Err, IfOk, IfErr, IsTrue, OnOk, ◌⊎◌};
+ghost use Rattle.std.specs.Io.KnownBytes.{Appends};
 ghost use Rattle.counted_io.specs.Counts.{count_after};
-ghost use Rattle.counted_io.specs.Reading.{ConsumesAtMost};
 ghost use Rattle.counted_io.specs.Writing.{AppendsPrefix};
 ghost use Rattle.metering_model.specs.Limits.{most_input_bytes};
 ghost use Rattle.metering_model.specs.Sheet as model;
@@ -11,8 +10,9 @@ ghost use Rattle.metering_model.specs.SheetRules.{IsSheet};
 ghost use Rattle.metering_model.specs.declared.Refusal.{Refusal};
 ghost use Rattle.input_sections.specs.declared.faults.ScheduleFault.{ScheduleFault};
 ghost use Rattle.program_input.specs.Faults.{tells_of_reader, tells_of_writer};
+ghost use Rattle.program_input.specs.Streams.{UsesStreams};
 ghost use Rattle.sheet_changes.specs.Changes.{GoesOnBy, IsSaidOf, SaysAll, SaysChanges, StaysBefore, two_sheets_in};
-ghost use Rattle.sheet_changes.specs.Faults.{of_input};
+ghost use Rattle.sheet_changes.specs.Faults.{TellsFaults, of_input};
 ghost use Rattle.sheet_changes.specs.Likenesses.{likeness_of};
 ghost use Rattle.sheet_changes.specs.Inner.Compared.{StaysBy, nothing_behind};
 
@@ -221,27 +221,20 @@ pub fn sheets_text<R: Source, W: Sink>(
         → (old new : model.Sheet) × (text : List ℕ)
         × IsSaidOf (R.remaining reader.old) asked.all old new text
         × AppendsPrefix (W.contents writer.old) (W.contents writer.new) text }
-    ensures section { (fault : ScheduleFault)
-        → result ≡ Err (SheetsFault.Input (PlayFault.Schedule fault))
-        → IfSome (R.remaining reader.old) (λ input. two_sheets_in input ≡ Err fault) }
-    ensures plain_memory { result
-        ≢ Err (SheetsFault.Input (PlayFault.Schedule ScheduleFault.OutOfMemory)) }
-    ensures unrefused { (refusal : Refusal)
-        → result ≢ Err (SheetsFault.Input (PlayFault.Refused refusal)) }
+
+    // A section is refused as the input's first fault, and never for want of memory. `Refused` is never answered.
+    ensures faults { TellsFaults result (R.remaining reader.old) }
     ensures untouched { IfErr result (λ fault. fault ≢ SheetsFault.Unlike
         → fault ≢ SheetsFault.Input PlayFault.Write → writer.new ≡ writer.old) }
-    ensures read { ConsumesAtMost (most_input_bytes + 1) (R.remaining reader.old)
-        (R.remaining reader.new) }
 
-    // With Ok and with `Unlike` nothing is left to read.
-    ensures end { OnOk result (IsAtEnd (R.remaining reader.new)) }
-    ensures end_unlike { result ≡ Err SheetsFault.Unlike → IsAtEnd (R.remaining reader.new) }
-
-    // `Read` and `Write` come of one failed call each, and no other call fails.
-    ensures reads { R.failed_calls reader.new
-        ≡ count_after (tells_of_reader (of_input tt result)) (R.failed_calls reader.old) }
-    ensures writes { W.failed_calls writer.new
-        ≡ count_after (tells_of_writer (of_input tt result)) (W.failed_calls writer.old) }
+    // With Ok and with `Unlike` nothing is left to read. `Read` and `Write` come of one failed call each, and no other call
+    // fails.
+    ensures streams { UsesStreams (most_input_bytes + 1)
+        ((result ≡ Ok tt) ⊎ (result ≡ Err SheetsFault.Unlike))
+        (tells_of_reader (of_input tt result)) (tells_of_writer (of_input tt result))
+        (R.remaining reader.old) (R.remaining reader.new)
+        (R.failed_calls reader.old) (R.failed_calls reader.new)
+        (W.failed_calls writer.old) (W.failed_calls writer.new) }
 {
     let input = match read_input(alloc, reader) {
         Ok(input) => input,

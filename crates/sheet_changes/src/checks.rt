@@ -1,16 +1,14 @@
 //! `focusd check --kind sheets`: what is wrong with the input of two sheets.
 
 ghost use Rattle.std.specs.Prelude.{◌≡◌, ◌≢◌, ◌+◌, ◌++◌, ℕ, List, [], Ok, Err, IfOk, IfErr, IsOk, OnOk};
-ghost use Rattle.std.specs.Io.KnownBytes.{Appends, IsAtEnd};
-ghost use Rattle.counted_io.specs.Counts.{count_after};
-ghost use Rattle.counted_io.specs.Reading.{ConsumesAtMost};
+ghost use Rattle.std.specs.Io.KnownBytes.{Appends};
 ghost use Rattle.counted_io.specs.Writing.{AppendsPrefix};
 ghost use Rattle.metering_model.specs.Limits.{most_input_bytes};
 ghost use Rattle.metering_model.specs.Transcript.{line_count};
-ghost use Rattle.metering_model.specs.declared.Refusal.{Refusal};
 ghost use Rattle.input_sections.specs.declared.faults.ScheduleFault.{ScheduleFault};
 ghost use Rattle.input_sections.specs.Sections.{whole_of};
-ghost use Rattle.program_input.specs.Faults.{tells_of_reader, tells_of_writer};
+ghost use Rattle.program_input.specs.Faults.{RefusesNothing, tells_of_reader, tells_of_writer};
+ghost use Rattle.program_input.specs.Streams.{UsesStreams};
 ghost use Rattle.fault_lines.specs.UnknownKeys.{unknown_from};
 ghost use Rattle.sheet_changes.specs.Changes.{two_sheets_in};
 ghost use Rattle.sheet_changes.specs.Checks.{IsCheckOf, said_of_two_sheets, warned_of_two_sheets};
@@ -145,19 +143,14 @@ pub fn check_two_sheets<R: Source, W: Sink>(
         × IsCheckOf (R.remaining reader.old) input said warned
         × AppendsPrefix (W.contents writer.old) (W.contents writer.new) (said ++ warned) }
     ensures untouched { IfErr result (λ fault. fault ≢ PlayFault.Write → writer.new ≡ writer.old) }
-    ensures no_section { (fault : ScheduleFault) → result ≢ Err (PlayFault.Schedule fault) }
-    ensures no_refusal { (refusal : Refusal) → result ≢ Err (PlayFault.Refused refusal) }
-    ensures read { ConsumesAtMost (most_input_bytes + 1) (R.remaining reader.old)
-        (R.remaining reader.new) }
+    ensures refuses { RefusesNothing result }
 
-    // Where nothing is wrong, nothing is left to read.
-    ensures end { result ≡ Ok 0 → IsAtEnd (R.remaining reader.new) }
-
-    // `Read` and `Write` come of one failed call each, and no other call fails.
-    ensures reads { R.failed_calls reader.new
-        ≡ count_after (tells_of_reader result) (R.failed_calls reader.old) }
-    ensures writes { W.failed_calls writer.new
-        ≡ count_after (tells_of_writer result) (W.failed_calls writer.old) }
+    // Where nothing is wrong, nothing is left to read. `Read` and `Write` come of one failed call each, and no other call fails.
+    ensures streams { UsesStreams (most_input_bytes + 1) (result ≡ Ok 0)
+        (tells_of_reader result) (tells_of_writer result)
+        (R.remaining reader.old) (R.remaining reader.new)
+        (R.failed_calls reader.old) (R.failed_calls reader.new)
+        (W.failed_calls writer.old) (W.failed_calls writer.new) }
 {
     check_input(alloc, &TwoSheets, reader, writer)
 }

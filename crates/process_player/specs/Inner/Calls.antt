@@ -4,7 +4,7 @@ use Rattle.metering_model.specs.Limits.{most_transcript_bytes}
 use Rattle.counted_io.specs.Counts.{count_after}
 use Rattle.process_player.specs.declared.faults.ProcessFault.{ProcessFault}
 use Rattle.process_player.specs.declared.faults.ProcessFault.TheVariants as fault
-use Rattle.process_player.specs.Faults.{tells_of_reader}
+use Rattle.process_player.specs.Faults.{tells_of_reader, tells_of_writer}
 
 -- it comes of reading on alone, and `TooLong` only where that holds
 abbrev pub IsOfReading : (Long : Type 0) → ProcessFault → Type 0
@@ -44,3 +44,9 @@ pub record Reads {A : Type 0} (result : Result A ProcessFault) (read failed fail
   pub within : IfOk result (λ answer. read ≤ most_transcript_bytes)
   -- `Read` comes of one failed call of the source, and no other call of it fails
   pub count : failed' ≡ count_after (tells_of_reader result) failed
+
+-- The same of a call that writes too.
+pub record ReadsAndWrites {A : Type 0} (result : Result A ProcessFault) (read read_fails read_fails' write_fails write_fails' : ℕ) : Type 0 where
+  pub within : IfOk result (λ answer. read ≤ most_transcript_bytes)
+  pub reads : read_fails' ≡ count_after (tells_of_reader result) read_fails
+  pub writes : write_fails' ≡ count_after (tells_of_writer result) write_fails

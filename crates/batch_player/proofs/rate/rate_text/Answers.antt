@@ -1,5 +1,4 @@
 use Rattle.std.proofs.Common.{rules, sym}
-use Rattle.input_sections.specs.declared.faults.ScheduleFault.TheVariants.{OutOfMemory}
 use Rattle.program_input.specs.declared.faults.PlayFault.TheVariants.{Schedule}
 use Rattle.batch_player.proofs.RatedLaws.{at_period, longer_known}
 use Rattle.batch_player.proofs.rate.rate_text.Goals as goal
@@ -8,8 +7,5 @@ pub returns-in_err-input-clause-section : goal.returns-in_err-input-clause-secti
 returns-in_err-input-clause-section g c = λ fault is.
     let known = g.R.Source.remaining c.args.reader.now in
     let told = c.in_err-input.ensures.section fault (search rules) in
-    at_period known c.args.period (Schedule fault) (longer_known known fault told.1 (sym told.0))
-
-pub returns-in_err-input-clause-plain_memory : goal.returns-in_err-input-clause-plain_memory
-returns-in_err-input-clause-plain_memory g c = λ is.
-    let same = (c.in_err-input.ensures.section OutOfMemory (search rules)).0 in absurd (cc)
+    let same = told.0 in
+    (λ memory. absurd (cc), at_period known c.args.period (Schedule fault) (longer_known known fault told.1 (sym told.0)))

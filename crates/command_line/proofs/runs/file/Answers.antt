@@ -6,7 +6,7 @@ use Rattle.command_line.specs.declared.commands.Command.TheVariants.{File as Cut
 use Rattle.command_line.specs.declared.statuses.Fault.TheVariants.{File}
 use Rattle.command_line.specs.Endings.{status_of}
 use Rattle.command_line.specs.Runs.{Refuses}
-use Rattle.command_line.proofs.RunLaws.{file_comes_to}
+use Rattle.command_line.proofs.FileRuns.{file_comes_to}
 use Rattle.command_line.proofs.runs.file.Goals as goal
 
 -- a fault that ends with 1 is one of the input
@@ -24,6 +24,6 @@ returns-in-Err-clause-outcome g c =
     let known = g.R.Source.remaining c.args.reader.now in
     let fault = c.in-Err.fault in
     let told = c.in-Err.ensures in
-    file_comes_to g.W.Sink c.args.period fault known _ _ _ _ told.reads told.writes
-    (λ is. told.none (ap Err is)) (λ is. told.torn (ap Err is)) told.front (λ is. told.prefix (ap Err is))
+    file_comes_to g.W.Sink c.args.period fault known _ _ _ _ told.streams.reads told.streams.writes
+    (λ is. told.none (ap Err is)) (λ is. told.stopped.torn (ap Err is)) told.stopped.front (λ is. told.stopped.prefix (ap Err is))
     (λ one. refuses c.args.period known fault one told.refused)

@@ -8,7 +8,7 @@ use Rattle.command_line.specs.declared.commands.Command.TheVariants.{Play as Pla
 use Rattle.command_line.specs.declared.statuses.Fault.TheVariants.{Play}
 use Rattle.command_line.specs.Endings.{status_of}
 use Rattle.command_line.specs.Runs.{Refuses}
-use Rattle.command_line.proofs.RunLaws.{comes_to}
+use Rattle.command_line.proofs.PlayRuns.{comes_to}
 use Rattle.command_line.proofs.runs.play.Goals as goal
 
 refuses : (known : Option (List ℕ)) (fault : PlayFault) → status_of (Play fault) ≡ 1
@@ -26,9 +26,9 @@ returns-in-Err-clause-outcome g c =
     let known = g.R.Source.remaining c.args.reader.now in
     let fault = c.in-Err.fault in
     let told = c.in-Err.ensures in
-    comes_to g.W.Sink PlaySchedule fault known _ _ _ _ told.reads told.writes told.untouched
-    (λ one. refuses known fault one (λ refusal is. told.unrefused refusal (ap Err is)) (λ bad is. told.section bad (ap Err is)))
+    comes_to g.W.Sink PlaySchedule fault known _ _ _ _ told.streams.reads told.streams.writes told.untouched
+    (λ one. refuses known fault one (λ refusal is. told.faults.unrefused refusal (ap Err is)) (λ bad is. told.faults.section bad (ap Err is)))
     (λ one same. same)
-    (λ is. told.plain_memory (ap Err is))
+    (λ is. told.faults.plain_memory (ap Err is))
     (λ is. inr (refl, told.memory (ap Err is)))
     (λ is. told.prefix (ap Err is))

@@ -1,6 +1,6 @@
 use Rattle.std.proofs.Common.{Err, ap}
 use Rattle.process_player.proofs.Answered.{has_answered}
-use Rattle.command_line.proofs.RunLaws.{process_comes_to}
+use Rattle.command_line.proofs.ProcessRuns.{process_comes_to}
 use Rattle.command_line.proofs.runs.process.Goals as goal
 
 pub returns-in-Err : goal.returns-in-Err
@@ -9,6 +9,6 @@ returns-in-Err g c =
     let told = c.in-Err.ensures in
     record {
       outcome =
-          process_comes_to g.W.Sink c.args.kind c.in-Err.fault known _ _ _ _ told.reads told.writes told.untouched
+          process_comes_to g.W.Sink c.args.kind c.in-Err.fault known _ _ _ _ told.calls.reads told.calls.writes told.untouched
           (λ other. has_answered _ c.args.kind known _ _ _ (told.whole other)) (λ is. (_, told.torn (ap Err is))) told.refused;
     }

@@ -7,7 +7,7 @@ use Rattle.input_check.specs.RateInput.{rated_file}
 use Rattle.command_line.specs.declared.commands.Command.TheVariants.{Rate}
 use Rattle.command_line.specs.declared.statuses.Fault.TheVariants.{Play}
 use Rattle.command_line.specs.Endings.{status_of}
-use Rattle.command_line.proofs.RunLaws.{comes_to}
+use Rattle.command_line.proofs.PlayRuns.{comes_to}
 use Rattle.command_line.proofs.runs.rate.Goals as goal
 
 abbrev Told : Option (List ℕ) → ℕ → PlayFault → Type 0
@@ -29,10 +29,10 @@ returns-in-Err-clause-outcome g c =
     let known = g.R.Source.remaining c.args.reader.now in
     let fault = c.in-Err.fault in
     let told = c.in-Err.ensures in
-    comes_to g.W.Sink (Rate c.args.period) fault known _ _ _ _ told.reads told.writes
+    comes_to g.W.Sink (Rate c.args.period) fault known _ _ _ _ told.streams.reads told.streams.writes
     (λ no_write no_memory. told.untouched no_write)
-    (λ one. (fault, refl, refuses _ known fault one (λ refusal is. told.refused refusal (ap Err is)) (λ bad is. told.section bad (ap Err is))))
+    (λ one. (fault, refl, refuses _ known fault one (λ refusal is. told.refused refusal (ap Err is)) (λ bad is. (told.section bad (ap Err is)).1)))
     (λ one same. same)
-    (λ is. told.plain_memory (ap Err is))
+    (λ is. (told.section _ (ap Err is)).0 refl)
     (λ is. inl (told.untouched (λ write. absurd (cc))))
     (λ is. told.prefix (ap Err is))

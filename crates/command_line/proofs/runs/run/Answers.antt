@@ -1,6 +1,6 @@
 use Rattle.std.proofs.Common.{refl}
 use Rattle.command_line.specs.declared.commands.Command.TheVariants.{Threads}
-use Rattle.command_line.proofs.RunLaws.{ends, ends_from, nothing_read}
+use Rattle.command_line.proofs.WholeRuns.{ends, ends_from, nothing_read}
 use Rattle.command_line.proofs.runs.run.Goals as goal
 
 pub returns-in-Err : goal.returns-in-Err

@@ -1,6 +1,6 @@
 use Rattle.std.proofs.Common.{Err, ap, subst}
 use Rattle.command_line.specs.Runs.{AsksFor}
-use Rattle.command_line.proofs.RunLaws.{asks_for_no_threads, ends, ends_at_words, memory_alone}
+use Rattle.command_line.proofs.WholeRuns.{asks_for_no_threads, ends, ends_at_words, memory_alone}
 use Rattle.command_line.proofs.runs.run_alone.Goals as goal
 
 pub returns-in-Err-clause-ended : goal.returns-in-Err-clause-ended

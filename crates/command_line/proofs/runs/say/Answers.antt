@@ -18,14 +18,10 @@ returns-in-None g c =
           subst (λ (k : Option Kind). IfOk c.check_text.result (λ count. (input said warned : List ℕ) × IsChecked k known input said warned × Appends old new (said ++ warned) × (count ≡ line_count said)))
           kind it.said;
       ahead = λ is. subst (λ (k : Option Kind). (input warned : List ℕ) × IsChecked k known input [] warned × Appends old new warned) kind (it.ahead is);
-      end = it.end;
       prefix = λ is. subst (λ (k : Option Kind). (input said warned : List ℕ) × IsChecked k known input said warned × AppendsPrefix old new (said ++ warned)) kind (it.prefix is);
       untouched = it.untouched;
-      no_section = it.no_section;
-      no_refusal = it.no_refusal;
-      read = it.read;
-      reads = it.reads;
-      writes = it.writes;
+      refuses = it.refuses;
+      streams = it.streams;
     }
 
 pub returns-in-Rate : goal.returns-in-Rate
@@ -40,14 +36,10 @@ returns-in-Rate g c =
           subst (λ (k : Option Kind). IfOk c.check_text_as.result (λ count. (input said warned : List ℕ) × IsChecked k known input said warned × Appends old new (said ++ warned) × (count ≡ line_count said)))
           kind it.said;
       ahead = λ is. subst (λ (k : Option Kind). (input warned : List ℕ) × IsChecked k known input [] warned × Appends old new warned) kind (it.ahead is);
-      end = it.end;
       prefix = λ is. subst (λ (k : Option Kind). (input said warned : List ℕ) × IsChecked k known input said warned × AppendsPrefix old new (said ++ warned)) kind (it.prefix is);
       untouched = it.untouched;
-      no_section = it.no_section;
-      no_refusal = it.no_refusal;
-      read = it.read;
-      reads = it.reads;
-      writes = it.writes;
+      refuses = it.refuses;
+      streams = it.streams;
     }
 
 pub returns-in-Play : goal.returns-in-Play
@@ -62,14 +54,10 @@ returns-in-Play g c =
           subst (λ (k : Option Kind). IfOk c.check_text_as-in-Play.result (λ count. (input said warned : List ℕ) × IsChecked k known input said warned × Appends old new (said ++ warned) × (count ≡ line_count said)))
           kind it.said;
       ahead = λ is. subst (λ (k : Option Kind). (input warned : List ℕ) × IsChecked k known input [] warned × Appends old new warned) kind (it.ahead is);
-      end = it.end;
       prefix = λ is. subst (λ (k : Option Kind). (input said warned : List ℕ) × IsChecked k known input said warned × AppendsPrefix old new (said ++ warned)) kind (it.prefix is);
       untouched = it.untouched;
-      no_section = it.no_section;
-      no_refusal = it.no_refusal;
-      read = it.read;
-      reads = it.reads;
-      writes = it.writes;
+      refuses = it.refuses;
+      streams = it.streams;
     }
 
 pub returns-in-Schedule : goal.returns-in-Schedule
@@ -84,14 +72,10 @@ returns-in-Schedule g c =
           subst (λ (k : Option Kind). IfOk c.check_schedule_input.result (λ count. (input said warned : List ℕ) × IsChecked k known input said warned × Appends old new (said ++ warned) × (count ≡ line_count said)))
           kind it.said;
       ahead = λ is. subst (λ (k : Option Kind). (input warned : List ℕ) × IsChecked k known input [] warned × Appends old new warned) kind (it.ahead is);
-      end = it.end;
       prefix = λ is. subst (λ (k : Option Kind). (input said warned : List ℕ) × IsChecked k known input said warned × AppendsPrefix old new (said ++ warned)) kind (it.prefix is);
       untouched = it.untouched;
-      no_section = it.no_section;
-      no_refusal = it.no_refusal;
-      read = it.read;
-      reads = it.reads;
-      writes = it.writes;
+      refuses = it.refuses;
+      streams = it.streams;
     }
 
 pub returns-in-Sheets : goal.returns-in-Sheets
@@ -106,12 +90,8 @@ returns-in-Sheets g c =
           subst (λ (k : Option Kind). IfOk c.check_two_sheets.result (λ count. (input said warned : List ℕ) × IsChecked k known input said warned × Appends old new (said ++ warned) × (count ≡ line_count said)))
           kind it.said;
       ahead = λ is. subst (λ (k : Option Kind). (input warned : List ℕ) × IsChecked k known input [] warned × Appends old new warned) kind (it.ahead is);
-      end = it.end;
       prefix = λ is. subst (λ (k : Option Kind). (input said warned : List ℕ) × IsChecked k known input said warned × AppendsPrefix old new (said ++ warned)) kind (it.prefix is);
       untouched = it.untouched;
-      no_section = it.no_section;
-      no_refusal = it.no_refusal;
-      read = it.read;
-      reads = it.reads;
-      writes = it.writes;
+      refuses = it.refuses;
+      streams = it.streams;
     }

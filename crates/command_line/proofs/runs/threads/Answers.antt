@@ -1,5 +1,5 @@
 use Rattle.std.proofs.Common.{Err, ap}
-use Rattle.command_line.proofs.RunLaws.{threads_come_to}
+use Rattle.command_line.proofs.ThreadsRuns.{threads_come_to}
 use Rattle.command_line.proofs.runs.threads.Goals as goal
 
 pub returns-in-Err : goal.returns-in-Err

@@ -15,7 +15,7 @@ use Rattle.input_check.proofs.events.check_event.Goals as goal
 pub put_reply-requires-clause-bad : goal.put_reply-requires-clause-bad
 put_reply-requires-clause-bad c = λ why told ls plans rule.
     let event = c.in_ok-event.ensures ∙ ap event_of plans in
-    let same = c.in_ok-reply.ensures.refused (rw told refl) in
+    let same = c.in_ok-reply.ensures.unchanged.refused (rw told refl) in
     let answer = ap (λ (o : Reply × World). o.0) (rw event at c.in_ok-reply.ensures.ok) in
     let refused = ap (λ (v : World). (step v (event_of (PlansJournal ls))).0) same ∙ (sym answer ∙ told) in
     elim c.if-breaks_rule.branch [

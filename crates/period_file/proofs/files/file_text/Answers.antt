@@ -16,8 +16,13 @@ returns-in_err-count-clause-refused g c =
     let it = rw (c.new-unread.ensures.bytes, c.new-unread.ensures.read) at c.find_line_above.ensures.takes in
     rw (p.1, p.2) (refused it.1 c.args.period (of_source c.in_err-count.field-0.0) (copying_of c.in_err-count.field-0.0 c.find_line_above.new.unread.read c.in_err-count.ensures.reads.reading))
 
-pub returns-in_err-count-clause-front : goal.returns-in_err-count-clause-front
-returns-in_err-count-clause-front g c = on_err c.from_residual.result (any_front (g.R.Source.remaining c.args.reader.now) c.args.period (g.W.Sink.contents c.args.writer.now))
+pub returns-in_err-count-clause-stopped : goal.returns-in_err-count-clause-stopped
+returns-in_err-count-clause-stopped g c =
+    record {
+      torn = search rules;
+      front = on_err c.from_residual.result (any_front (g.R.Source.remaining c.args.reader.now) c.args.period (g.W.Sink.contents c.args.writer.now));
+      prefix = search rules;
+    }
 
 pub returns-in_default-clause-refused : goal.returns-in_default-clause-refused
 returns-in_default-clause-refused g c = λ refusal.
@@ -33,40 +38,38 @@ returns-in_err-lacking-clause-refused g c =
     let found = above g (goal.at.returns-in_err-lacking-clause-refused g c).In-Some in
     rw (p.1, p.2) (refused (takes_on found.takes c.in_err-lacking.ensures.stopped.takes) c.args.period c.in_err-lacking.field-0.0 c.in_err-lacking.ensures.calls.copying)
 
-pub returns-in_err-lacking-clause-front : goal.returns-in_err-lacking-clause-front
-returns-in_err-lacking-clause-front g c =
-    let found = above g (goal.at.returns-in_err-lacking-clause-front g c).In-Some in
-    on_err c.from_residual-in_err-lacking.result (front_at_stop found c.in_err-lacking.ensures.stopped)
+pub returns-in_err-lacking-clause-stopped : goal.returns-in_err-lacking-clause-stopped
+returns-in_err-lacking-clause-stopped g c =
+    let found = above g (goal.at.returns-in_err-lacking-clause-stopped g c).In-Some in
+    record {
+      torn = search rules;
+      front = on_err c.from_residual-in_err-lacking.result (front_at_stop found c.in_err-lacking.ensures.stopped);
+      prefix = λ is. less_at_stop found (c.in_err-lacking.ensures.short (search rules));
+    }
 
-pub returns-in_err-lacking-clause-prefix : goal.returns-in_err-lacking-clause-prefix
-returns-in_err-lacking-clause-prefix g c = λ is.
-    let found = above g (goal.at.returns-in_err-lacking-clause-prefix g c).In-Some in
-    less_at_stop found (c.in_err-lacking.ensures.short (search rules))
-
-pub returns-in_err-lacking-clause-read : goal.returns-in_err-lacking-clause-read
-returns-in_err-lacking-clause-read g c =
-    let found = above g (goal.at.returns-in_err-lacking-clause-read g c).In-Some in
-    read_within (takes_on found.takes c.in_err-lacking.ensures.stopped.takes) c.copy_lines.ensures.calls.most
+pub returns-in_err-lacking-clause-streams : goal.returns-in_err-lacking-clause-streams
+returns-in_err-lacking-clause-streams g c =
+    let found = above g (goal.at.returns-in_err-lacking-clause-streams g c).In-Some in
+    record { read = read_within (takes_on found.takes c.in_err-lacking.ensures.stopped.takes) c.copy_lines.ensures.calls.most; end = search rules; reads = search rules; writes = search rules }
 
 pub returns-then-lacking-gt0-clause-refused : goal.returns-then-lacking-gt0-clause-refused
 returns-then-lacking-gt0-clause-refused g c = λ refusal.
     let found = above g (goal.at.returns-then-lacking-gt0-clause-refused g c).In-Some in
     torn_refused found c.in_ok-lacking.ensures.copied c.if-lacking-gt0.true (c.in_ok-lacking.ensures.ended c.if-lacking-gt0.true) c.in_ok-lacking.ensures.calls.within
 
-pub returns-then-lacking-gt0-clause-torn : goal.returns-then-lacking-gt0-clause-torn
-returns-then-lacking-gt0-clause-torn g c = λ is.
-    let found = above g (goal.at.returns-then-lacking-gt0-clause-torn g c).In-Some in
-    torn_answer found c.in_ok-lacking.ensures.copied c.if-lacking-gt0.true (c.in_ok-lacking.ensures.ended c.if-lacking-gt0.true) c.in_ok-lacking.ensures.calls.within
+pub returns-then-lacking-gt0-clause-stopped : goal.returns-then-lacking-gt0-clause-stopped
+returns-then-lacking-gt0-clause-stopped g c =
+    let found = above g (goal.at.returns-then-lacking-gt0-clause-stopped g c).In-Some in
+    record {
+      torn = λ is. torn_answer found c.in_ok-lacking.ensures.copied c.if-lacking-gt0.true (c.in_ok-lacking.ensures.ended c.if-lacking-gt0.true) c.in_ok-lacking.ensures.calls.within;
+      front = front_at_stop found (stops_at_read c.in_ok-lacking.ensures.copied);
+      prefix = search rules;
+    }
 
-pub returns-then-lacking-gt0-clause-front : goal.returns-then-lacking-gt0-clause-front
-returns-then-lacking-gt0-clause-front g c =
-    let found = above g (goal.at.returns-then-lacking-gt0-clause-front g c).In-Some in
-    front_at_stop found (stops_at_read c.in_ok-lacking.ensures.copied)
-
-pub returns-then-lacking-gt0-clause-read : goal.returns-then-lacking-gt0-clause-read
-returns-then-lacking-gt0-clause-read g c =
-    let found = above g (goal.at.returns-then-lacking-gt0-clause-read g c).In-Some in
-    read_within (takes_on found.takes c.in_ok-lacking.ensures.copied.takes) c.copy_lines.ensures.calls.most
+pub returns-then-lacking-gt0-clause-streams : goal.returns-then-lacking-gt0-clause-streams
+returns-then-lacking-gt0-clause-streams g c =
+    let found = above g (goal.at.returns-then-lacking-gt0-clause-streams g c).In-Some in
+    record { read = read_within (takes_on found.takes c.in_ok-lacking.ensures.copied.takes) c.copy_lines.ensures.calls.most; end = search rules; reads = search rules; writes = search rules }
 
 pub returns-in_err-drop_rest-clause-refused : goal.returns-in_err-drop_rest-clause-refused
 returns-in_err-drop_rest-clause-refused g c =
@@ -75,15 +78,19 @@ returns-in_err-drop_rest-clause-refused g c =
     let all = takes_on found.takes (takes_on c.in_ok-lacking.ensures.copied.takes c.drop_rest.ensures.takes.1) in
     rw (p.1, p.2) (refused all c.args.period (of_source c.in_err-drop_rest.field-0.0) (copying_of c.in_err-drop_rest.field-0.0 c.drop_rest.new.unread.read c.in_err-drop_rest.ensures.reads.reading))
 
-pub returns-in_err-drop_rest-clause-front : goal.returns-in_err-drop_rest-clause-front
-returns-in_err-drop_rest-clause-front g c =
-    let found = above g (goal.at.returns-in_err-drop_rest-clause-front g c).In-Some in
-    on_err c.from_residual-in_err-drop_rest.result (front_at_stop found (stops_at_read (copies_read c.in_ok-lacking.ensures.copied (only_read c.drop_rest.ensures.takes.1))))
+pub returns-in_err-drop_rest-clause-stopped : goal.returns-in_err-drop_rest-clause-stopped
+returns-in_err-drop_rest-clause-stopped g c =
+    let found = above g (goal.at.returns-in_err-drop_rest-clause-stopped g c).In-Some in
+    record {
+      torn = search rules;
+      front = on_err c.from_residual-in_err-drop_rest.result (front_at_stop found (stops_at_read (copies_read c.in_ok-lacking.ensures.copied (only_read c.drop_rest.ensures.takes.1))));
+      prefix = search rules;
+    }
 
-pub returns-in_err-drop_rest-clause-read : goal.returns-in_err-drop_rest-clause-read
-returns-in_err-drop_rest-clause-read g c =
-    let found = above g (goal.at.returns-in_err-drop_rest-clause-read g c).In-Some in
-    read_within (takes_on found.takes (takes_on c.in_ok-lacking.ensures.copied.takes c.drop_rest.ensures.takes.1)) c.drop_rest.ensures.reads.most
+pub returns-in_err-drop_rest-clause-streams : goal.returns-in_err-drop_rest-clause-streams
+returns-in_err-drop_rest-clause-streams g c =
+    let found = above g (goal.at.returns-in_err-drop_rest-clause-streams g c).In-Some in
+    record { read = read_within (takes_on found.takes (takes_on c.in_ok-lacking.ensures.copied.takes c.drop_rest.ensures.takes.1)) c.drop_rest.ensures.reads.most; end = search rules; reads = search rules; writes = search rules }
 
 pub returns-clause-file : goal.returns-clause-file
 returns-clause-file g c =
@@ -92,7 +99,7 @@ returns-clause-file g c =
     let none : c.in_ok-lacking.lacking ≡ 0 = omega (arith, c.if-lacking-gt0.false) in
     whole_answer found copies none c.in_ok-drop_rest.ensures.end c.in_ok-drop_rest.ensures.reads.within
 
-pub returns-clause-read : goal.returns-clause-read
-returns-clause-read g c =
-    let found = above g (goal.at.returns-clause-read g c).In-Some in
-    read_within (takes_on found.takes (takes_on c.in_ok-lacking.ensures.copied.takes c.drop_rest.ensures.takes.1)) c.drop_rest.ensures.reads.most
+pub returns-clause-streams : goal.returns-clause-streams
+returns-clause-streams g c =
+    let found = above g (goal.at.returns-clause-streams g c).In-Some in
+    record { read = read_within (takes_on found.takes (takes_on c.in_ok-lacking.ensures.copied.takes c.drop_rest.ensures.takes.1)) c.drop_rest.ensures.reads.most; end = search rules; reads = search rules; writes = search rules }

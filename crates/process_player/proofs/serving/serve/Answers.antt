@@ -44,7 +44,7 @@ loop-preserved g c = record {
   serves = goes_on c.loop.invariant.serves (c.in-Ok.ensures.served (search rules));
   taken = taken_on c.loop.counter c.args.unread.now.bytes c.loop.unread.bytes c.serve_one.new.unread.bytes (g.S.Source.remaining c.args.source.now) (g.S.Source.remaining c.loop.source)
       (g.S.Source.remaining c.serve_one.new.source) c.loop.invariant.taken (c.in-Ok.ensures.served (search rules));
-  short = c.in-Ok.ensures.reads.within;
-  reads = c.in-Ok.ensures.reads.count ∙ c.loop.invariant.reads;
-  writes = c.in-Ok.ensures.writes ∙ c.loop.invariant.writes;
+  short = c.in-Ok.ensures.calls.within;
+  reads = c.in-Ok.ensures.calls.reads ∙ c.loop.invariant.reads;
+  writes = c.in-Ok.ensures.calls.writes ∙ c.loop.invariant.writes;
 }

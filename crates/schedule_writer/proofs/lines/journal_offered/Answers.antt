@@ -24,7 +24,7 @@ pub bad_record-bad-requires-clause-refused : goal.bad_record-bad-requires-clause
 bad_record-bad-requires-clause-refused c =
     let w = c.args.world.now in
     let b = offered_of c.args.offered.now in
-    let same = c.in_ok-reply.ensures.refused (ap is_refused c.in-Some.ensures) in
+    let same = c.in_ok-reply.ensures.unchanged.refused (ap is_refused c.in-Some.ensures) in
     let answer : answer_to w b.text ≡ Refused c.in-Some.refusal
     = sym (stepped w c.step.new.self b (event_of c.args.event.now) (reply_of c.in_ok-reply.reply) c.in_ok-reply.ensures.ok c.requires.event) ∙ c.in-Some.ensures in
     subst (λ v. answer_to v b.text ≡ Refused c.in-Some.refusal) (sym same) answer
@@ -41,7 +41,7 @@ pub returns-clause-told : goal.returns-clause-told
 returns-clause-told c =
     let w = c.args.world.now in
     let b = offered_of c.args.offered.now in
-    let same = c.in_ok-reply.ensures.refused (ap is_refused c.in-Some.ensures) in
+    let same = c.in_ok-reply.ensures.unchanged.refused (ap is_refused c.in-Some.ensures) in
     let answer : answer_to w b.text ≡ Refused c.in-Some.refusal
     = sym (stepped w c.step.new.self b (event_of c.args.event.now) (reply_of c.in_ok-reply.reply) c.in_ok-reply.ensures.ok c.requires.event) ∙ c.in-Some.ensures in
     refusal_told c.args.input.now c.args.told.now.items c.put_refusal.new.told.items w b c.in-Some.refusal answer (rw same at c.in_ok-put_refusal-in-Some.ensures)

@@ -14,12 +14,12 @@ use Rattle.node_book.proofs.books.Book.act.Goals as goal
 
 pub invariant_of-self-in_err-told : goal.invariant_of-self-in_err-told
 invariant_of-self-in_err-told c =
-    let kept = by_growth (reply_of c.in_ok-reply.reply) _ c.in_err-told.ensures.want c.in_ok-reply.ensures.exported c.in_ok-reply.ensures.kept in
+    let kept = by_growth (reply_of c.in_ok-reply.reply) _ c.in_err-told.ensures.want c.in_ok-reply.ensures.unchanged.exported c.in_ok-reply.ensures.unchanged.kept in
     rw (c.in_ok-reserve.ensures.items, kept) c.self.invariant
 
 pub returns-in_err-told-clause-err : goal.returns-in_err-told-clause-err
 returns-in_err-told-clause-err c =
-    let kept = by_growth (reply_of c.in_ok-reply.reply) _ c.in_err-told.ensures.want c.in_ok-reply.ensures.exported c.in_ok-reply.ensures.kept in
+    let kept = by_growth (reply_of c.in_ok-reply.reply) _ c.in_err-told.ensures.want c.in_ok-reply.ensures.unchanged.exported c.in_ok-reply.ensures.unchanged.kept in
     rw (c.in_ok-reserve.ensures.items, kept) (on_err c.from_residual-in_err-told.result _ c.self.view_is)
 
 pub invariant_of-self-2 : goal.invariant_of-self-2
