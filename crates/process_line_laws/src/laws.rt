@@ -18,8 +18,7 @@ ghost use Rattle.process_line_laws.specs.Comes.{AreMadeOf, ComeToHistory, IsFile
 
 /// A host that reads an answer finds just what is meant: for the log the increment's text, or nothing; the text of the packet
 /// that is sent, or none; and the last line with what stands below it, which it does not look into. So it is of what nodes
-/// and agents answer, of what is refused as no command, and of what a process says first. The numbers of `kept` and `send`
-/// are those of the lines below.
+/// and agents answer, of what is refused as no command, and of what a process says first.
 pub fn an_answer_is_read_as_it_is_meant()
     ensures answer { (name : List ℕ) (to : Packet → Option ℕ) (agents : ℕ)
         (added : Option Increment) (a : Answer)
@@ -35,6 +34,10 @@ pub fn an_answer_is_read_as_it_is_meant()
         told_in said ≡ meant old.group.name tells.added tells.answer }
     ensures refused { (why : List ℕ) → told_in (refused_text why) ≡ just (refused_text why) }
     ensures begun { (p : Process) → told_in (begun_text p) ≡ just (begun_text p) }
+{}
+
+/// What is kept of a step, and a packet, have as many lines as `kept` and `send` say, and end with a whole one.
+pub fn what_is_kept_or_sent_has_the_lines_that_are_told()
     ensures kept { (agents : ℕ) (i : Increment) → HasIncrementText agents i →
         (length (lines_in (increment_text i)).lines ≡ lines_of_increment i)
         × ((lines_in (increment_text i)).rest ≡ []) }

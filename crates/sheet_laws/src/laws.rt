@@ -109,10 +109,13 @@ pub fn months()
         × NamesAllAlike old new s.batches) →
         transcript (play (opening voters observers agents new issuer) events).0
         ≡ transcript (play (opening voters observers agents old issuer) events).0 }
+{}
 
-    // Where the new sheet prices all that the old one does, batches may have been refused so under the old one: the
-    // other events, and any further ones after them, have under the new sheet a transcript that shows the file that the
-    // old one shows under such a month, and no other there.
+/// The files that two transcripts show of such months are the same also where batches were refused with G4 under the old sheet,
+/// if the new one prices all that the old one does: its transcript is of the other events.
+pub fn months_played_again()
+    // The events that were not refused with G4, and any further ones after them, have under the new sheet a transcript
+    // that shows the file that the old one shows under a month whose regions are named alike, and no other there.
     ensures shown_again { (voters observers agents : ℕ) (old new : Sheet) (issuer : Issuer)
         (events more : List Event) (day : ℤ) → IsSheet old → IsSheet new → IsIssuer issuer
         → GoesOnFrom day old new → PricesAllOf old new →

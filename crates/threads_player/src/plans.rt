@@ -1,12 +1,11 @@
 //! The plan of a group.
 
-ghost use Rattle.std.specs.Prelude.{◌≡◌, ◌≢◌, Ok, Err, vec_len, IfOk};
+ghost use Rattle.std.specs.Prelude.{◌≡◌, ◌≢◌, Err, vec_len, IfOk};
 ghost use Rattle.node_threads.specs.Words.{plan_of};
 ghost use Rattle.price_sheet.specs.Samples.{sample_issuer};
-ghost use Rattle.price_sheet.specs.SheetReading.{sheet_of_text};
 ghost use Rattle.threads_player.specs.Groups.{journals_of};
 ghost use Rattle.threads_player.specs.Runs.{IsSheetRefused};
-ghost use Rattle.threads_player.specs.SampleSheet.{sample_sheet_text};
+ghost use Rattle.threads_player.specs.Inner.Plans.{IsPlanOf};
 
 use crate::journals::journals;
 use crate::samples::sample_sheet;
@@ -45,13 +44,7 @@ fn plan_with(alloc: Global, size: Size, sheet: Sheet) -> Result<Plan, AllocError
 
 /// The plan of a group of that size, in which each node votes, with the sample sheet and the sample issuer.
 pub(crate) fn plan(alloc: Global, size: Size) -> Result<Plan, ThreadsFault>
-    ensures voters { IfOk result (λ plan. (plan_of plan).voters ≡ size.nodes) }
-    ensures observers { IfOk result (λ plan. (plan_of plan).observers ≡ 0) }
-    ensures sheet { IfOk result
-        (λ plan. sheet_of_text sample_sheet_text ≡ Ok (plan_of plan).sheet) }
-    ensures issuer { IfOk result (λ plan. (plan_of plan).issuer ≡ sample_issuer) }
-    ensures journals { IfOk result (λ plan. (plan_of plan).journals ≡ journals_of size) }
-    ensures periods { IfOk result (λ plan. (plan_of plan).periods ≡ size.periods) }
+    ensures planned { IfOk result (IsPlanOf size) }
     ensures agents { IfOk result (λ plan. vec_len plan.journals ≡ size.agents) }
     ensures refused { result ≡ Err ThreadsFault.Refused → IsSheetRefused }
     ensures unwritten { result ≢ Err ThreadsFault.Write }

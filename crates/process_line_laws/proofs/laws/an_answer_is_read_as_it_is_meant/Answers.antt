@@ -1,4 +1,4 @@
-use Rattle.process_line_laws.proofs.ReadAnswers.{agent_meant, answer_meant, begun_told, kept_counted, node_meant, refused_told, sent_counted}
+use Rattle.process_line_laws.proofs.ReadAnswers.{agent_meant, answer_meant, begun_told, node_meant, refused_told}
 use Rattle.process_line_laws.proofs.laws.an_answer_is_read_as_it_is_meant.Goals as goal
 
 pub returns-clause-answer : goal.returns-clause-answer
@@ -15,9 +15,3 @@ returns-clause-refused c = refused_told
 
 pub returns-clause-begun : goal.returns-clause-begun
 returns-clause-begun c = begun_told
-
-pub returns-clause-kept : goal.returns-clause-kept
-returns-clause-kept c = kept_counted
-
-pub returns-clause-sent : goal.returns-clause-sent
-returns-clause-sent c = sent_counted

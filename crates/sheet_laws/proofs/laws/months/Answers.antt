@@ -1,5 +1,4 @@
 use Rattle.sheet_laws.proofs.Months.{file_stays, names_of_export}
-use Rattle.sheet_laws.proofs.PlayedAgain.{shown_again, alike_again}
 use Rattle.sheet_laws.proofs.ShownMonths.{both_show, both_alike}
 use Rattle.sheet_laws.proofs.SameTranscripts.{transcript_stays}
 use Rattle.sheet_laws.proofs.laws.months.Goals as goal
@@ -15,12 +14,6 @@ returns-clause-same c = both_alike
 
 pub returns-clause-transcripts : goal.returns-clause-transcripts
 returns-clause-transcripts c = transcript_stays
-
-pub returns-clause-shown_again : goal.returns-clause-shown_again
-returns-clause-shown_again c = shown_again
-
-pub returns-clause-again : goal.returns-clause-again
-returns-clause-again c = alike_again
 
 pub returns-clause-named : goal.returns-clause-named
 returns-clause-named c = λ voters observers agents old new issuer events names s has. names_of_export voters observers agents old issuer events s has new names

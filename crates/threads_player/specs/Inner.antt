@@ -1,0 +1,2 @@
+-- Words of private functions and proofs.
+pub mod Plans
