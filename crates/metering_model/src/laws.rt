@@ -83,17 +83,22 @@ pub fn holdings_are_maps()
     ensures cuts { (h : Holding) (cut : Cut) → IsHolding h → IsHolding (up_to cut h) }
 {}
 
-/// A part of a holding stays one while only batches of the whole are put into it. Where the part lacks nothing up to a
-/// cut, the two agree up to that cut. What a holding has up to a cut is such a part.
-pub fn parts_of_holdings_agree_where_they_lack_nothing()
+/// A holding is a part of itself, and a part of a part is one of the whole. A part stays one while only batches of the
+/// whole are put into it, and a whole that grows keeps its parts. What a holding has up to a cut is a part of it.
+pub fn holdings_have_parts()
     ensures itself { (h : Holding) → IsPartOf h h }
     ensures onward { (h k l : Holding) → IsPartOf h k → IsPartOf k l → IsPartOf h l }
     ensures grown { (h : Holding) (b : Batch) → IsHolding h → IsPartOf h (put h b) }
     ensures stays { (h k : Holding) (b : Batch) → IsHolding h → IsPartOf h k →
         held k b.agent b.seq ≡ Some b → IsPartOf (put h b) k }
+    ensures part { (h : Holding) (cut : Cut) → IsPartOf (up_to cut h) h }
+{}
+
+/// Where a part of a holding lacks nothing up to a cut, the two agree up to it. What a holding has up to a cut lacks
+/// nothing there.
+pub fn parts_of_holdings_agree_where_they_lack_nothing()
     ensures agree { (h k : Holding) (cut : Cut) → IsPartOf h k → LacksNothingUpTo cut h k
         → AgreeUpTo cut h k }
-    ensures part { (h : Holding) (cut : Cut) → IsPartOf (up_to cut h) h }
     ensures lacks_nothing { (h : Holding) (cut : Cut) → LacksNothingUpTo cut (up_to cut h) h }
 {}
 
@@ -116,7 +121,7 @@ pub fn what_is_missing_up_to_a_cut_is_the_least_absent()
 {}
 
 /// "At least" holds between a cut and itself, passes on, and holds of any cut over the zero cut of its length. Of cuts
-/// of one length it is "at least" agent by agent. An entry that is set changes no other.
+/// of one length it is "at least" agent by agent.
 pub fn cuts_are_ordered()
     ensures itself { (cut : Cut) → IsAtLeast cut cut }
     ensures onward { (a b c : Cut) → IsAtLeast b a → IsAtLeast c b → IsAtLeast c a }
@@ -124,6 +129,10 @@ pub fn cuts_are_ordered()
     ensures each { (a b : Cut) (agent : ℕ) → IsAtLeast b a → last_of a agent ≤ last_of b agent }
     ensures each_is_enough { (a b : Cut) → length a ≡ length b →
         ((agent : ℕ) → last_of a agent ≤ last_of b agent) → IsAtLeast b a }
+{}
+
+/// An entry of a cut that is set is there, and no other changes.
+pub fn entries_of_cuts_are_set_alone()
     ensures was_put { (cut : Cut) (i seq : ℕ) → i < length cut
         → last_of (slice_set cut i seq) (i + 1) ≡ seq }
     ensures others { (cut : Cut) (i seq agent : ℕ) → (agent ≡ i + 1 → ⊥) →

@@ -157,8 +157,7 @@ pub fn unit_prices_times_quantities_are_costs()
 {}
 
 /// In each row the columns that a price gives are all null or none; so are the two of what was metered, those of a
-/// commitment and those of a region. A commitment stands on usage and purchases alone, its status just on usage with
-/// one, and PricingCategory just on usage and purchases.
+/// commitment and those of a region.
 pub fn columns_are_null_together()
     ensures price { (sheet : Sheet) (issuer : Issuer) (h : Holding) (period : ℕ) (from to : Cut) →
         All (λ x. PriceColumnsAre (is_some x.pricing_quantity) x)
@@ -171,6 +170,14 @@ pub fn columns_are_null_together()
         (from to : Cut) →
         All (λ x. CommitmentColumnsAre (is_some x.commitment_discount_id) x)
         (rows sheet issuer h period from to) }
+    ensures region { (sheet : Sheet) (issuer : Issuer) (h : Holding) (period : ℕ) (from to : Cut) →
+        All (λ x. is_some x.region_id ≡ is_some x.region_name)
+        (rows sheet issuer h period from to) }
+{}
+
+/// In each row a commitment stands on usage and purchases alone, its status just on usage with one, and
+/// PricingCategory just on usage and purchases.
+pub fn some_columns_are_of_usage_and_purchases_alone()
     ensures named { (sheet : Sheet) (issuer : Issuer) (h : Holding) (period : ℕ) (from to : Cut) →
         All (λ x. is_some x.commitment_discount_id ≡ true → (is_usage x || is_purchase x) ≡ true)
         (rows sheet issuer h period from to) }
@@ -181,9 +188,6 @@ pub fn columns_are_null_together()
     ensures category { (sheet : Sheet) (issuer : Issuer) (h : Holding) (period : ℕ)
         (from to : Cut) →
         All (λ x. is_some x.pricing_category ≡ (is_usage x || is_purchase x))
-        (rows sheet issuer h period from to) }
-    ensures region { (sheet : Sheet) (issuer : Issuer) (h : Holding) (period : ℕ) (from to : Cut) →
-        All (λ x. is_some x.region_id ≡ is_some x.region_name)
         (rows sheet issuer h period from to) }
 {}
 

@@ -1,4 +1,4 @@
-use Rattle.metering_model.proofs.CutLaws.{at_least_itself, at_least_each, at_least-trans, at_least_zero, last_of-set, last_of-set_other}
+use Rattle.metering_model.proofs.CutLaws.{at_least_itself, at_least_each, at_least-trans, at_least_zero}
 use Rattle.metering_model.proofs.AgreementLaws.{last_of_grows}
 use Rattle.metering_model.proofs.laws.cuts_are_ordered.Goals as goal
 
@@ -13,12 +13,6 @@ returns-clause-above_zero c = at_least_zero
 
 pub returns-clause-each : goal.returns-clause-each
 returns-clause-each c = last_of_grows
-
-pub returns-clause-was_put : goal.returns-clause-was_put
-returns-clause-was_put c = last_of-set
-
-pub returns-clause-others : goal.returns-clause-others
-returns-clause-others c = last_of-set_other
 
 pub returns-clause-each_is_enough : goal.returns-clause-each_is_enough
 returns-clause-each_is_enough c = at_least_each

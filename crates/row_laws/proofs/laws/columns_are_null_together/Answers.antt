@@ -1,4 +1,4 @@
-use Rattle.row_laws.proofs.PricedRows.{price_columns, consumed_columns, commitment_columns, named_column, status_column, category_column, region_columns}
+use Rattle.row_laws.proofs.PricedRows.{price_columns, consumed_columns, commitment_columns, region_columns}
 use Rattle.row_laws.proofs.laws.columns_are_null_together.Goals as goal
 
 pub returns-clause-price : goal.returns-clause-price
@@ -9,15 +9,6 @@ returns-clause-consumed c = consumed_columns
 
 pub returns-clause-commitment : goal.returns-clause-commitment
 returns-clause-commitment c = commitment_columns
-
-pub returns-clause-named : goal.returns-clause-named
-returns-clause-named c = named_column
-
-pub returns-clause-status : goal.returns-clause-status
-returns-clause-status c = status_column
-
-pub returns-clause-category : goal.returns-clause-category
-returns-clause-category c = category_column
 
 pub returns-clause-region : goal.returns-clause-region
 returns-clause-region c = region_columns
