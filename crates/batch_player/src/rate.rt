@@ -4,6 +4,7 @@ ghost use Rattle.std.specs.Prelude.{◌+◌, ◌≡◌, ◌≢◌, ◌≤◌, Li
 ghost use Rattle.std.specs.Arc.{arc_value};
 ghost use Rattle.std.specs.Io.KnownBytes.{Appends};
 ghost use Rattle.metering_model.specs.Limits.{most_agents, most_input_bytes};
+ghost use Rattle.counted_io.specs.Streams.{UsesStreams};
 ghost use Rattle.counted_io.specs.Writing.{AppendsPrefix};
 ghost use Rattle.metering_model.specs.Cut.{zero_cut};
 ghost use Rattle.metering_model.specs.Front.{front};
@@ -21,7 +22,6 @@ ghost use Rattle.batch_player.specs.Calls.{WritesAlone};
 ghost use Rattle.batch_player.specs.Charges.{IsFileOf};
 ghost use Rattle.batch_player.specs.Inner.Calls.{FailsAtWrites};
 ghost use Rattle.program_input.specs.Faults.{tells_of_reader, tells_of_writer};
-ghost use Rattle.program_input.specs.Streams.{UsesStreams};
 
 use crate::files::file_between;
 use batch_view::{BatchView, Offer, OwnedBatch};

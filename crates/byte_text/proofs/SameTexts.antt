@@ -63,7 +63,7 @@ all_by_ends n xs ys long from to begins ends =
     ap (λ k. drop k xs) (sym far) ∙ sym (drop-drop (n - m) m xs) ∙ ap (drop (n - m)) tails ∙ drop-drop (n - m) m ys ∙ ap (λ k. drop k ys) far in
     sym (take-append-drop n xs) ∙ ap (λ b. b ++ drop n xs) begins ∙ ap (λ r. take n ys ++ r) rest ∙ take-append-drop n ys
 
-same_text : (t : List ℕ) → is_same t t ≡ true
+pub same_text : (t : List ℕ) → is_same t t ≡ true
 same_text [] = refl
 same_text (c ∷ cs) = and_from (eqb c c) (is_same cs cs) (eq-eqb c c refl) (same_text cs)
 

@@ -1,9 +1,5 @@
--- What a fault of reading comes to, which answers tell of a failed call, and what that says of all calls.
-use Rattle.std.specs.Prelude.{◌≡◌, ◌+◌, ℕ, List, Bool, true, false, Option, Result, Ok, Err, OnOk}
-use Rattle.std.specs.Io.KnownBytes.{IsAtEnd}
-use Rattle.counted_io.specs.Counts.{count_after}
-use Rattle.counted_io.specs.Reading.{ConsumesAtMost}
-use Rattle.metering_model.specs.Limits.{most_transcript_bytes}
+-- What a fault of reading comes to, and which answers tell of a failed call.
+use Rattle.std.specs.Prelude.{Bool, true, false, Result, Ok, Err}
 use Rattle.line_source.specs.declared.faults.SourceFault.{SourceFault}
 use Rattle.line_source.specs.declared.faults.SourceFault.TheVariants as source
 use Rattle.period_file.specs.declared.faults.FileFault.{FileFault}
@@ -33,11 +29,3 @@ tells_of_writer (Err TooLong) = false
 tells_of_writer (Err Read) = false
 tells_of_writer (Err Write) = true
 tells_of_writer (Err OutOfMemory) = false
-
--- At most 4,294,967,297 bytes are read, and with Ok nothing is left to read. An answer that tells of the reader or of the writer comes of one
--- failed call of it, and no other call fails.
-pub record UsesStreams {A : Type 0} (answer : Result A FileFault) (left left' : Option (List ℕ)) (read_fails read_fails' write_fails write_fails' : ℕ) : Type 0 where
-  pub read : ConsumesAtMost (most_transcript_bytes + 1) left left'
-  pub end : OnOk answer (IsAtEnd left')
-  pub reads : read_fails' ≡ count_after (tells_of_reader answer) read_fails
-  pub writes : write_fails' ≡ count_after (tells_of_writer answer) write_fails

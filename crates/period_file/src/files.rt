@@ -1,14 +1,15 @@
 //! The first file of a period in what a source gives.
 
-ghost use Rattle.std.specs.Prelude.{◌≡◌, ◌<◌, ◌≤◌, ℕ, List, Some, None, Ok, Err, IfOk, IfErr, IfSome, OnOk, OnErr};
+ghost use Rattle.std.specs.Prelude.{◌≡◌, ◌+◌, ◌<◌, ◌≤◌, ℕ, List, Some, None, Ok, Err, IfOk, IfErr, IfSome, IsOk, OnOk, OnErr};
 ghost use Rattle.std.specs.Io.KnownBytes.{Appends, IsAtEnd};
 ghost use Rattle.metering_model.specs.Limits.{most_transcript_bytes};
 ghost use Rattle.counted_io.specs.Counts.{count_after};
+ghost use Rattle.counted_io.specs.Streams.{UsesStreams};
 ghost use Rattle.counted_io.specs.Writing.{AppendsPrefix, AppendsSome};
 ghost use Rattle.line_source.specs.Calls.{ReadsWithin};
 ghost use Rattle.line_source.specs.Lines.{IsShareOf};
 ghost use Rattle.line_source.specs.Reading.{IsEnded, Takes};
-ghost use Rattle.period_file.specs.Faults.{UsesStreams, tells_of_writer};
+ghost use Rattle.period_file.specs.Faults.{tells_of_reader, tells_of_writer};
 ghost use Rattle.period_file.specs.Files.{IsFileOf, IsRefusal, WritesAtFault, file_in};
 ghost use Rattle.period_file.specs.Inner.Calls.{CopiesWithin};
 ghost use Rattle.period_file.specs.Inner.Reading.{Copies, CopiesAhead, EndsUntold, Finds, Stops, StopsAhead};
@@ -148,7 +149,8 @@ pub fn file_text<R: Source, W: Sink>(
         (W.contents writer.old) (W.contents writer.new) }
 
     // With Ok nothing is left to read. `Read` and `Write` come of one failed call each, and no other call fails.
-    ensures streams { UsesStreams result
+    ensures streams { UsesStreams (most_transcript_bytes + 1) (IsOk result)
+        (tells_of_reader result) (tells_of_writer result)
         (R.remaining reader.old) (R.remaining reader.new)
         (R.failed_calls reader.old) (R.failed_calls reader.new)
         (W.failed_calls writer.old) (W.failed_calls writer.new) }

@@ -4,13 +4,14 @@ ghost use Rattle.std.specs.Prelude.{◌≡◌, ◌≢◌, ◌+◌, ◌≤◌, �
 ghost use Rattle.std.specs.Arc.{arc_value};
 ghost use Rattle.std.specs.Io.KnownBytes.{Appends, Keeps};
 ghost use Rattle.metering_model.specs.Limits.{most_agents, most_nodes, most_input_bytes};
+ghost use Rattle.counted_io.specs.Streams.{UsesStreams};
 ghost use Rattle.counted_io.specs.Writing.{AppendsPrefix};
 ghost use Rattle.metering_model.specs.declared.Refusal.{Refusal};
 ghost use Rattle.metering_model.specs.World.{opening};
 ghost use Rattle.metering_model.specs.Transcript.{transcript};
 ghost use Rattle.program_input.specs.declared.ScheduleFault.{ScheduleFault};
 ghost use Rattle.schedule_reader.specs.Schedules.{group_in, schedule_in};
-ghost use Rattle.schedule_player.specs.Faults.{TellsFaults, UsesStreams, tells_of_reader, tells_of_writer};
+ghost use Rattle.schedule_player.specs.Faults.{TellsFaults, tells_of_reader, tells_of_writer};
 ghost use Rattle.schedule_player.specs.Transcripts.{IsPrefixOfTranscript, IsTranscriptOf, replies_to};
 ghost use Rattle.schedule_player.specs.Inner.Playing.{AppendsFirst, read_of};
 ghost use Rattle.schedule_player.specs.Inner.Writing.{Writes, WritesTranscript};

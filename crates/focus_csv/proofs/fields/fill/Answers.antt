@@ -1,5 +1,5 @@
 -- Where one finds no room, all of them are longer than the line.
-use Rattle.std.proofs.Common.{◌<◌, [], length, length-take, take, rules, ap, arith}
+use Rattle.std.proofs.Common.{◌<◌, [], length, length-take, rules, ap, arith}
 use Rattle.focus_csv.proofs.OneMore.{no_longer}
 use Rattle.focus_csv.proofs.fields.fill.Goals as goal
 
