@@ -7,7 +7,7 @@ use Rattle.metering_model.specs.Batch.{lacks}
 use Rattle.metering_model.specs.Transcript.{line}
 use Rattle.metering_model.proofs.Splitting.{list_all_both}
 use Rattle.line_source.specs.Lines.{IsLineAt}
-use Rattle.line_source.specs.Reading.{IsLastBlock, ReadsUpTo, ReadsWhile, Takes, TakesLine, TakesPart}
+use Rattle.line_source.specs.Reading.{IsLastBlock, ReadsUpTo, ReadsWhile, Takes, TakesLine, TakesPart, TakesWhile}
 
 -- ---- bytes that came, and those that were taken
 
@@ -116,6 +116,58 @@ module _ {a b : List ℕ} {r s : ℕ} {l m : Option (List ℕ)} (it : TakesPart 
         lacks_feed = list_all_both _ it.part text it.lacks_feed ends.1.whole;
         takes = subst (Takes a c r s' l m) (sym (append_assoc it.part text (10 ∷ []))) (takes_line it.takes ends same);
       }
+
+-- ---- a line by its parts, of which more is read only while it does not end
+
+-- no line feed stands in what is ahead
+abbrev pub LacksFeed : List ℕ → Type 0
+LacksFeed held = lacks 10 held ≡ true
+
+-- A part of a line was taken, and more was read only while no line feed had come.
+pub record PassesPart (a b : List ℕ) (r s : ℕ) (l m : Option (List ℕ)) : Type 0 where
+  pub takes : TakesPart a b r s l m
+  pub last : ReadsWhile LacksFeed a (takes.part ++ b)
+
+-- a part and a line that ends behind it are the whole line
+all_of_line : (part : List ℕ) {b c : List ℕ} (ends : (end : ℕ) × IsLineAt b end × (c ≡ drop (end + 1) b)) → line (part ++ take ends.0 b) ++ c ≡ part ++ b
+all_of_line part {b} {c} ends =
+    let text = take ends.0 b in
+    ap (λ t. t ++ c) (append_assoc part text (10 ∷ [])) ∙ append_assoc part (line text) c ∙ ap (λ t. part ++ (line text ++ t)) ends.2
+    ∙ ap (λ t. part ++ t) (sym ends.1.split)
+
+-- nothing was taken or read yet
+pub passes_none : {a : List ℕ} {r : ℕ} {l : Option (List ℕ)} → Takes a a r r l l [] → PassesPart a a r r l l
+passes_none {a} it = record { takes = record { part = []; lacks_feed = refl; takes = it }; last = λ longer. absurd (omega (arith, longer)) }
+
+module _ {a b : List ℕ} {r s : ℕ} {l m : Option (List ℕ)} (it : PassesPart a b r s l m) where
+  -- all that is ahead is a part of the line, and a block more came at most
+  pub passes_on : {c e : List ℕ} {s' t : ℕ} {n : Option (List ℕ)} → (lacks 10 b ≡ true) × (c ≡ []) → s' ≡ s → Takes c e s' t m n [] → length e ≤ length c + 65_536 → PassesPart a e r t l n
+  unfolding part_on
+  passes_on {c} {e} {s'} {t} {n} all same reads block = record {
+    takes = part_on it.takes all same reads;
+    last = λ longer. record {
+      before = it.takes.takes.came;
+      last = e;
+      joined = ap (λ u. u ++ e) (sym it.takes.takes.joined);
+      block = (let none = ap length all.1 in omega (arith, block, none));
+      short = ap (lacks 10) it.takes.takes.joined ∙ list_all_both _ it.takes.part b it.takes.lacks_feed all.0;
+    };
+  }
+
+  -- the line ends ahead
+  pub passes_line : {c : List ℕ} {s' : ℕ} → (end : ℕ) × IsLineAt b end × (c ≡ drop (end + 1) b) → s' ≡ s → TakesWhile LacksFeed a c r s' l m
+  unfolding line_on
+  passes_line {c} {s'} ends same =
+      let whole = line_on it.takes ends same in
+      record {
+        taken = line whole.text;
+        takes = whole.takes;
+        last = subst (ReadsWhile LacksFeed a) (sym (all_of_line it.takes.part ends)) it.last;
+      }
+
+  -- or does not
+  pub passes_some : TakesWhile LacksFeed a b r s l m
+  passes_some = record { taken = it.takes.part; takes = it.takes.takes; last = it.last }
 
 -- no more came, and the line does not end
 pub part_ends : {a b : List ℕ} {r s : ℕ} {l m : Option (List ℕ)} → TakesPart a b r s l m → b ≡ [] → TakesPart a [] r s l m

@@ -49,3 +49,9 @@ pub record IsLastBlock (is_short : List ℕ → Type 0) (ahead ahead' : List ℕ
 -- More is read only while what is ahead does not suffice: so if anything was read, what was ahead before the last bytes did not.
 abbrev pub ReadsWhile : (is_short : List ℕ → Type 0) (ahead ahead' : List ℕ) → Type 0
 ReadsWhile is_short ahead ahead' = length ahead < length ahead' → IsLastBlock is_short ahead ahead'
+
+-- Some of what was ahead and came was taken. More was read only while all of it together did not suffice.
+pub record TakesWhile (is_short : List ℕ → Type 0) (ahead rest : List ℕ) (read read' : ℕ) (left left' : Option (List ℕ)) : Type 0 where
+  pub taken : List ℕ
+  pub takes : Takes ahead rest read read' left left' taken
+  pub last : ReadsWhile is_short ahead (taken ++ rest)

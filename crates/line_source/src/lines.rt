@@ -8,7 +8,7 @@ ghost use Rattle.metering_model.specs.BatchReading.{lines_in};
 ghost use Rattle.line_source.specs.Calls.{ReadsWithin};
 ghost use Rattle.line_source.specs.Inner.Wants.{IsLineShort};
 ghost use Rattle.line_source.specs.Lines.{AreBetween, AreFewer, AreInFront, AreShort, IsFound, IsLineAt, IsShareOf};
-ghost use Rattle.line_source.specs.Reading.{IsEnded, ReadsUpTo, ReadsWhile, Takes, TakesLine, TakesPart};
+ghost use Rattle.line_source.specs.Reading.{IsEnded, ReadsUpTo, ReadsWhile, Takes, TakesLine, TakesPart, TakesWhile};
 
 use crate::faults::SourceFault;
 use crate::unread::Unread;
@@ -207,9 +207,9 @@ fn take_part(unread: &mut Unread) -> bool
 /// whether the line ended.
 pub fn pass_line<S: Source>(unread: &mut Unread, source: &mut S) -> Result<bool, SourceFault>
     requires { unread.old.read ≤ most_transcript_bytes }
-    ensures takes { (taken : List ℕ)
-        × Takes unread.old.bytes unread.new.bytes unread.old.read unread.new.read
-        (S.remaining source.old) (S.remaining source.new) taken }
+    ensures takes { TakesWhile (λ held. lacks 10 held ≡ true)
+        unread.old.bytes unread.new.bytes unread.old.read unread.new.read
+        (S.remaining source.old) (S.remaining source.new) }
     ensures line { result ≡ Ok true
         → TakesLine unread.old.bytes unread.new.bytes unread.old.read unread.new.read
         (S.remaining source.old) (S.remaining source.new) }
