@@ -19,8 +19,8 @@ ghost use Rattle.process_laws.specs.Histories.{Processes, IsHistory, after, answ
 ghost use Rattle.price_change_laws.specs.SheetedHistories.{SheetedAct, group_under, sheeted_acted, sheeted_answers, sheeted_after, IsSheetedHistory, IsTakenOver, AreTakenOver, lacks_price, answers_kept, acts_kept, answer_under, AreAlike, EndsBeforeChange};
 
 /// Where the last sheet has the base month of each sheet before it, and prices all that they do, its processes do under
-/// all of them what they do under the last one alone: without the acts that were refused for want of a price, which
-/// changed nothing.
+/// all of them what they do under the last one alone, but for the sheet of an export: without the acts that were refused
+/// for want of a price, which changed nothing.
 pub fn prices_may_change()
     ensures history { (g : Group) (acts : List SheetedAct) → IsSheetedHistory g (begun g) acts →
         AreTakenOver g.sheet acts →
@@ -52,9 +52,10 @@ pub fn prices_may_change()
         (s : Snapshot) × (exporting g n period ≡ saying (HasExported s)) }
 {}
 
-/// So the file of a month that ends by the day from which on prices changed is the same bytes, whichever node exports it,
-/// whenever, and under whichever of these sheets. And whatever the sheets of two files are, they are made of the same
-/// cuts and batches, so that no batch is between the two cuts of two periods.
+/// So the file of a month that ends by a day up to which the last sheet goes on from these sheets, and whose regions they
+/// name alike, is the same bytes, whichever node exports it, whenever, and under whichever of them. And whatever the
+/// sheets of two files are, they are made of the same cuts and batches, so that no batch is between the two cuts of two
+/// periods.
 pub fn closed_months_stay()
     // The file is the same bytes as under the last sheet.
     ensures files { (g : Group) (acts : List SheetedAct) → IsSheetedHistory g (begun g) acts →
@@ -94,9 +95,10 @@ pub fn closed_months_stay()
         ≡ up_to s.to ((sheeted_after g (begun g) acts).journals agent) }
 {}
 
-/// Of a later month an older sheet's file has its rows at the places of the last sheet's, in the same order, and each two of
-/// them stay alike as in `sheet_laws`: they differ at most in the columns that a price gives, if the sheets price their
-/// reading otherwise, and in the region's name, if they name it otherwise.
+/// Of a later month too, where the last sheet goes on from an older one from some day, that one's file has its rows at the
+/// places of the last sheet's, in the same order, and each two of them stay alike as in `sheet_laws`: they differ at most
+/// in the columns that a price gives, if the sheets price their reading otherwise, and in the region's name, if they name
+/// it otherwise.
 pub fn later_months_stay_alike()
     ensures pairs { (g : Group) (acts : List SheetedAct) → IsSheetedHistory g (begun g) acts →
         AreTakenOver g.sheet acts → (s : Snapshot) →
@@ -106,7 +108,8 @@ pub fn later_months_stay_alike()
         (placed_rows s.sheet s.issuer s.batches s.period s.from s.to)
         (placed_rows g.sheet s.issuer s.batches s.period s.from s.to) }
 
-    // Where each reading up to its cut starts before the day or has no price, the file is the same bytes.
+    // Where each reading up to its cut starts before the day or has no price, and its region is named alike, the file is the
+    // same bytes.
     ensures all { (g : Group) (acts : List SheetedAct) → IsSheetedHistory g (begun g) acts →
         AreTakenOver g.sheet acts → (s : Snapshot) →
         Contains (sheeted_answers g (begun g) acts) (saying (HasExported s)) →

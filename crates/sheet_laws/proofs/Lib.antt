@@ -10,6 +10,7 @@ pub mod PlayedAgain
 pub mod SameTranscripts
 pub mod RatedAlone
 pub mod LongerSheets
+mod ChainedSheets
 pub mod Premises
 mod TwoSheets
 mod WorkedMonths

@@ -141,9 +141,10 @@ pub fn months_played_again()
         ++ more)).0) period two → one ≡ two }
 {}
 
-/// Of any month, journals that meet the rules under both sheets up to the later cut have rows at the same places in the
-/// same order, and each two of them stay alike: they differ at most in the region's name, if the sheets name it
-/// otherwise, and in the columns that a price gives, if they price the reading otherwise.
+/// Under a sheet that goes on from a day, and of any month, journals that meet the rules under both sheets up to the later
+/// cut have rows at the same places in the same order, and each two of them stay alike: they differ at most in the
+/// region's name, if the sheets name it otherwise, and in the columns that a price gives, if they price the reading
+/// otherwise.
 pub fn rows()
     // Priced alike are usage and purchases that start before the day, and credits, taxes and adjustments of any day.
     ensures pairs { (day : ℤ) (old new : Sheet) → GoesOnFrom day old new
@@ -164,9 +165,9 @@ pub fn rows()
 {}
 
 /// A batch that is rated by itself, and under neither sheet refused for a price or a commitment, is refused under both
-/// or under neither. Its file is the same bytes where the period ends by the day, or where all its readings start
-/// before it or have no price, if its regions are named alike; and of any period its rows under both sheets stay alike,
-/// as those of `rows`.
+/// or under neither. Under a sheet that goes on from a day its file is the same bytes where the period ends by the day, or
+/// where all its readings start before it or have no price, if its regions are named alike; and of any period its rows
+/// under both sheets stay alike, as those of `rows`.
 pub fn rated()
     ensures batches { (old new : Sheet) (issuer : Issuer) (text : List ℕ) →
         journaled_in old issuer text ≢ Err Unpriced → journaled_in new issuer text ≢ Err Unpriced →
@@ -197,10 +198,17 @@ pub fn rated()
 /// How a sheet comes to go on from another: it has the same price rows from before the day, but for any that begin
 /// before all of their SKU in the old one, a price in force where a row of the old one begins, and each of its
 /// commitments and regions. So it has all that the other laws ask of two sheets, but that a region which the old one
-/// does not name is not named by it either.
+/// does not name is not named by it either. Of sheets that each go on from the one before up to one day, the last goes
+/// on from the first up to it, and up to each earlier day; and it names alike what each of them does.
 pub fn longer()
     ensures goes_on { (day : ℤ) (old new : Sheet) → IsLonger day old new → GoesOnFrom day old new }
     ensures priced { (day : ℤ) (old new : Sheet) → IsLonger day old new → PricesAllOf old new }
     ensures named { (day : ℤ) (old new : Sheet) → IsLonger day old new → (id name : List ℕ)
         → region_named old id ≡ Some name → NamesAlike old new id }
+    ensures chained { (day : ℤ) (first second third : Sheet) → GoesOnFrom day first second
+        → GoesOnFrom day second third → GoesOnFrom day first third }
+    ensures earlier { (day before : ℤ) (old new : Sheet) → before ≤ℤ day
+        → GoesOnFrom day old new → GoesOnFrom before old new }
+    ensures names { (first second third : Sheet) (id : List ℕ) → NamesAlike first second id
+        → NamesAlike second third id → NamesAlike first third id }
 {}

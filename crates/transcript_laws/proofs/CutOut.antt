@@ -1,5 +1,5 @@
 -- What is cut out of a front of a transcript is the period's file, or a front of it; and where nothing is, no line stands above one.
-use Rattle.std.proofs.Common.{◌≡◌, ◌≢◌, ℕ, ◌<◌, ◌≤◌, ◌^◌, List, [], ◌∷◌, ◌++◌, length, take, drop, Contains, refl, sym, ap, subst, ◌∙◌, arith, inl, inr, append_assoc, append-nil}
+use Rattle.std.proofs.Common.{◌≡◌, ◌≢◌, ℕ, ◌<◌, ◌≤◌, ◌^◌, List, [], ◌∷◌, ◌++◌, length, take, drop, Contains, refl, sym, ap, subst, ◌∙◌, arith, inl, inr, append_assoc, append-nil, length-drop}
 use Rattle.std.proofs.lemmas.List.{take-append-drop, take-append-le, length-append}
 use Rattle.std.proofs.Math.Seq.{take-append_seam}
 use Rattle.metering_model.specs.BatchReading.{Lines, lines_in}
@@ -7,7 +7,7 @@ use Rattle.metering_model.specs.Sheet.{Sheet, Issuer}
 use Rattle.metering_model.specs.SheetRules.{IsSheet, IsIssuer}
 use Rattle.metering_model.specs.World.{Event, Snapshot, Reply, Exported, opening}
 use Rattle.metering_model.specs.Step.{play}
-use Rattle.metering_model.specs.Transcript.{file_of, transcript}
+use Rattle.metering_model.specs.Transcript.{file_of, line, transcript}
 use Rattle.metering_model.specs.Schedule.{TextLines, lines_text}
 use Rattle.metering_model.proofs.Splitting.{lines_give_back, lines_of_text}
 use Rattle.transcript_laws.specs.Shown.{line_above, Shows, HoldsOfBytes}
@@ -28,6 +28,13 @@ longer : (after ns fs rest : TextLines) → length after ≤ length fs → after
 longer after ns fs rest few e =
     let front : take (length after) fs ≡ after = sym (take-append-le (length after) fs rest few) ∙ ap (take (length after)) (sym e) ∙ take-append_seam after ns in
     sym (take-append-drop (length after) fs) ∙ ap (λ (t : TextLines). t ++ drop (length after) fs) front
+
+-- a line has its line feed
+some_text : (ls : TextLines) → 0 < length ls → lines_text ls ≢ []
+some_text [] some none = omega (arith, some)
+some_text (x ∷ xs) some none =
+    let size = ap length none in
+    omega (arith, size, length-append (line x) (lines_text xs), length-append x (10 ∷ []))
 
 module _ (voters observers agents : ℕ) (sheet : Sheet) (issuer : Issuer) (events : List Event) (limits : IsSheet sheet) (names : IsIssuer issuer) where
   abbrev now : List Reply
@@ -85,7 +92,7 @@ module _ (voters observers agents : ℕ) (sheet : Sheet) (issuer : Issuer) (even
         no_whole : first_of_lines period ls ≡ NoFile → ⊥
         no_whole none = let is : NoFile ≡ WholeFile shown = sym none ∙ first in absurd (cc)
 
-    pub cut_torn_file : (period : ℕ) (part : List ℕ) → first_file period front ≡ TornFile part → (more : List ℕ) × Shows (transcript now) period (part ++ more)
+    pub cut_torn_file : (period : ℕ) (part : List ℕ) → first_file period front ≡ TornFile part → (more : List ℕ) × (more ≢ []) × Shows (transcript now) period (part ++ more)
     cut_torn_file period part first = elim (find_above period ls) [
       | inl none ↦ absurd (no_torn none)
       | inr it ↦
@@ -97,7 +104,8 @@ module _ (voters observers agents : ℕ) (sheet : Sheet) (issuer : Issuer) (even
           let long = longer it.after lines_of_front.0 fs export.others short export.is_behind in
           let file : file_of export.snapshot ≡ part ++ lines_text more =
           file_is export.snapshot (known.files export.snapshot export.has) ∙ ap lines_text long ∙ lines_append it.after more ∙ ap (λ t. t ++ lines_text more) (sym lines.1) in
-          (lines_text more, subst (Shows (transcript now) period) file (shown_of period it.count it.after export))
+          let left : 0 < length more = let few = lines.0 in let is = export.is_count in omega (arith, few, is, length-drop (length it.after) fs) in
+          (lines_text more, some_text more left, subst (Shows (transcript now) period) file (shown_of period it.count it.after export))
     ]
       where
         no_torn : first_of_lines period ls ≡ NoFile → ⊥
@@ -153,10 +161,10 @@ module _ (voters observers agents : ℕ) (sheet : Sheet) (issuer : Issuer) (even
   cut_out_whole front rest e period shown first =
       periods_file period shown (cut_whole_file voters observers agents sheet issuer events limits names front rest (sym same_text ∙ e) period shown first)
 
-  pub cut_out_torn : (front rest : List ℕ) → text ≡ front ++ rest → (period : ℕ) (part : List ℕ) → first_file period front ≡ TornFile part → (more : List ℕ) × IsPeriodsFile holds period (part ++ more)
+  pub cut_out_torn : (front rest : List ℕ) → text ≡ front ++ rest → (period : ℕ) (part : List ℕ) → first_file period front ≡ TornFile part → (more : List ℕ) × (more ≢ []) × IsPeriodsFile holds period (part ++ more)
   cut_out_torn front rest e period part first =
       let it = cut_torn_file voters observers agents sheet issuer events limits names front rest (sym same_text ∙ e) period part first in
-      (it.0, periods_file period (part ++ it.0) it.1)
+      (it.0, it.1, periods_file period (part ++ it.0) it.2)
 
   pub cut_out_none : (front rest : List ℕ) → text ≡ front ++ rest → (period : ℕ) → first_file period front ≡ NoFile → (before after : TextLines) (count : ℕ) → (lines_in front).lines ≢ before ++ line_above period count ∷ after
   cut_out_none front rest e period none = none_above voters observers agents sheet issuer events limits names front rest (sym same_text ∙ e) period none

@@ -1,6 +1,6 @@
 //! The headline over every list of events, of the bytes of its transcript.
 
-ghost use Rattle.std.specs.Prelude.{◌≡◌, ◌≢◌, ℕ, List, ◌∷◌, ◌++◌, map};
+ghost use Rattle.std.specs.Prelude.{◌≡◌, ◌≢◌, ℕ, List, [], ◌∷◌, ◌++◌, map};
 ghost use Rattle.std.specs.List.{join_with_byte};
 ghost use Rattle.metering_model.specs.Sheet.{Sheet, Issuer};
 ghost use Rattle.metering_model.specs.SheetRules.{IsSheet, IsIssuer};
@@ -56,7 +56,7 @@ pub fn a_longer_transcript_shows_the_same_files()
 {}
 
 /// The first file of a period, cut out of a transcript or of any prefix of it, is the period's file. Where only a part
-/// of it is left, that is a prefix of the period's file; where none is found, no whole line stands above one. Of a
+/// of it is left, that is a proper prefix of the period's file; where none is found, no whole line stands above one. Of a
 /// whole transcript no file is torn.
 pub fn what_is_cut_out_is_the_periods_file()
     ensures whole { (voters observers agents : ℕ) (sheet : Sheet) (issuer : Issuer)
@@ -70,7 +70,7 @@ pub fn what_is_cut_out_is_the_periods_file()
         (holds : HoldsOfBytes voters observers agents sheet issuer events text)
         → (front rest : List ℕ) → text ≡ front ++ rest →
         (period : ℕ) (part : List ℕ) → first_file period front ≡ TornFile part
-        → (more : List ℕ) × IsPeriodsFile holds period (part ++ more) }
+        → (more : List ℕ) × (more ≢ []) × IsPeriodsFile holds period (part ++ more) }
     ensures none { (voters observers agents : ℕ) (sheet : Sheet) (issuer : Issuer)
         (events : List Event) (text : List ℕ) → IsSheet sheet → IsIssuer issuer →
         (holds : HoldsOfBytes voters observers agents sheet issuer events text)
