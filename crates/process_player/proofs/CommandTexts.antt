@@ -1,5 +1,5 @@
 -- A command in what is ahead: its first line, and the lines that belong to it.
-use Rattle.std.proofs.Common.{◌≡◌, ℕ, ◌+◌, ◌-◌, ◌≤◌, true, List, [], ◌∷◌, ◌++◌, length, take, drop, Option, Some, MatchOption, refl, sym, ap, subst, ◌∙◌, arith, append_assoc, append-nil}
+use Rattle.std.proofs.Common.{◌≡◌, ℕ, ◌+◌, ◌-◌, ◌<◌, ◌≤◌, true, List, [], ◌∷◌, ◌++◌, length, take, drop, Option, Some, MatchOption, refl, sym, ap, subst, ◌∙◌, arith, append_assoc, append-nil}
 use Rattle.std.specs.List.{list_all}
 use Rattle.std.proofs.lemmas.Bool.{and_parts, and_from}
 use Rattle.std.proofs.lemmas.List.{length-append, length-take-le, take-append-drop, take-append-le}
@@ -51,8 +51,8 @@ pub some_first : {text : List ℕ} {end : ℕ} → AreBetween 0 end text 1 → 1
 some_first it = let size = (first_between it).size in omega (arith, size)
 
 pub command_at : (p : Process) (text : List ℕ) (end all lines : ℕ) → AreBetween 0 end text 1 → AreBetween end all text lines
-    → lines ≡ lines_below p (take (end - 1) text) → IsCommandAt p text end all
-command_at p text end all lines one below same =
+    → lines ≡ lines_below p (take (end - 1) text) → length (drop all text) < 65_536 → IsCommandAt p text end all
+command_at p text end all lines one below same at_hand =
     let first = first_between one in
     let ordered = below.ordered in
     let within = below.within in
@@ -65,6 +65,7 @@ command_at p text end all lines one below same =
       some = let size = first.size in omega (arith, size);
       ordered = ordered;
       within = within;
+      at_hand = at_hand;
       asked = record {
         is_line = ap (lacks 10) first.taken ∙ first.whole;
         lines = below.lines;
@@ -145,6 +146,6 @@ torn_later p end lines count text seen after left one reads value same counted f
 
 pub command_later : (p : Process) (end lines count all : ℕ) (text seen after : List ℕ) {r s : ℕ} {l m : Option (List ℕ)}
     → AreBetween 0 end text 1 → Takes text after r s l m [] → lines ≡ lines_below p (take (end - 1) seen) → seen ≡ text → count ≡ lines
-    → AreBetween end all after count → IsCommandAt p after end all
-command_later p end lines count all text seen after one reads value same counted below =
-    command_at p after end all count (between_on one reads) below (asked_for p end lines count text seen after one reads value same counted)
+    → AreBetween end all after count → length (drop all after) < 65_536 → IsCommandAt p after end all
+command_later p end lines count all text seen after one reads value same counted below at_hand =
+    command_at p after end all count (between_on one reads) below (asked_for p end lines count text seen after one reads value same counted) at_hand

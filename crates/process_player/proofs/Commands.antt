@@ -1,5 +1,5 @@
 -- A process is asked, and answers, one command after the other.
-use Rattle.std.proofs.Common.{◌≡◌, ℕ, ◌-◌, take, drop, List, [], ◌∷◌, ◌++◌, Option, ◌≤◌, Result, Ok, Err, OnOk, IfErr, refl, sym, ap, subst, ◌∙◌, arith, append_assoc, append-nil}
+use Rattle.std.proofs.Common.{◌≡◌, ℕ, ◌-◌, ◌<◌, take, drop, List, [], ◌∷◌, ◌++◌, length, Option, ◌≤◌, Result, Ok, Err, OnOk, IfErr, refl, sym, ap, subst, ◌∙◌, arith, append_assoc, append-nil}
 use Rattle.std.proofs.lemmas.List.{drop-take}
 use Rattle.std.specs.List.{flat_map}
 use Rattle.std.specs.Io.KnownBytes.{Appends, IsAtEnd}
@@ -83,6 +83,7 @@ serves_it {p} {a} {b} {c} {l} {m} {o} {o'} q said end all seen here passes same 
   does = does_it p q b said end all seen here same answers;
   passes = passes_front passes c (bytes_of (asked_at end all b)) (here.split ∙ ap (λ t. bytes_of (asked_at end all b) ++ t) (sym rest));
   written = written;
+  at_hand = subst (λ t. length t < 65_536) (sym rest) here.at_hand;
 }
 
 pub stops_in_it : {p : Process} {a b : List ℕ} {l m o o' : Option (List ℕ)} (q : Process) (said : List ℕ) (end all : ℕ) (seen : List ℕ)
@@ -97,6 +98,7 @@ stops_in_it {p} {a} {b} {l} {m} {o} {o'} q said end all seen here passes same to
   does = does_it p q b said end all seen here same told.0;
   passes = subst (λ t. Passes a t l m []) here.split passes;
   written = told.1;
+  at_hand = here.at_hand;
 }
 
 -- nothing more is asked
@@ -139,6 +141,7 @@ module _ {k : ProcessKind} {p : Process} {b : List ℕ} {l m o o' : Option (List
     piece = it.stops.rest;
     between = it.between;
     runs = runs_of written (goes_by it.continues it.stops.passes refl);
+    at_hand = it.stops.at_hand;
     next = it.stops.next;
     one = it.stops.said;
     does = it.stops.does;

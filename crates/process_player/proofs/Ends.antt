@@ -57,7 +57,7 @@ between_up_to {from} {end} {count} {text} to behind long it = record {
 
 module _ {from end count : ℕ} {text : List ℕ} (it : AreBetween from end text count) where
   -- they are the first lines from that place on
-  lines_from : (lines_in (drop from text)).lines ≡ it.lines ++ (lines_in (drop end text)).lines
+  pub lines_from : (lines_in (drop from text)).lines ≡ it.lines ++ (lines_in (drop end text)).lines
   lines_from =
       let rest = drop end text in
       let ordered = it.ordered in
@@ -160,12 +160,13 @@ module _ {from opening : ℕ} {text : List ℕ} (it : AreBetween from opening te
           judged = inl (is, few.1);
         }
 
-    pub section_found : (end : ℕ) → AreBetween opening end after n → IsSection word most from end after
-    section_found end below = record {
+    pub section_found : (end : ℕ) → AreBetween opening end after n → length (drop end after) < 65_536 → IsSection word most from end after
+    section_found end below at_hand = record {
       count = 1 + n;
       between = two_between (between_more it more) below;
       said = ap (λ ls. section_lines word most (ls ++ below.lines)) is_one.1
           ∙ section_read word most is_one.0 below.lines n says (let counted = below.counted in omega (arith, counted));
+      at_hand = at_hand;
     }
 
 -- ---- the first two lines
@@ -242,13 +243,15 @@ module _ (k : ProcessKind) {first : ℕ} {text after : List ℕ} {r s : ℕ} {l 
     }
 
     -- both are there
-    pub heads_found : is_same (take (first - 1) text) (kind_word k) ≡ true → heads_log k (take (both - 1 - first) (drop first after)) ≡ true → AreHeads k both after
-    heads_found is_first is_head = record {
+    pub heads_found : is_same (take (first - 1) text) (kind_word k) ≡ true → heads_log k (take (both - 1 - first) (drop first after)) ≡ true
+        → length (drop both after) < 65_536 → AreHeads k both after
+    heads_found is_first is_head at_hand = record {
       between = two_lines;
       one = (is_one it).0;
       own = (is_one next).0;
       are_these = are_two;
       right = (right_first is_first, ap (heads_log k) (sym (is_part next)) ∙ is_head);
+      at_hand = at_hand;
     }
 
 -- ---- a preamble
@@ -333,6 +336,7 @@ module _ (k : ProcessKind) {head : ℕ} {text after : List ℕ} {r s : ℕ} {l m
       count = 2 + first.count + next.count;
       between = two_between (two_between last_head last_sheet) next.between;
       said = by_issuer next.between.lines ∙ ap (option_map (λ k. 2 + first.count + k)) next.said;
+      at_hand = next.at_hand;
     }
     preamble_found (Part end) within none = record {
       none =
@@ -360,6 +364,14 @@ nothing_behind (Whole end) text l k p is h =
     front.lines ∙ ap (λ (x : Lines). drop front.count x.lines) all ∙ ap (λ n. drop n ls) (same ∙ sym is.between.counted) ∙ ap (drop (length ls)) (sym (append-nil ls)) ∙ drop-append_seam ls [] in
     sym (lines_give_back (left p.rest)) ∙ ap (λ xs. lines_text xs ++ (lines_in (left p.rest)).rest) lines ∙ front.piece ∙ ap (λ (x : Lines). x.rest) all
 
+-- less than a block stands behind one that is read
+rest_at_hand : (judged : Judged) (text : List ℕ) (l : Option (List ℕ)) (k : ProcessKind) (p : Preamble) → IsPreambleTo k text l judged
+    → preamble_in k (take (end_of judged) text) ≡ Ok p → length (drop (end_of judged) text) < 65_536
+rest_at_hand (Part end) text l k p none h =
+    let front = preamble_front k (take end text) p h in
+    absurd (none-some front.count (sym none.none ∙ front.said))
+rest_at_hand (Whole end) text l k p is h = is.at_hand
+
 module _ (k : ProcessKind) {a a' b : List ℕ} {r s : ℕ} {l m : Option (List ℕ)} (same : a' ≡ a) (takes : Takes a' b r s l m []) (judged : Judged) (there : IsPreambleTo k b m judged) (end : ℕ) (is_end : end ≡ end_of judged) where
   -- it is taken
   pub preamble_taken : (own : ReadLog) (sheet : Sheet) (issuer : Issuer) (next : ℕ) {c : List ℕ}
@@ -373,6 +385,9 @@ module _ (k : ProcessKind) {a a' b : List ℕ} {r s : ℕ} {l m : Option (List �
     counted = read.2;
     passes = subst (λ x. Passes x c l m (take end b)) same
         (passes_front (passes_of takes) c (take end b) (sym (take-append-drop end b) ∙ ap (λ t. take end b ++ t) (sym behind)));
+    at_hand =
+        subst (λ t. length t < 65_536) (ap (λ n. drop n b) (sym is_end) ∙ sym behind)
+        (rest_at_hand judged b m k (record { own = own; sheet = sheet; issuer = issuer; rest = read.0 }) there (ap (λ n. preamble_in k (take n b)) (sym is_end) ∙ read.1));
   }
 
   -- all that is ahead is judged: no more comes, or it is too long

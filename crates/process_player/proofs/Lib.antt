@@ -3,6 +3,7 @@ pub mod Between
 pub mod Fronts
 pub mod Refusing
 pub mod Ends
+pub mod AtHand
 pub mod PreambleLaws
 pub mod StoredLaws
 pub mod Commands

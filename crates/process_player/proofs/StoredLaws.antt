@@ -1,10 +1,10 @@
 -- What was stored last is taken, and a process is begun with it.
-use Rattle.std.proofs.Common.{◌≡◌, ℕ, ◌+◌, ◌-◌, true, false, cond, List, [], ◌∷◌, ◌++◌, length, take, drop, IsTrue, Option, Some, None, Ok, Err, codes, refl, sym, ap, ap₂, ◌∙◌, subst, arith, append_assoc, append-nil}
+use Rattle.std.proofs.Common.{◌≡◌, ℕ, ◌+◌, ◌-◌, ◌<◌, ◌≤◌, true, false, cond, List, [], ◌∷◌, ◌++◌, length, take, drop, IsTrue, Option, Some, None, Ok, Err, codes, refl, sym, ap, ap₂, ◌∙◌, subst, arith, append_assoc, append-nil}
 use Rattle.std.specs.List.{flat_map}
 use Rattle.std.specs.Io.KnownBytes.{IsAtEnd}
 use Rattle.std.specs.Prelude.{nat_le}
 use Rattle.std.proofs.lemmas.Bool.{and_parts, leb-true, lt-leb, ltb-true}
-use Rattle.std.proofs.lemmas.List.{drop-take, take-append-drop, take-append-le, take-take}
+use Rattle.std.proofs.lemmas.List.{drop-take, length-append, length-drop, length-take-le, take-append-drop, take-append-le, take-take}
 use Rattle.metering_model.specs.Batch.{lacks}
 use Rattle.metering_model.specs.BatchReading.{Lines, fields_in, is_same, lines_in}
 use Rattle.metering_model.specs.KeptText.{KeptAmong}
@@ -74,13 +74,14 @@ same_head h text r is read own =
 -- ---- it is taken
 
 module _ (own : ReadLog) {a a' b : List ℕ} {r s : ℕ} {l m : Option (List ℕ)} {end : ℕ} (same : a' ≡ a) (reads : Takes a' b r s l m []) (one : AreBetween 0 end b 1) where
-  pub new_taken : {c : List ℕ} → is_same (take (end - 1) b) (codes "new") ≡ true → c ≡ drop end b → HasTaken own own.kept a c l m
-  new_taken {c} is behind = record {
+  pub new_taken : {c : List ℕ} → is_same (take (end - 1) b) (codes "new") ≡ true → c ≡ drop end b → length (drop end b) < 65_536 → HasTaken own own.kept a c l m
+  new_taken {c} is behind at_hand = record {
     text = codes "new" ++ 10 ∷ [];
     is_stored = HasNone;
     passes = subst (λ t. Passes t c l m (line (codes "new"))) same
         (passes_front (passes_of reads) c (line (codes "new"))
         (sym (take-append-drop end b) ∙ ap₂ (λ t u. t ++ u) (first_whole one ∙ ap line (same_read (take (end - 1) b) (codes "new") is)) (sym behind)));
+    at_hand = subst (λ t. length t < 65_536) (sym behind) at_hand;
   }
 
   -- the lines that are ahead and still to come: that one, and those below it
@@ -138,13 +139,14 @@ module _ (own : ReadLog) {a a' b : List ℕ} {r s : ℕ} {l m : Option (List ℕ
       log_is = let ordered = lines.ordered in ap (λ k. drop end (take k c)) (omega (arith, ordered)) ∙ drop-take end (all - end) c
 
       pub log_taken : {d : List ℕ} {kept : KeptAmong} → section_in (codes "log ") 4_294_967_295 (take (end - 1) b) ≡ Some count
-          → log_in (take (all - end) (drop end c)) ≡ Ok (record { head = own.head; kept = kept }) → d ≡ drop all c → HasTaken own kept a d l n
-      log_taken {d} {kept} said read behind = record {
+          → log_in (take (all - end) (drop end c)) ≡ Ok (record { head = own.head; kept = kept }) → d ≡ drop all c → length (drop all c) < 65_536 → HasTaken own kept a d l n
+      log_taken {d} {kept} said read behind at_hand = record {
         text = line (take (end - 1) b) ++ drop end (take all c);
         is_stored = HasLog (take (end - 1) b) (drop end (take all c)) kept count said (between_counted lines) (ap log_in log_is ∙ read);
         passes = subst (λ t. Passes t d l n (line (take (end - 1) b) ++ drop end (take all c))) same
             (passes_front (passes_more (passes_of reads) (passes_of more)) d (line (take (end - 1) b) ++ drop end (take all c))
             (sym (take-append-drop all c) ∙ ap₂ (λ t u. t ++ u) both (sym behind)));
+        at_hand = subst (λ t. length t < 65_536) (sym behind) at_hand;
       }
 
       -- the log stands there, whatever it is
@@ -163,10 +165,19 @@ module _ (own : ReadLog) {a a' b : List ℕ} {r s : ℕ} {l m : Option (List ℕ
       log_text_is : (seen : List ℕ) → seen ≡ c → take (all - end) (drop end seen) ≡ lines_text lines.lines
       log_text_is seen is = ap (λ t. take (all - end) (drop end t)) is ∙ sym log_is ∙ lines.are_lines
 
+      -- it is no longer than what was read since the mark
+      log_short : r ≡ length a → s' ≤ 4_294_967_296 → length (lines_text lines.lines) ≤ 4_294_967_296
+      log_short marked within =
+          let counted = both_reads.counted in
+          let joined = ap length both_reads.joined in
+          let size = ap length lines.are_lines in
+          let there = lines.within in
+          omega (arith, marked, within, counted, joined, size, ap length same, length-append a' both_reads.came, length-drop end (take all c), length-take-le all c there, there)
+
       pub log_refused : (next : ℕ) (head : LogHead) (seen : List ℕ) (e : ProcessFault) → seen ≡ c → head ≡ own.head
-          → section_in (codes "log ") 4_294_967_295 (take (end - 1) b) ≡ Some count
+          → r ≡ length a → s' ≤ 4_294_967_296 → section_in (codes "log ") 4_294_967_295 (take (end - 1) b) ≡ Some count
           → RejectsLog head (take (all - end) (drop end seen)) e → OfAll (RejectsStored own next e) a l
-      log_refused next head seen e is_seen is_head said it =
+      log_refused next head seen e is_seen is_head marked within said it =
           refused_in e l n same both_reads
           (subst (λ t. RejectsLog own.head t e) (log_text_is seen is_seen) (subst (λ h. RejectsLog h (take (all - end) (drop end seen)) e) is_head it))
         where
@@ -175,7 +186,7 @@ module _ (own : ReadLog) {a a' b : List ℕ} {r s : ℕ} {l m : Option (List ℕ
           refused_in e (Some xs) None same t it = absurd t.consumed
           refused_in fault.Read (Some xs) (Some ys) same t it = tt
           refused_in (fault.Section why) (Some xs) (Some ys) same t it = absurd it
-          refused_in (fault.Log at_fault number) (Some xs) (Some ys) same t it = record { says = says_log same t said; own_head = it.0; refused = it.1 }
+          refused_in (fault.Log at_fault number) (Some xs) (Some ys) same t it = record { says = says_log same t said; short = log_short marked within; own_head = it.0; refused = it.1 }
           refused_in fault.OtherLog (Some xs) (Some ys) same t it = record { says = says_log same t said; other = it }
           refused_in fault.NoJournal (Some xs) (Some ys) same t it = absurd it
           refused_in fault.TooLong (Some xs) (Some ys) same t it = absurd it
@@ -260,6 +271,7 @@ module _ {k : ProcessKind} {own : ReadLog} {sheet : Sheet} {issuer : Issuer} {ne
         goes_on = subst (λ x. GoesOn x own.head.who kept p) is (subst (λ x. GoesOn g x kept p) of goes_on);
       };
       passes = passes_on it.passes taken.passes;
+      at_hand = taken.at_hand;
     }
 
     pub no_journal : (w : Who) → w ≡ own.head.who → IsNoJournal w kept → OfAll (λ input. Rejects k input fault.NoJournal) a l

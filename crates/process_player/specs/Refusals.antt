@@ -1,5 +1,5 @@
 -- What an input has that is refused.
-use Rattle.std.specs.Prelude.{◌≡◌, ℕ, ◌+◌, ◌<◌, nat_le, if◌then◌else◌, Bool, true, false, List, [], ◌∷◌, ◌++◌, length, drop, Option, Some, None, Result, Ok, Err, codes, ◌⊎◌}
+use Rattle.std.specs.Prelude.{◌≡◌, ℕ, ◌+◌, ◌<◌, ◌≤◌, nat_le, if◌then◌else◌, Bool, true, false, List, [], ◌∷◌, ◌++◌, length, drop, Option, Some, None, Result, Ok, Err, codes, ◌⊎◌}
 use Rattle.std.specs.List.{list_all}
 use Rattle.std.specs.Option.{option_map}
 use Rattle.metering_model.specs.Batch.{lacks}
@@ -101,9 +101,10 @@ pub record SaysLog (text : List ℕ) : Type 0 where
 abbrev pub has_head : LogHead → (log : List ℕ) → Bool
 has_head h log = begins_with (head_text h) log
 
--- The process's own log is damaged there.
+-- The process's own log is damaged there, and no longer than a log may be: one that is longer is `TooLong` alone.
 pub record RefusesLog (own : ReadLog) (text : List ℕ) (at_fault : LogCode) (number : ℕ) : Type 0 where
   pub says : SaysLog text
+  pub short : length (lines_text says.lines) ≤ most_transcript_bytes
   pub own_head : has_head own.head (lines_text says.lines) ≡ true
   pub refused : log_in (lines_text says.lines) ≡ Err (record { code = at_fault; line = number })
 

@@ -1,5 +1,5 @@
 -- A process over a stream of bytes: what begins it, what it is asked, and what it writes.
-use Rattle.std.specs.Prelude.{◌≡◌, ◌≢◌, ℕ, List, [], ◌∷◌, ◌++◌, length, true, Option, ◌⊎◌}
+use Rattle.std.specs.Prelude.{◌≡◌, ◌≢◌, ℕ, ◌<◌, List, [], ◌∷◌, ◌++◌, length, true, Option, ◌⊎◌}
 use Rattle.std.specs.List.{flat_map, list_all}
 use Rattle.std.specs.Io.KnownBytes.{Appends, Consumes, IsAtEnd}
 use Rattle.counted_io.specs.Writing.{AppendsPrefix}
@@ -85,22 +85,26 @@ pub record RunsToEnd (k : ProcessKind) (known known' old new : Option (List ℕ)
   pub end : IsAtEnd known'
   pub torn : (a : Asked) (more : List ℕ) → IsAsked last a → piece ≢ bytes_of a ++ more
 
--- Of what is said first a prefix went out.
+-- Of what is said first a prefix went out. Behind the text that began the process less than a block was read: so what is said
+-- first does not wait for more.
 pub record TornFirst (k : ProcessKind) (known known' old new : Option (List ℕ)) : Type 0 where
   pub begun : List ℕ
   pub piece : List ℕ
   pub consumed : Consumes known known' (begun ++ piece)
+  pub at_hand : length piece < 65_536
   pub first : Process
   pub begins : Begins k begun first
   pub written : AppendsPrefix old new (begun_text first)
 
--- Behind whole answers a prefix of the next one went out.
+-- Behind whole answers a prefix of the next one went out. Behind the command that it answers less than a block was read: so no
+-- answer waits for more than the command.
 pub record TornLater (k : ProcessKind) (known known' old new : Option (List ℕ)) : Type 0 where
   pub last : Process
   pub asked : Asked
   pub piece : List ℕ
   pub between : Option (List ℕ)
   pub runs : Runs k known known' old between last (bytes_of asked ++ piece)
+  pub at_hand : length piece < 65_536
   pub next : Process
   pub one : List ℕ
   pub does : Does last asked next one

@@ -1,6 +1,6 @@
 //! A process is begun, by what a stream gives first.
 
-ghost use Rattle.std.specs.Prelude.{◌≡◌, ◌≤◌, IfErr, IfOk, MatchOption, unwrap_or, ◌≢◌, Err};
+ghost use Rattle.std.specs.Prelude.{◌≡◌, ◌<◌, ◌≤◌, length, IfErr, IfOk, MatchOption, unwrap_or, ◌≢◌, Err};
 ghost use Rattle.process_player.specs.declared.faults.ProcessFault.{ProcessFault};
 ghost use Rattle.metering_model.specs.Limits.{most_transcript_bytes};
 ghost use Rattle.log_text.specs.Heads.{who_of};
@@ -85,7 +85,8 @@ pub(crate) fn begin<S: Source>(
     unread: &mut Unread,
     source: &mut S,
 ) -> Result<Process, ProcessFault>
-    requires { unread.old.read ≤ most_transcript_bytes }
+    requires read { unread.old.read ≤ most_transcript_bytes }
+    requires at_hand { length unread.old.bytes < 65_536 }
     ensures begun { IfOk result (λ process. HasBegun kind process unread.old.bytes
         unread.new.bytes (S.remaining source.old) (S.remaining source.new)) }
     ensures refused { IfErr result (λ fault. OfAll (λ input. Rejects kind input fault)

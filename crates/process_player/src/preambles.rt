@@ -1,6 +1,6 @@
 //! With what a process is begun, up to its log: what stands first, the sheet and the issuer.
 
-ghost use Rattle.std.specs.Prelude.{◌≡◌, ◌≢◌, ◌<◌, ◌≤◌, [], length, IfErr, IfOk, Ok, Err};
+ghost use Rattle.std.specs.Prelude.{◌≡◌, ◌≢◌, ◌<◌, ◌≤◌, [], length, drop, IfErr, IfOk, Ok, Err};
 ghost use Rattle.process_player.specs.declared.faults.ProcessFault.{ProcessFault};
 ghost use Rattle.metering_model.specs.Limits.{most_input_bytes, most_transcript_bytes};
 ghost use Rattle.input_sections.specs.declared.faults.ScheduleFault.{ScheduleFault};
@@ -93,6 +93,7 @@ fn section_end<S: Source>(
     requires read { unread.old.read ≤ most_transcript_bytes }
     requires from { from ≤ length unread.old.bytes }
     requires most { most ≤ 1_000_000 }
+    requires at_hand { length (drop from unread.old.bytes) < 65_536 }
     ensures takes { Takes unread.old.bytes unread.new.bytes unread.old.read unread.new.read
         (S.remaining source.old) (S.remaining source.new) [] }
     ensures found { IfOk result
@@ -124,7 +125,8 @@ fn heads_end<S: Source>(
     unread: &mut Unread,
     source: &mut S,
 ) -> Result<Judged, ProcessFault>
-    requires { unread.old.read ≤ most_transcript_bytes }
+    requires read { unread.old.read ≤ most_transcript_bytes }
+    requires at_hand { length unread.old.bytes < 65_536 }
     ensures takes { Takes unread.old.bytes unread.new.bytes unread.old.read unread.new.read
         (S.remaining source.old) (S.remaining source.new) [] }
     ensures found { IfOk result (AreHeadsTo kind unread.new.bytes (S.remaining source.new)) }
@@ -159,7 +161,8 @@ fn preamble_end<S: Source>(
     unread: &mut Unread,
     source: &mut S,
 ) -> Result<Judged, ProcessFault>
-    requires { unread.old.read ≤ most_transcript_bytes }
+    requires read { unread.old.read ≤ most_transcript_bytes }
+    requires at_hand { length unread.old.bytes < 65_536 }
     ensures takes { Takes unread.old.bytes unread.new.bytes unread.old.read unread.new.read
         (S.remaining source.old) (S.remaining source.new) [] }
     ensures found { IfOk result (IsPreambleTo kind unread.new.bytes (S.remaining source.new)) }
@@ -188,7 +191,8 @@ pub(crate) fn read_preamble<S: Source>(
     unread: &mut Unread,
     source: &mut S,
 ) -> Result<Preamble, ProcessFault>
-    requires { unread.old.read ≤ most_transcript_bytes }
+    requires read { unread.old.read ≤ most_transcript_bytes }
+    requires at_hand { length unread.old.bytes < 65_536 }
     ensures read { IfOk result (λ p. HasRead kind p.own p.sheet p.issuer p.line
         unread.old.bytes unread.new.bytes (S.remaining source.old) (S.remaining source.new)) }
     ensures refused { IfErr result (λ fault. OfAll (RejectsPreamble kind fault)

@@ -1,6 +1,6 @@
 //! A process is asked, and answers, command by command.
 
-ghost use Rattle.std.specs.Prelude.{◌≡◌, ◌≢◌, ◌≤◌, ◌⊎◌, [], Ok, Err, IfErr, OnOk, IfOk, IfSome, MatchOption, false, true};
+ghost use Rattle.std.specs.Prelude.{◌≡◌, ◌≢◌, ◌<◌, ◌≤◌, ◌⊎◌, [], length, Ok, Err, IfErr, OnOk, IfOk, IfSome, MatchOption, false, true};
 ghost use Rattle.std.specs.Io.KnownBytes.{Appends, IsAtEnd};
 ghost use Rattle.metering_model.specs.Limits.{most_transcript_bytes};
 ghost use Rattle.counted_io.specs.Counts.{count_after};
@@ -62,7 +62,8 @@ fn next_command<S: Source>(
     unread: &mut Unread,
     source: &mut S,
 ) -> Result<Option<(usize, usize)>, ProcessFault>
-    requires { unread.old.read ≤ most_transcript_bytes }
+    requires read { unread.old.read ≤ most_transcript_bytes }
+    requires at_hand { length unread.old.bytes < 65_536 }
     ensures passes { Passes unread.old.bytes unread.new.bytes
         (S.remaining source.old) (S.remaining source.new) [] }
     ensures found { IfOk result (λ found. MatchOption found
@@ -94,7 +95,8 @@ fn serve_one<S: Source, W: Sink>(
     text: &mut Vec<u8>,
     writer: &mut W,
 ) -> Result<bool, ProcessFault>
-    requires { unread.old.read ≤ most_transcript_bytes }
+    requires read { unread.old.read ≤ most_transcript_bytes }
+    requires at_hand { length unread.old.bytes < 65_536 }
     ensures served { result ≡ Ok true → ServesOne process.old process.new
         unread.old.bytes unread.new.bytes (S.remaining source.old) (S.remaining source.new)
         (W.contents writer.old) (W.contents writer.new) }
@@ -139,7 +141,8 @@ fn serve<S: Source, W: Sink>(
     text: &mut Vec<u8>,
     writer: &mut W,
 ) -> Result<(), ProcessFault>
-    requires { unread.old.read ≤ most_transcript_bytes }
+    requires read { unread.old.read ≤ most_transcript_bytes }
+    requires at_hand { length unread.old.bytes < 65_536 }
     ensures ended { OnOk result (Continues process.old process.new
         unread.old.bytes unread.new.bytes (S.remaining source.old) (S.remaining source.new)
         (W.contents writer.old) (W.contents writer.new)

@@ -1,6 +1,6 @@
 //! What a process stored last: its log, or nothing.
 
-ghost use Rattle.std.specs.Prelude.{◌≡◌, ◌≤◌, IfErr, IfOk, Ok, codes, unwrap_or, ◌≢◌, Err};
+ghost use Rattle.std.specs.Prelude.{◌≡◌, ◌<◌, ◌≤◌, length, IfErr, IfOk, Ok, codes, unwrap_or, ◌≢◌, Err};
 ghost use Rattle.process_player.specs.declared.faults.ProcessFault.{ProcessFault};
 ghost use Rattle.metering_model.specs.Limits.{most_transcript_bytes};
 ghost use Rattle.log_text.specs.LogText.{IsLogHead, log_in, most_kept_lines, section_in};
@@ -68,6 +68,7 @@ pub(crate) fn read_stored<S: Source>(
 ) -> Result<Option<Kept>, ProcessFault>
     requires read { unread.old.read ≤ most_transcript_bytes }
     requires head { IsLogHead own.now.head }
+    requires at_hand { length unread.old.bytes < 65_536 }
     ensures taken { IfOk result (λ stored. HasTaken own.now (unwrap_or stored own.now.kept)
         unread.old.bytes unread.new.bytes (S.remaining source.old) (S.remaining source.new)) }
     ensures refused { IfErr result (λ fault. OfAll (RejectsStored own.now line fault)

@@ -29,11 +29,12 @@ IsLast end text left = (end ≡ length text) × IsOver text left
 abbrev pub AreAbsent : (from count : ℕ) (text : List ℕ) (left : Option (List ℕ)) → Type 0
 AreAbsent from count text left = (length (lines_in (drop from text)).lines < count) × IsOver text left
 
--- a section stands from the one place to the other
+-- a section stands from the one place to the other, with less than a block behind it
 pub record IsSection (word : List ℕ) (most from end : ℕ) (text : List ℕ) : Type 0 where
   pub count : ℕ
   pub between : AreBetween from end text count
   pub said : section_lines word most between.lines ≡ Some count
+  pub at_hand : length (drop end text) < 65_536
 
 -- a line stands from the one place to the other, which opens no section
 pub record OpensNone (word : List ℕ) (most from end : ℕ) (text : List ℕ) : Type 0 where
@@ -64,19 +65,22 @@ pub record IsNoPreamble (k : ProcessKind) (end : ℕ) (text : List ℕ) (left : 
   pub none : preamble_lines (lines_in (take end text)).lines ≡ None
   pub judged : IsLast end text left ⊎ IsWrongAt k end text
 
--- a preamble stands at the front, and ends there
+-- a preamble stands at the front, and ends there, with less than a block behind it
 pub record IsPreambleAt (end : ℕ) (text : List ℕ) : Type 0 where
   pub count : ℕ
   pub between : AreBetween 0 end text count
   pub said : preamble_lines between.lines ≡ Some count
+  pub at_hand : length (drop end text) < 65_536
 
--- two lines stand at the front and end there: the kind's, and one that heads a log of such a process
+-- two lines stand at the front and end there, with less than a block behind them: the kind's, and one that heads a log of
+-- such a process
 pub record AreHeads (k : ProcessKind) (end : ℕ) (text : List ℕ) : Type 0 where
   pub between : AreBetween 0 end text 2
   pub one : List ℕ
   pub own : List ℕ
   pub are_these : between.lines ≡ one ∷ own ∷ []
   pub right : HeadsAreRight k one own
+  pub at_hand : length (drop end text) < 65_536
 
 abbrev pub AreHeadsTo : ProcessKind → (text : List ℕ) (left : Option (List ℕ)) → Judged → Type 0
 AreHeadsTo k text left (Whole end) = AreHeads k end text

@@ -1,5 +1,5 @@
 -- What was read and taken of a stream, and what was done with it.
-use Rattle.std.specs.Prelude.{◌≡◌, ◌≢◌, ℕ, ◌-◌, ◌≤◌, List, [], ◌++◌, length, take, drop, Option, Ok}
+use Rattle.std.specs.Prelude.{◌≡◌, ◌≢◌, ℕ, ◌-◌, ◌<◌, ◌≤◌, List, [], ◌++◌, length, take, drop, Option, Ok}
 use Rattle.std.specs.List.{flat_map}
 use Rattle.std.specs.Io.KnownBytes.{Appends, Consumes, IsAtEnd}
 use Rattle.counted_io.specs.Writing.{AppendsPrefix}
@@ -31,15 +31,16 @@ pub record Continues (p q : Process) (ahead rest : List ℕ) (left left' old new
 abbrev pub IsTorn : Process → List ℕ → Type 0
 IsTorn p piece = (a : Asked) (more : List ℕ) → IsAsked p a → piece ≢ bytes_of a ++ more
 
--- It was asked once: what it answers was written.
+-- It was asked once: what it answers was written, and less than a block is ahead behind that.
 pub record ServesOne (p q : Process) (ahead rest : List ℕ) (left left' old new : Option (List ℕ)) : Type 0 where
   pub asked : Asked
   pub said : List ℕ
   pub does : Does p asked q said
   pub passes : Passes ahead rest left left' (bytes_of asked)
   pub written : Appends old new said
+  pub at_hand : length rest < 65_536
 
--- It was asked once: a prefix of what it answers was written.
+-- It was asked once: a prefix of what it answers was written, while less than a block was ahead behind that.
 pub record StopsWithin (p : Process) (ahead : List ℕ) (left left' old new : Option (List ℕ)) : Type 0 where
   pub next : Process
   pub asked : Asked
@@ -48,6 +49,7 @@ pub record StopsWithin (p : Process) (ahead : List ℕ) (left left' old new : Op
   pub does : Does p asked next said
   pub passes : Passes ahead (bytes_of asked ++ rest) left left' []
   pub written : AppendsPrefix old new said
+  pub at_hand : length rest < 65_536
 
 -- It was not asked, since the input ends.
 pub record EndsHere (p q : Process) (ahead rest : List ℕ) (left left' old new : Option (List ℕ)) : Type 0 where
@@ -57,11 +59,12 @@ pub record EndsHere (p q : Process) (ahead rest : List ℕ) (left left' old new 
   pub end : IsAtEnd left'
   pub torn : IsTorn q rest
 
--- A command of the process stands there: its first line ends, and all of it does.
+-- A command of the process stands there: its first line ends, and all of it does, with less than a block behind it.
 pub record IsCommandAt (p : Process) (text : List ℕ) (end all : ℕ) : Type 0 where
   pub some : 1 ≤ end
   pub ordered : end ≤ all
   pub within : all ≤ length text
+  pub at_hand : length (drop all text) < 65_536
   pub asked : IsAsked p (record { first = take (end - 1) text; below = drop end (take all text) })
   pub split : text ≡ bytes_of (record { first = take (end - 1) text; below = drop end (take all text) }) ++ drop all text
 
@@ -74,7 +77,7 @@ pub record ContinuesWithin (p : Process) (ahead : List ℕ) (left left' old new 
   pub continues : Continues p last ahead rest left middle old between
   pub stops : StopsWithin last rest middle left' between new
 
--- A preamble was taken, and nothing behind it.
+-- A preamble was taken, and nothing behind it, of which less than a block is ahead.
 pub record HasRead (k : ProcessKind) (own : ReadLog) (sheet : Sheet) (issuer : Issuer) (next : ℕ) (ahead rest : List ℕ) (left left' : Option (List ℕ)) : Type 0 where
   pub text : List ℕ
   pub behind : Unread
@@ -82,15 +85,18 @@ pub record HasRead (k : ProcessKind) (own : ReadLog) (sheet : Sheet) (issuer : I
   pub whole : sections.left behind ≡ []
   pub counted : behind.line ≡ next
   pub passes : Passes ahead rest left left' text
+  pub at_hand : length rest < 65_536
 
--- What was stored last was taken: of the text that tells it.
+-- What was stored last was taken, of the text that tells it: less than a block is ahead behind that.
 pub record HasTaken (own : ReadLog) (kept : KeptAmong) (ahead rest : List ℕ) (left left' : Option (List ℕ)) : Type 0 where
   pub text : List ℕ
   pub is_stored : IsStored own text kept
   pub passes : Passes ahead rest left left' text
+  pub at_hand : length rest < 65_536
 
--- A process was begun by what was taken.
+-- A process was begun by what was taken, and less than a block is ahead behind that.
 pub record HasBegun (k : ProcessKind) (p : Process) (ahead rest : List ℕ) (left left' : Option (List ℕ)) : Type 0 where
   pub text : List ℕ
   pub begins : Begins k text p
   pub passes : Passes ahead rest left left' text
+  pub at_hand : length rest < 65_536

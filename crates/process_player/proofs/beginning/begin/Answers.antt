@@ -23,6 +23,9 @@ returns-in_err-preamble-clause-refused g c =
     rw (p.1, p.2)
     (preamble_rejects c.args.kind c.in_err-preamble.field-0.0 c.args.unread.now.bytes (g.S.Source.remaining c.args.source.now) c.in_err-preamble.ensures.refused)
 
+pub read_stored-requires-clause-at_hand : goal.read_stored-requires-clause-at_hand
+read_stored-requires-clause-at_hand g c = c.in_ok-preamble.ensures.read.at_hand
+
 pub read_stored-requires-clause-head : goal.read_stored-requires-clause-head
 read_stored-requires-clause-head g c = own_head c.in_ok-preamble.ensures.read
 

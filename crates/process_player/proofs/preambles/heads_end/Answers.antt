@@ -4,6 +4,7 @@ use Rattle.metering_model.specs.BatchReading.{is_same}
 use Rattle.line_source.specs.Lines.{AreBetween}
 use Rattle.line_source.proofs.Taking.{reads_on, up_to_on}
 use Rattle.process_player.specs.Starts.{heads_log, kind_word}
+use Rattle.process_player.proofs.AtHand.{at_hand_within}
 use Rattle.process_player.proofs.Between.{between_long}
 use Rattle.process_player.proofs.Ends.{absent, heads_found, no_second, other_first, other_second}
 use Rattle.process_player.proofs.preambles.heads_end.Given as given
@@ -68,3 +69,4 @@ pub returns-clause-found : goal.returns-clause-found
 returns-clause-found g c =
     let at = goal.at.returns-clause-found g c in
     heads_found c.args.kind (first g at.In-Lines) c.in_ok-both.ensures.takes (second g at.In-Lines-2) (is_kinds g at.In-Ok) (said g at.In-Ok ∙ c.if-not-is_head.false)
+    (at_hand_within (at_hand_within c.requires.at_hand (first g at.In-Lines) 16_777_216 c.lines_end_within.ensures.last) (second g at.In-Lines-2) 16_777_216 c.lines_end_within-2.ensures.last)

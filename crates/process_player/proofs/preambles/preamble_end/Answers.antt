@@ -1,14 +1,24 @@
 -- The two lines, the sheet and the issuer stand one behind the other.
+use Rattle.std.proofs.Common.{codes}
 use Rattle.line_source.specs.Reading.{ReadsUpTo}
 use Rattle.line_source.proofs.Taking.{reads_on, up_to_on}
-use Rattle.process_player.specs.Inner.Fronts.{AreHeads}
+use Rattle.process_player.specs.Inner.Fronts.{AreHeads, IsSection}
 use Rattle.process_player.proofs.Ends.{no_sheet, preamble_found}
 use Rattle.process_player.proofs.preambles.preamble_end.Given as given
-use Rattle.process_player.proofs.preambles.preamble_end.Goals.{After-section_end-2, In-Whole}
+use Rattle.process_player.proofs.preambles.preamble_end.Goals.{After-section_end-2, In-Whole, In-Whole-2}
 use Rattle.process_player.proofs.preambles.preamble_end.Goals as goal
 
 heads_there : (g : given.Over) (c : In-Whole g) → AreHeads c.args.kind c.in-Whole.head c.heads_end.new.unread.bytes
 heads_there g c = rw c.in-Whole.is at c.in_ok-head.ensures.found
+
+pub section_end-requires-clause-at_hand : goal.section_end-requires-clause-at_hand
+section_end-requires-clause-at_hand g c = (heads_there g (goal.at.section_end-requires-clause-at_hand g c).In-Whole).at_hand
+
+sheet_there : (g : given.Over) (c : In-Whole-2 g) → IsSection (codes "sheet ") 200_000 c.in-Whole.head c.in-Whole-2.sheet c.section_end.new.unread.bytes
+sheet_there g c = rw c.in-Whole-2.is at c.in_ok-sheet.ensures.found
+
+pub section_end-requires-2-clause-at_hand : goal.section_end-requires-2-clause-at_hand
+section_end-requires-2-clause-at_hand g c = (sheet_there g (goal.at.section_end-requires-2-clause-at_hand g c).In-Whole-2).at_hand
 
 pub returns-in-Part-2-clause-takes : goal.returns-in-Part-2-clause-takes
 returns-in-Part-2-clause-takes g c = reads_on c.in_ok-head.ensures.takes c.in_ok-sheet.ensures.takes

@@ -6,6 +6,9 @@ use Rattle.process_player.proofs.Ends.{preamble_refused, preamble_taken}
 use Rattle.process_player.proofs.Refusing.{never_long, reading_rejects, section_rejects}
 use Rattle.process_player.proofs.preambles.read_preamble.Goals as goal
 
+pub preamble_end-requires-clause-at_hand : goal.preamble_end-requires-clause-at_hand
+preamble_end-requires-clause-at_hand g c = omega (arith, c.requires.at_hand, ap length c.mark.ensures.bytes)
+
 pub returns-in-Ok-clause-read : goal.returns-in-Ok-clause-read
 returns-in-Ok-clause-read g c =
     let p = c.in-Ok.preamble in
@@ -26,5 +29,5 @@ pub returns-in_err-judged-clause-refused : goal.returns-in_err-judged-clause-ref
 returns-in_err-judged-clause-refused g c =
     let p = err_from_is_err_and c.from_residual.result c.from_residual.ensures.1 in
     rw (p.1, p.2)
-    (reading_rejects c.args.kind (never_long c.preamble_end.ensures.takes c.preamble_end.ensures.block (c.mark.ensures.read ∙ sym (ap length c.mark.ensures.bytes)) (omega (arith, c.mark.ensures.within, c.requires)))
+    (reading_rejects c.args.kind (never_long c.preamble_end.ensures.takes c.preamble_end.ensures.block (c.mark.ensures.read ∙ sym (ap length c.mark.ensures.bytes)) (omega (arith, c.mark.ensures.within, c.requires.read)))
     c.in_err-judged.field-0.0 c.args.unread.now.bytes (g.S.Source.remaining c.args.source.now) c.in_err-judged.ensures.others)

@@ -3,6 +3,7 @@ use Rattle.std.proofs.Common.{◌≡◌, ◌+◌, ◌-◌, ◌≤◌, Some, take
 use Rattle.input_sections.specs.Sections.{number_behind}
 use Rattle.line_source.specs.Lines.{AreBetween}
 use Rattle.line_source.proofs.Taking.{reads_on}
+use Rattle.process_player.proofs.AtHand.{at_hand_within}
 use Rattle.process_player.proofs.Between.{between_long}
 use Rattle.process_player.proofs.Ends.{absent, not_said, section_found, too_few}
 use Rattle.process_player.proofs.preambles.section_end.Given as given
@@ -50,7 +51,9 @@ pub returns-clause-found : goal.returns-clause-found
 returns-clause-found g c =
     let said = says g (goal.at.returns-clause-found g c).In-Some ∙ ap Some (sym c.from-count.ensures) in
     let lines = rw c.in-Lines-2.is at c.in_ok-end.ensures.found in
-    section_found (line_there g (goal.at.returns-clause-found g c).In-Lines) c.args.word.now c.args.most c.from-count.result said c.lines_end_within-2.ensures.takes c.in-Lines-2.end lines
+    let one = line_there g (goal.at.returns-clause-found g c).In-Lines in
+    section_found one c.args.word.now c.args.most c.from-count.result said c.lines_end_within-2.ensures.takes c.in-Lines-2.end lines
+    (at_hand_within (at_hand_within c.requires.at_hand one 16_777_216 c.lines_end_within.ensures.last) lines 16_777_216 c.lines_end_within-2.ensures.last)
 
 pub returns-in_default-2-clause-takes : goal.returns-in_default-2-clause-takes
 returns-in_default-2-clause-takes g c = reads_on c.in_ok-opening.ensures.takes c.in_ok-end.ensures.takes

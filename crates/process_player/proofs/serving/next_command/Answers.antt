@@ -1,3 +1,5 @@
+use Rattle.std.proofs.Common.{ap, arith, length}
+use Rattle.process_player.proofs.AtHand.{at_hand}
 use Rattle.process_player.proofs.CommandTexts.{command_later, passes_twice, some_first, torn_first, torn_later}
 use Rattle.process_player.proofs.serving.next_command.Goals as goal
 
@@ -27,3 +29,4 @@ returns-clause-found g c =
     let below = rw c.in-Some-2.is at c.in_ok-all.ensures.found in
     command_later c.args.process.now c.in-Some.end c.lines_below-lines.result c.from.result c.in-Some-2.all c.lines_end.new.unread.bytes c.ahead.result.now c.lines_end-2.new.unread.bytes
     one c.in_ok-all.ensures.takes c.lines_below-lines.ensures.value c.ahead.ensures c.from.ensures below
+    (at_hand (at_hand (omega (arith, c.requires.at_hand, ap length c.mark.ensures.bytes)) one c.lines_end.ensures.last) below c.lines_end-2.ensures.last)

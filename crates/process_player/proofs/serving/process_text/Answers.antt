@@ -1,4 +1,4 @@
-use Rattle.std.proofs.Common.{[], subst, inr}
+use Rattle.std.proofs.Common.{[], ap, arith, length, subst, inr}
 use Rattle.process_player.specs.Inner.Reading.{HasBegun}
 use Rattle.process_player.proofs.Commands.{ends_of, on_err, on_ok, runs_of, torn_later_of}
 use Rattle.process_player.proofs.Refusing.{known_input, serving_rejects}
@@ -11,6 +11,12 @@ begun : (g : given.Over) (c : After-drop-unread-inside-in-Ok-write_begun g)
 begun g c =
     subst (λ a. HasBegun c.args.kind c.in-Ok.process a c.begin.new.unread.bytes (g.R.Source.remaining c.args.reader.now) (g.R.Source.remaining c.begin.new.source))
     c.new-unread.ensures.bytes c.in-Ok.ensures.begun
+
+pub begin-requires-clause-at_hand : goal.begin-requires-clause-at_hand
+begin-requires-clause-at_hand g c = omega (arith, ap length c.new-unread.ensures.bytes)
+
+pub serve-requires-clause-at_hand : goal.serve-requires-clause-at_hand
+serve-requires-clause-at_hand g c = c.in-Ok.ensures.begun.at_hand
 
 pub returns-in-Ok-write_begun-clause-done : goal.returns-in-Ok-write_begun-clause-done
 returns-in-Ok-write_begun-clause-done g c = on_ok c.serve.result (ends_of (begun g c) c.in-Ok-write_begun.ensures.written) c.serve.ensures.ended

@@ -14,7 +14,8 @@ loop-init g c = record {
     written = Appends-nil (g.W.Sink.contents c.args.writer.now);
   };
   taken = none_taken c.args.unread.now.bytes (g.S.Source.remaining c.args.source.now);
-  short = c.requires;
+  short = c.requires.read;
+  at_hand = c.requires.at_hand;
   reads = refl;
   writes = refl;
 }
@@ -45,6 +46,7 @@ loop-preserved g c = record {
   taken = taken_on c.loop.counter c.args.unread.now.bytes c.loop.unread.bytes c.serve_one.new.unread.bytes (g.S.Source.remaining c.args.source.now) (g.S.Source.remaining c.loop.source)
       (g.S.Source.remaining c.serve_one.new.source) c.loop.invariant.taken (c.in-Ok.ensures.served (search rules));
   short = c.in-Ok.ensures.calls.within;
+  at_hand = (c.in-Ok.ensures.served (search rules)).at_hand;
   reads = c.in-Ok.ensures.calls.reads ∙ c.loop.invariant.reads;
   writes = c.in-Ok.ensures.calls.writes ∙ c.loop.invariant.writes;
 }
