@@ -10,7 +10,8 @@ use Rattle.metering_model.specs.Dates.{IsPeriod}
 use Rattle.metering_model.specs.Transcript.{file_of, line_count, with_number}
 use Rattle.metering_model.specs.World.{CarriesBatch, Node, Offer, Packet, Prepare, Snapshot, current_period}
 use Rattle.metering_model.specs.Deliveries.{handled}
-use Rattle.metering_model.specs.Step.{started_node}
+use Rattle.metering_model.specs.Cut.{zero_cut}
+use Rattle.metering_model.specs.Step.{cut_before, play, started_node}
 use Rattle.metering_model.specs.declared.Refusal.TheVariants.{Missing, NoNode}
 use Rattle.metering_model.specs.declared.Refusal.{Refusal}
 use Rattle.metering_model.proofs.Decimals.{decimal_is_one, decimal_lacks_blank}
@@ -18,14 +19,16 @@ use Rattle.process_laws.specs.LocalSteps as model
 use Rattle.process_laws.specs.LocalSteps.{Answer, Group, NodeCommand, TakePacket, BeginBallot, ExportPeriod, TellKept, SendBatch, AgentCommand}
 use Rattle.process_laws.specs.LocalSteps.{JournalBatch, SendAgain, TellJournal, NodeDone, Words, HasTaken, HasBegun, HasJournaled, HasExported}
 use Rattle.process_laws.specs.LocalSteps.{KeptIs, HasSent, NodeWentOn, AgentWentOn, RefusedFor, OfModel, refusing, saying}
-use Rattle.process_laws.specs.Histories.{Act, Acted, AgentDoes, AgentGoesOn, NodeDoes, NodeGoesOn, Processes, acted, after, answers, begun, by_node, with_node_done}
+use Rattle.process_laws.specs.Histories.{Act, Acted, AgentDoes, AgentGoesOn, NodeDoes, NodeGoesOn, Processes, IsHistory, acted, after, answers, begun, by_node, opened, with_node_done}
+use Rattle.process_laws.proofs.DoneByWorld.{is_done_by_world}
+use Rattle.process_laws.proofs.ExportedAnswers.{exported_among}
 use Rattle.process_laws.proofs.AgreedExports.{batches_are_journaled, each_batch_once, files_are_the_same, next_begins_there}
 use Rattle.log_text.specs.LogText.{AgentOf, NodeOf}
 use Rattle.group_process.specs.Selves.{AgentSelf}
 use Rattle.process_text.specs.declared.processes.Process.TheVariants as process
 use Rattle.process_text.specs.Answers.{process_refusal_text, refused_text, words_text}
 use Rattle.process_line_laws.specs.Told.{just, told_in}
-use Rattle.process_line_laws.specs.Hosts.{Asks, GoesOn, HostAct, IsHostHistory, Shortens, all_done, begun_machines, said_by}
+use Rattle.process_line_laws.specs.Hosts.{Asks, GoesOn, HostAct, IsHostHistory, Shortens, begun_machines, said_by}
 use Rattle.process_line_laws.specs.Comes.{AreMadeOf, AreTold, AsksNothing, ComeToHistory, IsFileOf, IsMadeOf, IsOfJournals, SaysJust}
 use Rattle.process_line_laws.proofs.History.{come_to_history}
 use Rattle.process_line_laws.proofs.ReadAnswers.{refused_read, so_told}
@@ -205,7 +208,8 @@ nothing_is_no_file h period nothing file = by_act h nothing file
 record IsExported (xs : List Answer) (period : ℕ) (last : List ℕ) : Type 0 where
   pub snapshot : Snapshot
   pub has : Contains xs (saying (HasExported snapshot))
-  pub made_of : IsMadeOf period last snapshot
+  pub bytes : last ≡ words_text (HasExported snapshot)
+  pub same : snapshot.period ≡ period
 
 said_exports : (name said : List ℕ) (x : Answer) (xs : List Answer) (period : ℕ)
     → ((s : Snapshot) → x.words ≡ HasExported s → x ≡ saying (HasExported s)) → SaysJust name said x → IsFileOf period (told_in said).last
@@ -216,7 +220,8 @@ said_exports name said x xs period alone says file =
     record {
       snapshot = one.0;
       has = subst (λ y. Contains (y ∷ xs) (saying (HasExported one.0))) (sym (alone one.0 one.1)) (0, omega arith, refl);
-      made_of = record { bytes = bytes; same = period_told one.0 period file.rest file.is_period (sym bytes ∙ file.words) };
+      bytes = bytes;
+      same = period_told one.0 period file.rest file.is_period (sym bytes ∙ file.words);
     }
 
 exported_later : (x : Answer) (xs : List Answer) (period : ℕ) (last : List ℕ) → IsExported xs period last → IsExported (x ∷ xs) period last
@@ -224,7 +229,8 @@ exported_later x xs period last it =
     record {
       snapshot = it.snapshot;
       has = Contains-append_right (x ∷ []) xs (saying (HasExported it.snapshot)) it.has;
-      made_of = it.made_of;
+      bytes = it.bytes;
+      same = it.same;
     }
 
 module _ (g : Group) (h : HostAct) (period : ℕ) (file : IsFileOf period (told_in (said_by h)).last) where
@@ -253,6 +259,24 @@ module _ (g : Group) (h : HostAct) (period : ℕ) (file : IsFileOf period (told_
     | inr later ↦ found hosts (a ∷ acts) v told.1 later
   ]
 
+-- what the history exports, a world exports: under the group's sheet and issuer, and the first month from nothing on
+is_made_of : {period : ℕ} {last : List ℕ} (g : Group) (acts : List Act) → IsHistory g (begun g) acts
+    → (it : IsExported (answers g (begun g) acts) period last) → IsMadeOf g acts period last it.snapshot
+is_made_of {period} {last} g acts history it =
+    let done = is_done_by_world g acts history in
+    let s = it.snapshot in
+    let export = done.headline.exports s (exported_among g s acts (answers g (begun g) acts) done.events (opened g done.room) done.matched it.has) in
+    record {
+      has = it.has;
+      bytes = it.bytes;
+      same = it.same;
+      sheet = export.sheet ∙ done.headline.sheet_kept;
+      issuer = export.issuer ∙ done.headline.issuer_kept;
+      opens = λ zero.
+          export.from ∙ ap (cut_before (play (opened g done.room) done.events).1.agents done.headline.cuts) (it.same ∙ zero)
+          ∙ ap zero_cut done.headline.agents_kept;
+    }
+
 -- ---- two files
 
 module _ (g : Group) (hosts : List HostAct) (history : IsHostHistory g (begun_machines g) hosts) (h k : HostAct) (has : Contains hosts h)
@@ -265,38 +289,40 @@ module _ (g : Group) (hosts : List HostAct) (history : IsHostHistory g (begun_ma
   bytes_agree period one two =
       let s = found g h period one hosts it.acts (begun g) it.told has in
       let t = found g k period two hosts it.acts (begun g) it.told had in
-      let same = files_are_the_same g it.acts it.is_history s.snapshot t.snapshot s.has t.has (s.made_of.same ∙ sym t.made_of.same) in
-      s.made_of.bytes ∙ ap (λ x. words_text (HasExported x)) same ∙ sym t.made_of.bytes
+      let same = files_are_the_same g it.acts it.is_history s.snapshot t.snapshot s.has t.has (s.same ∙ sym t.same) in
+      s.bytes ∙ ap (λ x. words_text (HasExported x)) same ∙ sym t.bytes
 
+-- ---- of a history to which they come
+
+module _ (g : Group) (hosts : List HostAct) (it : ComeToHistory g hosts) (h k : HostAct) (has : Contains hosts h) (had : Contains hosts k) where
   pub are_made_of : (period other : ℕ) → IsFileOf period (told_in (said_by h)).last → IsFileOf other (told_in (said_by k)).last
-      → AreMadeOf period other (told_in (said_by h)).last (told_in (said_by k)).last
+      → AreMadeOf g it.acts period other (told_in (said_by h)).last (told_in (said_by k)).last
   are_made_of period other one two =
       let s = found g h period one hosts it.acts (begun g) it.told has in
       let t = found g k other two hosts it.acts (begun g) it.told had in
       record {
         s = s.snapshot;
         t = t.snapshot;
-        first = s.made_of;
-        second = t.made_of;
+        first = is_made_of g it.acts it.is_history s;
+        second = is_made_of g it.acts it.is_history t;
+        alike = λ same. files_are_the_same g it.acts it.is_history s.snapshot t.snapshot s.has t.has (s.same ∙ same ∙ sym t.same);
         once = λ agent seq above below over under.
-            sym s.made_of.same ∙ each_batch_once g it.acts it.is_history s.snapshot t.snapshot s.has t.has agent seq above below over under
-            ∙ t.made_of.same;
+            sym s.same ∙ each_batch_once g it.acts it.is_history s.snapshot t.snapshot s.has t.has agent seq above below over under
+            ∙ t.same;
         follows = λ next.
             next_begins_there g it.acts it.is_history s.snapshot t.snapshot s.has t.has
-            (ap (λ p. p + 1) s.made_of.same ∙ next ∙ sym t.made_of.same);
+            (ap (λ p. p + 1) s.same ∙ next ∙ sym t.same);
       }
 
 -- ---- of one file
 
-pub of_journals : (g : Group) (hosts : List HostAct) → IsHostHistory g (begun_machines g) hosts → (h : HostAct) → Contains hosts h
-    → (period : ℕ)
-    → IsFileOf period (told_in (said_by h)).last → IsOfJournals (all_done g (begun_machines g) hosts) period (told_in (said_by h)).last
-of_journals g hosts history h has period file =
-    let it = come_to_history g hosts history in
+pub of_journals : (g : Group) (hosts : List HostAct) (it : ComeToHistory g hosts) → (h : HostAct) → Contains hosts h → (period : ℕ)
+    → IsFileOf period (told_in (said_by h)).last → IsOfJournals g hosts it.acts period (told_in (said_by h)).last
+of_journals g hosts it h has period file =
     let s = found g h period file hosts it.acts (begun g) it.told has in
     record {
       s = s.snapshot;
-      made_of = s.made_of;
+      made_of = is_made_of g it.acts it.is_history s;
       batches = λ agent a runs.
           let same : (after g (begun g) it.acts).journals agent ≡ a.journal =
           its_journal _ a (it.stand.running (AgentOf agent) (process.Agent a) runs) in

@@ -30,7 +30,7 @@ use Rattle.log_text.specs.LogText.{HasIncrementText, Increment, behind_word, inc
 use Rattle.log_text.proofs.IncrementLaws.{increment_lacks_feed, increment_lines_are_text, lines_of, section, section_lacks_feed}
 use Rattle.log_text.proofs.LogLaws.{lines_above}
 use Rattle.log_text.proofs.WrittenLines.{feeds_end_lines}
-use Rattle.process_text.specs.Answers.{added_text, answer_text, lines_of_packet, packet_sent_text, process_refusal_text, sent_text, words_text}
+use Rattle.process_text.specs.Answers.{added_text, answer_text, lines_of_packet, packet_sent_text, process_refusal_text, refused_text, sent_text, words_text}
 use Rattle.process_line_laws.specs.Told.{CanBeCounted, FirstTold, MayBeAdded, MayBeSent, Place, ToLog, ToNodes, Section, Told, first_by, first_told, in_place, just, lines_under, meant, section_said, texts_sent, with_lines}
 use Rattle.process_line_laws.proofs.ReadAnswers.{increment_said, lines_of_sent, past_space, send_lacks_feed, send_words, sent_is_lines, sent_lacks_feed, packet_said}
 
@@ -286,3 +286,10 @@ answer_first name to agents (Some i) a behind may sent can =
 
 pub kept_is_whole : (k : KeptAmong) → HasText k → (lines_in (kept_text k)).rest ≡ []
 kept_is_whole k has = ap (λ (x : Lines). x.rest) (lines_of_kept_text k (writable_of k has))
+
+-- what is refused as no command, or as no packet, is one line
+pub refused_first : (why behind : List ℕ) → lacks 10 why ≡ true
+    → first_told (refused_text why ++ behind) ≡ record { told = just (refused_text why); behind = behind }
+refused_first why behind whole =
+    one_line (codes "refused " ++ why) behind (both_lack (codes "refused ") why refl whole) refl refl
+    (length (lines_in (refused_text why ++ behind)).lines) (omega arith)

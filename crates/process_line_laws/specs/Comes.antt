@@ -1,14 +1,15 @@
 -- What a history of hosts comes to, in the words of process_laws; and what files it shows.
 use Rattle.std.specs.Prelude.{◌≡◌, ◌⊎◌, ℕ, ◌+◌, ◌<◌, ◌≤◌, List, [], ◌∷◌, ◌++◌, length, map, All, Option, Some, Ok, slice_get, codes}
+use Rattle.std.specs.List.{Contains}
 use Rattle.std.specs.Option.{option_map}
-use Rattle.metering_model.specs.Cut.{last_of}
+use Rattle.metering_model.specs.Cut.{last_of, zero_cut}
 use Rattle.metering_model.specs.Dates.{IsPeriod}
 use Rattle.metering_model.specs.Holding.{Holding, up_to}
 use Rattle.metering_model.specs.KeptText.{KeptAmong}
 use Rattle.metering_model.specs.Transcript.{with_number}
 use Rattle.metering_model.specs.World.{Kept, Snapshot}
 use Rattle.group_laws.specs.OneAgent.{batches_of}
-use Rattle.process_laws.specs.LocalSteps.{Group, NodeCommand, TellKept, AgentCommand, TellJournal, Answer, Foreign, HasExported}
+use Rattle.process_laws.specs.LocalSteps.{Group, NodeCommand, TellKept, AgentCommand, TellJournal, Answer, Foreign, HasExported, saying}
 use Rattle.process_laws.specs.Histories.{Processes, Act, NodeDoes, NodeGoesOn, AgentDoes, AgentGoesOn, IsHistory, after, answers, begun}
 use Rattle.packet_text.specs.PacketText.{HasPacketText, packet_text}
 use Rattle.log_text.specs.LogText.{AgentOf, NodeOf, Who, log_in, most_log_bytes}
@@ -92,26 +93,32 @@ pub record IsFileOf (period : ℕ) (last : List ℕ) : Type 0 where
   pub rest : List ℕ
   pub words : last ≡ with_number (codes "exported period ") period ++ codes " lines " ++ rest
 
--- the snapshot whose file these bytes are
-pub record IsMadeOf (period : ℕ) (last : List ℕ) (s : Snapshot) : Type 0 where
+-- The snapshot whose file these bytes are: one that the acts export, under the group's sheet and issuer; the first month's begins at nothing.
+-- The bytes alone do not tell it: other batches, at other sequences, can come to the same rows.
+pub record IsMadeOf (g : Group) (acts : List Act) (period : ℕ) (last : List ℕ) (s : Snapshot) : Type 0 where
+  pub has : Contains (answers g (begun g) acts) (saying (HasExported s))
   pub bytes : last ≡ words_text (HasExported s)
   pub same : s.period ≡ period
+  pub sheet : s.sheet ≡ g.sheet
+  pub issuer : s.issuer ≡ g.issuer
+  pub opens : period ≡ 0 → s.from ≡ zero_cut g.agents
 
--- What two files are made of: no batch is between the cuts of both unless they are of one period, and a period's cuts begin where those of
--- the one before it end.
-pub record AreMadeOf (period other : ℕ) (one two : List ℕ) : Type 0 where
+-- What two files are made of, in such a history: of one period of the same; no batch is between the cuts of both unless they are of one
+-- period, and a period's cuts begin where those of the one before it end.
+pub record AreMadeOf (g : Group) (acts : List Act) (period other : ℕ) (one two : List ℕ) : Type 0 where
   pub s : Snapshot
   pub t : Snapshot
-  pub first : IsMadeOf period one s
-  pub second : IsMadeOf other two t
+  pub first : IsMadeOf g acts period one s
+  pub second : IsMadeOf g acts other two t
+  pub alike : period ≡ other → s ≡ t
   pub once : (agent seq : ℕ) → last_of s.from agent < seq → seq ≤ last_of s.to agent → last_of t.from agent < seq → seq ≤ last_of t.to agent
       → period ≡ other
   pub follows : period + 1 ≡ other → t.from ≡ s.to
 
 -- Of each agent whose process was begun a file is made of just the batches of the journal that this process has come to, up to the period's
 -- cut.
-pub record IsOfJournals (m : Machines) (period : ℕ) (last : List ℕ) : Type 0 where
+pub record IsOfJournals (g : Group) (hosts : List HostAct) (acts : List Act) (period : ℕ) (last : List ℕ) : Type 0 where
   pub s : Snapshot
-  pub made_of : IsMadeOf period last s
-  pub batches : (agent : ℕ) (a : AgentSelf) → (m.machine (AgentOf agent)).runs ≡ Some (process.Agent a)
+  pub made_of : IsMadeOf g acts period last s
+  pub batches : (agent : ℕ) (a : AgentSelf) → ((all_done g (begun_machines g) hosts).machine (AgentOf agent)).runs ≡ Some (process.Agent a)
       → batches_of agent s.batches ≡ up_to s.to a.journal

@@ -1,7 +1,8 @@
 //! What a host reads, and what all that the hosts of a group do comes to.
 
-ghost use Rattle.std.specs.Prelude.{◌≡◌, ℕ, List, [], ◌++◌, length, Option};
+ghost use Rattle.std.specs.Prelude.{◌≡◌, ℕ, true, List, [], ◌++◌, length, Option};
 ghost use Rattle.std.specs.List.{Contains};
+ghost use Rattle.metering_model.specs.Batch.{lacks};
 ghost use Rattle.metering_model.specs.BatchReading.{lines_in};
 ghost use Rattle.metering_model.specs.KeptText.{HasText, KeptAmong, kept_text};
 ghost use Rattle.metering_model.specs.World.{Packet};
@@ -13,7 +14,7 @@ ghost use Rattle.group_process.specs.Selves.{AgentSelf, NodeSelf};
 ghost use Rattle.process_text.specs.declared.processes.Process.{Process};
 ghost use Rattle.process_text.specs.Answers.{TellsAgent, TellsNode, answer_text, begun_text, lines_of_packet, refused_text};
 ghost use Rattle.process_line_laws.specs.Told.{CanBeCounted, MayBeAdded, MayBeSent, first_told, just, meant, told_in};
-ghost use Rattle.process_line_laws.specs.Hosts.{HostAct, IsHostHistory, all_done, begun_machines, said_by};
+ghost use Rattle.process_line_laws.specs.Hosts.{HostAct, IsHostHistory, begun_machines, said_by};
 ghost use Rattle.process_line_laws.specs.Comes.{AreMadeOf, ComeToHistory, IsFileOf, IsOfJournals};
 
 /// A host that reads an answer finds just what is meant: for the log the increment's text, or nothing; the text of the packet
@@ -54,6 +55,9 @@ pub fn an_answer_ends_where_it_says()
         → MayBeAdded agents added → MayBeSent name a.sends → CanBeCounted a.words →
         first_told (answer_text name to added a ++ behind)
         ≡ record { told = meant name added a; behind = behind } }
+    ensures refused { (why behind : List ℕ) → lacks 10 why ≡ true →
+        first_told (refused_text why ++ behind)
+        ≡ record { told = just (refused_text why); behind = behind } }
     ensures kept { (k : KeptAmong) → HasText k → (lines_in (kept_text k)).rest ≡ [] }
 {}
 
@@ -65,23 +69,22 @@ pub fn lines_come_to_a_history()
         ComeToHistory g hosts }
 {}
 
-/// So any two answers in lines that begin as a file of one period are the same bytes, of whichever processes and whenever.
-/// No batch stands between the two cuts of two files but where they are of one period, and a period's cuts begin where those
-/// of the one before end; and of each agent a file is made of just what that agent's process has journaled, up to the later
-/// cut.
+/// So any two answers in lines that begin as a file of one period are the same bytes, of whichever processes and whenever. In
+/// each history to which the hosts come (and they come to one), each is the file of a snapshot that a process exports, under
+/// the group's sheet and issuer: of the same one for one period. No batch stands between the two cuts of two files but where
+/// they are of one period, and a period's cuts begin where those of the one before end, the first month's at nothing; and of
+/// each agent a file is made of just what that agent's process has journaled, up to the later cut.
 pub fn files_in_lines_agree()
     ensures bytes { (g : Group) (hosts : List HostAct) → IsHostHistory g (begun_machines g) hosts →
         (h k : HostAct) → Contains hosts h → Contains hosts k → (period : ℕ)
         → IsFileOf period (told_in (said_by h)).last → IsFileOf period (told_in (said_by k)).last →
         (told_in (said_by h)).last ≡ (told_in (said_by k)).last }
-    ensures made_of { (g : Group) (hosts : List HostAct)
-        → IsHostHistory g (begun_machines g) hosts →
-        (h k : HostAct) → Contains hosts h → Contains hosts k → (period other : ℕ)
+    ensures made_of { (g : Group) (hosts : List HostAct) (it : ComeToHistory g hosts)
+        → (h k : HostAct) → Contains hosts h → Contains hosts k → (period other : ℕ)
         → IsFileOf period (told_in (said_by h)).last → IsFileOf other (told_in (said_by k)).last →
-        AreMadeOf period other (told_in (said_by h)).last (told_in (said_by k)).last }
-    ensures journals { (g : Group) (hosts : List HostAct)
-        → IsHostHistory g (begun_machines g) hosts →
-        (h : HostAct) → Contains hosts h → (period : ℕ)
+        AreMadeOf g it.acts period other (told_in (said_by h)).last (told_in (said_by k)).last }
+    ensures journals { (g : Group) (hosts : List HostAct) (it : ComeToHistory g hosts)
+        → (h : HostAct) → Contains hosts h → (period : ℕ)
         → IsFileOf period (told_in (said_by h)).last →
-        IsOfJournals (all_done g (begun_machines g) hosts) period (told_in (said_by h)).last }
+        IsOfJournals g hosts it.acts period (told_in (said_by h)).last }
 {}
