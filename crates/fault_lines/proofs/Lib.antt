@@ -7,6 +7,7 @@ pub mod Latest
 pub mod LatestKept
 pub mod AheadWalks
 pub mod UnknownLaws
+mod TakenKeys
 pub mod KeysOnLine
 pub mod CheckLaws
 mod WorkedKinds

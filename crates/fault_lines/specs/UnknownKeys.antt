@@ -1,8 +1,8 @@
 -- Keys of a sheet or of an issuer that no reader takes, and the line of the input at which each is told.
-use Rattle.std.specs.Prelude.{ℕ, ◌+◌, Bool, not, ◌&&◌, ◌||◌, ◌==◌, nat_le, nat_lt, if◌then◌else◌, List, [], ◌∷◌, ◌++◌, length, map, take, drop, filter, Option, Some, None, Result, Ok, Err, codes}
+use Rattle.std.specs.Prelude.{◌≡◌, ℕ, ◌+◌, Bool, true, not, ◌&&◌, ◌||◌, ◌==◌, nat_le, nat_lt, if◌then◌else◌, List, [], ◌∷◌, ◌++◌, length, map, take, drop, filter, Option, Some, None, Result, Ok, Err, codes}
 use Rattle.std.specs.List.{flat_map, list_any, position}
 use Rattle.std.specs.Str.{is_utf8}
-use Rattle.toml.specs.Data.{Members, no_members, member}
+use Rattle.toml.specs.Data.{Members, no_members, member, get_member}
 use Rattle.toml.specs.Parse.{parse_document}
 use Rattle.metering_model.specs.BatchReading.{is_same, lines_in}
 use Rattle.metering_model.specs.Limits.{most_sheet_lines, most_issuer_lines}
@@ -46,6 +46,10 @@ issuer_keys = keys.Provider ∷ keys.Publisher ∷ keys.Issuer ∷ keys.AccountI
 
 abbrev pub is_taken : List Key → List ℕ → Bool
 is_taken taken name = list_any (λ k. is_same name (key_name k)) taken
+
+-- the same stands under each of these keys, or nothing, whatever stands under others
+abbrev pub AreAlikeIn : List Key → Members → Members → Type 0
+AreAlikeIn taken ms ns = (k : Key) → is_taken taken (key_name k) ≡ true → get_member (key_name k) ms ≡ get_member (key_name k) ns
 
 abbrev pub is_key : List ℕ → List ℕ → UnknownKey → Bool
 is_key table name k = is_same table k.table && is_same name k.name
@@ -129,7 +133,7 @@ keys_left table ks (line ∷ lines) = keys_left (table_below table line) (filter
 
 -- ---- what is told of them
 
--- a control character would break the line, so a question mark stands in its place
+-- a line feed would break the line, so a question mark stands in place of each byte below 32, and of 127
 abbrev pub shown : ℕ → ℕ
 shown c = if nat_lt c 32 || (c == 127) then 63 else c
 

@@ -1,16 +1,14 @@
 //! What `check` does with an input, of whatever kind: all of it is read, and what is wrong with it is written, and then of what it is
 //! warned.
 
-ghost use Rattle.std.specs.Prelude.{◌≡◌, ◌≢◌, ◌⊎◌, ◌+◌, ◌++◌, ℕ, List, [], Ok, Err, IfOk, IfErr, OnOk};
+ghost use Rattle.std.specs.Prelude.{◌≡◌, ◌⊎◌, ◌++◌, ℕ, List, Err, IfOk, IfErr, OnOk};
 ghost use Rattle.std.specs.Arc.{arc_value};
 ghost use Rattle.std.specs.Io.KnownBytes.{Appends};
 ghost use Rattle.counted_io.specs.Counts.{count_after};
 ghost use Rattle.counted_io.specs.Writing.{AppendsPrefix};
-ghost use Rattle.metering_model.specs.Limits.{most_input_bytes};
 ghost use Rattle.metering_model.specs.Transcript.{line_count};
-ghost use Rattle.program_input.specs.Faults.{RefusesNothing, tells_of_reader, tells_of_writer};
-ghost use Rattle.program_input.specs.Streams.{UsesStreams};
-ghost use Rattle.fault_lines.specs.Checked.{IsSaid, SaysLines, SaysTooLong};
+ghost use Rattle.program_input.specs.Faults.{tells_of_writer};
+ghost use Rattle.fault_lines.specs.Checked.{Checks, IsSaid, SaysLines, SaysTooLong};
 
 use byte_text::line_count;
 use counted_io::{Sink, Source, write_all};
@@ -20,10 +18,10 @@ use std::sync::Arc;
 
 /// What an input is checked as.
 pub trait Check {
-    /// What is wrong with an input: a line for each thing, or nothing.
+    /// What is wrong with an input: lines, or nothing. No clause asks that each thing has one line.
     ghost said_of: { Self → List ℕ → List ℕ };
 
-    /// Of what it is warned: a line for each thing, or nothing.
+    /// Of what it is warned: lines, or nothing.
     ghost warned_of: { Self → List ℕ → List ℕ };
 
     /// Whatever is said has a line.
@@ -100,8 +98,8 @@ fn write_checked<C: Check, W: Sink>(
     write_said(&said, count, writer)
 }
 
-/// Reads an input, and writes what is wrong with it, a line for each thing, and then of what it is warned, all at once. It answers
-/// how many lines tell what is wrong.
+/// Reads an input, and writes what is said to be wrong with it, and then of what it is warned, all at once. It answers how many
+/// lines the first has.
 ///
 /// At most 16,777,217 bytes are read. After `Write` a prefix of the lines was written, and after any other fault nothing.
 /// Neither `Schedule` nor `Refused` is ever answered.
@@ -111,31 +109,10 @@ pub fn check_input<C: Check, R: Source, W: Sink>(
     reader: &mut R,
     writer: &mut W,
 ) -> Result<u64, PlayFault>
-    // With Ok just what is said of the input was written, and behind it of what it is warned; the lines of the first are counted.
-    ensures said { IfOk result (λ count. (input said warned : List ℕ)
-        × IsSaid (C.said_of check.now) (C.warned_of check.now)
-        (R.remaining reader.old) input said warned
-        × Appends (W.contents writer.old) (W.contents writer.new) (said ++ warned)
-        × (count ≡ line_count said)) }
-
-    // Where nothing is wrong, just the warnings were written.
-    ensures ahead { result ≡ Ok 0 → (input warned : List ℕ)
-        × IsSaid (C.said_of check.now) (C.warned_of check.now)
-        (R.remaining reader.old) input [] warned
-        × Appends (W.contents writer.old) (W.contents writer.new) warned }
-
-    // After `Write` a prefix of it was, and never all of it.
-    ensures prefix { result ≡ Err PlayFault.Write → (input said warned : List ℕ)
-        × IsSaid (C.said_of check.now) (C.warned_of check.now)
-        (R.remaining reader.old) input said warned
-        × AppendsPrefix (W.contents writer.old) (W.contents writer.new) (said ++ warned) }
-    ensures untouched { IfErr result (λ fault. fault ≢ PlayFault.Write → writer.new ≡ writer.old) }
-    ensures refuses { RefusesNothing result }
-
-    // Where nothing is wrong, nothing is left to read. `Read` and `Write` come of one failed call each, and no other call fails.
-    ensures streams { UsesStreams (most_input_bytes + 1) (result ≡ Ok 0)
-        (tells_of_reader result) (tells_of_writer result)
+    ensures { Checks (IsSaid (C.said_of check.now) (C.warned_of check.now))
+        result writer.old writer.new
         (R.remaining reader.old) (R.remaining reader.new)
+        (W.contents writer.old) (W.contents writer.new)
         (R.failed_calls reader.old) (R.failed_calls reader.new)
         (W.failed_calls writer.old) (W.failed_calls writer.new) }
 {

@@ -294,7 +294,7 @@ fn tables_at<'a>(table: &'a [u8], line: &'a [u8]) -> (&'a [u8], &'a [u8])
     }
 }
 
-/// A byte of a key as it is told: a question mark for a control character, which would break the line.
+/// A byte of a key as it is told: a question mark for one below 32, of which a line feed would break the line, and for 127.
 fn shown(byte: u8) -> u8
     ensures { result ≡ shown byte }
 {

@@ -3,6 +3,7 @@
 ghost use Rattle.std.specs.Prelude.{◌≡◌, ◌≢◌, ◌↔◌, ◌+◌, [], ℕ, List, Ok, Err, IfOk, IfErr, IsTrue, OnOk, ◌⊎◌};
 ghost use Rattle.std.specs.Io.KnownBytes.{Appends};
 ghost use Rattle.counted_io.specs.Counts.{count_after};
+ghost use Rattle.counted_io.specs.Streams.{UsesStreams};
 ghost use Rattle.counted_io.specs.Writing.{AppendsPrefix};
 ghost use Rattle.metering_model.specs.Limits.{most_input_bytes};
 ghost use Rattle.metering_model.specs.Sheet as model;
@@ -10,7 +11,6 @@ ghost use Rattle.metering_model.specs.SheetRules.{IsSheet};
 ghost use Rattle.metering_model.specs.declared.Refusal.{Refusal};
 ghost use Rattle.input_sections.specs.declared.faults.ScheduleFault.{ScheduleFault};
 ghost use Rattle.program_input.specs.Faults.{tells_of_reader, tells_of_writer};
-ghost use Rattle.program_input.specs.Streams.{UsesStreams};
 ghost use Rattle.sheet_changes.specs.Changes.{GoesOnBy, IsSaidOf, SaysAll, SaysChanges, StaysBefore, two_sheets_in};
 ghost use Rattle.sheet_changes.specs.Faults.{TellsFaults, of_input};
 ghost use Rattle.sheet_changes.specs.Likenesses.{likeness_of};
@@ -32,7 +32,7 @@ use utc_calendar::Day;
 pub struct Asked {
     /// The day from which the new sheet is to go on, and name each region alike, if one is given.
     pub before: Option<Day>,
-    /// Whether each field that differs is listed.
+    /// Whether each field that differs of a price in force, a commitment or a region is listed.
     pub all: bool,
 }
 
@@ -192,7 +192,7 @@ fn compare_input<W: Sink>(
 
 /// Reads the sections of an old sheet and a new one, and writes what the new one does to closed months: a line that
 /// says from which days it goes on, and a line for each region that the two do not name alike. Where all is asked for
-/// there follows a line for each field that differs.
+/// there follows a line for each field that differs of a price in force, a commitment or a region.
 ///
 /// Where a day is given, the new sheet is to go on from it and to name each region alike. Where it does not, that is
 /// told once all lines were written (`Unlike`). At most 16,777,217 bytes are read. After `Write` a prefix of the lines

@@ -1,14 +1,9 @@
 //! `focusd check --kind sheets`: what is wrong with the input of two sheets.
 
-ghost use Rattle.std.specs.Prelude.{◌≡◌, ◌≢◌, ◌+◌, ◌++◌, ℕ, List, [], Ok, Err, IfOk, IfErr, IsOk, OnOk};
-ghost use Rattle.std.specs.Io.KnownBytes.{Appends};
-ghost use Rattle.counted_io.specs.Writing.{AppendsPrefix};
-ghost use Rattle.metering_model.specs.Limits.{most_input_bytes};
-ghost use Rattle.metering_model.specs.Transcript.{line_count};
+ghost use Rattle.std.specs.Prelude.{◌≡◌, ◌≢◌, ◌++◌, Ok, Err, IfErr, IsOk, OnOk};
 ghost use Rattle.input_sections.specs.declared.faults.ScheduleFault.{ScheduleFault};
 ghost use Rattle.input_sections.specs.Sections.{whole_of};
-ghost use Rattle.program_input.specs.Faults.{RefusesNothing, tells_of_reader, tells_of_writer};
-ghost use Rattle.program_input.specs.Streams.{UsesStreams};
+ghost use Rattle.fault_lines.specs.Checked.{Checks};
 ghost use Rattle.fault_lines.specs.UnknownKeys.{unknown_from};
 ghost use Rattle.sheet_changes.specs.Changes.{two_sheets_in};
 ghost use Rattle.sheet_changes.specs.Checks.{IsCheckOf, said_of_two_sheets, warned_of_two_sheets};
@@ -116,9 +111,9 @@ impl Check for TwoSheets {
     }
 }
 
-/// Reads the sections of an old sheet and a new one, and writes what is wrong with them: the line of the first fault, or
-/// nothing, and behind it a line for each key that no reader takes. It answers how many lines of faults these are:
-/// warnings do not count.
+/// Reads the sections of an old sheet and a new one, and writes what is wrong with them: the line of the first fault, or,
+/// where nothing is wrong, a line for each key that no reader takes, of a section at most 100. It answers how many lines of
+/// faults these are: warnings do not count.
 ///
 /// At most 16,777,217 bytes are read. After `Write` a prefix of the lines was written, and after any other fault nothing.
 /// Neither `Schedule` nor `Refused` is ever answered.
@@ -127,28 +122,9 @@ pub fn check_two_sheets<R: Source, W: Sink>(
     reader: &mut R,
     writer: &mut W,
 ) -> Result<u64, PlayFault>
-    // With Ok just what is said of the input was written, and behind it the warnings.
-    ensures said { IfOk result (λ count. (input said warned : List ℕ)
-        × IsCheckOf (R.remaining reader.old) input said warned
-        × Appends (W.contents writer.old) (W.contents writer.new) (said ++ warned)
-        × (count ≡ line_count said)) }
-
-    // Where nothing is wrong, the warnings alone.
-    ensures ahead { result ≡ Ok 0 → (input warned : List ℕ)
-        × IsCheckOf (R.remaining reader.old) input [] warned
-        × Appends (W.contents writer.old) (W.contents writer.new) warned }
-
-    // After `Write` a prefix of it was, and never all of it.
-    ensures prefix { result ≡ Err PlayFault.Write → (input said warned : List ℕ)
-        × IsCheckOf (R.remaining reader.old) input said warned
-        × AppendsPrefix (W.contents writer.old) (W.contents writer.new) (said ++ warned) }
-    ensures untouched { IfErr result (λ fault. fault ≢ PlayFault.Write → writer.new ≡ writer.old) }
-    ensures refuses { RefusesNothing result }
-
-    // Where nothing is wrong, nothing is left to read. `Read` and `Write` come of one failed call each, and no other call fails.
-    ensures streams { UsesStreams (most_input_bytes + 1) (result ≡ Ok 0)
-        (tells_of_reader result) (tells_of_writer result)
+    ensures { Checks IsCheckOf result writer.old writer.new
         (R.remaining reader.old) (R.remaining reader.new)
+        (W.contents writer.old) (W.contents writer.new)
         (R.failed_calls reader.old) (R.failed_calls reader.new)
         (W.failed_calls writer.old) (W.failed_calls writer.new) }
 {
