@@ -170,7 +170,7 @@ IsUnwritten sink args known writer writer' =
     ⊎ ((kind : ProcessKind) × AsksFor args (Process kind) × HasAnswered kind known (sink.contents writer) (sink.contents writer')))
 
 -- Of what is asked for a prefix was written that is not all of it, and nothing else. Which text help is no clause can say, since
--- `clap` says nothing of what it shows: so of help just this is known, that what was written is not all of some text.
+-- `clap` says nothing of what it shows: so of help just this is known, that what was written, if anything, stands behind what was there.
 abbrev pub IsDoneInPart : Command → (known old new : Option (List ℕ)) → Type 0
 IsDoneInPart (Rate period) known old new = (input text : List ℕ) × IsFileOf known period input text × AppendsPrefix old new text
 IsDoneInPart Play known old new = (input text : List ℕ) × IsTranscriptOf known input text × AppendsPrefix old new text

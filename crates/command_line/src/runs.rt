@@ -1,6 +1,6 @@
 //! A run of the program, from what the process gave to the status that it ends with.
 
-ghost use Rattle.std.specs.Prelude.{◌≡◌, ◌≢◌, ◌+◌, ◌++◌, ℕ, List, [], Option, Ok, Err, IfOk, IfErr, IfSome, IsErr, OnErr, OnOk, false, is_err, map, string_bytes};
+ghost use Rattle.std.specs.Prelude.{◌≡◌, ◌≢◌, ◌+◌, ℕ, List, [], Option, Err, IfOk, IfErr, IfSome, IsErr, OnErr, OnOk, false, is_err, map, string_bytes};
 ghost use Rattle.std.specs.Io.KnownBytes.{Appends};
 ghost use Rattle.std.specs.IoError.{error_kind};
 ghost use Rattle.std.specs.declared.io.ErrorKind.TheVariants.{OutOfMemory as NoMemory};
@@ -8,9 +8,7 @@ ghost use Rattle.counted_io.specs.Counts.{count_after};
 ghost use Rattle.counted_io.specs.Reading.{ConsumesAtMost};
 ghost use Rattle.counted_io.specs.Writing.{AppendsPrefix};
 ghost use Rattle.metering_model.specs.Limits.{most_input_bytes, most_transcript_bytes};
-ghost use Rattle.metering_model.specs.Transcript.{line_count};
-ghost use Rattle.program_input.specs.Faults.{RefusesNothing, tells_of_reader, tells_of_writer};
-ghost use Rattle.program_input.specs.Streams.{UsesStreams};
+ghost use Rattle.input_check.specs.Inputs.{Checks};
 ghost use Rattle.threads_player.specs.declared.sizes.Size.{Size};
 ghost use Rattle.threads_player.specs.Groups.{IsSize};
 ghost use Rattle.command_line.specs.declared.commands.Command.{Command};
@@ -134,21 +132,9 @@ fn say<R: Source, W: Sink>(
     reader: &mut R,
     writer: &mut W,
 ) -> Result<u64, PlayFault>
-    ensures said { IfOk result (λ count. (input said warned : List ℕ)
-        × IsChecked kind (R.remaining reader.old) input said warned
-        × Appends (W.contents writer.old) (W.contents writer.new) (said ++ warned)
-        × (count ≡ line_count said)) }
-    ensures ahead { result ≡ Ok 0 → (input warned : List ℕ)
-        × IsChecked kind (R.remaining reader.old) input [] warned
-        × Appends (W.contents writer.old) (W.contents writer.new) warned }
-    ensures prefix { result ≡ Err PlayFault.Write → (input said warned : List ℕ)
-        × IsChecked kind (R.remaining reader.old) input said warned
-        × AppendsPrefix (W.contents writer.old) (W.contents writer.new) (said ++ warned) }
-    ensures untouched { IfErr result (λ fault. fault ≢ PlayFault.Write → writer.new ≡ writer.old) }
-    ensures refuses { RefusesNothing result }
-    ensures streams { UsesStreams (most_input_bytes + 1) (result ≡ Ok 0)
-        (tells_of_reader result) (tells_of_writer result)
+    ensures { Checks (IsChecked kind) result writer.old writer.new
         (R.remaining reader.old) (R.remaining reader.new)
+        (W.contents writer.old) (W.contents writer.new)
         (R.failed_calls reader.old) (R.failed_calls reader.new)
         (W.failed_calls writer.old) (W.failed_calls writer.new) }
 {
@@ -394,14 +380,15 @@ pub fn run_alone<R: Source, W: Sink, E: Sink>(
 /// to end with.
 ///
 /// 0 says that it was done, of `check` that nothing is refused, though it may warn, and of a process
-/// of a group that its input has ended; 1 that the input is refused, that `check` wrote what is refused of it, that it has no whole file of the period,
-/// that not all stays of two sheets that is to stay, that no schedule was found, or that a run in
-/// threads came to a mismatch; 2 that the words ask for nothing, or are no text; 3 that a read or a
+/// of a group that its input has ended; 1 that the input is refused, that `check` wrote what is
+/// refused of it, that it has no whole file of the period, that not all stays of two sheets that is
+/// to stay, that no schedule was found, that the built-in sheet of `threads` is refused, or that its
+/// run came to a mismatch; 2 that the words ask for nothing, or are no text; 3 that a read or a
 /// write failed; 4 that memory was wanting.
 /// In each case but 0 a line tells of it on `errors`, as far as that takes it. At most 16,777,217
 /// bytes are read, by `file` at most 4,294,967,297, by a process as many as come, and none at 2, by
-/// `threads`, or for help or the version. What is no group in threads is done by [`run_alone`], which no thread can keep from
-/// returning.
+/// `threads`, or for help or the version. What is no group in threads is done by [`run_alone`],
+/// which no thread can keep from returning.
 pub fn run<T: Threads + Wait + Sync, R: Source, W: Sink, E: Sink>(
     rt: &T,
     alloc: Global,

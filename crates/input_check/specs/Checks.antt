@@ -159,7 +159,8 @@ SaysWhatIsRated text (Err play.Read) said = ⊥
 SaysWhatIsRated text (Err play.Write) said = ⊥
 SaysWhatIsRated text (Err play.OutOfMemory) said = ⊥
 
--- Where the text is a schedule, just which of its group's replies refuse is said, each by the line of its event; else its first fault.
+-- Where the text is a schedule, just which of its group's replies refuse is said, each by the line of its event, or by one below it
+-- where the fault is of a line of the text that the event hands in; else its first fault.
 abbrev pub SaysWhatIsPlayed : List ℕ → Result ReadSchedule ScheduleFault → List ℕ → Type 0
 SaysWhatIsPlayed text (Ok s) said =
     (length (event_lines text) ≡ length s.events)

@@ -2,6 +2,8 @@
 use Rattle.std.specs.Prelude.{ℕ, if◌then◌else◌, List, Option, codes}
 use Rattle.input_sections.specs.Sections.{begins_with}
 use Rattle.fault_lines.specs.Checked.{IsSaid}
+-- Passed on to the crate above, which so need not name the crate below.
+pub use Rattle.fault_lines.specs.Checked.{Checks}
 use Rattle.input_check.specs.Checks.{said_of_input_as}
 use Rattle.input_check.specs.Warnings.{warned_of_input_as}
 use Rattle.input_check.specs.declared.kinds.InputKind.{InputKind}

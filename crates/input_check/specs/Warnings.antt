@@ -30,12 +30,15 @@ journaled_among (n ∷ ns) [] replies = []
 journaled_among (n ∷ ns) (e ∷ es) [] = []
 journaled_among (n ∷ ns) (e ∷ es) (r ∷ rs) = if_journaled n e r ++ journaled_among ns es rs
 
--- A batch counts exactly where the reply to its event says that it was journaled, behind as many lines as that event begins on.
+-- A batch counts exactly where the reply to its event says that it was journaled, behind as many lines as that event begins on, and
+-- behind as many batches as count of the events above it.
 pub record CountsWhatIsJournaled (lines : List ℕ) (events : List Planned) (replies : List Reply) : Type 0 where
   pub each : (i n : ℕ) (b : Batch) → slice_get (journaled_among lines events replies) i ≡ Some (n, b) → (k packet : ℕ) × (ls : TextLines)
       × (slice_get lines k ≡ Some n) × (slice_get events k ≡ Some (PlansJournal ls)) × (slice_get replies k ≡ Some (Journaled packet)) × (b ≡ batch_of (lines_text ls))
+      × (i ≡ length (journaled_among (take k lines) (take k events) (take k replies)))
   pub all : (k n packet : ℕ) (ls : TextLines) → slice_get lines k ≡ Some n → slice_get events k ≡ Some (PlansJournal ls) → slice_get replies k ≡ Some (Journaled packet)
       → (i : ℕ) × (slice_get (journaled_among lines events replies) i ≡ Some (n, batch_of (lines_text ls)))
+      × (i ≡ length (journaled_among (take k lines) (take k events) (take k replies)))
 
 -- of a schedule
 abbrev pub journaled_in_schedule : List ℕ → ReadSchedule → List (ℕ × Batch)

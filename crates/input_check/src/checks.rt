@@ -1,14 +1,9 @@
 //! `focusd check`: what is wrong with an input.
 
-ghost use Rattle.std.specs.Prelude.{◌+◌, ◌≡◌, ◌≢◌, ◌++◌, ℕ, List, [], Ok, Err, IfOk, IfErr, OnOk};
+ghost use Rattle.std.specs.Prelude.{◌≡◌, ◌++◌, OnOk};
 ghost use Rattle.std.specs.Arc.{arc_value};
-ghost use Rattle.std.specs.Io.KnownBytes.{Appends};
-ghost use Rattle.metering_model.specs.Limits.{most_input_bytes};
-ghost use Rattle.counted_io.specs.Writing.{AppendsPrefix};
-ghost use Rattle.metering_model.specs.Transcript.{line_count};
-ghost use Rattle.schedule_player.specs.Faults.{RefusesNothing, UsesStreams, tells_of_reader, tells_of_writer};
 ghost use Rattle.input_check.specs.Checks.{said_of_input_as};
-ghost use Rattle.input_check.specs.Inputs.{IsSaidAs, IsSaidOf};
+ghost use Rattle.input_check.specs.Inputs.{Checks, IsSaidAs, IsSaidOf};
 ghost use Rattle.input_check.specs.Warnings.{warned_of_input_as};
 
 use crate::events::check_schedule;
@@ -108,28 +103,9 @@ pub fn check_text_as<R: Source, W: Sink>(
     reader: &mut R,
     writer: &mut W,
 ) -> Result<u64, PlayFault>
-    // With Ok just what is said of the input was written, and behind it what is warned of; the lines of the first are counted.
-    ensures said { IfOk result (λ count. (input said warned : List ℕ)
-        × IsSaidAs kind (R.remaining reader.old) input said warned
-        × Appends (W.contents writer.old) (W.contents writer.new) (said ++ warned)
-        × (count ≡ line_count said)) }
-
-    // Where nothing is wrong, just the warnings were written.
-    ensures ahead { result ≡ Ok 0 → (input warned : List ℕ)
-        × IsSaidAs kind (R.remaining reader.old) input [] warned
-        × Appends (W.contents writer.old) (W.contents writer.new) warned }
-
-    // After `Write` a prefix of it was, and never all of it.
-    ensures prefix { result ≡ Err PlayFault.Write → (input said warned : List ℕ)
-        × IsSaidAs kind (R.remaining reader.old) input said warned
-        × AppendsPrefix (W.contents writer.old) (W.contents writer.new) (said ++ warned) }
-    ensures untouched { IfErr result (λ fault. fault ≢ PlayFault.Write → writer.new ≡ writer.old) }
-    ensures refuses { RefusesNothing result }
-
-    // Where nothing is wrong, nothing is left to read. `Read` and `Write` come of one failed call each, and no other call fails.
-    ensures streams { UsesStreams (most_input_bytes + 1) (result ≡ Ok 0)
-        (tells_of_reader result) (tells_of_writer result)
+    ensures { Checks (IsSaidAs kind) result writer.old writer.new
         (R.remaining reader.old) (R.remaining reader.new)
+        (W.contents writer.old) (W.contents writer.new)
         (R.failed_calls reader.old) (R.failed_calls reader.new)
         (W.failed_calls writer.old) (W.failed_calls writer.new) }
 {
@@ -143,28 +119,9 @@ pub fn check_text<R: Source, W: Sink>(
     reader: &mut R,
     writer: &mut W,
 ) -> Result<u64, PlayFault>
-    // With Ok just what is said of the input was written, and behind it what is warned of; the lines of the first are counted.
-    ensures said { IfOk result (λ count. (input said warned : List ℕ)
-        × IsSaidOf (R.remaining reader.old) input said warned
-        × Appends (W.contents writer.old) (W.contents writer.new) (said ++ warned)
-        × (count ≡ line_count said)) }
-
-    // Where nothing is wrong, just the warnings were written.
-    ensures ahead { result ≡ Ok 0 → (input warned : List ℕ)
-        × IsSaidOf (R.remaining reader.old) input [] warned
-        × Appends (W.contents writer.old) (W.contents writer.new) warned }
-
-    // After `Write` a prefix of it was, and never all of it.
-    ensures prefix { result ≡ Err PlayFault.Write → (input said warned : List ℕ)
-        × IsSaidOf (R.remaining reader.old) input said warned
-        × AppendsPrefix (W.contents writer.old) (W.contents writer.new) (said ++ warned) }
-    ensures untouched { IfErr result (λ fault. fault ≢ PlayFault.Write → writer.new ≡ writer.old) }
-    ensures refuses { RefusesNothing result }
-
-    // Where nothing is wrong, nothing is left to read. `Read` and `Write` come of one failed call each, and no other call fails.
-    ensures streams { UsesStreams (most_input_bytes + 1) (result ≡ Ok 0)
-        (tells_of_reader result) (tells_of_writer result)
+    ensures { Checks IsSaidOf result writer.old writer.new
         (R.remaining reader.old) (R.remaining reader.new)
+        (W.contents writer.old) (W.contents writer.new)
         (R.failed_calls reader.old) (R.failed_calls reader.new)
         (W.failed_calls writer.old) (W.failed_calls writer.new) }
 {

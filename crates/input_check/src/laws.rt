@@ -31,9 +31,10 @@ ghost use Rattle.fault_lines.specs.Told.{bad_index, line_within};
 ghost use Rattle.input_check.specs.RateForms.{IsRateForm, RateForm};
 
 /// Of what is checked as to be rated, in whichever period, nothing is said where `rate` gives a file, and else just why it refuses,
-/// with its line. Of what is checked as to be played the first fault of the schedule is said, or just which events are answered as refused, each by
-/// the line on which it begins: one more than the line feeds of the text above it. A batch that breaks a rule of the journals is
-/// told at the line of the first record with which it is refused.
+/// with its line. Of what is checked as to be played the first fault of the schedule is said, or just which events are answered as
+/// refused, each by the line on which it begins, or by one below it where the fault is of a line of the text that it hands in. It
+/// begins on the line that is one more than the line feeds of the text above it. A batch that breaks a rule of the journals is told
+/// at the line of the first record with which it is refused.
 pub fn what_is_said_is_what_is_refused()
     ensures rated { (period : ℕ) (text : List ℕ)
         → SaysWhatIsRated text (rated_file period text) (said_of_input_as InputKind.Rate text) }
@@ -57,7 +58,7 @@ pub fn what_is_said_is_what_is_refused()
 /// Nothing is refused for what is warned of: where nothing is said of what is checked as to be rated, `rate` gives a file of each
 /// period, and where nothing is said of what is checked as to be played, it is a schedule of which no event is refused, whatever is
 /// warned of. Of an input with a fault of form nothing is warned of. Of a schedule the keys come first, and then the readings of the
-/// batches of its journals: a batch counts exactly where its event is answered as journaled.
+/// batches of its journals: a batch counts exactly where its event is answered as journaled, once and in the order of the events.
 pub fn nothing_is_refused_for_a_warning()
     ensures rated { (period : ℕ) (text : List ℕ) → said_of_input_as InputKind.Rate text ≡ []
         → (bytes : List ℕ) × (rated_file period text ≡ Ok bytes) }
