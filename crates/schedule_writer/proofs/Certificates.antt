@@ -20,7 +20,7 @@ use Rattle.metering_model.proofs.FieldLaws.{same_read}
 use Rattle.group_events.specs.Replies.{is_refused}
 use Rattle.schedule_writer.specs.declared.plans.Seen.{Seen}
 use Rattle.schedule_writer.specs.Schedules.{exports_of, files_before, files_of, is_needed, is_start, journals_of, learned_in}
-use Rattle.schedule_writer.specs.Inner.Plans.{Plan, all_seen, behind, behind_all, behind_taken, due_for, is_file_of, is_good, is_next, is_turn, one_more_ballot, one_more_batch, one_more_file}
+use Rattle.schedule_writer.specs.Inner.Plans.{Plan, all_seen, behind, behind_all, behind_taken, due_for, is_behind, is_file_of, is_good, is_next, is_turn, one_more_ballot, one_more_batch, one_more_file}
 
 -- ---- what a test says
 
@@ -50,7 +50,17 @@ not_true false is = refl
 -- the event was taken, and this was done behind it
 is_taken : (plan : Plan) (seen next : Seen) (h : Holding) (r : Reply) (e : Planned) → behind plan seen h r e ≡ Some next
     → (is_good plan.last r ≡ true) × (behind_taken plan seen h r e ≡ Some next)
-is_taken plan seen next h r e is = if_good (is_good plan.last r) (behind_taken plan seen h r e) next is
+is_taken plan seen next h r e is =
+    let good = if_good (is_good plan.last r) (cond (is_behind plan seen r) (behind_taken plan seen h r e) None) next is in
+    (good.0, (if_good (is_behind plan seen r) (behind_taken plan seen h r e) next good.1).1)
+
+-- where a period was learned by it, just the batches above its close were journaled
+is_learned : (plan : Plan) (seen next : Seen) (h : Holding) (r : Reply) (e : Planned) (sent : Option ℕ) (period : ℕ) → behind plan seen h r e ≡ Some next
+    → r ≡ Delivered sent (Some period) → seen.journaled ≡ due_for plan period
+is_learned plan seen next h r e sent period is learns =
+    let good = if_good (is_good plan.last r) (cond (is_behind plan seen r) (behind_taken plan seen h r e) None) next is in
+    let so = if_good (is_behind plan seen r) (behind_taken plan seen h r e) next good.1 in
+    eqb-true seen.journaled (due_for plan period) (sym (ap (is_behind plan seen) learns) ∙ so.0)
 
 file_keeps : (b : Bool) (seen : Seen)
     → (seen.journaled ≡ (cond b (record seen { node = seen.node + 1 }) (record seen { node = 0; period = seen.period + 1 })).journaled)
@@ -340,6 +350,24 @@ due plan seen last w (e ∷ es) is (suc k) node period asks =
     (λ next one rest. more_in_all _ _ _ _ _ _ (same_count plan seen next _ _ e (is_taken plan seen next _ _ e one).1).0
     (ap length (journals_split e (take k es)) ∙ length-append (journals_of (e ∷ [])) (journals_of (take k es)))
     (due plan next last (step w (event_of e)).1 es rest k node period asks))
+
+-- ---- how many are journaled where a period is learned
+
+pub learned : (plan : Plan) (seen last : Seen) (w : World) (es : List Planned) → behind_all plan seen w es ≡ Some last
+    → (place period : ℕ) (sent : Option ℕ) → slice_get (play w (map event_of es)).0 place ≡ Some (Delivered sent (Some period))
+    → seen.journaled + length (journals_of (take place es)) ≡ due_for plan period
+unfolding behind_all
+learned plan seen last w [] is place period sent learns = let past = slice_get_past {X = Reply} [] place (omega arith) in let bad = sym past ∙ learns in absurd (cc)
+learned plan seen last w (e ∷ es) is zero period sent learns =
+    option_and_then_some (λ next. behind_all plan next (step w (event_of e)).1 es) (behind plan seen w.journals (step w (event_of e)).0 e) last is
+    (λ next one rest.
+    let is_due = is_learned plan seen next w.journals (step w (event_of e)).0 e sent period one (some_is (step w (event_of e)).0 (Delivered sent (Some period)) learns) in
+    omega (arith, is_due))
+learned plan seen last w (e ∷ es) is (suc k) period sent learns =
+    option_and_then_some (λ next. behind_all plan next (step w (event_of e)).1 es) (behind plan seen w.journals (step w (event_of e)).0 e) last is
+    (λ next one rest. more_in_all _ _ _ _ _ _ (same_count plan seen next _ _ e (is_taken plan seen next _ _ e one).1).0
+    (ap length (journals_split e (take k es)) ∙ length-append (journals_of (e ∷ [])) (journals_of (take k es)))
+    (learned plan next last (step w (event_of e)).1 es rest k period sent learns))
 
 -- ---- which files are shown
 

@@ -53,15 +53,20 @@ world_none w i is = ap (λ x. (play w (map journal_of (batches_of (x ∷ [])))).
 
 -- ---- the whole
 
-pub said_of_given : (input : List ℕ) (from : ℕ) (sheet : Sheet) (issuer : Issuer) (w : World) → from ≤ length input
-    → rate_input_in input ≡ Ok (record { sheet = sheet; issuer = issuer; batch = drop from input }) → w ≡ world_before sheet issuer
-    → told_of_batches input w (batches_of (items_in (length input) input from)) ≡ said_of_input input
+pub said_of_read : (input : List ℕ) (given : RateInput) → rate_input_in input ≡ Ok given
+    → said_of_input input ≡ told_of_batches input (world_before given.sheet given.issuer) (batches_of (items_of input given))
 unfolding said_of_input
-said_of_given input from sheet issuer w within is before =
-    ap₂ (λ v is. told_of_batches input v (batches_of is)) before (items_behind input from sheet issuer within) ∙ sym (ap by_input is)
+said_of_read input given is = ap by_input is
   where
     by_input : Result RateInput ScheduleFault → List ℕ
     by_input r = elim r [ Ok given ↦ told_of_batches input (world_before given.sheet given.issuer) (batches_of (items_of input given)) | Err fault ↦ said_of_fault input fault ]
+
+pub said_of_given : (input : List ℕ) (from : ℕ) (sheet : Sheet) (issuer : Issuer) (w : World) → from ≤ length input
+    → rate_input_in input ≡ Ok (record { sheet = sheet; issuer = issuer; batch = drop from input }) → w ≡ world_before sheet issuer
+    → told_of_batches input w (batches_of (items_in (length input) input from)) ≡ said_of_input input
+said_of_given input from sheet issuer w within is before =
+    ap₂ (λ v is. told_of_batches input v (batches_of is)) before (items_behind input from sheet issuer within)
+    ∙ sym (said_of_read input (record { sheet = sheet; issuer = issuer; batch = drop from input }) is)
 
 pub warned_of_read : (input : List ℕ) (given : RateInput) → rate_input_in input ≡ Ok given
     → warned_of_input input ≡ unknown_on 1 input ++ ahead_of_all [] (journaled_of input (world_before given.sheet given.issuer) (batches_of (items_of input given)))

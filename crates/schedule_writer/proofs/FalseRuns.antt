@@ -49,6 +49,13 @@ before_its_turn = refl
 refused : behind plan first_journaled [] (Refused NoPacket) (PlansExport 0 0) ≡ None
 refused = refl
 
+-- a month is closed before the batch that stands above, or behind one that stands below
+learned_too_early : behind plan nothing_seen [] (Delivered None (Some 0)) (PlansDelivery 9 0) ≡ None
+learned_too_early = refl
+
+learned_too_late : behind plan (record first_journaled { journaled = 2 }) [] (Delivered None (Some 0)) (PlansDelivery 9 0) ≡ None
+learned_too_late = refl
+
 -- a month too many is learned, or a ballot begins for it
 learned_too_many : behind plan first_journaled [] (Delivered None (Some 2)) (PlansDelivery 9 0) ≡ None
 learned_too_many = refl

@@ -1,9 +1,12 @@
 pub mod KnownLaws
 pub mod ItemLaws
+pub mod LoneLines
 pub mod AnswerLaws
 pub mod JournalLaws
 pub mod JudgedLaws
 pub mod CheckLaws
+pub mod MemoryLaws
+pub mod SaidLaws
 pub mod CountedLaws
 pub mod WarningLaws
 pub mod PlanLaws

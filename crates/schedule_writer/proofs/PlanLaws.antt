@@ -1,5 +1,5 @@
 -- What is lent of a plan, and what one event more has done.
-use Rattle.std.proofs.Common.{◌≡◌, ◌<◌, ◌≤◌, ◌&&◌, ℕ, suc, Bool, true, false, cond, nat_eq, nat_lt, List, [], ◌∷◌, length, map, get_or, Some, None, Result, Ok, refl, sym, ap, ap₂, ◌∙◌, arith, lt-ltb}
+use Rattle.std.proofs.Common.{◌≡◌, ◌<◌, ◌≤◌, ◌&&◌, ℕ, suc, Bool, true, false, cond, nat_eq, nat_lt, List, [], ◌∷◌, length, map, get_or, Option, Some, None, Result, Ok, refl, sym, ap, ap₂, ◌∙◌, arith, lt-ltb}
 use Rattle.std.specs.Prelude.{◌↔◌, IsTrue, not, nat_le}
 use Rattle.std.specs.Option.{option_and_then, option_map_or}
 use Rattle.std.proofs.lemmas.Bool.{and_from, eq-eqb}
@@ -23,7 +23,7 @@ use Rattle.schedule_writer.specs.declared.inputs.Offered.{Offered as LentBatch}
 use Rattle.schedule_writer.specs.declared.plans.Plan.{Plan as LentPlan}
 use Rattle.schedule_writer.specs.declared.plans.Seen.{Seen}
 use Rattle.schedule_writer.specs.Inner.Certified.{IsCertified}
-use Rattle.schedule_writer.specs.Inner.Plans.{IsDone, Plan, all_seen, behind, behind_all, behind_taken, is_next, journals_behind, nothing_seen, offered_of, plan_of}
+use Rattle.schedule_writer.specs.Inner.Plans.{IsDone, Plan, all_seen, behind, behind_all, behind_taken, is_behind, is_next, journals_behind, nothing_seen, offered_of, plan_of}
 use Rattle.schedule_writer.proofs.JournalLaws.{journals_after}
 
 pub next_is : (p : LentPlan) (seen : Seen) (text : List ℕ) (d : LentBatch) → seen.journaled < length p.batches.now
@@ -56,11 +56,12 @@ cuts_tested b x y is = by_test b (is_same x y) refl is
 
 -- what was taken was not refused
 pub not_refused : (plan : Plan) (seen next : Seen) (h : Holding) (r : Reply) (e : Planned) → behind plan seen h r e ≡ Some next → is_refused r ≡ false
-not_refused plan seen next h r e is = by_test (is_refused r) (option_map_or (λ period. nat_le period plan.last) (learned_in r) true) is
+not_refused plan seen next h r e is =
+    by_test (is_refused r) (option_map_or (λ period. nat_le period plan.last) (learned_in r) true) (cond (is_behind plan seen r) (behind_taken plan seen h r e) None) is
   where
-    by_test : (t good : Bool) → cond (not t && good) (behind_taken plan seen h r e) None ≡ Some next → t ≡ false
-    by_test false good so = refl
-    by_test true good so = absurd (cc)
+    by_test : (t good : Bool) (o : Option Seen) → cond (not t && good) o None ≡ Some next → t ≡ false
+    by_test false good o so = refl
+    by_test true good o so = absurd (cc)
 
 -- the journals are those of the world behind it
 pub kept_journals : (plan : Plan) (seen next : Seen) (w v : World) (e : Planned) (event : Event) (before after : Holding)

@@ -19,7 +19,7 @@ use Rattle.schedule_writer.specs.Schedules.{ClosesEach, IsExported, IsScheduleOf
 use Rattle.schedule_writer.specs.Inner.Certified.{IsCertified}
 use Rattle.schedule_writer.specs.Inner.Judged.{IsAskedBy, IsFaultOf, IsReadInput, IsRefusedAmong, IsRefusedOr, IsUncertain}
 use Rattle.schedule_writer.specs.Inner.Plans.{Plan, all_seen, behind_all, due_for, nothing_seen, offered_of, plan_of}
-use Rattle.schedule_writer.proofs.Certificates.{IsGood, IsShown, all_exports, all_good, ballots, closed, due, exports, good_is, journals, needed}
+use Rattle.schedule_writer.proofs.Certificates.{IsGood, IsShown, all_exports, all_good, ballots, closed, due, exports, good_is, journals, learned, needed}
 
 -- ---- what is read from a byte on is what stands behind the sections
 
@@ -54,6 +54,10 @@ closes_each plan r is last nodes is_last base batches closes done =
       closed = λ place node period asks. shown_is_exported r plan.base place period base (closed plan nothing_seen (all_seen plan) w r.events done place node period asks);
       due = λ place node period asks.
           (let so = due plan nothing_seen (all_seen plan) w r.events done place node period asks in
+          let plain : length (journals_of (take place r.events)) ≡ due_for plan period = omega (arith, so) in
+          plain ∙ same_due period);
+      behind = λ place period sent learns.
+          (let so = learned plan nothing_seen (all_seen plan) w r.events done place period sent learns in
           let plain : length (journals_of (take place r.events)) ≡ due_for plan period = omega (arith, so) in
           plain ∙ same_due period);
     }

@@ -4,7 +4,7 @@ use Rattle.std.specs.List.{flat_map, list_all, position}
 use Rattle.metering_model.specs.Limits.{last_period}
 use Rattle.metering_model.specs.Batch.{is_empty}
 use Rattle.metering_model.specs.declared.BatchCode.{BatchCode}
-use Rattle.metering_model.specs.declared.BatchCode.TheVariants.{Head}
+use Rattle.metering_model.specs.declared.BatchCode.TheVariants.{Head, TooLong}
 use Rattle.metering_model.specs.BatchReading.{batch_in}
 use Rattle.metering_model.specs.Front.{is_due}
 use Rattle.metering_model.specs.Transcript.{line, line_count}
@@ -24,8 +24,10 @@ through_feed None text = text
 abbrev pub head_text : List ℕ → List ℕ
 head_text text = through_feed (position (λ c. c == 10) text) text
 
+-- what a first line alone is refused for where no batch may begin with it: it is no head, and may be longer than a batch
 abbrev pub is_head_code : BatchCode → Bool
 is_head_code Head = true
+is_head_code TooLong = true
 is_head_code _ = false
 
 -- no line comes first that a batch may begin with
@@ -33,7 +35,7 @@ abbrev pub lacks_head : List ℕ → Bool
 lacks_head text = elim (batch_in (head_text text)) [ Ok b ↦ false | Err fault ↦ is_head_code fault.code ]
 
 -- How many bytes are offered as the batch that comes next: the head line and the lines that it counts. A first line that is no
--- head is offered by itself, and where the lines are too few or too long all that is left.
+-- head is offered by itself, however long it is, and where the lines that a head counts are too few or too long all that is left.
 unfoldable pub offered_length : List ℕ → ℕ
 offered_length text =
     elim (extent_in text) [ Some n ↦ n | None ↦ (if lacks_head text then length (head_text text) else length text) ]

@@ -89,6 +89,9 @@ pub record ClosesEach (r : ReadSchedule) (is : List Item) (last : ℕ) : Type 0 
   -- before each file is asked for, just the batches above its period's close are journaled
   pub due : (place node period : ℕ) → slice_get r.events place ≡ Some (PlansExport node period)
       → length (journals_of (take place r.events)) ≡ due_before is period
+  -- whenever a node learns that a period is closed, just the batches above its close are journaled
+  pub behind : (place period : ℕ) (sent : Option ℕ) → slice_get (replies_to r r.events) place ≡ Some (Delivered sent (Some period))
+      → length (journals_of (take place r.events)) ≡ due_before is period
 
 -- The text is a schedule for an input, as it was asked for. The input is all that a reader gives, where its bytes are known.
 pub record IsScheduleOf (request : Request) (known : Option (List ℕ)) (input text : List ℕ) : Type 0 where

@@ -1,15 +1,12 @@
 //! `focusd check --kind schedule`: what is wrong with an input that is to have a schedule, and what is odd.
 
-ghost use Rattle.std.specs.Prelude.{◌≡◌, ◌≢◌, ◌++◌, ◌+◌, ◌≤◌, ℕ, List, Some, Ok, Err, IfOk, IfErr, OnOk, [], ◌∷◌, length, map, take};
-ghost use Rattle.std.specs.Io.KnownBytes.{Appends};
-ghost use Rattle.counted_io.specs.Writing.{AppendsPrefix};
+ghost use Rattle.std.specs.Prelude.{◌≡◌, ◌++◌, ◌≤◌, List, Some, IfOk, OnOk, [], ◌∷◌, length, map, take};
 ghost use Rattle.metering_model.specs.Batch.{Batch};
-ghost use Rattle.metering_model.specs.Limits.{most_input_bytes};
 ghost use Rattle.metering_model.specs.RatedAlone as model;
 ghost use Rattle.metering_model.specs.Step.{play, step};
 ghost use Rattle.metering_model.specs.Transcript.{line_count};
 ghost use Rattle.fault_lines.specs.Ahead.{AreLatest, ahead_of_all};
-ghost use Rattle.schedule_player.specs.Faults.{RefusesNothing, UsesStreams, tells_of_reader, tells_of_writer};
+ghost use Rattle.fault_lines.specs.Checked.{Checks};
 ghost use Rattle.schedule_writer.specs.Checks.{IsSaidOf, if_journaled, journaled_of, said_of_input, told_of_answer, told_of_batches, warned_of_input};
 ghost use Rattle.schedule_writer.specs.Refusals.{answer_to, journal_of};
 ghost use Rattle.schedule_writer.specs.Inputs.{batches_of, item_at, items_in};
@@ -227,28 +224,9 @@ pub fn check_schedule_input<R: Source, W: Sink>(
     reader: &mut R,
     writer: &mut W,
 ) -> Result<u64, PlayFault>
-    // With Ok just what is said of the input was written.
-    ensures said { IfOk result (λ count. (input said warned : List ℕ)
-        × IsSaidOf (R.remaining reader.old) input said warned
-        × Appends (W.contents writer.old) (W.contents writer.new) (said ++ warned)
-        × (count ≡ line_count said)) }
-
-    // Where nothing is refused, just the warnings were written.
-    ensures ahead { result ≡ Ok 0 → (input warned : List ℕ)
-        × IsSaidOf (R.remaining reader.old) input [] warned
-        × Appends (W.contents writer.old) (W.contents writer.new) warned }
-
-    // After `Write` a prefix of it was, and never all of it.
-    ensures prefix { result ≡ Err PlayFault.Write → (input said warned : List ℕ)
-        × IsSaidOf (R.remaining reader.old) input said warned
-        × AppendsPrefix (W.contents writer.old) (W.contents writer.new) (said ++ warned) }
-    ensures untouched { IfErr result (λ fault. fault ≢ PlayFault.Write → writer.new ≡ writer.old) }
-    ensures refuses { RefusesNothing result }
-
-    // Where nothing is wrong, nothing is left to read. `Read` and `Write` come of one failed call each, and no other call fails.
-    ensures streams { UsesStreams (most_input_bytes + 1) (result ≡ Ok 0)
-        (tells_of_reader result) (tells_of_writer result)
+    ensures { Checks IsSaidOf result writer.old writer.new
         (R.remaining reader.old) (R.remaining reader.new)
+        (W.contents writer.old) (W.contents writer.new)
         (R.failed_calls reader.old) (R.failed_calls reader.new)
         (W.failed_calls writer.old) (W.failed_calls writer.new) }
 {

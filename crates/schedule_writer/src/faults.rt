@@ -15,10 +15,11 @@ pub enum WriteFault {
     /// The journals refuse a batch: in the words of `check`, with the line of the input, and without a line feed.
     #[error("refused")]
     Refused(Vec<u8>),
-    /// The schedule would have more bytes, packets or periods than a schedule may have.
+    /// The schedule would have more bytes, packets or periods than a schedule may have. A clause says that the journals take
+    /// all batches then, and none that it was so.
     #[error("too long")]
     TooLong,
-    /// What was to be written does not close the months as it should.
+    /// What was to be written does not close the months as it should: of this the clauses say the same.
     #[error("not closed")]
     NotClosed,
     /// A call of the writer failed.

@@ -36,13 +36,13 @@ fn head_text(text: &[u8]) -> &[u8]
     }
 }
 
-/// Whether no line comes first that a batch may begin with.
+/// Whether no line comes first that a batch may begin with. One that is longer than a batch may be is no head either.
 fn lacks_head(text: &[u8]) -> bool
     ensures { result ≡ lacks_head text.now }
 {
     match BatchView::parse(head_text(text)) {
         Ok(_) => false,
-        Err(fault) => matches!(fault.code, BatchCode::Head),
+        Err(fault) => matches!(fault.code, BatchCode::Head | BatchCode::TooLong),
     }
 }
 

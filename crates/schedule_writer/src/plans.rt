@@ -7,7 +7,7 @@ ghost use Rattle.metering_model.specs.Schedule.{PlansExport};
 ghost use Rattle.metering_model.specs.Limits.{last_period, most_nodes};
 ghost use Rattle.group_events.specs.Replies.{reply_of};
 ghost use Rattle.schedule_reader.specs.Events.{HasWholeLines, planned_of};
-ghost use Rattle.schedule_writer.specs.Inner.Plans.{IsWithinGroup, all_seen, behind, behind_taken, due_for, is_file_of, is_good, is_next, is_turn, one_more_ballot, one_more_batch, one_more_file, plan_of};
+ghost use Rattle.schedule_writer.specs.Inner.Plans.{IsWithinGroup, all_seen, behind, behind_taken, due_for, is_behind, is_file_of, is_good, is_next, is_turn, one_more_ballot, one_more_batch, one_more_file, plan_of};
 
 use crate::faults::Stop;
 use crate::inputs::Offered;
@@ -127,6 +127,19 @@ impl<'a> Plan<'a> {
         }
     }
 
+    /// Whether just the batches above its `close` are journaled where a reply tells of a period that it was learned.
+    fn is_behind(&self, seen: Seen, reply: &Reply) -> bool
+        ensures { result ≡ is_behind (plan_of self.now) seen (reply_of reply.now) }
+    {
+        match reply {
+            Reply::Delivered {
+                learned: Some(period),
+                ..
+            } => seen.journaled == self.due_before(period.number()),
+            _ => true,
+        }
+    }
+
     /// What was done with one more batch.
     fn with_batch(&self, seen: Seen, text: &[u8]) -> Option<Seen>
         ensures { result ≡ (if is_next (plan_of self.now) seen text.now then Some
@@ -225,6 +238,9 @@ impl<'a> Plan<'a> {
             (planned_of event.now)) }
     {
         if !self.is_good(reply) {
+            return Ok(None);
+        }
+        if !self.is_behind(seen, reply) {
             return Ok(None);
         }
         match event {

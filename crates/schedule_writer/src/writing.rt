@@ -4,9 +4,9 @@ ghost use Rattle.std.specs.Prelude.{◌≡◌, ◌≢◌, ◌+◌, ◌≤◌, �
 ghost use Rattle.std.specs.Io.KnownBytes.{Appends, IsAtEnd};
 ghost use Rattle.counted_io.specs.Counts.{count_after};
 ghost use Rattle.counted_io.specs.Reading.{ConsumesAtMost};
+ghost use Rattle.counted_io.specs.Streams.{UsesStreams};
 ghost use Rattle.counted_io.specs.Writing.{AppendsPrefix};
 ghost use Rattle.metering_model.specs.Limits.{last_period, most_agents, most_input_bytes, most_nodes};
-ghost use Rattle.schedule_player.specs.Faults.{UsesStreams};
 ghost use Rattle.schedule_writer.specs.Faults.{TellsFaults, tells_of_reader, tells_of_writer};
 ghost use Rattle.schedule_writer.specs.Inputs.{above_last, least_last};
 ghost use Rattle.schedule_writer.specs.Requests.{IsRequest};
@@ -238,8 +238,8 @@ fn write_text<W: Sink>(text: &[u8], writer: &mut W) -> Result<(), WriteFault>
 ///
 /// At most 16,777,217 bytes are read. After `Write` a prefix of the schedule was written, and after any other fault nothing.
 /// `Refused` has the line of the whole input on which the first batch that is not journaled is refused, and why, in the words of
-/// `check`. `TooLong` says that the schedule would have more bytes, packets or periods than one may have, and `NotClosed` that what was
-/// to be written did not stand the test: no clause says that this never happens.
+/// `check`. `TooLong` is meant for a schedule that would have more bytes, packets or periods than one may have, and `NotClosed` for
+/// one that did not stand the test. A clause says that the journals take all batches then, and none says when either is told.
 pub fn schedule_text<R: Source, W: Sink>(
     alloc: Global,
     request: Request,

@@ -76,6 +76,10 @@ is_file_of base journals p other = false
 abbrev pub is_good : ℕ → Reply → Bool
 is_good last r = not (is_refused r) && option_map_or (λ period. nat_le period last) (learned_in r) true
 
+-- whether just the batches above its close are journaled where a period was learned
+abbrev pub is_behind : Plan → Seen → Reply → Bool
+is_behind plan seen r = option_map_or (λ period. seen.journaled == due_for plan period) (learned_in r) true
+
 abbrev pub one_more_batch : Seen → Seen
 one_more_batch seen = record seen { journaled = seen.journaled + 1 }
 
@@ -96,9 +100,9 @@ behind_taken plan seen h r (PlansRestart i) = None
 behind_taken plan seen h r (PlansKeep i) = None
 behind_taken plan seen h r (PlansRevival i ls) = None
 
--- nothing is planned that is refused, or by which a later period is learned
+-- nothing is planned that is refused, or by which a period is learned that is a later one, or with more or fewer batches than stand above
 abbrev pub behind : Plan → Seen → Holding → Reply → Planned → Option Seen
-behind plan seen h r e = if is_good plan.last r then behind_taken plan seen h r e else None
+behind plan seen h r e = if is_good plan.last r then (if is_behind plan seen r then behind_taken plan seen h r e else None) else None
 
 -- what was done behind these events, where each is what is planned
 unfoldable pub behind_all : Plan → Seen → World → List Planned → Option Seen
