@@ -238,17 +238,22 @@ pub goes_on_to : (w : World) (i : ℕ) (n : Node) (s : NodeStep) (h : LogHead) (
 goes_on_to w i n s h base increments may log same =
     let first = kept_at_first h base in
     let a = adds_one w i n (subst HasText same (log_has_text h base increments log).0) s may in
+    let go_on = subst (λ k. GoOn k a.increments) (sym same) a.go_on in
+    let kept = kept_behind first increments a.increments ∙ (ap (λ k. kept_after k a.increments) same ∙ a.kept) in
     record {
       more = a.increments;
       few = a.few;
+      idle = λ stays. a.idle (stays ∙ same);
+      go_on = go_on;
+      kept = kept;
       read = λ short.
           log_written h base (increments ++ a.increments) (record {
             head = log.head;
             first = log.first;
-            go_on = go_on_behind first increments a.increments log.go_on (subst (λ k. GoOn k a.increments) (sym same) a.go_on);
+            go_on = go_on_behind first increments a.increments log.go_on go_on;
             short = short;
           })
-          ∙ ap (λ k. Ok (record { head = h; kept = k })) (kept_behind first increments a.increments ∙ (ap (λ k. kept_after k a.increments) same ∙ a.kept));
+          ∙ ap (λ k. Ok (record { head = h; kept = k })) kept;
     }
 
 -- ---- in a run

@@ -13,10 +13,11 @@ use Rattle.metering_model.proofs.BatchLaws.{batch_lines}
 use Rattle.metering_model.proofs.Splitting.{cut_whole, lines_give_back, lines_of_text}
 use Rattle.packet_text.specs.PacketText.{lines_of_batch}
 use Rattle.packet_text.proofs.PacketLaws.{line_first}
-use Rattle.log_text.specs.LogText.{BadIncrement, BadKept, BeginsRound, ReadBase, HasIncrementText, HasLog, Increment, Learns, LogHead, SetsBallots, Takes, Torn, among_with, at_log_line, base_text, base_in, head_text, kept_of_lines, log_below, nothing_kept}
+use Rattle.log_text.specs.LogText.{BadHead, BadIncrement, BadKept, BeginsRound, ReadBase, HasIncrementText, HasLog, Increment, IsLogHead, Learns, LogHead, SetsBallots, Takes, Torn, among_with, at_log_line, base_text, base_in, head_text, kept_of_lines, log_below, nothing_kept}
 use Rattle.log_text.specs.LogText.{batch_of_lines, first_increment, goes_on, increment_text, increments_in, kept_after, kept_at_first, lines_of_increment, log_in, log_of_lines, log_text}
 use Rattle.log_text.proofs.HeadLaws.{head_lacks_feed, head_line, head_written}
 use Rattle.log_text.proofs.IncrementLaws.{Unkept, by_section, batch_size, increment_lacks_feed, increment_lines_are_text, lines_of, section, section_written}
+use Rattle.log_text.proofs.ReadLogs.{without_line}
 use Rattle.log_text.proofs.LogLaws.{MayBeFirst, base_is_short, base_lacks_feed, base_lines, base_lines_text, base_by_section, front_written, kept_count, kept_section_written, lines_above, lines_end, log_end, log_lacks_feed, log_lines, log_lines_text, short_read}
 
 -- ---- pieces of lines
@@ -168,3 +169,12 @@ torn_at_first h k is piece more has e some cut =
     ∙ ap (λ (x : Lines). log_of_lines x.lines x.rest) (ap lines_in (append_assoc l (10 ∷ []) piece) ∙ line_first l piece (head_lacks_feed h has.head))
     ∙ ap (λ r. at_log_line 1 r >>= λ h. log_below h (lines_in piece).lines (lines_in piece).rest) (head_written h has.head)
     ∙ base_end h (lines_in piece).lines (lines_in piece).rest torn
+
+-- ---- torn in the head line
+
+pub torn_in_head : (h : LogHead) (piece more : List ℕ) → IsLogHead h → head_text h ≡ piece ++ more → more ≢ [] → length piece ≤ 4_294_967_296 → log_in piece ≡ Err (record { code = BadHead; line = 1 })
+torn_in_head h piece more is e some short =
+    elim (first_broken (head_line h) [] piece more (head_lacks_feed h is) e) [
+      | inl none ↦ without_line piece short (ap (λ ps. (lines_of_parts ps).lines) (cut_whole 10 piece none))
+      | inr whole ↦ absurd (some (none_in_front whole.0 more whole.2))
+    ]

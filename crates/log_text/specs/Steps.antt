@@ -7,7 +7,7 @@ use Rattle.metering_model.specs.Deliveries.{handled}
 use Rattle.metering_model.specs.Step.{started_node}
 use Rattle.metering_model.specs.KeptText.{KeptAmong}
 use Rattle.packet_text.specs.PacketText.{IsSent}
-use Rattle.log_text.specs.LogText.{GoOn, Increment, LogHead, kept_after, log_in, log_text, most_log_bytes}
+use Rattle.log_text.specs.LogText.{GoOn, Increment, LogHead, kept_after, kept_at_first, log_in, log_text, most_log_bytes}
 
 -- what changes what a node keeps: it gets a packet, or begins a ballot of its own
 pub data NodeStep : Type 0 where
@@ -46,9 +46,12 @@ pub record AddsAtMostOne (before after : KeptAmong) : Type 0 where
   pub go_on : GoOn before increments
   pub kept : kept_after before increments ≡ after
 
--- A log goes on with the increments of a step, one or none; and if it is no longer than one may be, what is kept after the step is read
--- of it.
+-- A log goes on with the increments of a step: one, which has a text and goes on from what the log tells, or none where that stays.
+-- With them it tells what is kept after the step; and if it is no longer than a log may be, that is read of it.
 pub record GoesOnTo (h : LogHead) (base : Option KeptAmong) (increments : List Increment) (after : KeptAmong) : Type 0 where
   pub more : List Increment
   pub few : length more ≤ 1
+  pub idle : after ≡ kept_after (kept_at_first h base) increments → more ≡ []
+  pub go_on : GoOn (kept_after (kept_at_first h base) increments) more
+  pub kept : kept_after (kept_at_first h base) (increments ++ more) ≡ after
   pub read : length (log_text h base (increments ++ more)) ≤ most_log_bytes → log_in (log_text h base (increments ++ more)) ≡ Ok (record { head = h; kept = after })

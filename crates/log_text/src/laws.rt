@@ -3,7 +3,7 @@
 ghost use Rattle.std.specs.Prelude.{◌≡◌, ◌≢◌, ℕ, ◌+◌, ◌≤◌, List, [], ◌++◌, length, Option, Some, Ok, Err};
 ghost use Rattle.metering_model.specs.BatchReading.{lines_in};
 ghost use Rattle.metering_model.specs.KeptText.{KeptAmong, HasText};
-ghost use Rattle.log_text.specs.LogText.{LogHead, Increment, Torn, HasIncrementText, HasLog, ReadLog, base_text, head_text, increment_text, kept_after, kept_at_first, log_in, log_text, most_log_bytes};
+ghost use Rattle.log_text.specs.LogText.{BadHead, IsLogHead, LogHead, Increment, Torn, HasIncrementText, HasLog, ReadLog, base_text, head_text, increment_text, kept_after, kept_at_first, log_in, log_text, most_log_bytes};
 
 /// A log that has a text is read back from it: whose it is, and what is kept when all was added. A text that is read is
 /// just the text of such a log, and what is read of it is what that log keeps.
@@ -37,7 +37,8 @@ pub fn what_is_kept_may_stand_first()
 
 /// A log that breaks off within the text of one more increment is refused as torn, at the line on which that increment
 /// begins: the one behind the log's own lines. So is one that breaks off within what it begins with, at its second line.
-/// And where a text is torn, what stands above that line is a log; the rest is not empty.
+/// And where a text is torn, what stands above that line is a log; the rest is not empty. One that breaks off within its
+/// head line is refused as having no head.
 pub fn a_torn_log_is_refused()
     ensures torn { (h : LogHead) (base : Option KeptAmong) (increments : List Increment)
         (next : Increment) (piece more : List ℕ)
@@ -54,6 +55,10 @@ pub fn a_torn_log_is_refused()
         → HasLog h (Some k) increments
         → base_text (Some k) ≡ piece ++ more → piece ≢ [] → more ≢ [] →
         log_in (head_text h ++ piece) ≡ Err (record { code = Torn; line = 2 }) }
+    ensures begun { (h : LogHead) (piece more : List ℕ)
+        → IsLogHead h → head_text h ≡ piece ++ more → more ≢ []
+        → length piece ≤ most_log_bytes →
+        log_in piece ≡ Err (record { code = BadHead; line = 1 }) }
     ensures above { (text : List ℕ) (line : ℕ)
         → log_in text ≡ Err (record { code = Torn; line = line }) →
         (h : LogHead) × (base : Option KeptAmong) × (increments : List Increment)
