@@ -86,7 +86,7 @@ at_end : (xs : List Cut) (c : Cut) → slice_get (xs ++ c ∷ []) (length xs) �
 at_end [] c = refl
 at_end (x ∷ xs) c = at_end xs c
 
-last_learned : (xs : List Cut) (c : Cut) → option_map (Learns (length (xs ++ c ∷ []) - 1)) (slice_get (xs ++ c ∷ []) (length (xs ++ c ∷ []) - 1)) ≡ Some (Learns (length xs) c)
+pub last_learned : (xs : List Cut) (c : Cut) → option_map (Learns (length (xs ++ c ∷ []) - 1)) (slice_get (xs ++ c ∷ []) (length (xs ++ c ∷ []) - 1)) ≡ Some (Learns (length xs) c)
 last_learned xs c =
     let place : length (xs ++ c ∷ []) - 1 ≡ length xs = omega (arith, length-append xs (c ∷ [])) in
     ap (λ k. option_map (Learns k) (slice_get (xs ++ c ∷ []) k)) place ∙ ap (option_map (Learns (length xs))) (at_end xs c)

@@ -144,6 +144,9 @@ impl NodeProcess {
         ensures adds { IfOk result (λ taken.
             AddsJust (kept_of_node self.old) (kept_of_node self.new)
             (increment_after taken.added (kept_of_node self.new))) }
+        ensures told { IfOk result (λ taken.
+            increment_after taken.added (kept_of_node self.new) ≡ None
+            → taken.added ≡ Added.Nothing) }
         ensures unchanged { OnErr result (self.new ≡ self.old) }
     {
         // For the proof alone: their clauses say what group, node, packet and vote keep by their types.
@@ -175,6 +178,8 @@ impl NodeProcess {
         ensures adds { IfOk result (λ taken. IfSome taken (λ t.
             AddsJust (kept_of_node self.old) (kept_of_node self.new)
             (increment_after t.added (kept_of_node self.new)))) }
+        ensures told { IfOk result (λ taken. IfSome taken (λ t.
+            increment_after t.added (kept_of_node self.new) ≡ None → t.added ≡ Added.Nothing)) }
         ensures unchanged { OnErr result (self.new ≡ self.old) }
     {
         if !self.group.has_sent(name, packet) {

@@ -1,4 +1,4 @@
-use Rattle.std.proofs.Common.{◌≡◌, true, ap, subst, sym, ◌∙◌, arith}
+use Rattle.std.proofs.Common.{◌≡◌, None, true, ap, subst, sym, ◌∙◌, arith}
 use Rattle.metering_model.specs.Deliveries.{Handled, handled}
 use Rattle.metering_model.specs.Holding.{IsHolding}
 use Rattle.metering_model.specs.Sheet.{Sheet}
@@ -8,10 +8,12 @@ use Rattle.node_kept.specs.Kept.{IsKept}
 use Rattle.journal_rules.specs.Stores.{Stored}
 use Rattle.process_laws.specs.LocalSteps.{bare_world, is_packet_of}
 use Rattle.group_node.specs.Packets.{packet_of, IsPacketAmong}
+use Rattle.group_process.specs.declared.added.Added.TheVariants.{Nothing}
 use Rattle.group_process.specs.Added.{AddsJust, increment_after}
 use Rattle.group_process.specs.Inner.Likely.{HasLowVote, IsLikely, added_for}
 use Rattle.group_process.specs.Selves.{IsGroup, NodeSelf, kept_of_node}
 use Rattle.group_process.proofs.AddedLaws.{adds_what_is_told}
+use Rattle.group_process.proofs.ToldLaws.{nothing_is_told_without_lines}
 use Rattle.group_process.proofs.PacketLaws.{packet_among}
 use Rattle.group_process.proofs.nodes.NodeProcess.take_own.Goals as goal
 
@@ -55,3 +57,18 @@ returns-clause-adds c =
     let after = kept_now w c.handle.new.self.node in
     let named = subst (λ y. AddsJust (kept_now w n) after (increment_after y after)) (sym c.added_for-added.ensures) told in
     subst (λ (s : NodeSelf). AddsJust (kept_of_node s) after (increment_after c.added_for-added.result after)) c.self.view_is named
+
+pub returns-clause-told : goal.returns-clause-told
+returns-clause-told c =
+    let g = c.self.inside.group in
+    let n = c.self.inside.node.node in
+    let w : World = bare_world g in
+    let p = packet_of c.args.packet.now in
+    let x = c.added_by-likely.result in
+    let likely = subst (λ (s : NodeSelf). IsLikely s.node p x) (sym c.self.view_is) c.added_by-likely.ensures in
+    let holding = subst IsHolding (ap (λ (s : Stored). s.batches) c.store-store.ensures) c.agents-agents.ensures.stored.is_holding in
+    let base = c.base_month-base.ensures.value ∙ ap (λ (s : Sheet). s.base) (c.deref.ensures ∙ c.sheet.ensures) in
+    let there = c.in_ok-handled.ensures.does.handles w (sym base) (sym c.self.invariant.1) (sym c.self.invariant.0) in
+    let told = subst (λ (h : Handled). increment_after (added_for x h.sends h.learns) (kept_now w h.node) ≡ None → added_for x h.sends h.learns ≡ Nothing) there (nothing_is_told_without_lines w c.self.inside.number n holding p x likely) in
+    let after = kept_now w c.handle.new.self.node in
+    subst (λ y. increment_after y after ≡ None → y ≡ Nothing) (sym c.added_for-added.ensures) told
