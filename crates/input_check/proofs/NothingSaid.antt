@@ -21,7 +21,7 @@ use Rattle.answer_words.specs.Words.{section_code_text}
 use Rattle.fault_lines.specs.Told.{bad_index, line_within, more_words, reason, said_of_fault, words_of}
 use Rattle.input_check.specs.Checks.{SaysWhatIsPlayed, event_lines, said_of_batch, said_of_journaled, said_of_rating, said_of_replies, said_of_reply, said_of_schedule}
 use Rattle.input_check.specs.Inner.SaidLines.{some_told, some_refused}
-use Rattle.input_check.proofs.NeverWants.{NeverWants, a_rating}
+use Rattle.input_sections.proofs.NeverWants.{NeverWants, a_rating}
 use Rattle.input_check.proofs.RefusedLaws.{played}
 
 no_line : (t : List ℕ) → 1 ≤ line_count t → t ≡ [] → ⊥

@@ -19,7 +19,8 @@ use Rattle.metering_model.specs.RatedAlone.{journaled_in, rows_alone}
 use Rattle.batch_player.specs.RateInput.{or_refused, or_schedule, rated_file}
 use Rattle.input_check.specs.Checks.{SaysWhatIsPlayed, SaysWhatIsRated, event_lines, lines_of_events, said_below, said_behind, said_of_batch, said_of_events, said_of_journaled, said_of_rating, said_of_refusal, said_of_replies, said_of_reply, said_of_schedule}
 use Rattle.fault_lines.specs.Told.{bad_index, said_of_fault, told_of_text}
-use Rattle.input_check.proofs.NeverWants.{NeverWants, a_preamble, a_rating, some_events}
+use Rattle.input_sections.proofs.NeverWants.{NeverWants, a_rating}
+use Rattle.input_check.proofs.NeverWants.{a_preamble, some_events}
 
 -- ---- what is to be rated
 

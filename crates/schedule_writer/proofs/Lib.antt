@@ -5,7 +5,6 @@ pub mod AnswerLaws
 pub mod JournalLaws
 pub mod JudgedLaws
 pub mod CheckLaws
-pub mod MemoryLaws
 pub mod SaidLaws
 pub mod CountedLaws
 pub mod WarningLaws

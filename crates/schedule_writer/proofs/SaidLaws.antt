@@ -17,7 +17,7 @@ use Rattle.schedule_writer.specs.Refusals.{IsJournaled, IsRefusedAt, IsTaken, an
 use Rattle.schedule_writer.specs.Inner.SaidLines.{is_line, said_of_refused}
 use Rattle.schedule_writer.proofs.AnswerLaws.{is_answer}
 use Rattle.schedule_writer.proofs.CheckLaws.{said_of_read, told_behind}
-use Rattle.schedule_writer.proofs.MemoryLaws.{NeverWants, never_wants}
+use Rattle.input_sections.proofs.NeverWants.{NeverWants, a_rating}
 
 -- ---- batches that are journaled in turn
 
@@ -83,4 +83,4 @@ taken_of_none input none = by_input (rate_input_in input) refl
         }
     by_input (Err (section.Refused code n)) is =
         absurd (no_line (with_number (codes "line ") n ++ codes ": " ++ (section_code_text code ++ reason input code n)) (sym (said_of_refused input (section.Refused code n) is) ∙ none))
-    by_input (Err section.OutOfMemory) is = absurd (subst NeverWants is (never_wants input))
+    by_input (Err section.OutOfMemory) is = absurd (subst NeverWants is (a_rating input))
