@@ -1,12 +1,10 @@
 -- What the processes of a group do, a world does; and more acts are more events.
 use Rattle.std.proofs.Common.{ℕ, ◌+◌, List, [], ◌++◌, length, refl, sym, subst, arith}
-use Rattle.metering_model.specs.Holding.{Holding}
-use Rattle.metering_model.specs.World.{Packet, Event}
 use Rattle.group_laws.proofs.EveryRun.{holds_after}
 use Rattle.process_laws.specs.LocalSteps.{Group}
-use Rattle.process_laws.specs.Histories.{Processes, Act, begun, answers, after, IsHistory, AreMatched, opened, IsLeftBy, IsDoneByWorld}
-use Rattle.process_laws.proofs.Stands.{world_of, Stands}
-use Rattle.process_laws.proofs.MatchedActs.{all_are_matched, matched_on}
+use Rattle.process_laws.specs.Histories.{Act, begun, after, GoesOnInWorld, IsHistory, IsLeftBy, IsDoneByWorld}
+use Rattle.process_laws.proofs.Stands.{Stands}
+use Rattle.process_laws.proofs.MatchedActs.{all_are_matched, left_by, matched_on}
 
 begun_stands : (g : Group) (room : ℕ) → Stands g room (begun g) [] []
 begun_stands g room = record {
@@ -15,10 +13,6 @@ begun_stands g room = record {
   sent = λ p. (λ has. has, λ has. has);
   fewer = omega arith;
 }
-
-left_by : (g : Group) (room : ℕ) (s : Processes) (journals : Holding) (packets : List Packet) → Stands g room s journals packets
-    → IsLeftBy s (world_of g room journals packets s.nodes)
-left_by g room s journals packets h = record { nodes = refl; journals = h.journals_of; sent = h.sent }
 
 -- there is room for all that is sent, and for one packet more
 pub is_done_by_world : (g : Group) (acts : List Act) → IsHistory g (begun g) acts → IsDoneByWorld g acts
@@ -34,10 +28,8 @@ is_done_by_world g acts history =
       headline = holds_after room g.voters g.observers g.agents g.sheet g.issuer all.events;
     }
 
-pub more_acts_are_more_events : (g : Group) (acts more : List Act) → IsHistory g (begun g) (acts ++ more) → (room : ℕ) × (events later : List Event)
-    × AreMatched g (opened g room) acts (answers g (begun g) acts) events
-    × AreMatched g (opened g room) (acts ++ more) (answers g (begun g) (acts ++ more)) (events ++ later)
+pub more_acts_are_more_events : (g : Group) (acts more : List Act) → IsHistory g (begun g) (acts ++ more) → GoesOnInWorld g acts more
 more_acts_are_more_events g acts more history =
     let room : ℕ = length (after g (begun g) (acts ++ more)).sent + 1 in
     let m = matched_on g room acts more (begun g) [] [] (begun_stands g room) history (omega arith) in
-    (room, m.0, m.1, m.2, m.3)
+    record { room = room; events = m.0; later = m.1; before = m.2; all = m.3; left_before = m.4; left = m.5 }

@@ -6,9 +6,10 @@ use Rattle.metering_model.specs.Holding.{Holding}
 use Rattle.metering_model.specs.World.{World, Node, Packet, Event, Reply, Refused}
 use Rattle.metering_model.specs.declared.Refusal.TheVariants.{NoNode, WorldFull}
 use Rattle.metering_model.specs.Step.{Outcome, step, play}
+use Rattle.metering_model.proofs.PlayLaws.{play-append}
 use Rattle.group_laws.proofs.Steps.{length-push}
 use Rattle.process_laws.specs.LocalSteps.{Group, OfModel, Answer, refusing, NodeDone, node_does, node_goes_on}
-use Rattle.process_laws.specs.Histories.{Processes, Act, Acted, NodeDoes, NodeGoesOn, AgentDoes, AgentGoesOn, sent_with, with_node_done, by_node, acted, answers, after, MayAct, IsHistory, Tells, IsNoEvent, AreMatched}
+use Rattle.process_laws.specs.Histories.{Processes, Act, Acted, NodeDoes, NodeGoesOn, AgentDoes, AgentGoesOn, sent_with, with_node_done, by_node, acted, answers, after, MayAct, IsHistory, IsLeftBy, Tells, IsNoEvent, AreMatched}
 use Rattle.process_laws.proofs.Stands.{world_of, Stands, Comes}
 use Rattle.process_laws.proofs.NodeActs.{node_comes, going_on_comes}
 use Rattle.process_laws.proofs.AgentActs.{agent_comes, agent_goes_on_comes}
@@ -139,22 +140,34 @@ matched_more g w (a ∷ acts) (x ∷ xs) (e ∷ es) more ys fs (inl first) rest 
     inl (first.0, first.1, matched_more g (step w e).1 acts xs es more ys fs first.2 rest)
 matched_more g w (a ∷ acts) (x ∷ xs) (e ∷ es) more ys fs (inr first) rest = inr (first.0, matched_more g w acts xs (e ∷ es) more ys fs first.1 rest)
 
+pub left_by : (g : Group) (room : ℕ) (s : Processes) (journals : Holding) (packets : List Packet) → Stands g room s journals packets
+    → IsLeftBy s (world_of g room journals packets s.nodes)
+left_by g room s journals packets h = record { nodes = refl; journals = h.journals_of; sent = h.sent }
+
 -- the acts come to events, and all with more come to those and later ones
 pub matched_on : (g : Group) (room : ℕ) (acts more : List Act) (s : Processes) (journals : Holding) (packets : List Packet) → Stands g room s journals packets
     → IsHistory g s (acts ++ more) → length (after g s (acts ++ more)).sent < room
     → (events later : List Event) × AreMatched g (world_of g room journals packets s.nodes) acts (answers g s acts) events
     × AreMatched g (world_of g room journals packets s.nodes) (acts ++ more) (answers g s (acts ++ more)) (events ++ later)
+    × IsLeftBy (after g s acts) (play (world_of g room journals packets s.nodes) events).1
+    × IsLeftBy (after g s (acts ++ more)) (play (world_of g room journals packets s.nodes) (events ++ later)).1
 matched_on g room acts more s journals packets h history few =
     let w : World = world_of g room journals packets s.nodes in
     let parts = history_parts g acts more s history in
     let whole : length (after g (after g s acts) more).sent < room = subst (λ (t : Processes). length t.sent < room) (after_more g acts more s) few in
     let grows = acts_grow g more (after g s acts) in
     let first = all_are_matched g room acts s journals packets h parts.0 (omega (arith, grows, whole)) in
-    let rest = all_are_matched g room more (after g s acts) first.journals first.packets first.stands parts.1 whole in (
+    let rest = all_are_matched g room more (after g s acts) first.journals first.packets first.stands parts.1 whole in
+    let end : Processes = after g (after g s acts) more in
+    let leads : (play w (first.events ++ rest.events)).1 ≡ world_of g room rest.journals rest.packets end.nodes =
+        play-append w first.events rest.events ∙ (ap (λ v. (play v rest.events).1) first.leads ∙ rest.leads) in (
       first.events,
       rest.events,
       first.matched,
       subst (λ xs. AreMatched g w (acts ++ more) xs (first.events ++ rest.events)) (sym (answers_more g acts more s))
           (matched_more g w acts (answers g s acts) first.events more (answers g (after g s acts) more) rest.events first.matched
           (subst (λ v. AreMatched g v more (answers g (after g s acts) more) rest.events) (sym first.leads) rest.matched)),
+      subst (IsLeftBy (after g s acts)) (sym first.leads) (left_by g room (after g s acts) first.journals first.packets first.stands),
+      subst (λ t. IsLeftBy t (play w (first.events ++ rest.events)).1) (sym (after_more g acts more s))
+          (subst (IsLeftBy end) (sym leads) (left_by g room end rest.journals rest.packets rest.stands)),
     )

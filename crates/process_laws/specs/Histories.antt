@@ -207,3 +207,14 @@ pub record IsDoneByWorld (g : Group) (acts : List Act) : Type 0 where
   pub not_full : All (λ r. r ≢ Refused WorldFull) (play (opened g room) events).0
   pub left : IsLeftBy (after g (begun g) acts) (play (opened g room) events).1
   pub headline : HoldsAfter g.voters g.observers g.agents g.sheet g.issuer events (play (opened g room) events).0 (play (opened g room) events).1
+
+-- In one world the acts come to events, and with more acts behind them to more events behind those; each time the world has the
+-- processes' nodes, journals and packets.
+pub record GoesOnInWorld (g : Group) (acts more : List Act) : Type 0 where
+  pub room : ℕ
+  pub events : List Event
+  pub later : List Event
+  pub before : AreMatched g (opened g room) acts (answers g (begun g) acts) events
+  pub all : AreMatched g (opened g room) (acts ++ more) (answers g (begun g) (acts ++ more)) (events ++ later)
+  pub left_before : IsLeftBy (after g (begun g) acts) (play (opened g room) events).1
+  pub left : IsLeftBy (after g (begun g) (acts ++ more)) (play (opened g room) (events ++ later)).1

@@ -4,22 +4,20 @@ ghost use Rattle.std.specs.Prelude.{◌≡◌, ◌+◌, ◌<◌, ◌≤◌, ◌+
 ghost use Rattle.std.specs.List.{Contains};
 ghost use Rattle.metering_model.specs.Cut.{last_of};
 ghost use Rattle.metering_model.specs.Holding.{up_to};
-ghost use Rattle.metering_model.specs.World.{Event, Snapshot};
+ghost use Rattle.metering_model.specs.World.{Snapshot};
 ghost use Rattle.group_laws.specs.OneAgent.{batches_of};
 ghost use Rattle.process_laws.specs.LocalSteps.{Group, HasExported, saying};
-ghost use Rattle.process_laws.specs.Histories.{Act, AreMatched, IsDoneByWorld, IsHistory, after, answers, begun, opened};
+ghost use Rattle.process_laws.specs.Histories.{Act, GoesOnInWorld, IsDoneByWorld, IsHistory, after, answers, begun};
 
 /// Whatever the processes of a group do, each by itself, handed of the group's packets just what one of them sent, in any
 /// order, once, often or never, and stopped whenever, if each goes on with the newest that it stored: a world does the
-/// same, and the headline holds of it. More acts are more events behind those before.
+/// same, and the headline holds of it. In a world with room for more acts, these are more events behind those before, and
+/// each time the world has what the processes have.
 pub fn processes_do_what_a_world_does()
     ensures done { (g : Group) (acts : List Act) → IsHistory g (begun g) acts →
         IsDoneByWorld g acts }
     ensures goes_on { (g : Group) (acts more : List Act) → IsHistory g (begun g) (acts ++ more) →
-        (room : ℕ) × (events later : List Event)
-        × AreMatched g (opened g room) acts (answers g (begun g) acts) events
-        × AreMatched g (opened g room) (acts ++ more) (answers g (begun g) (acts ++ more))
-        (events ++ later) }
+        GoesOnInWorld g acts more }
 {}
 
 /// So whatever the processes of a group export, whichever of them and whenever: any two files of one period are made of the

@@ -1,4 +1,5 @@
 pub mod TwoRuns
+mod KeptRules
 pub mod FoundReadings
 pub mod TwoRows
 pub mod PairedRows
