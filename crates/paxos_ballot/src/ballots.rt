@@ -37,7 +37,8 @@ impl Ballot {
         }
     }
 
-    /// The ballot of that number, as `number` returns it; `None` for 0, which stands for no ballot.
+    /// The ballot of that number, as `number` returns it; `None` for 0, which stands for no ballot: none of a round from 1 on
+    /// has it.
     pub fn numbered(number: u32) -> Option<Ballot>
         ensures { result ≡ ballot_numbered number }
     {
