@@ -1,2 +1,3 @@
 pub mod Headline
 pub mod Playing
+pub mod Words

@@ -1,6 +1,6 @@
 //! A group, whose type keeps that some run leads to it.
 
-ghost use Rattle.std.specs.Prelude.{◌≡◌, ◌≢◌, ℕ, ◌+◌, ◌≤◌, Some, slice_get, IfOk, OnErr, [], ◌∷◌};
+ghost use Rattle.std.specs.Prelude.{◌≡◌, ◌≢◌, ℕ, ◌+◌, ◌≤◌, Some, slice_get, IfOk, IsTrue, OnErr, [], ◌∷◌, ◌↔◌};
 ghost use Rattle.std.specs.Option.{option_map};
 ghost use Rattle.std.specs.Arc.{arc_value};
 ghost use Rattle.metering_model.specs.Limits.{most_agents, most_nodes, most_packets};
@@ -13,6 +13,7 @@ ghost use Rattle.group_laws.specs.Revivals.{refusal_of_other};
 ghost use Rattle.group_state.specs.Words.{event_of, reply_of};
 ghost use Rattle.group_state.specs.Reached.{IsReached};
 ghost use Rattle.group_state.specs.BadRecords.{bad_record};
+ghost use Rattle.group_state.specs.Charged.{ChargesAll};
 ghost use Rattle.group_core.specs.Headline.{AreExportsOf, ChargesOnce, HasOneList, IsExportOf, IsLater, IsUnchangedAt, LearnsWhatIsChosen};
 
 use group_state::{Event, GroupState, Reply, Snapshot};
@@ -139,5 +140,13 @@ impl World {
         ensures export { IfOk result (λ answer. IfOk answer (λ taken. IsExportOf self.now taken)) }
     {
         self.state.snapshot(alloc, node, period)
+    }
+
+    /// Whether the file of a period, as a node has learned it, charges all that is journaled: of each agent each batch above
+    /// the cut before, up to the first that is not due in the month. An error is an allocation failure.
+    pub fn charges_all(&self, alloc: Global, node: u8, period: u16) -> Result<bool, AllocError>
+        ensures { IfOk result (λ all. IsTrue all ↔ ChargesAll self.now node period) }
+    {
+        self.state.charges_all(alloc, node, period)
     }
 }

@@ -1,11 +1,12 @@
 //! A node exports a period.
 
-ghost use Rattle.std.specs.Prelude.{◌≡◌, IfOk};
+ghost use Rattle.std.specs.Prelude.{◌≡◌, ◌↔◌, IfOk, IsTrue};
 ghost use Rattle.std.specs.Arc.{arc_value};
 ghost use Rattle.metering_model.specs.Holding.{up_to};
 ghost use Rattle.metering_model.specs.World.{Export};
 ghost use Rattle.metering_model.specs.Step.{cut_before, snapshot, step};
 ghost use Rattle.group_events.specs.Replies.{reply_of};
+ghost use Rattle.group_state.specs.Charged.{ChargesAll, IsAllDue};
 ghost use Rattle.group_state.specs.Reached.{IsReached};
 ghost use Rattle.group_state.specs.Inner.Allowed.{MayTake};
 
@@ -73,6 +74,33 @@ impl GroupState {
         match self.snapshot(alloc, node, period)? {
             Ok(snapshot) => Ok(Reply::Exported(snapshot)),
             Err(refusal) => Ok(Reply::Refused(refusal)),
+        }
+    }
+
+    /// Whether a snapshot has of each agent all batches that are journaled above the cut before it, up to the first that is
+    /// not due in its month. An error is an allocation failure.
+    fn is_all_due(&self, alloc: Global, taken: &Snapshot) -> Result<bool, AllocError>
+        ensures { IfOk result (λ all. IsTrue all ↔ IsAllDue self.now taken.now) }
+    {
+        let from = taken.from();
+        if from.agents() != self.agents() {
+            return Ok(false);
+        }
+        let base = self.sheet.base_month();
+        let due = self.journals.due_front(alloc, from, taken.period(), base)?;
+        Ok(due.same(taken.to()))
+    }
+
+    /// Whether the file of the period, as the node has learned it, charges all that is journaled: of each agent each batch
+    /// above the cut before, up to the first that is not due in the month. An error is an allocation failure.
+    pub fn charges_all(&self, alloc: Global, node: u8, period: u16) -> Result<bool, AllocError>
+        requires reached { IsReached self.now }
+        ensures { IfOk result (λ all. IsTrue all ↔ ChargesAll self.now node period) }
+    {
+        let answer = self.snapshot(alloc, node, period)?;
+        match answer {
+            Ok(taken) => self.is_all_due(alloc, &taken),
+            Err(_) => Ok(false),
         }
     }
 }

@@ -1,6 +1,6 @@
 //! A group, and the history that led it where it is.
 
-ghost use Rattle.std.specs.Prelude.{◌≡◌, ◌+◌, ◌≤◌, ◌++◌, ◌∷◌, [], length, map, IfOk, OnErr};
+ghost use Rattle.std.specs.Prelude.{◌≡◌, ◌↔◌, ◌+◌, ◌≤◌, ◌++◌, ◌∷◌, [], length, map, IfOk, IsTrue, OnErr};
 ghost use Rattle.std.specs.Arc.{arc_value};
 ghost use Rattle.metering_model.specs.Limits.{most_agents, most_nodes};
 ghost use Rattle.metering_model.specs.World.{opening};
@@ -9,6 +9,7 @@ ghost use Rattle.metering_model.specs.History.{IsLegal};
 ghost use Rattle.group_laws.specs.Headline.{HoldsAfter};
 ghost use Rattle.group_events.specs.Events.{event_of};
 ghost use Rattle.group_core.specs.Headline.{IsUnchangedAt};
+ghost use Rattle.group_core.specs.Words.{ChargesAll};
 ghost use Rattle.node_book.specs.Books.{opened};
 ghost use Rattle.node_book.specs.Kept.{entry_of, told_of};
 
@@ -116,6 +117,14 @@ impl Book {
         // For the proof alone: with the field comes what the type keeps of it.
         let _ = &self.history;
         laws::runs();
+    }
+
+    /// Whether the file of a period, as a node has learned it, charges all that is journaled: of each agent each batch above
+    /// the cut before, up to the first that is not due in the month. An error is an allocation failure.
+    pub fn charges_all(&self, alloc: Global, node: u8, period: u16) -> Result<bool, AllocError>
+        ensures { IfOk result (λ all. IsTrue all ↔ ChargesAll self.now.world node period) }
+    {
+        self.world.charges_all(alloc, node, period)
     }
 
     /// Does one event, and appends it to the history; the receipt has its index there and its reply. A refused event,

@@ -1,25 +1,42 @@
 //! A run from its plan to its logs.
 
-ghost use Rattle.std.specs.Prelude.{◌≡◌, ◌+◌, ◌≤◌, map, vec_len, IfOk};
+ghost use Rattle.std.specs.Prelude.{◌≡◌, ◌+◌, ◌-◌, ◌≤◌, map, vec_len, IfOk, IsTrue};
 ghost use Rattle.metering_model.specs.Limits.{most_agents, most_periods, most_nodes};
 ghost use Rattle.metering_model.specs.History.{IsLegal};
 ghost use Rattle.group_laws.specs.Headline.{HoldsAfter};
 ghost use Rattle.node_book.specs.Books.{opened};
-ghost use Rattle.node_book.specs.Logs.{plan_of};
+ghost use Rattle.node_book.specs.Logs.{log_of, plan_of};
 ghost use Rattle.node_book.specs.Agreement.{Agree, FilesAgree};
+ghost use Rattle.node_book.specs.Words.{ChargesAll};
 
 use crate::desks::open;
 use crate::threads::{Work, run_threads};
 use crate::{Gate, Run, RunFault};
-use node_book::Plan;
-use std::alloc::Global;
+use node_book::{Book, Log, Plan};
+use std::alloc::{AllocError, Global};
 use std::sync::Wait;
 use std::thread::Threads;
 
+/// Whether logs agree with the book and the plan, and the file of the last period charges all that was journaled.
+fn is_right(alloc: Global, book: &Book, plan: &Plan, logs: &[Log]) -> Result<bool, AllocError>
+    requires periods { 1 ≤ plan.now.periods }
+    ensures agree { IfOk result
+        (λ is. IsTrue is → Agree book.now (plan_of plan.now) (map log_of logs.now)) }
+    ensures files { IfOk result (λ is. IsTrue is → FilesAgree (map log_of logs.now)) }
+    ensures whole { IfOk result
+        (λ is. IsTrue is → ChargesAll book.now.world 0 (plan.now.periods - 1)) }
+{
+    if !book.agrees(plan, logs) {
+        return Ok(false);
+    }
+    book.charges_all(alloc, 0, plan.periods - 1)
+}
+
 /// Runs a group of 1 or more voters, at most 99 nodes, 1 to 64 agents and 1 to 1,200 periods: a thread for each node
 /// and each agent, around one book. With Ok all logs agree with the book's history: each agent offered its texts to the
-/// journals, and each node exported each period once. An error stands for a failed allocation, a thread that could not
-/// be started, or receipts that do not agree; no clause says when it comes.
+/// journals, each node exported each period once, and the file of the last one charges, from the cut before, all that was
+/// journaled, of each agent up to its first batch that is not due in that month. An error stands for a failed allocation, a
+/// thread that could not be started, or receipts or a last file that are not so; no clause says when it comes.
 pub fn run_group<R: Threads + Wait + Sync, G: Gate + Sync>(
     rt: &R,
     alloc: Global,
@@ -35,6 +52,7 @@ pub fn run_group<R: Threads + Wait + Sync, G: Gate + Sync>(
     ensures plan { IfOk result (λ run. run.plan ≡ plan_of plan) }
     ensures agree { IfOk result (λ run. Agree run.book (plan_of plan) run.logs) }
     ensures files { IfOk result (λ run. FilesAgree run.logs) }
+    ensures whole { IfOk result (λ run. ChargesAll run.book.world 0 (run.plan.periods - 1)) }
     ensures history { IfOk result
         (λ run. IsLegal (opened run.book) run.book.history run.book.world) }
     ensures headline { IfOk result
@@ -57,7 +75,10 @@ pub fn run_group<R: Threads + Wait + Sync, G: Gate + Sync>(
     };
     let book = desk.into_book();
     book.legal();
-    if !book.agrees(&plan, logs.as_slice()) {
+    let Ok(is_right) = is_right(alloc, &book, &plan, logs.as_slice()) else {
+        return Err(RunFault::OutOfMemory);
+    };
+    if !is_right {
         return Err(RunFault::Mismatch);
     }
     Ok(Run { plan, book, logs })
