@@ -7,7 +7,7 @@ use Rattle.metering_model.specs.Batch.{lacks}
 use Rattle.metering_model.specs.Transcript.{line}
 use Rattle.metering_model.proofs.Splitting.{list_all_both}
 use Rattle.line_source.specs.Lines.{IsLineAt}
-use Rattle.line_source.specs.Reading.{IsLastBlock, ReadsUpTo, ReadsWhile, Takes, TakesLine, TakesPart, TakesWhile}
+use Rattle.line_source.specs.Reading.{IsLastBlock, IsLastByte, ReadsUpTo, ReadsWhile, Takes, TakesLine, TakesPart, TakesWhile}
 
 -- ---- bytes that came, and those that were taken
 
@@ -92,6 +92,19 @@ pub while_for : {a b : List ℕ} {is_short is_shorter : List ℕ → Type 0} →
 while_for weaker it longer =
     let more = it longer in
     record { before = more.before; last = more.last; joined = more.joined; block = more.block; short = weaker more.before more.short }
+
+-- the byte beyond the most, where both hold
+pub byte_on : {a b c : List ℕ} {r s : ℕ} {l m : Option (List ℕ)} {is_short is_shorter : List ℕ → Type 0}
+    → Takes a b r s l m [] → ((before : List ℕ) → is_short (b ++ before) → is_shorter (b ++ before)) → IsLastByte is_short b c → IsLastByte is_shorter a c
+byte_on {a} {b} {c} {r} {s} {l} {m} {is_short} {is_shorter} it weaker more =
+    let held : b ++ more.before ≡ a ++ (it.came ++ more.before) = ap (λ t. t ++ more.before) (sym it.joined) ∙ append_assoc a it.came more.before in
+    record {
+      before = it.came ++ more.before;
+      last = more.last;
+      joined = more.joined ∙ ap (λ t. t ++ more.last) held;
+      one = more.one;
+      short = subst is_shorter held (weaker more.before more.short);
+    }
 
 -- ---- a line by its parts
 

@@ -50,6 +50,14 @@ pub record IsLastBlock (is_short : List ℕ → Type 0) (ahead ahead' : List ℕ
 abbrev pub ReadsWhile : (is_short : List ℕ → Type 0) (ahead ahead' : List ℕ) → Type 0
 ReadsWhile is_short ahead ahead' = length ahead < length ahead' → IsLastBlock is_short ahead ahead'
 
+-- The byte beyond the most that may be read: what was ahead before it did not suffice.
+pub record IsLastByte (is_short : List ℕ → Type 0) (ahead ahead' : List ℕ) : Type 0 where
+  pub before : List ℕ
+  pub last : List ℕ
+  pub joined : ahead' ≡ (ahead ++ before) ++ last
+  pub one : length last ≡ 1
+  pub short : is_short (ahead ++ before)
+
 -- Some of what was ahead and came was taken. More was read only while all of it together did not suffice.
 pub record TakesWhile (is_short : List ℕ → Type 0) (ahead rest : List ℕ) (read read' : ℕ) (left left' : Option (List ℕ)) : Type 0 where
   pub taken : List ℕ

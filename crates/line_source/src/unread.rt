@@ -1,6 +1,6 @@
 //! Bytes that were read and not yet taken.
 
-ghost use Rattle.std.specs.Prelude.{◌≡◌, ◌+◌, ◌<◌, ◌≤◌, [], length, take, drop, vec_len, true, false, Ok, IfErr, unwrap_or};
+ghost use Rattle.std.specs.Prelude.{◌≡◌, ◌+◌, ◌<◌, ◌≤◌, [], length, take, drop, vec_len, true, false, Ok, Err, IfErr, unwrap_or};
 ghost use Rattle.std.specs.Io.KnownBytes.{IsAtEnd};
 ghost use Rattle.std.specs.Result.{result_ok};
 ghost use Rattle.metering_model.specs.Limits.{most_transcript_bytes};
@@ -153,7 +153,8 @@ impl Unread {
         self.bytes.shrink_to(BLOCK);
     }
 
-    /// Reads a block more, and returns whether a byte came: none does at the end.
+    /// Reads a block more, and returns whether a byte came: none does at the end. The last block ends where the limit is, so
+    /// what is whole just below it is not refused for what follows it.
     pub fn fill<S: Source>(&mut self, source: &mut S) -> Result<bool, SourceFault>
         requires { self.old.read ≤ most_transcript_bytes }
         ensures takes { Takes self.old.bytes self.new.bytes self.old.read self.new.read
@@ -161,10 +162,11 @@ impl Unread {
         ensures more { result ≡ Ok true → length self.old.bytes < length self.new.bytes }
         ensures end { result ≡ Ok false → (self.new ≡ self.old) × IsAtEnd (S.remaining source.new) }
         ensures block { length self.new.bytes ≤ length self.old.bytes + 65_536 }
+        ensures limit { result ≡ Err SourceFault.TooLong → self.old.read ≡ most_transcript_bytes }
         ensures reads { ReadsWithin result self.new.read (S.failed_calls source.old)
             (S.failed_calls source.new) }
     {
-        let most = (BLOCK as u64).min(MOST_BYTES + 1 - self.read) as usize;
+        let most = (BLOCK as u64).min((MOST_BYTES - self.read).max(1)) as usize;
         drop_front(&mut self.bytes, self.from);
         self.from = 0;
         let length = self.bytes.len();

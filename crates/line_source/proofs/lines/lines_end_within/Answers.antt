@@ -6,7 +6,7 @@ use Rattle.line_source.specs.Inner.Wants.{IsLineShort}
 use Rattle.line_source.specs.Lines.{AreBetween, AreShort, IsLineAt}
 use Rattle.line_source.specs.Reading.{ReadsWhile}
 use Rattle.line_source.proofs.LineTexts.{between_before, between_on, fewer_between, one_more_between}
-use Rattle.line_source.proofs.Taking.{reads_on, up_to_on, while_for, while_on}
+use Rattle.line_source.proofs.Taking.{byte_on, reads_on, up_to_on, while_for, while_on}
 use Rattle.line_source.proofs.lines.lines_end_within.Given as given
 use Rattle.line_source.proofs.lines.lines_end_within.Goals.{After-line_length, In-Some, In_default}
 use Rattle.line_source.proofs.lines.lines_end_within.Goals as goal
@@ -33,6 +33,10 @@ last g c =
 
 pub returns-in_err-length-clause-last : goal.returns-in_err-length-clause-last
 returns-in_err-length-clause-last g c = last g (goal.at.returns-in_err-length-clause-last g c).After-line_length
+
+pub returns-in_err-length-clause-limit : goal.returns-in_err-length-clause-limit
+returns-in_err-length-clause-limit g c = λ is.
+    byte_on c.loop-passed.invariant.takes (fewer g (goal.at.returns-in_err-length-clause-limit g c).After-line_length) (c.line_length.ensures.limit (search rules))
 
 pub returns-then-ahead-most-clause-last : goal.returns-then-ahead-most-clause-last
 returns-then-ahead-most-clause-last g c = last g (goal.at.returns-then-ahead-most-clause-last g c).After-line_length
