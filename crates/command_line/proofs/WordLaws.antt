@@ -116,6 +116,12 @@ request_asks words e (Ok (Schedule request)) has is = absurd is
 request_asks words e (Ok (Process kind)) has is = absurd is
 request_asks words e (Err fault) has is = tt
 
+-- a text is shown where the words ask for help
+pub help_asked : {A : Type 0} (words : List Text) (e : Error) (r : Result A LineFault) → HasKind (fault_of grammar_of_focusd words) e → IfOk r (λ text. kind_of e ≡ DisplayHelp)
+    → IfOk r (λ text. AsksForHelp words)
+help_asked words e (Ok text) has is = alone DisplayHelp (record { known = λ same. absurd (cc); named = λ same. absurd (cc) }) (λ same. absurd (cc)) words e has is
+help_asked words e (Err fault) has is = tt
+
 -- words that are taken ask for no help
 pub no_help_asked : (words : List Text) → fault_of grammar_of_focusd words ≡ [] → AsksForHelp words → ⊥
 no_help_asked words taken asked = absurd (cc)

@@ -521,6 +521,7 @@ fn shown(alloc: Global, error: &clap::Error) -> Result<String, LineFault>
 // The text of a request for help
 fn text_of(alloc: Global, error: &clap::Error) -> Result<String, LineFault>
     ensures text { IfOk result (λ text. string_bytes text ≢ []) }
+    ensures asked { IfOk result (λ _. kind_of error.now ≡ ErrorKind.DisplayHelp) }
     ensures line { result ≡ Err LineFault.Line → (kind_of error.now ≢ ErrorKind.OutOfMemory)
         × (kind_of error.now ≢ ErrorKind.DisplayHelp) }
 {
@@ -533,9 +534,10 @@ fn text_of(alloc: Global, error: &clap::Error) -> Result<String, LineFault>
 
 /// The help that the words behind the program's name ask for, which is `clap`'s text and not empty.
 ///
-/// `Line` says that they ask for none, and `OutOfMemory` nothing of them.
+/// With Ok they ask for it; `Line` says that they ask for none, and `OutOfMemory` nothing of them.
 pub fn help(alloc: Global, words: &[String]) -> Result<String, LineFault>
     ensures text { IfOk result (λ text. string_bytes text ≢ []) }
+    ensures asked { IfOk result (λ _. AsksForHelp (map string_bytes words.now)) }
     ensures not_asked { result ≡ Err LineFault.Line → ¬ AsksForHelp (map string_bytes words.now) }
 {
     match grammar(alloc)?.try_get_matches_from(words) {
