@@ -92,10 +92,11 @@ fn a_refused_growth_of_a_text_that_is_read_and_written(rt: HostRuntime) -> Resul
     Ok(())
 }
 
-/// Whether the offer that is made of a text is good.
+/// Whether a copy of the offer that is made of a text is good, and the same.
 fn is_offered(alloc: Global, text: &[u8]) -> Result<bool, AllocError> {
     let offer = KeptOffer::read(alloc, text.to_vec(alloc)?)?;
-    Ok(matches!(offer, KeptOffer::Good(_)))
+    let copy = offer.copy()?;
+    Ok(matches!(copy, KeptOffer::Good(_)) && copy.same(&offer))
 }
 
 #[test]

@@ -259,11 +259,16 @@ fn a_node_keeps_1_200_cuts_of_64_agents(rt: HostRuntime) -> Result<(), Fail> {
     Ok(())
 }
 
-/// The event, which is made again where the first try finds no memory.
+/// A copy of the event.
+fn copy_of(alloc: Global, act: Act<'_>) -> Result<Event, AllocError> {
+    event_of(alloc, act)?.copy()
+}
+
+/// A copy of the event. Both are made again where the first try finds no memory.
 fn made_again(alloc: Global, act: Act<'_>) -> Result<Event, AllocError> {
-    match event_of(alloc, act) {
+    match copy_of(alloc, act) {
         Ok(event) => Ok(event),
-        Err(_) => event_of(alloc, act),
+        Err(_) => copy_of(alloc, act),
     }
 }
 

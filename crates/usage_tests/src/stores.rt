@@ -220,6 +220,38 @@ fn answers_again(store: &Store, alloc: Global) -> bool {
     }
 }
 
+/// The offer of these bytes, or of those that the first call gives back where it finds no memory.
+fn read_or_back_again(alloc: Global, bytes: Vec<u8>) -> Option<Offer> {
+    match Offer::read_or_back(alloc, bytes) {
+        Ok(offer) => Some(offer),
+        Err(refused) => match Offer::read_or_back(alloc, refused.value) {
+            Ok(offer) => Some(offer),
+            Err(_) => None,
+        },
+    }
+}
+
+/// Whether the offer is of a batch of these bytes.
+fn is_batch_of(offer: Option<Offer>, bytes: &[u8]) -> bool {
+    match offer {
+        Some(Offer::Good(batch)) => batch.bytes() == bytes,
+        _ => false,
+    }
+}
+
+/// The bytes of an offer come back where memory is refused, and are then read.
+#[test]
+fn a_refused_growth_gives_the_bytes_of_an_offer_back(rt: HostRuntime) -> Result<(), Fail> {
+    let alloc = rt.alloc();
+    let bytes = match READ.to_vec(alloc) {
+        Ok(bytes) => bytes,
+        Err(_) => READ.to_vec(alloc)?,
+    };
+    let is_read = is_batch_of(read_or_back_again(alloc, bytes), READ);
+    assert!(rt; is_read);
+    Ok(())
+}
+
 /// Each call that may find no memory is made again where it does: with each growth refused in turn the answers of the
 /// second call show that the first has changed nothing.
 #[test]
