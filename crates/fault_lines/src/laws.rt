@@ -19,8 +19,8 @@ pub fn each_fault_is_of_its_field()
         × (field_of text fault ≡ Some f) × IsFaultOf line fault.code f }
 {}
 
-/// What is told as a key that no reader takes has no effect: tables in which the same stands under the keys that are taken
-/// are read alike, or refused alike, whatever stands under others.
+/// What is told as a key that no reader takes has no effect on its table: tables in which the same stands under the keys that are
+/// taken are read alike, or refused alike, whatever stands under others. Of texts nothing is said.
 pub fn keys_that_no_reader_takes_change_nothing()
     ensures sheet { (ms ns : Members) → AreAlikeIn sheet_keys ms ns → sheet_in ms ≡ sheet_in ns }
     ensures price { (ms ns : Members) → AreAlikeIn price_keys ms ns

@@ -1,4 +1,4 @@
-//! The rule on prices: usage and purchases have a price in force, and a commitment that fits.
+//! The rule on prices: usage and purchases have a price in force and, where they name a commitment, one that fits.
 
 ghost use Rattle.std.specs.Prelude.{◌≡◌};
 ghost use Rattle.metering_model.specs.JournalRules.{is_fit_commitment, is_fit_reading};

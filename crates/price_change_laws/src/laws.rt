@@ -20,7 +20,7 @@ ghost use Rattle.price_change_laws.specs.SheetedHistories.{SheetedAct, group_und
 
 /// Where the last sheet has the base month of each sheet before it, and prices all that they do, its processes do under
 /// all of them what they do under the last one alone, but for the sheet of an export: without the acts that were refused
-/// for want of a price, which changed nothing.
+/// for want of a price or of a commitment, which changed nothing.
 pub fn prices_may_change()
     ensures history { (g : Group) (acts : List SheetedAct) → IsSheetedHistory g (begun g) acts →
         AreTakenOver g.sheet acts →

@@ -160,7 +160,7 @@ matched_on g room acts more s journals packets h history few =
     let rest = all_are_matched g room more (after g s acts) first.journals first.packets first.stands parts.1 whole in
     let end : Processes = after g (after g s acts) more in
     let leads : (play w (first.events ++ rest.events)).1 ≡ world_of g room rest.journals rest.packets end.nodes =
-        play-append w first.events rest.events ∙ (ap (λ v. (play v rest.events).1) first.leads ∙ rest.leads) in (
+    play-append w first.events rest.events ∙ (ap (λ v. (play v rest.events).1) first.leads ∙ rest.leads) in (
       first.events,
       rest.events,
       first.matched,

@@ -85,8 +85,8 @@ pub record RunsToEnd (k : ProcessKind) (known known' old new : Option (List ℕ)
   pub end : IsAtEnd known'
   pub torn : (a : Asked) (more : List ℕ) → IsAsked last a → piece ≢ bytes_of a ++ more
 
--- Of what is said first a prefix went out. Behind the text that began the process less than a block was read: so what is said
--- first does not wait for more.
+-- Of what is said first a prefix went out. Behind the text that began the process less than 65,536 bytes were read: so what is said
+-- first does not wait for a block more.
 pub record TornFirst (k : ProcessKind) (known known' old new : Option (List ℕ)) : Type 0 where
   pub begun : List ℕ
   pub piece : List ℕ
@@ -96,8 +96,8 @@ pub record TornFirst (k : ProcessKind) (known known' old new : Option (List ℕ)
   pub begins : Begins k begun first
   pub written : AppendsPrefix old new (begun_text first)
 
--- Behind whole answers a prefix of the next one went out. Behind the command that it answers less than a block was read: so no
--- answer waits for more than the command.
+-- Behind whole answers a prefix of the next one went out. Behind the command that it answers less than 65,536 bytes were read: so no
+-- answer waits for a block behind its command.
 pub record TornLater (k : ProcessKind) (known known' old new : Option (List ℕ)) : Type 0 where
   pub last : Process
   pub asked : Asked

@@ -47,8 +47,8 @@ impl Process {
         }
     }
 
-    /// Makes the text what the process says before it is asked: from where it goes on. An error is an allocation failure,
-    /// and leaves some of that.
+    /// Makes the text what the process says before it is asked: from where it goes on. An error is an allocation failure:
+    /// then nothing of the text may leave.
     pub fn put_begun(&self, text: &mut Vec<u8>) -> Result<(), AllocError>
         ensures { OnOk result (text.new.items ≡ begun_text self.now) }
     {

@@ -70,8 +70,8 @@ pub enum Record<'a> {
     Amend { seq: u32, index: u16, value: Value },
 }
 
-/// The record that the line at this span is in a batch of that format, where it is a reading, plain but for its region.
-/// Each reading is returned whose line has only plain bytes (0x20 to 0x7B) and bars; of other lines None says nothing.
+/// The record that the line at this span is in a batch of that format, or None. Each reading is returned whose line has only
+/// plain bytes (0x20 to 0x7B) and bars; of other lines None says nothing.
 #[inline(always)]
 pub fn read_plain<'a>(
     version: Version,

@@ -128,7 +128,8 @@ impl<'a> Events<'a> {
         self.packed[index].lent(self.text)
     }
 
-    /// Where in the text the lines begin that the event of this index journals. Of another event it says nothing.
+    /// A place in the text from which on the lines stand that the event of this index journals. Of another event it says
+    /// nothing.
     pub fn journal_from(&self, index: usize) -> usize
         requires { index < length self.now.planned }
         ensures { (event : Planned) → slice_get self.now.planned index ≡ Some (planned_of event)

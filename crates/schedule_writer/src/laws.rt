@@ -27,8 +27,9 @@ pub fn items_are_the_input_cut_in_order()
         → offered_length text ≡ length (head_text text) }
 {}
 
-/// What `check` says of an input is what `schedule` refuses: the fault of its sections alone; or first the line for which one of its
-/// batches is refused; and nothing exactly where its sections are read and each of its batches is journaled behind those above it.
+/// What `check` says of an input begins with what `schedule` refuses: the fault of its sections alone; or first the line for which one
+/// of its batches is refused, whatever stands behind it; and nothing exactly where its sections are read and each of its batches is
+/// journaled behind those above it.
 pub fn what_is_said_is_what_is_refused()
     ensures section { (input : List ℕ) (fault : ScheduleFault) → rate_input_in input ≡ Err fault
         → said_of_input input ≡ said_of_fault input fault }

@@ -154,7 +154,7 @@ impl Issuer {
         self.account_name.as_str()
     }
 
-    /// The currency of all prices and amounts: three letters A to Z.
+    /// The currency of all prices and amounts: three letters A to Z in an issuer that was read, and in the sample's.
     pub fn currency(&self) -> &str
         ensures { result.now ≡ self.now.currency }
     {

@@ -10,7 +10,8 @@ pub fn later_months_begin_later()
     ensures { (a b : ℕ) → a < b → month_start a <ℤ month_start b }
 {}
 
-/// The dates of the years 0001 to 9999 have the day numbers from the first to the last.
+/// The dates of the years 0001 to 9999 have day numbers from the first to the last, and these two are those of the first date
+/// and of the last.
 pub fn dates_have_day_numbers()
     ensures first { days_from_civil (pos 1) 1 1 ≡ first_day }
     ensures last { days_from_civil (pos 9999) 12 31 ≡ last_day }
