@@ -5,3 +5,4 @@ pub mod Exports
 pub mod Parts
 pub mod Files
 pub mod WorkedAgreement
+mod WholeLaws

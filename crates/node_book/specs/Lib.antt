@@ -2,4 +2,4 @@ pub mod Books
 pub mod Agreement
 pub mod Kept
 pub mod Logs
-pub mod Words
+pub mod Whole

@@ -1,6 +1,6 @@
 //! Whether the logs of the workers agree with the book, and with what their plan asks.
 
-ghost use Rattle.std.specs.Prelude.{◌≡◌, ◌↔◌, ℕ, ◌+◌, length, map, Some, slice_get, true, IsTrue};
+ghost use Rattle.std.specs.Prelude.{◌≡◌, ◌↔◌, ℕ, ◌+◌, length, map, Some, slice_get, true, IsTrue, IfOk};
 ghost use Rattle.metering_model.specs.World.{Journal, offer_of, opening};
 ghost use Rattle.metering_model.specs.History.{Entry as ModelEntry};
 ghost use Rattle.group_events.specs.Events.{event_of, offer_of as journaled_offer};
@@ -8,13 +8,15 @@ ghost use Rattle.group_events.specs.Replies.{reply_of};
 ghost use Rattle.node_book.specs.Books.{Log as ModelLog, node_total, opened};
 ghost use Rattle.node_book.specs.Kept.{entry_of};
 ghost use Rattle.node_book.specs.Logs.{log_of, plan_of};
+ghost use Rattle.node_book.specs.Whole.{IsNeverFull, LeavesNothingOut, has_room};
 ghost use Rattle.node_book.specs.Agreement.{Agree, FilesAgree, IsLogAt, events_by, is_event_of_node, is_same_worker, may_do, told_to, worker_at};
 
 use crate::logs::exports_each;
 use crate::{Book, Done, Entry, Log, Plan};
 use batch_view::{BatchView, Offer};
-use group_events::Event;
-use metering_model::Worker;
+use group_events::{Event, Reply};
+use metering_model::{Refusal, Worker};
+use std::alloc::{AllocError, Global};
 
 /// Whether both are the same worker.
 fn is_same_worker(one: Worker, two: Worker) -> bool
@@ -148,6 +150,28 @@ fn are_allowed(plan: &Plan, history: &[Entry]) -> bool
     true
 }
 
+/// Whether a reply is no refusal for a full world.
+fn has_room(reply: &Reply) -> bool
+    ensures { result ≡ has_room (reply_of reply.now) }
+{
+    match reply {
+        Reply::Refused(Refusal::WorldFull) => false,
+        _ => true,
+    }
+}
+
+/// Whether nothing was refused for a full world.
+fn is_never_full(history: &[Entry]) -> bool
+    ensures { IsTrue result ↔ IsNeverFull (map entry_of history.now) }
+{
+    for entry in history {
+        if !has_room(&entry.reply) {
+            return false;
+        }
+    }
+    true
+}
+
 /// Whether a log is that of the worker whose place it has, and has just what this worker did and had to do.
 fn is_log_at(history: &[Entry], plan: &Plan, place: usize, log: &Log) -> bool
     ensures { IsTrue result ↔ IsLogAt (plan_of plan.now) (map entry_of history.now) place
@@ -223,5 +247,17 @@ impl Book {
             return false;
         }
         are_allowed(plan, history)
+    }
+
+    /// Whether nothing was refused for a full world, and the file of a period, as node 0 exports it, has all that is journaled
+    /// above the cut before, of each agent up to its first batch that is not due in the month. An error is an allocation
+    /// failure.
+    pub fn leaves_nothing_out(&self, alloc: Global, period: u16) -> Result<bool, AllocError>
+        ensures { IfOk result (λ is. IsTrue is ↔ LeavesNothingOut self.now period) }
+    {
+        if !is_never_full(self.history()) {
+            return Ok(false);
+        }
+        self.charges_all(alloc, 0, period)
     }
 }

@@ -2,4 +2,4 @@
 pub use Rattle.node_book.specs.Books.{Log, Told, file_in, opened}
 pub use Rattle.node_book.specs.Logs.{log_of, plan_of}
 pub use Rattle.node_book.specs.Agreement.{Agree, FilesAgree, is_export_of}
-pub use Rattle.node_book.specs.Words.{ChargesAll}
+pub use Rattle.node_book.specs.Whole.{LeavesNothingOut}

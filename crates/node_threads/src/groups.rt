@@ -7,7 +7,7 @@ ghost use Rattle.group_laws.specs.Headline.{HoldsAfter};
 ghost use Rattle.node_book.specs.Books.{opened};
 ghost use Rattle.node_book.specs.Logs.{log_of, plan_of};
 ghost use Rattle.node_book.specs.Agreement.{Agree, FilesAgree};
-ghost use Rattle.node_book.specs.Words.{ChargesAll};
+ghost use Rattle.node_book.specs.Whole.{LeavesNothingOut};
 
 use crate::desks::open;
 use crate::threads::{Work, run_threads};
@@ -17,26 +17,26 @@ use std::alloc::{AllocError, Global};
 use std::sync::Wait;
 use std::thread::Threads;
 
-/// Whether logs agree with the book and the plan, and the file of the last period charges all that was journaled.
+/// Whether logs agree with the book and the plan, and the last period leaves nothing out.
 fn is_right(alloc: Global, book: &Book, plan: &Plan, logs: &[Log]) -> Result<bool, AllocError>
     requires periods { 1 ≤ plan.now.periods }
     ensures agree { IfOk result
         (λ is. IsTrue is → Agree book.now (plan_of plan.now) (map log_of logs.now)) }
     ensures files { IfOk result (λ is. IsTrue is → FilesAgree (map log_of logs.now)) }
     ensures whole { IfOk result
-        (λ is. IsTrue is → ChargesAll book.now.world 0 (plan.now.periods - 1)) }
+        (λ is. IsTrue is → LeavesNothingOut book.now (plan.now.periods - 1)) }
 {
     if !book.agrees(plan, logs) {
         return Ok(false);
     }
-    book.charges_all(alloc, 0, plan.periods - 1)
+    book.leaves_nothing_out(alloc, plan.periods - 1)
 }
 
 /// Runs a group of 1 or more voters, at most 99 nodes, 1 to 64 agents and 1 to 1,200 periods: a thread for each node
 /// and each agent, around one book. With Ok all logs agree with the book's history: each agent offered its texts to the
-/// journals, each node exported each period once, and the file of the last one charges, from the cut before, all that was
-/// journaled, of each agent up to its first batch that is not due in that month. An error stands for a failed allocation, a
-/// thread that could not be started, or receipts or a last file that are not so; no clause says when it comes.
+/// journals, none of which was refused for a full world, and each node exported each period once; the file of the last one
+/// has, from the cut before, all that was journaled, of each agent up to its first batch that is not due. An error stands for
+/// a failed allocation, a thread that could not be started, or a run that is not so; no clause says when it comes.
 pub fn run_group<R: Threads + Wait + Sync, G: Gate + Sync>(
     rt: &R,
     alloc: Global,
@@ -52,7 +52,7 @@ pub fn run_group<R: Threads + Wait + Sync, G: Gate + Sync>(
     ensures plan { IfOk result (λ run. run.plan ≡ plan_of plan) }
     ensures agree { IfOk result (λ run. Agree run.book (plan_of plan) run.logs) }
     ensures files { IfOk result (λ run. FilesAgree run.logs) }
-    ensures whole { IfOk result (λ run. ChargesAll run.book.world 0 (run.plan.periods - 1)) }
+    ensures whole { IfOk result (λ run. LeavesNothingOut run.book (run.plan.periods - 1)) }
     ensures history { IfOk result
         (λ run. IsLegal (opened run.book) run.book.history run.book.world) }
     ensures headline { IfOk result

@@ -1,2 +1,0 @@
--- Passed on to the crates above, which so need not name the crate below.
-pub use Rattle.group_core.specs.Words.{ChargesAll}
