@@ -108,8 +108,8 @@ pub fn a_revival_is_a_restart()
 {}
 
 /// An agent journals by itself: in any two worlds with the same sheet, as many agents, the same batches of that agent,
-/// journals in order and room for a packet more, a batch of it gets the same reply but for its packet's number, adds the same to that
-/// agent's batches, and is sent alike. All else stays, and so does all where the bytes are no batch.
+/// journals in order and room for a packet more, a batch of it gets the same reply but for its packet's number, adds the
+/// same to that agent's batches, and is sent alike. All else stays, and so does all where the bytes are no batch.
 pub fn an_agent_journals_by_itself()
     ensures journaled { (w v : World) (offer : Offer) (b : Batch) → batch_of offer ≡ Ok b →
         AgreeAtAgent b.agent w v →
