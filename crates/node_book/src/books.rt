@@ -121,7 +121,12 @@ impl Book {
 
     /// Whether the file of a period, as a node has learned it, charges all that is journaled: of each agent each batch above
     /// the cut before, up to the first that is not due in the month. An error is an allocation failure.
-    pub(crate) fn charges_all(&self, alloc: Global, node: u8, period: u16) -> Result<bool, AllocError>
+    pub(crate) fn charges_all(
+        &self,
+        alloc: Global,
+        node: u8,
+        period: u16,
+    ) -> Result<bool, AllocError>
         ensures { IfOk result (λ all. IsTrue all ↔ ChargesAll self.now.world node period) }
     {
         self.world.charges_all(alloc, node, period)
