@@ -1,21 +1,18 @@
 -- The lines of all parts are the lines of all batches, and rooms are written one behind the other.
-use Rattle.std.proofs.Common.{inl, inr, min, ◌≡◌, ℕ, suc, ◌+◌, ◌-◌, ◌*◌, ◌<◌, ◌≤◌, true, List, [], ◌∷◌, ◌++◌, length, take, drop, get_or, sym, ap, ap₂, ◌∙◌, append_assoc, arith}
-use Rattle.std.specs.Prelude.{IsTrue, Result, Ok, Err, OnErr}
+use Rattle.std.proofs.Common.{inl, inr, min, ◌≡◌, ℕ, suc, ◌+◌, ◌-◌, ◌*◌, ◌<◌, ◌≤◌, true, List, [], ◌∷◌, ◌++◌, cond, length, take, drop, get_or, sym, ap, ap₂, ◌∙◌, append_assoc, arith}
+use Rattle.std.specs.Prelude.{◌==◌, IsTrue, Result, Ok, Err, OnErr, OnOk, IfOk}
 use Rattle.std.specs.List.{flat_map, list_all}
 use Rattle.std.proofs.lemmas.Bool.{and_parts, cases_lt}
 use Rattle.std.proofs.lemmas.List.{append-nil, drop-drop, drop_all, length-drop, take-append-drop, take_all, take_more}
+use Rattle.std.proofs.lemmas.List.Sums.{sum_by-append}
 use Rattle.std.proofs.lemmas.Grind.{flat_map-append}
 use Rattle.std.proofs.Math.Seq.{take-add}
 use Rattle.metering_model.specs.File.{file, header_line, row_text}
 use Rattle.metering_model.specs.Row.{Row}
+use Rattle.metering_model.specs.Transcript.{line_count}
 use Rattle.focus_csv.specs.Rows.{batch_lines, joined}
 use Rattle.export_file.specs.declared.split.Room.{Room}
 use Rattle.export_file.specs.Inner.Parts.{part_of, texts_in}
-
--- what holds whatever the answer is
-pub on_err : {T E P : Type 0} (r : Result T E) → P → OnErr r P
-on_err (Ok x) p = tt
-on_err (Err e) p = p
 
 -- ---- the lines of parts
 
@@ -112,3 +109,43 @@ pub all_changed : (old new : List Room) (n : ℕ) → n ≡ length old → lengt
 all_changed old new n is same =
     let none : drop (length new) old ≡ [] = drop_all (length new) old (omega (arith, same)) in
     ap (λ t. take n (new ++ t)) none ∙ ap (take n) (append-nil new) ∙ take_all n new (omega (arith, is, same))
+
+-- ---- parts that are held
+
+pub part_behind : (head folded part before : List ℕ) (batches : List (List Row)) (from to : ℕ) → from ≤ to → folded ++ before ≡ head ++ batch_lines (take from batches)
+    → part ≡ before ++ batch_lines (take (to - from) (drop from batches)) → folded ++ part ≡ head ++ batch_lines (take to batches)
+part_behind head folded part before batches from to order is put =
+    let more = batch_lines (take (to - from) (drop from batches)) in
+    ap (λ t. folded ++ t) put
+    ∙ sym (append_assoc folded before more)
+    ∙ ap (λ t. t ++ more) is
+    ∙ append_assoc head (batch_lines (take from batches)) more
+    ∙ ap (λ t. head ++ t) (sym (lines_join (take from batches) (take (to - from) (drop from batches)))
+    ∙ ap batch_lines (sym (take-add from (to - from) batches) ∙ ap (λ n. take n batches) (omega arith)))
+
+pub lines_of_both : (s t : List ℕ) → line_count (s ++ t) ≡ line_count s + line_count t
+lines_of_both s t = sum_by-append (λ x. cond (x == 10) 1 0) s t
+
+pub on_err_then : {T E A B : Type 0} (r : Result T E) → (A → B) → OnErr r A → OnErr r B
+on_err_then (Ok x) f a = tt
+on_err_then (Err e) f a = f a
+
+pub on_ok_then : {T E A B : Type 0} (r : Result T E) → (A → B) → OnOk r A → OnOk r B
+on_ok_then (Ok x) f a = f a
+on_ok_then (Err e) f a = tt
+
+-- behind the last batch
+pub last_part : (folded part : List ℕ) (batches : List (List Row)) (from : ℕ) → length batches ≤ from → folded ++ part ≡ (header_line ++ 10 ∷ []) ++ batch_lines (take from batches)
+    → (header_line ++ 10 ∷ []) ++ batch_lines batches ≡ file (joined batches) → folded ++ part ≡ file (joined batches)
+last_part folded part batches from all is whole = is ∙ ap (λ b. (header_line ++ 10 ∷ []) ++ batch_lines b) (take_all from batches all) ∙ whole
+
+pub lines_told : {E : Type 0} (r : Result ℕ E) (text whole : List ℕ) → OnOk r (text ≡ whole) → IfOk r (λ n. n ≡ line_count text) → IfOk r (λ n. n ≡ line_count whole)
+lines_told (Ok n) text whole same h = h ∙ ap line_count same
+lines_told (Err e) text whole same h = tt
+
+-- a file that alone was put
+pub put_alone : (text old whole : List ℕ) → text ≡ old ++ whole → old ≡ [] → text ≡ whole
+put_alone text old whole put none = put ∙ ap (λ t. t ++ whole) none
+
+pub none_behind : (text folded whole : List ℕ) → text ≡ whole → folded ≡ [] → text ++ folded ≡ whole
+none_behind text folded whole is none = ap (λ t. text ++ t) none ∙ append-nil text ∙ is

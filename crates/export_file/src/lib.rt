@@ -19,10 +19,12 @@ use split::write_split;
 use std::alloc::{AllocError, Global};
 use std::thread::Threads;
 
+mod held;
 mod split;
 mod whole;
 
 pub use focus_csv::LineRoom;
+pub use held::HeldText;
 pub use whole::ExportRows;
 
 /// What has the bytes of a period's file: a [`Snapshot`].

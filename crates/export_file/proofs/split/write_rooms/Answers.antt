@@ -7,7 +7,8 @@ use Rattle.counted_io.specs.Writing.{AppendsPrefix}
 use Rattle.counted_io.proofs.Prefixes.{prefix_behind, prefix_within}
 use Rattle.metering_model.specs.File.{header_line}
 use Rattle.export_file.specs.Inner.Parts.{texts_in}
-use Rattle.export_file.proofs.PartLaws.{on_err, one_more_room, rest_behind}
+use Rattle.export_file.proofs.PartLaws.{one_more_room, rest_behind}
+use Rattle.folded_text.proofs.BlockLaws.{on_err}
 use Rattle.export_file.proofs.split.write_rooms.Goals as goal
 
 pub loop-i-init : goal.loop-i-init
