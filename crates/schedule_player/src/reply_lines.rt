@@ -10,7 +10,7 @@ ghost use Rattle.schedule_player.specs.Inner.Writing.{FailsWithin};
 
 use crate::reply_texts::{has_file, set_file, set_line};
 use counted_io::{Failed, Sink, write_all};
-use export_file::LineRoom;
+use export_file::{HeldText, LineRoom};
 use group_events::{Period, Reply};
 use std::alloc::{AllocError, Global};
 use std::marker::Model;
@@ -30,7 +30,7 @@ pub(crate) struct ReplyLines {
     words: Vec<u8>,
     /// The line of the last reply with a file or a kept text, and this.
     line: Vec<u8>,
-    file: Vec<u8>,
+    file: HeldText,
     /// In which the lines of files are made.
     room: LineRoom,
     /// Whether the file waits after the lines.
@@ -46,26 +46,22 @@ impl Model for ReplyLines {
     ghost Value = { Waiting };
 
     ghost view = { λ r. record {
-      text = r.lines.items ++ waiting r.waits r.file.items;
-      held = told r.held r.line.items r.file.items;
+      text = r.lines.items ++ waiting r.waits r.file;
+      held = told r.held r.line.items r.file;
     } };
 }
 
-/// What waits of a file.
-fn waiting(waits: bool, file: &[u8]) -> &[u8]
-    ensures { result.now ≡ waiting waits file.now }
-{
-    if waits { file } else { &[] }
-}
-
 /// Puts a file that waits after the lines before it. It stays at hand.
-fn join_file(lines: &mut Vec<u8>, waits: &mut bool, file: &[u8]) -> Result<(), AllocError>
+fn join_file(lines: &mut Vec<u8>, waits: &mut bool, file: &mut HeldText) -> Result<(), AllocError>
     ensures joined { OnOk result
-        ((lines.new.items ≡ lines.old.items ++ waiting waits.old file.now) × (waits.new ≡ false)) }
+        ((lines.new.items ≡ lines.old.items ++ waiting waits.old file.old) × (waits.new ≡ false)) }
     ensures kept { OnErr result ((lines.new.items ≡ lines.old.items) × (waits.new ≡ waits.old)) }
+    ensures same { file.new ≡ file.old }
 {
-    lines.extend_from_slice(waiting(*waits, file))?;
-    *waits = false;
+    if *waits {
+        file.copy_to(lines)?;
+        *waits = false;
+    }
     Ok(())
 }
 
@@ -107,14 +103,13 @@ fn hold(
     reply: &Reply,
     held: &mut Option<Period>,
     line: &mut Vec<u8>,
-    file: &mut Vec<u8>,
+    file: &mut HeldText,
 ) -> Result<(), AllocError>
     requires there { has_file (reply_of reply.now) ≡ true }
-    requires fits { FitsReply (told held.old line.old.items file.old.items) (reply_of reply.now) }
-    ensures text { OnOk result
-        (line.new.items ++ file.new.items ≡ reply_text (reply_of reply.now)) }
+    requires fits { FitsReply (told held.old line.old.items file.old) (reply_of reply.now) }
+    ensures text { OnOk result (line.new.items ++ file.new ≡ reply_text (reply_of reply.now)) }
     ensures held { OnOk result
-        (told held.new line.new.items file.new.items ≡ told_of (reply_of reply.now)) }
+        (told held.new line.new.items file.new ≡ told_of (reply_of reply.now)) }
 {
     if is_export_of(*held, reply) {
         return Ok(());
@@ -135,7 +130,7 @@ impl ReplyLines {
             lines: Vec::new(alloc),
             words: Vec::new(alloc),
             line: Vec::new(alloc),
-            file: Vec::new(alloc),
+            file: HeldText::new(alloc),
             room: LineRoom::new(),
             waits: false,
             held: None,
@@ -150,7 +145,7 @@ impl ReplyLines {
         ensures held { OnOk result (self.new.held ≡ held_with self.old.held (reply_of reply.now)) }
         ensures kept { OnErr result (self.new.text ≡ self.old.text) }
     {
-        join_file(&mut self.lines, &mut self.waits, &self.file)?;
+        join_file(&mut self.lines, &mut self.waits, &mut self.file)?;
         if !has_file(reply) {
             return add_line(&mut self.words, &mut self.lines, reply);
         }
@@ -171,8 +166,8 @@ impl ReplyLines {
     pub(crate) fn are_many(&self) -> bool
         ensures { IsTrue result ↔ (65_536 ≤ length self.now.text) }
     {
-        let file = waiting(self.waits, &self.file);
-        self.lines.len() >= MANY_BYTES || file.len() >= MANY_BYTES - self.lines.len()
+        let size = self.lines.len();
+        size >= MANY_BYTES || (self.waits && self.file.has_bytes(MANY_BYTES - size))
     }
 
     /// Writes all that waits, and then nothing waits. What is at hand stays so.
@@ -187,7 +182,9 @@ impl ReplyLines {
             (W.failed_calls writer.old) (W.failed_calls writer.new) self.old.text }
     {
         write_all(writer, &self.lines)?;
-        write_all(writer, waiting(self.waits, &self.file))?;
+        if self.waits {
+            self.file.write(writer)?;
+        }
         self.lines.clear();
         self.waits = false;
         Ok(())

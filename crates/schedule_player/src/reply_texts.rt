@@ -7,38 +7,36 @@ ghost use Rattle.schedule_player.specs.Inner.Held.{has_file};
 
 use answer_words::replies;
 use byte_text::line_count;
-use export_file::{LineRoom, put_csv_in};
+use export_file::{HeldText, LineRoom};
 use group_events::{Reply, Snapshot};
 use std::alloc::{AllocError, Global};
 
-/// Appends an export's file to one text, made in memory that the next file may use again, and to the other what stands
-/// above it: the period, and how many lines the file has.
+/// Makes a text an export's file, whose lines may be made in memory that the next file uses again, and appends to the
+/// other what stands above it: the period, and how many lines the file has.
 fn put_exported(
     alloc: Global,
     room: &mut LineRoom,
     snapshot: &Snapshot,
     line: &mut Vec<u8>,
-    file: &mut Vec<u8>,
+    file: &mut HeldText,
 ) -> Result<(), AllocError>
-    requires { file.old.items ≡ [] }
-    ensures file { OnOk result (file.new.items ≡ file_of snapshot.now) }
+    ensures file { OnOk result (file.new ≡ file_of snapshot.now) }
     ensures line { OnOk result (line.new.items ≡ line.old.items
         ++ (with_number (codes "exported period ") snapshot.now.period
         ++ with_number (codes " lines ") (line_count (file_of snapshot.now)))) }
 {
-    put_csv_in(alloc, room, snapshot, file)?;
-    replies::put_exported(line, snapshot.period(), line_count(file))
+    let lines = file.set_file(alloc, room, snapshot)?;
+    replies::put_exported(line, snapshot.period(), lines)
 }
 
-/// Appends a kept text to one text, and to the other what stands above it: how many lines it has.
-fn put_kept(kept: &[u8], line: &mut Vec<u8>, file: &mut Vec<u8>) -> Result<(), AllocError>
-    requires { file.old.items ≡ [] }
-    ensures file { OnOk result (file.new.items ≡ kept.now) }
+/// Makes a text a kept one, and appends to the other what stands above it: how many lines it has.
+fn put_kept(kept: &[u8], line: &mut Vec<u8>, file: &mut HeldText) -> Result<(), AllocError>
+    ensures file { OnOk result (file.new ≡ kept.now) }
     ensures line { OnOk result
         (line.new.items ≡ line.old.items
         ++ with_number (codes "kept lines ") (line_count kept.now)) }
 {
-    file.extend_from_slice(kept)?;
+    file.set_text(kept)?;
     replies::put_kept(line, line_count(kept))
 }
 
@@ -81,18 +79,17 @@ pub(crate) fn set_line(line: &mut Vec<u8>, reply: &Reply) -> Result<(), AllocErr
     Ok(())
 }
 
-/// Puts a file or a kept text into one text, and what stands above it into the other.
+/// Makes one text a file or a kept text, and puts what stands above it into the other.
 fn put_file(
     alloc: Global,
     room: &mut LineRoom,
     reply: &Reply,
     line: &mut Vec<u8>,
-    file: &mut Vec<u8>,
+    file: &mut HeldText,
 ) -> Result<(), AllocError>
     requires there { has_file (reply_of reply.now) ≡ true }
     requires line { line.old.items ≡ [] }
-    requires file { file.old.items ≡ [] }
-    ensures { OnOk result ((line.new.items ++ 10 ∷ []) ++ file.new.items
+    ensures { OnOk result ((line.new.items ++ 10 ∷ []) ++ file.new
         ≡ reply_text (reply_of reply.now)) }
 {
     match reply {
@@ -109,13 +106,12 @@ pub(crate) fn set_file(
     room: &mut LineRoom,
     reply: &Reply,
     line: &mut Vec<u8>,
-    file: &mut Vec<u8>,
+    file: &mut HeldText,
 ) -> Result<(), AllocError>
     requires { has_file (reply_of reply.now) ≡ true }
-    ensures { OnOk result (line.new.items ++ file.new.items ≡ reply_text (reply_of reply.now)) }
+    ensures { OnOk result (line.new.items ++ file.new ≡ reply_text (reply_of reply.now)) }
 {
     line.clear();
-    file.clear();
     put_file(alloc, room, reply, line, file)?;
     line.push(b'\n')?;
     Ok(())
