@@ -8,6 +8,8 @@ mod gates;
 #[cfg(test)]
 mod growths;
 #[cfg(test)]
+mod held;
+#[cfg(test)]
 mod kept;
 #[cfg(test)]
 mod limits;

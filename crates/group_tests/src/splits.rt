@@ -68,7 +68,7 @@ fn journal(alloc: Global, world: &mut World, agent: u8, rows: u32) -> Result<(),
 }
 
 /// What a group of one node exports, of whose agents each has journaled so many readings.
-fn taken(alloc: Global, agents: u8, rows: u32) -> Result<Snapshot, AllocError> {
+pub(crate) fn taken(alloc: Global, agents: u8, rows: u32) -> Result<Snapshot, AllocError> {
     let agents = agents.clamp(1, 64);
     let mut world = World::new(alloc, 1, 0, agents, sheet(alloc)?, issuer(alloc)?)?;
     for agent in 1..=agents {
