@@ -2,6 +2,7 @@
 use Rattle.std.proofs.Common.{arith, ap, sym, ◌∙◌, All}
 use Rattle.std.specs.Prelude.{◌≡◌, ℕ, ◌+◌, false, List, [], ◌∷◌, Bool, map, Option, Some, None, slice_get, codes, refl}
 use Rattle.std.specs.Fmt.{digits}
+use Rattle.std.proofs.Math.Dec.{lit<, lit≤}
 use Rattle.std.proofs.lemmas.Bool.{true≢false}
 use Rattle.std.proofs.lemmas.List.Elements.{All-nil, All-cons}
 use Rattle.jiff_core.specs.Calendar.{days_from_civil, day_count, days_of_years, days_of_months}
@@ -53,7 +54,7 @@ answers_of_a_shorter_sheet : AnswersOf (λ last old. last.base ≡ old.base) →
 answers_of_a_shorter_sheet law =
     true≢false (ap first_lacks (
     sym is_refused_later
-    ∙ (law (one old_sheet) journals_gpu ((omega arith, omega arith) ⨾ tt)
+    ∙ (law (one old_sheet) journals_gpu ((lit≤ tt, lit≤ tt) ⨾ tt)
     (All-cons (λ (x : SheetedAct). old_sheet.base ≡ x.sheet.base) (record { sheet = new_sheet; act = AgentDoes 1 (JournalBatch (Good of_gpu)) }) [] refl
     (All-nil (λ (x : SheetedAct). old_sheet.base ≡ x.sheet.base)))
     ∙ is_journaled)))
@@ -82,11 +83,11 @@ proposes = under old_sheet proposing
 proposes_is_history : IsSheetedHistory (one from_february) (begun (one from_february)) proposes
 unfolding days_from_civil day_count days_of_years days_of_months worth_of decimals_of digits
 proposes_is_history =
-    (omega arith, omega arith) ⨾
-    (omega arith, λ same. (0, omega arith, refl)) ⨾
-    (omega arith, tt) ⨾
-    (omega arith, λ same. (1, omega arith, refl)) ⨾
-    (omega arith, λ same. (2, omega arith, refl)) ⨾ tt
+    (lit≤ tt, lit≤ tt) ⨾
+    (lit< tt, λ same. (0, lit< tt, refl)) ⨾
+    (lit< tt, tt) ⨾
+    (lit< tt, λ same. (1, lit< tt, refl)) ⨾
+    (lit< tt, λ same. (2, lit< tt, refl)) ⨾ tt
 
 -- how far the agent's batches are closed by the cut that the fifth answer proposes
 abbrev proposed_in : Option Packet → ℕ

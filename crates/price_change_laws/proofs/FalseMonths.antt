@@ -1,8 +1,9 @@
 -- The law on closed months is false without each of the premises on an export.
-use Rattle.std.proofs.Common.{arith, ap, subst, option_map, is_some, ◌≤ℤ◌}
+use Rattle.std.proofs.Common.{ap, subst, option_map, is_some, ◌≤ℤ◌}
 use Rattle.std.specs.Prelude.{◌≡◌, ℕ, true, false, List, [], ◌∷◌, ◌++◌, Some, None, ℤ, codes, refl}
 use Rattle.std.specs.List.{Contains}
 use Rattle.std.specs.Fmt.{digits}
+use Rattle.std.proofs.Math.Dec.{lit<, lit≤}
 use Rattle.std.proofs.lemmas.Bool.{both_ways}
 use Rattle.std.proofs.lemmas.List.Elements.{All-nil, All-cons}
 use Rattle.jiff_core.specs.Calendar.{days_from_civil, day_count, days_of_years, days_of_months}
@@ -84,21 +85,21 @@ february sheet = record { period = 1; from = none; to = cut; batches = batch ∷
 is_history : IsSheetedHistory (one new_sheet) (begun (one new_sheet)) acts
 unfolding days_from_civil day_count days_of_years days_of_months worth_of decimals_of digits
 is_history =
-    (omega arith, omega arith) ⨾
-    (omega arith, λ same. (0, omega arith, refl)) ⨾
-    (omega arith, tt) ⨾
-    (omega arith, λ same. (1, omega arith, refl)) ⨾
-    (omega arith, λ same. (2, omega arith, refl)) ⨾
-    (omega arith, λ same. (3, omega arith, refl)) ⨾
-    (omega arith, λ same. (4, omega arith, refl)) ⨾
-    (omega arith, tt) ⨾
-    (omega arith, λ same. (5, omega arith, refl)) ⨾
-    (omega arith, λ same. (6, omega arith, refl)) ⨾
-    (omega arith, λ same. (7, omega arith, refl)) ⨾
-    (omega arith, λ same. (8, omega arith, refl)) ⨾
-    (omega arith, tt) ⨾
+    (lit≤ tt, lit≤ tt) ⨾
+    (lit< tt, λ same. (0, lit< tt, refl)) ⨾
+    (lit< tt, tt) ⨾
+    (lit< tt, λ same. (1, lit< tt, refl)) ⨾
+    (lit< tt, λ same. (2, lit< tt, refl)) ⨾
+    (lit< tt, λ same. (3, lit< tt, refl)) ⨾
+    (lit< tt, λ same. (4, lit< tt, refl)) ⨾
+    (lit< tt, tt) ⨾
+    (lit< tt, λ same. (5, lit< tt, refl)) ⨾
+    (lit< tt, λ same. (6, lit< tt, refl)) ⨾
+    (lit< tt, λ same. (7, lit< tt, refl)) ⨾
+    (lit< tt, λ same. (8, lit< tt, refl)) ⨾
+    (lit< tt, tt) ⨾
     (_, refl, refl) ⨾
-    (omega arith, tt) ⨾ tt
+    (lit< tt, tt) ⨾ tt
 
 are_taken_over : AreTakenOver new_sheet acts
 are_taken_over =
@@ -107,11 +108,11 @@ are_taken_over =
 
 by_the_old : Contains (sheeted_answers (one new_sheet) (begun (one new_sheet)) acts) (saying (HasExported (february old_sheet)))
 unfolding days_from_civil day_count days_of_years days_of_months worth_of decimals_of digits
-by_the_old = (12, omega arith, refl)
+by_the_old = (12, lit< tt, refl)
 
 by_the_new : Contains (sheeted_answers (one new_sheet) (begun (one new_sheet)) acts) (saying (HasExported (february new_sheet)))
 unfolding days_from_civil day_count days_of_years days_of_months worth_of decimals_of digits
-by_the_new = (14, omega arith, refl)
+by_the_new = (14, lit< tt, refl)
 
 names : NamesAllAlike old_sheet new_sheet (batch ∷ [])
 unfolding days_from_civil day_count days_of_years days_of_months worth_of decimals_of digits
@@ -157,16 +158,16 @@ twice last = under old_sheet closing ++ under last again
 twice_is_history : (last : Sheet) → IsSheetedHistory (one last) (begun (one last)) (twice last)
 unfolding days_from_civil day_count days_of_years days_of_months worth_of decimals_of digits
 twice_is_history last =
-    (omega arith, omega arith) ⨾
-    (omega arith, λ same. (0, omega arith, refl)) ⨾
-    (omega arith, tt) ⨾
-    (omega arith, λ same. (1, omega arith, refl)) ⨾
-    (omega arith, λ same. (2, omega arith, refl)) ⨾
-    (omega arith, λ same. (3, omega arith, refl)) ⨾
-    (omega arith, λ same. (4, omega arith, refl)) ⨾
-    (omega arith, tt) ⨾
+    (lit≤ tt, lit≤ tt) ⨾
+    (lit< tt, λ same. (0, lit< tt, refl)) ⨾
+    (lit< tt, tt) ⨾
+    (lit< tt, λ same. (1, lit< tt, refl)) ⨾
+    (lit< tt, λ same. (2, lit< tt, refl)) ⨾
+    (lit< tt, λ same. (3, lit< tt, refl)) ⨾
+    (lit< tt, λ same. (4, lit< tt, refl)) ⨾
+    (lit< tt, tt) ⨾
     (_, refl, refl) ⨾
-    (omega arith, tt) ⨾ tt
+    (lit< tt, tt) ⨾ tt
 
 -- January is exported under that sheet
 abbrev HasJanuary : Sheet → Sheet → Type 0
@@ -192,11 +193,11 @@ another_price_is_longer = record {
 
 old_has_price : HasJanuary with_another_price old_sheet
 unfolding days_from_civil day_count days_of_years days_of_months worth_of decimals_of digits
-old_has_price = (7, omega arith, refl)
+old_has_price = (7, lit< tt, refl)
 
 new_has_price : HasJanuary with_another_price with_another_price
 unfolding days_from_civil day_count days_of_years days_of_months worth_of decimals_of digits
-new_has_price = (9, omega arith, refl)
+new_has_price = (9, lit< tt, refl)
 
 prices_differ : is_same (file_of (january old_sheet)) (file_of (january with_another_price)) ≡ false
 unfolding days_from_civil day_count days_of_years days_of_months worth_of decimals_of digits
@@ -230,11 +231,11 @@ a_name_is_longer = record {
 
 old_has_name : HasJanuary with_a_name old_sheet
 unfolding days_from_civil day_count days_of_years days_of_months worth_of decimals_of digits
-old_has_name = (7, omega arith, refl)
+old_has_name = (7, lit< tt, refl)
 
 new_has_name : HasJanuary with_a_name with_a_name
 unfolding days_from_civil day_count days_of_years days_of_months worth_of decimals_of digits
-new_has_name = (9, omega arith, refl)
+new_has_name = (9, lit< tt, refl)
 
 names_differ : is_same (file_of (january old_sheet)) (file_of (january with_a_name)) ≡ false
 unfolding days_from_civil day_count days_of_years days_of_months worth_of decimals_of digits

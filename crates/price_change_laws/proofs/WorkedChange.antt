@@ -1,9 +1,9 @@
 -- Prices change while a group of one agent, one voter and one observer runs. January is exported by the voter, which has the old sheet still, and by
 -- the observer, which was begun again under the new one: the same bytes.
-use Rattle.std.proofs.Common.{arith}
 use Rattle.std.specs.Prelude.{◌≡◌, ℕ, List, [], ◌∷◌, ◌++◌, Some, None, codes, refl}
 use Rattle.std.specs.List.{Contains}
 use Rattle.std.specs.Fmt.{digits}
+use Rattle.std.proofs.Math.Dec.{lit<, lit≤}
 use Rattle.jiff_core.specs.Calendar.{days_from_civil, day_count, days_of_years, days_of_months}
 use Rattle.metering_model.specs.NumberText.{worth_of, decimals_of}
 use Rattle.metering_model.specs.declared.Refusal.TheVariants.{Unpriced}
@@ -139,31 +139,31 @@ acts = at_first ++ then_two ++ then_one ++ at_last
 is_history : IsSheetedHistory two (begun two) acts
 unfolding days_from_civil day_count days_of_years days_of_months worth_of decimals_of digits
 is_history =
-    (omega arith, omega arith) ⨾
-    (omega arith, λ same. (0, omega arith, refl)) ⨾
-    (omega arith, tt) ⨾
-    (omega arith, λ same. (1, omega arith, refl)) ⨾
-    (omega arith, λ same. (2, omega arith, refl)) ⨾
-    (omega arith, λ same. (3, omega arith, refl)) ⨾
-    (omega arith, λ same. (4, omega arith, refl)) ⨾
-    (omega arith, tt) ⨾
-    (omega arith, λ same. (0, omega arith, refl)) ⨾
-    (omega arith, λ same. (4, omega arith, refl)) ⨾
-    (omega arith, omega arith) ⨾
-    (omega arith, omega arith, refl) ⨾
-    (omega arith, omega arith) ⨾
+    (lit≤ tt, lit≤ tt) ⨾
+    (lit< tt, λ same. (0, lit< tt, refl)) ⨾
+    (lit< tt, tt) ⨾
+    (lit< tt, λ same. (1, lit< tt, refl)) ⨾
+    (lit< tt, λ same. (2, lit< tt, refl)) ⨾
+    (lit< tt, λ same. (3, lit< tt, refl)) ⨾
+    (lit< tt, λ same. (4, lit< tt, refl)) ⨾
+    (lit< tt, tt) ⨾
+    (lit< tt, λ same. (0, lit< tt, refl)) ⨾
+    (lit< tt, λ same. (4, lit< tt, refl)) ⨾
+    (lit≤ tt, lit≤ tt) ⨾
+    (lit≤ tt, lit≤ tt, refl) ⨾
+    (lit≤ tt, lit≤ tt) ⨾
     (_, refl, refl) ⨾
-    (omega arith, tt) ⨾
-    (omega arith, λ same. (5, omega arith, refl)) ⨾
-    (omega arith, tt) ⨾
-    (omega arith, λ same. (6, omega arith, refl)) ⨾
-    (omega arith, λ same. (7, omega arith, refl)) ⨾
-    (omega arith, λ same. (8, omega arith, refl)) ⨾
-    (omega arith, λ same. (9, omega arith, refl)) ⨾
-    (omega arith, tt) ⨾
-    (omega arith, tt) ⨾
+    (lit< tt, tt) ⨾
+    (lit< tt, λ same. (5, lit< tt, refl)) ⨾
+    (lit< tt, tt) ⨾
+    (lit< tt, λ same. (6, lit< tt, refl)) ⨾
+    (lit< tt, λ same. (7, lit< tt, refl)) ⨾
+    (lit< tt, λ same. (8, lit< tt, refl)) ⨾
+    (lit< tt, λ same. (9, lit< tt, refl)) ⨾
+    (lit< tt, tt) ⨾
+    (lit< tt, tt) ⨾
     (_, refl, refl) ⨾
-    (omega arith, tt) ⨾ tt
+    (lit< tt, tt) ⨾ tt
 
 -- ---- what the laws say of it
 
@@ -201,11 +201,11 @@ by_the_change = ends_by february_1 new_sheet (january old_sheet) it_is_longer ja
 
 by_the_old : Contains (sheeted_answers two (begun two) acts) (saying (HasExported (january old_sheet)))
 unfolding days_from_civil day_count days_of_years days_of_months worth_of decimals_of digits
-by_the_old = (7, omega arith, refl)
+by_the_old = (7, lit< tt, refl)
 
 by_the_new : Contains (sheeted_answers two (begun two) acts) (saying (HasExported (january new_sheet)))
 unfolding days_from_civil day_count days_of_years days_of_months worth_of decimals_of digits
-by_the_new = (14, omega arith, refl)
+by_the_new = (14, lit< tt, refl)
 
 the_same_january : file_of (january old_sheet) ≡ file_of (january new_sheet)
 the_same_january =

@@ -1,9 +1,10 @@
 -- What goes wrong where one act of a history may not be done: two files of one period that differ. Each fault is small, and every other act is as
 -- it should be.
-use Rattle.std.proofs.Common.{arith, ap}
+use Rattle.std.proofs.Common.{ap}
 use Rattle.std.specs.Prelude.{◌≡◌, ℕ, zero, suc, List, [], ◌∷◌, ◌++◌, length, map, Some, None, Ok, Err, slice_get, codes, refl}
 use Rattle.std.specs.List.{Contains}
 use Rattle.std.specs.Fmt.{digits}
+use Rattle.std.proofs.Math.Dec.{lit<, lit≤}
 use Rattle.jiff_core.specs.Calendar.{days_from_civil, day_count, days_of_years, days_of_months}
 use Rattle.metering_model.specs.NumberText.{worth_of, decimals_of}
 use Rattle.metering_model.specs.Batch.{Batch}
@@ -93,16 +94,16 @@ a_made_up_packet_makes_two_files : GoesWrongAt (group 1 1) 8 with_a_made_up_pack
 unfolding days_from_civil day_count days_of_years days_of_months worth_of decimals_of digits
 a_made_up_packet_makes_two_files = record {
   others_right =
-      (omega arith, omega arith) ⨾
-      (omega arith, λ same. (0, omega arith, refl)) ⨾
-      (omega arith, tt) ⨾
-      (omega arith, λ same. (1, omega arith, refl)) ⨾
-      (omega arith, λ same. (2, omega arith, refl)) ⨾
-      (omega arith, λ same. (3, omega arith, refl)) ⨾
-      (omega arith, λ same. (4, omega arith, refl)) ⨾
-      (omega arith, tt) ⨾
-      (omega arith, tt) ⨾ tt;
-  files = low_and_high (9, omega arith, refl) (7, omega arith, refl);
+      (lit≤ tt, lit≤ tt) ⨾
+      (lit< tt, λ same. (0, lit< tt, refl)) ⨾
+      (lit< tt, tt) ⨾
+      (lit< tt, λ same. (1, lit< tt, refl)) ⨾
+      (lit< tt, λ same. (2, lit< tt, refl)) ⨾
+      (lit< tt, λ same. (3, lit< tt, refl)) ⨾
+      (lit< tt, λ same. (4, lit< tt, refl)) ⨾
+      (lit< tt, tt) ⨾
+      (lit< tt, tt) ⨾ tt;
+  files = low_and_high (9, lit< tt, refl) (7, lit< tt, refl);
 }
 
 so_a_made_up_packet_makes_no_history : IsHistory (group 1 1) (begun (group 1 1)) with_a_made_up_packet → ⊥
@@ -125,21 +126,21 @@ a_vote_not_stored_makes_two_files : GoesWrongAt (group 1 1) 6 with_a_vote_not_st
 unfolding days_from_civil day_count days_of_years days_of_months worth_of decimals_of digits
 a_vote_not_stored_makes_two_files = record {
   others_right =
-      (omega arith, tt) ⨾
-      (omega arith, λ same. (0, omega arith, refl)) ⨾
-      (omega arith, λ same. (1, omega arith, refl)) ⨾
-      (omega arith, λ same. (2, omega arith, refl)) ⨾
-      (omega arith, λ same. (3, omega arith, refl)) ⨾
-      (omega arith, tt) ⨾
-      (omega arith, omega arith) ⨾
-      (omega arith, λ same. (4, omega arith, refl)) ⨾
-      (omega arith, tt) ⨾
-      (omega arith, λ same. (5, omega arith, refl)) ⨾
-      (omega arith, λ same. (6, omega arith, refl)) ⨾
-      (omega arith, λ same. (7, omega arith, refl)) ⨾
-      (omega arith, λ same. (8, omega arith, refl)) ⨾
-      (omega arith, tt) ⨾ tt;
-  files = low_and_high (5, omega arith, refl) (14, omega arith, refl);
+      (lit< tt, tt) ⨾
+      (lit< tt, λ same. (0, lit< tt, refl)) ⨾
+      (lit< tt, λ same. (1, lit< tt, refl)) ⨾
+      (lit< tt, λ same. (2, lit< tt, refl)) ⨾
+      (lit< tt, λ same. (3, lit< tt, refl)) ⨾
+      (lit< tt, tt) ⨾
+      (lit≤ tt, lit≤ tt) ⨾
+      (lit< tt, λ same. (4, lit< tt, refl)) ⨾
+      (lit< tt, tt) ⨾
+      (lit< tt, λ same. (5, lit< tt, refl)) ⨾
+      (lit< tt, λ same. (6, lit< tt, refl)) ⨾
+      (lit< tt, λ same. (7, lit< tt, refl)) ⨾
+      (lit< tt, λ same. (8, lit< tt, refl)) ⨾
+      (lit< tt, tt) ⨾ tt;
+  files = low_and_high (5, lit< tt, refl) (14, lit< tt, refl);
 }
 
 so_a_vote_not_stored_makes_no_history : IsHistory (group 1 1) (begun (group 1 1)) with_a_vote_not_stored → ⊥
@@ -168,29 +169,29 @@ an_older_state_makes_two_files : GoesWrongAt (group 3 0) 10 with_an_older_state
 unfolding days_from_civil day_count days_of_years days_of_months worth_of decimals_of digits
 an_older_state_makes_two_files = record {
   others_right =
-      (omega arith, tt) ⨾
-      (omega arith, λ same. (0, omega arith, refl)) ⨾
-      (omega arith, λ same. (0, omega arith, refl)) ⨾
-      (omega arith, λ same. (1, omega arith, refl)) ⨾
-      (omega arith, λ same. (2, omega arith, refl)) ⨾
-      (omega arith, λ same. (3, omega arith, refl)) ⨾
-      (omega arith, λ same. (3, omega arith, refl)) ⨾
-      (omega arith, λ same. (4, omega arith, refl)) ⨾
-      (omega arith, λ same. (5, omega arith, refl)) ⨾
-      (omega arith, tt) ⨾
-      (omega arith, omega arith) ⨾
-      (omega arith, λ same. (6, omega arith, refl)) ⨾
-      (omega arith, tt) ⨾
-      (omega arith, λ same. (7, omega arith, refl)) ⨾
-      (omega arith, λ same. (7, omega arith, refl)) ⨾
-      (omega arith, λ same. (8, omega arith, refl)) ⨾
-      (omega arith, λ same. (9, omega arith, refl)) ⨾
-      (omega arith, λ same. (10, omega arith, refl)) ⨾
-      (omega arith, λ same. (10, omega arith, refl)) ⨾
-      (omega arith, λ same. (11, omega arith, refl)) ⨾
-      (omega arith, λ same. (12, omega arith, refl)) ⨾
-      (omega arith, tt) ⨾ tt;
-  files = low_and_high (9, omega arith, refl) (22, omega arith, refl);
+      (lit< tt, tt) ⨾
+      (lit< tt, λ same. (0, lit< tt, refl)) ⨾
+      (lit< tt, λ same. (0, lit< tt, refl)) ⨾
+      (lit< tt, λ same. (1, lit< tt, refl)) ⨾
+      (lit< tt, λ same. (2, lit< tt, refl)) ⨾
+      (lit< tt, λ same. (3, lit< tt, refl)) ⨾
+      (lit< tt, λ same. (3, lit< tt, refl)) ⨾
+      (lit< tt, λ same. (4, lit< tt, refl)) ⨾
+      (lit< tt, λ same. (5, lit< tt, refl)) ⨾
+      (lit< tt, tt) ⨾
+      (lit≤ tt, lit≤ tt) ⨾
+      (lit< tt, λ same. (6, lit< tt, refl)) ⨾
+      (lit< tt, tt) ⨾
+      (lit< tt, λ same. (7, lit< tt, refl)) ⨾
+      (lit< tt, λ same. (7, lit< tt, refl)) ⨾
+      (lit< tt, λ same. (8, lit< tt, refl)) ⨾
+      (lit< tt, λ same. (9, lit< tt, refl)) ⨾
+      (lit< tt, λ same. (10, lit< tt, refl)) ⨾
+      (lit< tt, λ same. (10, lit< tt, refl)) ⨾
+      (lit< tt, λ same. (11, lit< tt, refl)) ⨾
+      (lit< tt, λ same. (12, lit< tt, refl)) ⨾
+      (lit< tt, tt) ⨾ tt;
+  files = low_and_high (9, lit< tt, refl) (22, lit< tt, refl);
 }
 
 so_an_older_state_makes_no_history : IsHistory (group 3 0) (begun (group 3 0)) with_an_older_state → ⊥
@@ -223,23 +224,23 @@ a_lost_journal_makes_two_files : GoesWrongAt (group 1 1) 8 with_a_lost_journal
 unfolding days_from_civil day_count days_of_years days_of_months worth_of decimals_of digits
 a_lost_journal_makes_two_files = record {
   others_right =
-      (omega arith, omega arith) ⨾
-      (omega arith, λ same. (0, omega arith, refl)) ⨾
-      (omega arith, tt) ⨾
-      (omega arith, λ same. (1, omega arith, refl)) ⨾
-      (omega arith, λ same. (2, omega arith, refl)) ⨾
-      (omega arith, λ same. (3, omega arith, refl)) ⨾
-      (omega arith, λ same. (4, omega arith, refl)) ⨾
-      (omega arith, tt) ⨾
-      (omega arith, omega arith) ⨾
-      (omega arith, λ same. (5, omega arith, refl)) ⨾
-      (omega arith, λ same. (4, omega arith, refl)) ⨾
-      (omega arith, tt) ⨾ tt;
+      (lit≤ tt, lit≤ tt) ⨾
+      (lit< tt, λ same. (0, lit< tt, refl)) ⨾
+      (lit< tt, tt) ⨾
+      (lit< tt, λ same. (1, lit< tt, refl)) ⨾
+      (lit< tt, λ same. (2, lit< tt, refl)) ⨾
+      (lit< tt, λ same. (3, lit< tt, refl)) ⨾
+      (lit< tt, λ same. (4, lit< tt, refl)) ⨾
+      (lit< tt, tt) ⨾
+      (lit≤ tt, lit≤ tt) ⨾
+      (lit< tt, λ same. (5, lit< tt, refl)) ⨾
+      (lit< tt, λ same. (4, lit< tt, refl)) ⨾
+      (lit< tt, tt) ⨾ tt;
   files = record {
     one = up_to high (b ∷ []);
     other = up_to high (c ∷ []);
-    has = (7, omega arith, refl);
-    had = (12, omega arith, refl);
+    has = (7, lit< tt, refl);
+    had = (12, lit< tt, refl);
     same_period = refl;
     differ = λ same. let counts : ◌≡◌ {A = List ℕ} (0 ∷ []) (1 ∷ []) = ap (λ (s : Snapshot). map (λ x. length x.records) s.batches) same in absurd (cc (counts));
   };

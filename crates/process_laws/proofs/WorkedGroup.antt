@@ -1,8 +1,8 @@
 -- A history of two voters, one observer and two agents: what is refused, what is lost where a node is stopped, and how an observer that is behind
 -- comes to the same file.
-use Rattle.std.proofs.Common.{arith}
 use Rattle.std.specs.Prelude.{◌≡◌, ℕ, List, [], ◌∷◌, ◌++◌, Some, None, pos, codes, refl}
 use Rattle.std.specs.Fmt.{digits}
+use Rattle.std.proofs.Math.Dec.{lit<, lit≤}
 use Rattle.std.proofs.lemmas.Bool.{both_ways}
 use Rattle.jiff_core.specs.Calendar.{days_from_civil, day_count, days_of_years, days_of_months}
 use Rattle.metering_model.specs.NumberText.{worth_of, decimals_of}
@@ -149,40 +149,40 @@ sent = refl
 is_history : IsHistory three (begun three) acts
 unfolding days_from_civil day_count days_of_years days_of_months worth_of decimals_of digits
 is_history =
-    (omega arith, omega arith, refl) ⨾
-    (omega arith, omega arith) ⨾
-    (omega arith, omega arith, refl) ⨾
-    (omega arith, omega arith) ⨾
-    (omega arith, omega arith) ⨾
-    (omega arith, omega arith) ⨾
-    (omega arith, λ same. (0, omega arith, refl)) ⨾
-    (omega arith, λ same. (1, omega arith, refl)) ⨾
-    (omega arith, λ same. (0, omega arith, refl)) ⨾
-    (omega arith, tt) ⨾
-    (omega arith, λ same. (2, omega arith, refl)) ⨾
-    (omega arith, λ same. (2, omega arith, refl)) ⨾
-    (omega arith, λ same. (3, omega arith, refl)) ⨾
-    (omega arith, λ same. (3, omega arith, refl)) ⨾
+    (lit≤ tt, lit≤ tt, refl) ⨾
+    (lit≤ tt, lit≤ tt) ⨾
+    (lit≤ tt, lit≤ tt, refl) ⨾
+    (lit≤ tt, lit≤ tt) ⨾
+    (lit≤ tt, lit≤ tt) ⨾
+    (lit≤ tt, lit≤ tt) ⨾
+    (lit< tt, λ same. (0, lit< tt, refl)) ⨾
+    (lit< tt, λ same. (1, lit< tt, refl)) ⨾
+    (lit< tt, λ same. (0, lit< tt, refl)) ⨾
+    (lit< tt, tt) ⨾
+    (lit< tt, λ same. (2, lit< tt, refl)) ⨾
+    (lit< tt, λ same. (2, lit< tt, refl)) ⨾
+    (lit< tt, λ same. (3, lit< tt, refl)) ⨾
+    (lit< tt, λ same. (3, lit< tt, refl)) ⨾
     (_, refl, refl) ⨾
-    (omega arith, λ same. (4, omega arith, refl)) ⨾
-    (omega arith, tt) ⨾
-    (omega arith, tt) ⨾
-    (omega arith, λ same. (5, omega arith, refl)) ⨾
-    (omega arith, λ same. (5, omega arith, refl)) ⨾
-    (omega arith, λ same. (6, omega arith, refl)) ⨾
-    (omega arith, λ same. (7, omega arith, refl)) ⨾
-    (omega arith, λ same. absurd (both_ways _ refl same)) ⨾
-    (omega arith, λ same. (8, omega arith, refl)) ⨾
-    (omega arith, λ same. (8, omega arith, refl)) ⨾
-    (omega arith, λ same. (9, omega arith, refl)) ⨾
-    (omega arith, λ same. (10, omega arith, refl)) ⨾
-    (omega arith, tt) ⨾
-    (omega arith, tt) ⨾
-    (omega arith, λ same. (1, omega arith, refl)) ⨾
-    (omega arith, tt) ⨾
-    (omega arith, λ same. (9, omega arith, refl)) ⨾
-    (omega arith, λ same. (10, omega arith, refl)) ⨾
-    (omega arith, tt) ⨾ tt
+    (lit< tt, λ same. (4, lit< tt, refl)) ⨾
+    (lit< tt, tt) ⨾
+    (lit< tt, tt) ⨾
+    (lit< tt, λ same. (5, lit< tt, refl)) ⨾
+    (lit< tt, λ same. (5, lit< tt, refl)) ⨾
+    (lit< tt, λ same. (6, lit< tt, refl)) ⨾
+    (lit< tt, λ same. (7, lit< tt, refl)) ⨾
+    (lit< tt, λ same. absurd (both_ways _ refl same)) ⨾
+    (lit< tt, λ same. (8, lit< tt, refl)) ⨾
+    (lit< tt, λ same. (8, lit< tt, refl)) ⨾
+    (lit< tt, λ same. (9, lit< tt, refl)) ⨾
+    (lit< tt, λ same. (10, lit< tt, refl)) ⨾
+    (lit< tt, tt) ⨾
+    (lit< tt, tt) ⨾
+    (lit< tt, λ same. (1, lit< tt, refl)) ⨾
+    (lit< tt, tt) ⨾
+    (lit< tt, λ same. (9, lit< tt, refl)) ⨾
+    (lit< tt, λ same. (10, lit< tt, refl)) ⨾
+    (lit< tt, tt) ⨾ tt
 
 so_a_world_does_it : IsDoneByWorld three acts
 so_a_world_does_it = is_done_by_world three acts is_history

@@ -3,6 +3,7 @@ use Rattle.std.proofs.Common.{arith, inl}
 use Rattle.std.specs.Prelude.{◌≡◌, ◌≢◌, List, [], ◌∷◌, take, Option, Some, None, true, false, refl}
 use Rattle.std.specs.List.{Contains, list_all}
 use Rattle.std.specs.Fmt.{digits}
+use Rattle.std.proofs.Math.Dec.{lit<}
 use Rattle.std.proofs.lemmas.Bool.{both_ways}
 use Rattle.std.proofs.lemmas.List.Elements.{All-contains}
 use Rattle.std.proofs.lemmas.List.Sums.{AllPass-from_list_all}
@@ -64,7 +65,7 @@ each_is_matched =
     ((9, refl, refl), (refl, tt)) ⨾
     ((10, refl, refl), (refl, tt)) ⨾
     (refl, refl) ⨾
-    (_, refl, inl (batch_of_2, refl, refl, (1, omega arith, refl))) ⨾
+    (_, refl, inl (batch_of_2, refl, refl, (1, lit< tt, refl))) ⨾
     ((1, refl, refl), (refl, tt)) ⨾
     (refl, refl) ⨾
     ((9, refl, refl), (refl, tt)) ⨾

@@ -1,7 +1,8 @@
 -- A history of one agent and one node, which is stopped and gone on with in the middle: each answer is computed, and the law holds of it.
-use Rattle.std.proofs.Common.{arith, sym, subst, inl}
+use Rattle.std.proofs.Common.{sym, subst, inl}
 use Rattle.std.specs.Prelude.{◌≡◌, ℕ, true, List, [], ◌∷◌, Option, Some, None, codes, refl}
 use Rattle.std.specs.Fmt.{digits}
+use Rattle.std.proofs.Math.Dec.{lit<, lit≤}
 use Rattle.std.proofs.lemmas.Bool.{both_ways}
 use Rattle.jiff_core.specs.Calendar.{days_from_civil, day_count, days_of_years, days_of_months}
 use Rattle.metering_model.specs.NumberText.{worth_of, decimals_of}
@@ -77,22 +78,22 @@ another_name same =
 is_history : IsHistory one (begun one) acts
 unfolding days_from_civil day_count days_of_years days_of_months worth_of decimals_of digits
 is_history =
-    (omega arith, omega arith) ⨾
-    (omega arith, λ same. (0, omega arith, refl)) ⨾
-    (omega arith, tt) ⨾
-    (omega arith, λ same. (1, omega arith, refl)) ⨾
-    (omega arith, λ same. (2, omega arith, refl)) ⨾
-    (omega arith, λ same. absurd (both_ways _ refl same)) ⨾
-    (omega arith, tt) ⨾
+    (lit≤ tt, lit≤ tt) ⨾
+    (lit< tt, λ same. (0, lit< tt, refl)) ⨾
+    (lit< tt, tt) ⨾
+    (lit< tt, λ same. (1, lit< tt, refl)) ⨾
+    (lit< tt, λ same. (2, lit< tt, refl)) ⨾
+    (lit< tt, λ same. absurd (both_ways _ refl same)) ⨾
+    (lit< tt, tt) ⨾
     (_, refl, refl) ⨾
-    (omega arith, tt) ⨾
-    (omega arith, λ same. (3, omega arith, refl)) ⨾
-    (omega arith, λ same. (4, omega arith, refl)) ⨾
-    (omega arith, tt) ⨾
-    (omega arith, omega arith, refl) ⨾
-    (omega arith, omega arith) ⨾
-    (omega arith, tt) ⨾
-    (omega arith, omega arith) ⨾ tt
+    (lit< tt, tt) ⨾
+    (lit< tt, λ same. (3, lit< tt, refl)) ⨾
+    (lit< tt, λ same. (4, lit< tt, refl)) ⨾
+    (lit< tt, tt) ⨾
+    (lit≤ tt, lit≤ tt, refl) ⨾
+    (lit≤ tt, lit≤ tt) ⨾
+    (lit< tt, tt) ⨾
+    (lit≤ tt, lit≤ tt) ⨾ tt
 
 so_a_world_does_it : IsDoneByWorld one acts
 so_a_world_does_it = is_done_by_world one acts is_history
@@ -120,8 +121,8 @@ each_is_matched =
     ((4, refl, refl), (refl, tt)) ⨾
     (refl, refl) ⨾
     refl ⨾
-    inl (b, refl, refl, (0, omega arith, refl)) ⨾
-    (_, refl, inl (b, refl, refl, (0, omega arith, refl))) ⨾
+    inl (b, refl, refl, (0, lit< tt, refl)) ⨾
+    (_, refl, inl (b, refl, refl, (0, lit< tt, refl))) ⨾
     refl ⨾ tt
 
 -- the events that the acts come to, by packets' numbers

@@ -14,7 +14,7 @@ use Rattle.group_laws.proofs.Limits.{at_entry}
 use Rattle.sheet_laws.specs.Runs.{under_sheet, AreAllPriced, is_unpriced}
 use Rattle.sheet_laws.proofs.Premises.{all_priced}
 use Rattle.sheet_laws.proofs.TwoSheets.{old_sheet, new_sheet, with_gpu}
-use Rattle.sheet_laws.proofs.WorkedMonths.{two_months, run_under, all_are_priced}
+use Rattle.sheet_laws.proofs.WorkedMonths.{old_replies, two_months, run_under, all_are_priced}
 use Rattle.sheet_laws.proofs.OtherSheets.{replies, of_another_base, journaled_again, numbered_anew, first_is_unpriced, differ}
 
 abbrev AreRepliesAlike : ℕ → Sheet → Sheet → Issuer → List Event → Type 0
@@ -52,8 +52,7 @@ unfolding days_from_civil day_count days_of_years days_of_months worth_of decima
 reaches_none = refl
 
 reaches_one : reach (map (under_sheet of_another_base) (run_under old_sheet).0) ≡ Some 1
-unfolding days_from_civil day_count days_of_years days_of_months worth_of decimals_of digits
-reaches_one = refl
+reaches_one = ap (λ rs. reach (map (under_sheet of_another_base) rs)) old_replies
 
 -- nothing of January is due in December
 runs_of_another_base : RunsOfAnyBase → ⊥

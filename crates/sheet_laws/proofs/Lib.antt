@@ -14,6 +14,7 @@ pub mod LongerSheets
 mod ChainedSheets
 pub mod Premises
 mod TwoSheets
+mod ReadEvents
 mod WorkedMonths
 mod WorkedRows
 mod WorkedTexts

@@ -1,5 +1,5 @@
 -- Texts of which the headline's statements are false: so these statements refuse something, and the law's premises are needed.
-use Rattle.std.proofs.Common.{◌≡◌, ℕ, zero, suc, List, [], ◌∷◌, ◌++◌, length, map, take, drop, refl, sym, ap, subst, ◌∙◌, arith, Some, codes, pos, append-nil}
+use Rattle.std.proofs.Common.{◌≡◌, ℕ, zero, suc, List, [], ◌∷◌, ◌++◌, length, map, take, drop, refl, sym, ap, subst, ◌∙◌, arith, Some, None, codes, pos, append-nil}
 use Rattle.std.specs.Prelude.{slice_get}
 use Rattle.std.specs.Fmt.{digits}
 use Rattle.std.specs.List.{Contains}
@@ -7,6 +7,9 @@ use Rattle.std.proofs.lemmas.Int.{ints}
 use Rattle.std.proofs.lemmas.Option.{same_Some, none-some}
 use Rattle.jiff_core.specs.Calendar.{days_from_civil, day_count, days_of_years, days_of_months}
 use Rattle.metering_model.specs.NumberText.{worth_of, decimals_of}
+use Rattle.metering_model.specs.Batch.{Reads, Amends}
+use Rattle.metering_model.specs.declared.Kind.TheVariants.{Usage}
+use Rattle.metering_model.specs.declared.Version.TheVariants.{B1}
 use Rattle.metering_model.specs.Cut.{Cut}
 use Rattle.metering_model.specs.Sheet.{Sheet, Issuer}
 use Rattle.metering_model.specs.Holding.{Holding}
@@ -134,31 +137,70 @@ broken_at_the_sheet = broken_file
     (codes "0.12,A-100,Payer,USD,2025-02-01T00:00:00Z,2025-01-01T00:00:00Z,Usage,,\"Cloud")
     (codes "\",Usage-Based,2025-01-10T02:00:00Z,2025-01-10T00:00:00Z,,,,,5400,Seconds,0.12,0.08,0.12,Sample Cloud Ltd,0.15,0.1,Standard,1.5,Hours,Sample Cloud,Sample Cloud,,,vm-1,Compute,Sample Compute,cpu,cpu-od,acc-7,\"{\"\"env\"\":\"\"prod\"\"}\"")
 
-the_issuer_breaks_the_headline : HoldsOfBytes 1 0 1 sheet_1 broken_issuer one_export (text_of sheet_1 broken_issuer) → ⊥
+text_broken_at_the_issuer : text_of sheet_1 broken_issuer ≡ lines_text (told ++ codes "exported period 0 lines 4" ∷ broken_at_the_issuer)
 unfolding days_from_civil day_count days_of_years days_of_months worth_of decimals_of digits
+text_broken_at_the_issuer = refl
+
+the_issuer_breaks_the_headline : HoldsOfBytes 1 0 1 sheet_1 broken_issuer one_export (text_of sheet_1 broken_issuer) → ⊥
+unfolding digits
 the_issuer_breaks_the_headline h = some_bytes _ _ (h.agree 0 (lines_text broken_at_the_issuer) [] whole nothing)
   where
     whole : Shows (text_of sheet_1 broken_issuer) 0 (lines_text broken_at_the_issuer)
-    whole = record { before = told; lines = broken_at_the_issuer; after = []; whole = refl; is_text = refl; is_shown = refl }
+    whole = record { before = told; lines = broken_at_the_issuer; after = []; whole = refl; is_text = text_broken_at_the_issuer; is_shown = refl }
 
     nothing : Shows (text_of sheet_1 broken_issuer) 0 []
-    nothing = record { before = told ++ codes "exported period 0 lines 4" ∷ take 2 broken_at_the_issuer; lines = []; after = drop 3 broken_at_the_issuer; whole = refl; is_text = refl; is_shown = refl }
+    nothing = record { before = told ++ codes "exported period 0 lines 4" ∷ take 2 broken_at_the_issuer; lines = []; after = drop 3 broken_at_the_issuer; whole = refl; is_text = text_broken_at_the_issuer; is_shown = refl }
+
+text_broken_at_the_sheet : text_of broken_sheet issuer_1 ≡ lines_text (told ++ codes "exported period 0 lines 4" ∷ broken_at_the_sheet)
+unfolding days_from_civil day_count days_of_years days_of_months worth_of decimals_of digits
+text_broken_at_the_sheet = refl
 
 the_sheet_breaks_the_headline : HoldsOfBytes 1 0 1 broken_sheet issuer_1 one_export (text_of broken_sheet issuer_1) → ⊥
-unfolding days_from_civil day_count days_of_years days_of_months worth_of decimals_of digits
+unfolding digits
 the_sheet_breaks_the_headline h = some_bytes _ _ (h.agree 0 (lines_text broken_at_the_sheet) [] whole nothing)
   where
     whole : Shows (text_of broken_sheet issuer_1) 0 (lines_text broken_at_the_sheet)
-    whole = record { before = told; lines = broken_at_the_sheet; after = []; whole = refl; is_text = refl; is_shown = refl }
+    whole = record { before = told; lines = broken_at_the_sheet; after = []; whole = refl; is_text = text_broken_at_the_sheet; is_shown = refl }
 
     nothing : Shows (text_of broken_sheet issuer_1) 0 []
-    nothing = record { before = told ++ codes "exported period 0 lines 4" ∷ take 2 broken_at_the_sheet; lines = []; after = drop 3 broken_at_the_sheet; whole = refl; is_text = refl; is_shown = refl }
+    nothing = record { before = told ++ codes "exported period 0 lines 4" ∷ take 2 broken_at_the_sheet; lines = []; after = drop 3 broken_at_the_sheet; whole = refl; is_text = text_broken_at_the_sheet; is_shown = refl }
 
 -- ---- a file of another period, of no period, or of nobody
 
 -- the journals and the cuts of the worked transcript, whose second file corrects the first
 abbrev corrected_journals : Holding
 corrected_journals = (play (opening 1 0 1 sheet_1 issuer_1) (map event_of correction.events)).1.journals
+
+-- They are computed once, here, and each statement of them is proved of them as they are written.
+abbrev some_journals : Holding
+some_journals =
+    record {
+      version = B1;
+      agent = 1;
+      seq = 1;
+      records = Reads (record {
+        kind = Usage;
+        start = pos 1_736_467_200;
+        end = pos 1_736_474_400;
+        start_text = codes "2025-01-10T00:00:00Z";
+        end_text = codes "2025-01-10T02:00:00Z";
+        account = codes "acc-7";
+        resource = codes "vm-1";
+        key = codes "cpu";
+        value = pos 5_400_000_000;
+        commitment = [];
+        tags = record { key = codes "env"; value = codes "prod" } ∷ [];
+        region = None;
+      }) ∷ [];
+    }
+    ∷ record { version = B1; agent = 1; seq = 2; records = Amends 1 0 (pos 7_200_000_000) ∷ [] } ∷ []
+
+are_some_journals : corrected_journals ≡ some_journals
+unfolding days_from_civil day_count days_of_years days_of_months worth_of decimals_of digits
+are_some_journals = refl
+
+of_corrected_journals : (Says : Holding → Type 0) → (Says some_journals → ⊥) → Says corrected_journals → ⊥
+of_corrected_journals Says refuted says = refuted (subst Says are_some_journals says)
 
 abbrev two_cuts : List Cut
 two_cuts = (1 ∷ []) ∷ (2 ∷ []) ∷ []
@@ -170,16 +212,19 @@ abbrev january : TextLines
 january = header_line ∷ row_1 ∷ []
 
 -- January's file stands under February too
-januarys_file_is_not_februarys : AreFiles (two_files january january) corrected_journals two_cuts → ⊥
+januarys_file_is_not_februarys_of_some : AreFiles (two_files january january) some_journals two_cuts → ⊥
 unfolding days_from_civil day_count days_of_years days_of_months worth_of decimals_of digits
-januarys_file_is_not_februarys files =
+januarys_file_is_not_februarys_of_some files =
     let it = files 1 (lines_text january) shown in
-    let same = it.2 ∙ ap (λ to. file (rows sheet_1 issuer_1 corrected_journals 1 (1 ∷ []) to)) (sym (same_Some (2 ∷ []) it.0 it.1)) in
+    let same = it.2 ∙ ap (λ to. file (rows sheet_1 issuer_1 some_journals 1 (1 ∷ []) to)) (sym (same_Some (2 ∷ []) it.0 it.1)) in
     let billed : pos 120_000_000_000 ≡ pos 40_000_000_000 = same_Some _ _ (ap (λ t. sum_of_first_column (t ∷ [])) same) in
     omega (arith, ints)
   where
     shown : Shows (two_files january january) 1 (lines_text january)
     shown = record { before = codes "exported period 0 lines 2" ∷ january; lines = january; after = []; whole = refl; is_text = refl; is_shown = refl }
+
+januarys_file_is_not_februarys : AreFiles (two_files january january) corrected_journals two_cuts → ⊥
+januarys_file_is_not_februarys = of_corrected_journals (λ journals. AreFiles (two_files january january) journals two_cuts) januarys_file_is_not_februarys_of_some
 
 -- a file is shown, and no majority has chosen a cut
 abbrev one_file : List ℕ
@@ -214,13 +259,16 @@ januarys_file_is_cut_out : first_file 1 (two_files january january) ≡ WholeFil
 unfolding digits
 januarys_file_is_cut_out = refl
 
-januarys_file_is_no_cut_of_februarys : IsCutOut (two_files january january) corrected_journals two_cuts → ⊥
+januarys_file_is_no_cut_of_februarys_of_some : IsCutOut (two_files january january) some_journals two_cuts → ⊥
 unfolding days_from_civil day_count days_of_years days_of_months worth_of decimals_of digits
-januarys_file_is_no_cut_of_februarys files =
+januarys_file_is_no_cut_of_februarys_of_some files =
     let it = files (two_files january january) [] (nothing_behind (two_files january january)) 1 (lines_text january) januarys_file_is_cut_out in
-    let same = it.2 ∙ ap (λ to. file (rows sheet_1 issuer_1 corrected_journals 1 (1 ∷ []) to)) (sym (same_Some (2 ∷ []) it.0 it.1)) in
+    let same = it.2 ∙ ap (λ to. file (rows sheet_1 issuer_1 some_journals 1 (1 ∷ []) to)) (sym (same_Some (2 ∷ []) it.0 it.1)) in
     let billed : pos 120_000_000_000 ≡ pos 40_000_000_000 = same_Some _ _ (ap (λ t. sum_of_first_column (t ∷ [])) same) in
     omega (arith, ints)
+
+januarys_file_is_no_cut_of_februarys : IsCutOut (two_files january january) corrected_journals two_cuts → ⊥
+januarys_file_is_no_cut_of_februarys = of_corrected_journals (λ journals. IsCutOut (two_files january january) journals two_cuts) januarys_file_is_no_cut_of_februarys_of_some
 
 -- the line above says one line too few: the header line alone is cut out
 abbrev too_few : List ℕ
@@ -230,13 +278,16 @@ the_header_line_is_cut_out : first_file 0 too_few ≡ WholeFile (lines_text (hea
 unfolding digits
 the_header_line_is_cut_out = refl
 
-one_line_too_few : IsCutOut too_few corrected_journals two_cuts → ⊥
+one_line_too_few_of_some : IsCutOut too_few some_journals two_cuts → ⊥
 unfolding days_from_civil day_count days_of_years days_of_months worth_of decimals_of digits
-one_line_too_few files =
+one_line_too_few_of_some files =
     let it = files too_few [] (nothing_behind too_few) 0 (lines_text (header_line ∷ [])) the_header_line_is_cut_out in
-    let same = it.2 ∙ ap (λ to. file (rows sheet_1 issuer_1 corrected_journals 0 (0 ∷ []) to)) (sym (same_Some (1 ∷ []) it.0 it.1)) in
+    let same = it.2 ∙ ap (λ to. file (rows sheet_1 issuer_1 some_journals 0 (0 ∷ []) to)) (sym (same_Some (1 ∷ []) it.0 it.1)) in
     let billed : pos 0 ≡ pos 120_000_000_000 = same_Some _ _ (ap (λ t. sum_of_first_column (t ∷ [])) same) in
     omega (arith, ints)
+
+one_line_too_few : IsCutOut too_few corrected_journals two_cuts → ⊥
+one_line_too_few = of_corrected_journals (λ journals. IsCutOut too_few journals two_cuts) one_line_too_few_of_some
 
 -- ---- a correction that charges the whole again, and one that does not say that it is one
 
@@ -253,9 +304,9 @@ again = header_line ∷ (codes "0.16,A-100,Payer,USD,2025-03-01T00:00:00Z,2025-0
     ++ codes "Sample Cloud,Sample Cloud,,,vm-1,Compute,Sample Compute,cpu,cpu-od,acc-7,\"{\"\"env\"\":\"\"prod\"\"}\"") ∷ []
 
 -- 0.12 and 0.16 are shown, where two hours are 0.16
-charging_again_does_not_add_up : AddUp (two_files january again) corrected_journals two_cuts → ⊥
+charging_again_does_not_add_up_of_some : AddUp (two_files january again) some_journals two_cuts → ⊥
 unfolding days_from_civil day_count days_of_years days_of_months worth_of decimals_of digits
-charging_again_does_not_add_up adds_up =
+charging_again_does_not_add_up_of_some adds_up =
     let billed : pos 280_000_000_000 ≡ pos 160_000_000_000 = same_Some _ _ (adds_up (lines_text january ∷ lines_text again ∷ []) (both_are_shown again first second)) in
     omega (arith, ints)
   where
@@ -265,15 +316,18 @@ charging_again_does_not_add_up adds_up =
     second : Shows (two_files january again) 1 (lines_text again)
     second = record { before = codes "exported period 0 lines 2" ∷ january; lines = again; after = []; whole = refl; is_text = refl; is_shown = refl }
 
+charging_again_does_not_add_up : AddUp (two_files january again) corrected_journals two_cuts → ⊥
+charging_again_does_not_add_up = of_corrected_journals (λ journals. AddUp (two_files january again) journals two_cuts) charging_again_does_not_add_up_of_some
+
 abbrev unsaid : TextLines
 unsaid = header_line ∷ (codes "0.04,A-100,Payer,USD,2025-03-01T00:00:00Z,2025-02-01T00:00:00Z,Usage,,Virtual CPU time,Usage-Based,2025-01-10T02:00:00Z,"
     ++ codes "2025-01-10T00:00:00Z,,,,,1800,Seconds,0.04,0.08,0.04,Sample Cloud Ltd,0.05,0.1,Standard,0.5,Hours,Sample Cloud,Sample Cloud,,"
     ++ codes ",vm-1,Compute,Sample Compute,cpu,cpu-od,acc-7,\"{\"\"env\"\":\"\"prod\"\"}\"") ∷ []
 
 -- two lines are new, of one reading
-an_unsaid_correction_is_new_twice : AreNewOnce (two_files january unsaid) corrected_journals two_cuts → ⊥
+an_unsaid_correction_is_new_twice_of_some : AreNewOnce (two_files january unsaid) some_journals two_cuts → ⊥
 unfolding days_from_civil day_count days_of_years days_of_months worth_of decimals_of digits
-an_unsaid_correction_is_new_twice new_once =
+an_unsaid_correction_is_new_twice_of_some new_once =
     let counts : 2 ≡ 1 = new_once (lines_text january ∷ lines_text unsaid ∷ []) (both_are_shown unsaid first second) in
     omega (arith, counts)
   where
@@ -282,3 +336,6 @@ an_unsaid_correction_is_new_twice new_once =
 
     second : Shows (two_files january unsaid) 1 (lines_text unsaid)
     second = record { before = codes "exported period 0 lines 2" ∷ january; lines = unsaid; after = []; whole = refl; is_text = refl; is_shown = refl }
+
+an_unsaid_correction_is_new_twice : AreNewOnce (two_files january unsaid) corrected_journals two_cuts → ⊥
+an_unsaid_correction_is_new_twice = of_corrected_journals (λ journals. AreNewOnce (two_files january unsaid) journals two_cuts) an_unsaid_correction_is_new_twice_of_some
