@@ -3,11 +3,11 @@
 ghost use Rattle.std.specs.Prelude.{◌≡◌};
 ghost use Rattle.sheet_text.specs.Names.{key_name};
 
-use thiserror::Error;
+use std::error::Error;
+use std::fmt::{Display, Formatter, Result, Write};
 
 /// A key of a sheet or of an issuer. One that stands in several tables is one variant.
-#[derive(Clone, Copy, Debug, PartialEq, Eq, Drop, Error)]
-#[error("{}", self.name())]
+#[derive(Clone, Copy, Debug, PartialEq, Eq, Drop)]
 pub enum Key {
     // At the top of a sheet.
     Base,
@@ -76,5 +76,14 @@ impl Key {
             Key::Currency => "currency",
             Key::OtherService => "other_service",
         }
+    }
+}
+
+impl Error for Key {}
+
+// Not by `thiserror`, whose arms, one for each variant, take the prover longer than any function here.
+impl Display for Key {
+    fn fmt<W: Write>(&self, f: &mut Formatter<W>) -> Result {
+        f.write_str(self.name())
     }
 }
