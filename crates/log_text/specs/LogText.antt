@@ -43,6 +43,10 @@ head_fields h = codes "G1" ∷ h.group ∷ who_fields h.who ++ decimal h.voters 
 abbrev pub head_text : LogHead → List ℕ
 head_text h = line_of_fields (head_fields h)
 
+-- a text begins with just that head line
+abbrev pub has_head : LogHead → (text : List ℕ) → Bool
+has_head h text = is_same (take (length (head_text h)) text) (head_text h)
+
 -- of a group of so many nodes and agents
 abbrev pub is_among : Who → (nodes agents : ℕ) → Bool
 is_among (NodeOf i) nodes agents = nat_lt i nodes

@@ -17,4 +17,4 @@ pub use faults::{LogCode, LogFault};
 pub use heads::{LogHead, Who};
 pub use increments::Increment;
 pub use reading::{Log, read_log};
-pub use writing::{put_head, put_increment, put_kept};
+pub use writing::{has_head, put_head, put_increment, put_kept};

@@ -1,6 +1,6 @@
 //! Heads, increments, and what is kept, written as lines of a log.
 
-ghost use Rattle.std.specs.Prelude.{◌≡◌, Some, [], ◌∷◌, ◌++◌, codes, decimal, map, OnErr, OnOk};
+ghost use Rattle.std.specs.Prelude.{◌≡◌, Some, [], ◌∷◌, ◌++◌, codes, decimal, map, IfOk, OnErr, OnOk};
 ghost use Rattle.std.specs.Option.{option_copied};
 ghost use Rattle.metering_model.specs.Transcript.{line_count};
 ghost use Rattle.packet_text.specs.PacketText.{vote_fields};
@@ -8,12 +8,12 @@ ghost use Rattle.packet_text.specs.Inner.Pieces.{HasBehind, barred};
 ghost use Rattle.batch_store.specs.Batches.{batch_of};
 ghost use Rattle.log_text.specs.Heads.{who_of};
 ghost use Rattle.log_text.specs.Increments.{increment_of};
-ghost use Rattle.log_text.specs.LogText.{BeginsRound, SetsBallots, Learns, Takes, base_text, head_text, increment_text, section_line, who_fields};
+ghost use Rattle.log_text.specs.LogText.{BeginsRound, SetsBallots, Learns, Takes, base_text, has_head, head_text, increment_text, section_line, who_fields};
 
 use crate::heads::{LogHead, Who};
 use crate::increments::Increment;
 use batch_store::{Cut, OwnedBatch};
-use byte_text::{line_count, put_numbered};
+use byte_text::{is_same, line_count, put_numbered};
 use node_kept::{Kept, promised_number};
 use paxos_ballot::{Acceptor, Vote};
 use std::alloc::{AllocError, Global};
@@ -162,6 +162,16 @@ pub fn put_head(text: &mut Vec<u8>, head: &LogHead) -> Result<(), AllocError>
         text.truncate(before);
     }
     result
+}
+
+/// Whether a text begins with just that head line. An error is an allocation failure.
+pub fn has_head(alloc: Global, head: &LogHead, text: &[u8]) -> Result<bool, AllocError>
+    ensures { IfOk result (λ is. is ≡ has_head head.now text.now) }
+{
+    let mut line = Vec::new(alloc);
+    put_head(&mut line, head)?;
+    let length = line.len().min(text.len());
+    Ok(is_same(&text[..length], &line))
 }
 
 /// Appends the lines of what a step adds. An error is an allocation failure, and leaves the text's bytes as they were.

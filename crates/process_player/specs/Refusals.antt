@@ -11,9 +11,9 @@ use Rattle.metering_model.specs.Transcript.{line}
 use Rattle.input_sections.specs.declared.faults.ScheduleFault.{ScheduleFault}
 use Rattle.input_sections.specs.declared.faults.ScheduleFault.TheVariants.{Refused}
 use Rattle.input_sections.specs.declared.faults.ScheduleCode.TheVariants as code
-use Rattle.input_sections.specs.Sections.{begins_with, left, number_behind}
+use Rattle.input_sections.specs.Sections.{left, number_behind}
 use Rattle.log_text.specs.declared.faults.LogCode.{LogCode}
-use Rattle.log_text.specs.LogText.{AgentOf, LogHead, NodeOf, ReadLog, Who, head_text, log_in, most_kept_lines, section_in}
+use Rattle.log_text.specs.LogText.{AgentOf, LogHead, NodeOf, ReadLog, Who, has_head, log_in, most_kept_lines, section_in}
 use Rattle.group_process.specs.Journals.{keeps_journal_of}
 use Rattle.process_player.specs.declared.faults.ProcessFault.{ProcessFault}
 use Rattle.process_player.specs.declared.faults.ProcessFault.TheVariants as fault
@@ -96,10 +96,6 @@ pub record SaysLog (text : List ℕ) : Type 0 where
   pub is_said : section_in (codes "log ") most_kept_lines said ≡ Some (length lines)
   pub more : List ℕ
   pub joined : text ≡ line said ++ lines_text lines ++ more
-
--- a log begins with just that head line
-abbrev pub has_head : LogHead → (log : List ℕ) → Bool
-has_head h log = begins_with (head_text h) log
 
 -- The process's own log is damaged there, and no longer than a log may be: one that is longer is `TooLong` alone.
 pub record RefusesLog (own : ReadLog) (text : List ℕ) (at_fault : LogCode) (number : ℕ) : Type 0 where

@@ -4,7 +4,6 @@ ghost use Rattle.std.specs.Prelude.{◌≡◌, ◌<◌, ◌≤◌, length, IfErr
 ghost use Rattle.process_player.specs.declared.faults.ProcessFault.{ProcessFault};
 ghost use Rattle.metering_model.specs.Limits.{most_transcript_bytes};
 ghost use Rattle.log_text.specs.LogText.{IsLogHead, log_in, most_kept_lines, section_in};
-ghost use Rattle.process_player.specs.Refusals.{has_head};
 ghost use Rattle.process_player.specs.Inner.Calls.{Reads};
 ghost use Rattle.process_player.specs.Inner.Reading.{HasTaken};
 ghost use Rattle.process_player.specs.Inner.Refusing.{OfAll, RejectsLog, RejectsStored};
@@ -14,9 +13,9 @@ use byte_text::{is_same, whole_up_to};
 use counted_io::Source;
 use input_sections::{ScheduleCode, behind_word};
 use line_source::{Unread, lines_end};
-use log_text::{Log, LogFault, LogHead, put_head, read_log};
+use log_text::{Log, LogFault, LogHead, has_head, read_log};
 use node_kept::Kept;
-use std::alloc::{AllocError, Global};
+use std::alloc::Global;
 
 /// A log has no more lines than this: more do not fit.
 const MOST_LINES: u64 = 4_294_967_295;
@@ -27,15 +26,6 @@ fn log_lines(line: &[u8]) -> Option<u64>
 {
     let lines = whole_up_to(behind_word(line, b"log ")?, MOST_LINES)?;
     if lines < 1 { None } else { Some(lines) }
-}
-
-/// Whether a log begins with just that head line.
-fn has_head(alloc: Global, head: &LogHead, text: &[u8]) -> Result<bool, AllocError>
-    ensures { IfOk result (λ is. is ≡ has_head head.now text.now) }
-{
-    let mut line = Vec::new(alloc);
-    put_head(&mut line, head)?;
-    Ok(behind_word(text, &line).is_some())
 }
 
 /// What is kept by a log, which has to be of this head: another's is refused as that before anything else of it is read.

@@ -2,11 +2,11 @@
 use Rattle.std.specs.Prelude.{◌≡◌, ◌<◌, ℕ, true, false, List, ◌++◌, length, Option, Some, None, Err}
 use Rattle.metering_model.specs.BatchReading.{lines_in}
 use Rattle.metering_model.specs.Limits.{most_transcript_bytes}
-use Rattle.log_text.specs.LogText.{LogHead, ReadLog, log_in}
+use Rattle.log_text.specs.LogText.{LogHead, ReadLog, has_head, log_in}
 use Rattle.process_player.specs.declared.faults.ProcessFault.{ProcessFault}
 use Rattle.process_player.specs.declared.faults.ProcessFault.TheVariants as fault
 use Rattle.process_player.specs.declared.heads.ProcessKind.{ProcessKind}
-use Rattle.process_player.specs.Refusals.{RefusesHead, RefusesLog, RefusesPreamble, has_head, stored_lines}
+use Rattle.process_player.specs.Refusals.{RefusesHead, RefusesLog, RefusesPreamble, stored_lines}
 
 -- all that is ahead and still to come, where that is known
 abbrev pub OfAll : (List ℕ → Type 0) → (ahead : List ℕ) → (left : Option (List ℕ)) → Type 0
