@@ -23,16 +23,16 @@ use Rattle.line_source.specs.Lines.{AreBetween, AreFewer}
 use Rattle.line_source.specs.Reading.{Takes}
 use Rattle.line_source.proofs.Taking.{reads_on}
 use Rattle.log_text.specs.declared.faults.LogCode.{LogCode}
-use Rattle.log_text.specs.LogText.{AgentOf, IsLogHead, LogHead, NodeOf, ReadLog, Who, base_text, head_in, head_text, increment_text, is_among, log_in, nothing_kept, section_in}
+use Rattle.log_text.specs.LogText.{AgentOf, IsLogHead, LogHead, NodeOf, ReadLog, Who, base_text, has_head, head_in, head_text, increment_text, is_among, log_in, nothing_kept, section_in}
 use Rattle.log_text.proofs.HeadLaws.{head_lacks_feed, head_line, head_written}
 use Rattle.log_text.proofs.LogLaws.{log_lacks_feed, log_lines, log_lines_text, log_read}
 use Rattle.process_text.specs.declared.processes.Process.{Process}
 use Rattle.process_player.specs.declared.faults.ProcessFault.{ProcessFault}
 use Rattle.process_player.specs.declared.faults.ProcessFault.TheVariants as fault
 use Rattle.process_player.specs.declared.heads.ProcessKind.{ProcessKind}
-use Rattle.process_player.specs.Refusals.{IsNoJournal, RefusesJournal, Rejects, SaysLog, has_head, log_there, stored_lines}
+use Rattle.process_player.specs.Refusals.{IsNoJournal, RefusesJournal, Rejects, SaysLog, log_there, stored_lines}
 use Rattle.process_player.specs.Starts.{GoesOn, HasLog, HasNone, IsStored}
-use Rattle.process_player.specs.Inner.Groups.{IsAmong}
+use Rattle.process_player.specs.Inner.Groups.{IsAmong, group_said}
 use Rattle.process_player.specs.Inner.Reading.{HasBegun, HasRead, HasTaken, Passes}
 use Rattle.process_player.specs.Inner.Refusing.{OfAll, RejectsLog, RejectsStored}
 use Rattle.process_player.proofs.Between.{between_counted, first_whole}
@@ -233,12 +233,12 @@ refused_journal {own} it rest (HasLog said log kept n lines counted read) none =
       no_journal = none;
     }
 
-abbrev pub group_said : LogHead → Sheet → Issuer → laws.Group
-group_said h sheet issuer = record { name = h.group; voters = h.voters; observers = h.observers; agents = h.agents; sheet = sheet; issuer = issuer }
-
 among_of : (w : Who) (g : laws.Group) → IsTrue (is_among w (g.voters + g.observers) g.agents) → IsAmong g w
 among_of (NodeOf i) g h = ltb-true _ _ h
 among_of (AgentOf a) g h = let both = and_parts (nat_le 1 a) (nat_le a g.agents) h in (leb-true _ _ both.0, leb-true _ _ both.1)
+
+pub among_group : (h : LogHead) (sheet : Sheet) (issuer : Issuer) (g : laws.Group) (w : Who) → IsLogHead h → g ≡ group_said h sheet issuer → w ≡ h.who → IsAmong g w
+among_group h sheet issuer g w head is of = subst (λ x. IsAmong g x) (sym of) (subst (λ x. IsAmong x h.who) (sym is) (among_of h.who (group_said h sheet issuer) head.who))
 
 module _ {k : ProcessKind} {own : ReadLog} {sheet : Sheet} {issuer : Issuer} {next : ℕ} {a b : List ℕ} {l m : Option (List ℕ)} (it : HasRead k own sheet issuer next a b l m) where
   own_line : IsOwn own
@@ -247,17 +247,12 @@ module _ {k : ProcessKind} {own : ReadLog} {sheet : Sheet} {issuer : Issuer} {ne
   pub own_head : IsLogHead own.head
   own_head = (log_limits own (own_read own_line)).0
 
-  pub is_among_group : (g : laws.Group) (w : Who) → g ≡ group_said own.head sheet issuer
-      → w ≡ own.head.who → IsAmong g w
-  is_among_group g w is of = subst (λ x. IsAmong g x) (sym of) (subst (λ x. IsAmong x own.head.who) (sym is) (among_of own.head.who (group_said own.head sheet issuer) own_head.who))
-
   module _ {kept : KeptAmong} {c : List ℕ} {n : Option (List ℕ)} (taken : HasTaken own kept b c m n) where
     pub kept_agents : kept.agents ≡ own.head.agents
     kept_agents = stored_agents (log_limits own (own_read own_line)).1 taken.is_stored
 
-    pub has_begun : (g : laws.Group) (w : Who) (p : Process) → g ≡ group_said own.head sheet issuer
-        → w ≡ own.head.who → GoesOn g w kept p → HasBegun k p a c l n
-    has_begun g w p is of goes_on = record {
+    pub has_begun : (p : Process) → GoesOn (group_said own.head sheet issuer) own.head.who kept p → HasBegun k p a c l n
+    has_begun p goes_on = record {
       text = it.text ++ taken.text;
       begins = record {
         preamble = record { own = own; sheet = sheet; issuer = issuer; rest = it.behind };
@@ -268,14 +263,14 @@ module _ {k : ProcessKind} {own : ReadLog} {sheet : Sheet} {issuer : Issuer} {ne
         whole = it.whole;
         kept = kept;
         is_stored = taken.is_stored;
-        goes_on = subst (λ x. GoesOn x own.head.who kept p) is (subst (λ x. GoesOn g x kept p) of goes_on);
+        goes_on = goes_on;
       };
       passes = passes_on it.passes taken.passes;
       at_hand = taken.at_hand;
     }
 
-    pub no_journal : (w : Who) → w ≡ own.head.who → IsNoJournal w kept → OfAll (λ input. Rejects k input fault.NoJournal) a l
-    no_journal w is none =
+    pub no_journal : IsNoJournal own.head.who kept → OfAll (λ input. Rejects k input fault.NoJournal) a l
+    no_journal none =
         behind (λ own next stored. RefusesJournal own stored) it (refused_in m n taken)
       where
         refused_in : (m' n' : Option (List ℕ)) → HasTaken own kept b c m' n' → OfAll (λ stored. RefusesJournal own stored) b m'
@@ -285,4 +280,4 @@ module _ {k : ProcessKind} {own : ReadLog} {sheet : Sheet} {issuer : Issuer} {ne
             subst (RefusesJournal own)
             (sym (ap (λ u. b ++ u) t.passes.consumed ∙ sym (append_assoc b t.passes.came ys) ∙ ap (λ u. u ++ ys) t.passes.joined
             ∙ append_assoc t.text c ys))
-            (refused_journal own_line (c ++ ys) t.is_stored (subst (λ x. IsNoJournal x kept) is none))
+            (refused_journal own_line (c ++ ys) t.is_stored none)

@@ -8,7 +8,7 @@ ghost use Rattle.log_text.specs.LogText.{IsLogHead};
 ghost use Rattle.process_player.specs.Refusals.{IsNoJournal, Rejects};
 ghost use Rattle.process_player.specs.Starts.{GoesOn};
 ghost use Rattle.process_player.specs.Inner.Calls.{Reads};
-ghost use Rattle.process_player.specs.Inner.Groups.{IsAmong};
+ghost use Rattle.process_player.specs.Inner.Groups.{IsAmong, group_said};
 ghost use Rattle.process_player.specs.Inner.Reading.{HasBegun};
 ghost use Rattle.process_player.specs.Inner.Refusing.{OfAll};
 
@@ -78,6 +78,36 @@ fn kept_or(stored: Option<Kept>, own: Log) -> Kept
     }
 }
 
+/// Drops a preamble beside no other value, for the prover's time alone (docs/DECISIONS.md).
+fn drop_preamble(_preamble: Preamble) {}
+
+/// The process of a preamble, which goes on with what was stored last. None where that is no journal of the agent that it is.
+fn process_with(
+    alloc: Global,
+    preamble: Preamble,
+    stored: Option<Kept>,
+) -> Result<Option<Process>, AllocError>
+    requires head { IsLogHead preamble.own.head }
+    requires kept { (unwrap_or stored preamble.own.kept).agents ≡ preamble.own.head.agents }
+    ensures { IfOk result (λ process. MatchOption process
+        (IsNoJournal preamble.own.head.who (unwrap_or stored preamble.own.kept))
+        (GoesOn (group_said preamble.own.head preamble.sheet preamble.issuer)
+        preamble.own.head.who (unwrap_or stored preamble.own.kept))) }
+{
+    let Preamble {
+        own,
+        sheet,
+        issuer,
+        ..
+    } = preamble;
+    let who = own.head().who();
+    let Ok(group) = group_of(alloc, own.head(), sheet, issuer) else {
+        return Err(AllocError);
+    };
+    let kept = kept_or(stored, own);
+    Ok(process_of(alloc, group, who, kept))
+}
+
 /// Reads with what a process is begun, takes it, and begins the process.
 pub(crate) fn begin<S: Source>(
     alloc: Global,
@@ -96,20 +126,19 @@ pub(crate) fn begin<S: Source>(
     ensures no_write { result ≢ Err ProcessFault.Write }
 {
     let preamble = read_preamble(alloc, kind, unread, source)?;
-    let stored = read_stored(alloc, &preamble.own, preamble.line, unread, source)?;
-    let Preamble {
-        own,
-        sheet,
-        issuer,
-        ..
-    } = preamble;
-    let who = own.head().who();
-    let Ok(group) = group_of(alloc, own.head(), sheet, issuer) else {
-        return Err(ProcessFault::OutOfMemory);
-    };
-    let kept = kept_or(stored, own);
-    match process_of(alloc, group, who, kept) {
-        Some(process) => Ok(process),
-        None => Err(ProcessFault::NoJournal),
+    match read_stored(alloc, &preamble.own, preamble.line, unread, source) {
+        Ok(stored) => {
+            let Ok(found) = process_with(alloc, preamble, stored) else {
+                return Err(ProcessFault::OutOfMemory);
+            };
+            match found {
+                Some(process) => Ok(process),
+                None => Err(ProcessFault::NoJournal),
+            }
+        }
+        Err(fault) => {
+            drop_preamble(preamble);
+            Err(fault)
+        }
     }
 }
