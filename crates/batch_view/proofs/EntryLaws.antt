@@ -172,6 +172,15 @@ lacks_reading bytes h es seq index e s i kept is found = λ r own got.
     let fits = fits_at bytes h es index e (Reads r) kept is got in
     subst (λ f. FitsRecord f e.value (Reads r)) found fits
 
+-- a batch has no reading of another sequence, and none past its entries
+pub lacks_other : (bytes : List ℕ) (h : Head) (es : List Entry) (seq index : ℕ) → KeepsBatch bytes h es → (seq ≡ h.seq → ⊥) → LacksReading (batch_of bytes) seq index
+lacks_other bytes h es seq index kept other = λ r own got. other (own ∙ sym kept.head.seq)
+
+pub lacks_past : (bytes : List ℕ) (h : Head) (es : List Entry) (seq index : ℕ) → KeepsBatch bytes h es → length es ≤ index → LacksReading (batch_of bytes) seq index
+lacks_past bytes h es seq index kept past = λ r own got.
+    let none = slice_get_past (batch_of bytes).records index (omega (arith, kept.entries.many)) in
+    absurd (cc)
+
 -- ---- the record of an entry
 
 reading_of : (version : Version) (bytes : List ℕ) (line : Span) (e : Entry) (n : Numbers) → IsEntryAt version bytes line e → e.found ≡ Reading n.kind n.start n.end → n.value ≡ e.value

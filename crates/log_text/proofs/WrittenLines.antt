@@ -1,8 +1,9 @@
 -- Lines of a log are put together piece by piece.
-use Rattle.std.proofs.Common.{◌≡◌, ℕ, ◌+◌, ◌-◌, List, [], ◌∷◌, ◌++◌, length, map, codes, decimal, cond, Option, Some, None, Result, Ok, Err, OnOk, is_ok, refl, sym, ap, ap₂, ◌∙◌, arith, append-nil, append_assoc}
+use Rattle.std.proofs.Common.{◌≡◌, ℕ, ◌+◌, ◌-◌, List, [], ◌∷◌, ◌++◌, length, map, codes, decimal, cond, Option, Some, None, Result, Ok, Err, OnErr, OnOk, is_ok, refl, sym, ap, ap₂, ◌∙◌, arith, append-nil, append_assoc}
 use Rattle.std.specs.Fmt.{digits}
 use Rattle.std.specs.Prelude.{◌==◌}
 use Rattle.std.specs.List.{flat_map, join_with_byte, slice_split}
+use Rattle.std.specs.Result.{IsErr}
 use Rattle.std.proofs.lemmas.List.Concat.{flat_map-append}
 use Rattle.std.proofs.lemmas.List.Splits.{length-slice_split}
 use Rattle.metering_model.specs.Ballot.{Vote, Acceptor}
@@ -10,7 +11,7 @@ use Rattle.metering_model.specs.BatchReading.{lines_in, lines_of_parts}
 use Rattle.metering_model.specs.KeptText.{KeptAmong, kept_text, promised_number, vote_cuts, vote_number}
 use Rattle.metering_model.specs.Transcript.{line_count}
 use Rattle.packet_text.specs.PacketText.{vote_fields}
-use Rattle.packet_text.specs.Inner.Pieces.{barred}
+use Rattle.packet_text.specs.Inner.Pieces.{HasBehind, barred}
 use Rattle.packet_text.proofs.Pieces.{joined_bars}
 use Rattle.log_text.specs.LogText.{LogHead, SetsBallots, Learns, base_text, head_text, increment_text, section_line, who_fields}
 
@@ -18,6 +19,29 @@ use Rattle.log_text.specs.LogText.{LogHead, SetsBallots, Learns, base_text, head
 pub then_put : {A E : Type 0} (r : Result A E) (mid new bytes whole : List ℕ) → new ≡ cond (is_ok r) (mid ++ bytes) mid → mid ++ bytes ≡ whole → OnOk r (new ≡ whole)
 then_put (Ok x) mid new bytes whole put is = put ∙ is
 then_put (Err e) mid new bytes whole put is = tt
+
+-- an error says nothing of what was put
+pub none_put : {A E : Type 0} (r : Result A E) (P : Type 0) → IsErr r → OnOk r P
+none_put (Ok x) P is = absurd (cc)
+none_put (Err e) P is = tt
+
+pub at_err : {A E P : Type 0} (r : Result A E) → P → OnErr r P
+at_err (Ok x) p = tt
+at_err (Err e) p = p
+
+pub behind_same : {a b : List ℕ} → b ≡ a → HasBehind a b
+behind_same {a} same = record { more = []; joined = same ∙ sym (append-nil a) }
+
+pub behind_put : {a b : List ℕ} (bytes : List ℕ) → b ≡ a ++ bytes → HasBehind a b
+behind_put bytes put = record { more = bytes; joined = put }
+
+pub behind_both : {a b c : List ℕ} → HasBehind a b → HasBehind b c → HasBehind a c
+behind_both {a} one two = record { more = one.more ++ two.more; joined = two.joined ∙ ap (λ t. t ++ two.more) one.joined ∙ append_assoc a one.more two.more }
+
+-- what was appended last stands there or not
+pub then_behind : {A E : Type 0} (r : Result A E) {old mid : List ℕ} (new bytes : List ℕ) → new ≡ cond (is_ok r) (mid ++ bytes) mid → HasBehind old mid → OnErr r (HasBehind old new)
+then_behind (Ok x) new bytes put before = tt
+then_behind (Err e) new bytes put before = behind_both before (behind_same put)
 
 -- fields are barred one after the other
 bars_both : (fs gs : List (List ℕ)) → barred (fs ++ gs) ≡ barred fs ++ barred gs

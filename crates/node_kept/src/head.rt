@@ -1,6 +1,6 @@
 //! The head line of a kept text.
 
-ghost use Rattle.std.specs.Prelude.{◌≡◌, ◌∷◌, [], Ok, Err, MatchOption};
+ghost use Rattle.std.specs.Prelude.{◌≡◌, ◌≤◌, ◌∷◌, [], Ok, Err, MatchOption, length};
 ghost use Rattle.metering_model.specs.BatchReading.{fields_in, whole_in};
 ghost use Rattle.metering_model.specs.KeptText.{kept_head_in};
 ghost use Rattle.metering_model.specs.Limits.{most_batches};
@@ -33,6 +33,17 @@ struct HeadFields<'a> {
     batches: &'a [u8],
 }
 
+/// The first three fields, and the text of those behind them, if there are more than three.
+fn three_fields(text: &[u8]) -> Option<(&[u8], &[u8], &[u8], &[u8])>
+    ensures { MatchOption result (length (fields_in text.now) ≤ 3)
+        (λ f. fields_in text.now ≡ f.0.now ∷ f.1.now ∷ f.2.now ∷ fields_in f.3.now) }
+{
+    let (one, rest) = split_at_bar(text)?;
+    let (two, rest) = split_at_bar(rest)?;
+    let (three, rest) = split_at_bar(rest)?;
+    Some((one, two, three, rest))
+}
+
 /// The fields, if there are just seven.
 fn head_fields(line: &[u8]) -> Option<HeadFields<'_>>
     ensures { MatchOption result
@@ -41,12 +52,8 @@ fn head_fields(line: &[u8]) -> Option<HeadFields<'_>>
         ≡ f.version.now ∷ f.agents.now ∷ f.round.now ∷ f.learned.now ∷ f.promised.now ∷ f.ballot.now
         ∷ f.batches.now ∷ []) }
 {
-    let (version, rest) = split_at_bar(line)?;
-    let (agents, rest) = split_at_bar(rest)?;
-    let (round, rest) = split_at_bar(rest)?;
-    let (learned, rest) = split_at_bar(rest)?;
-    let (promised, rest) = split_at_bar(rest)?;
-    let (ballot, batches) = split_at_bar(rest)?;
+    let (version, agents, round, rest) = three_fields(line)?;
+    let (learned, promised, ballot, batches) = three_fields(rest)?;
     if split_at_bar(batches).is_some() {
         return None;
     }

@@ -8,6 +8,7 @@ pub mod SentByRuns
 pub mod Fields
 pub mod NumberSteps
 pub mod Pieces
+pub mod PartsRead
 mod WorkedPackets
 mod WorkedFaults
 mod WorkedStreams

@@ -3,3 +3,4 @@ pub mod Finding
 pub mod Seen
 pub mod Told
 pub mod Passing
+mod Failing

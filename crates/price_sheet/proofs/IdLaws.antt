@@ -1,12 +1,14 @@
 -- The places of rows with ids, with one row more.
-use Rattle.std.proofs.Common.{◌≡◌, ℕ, Bool, true, false, cond, List, [], ◌∷◌, ◌++◌, length, find, slice_get, Option, Some, None, Ok, is_some, Vec, if◌then◌else◌, refl, sym, subst, ◌∙◌}
+use Rattle.std.proofs.Common.{◌≡◌, ℕ, Bool, true, false, cond, List, [], ◌∷◌, ◌++◌, length, find, slice_get, Option, Some, None, Ok, Err, is_some, Vec, if◌then◌else◌, refl, sym, ap, subst, ◌∙◌}
 use Rattle.std.specs.List.{list_any}
 use Rattle.std.specs.Option.{option_or, option_and_then}
 use Rattle.std.proofs.lemmas.List.Folds.{find-append}
 use Rattle.toml.specs.Data.{Members}
 use Rattle.metering_model.specs.BatchReading.{is_same}
 use Rattle.metering_model.specs.Sheet.{PriceRow, Commitment, Region}
+use Rattle.metering_model.specs.FirstFailure.{◌>>=◌}
 use Rattle.metering_model.proofs.StepLaws.{ok_step_from}
+use Rattle.sheet_text.specs.declared.faults.SheetFault.{SheetFault}
 use Rattle.price_sheet.specs.SheetReading.{next_commitment, commitments_in, next_region, regions_in}
 use Rattle.price_sheet.specs.Inner.Places.{found_at, Puts, StandsAt, IndexesBy}
 use Rattle.price_sheet.proofs.PlaceLaws.{same_texts}
@@ -67,3 +69,10 @@ commitment_step prices rows table row rest read = sym (ok_step_from (next_commit
 
 pub region_step : (rows : List Region) (table : Members) (row : Region) (rest : List Members) → next_region rows table ≡ Ok row → regions_in (rows ++ row ∷ []) rest ≡ regions_in rows (table ∷ rest)
 region_step rows table row rest read = sym (ok_step_from (next_region rows table) (λ r. regions_in (rows ++ r ∷ []) rest) row _ read refl)
+
+-- and its fault is that of them all
+pub commitment_fault : (prices : List PriceRow) (rows : List Commitment) (table : Members) (rest : List Members) (fault : SheetFault) → next_commitment prices rows table ≡ Err fault → commitments_in prices rows (table ∷ rest) ≡ Err fault
+commitment_fault prices rows table rest fault read = ap (λ r. r >>= (λ row. commitments_in prices (rows ++ row ∷ []) rest)) read
+
+pub region_fault : (rows : List Region) (table : Members) (rest : List Members) (fault : SheetFault) → next_region rows table ≡ Err fault → regions_in rows (table ∷ rest) ≡ Err fault
+region_fault rows table rest fault read = ap (λ r. r >>= (λ row. regions_in (rows ++ row ∷ []) rest)) read

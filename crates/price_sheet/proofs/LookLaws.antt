@@ -1,5 +1,5 @@
 -- Looking among the rows by their index.
-use Rattle.std.proofs.Common.{◌≡◌, ℕ, Bool, true, false, ◌&&◌, List, [], ◌∷◌, ◌++◌, filter, slice_get, Option, Some, None, Ok, ℤ, int_le, int_eq, refl, sym, arith}
+use Rattle.std.proofs.Common.{◌≡◌, ℕ, ◌+◌, Bool, true, false, ◌&&◌, List, [], ◌∷◌, ◌++◌, filter, slice_get, length, length-append, Option, Some, None, Result, Ok, Err, ℤ, int_le, int_eq, refl, sym, ap, arith}
 use Rattle.std.specs.List.{list_any}
 use Rattle.std.proofs.lemmas.Int.{ints}
 use Rattle.toml.specs.Data.{Members}
@@ -7,7 +7,9 @@ use Rattle.metering_model.specs.BatchReading.{is_same}
 use Rattle.metering_model.specs.Sheet.{PriceRow}
 use Rattle.metering_model.specs.SheetRules.{has_same_key}
 use Rattle.metering_model.specs.PriceInForce.{latest}
-use Rattle.metering_model.proofs.StepLaws.{ok_step_from}
+use Rattle.metering_model.specs.FirstFailure.{◌>>=◌}
+use Rattle.metering_model.proofs.StepLaws.{ok_step_from, ok_same}
+use Rattle.sheet_text.specs.declared.faults.SheetFault.{SheetFault}
 use Rattle.price_sheet.specs.SheetReading.{next_price, prices_in}
 use Rattle.price_sheet.specs.declared.price_in_force.Start.{Start}
 use Rattle.price_sheet.specs.Inner.Places.{Shows}
@@ -57,3 +59,14 @@ key_found (r ∷ rows) row = by (is_same r.sku row.sku && int_le r.from row.from
 
 pub price_step : (rows : List PriceRow) (table : Members) (row : PriceRow) (rest : List Members) → next_price rows table ≡ Ok row → prices_in (rows ++ row ∷ []) rest ≡ prices_in rows (table ∷ rest)
 price_step rows table row rest read = sym (ok_step_from (next_price rows table) (λ r. prices_in (rows ++ r ∷ []) rest) row _ read refl)
+
+pub price_fault : (rows : List PriceRow) (table : Members) (rest : List Members) (fault : SheetFault) → next_price rows table ≡ Err fault → prices_in rows (table ∷ rest) ≡ Err fault
+price_fault rows table rest fault read = ap (λ r. r >>= (λ row. prices_in (rows ++ row ∷ []) rest)) read
+
+-- the rows of one table more, and those of the tables behind it
+pub prices_behind : (rows : List PriceRow) (table : Members) (more : List PriceRow) (rest : List Members) → prices_in rows (table ∷ []) ≡ Ok more → (prices_in more rest ≡ prices_in rows (table ∷ rest)) × (length more ≡ length rows + 1)
+prices_behind rows table more rest h = by (next_price rows table) h
+  where
+    by : (read : Result PriceRow SheetFault) → (read >>= (λ row. Ok (rows ++ row ∷ []))) ≡ Ok more → (prices_in more rest ≡ (read >>= (λ row. prices_in (rows ++ row ∷ []) rest))) × (length more ≡ length rows + 1)
+    by (Ok row) is = (ap (λ all. prices_in all rest) (sym (ok_same _ more is)), omega (arith, ap length (ok_same _ more is), length-append rows (row ∷ [])))
+    by (Err fault) is = absurd (cc)

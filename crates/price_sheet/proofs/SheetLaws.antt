@@ -14,6 +14,9 @@ use Rattle.sheet_text.specs.declared.keys.KeyFault.{KeyFault}
 use Rattle.sheet_text.specs.declared.names.Key.TheVariants as keys
 use Rattle.price_sheet.specs.SheetReading.{at_place, next_price, next_commitment, next_region, prices_in, commitments_in, regions_in, prices_sku, sheet_of_rows, sheet_in}
 use Rattle.sheet_text.specs.declared.faults.Place.{Place}
+use Rattle.sheet_text.specs.declared.faults.Place.TheVariants as places
+use Rattle.sheet_text.specs.declared.faults.SheetFault.{SheetFault}
+use Rattle.sheet_text.specs.Keys.{base_under, rows_under}
 use Rattle.sheet_text.proofs.KeyLaws.{holds_true, base_is_read, few_under}
 use Rattle.sheet_text.proofs.RowLaws.{price_row_read, commitment_read, region_read}
 
@@ -127,10 +130,17 @@ regions_read rows (table ∷ tables) all are h =
 
 -- ---- the sheet
 
-pub sheet_read : (table : Members) (sheet : Sheet) → sheet_in table ≡ Ok sheet → IsSheet sheet
-unfolding sheet_in sheet_of_rows
-sheet_read table sheet h =
-    let base = simp step_iff at h in
+-- the parts that a sheet was read of
+sheet_parts : (table : Members) (sheet : Sheet) →
+    ((base : ℕ) × (at_place places.Top (base_under keys.Base table) ≡ Ok base)
+    × ((price_tables : List Members) × (at_place places.Top (rows_under keys.Price table) ≡ Ok price_tables)
+    × ((commitment_tables : List Members) × (at_place places.Top (rows_under keys.Commitment table) ≡ Ok commitment_tables)
+    × ((region_tables : List Members) × (at_place places.Top (rows_under keys.Region table) ≡ Ok region_tables)
+    × ((prices : List PriceRow) × (prices_in [] price_tables ≡ Ok prices)
+    × ((commitments : List Commitment) × (commitments_in prices [] commitment_tables ≡ Ok commitments)
+    × ((regions : List Region) × (regions_in [] region_tables ≡ Ok regions)
+    × ◌≡◌ {A = Result Sheet SheetFault} (Ok (record { base = base; prices = prices; commitments = commitments; regions = regions })) (Ok sheet)))))))) → IsSheet sheet
+sheet_parts table sheet base =
     let price_tables = base.2 in
     let commitment_tables = price_tables.2 in
     let region_tables = commitment_tables.2 in
@@ -156,3 +166,7 @@ sheet_read table sheet h =
       region_count = omega (arith, named.1, few_regions);
       one_region = named.0.apart;
     })
+
+pub sheet_read : (table : Members) (sheet : Sheet) → sheet_in table ≡ Ok sheet → IsSheet sheet
+unfolding sheet_in sheet_of_rows
+sheet_read table sheet h = sheet_parts table sheet (simp step_iff at h)

@@ -1,6 +1,6 @@
 //! The rows of prices, and looking among them.
 
-ghost use Rattle.std.specs.Prelude.{◌≡◌, ◌≢◌, ◌↔◌, ◌<◌, ◌≤◌, ◌&&◌, Ok, Err, IfOk, IfErr, IsTrue, [], length, map, filter, int_le};
+ghost use Rattle.std.specs.Prelude.{◌≡◌, ◌≢◌, ◌↔◌, ◌<◌, ◌≤◌, ◌&&◌, Ok, Err, IfOk, IfErr, OnOk, IsTrue, [], ◌∷◌, length, map, filter, int_le};
 ghost use Rattle.std.specs.Option.{option_copied};
 ghost use Rattle.std.specs.List.{list_any};
 ghost use Rattle.metering_model.specs.Limits.{most_sheet_rows};
@@ -60,13 +60,7 @@ impl PriceTable {
         let mut rows = Vec::new(alloc);
         let mut index = PriceIndex::new(alloc);
         for table in tables {
-            let row = next_price(alloc, &rows, &index, table)?;
-            if index.add(alloc, &rows, &row).is_err() {
-                return Err(SheetFault::OutOfMemory);
-            }
-            if rows.push(row).is_err() {
-                return Err(SheetFault::OutOfMemory);
-            }
+            put_next_price(alloc, &mut rows, &mut index, table)?;
         }
         Ok(PriceTable { rows, index })
     }
@@ -161,4 +155,29 @@ fn next_price(
         → next_price rows.now (table_view table.now) ≡ Err fault) }
 {
     placed_price(rows, index, PriceRow::read(alloc, table))
+}
+
+/// Reads the row of one more table, and puts it behind the others and into the index.
+fn put_next_price(
+    alloc: Global,
+    rows: &mut Vec<PriceRow>,
+    index: &mut PriceIndex,
+    table: &Table,
+) -> Result<(), SheetFault>
+    requires few { length rows.old.items < most_sheet_rows }
+    requires indexed { IndexesPrices rows.old.items index.old.starts.entries }
+    ensures taken { OnOk result
+        (prices_in rows.old.items (table_view table.now ∷ []) ≡ Ok rows.new.items) }
+    ensures indexed { OnOk result (IndexesPrices rows.new.items index.new.starts.entries) }
+    ensures refused { IfErr result (λ fault. fault ≢ SheetFault.OutOfMemory
+        → next_price rows.old.items (table_view table.now) ≡ Err fault) }
+{
+    let row = next_price(alloc, rows, index, table)?;
+    if index.add(alloc, rows, &row).is_err() {
+        return Err(SheetFault::OutOfMemory);
+    }
+    if rows.push(row).is_err() {
+        return Err(SheetFault::OutOfMemory);
+    }
+    Ok(())
 }

@@ -3,7 +3,7 @@ use Rattle.std.proofs.Common.{◌≡◌, ℕ, zero, suc, ◌+◌, ◌<◌, ◌�
 use Rattle.std.specs.List.{slice_get}
 use Rattle.std.specs.Option.{option_map, option_to_list}
 use Rattle.std.proofs.lemmas.Bool.{false≢true}
-use Rattle.std.proofs.lemmas.Option.{slice_get_within, get_or_from_slice_get}
+use Rattle.std.proofs.lemmas.Option.{none-some, same_Some, slice_get_within, get_or_from_slice_get}
 use Rattle.std.proofs.lemmas.List.{get_or-take, length-take-le}
 use Rattle.metering_model.specs.Batch as model
 use Rattle.metering_model.specs.Batch.{record_fields, is_region_of}
@@ -150,23 +150,23 @@ some_in B2 ts region has is = has
 nine : (version : Version) (ts : List LentText) (start end account resource key commitment tags : LentText) (region : Option Field) (m : model.Reading)
     → AreFieldsOf ts start end account resource key commitment tags → HasRegionAt version ts region → texts_of ts ≡ record_fields (model.Reads m) → model.IsReading m
     → is_region_of version m.region ≡ true → Nine ts start end account resource key commitment tags region m
-nine version [] s e a r k c t g m are has same is fits = absurd (cc)
-nine version (x0 ∷ []) s e a r k c t g m are has same is fits = absurd (cc)
-nine version (x0 ∷ x1 ∷ []) s e a r k c t g m are has same is fits = absurd (cc)
-nine version (x0 ∷ x1 ∷ x2 ∷ []) s e a r k c t g m are has same is fits = absurd (cc)
-nine version (x0 ∷ x1 ∷ x2 ∷ x3 ∷ []) s e a r k c t g m are has same is fits = absurd (cc)
-nine version (x0 ∷ x1 ∷ x2 ∷ x3 ∷ x4 ∷ []) s e a r k c t g m are has same is fits = absurd (cc)
-nine version (x0 ∷ x1 ∷ x2 ∷ x3 ∷ x4 ∷ x5 ∷ []) s e a r k c t g m are has same is fits = absurd (cc)
-nine version (x0 ∷ x1 ∷ x2 ∷ x3 ∷ x4 ∷ x5 ∷ x6 ∷ []) s e a r k c t g m are has same is fits = absurd (cc)
-nine version (x0 ∷ x1 ∷ x2 ∷ x3 ∷ x4 ∷ x5 ∷ x6 ∷ x7 ∷ []) s e a r k c t g m are has same is fits = absurd (cc)
+nine version [] s e a r k c t g m are has same is fits = absurd (none-some t are.tags_is)
+nine version (x0 ∷ []) s e a r k c t g m are has same is fits = absurd (none-some t are.tags_is)
+nine version (x0 ∷ x1 ∷ []) s e a r k c t g m are has same is fits = absurd (none-some t are.tags_is)
+nine version (x0 ∷ x1 ∷ x2 ∷ []) s e a r k c t g m are has same is fits = absurd (none-some t are.tags_is)
+nine version (x0 ∷ x1 ∷ x2 ∷ x3 ∷ []) s e a r k c t g m are has same is fits = absurd (none-some t are.tags_is)
+nine version (x0 ∷ x1 ∷ x2 ∷ x3 ∷ x4 ∷ []) s e a r k c t g m are has same is fits = absurd (none-some t are.tags_is)
+nine version (x0 ∷ x1 ∷ x2 ∷ x3 ∷ x4 ∷ x5 ∷ []) s e a r k c t g m are has same is fits = absurd (none-some t are.tags_is)
+nine version (x0 ∷ x1 ∷ x2 ∷ x3 ∷ x4 ∷ x5 ∷ x6 ∷ []) s e a r k c t g m are has same is fits = absurd (none-some t are.tags_is)
+nine version (x0 ∷ x1 ∷ x2 ∷ x3 ∷ x4 ∷ x5 ∷ x6 ∷ x7 ∷ []) s e a r k c t g m are has same is fits = absurd (none-some t are.tags_is)
 nine version (x0 ∷ x1 ∷ x2 ∷ x3 ∷ x4 ∷ x5 ∷ x6 ∷ x7 ∷ x8 ∷ rest) s e a r k c t g m are has same is fits =
-    let e1 : x1 ≡ s = let got = are.start_is in cc in
-    let e2 : x2 ≡ e = let got = are.end_is in cc in
-    let e3 : x3 ≡ a = let got = are.account_is in cc in
-    let e4 : x4 ≡ r = let got = are.resource_is in cc in
-    let e5 : x5 ≡ k = let got = are.key_is in cc in
-    let e7 : x7 ≡ c = let got = are.commitment_is in cc in
-    let e8 : x8 ≡ t = let got = are.tags_is in cc in
+    let e1 : x1 ≡ s = same_Some x1 s are.start_is in
+    let e2 : x2 ≡ e = same_Some x2 e are.end_is in
+    let e3 : x3 ≡ a = same_Some x3 a are.account_is in
+    let e4 : x4 ≡ r = same_Some x4 r are.resource_is in
+    let e5 : x5 ≡ k = same_Some x5 k are.key_is in
+    let e7 : x7 ≡ c = same_Some x7 c are.commitment_is in
+    let e8 : x8 ≡ t = same_Some x8 t are.tags_is in
     let all = x0 ∷ x1 ∷ x2 ∷ x3 ∷ x4 ∷ x5 ∷ x6 ∷ x7 ∷ x8 ∷ rest in
     let behind = region_of version rest m.region g (ap (drop 9) same) fits (none_in version all g has) (some_in version all g has) in
     let last : rest ≡ behind_tags g = behind.0 in
@@ -195,15 +195,15 @@ tags_of_ninth ts t m got same is =
     ap tags_in text ∙ tags_written m.tags is.tags
   where
     ninth : (us : List LentText) → slice_get us 8 ≡ Some t → texts_of us ≡ record_fields (model.Reads m) → t.text ≡ model.tags_text m.tags
-    ninth [] got same = absurd (cc)
-    ninth (x0 ∷ []) got same = absurd (cc)
-    ninth (x0 ∷ x1 ∷ []) got same = absurd (cc)
-    ninth (x0 ∷ x1 ∷ x2 ∷ []) got same = absurd (cc)
-    ninth (x0 ∷ x1 ∷ x2 ∷ x3 ∷ []) got same = absurd (cc)
-    ninth (x0 ∷ x1 ∷ x2 ∷ x3 ∷ x4 ∷ []) got same = absurd (cc)
-    ninth (x0 ∷ x1 ∷ x2 ∷ x3 ∷ x4 ∷ x5 ∷ []) got same = absurd (cc)
-    ninth (x0 ∷ x1 ∷ x2 ∷ x3 ∷ x4 ∷ x5 ∷ x6 ∷ []) got same = absurd (cc)
-    ninth (x0 ∷ x1 ∷ x2 ∷ x3 ∷ x4 ∷ x5 ∷ x6 ∷ x7 ∷ []) got same = absurd (cc)
+    ninth [] got same = absurd (none-some t got)
+    ninth (x0 ∷ []) got same = absurd (none-some t got)
+    ninth (x0 ∷ x1 ∷ []) got same = absurd (none-some t got)
+    ninth (x0 ∷ x1 ∷ x2 ∷ []) got same = absurd (none-some t got)
+    ninth (x0 ∷ x1 ∷ x2 ∷ x3 ∷ []) got same = absurd (none-some t got)
+    ninth (x0 ∷ x1 ∷ x2 ∷ x3 ∷ x4 ∷ []) got same = absurd (none-some t got)
+    ninth (x0 ∷ x1 ∷ x2 ∷ x3 ∷ x4 ∷ x5 ∷ []) got same = absurd (none-some t got)
+    ninth (x0 ∷ x1 ∷ x2 ∷ x3 ∷ x4 ∷ x5 ∷ x6 ∷ []) got same = absurd (none-some t got)
+    ninth (x0 ∷ x1 ∷ x2 ∷ x3 ∷ x4 ∷ x5 ∷ x6 ∷ x7 ∷ []) got same = absurd (none-some t got)
     ninth (x0 ∷ x1 ∷ x2 ∷ x3 ∷ x4 ∷ x5 ∷ x6 ∷ x7 ∷ x8 ∷ us) got same =
         let last : x8 ≡ t = cc in
         sym (ap (λ x. x.text) last) ∙ ap (λ zs. get_or zs 8 []) same

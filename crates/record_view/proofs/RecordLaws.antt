@@ -1,9 +1,11 @@
 -- Which record a line's fields give, by their number and their letter.
-use Rattle.std.proofs.Common.{◌≡◌, ◌≢◌, ℕ, ◌==◌, true, false, List, [], ◌∷◌, length, Ok, Err, Option, Some, None, is_some, ℤ, refl, sym, ap, ◌∙◌, codes, ok_or}
+use Rattle.std.proofs.Common.{◌≡◌, ◌≢◌, ℕ, ◌==◌, true, false, List, [], ◌∷◌, length, Result, Ok, Err, IfErr, Option, Some, None, is_some, ℤ, refl, sym, ap, subst, ◌∙◌, codes, ok_or}
 use Rattle.std.specs.Option.{option_zip}
+use Rattle.std.specs.Result.{IsErr, IsErrAnd}
 use Rattle.std.proofs.lemmas.Option.{none-some, same_Some}
 use Rattle.std.proofs.lemmas.Bool.{false≢true, and_parts, eqb-true}
 use Rattle.metering_model.specs.FirstFailure.{◌>>=◌, holds_or}
+use Rattle.metering_model.specs.declared.BatchCode.{BatchCode}
 use Rattle.metering_model.specs.declared.BatchCode.TheVariants.{Fields, Time, Text, Tags}
 use Rattle.metering_model.specs.declared.Kind.{Kind}
 use Rattle.metering_model.specs.Batch.{Tag, Reads, is_text}
@@ -52,6 +54,75 @@ pub all_steps : (letter start end account resource key value commitment tags : L
 unfolding reading_in
 all_steps letter start end account resource key value commitment tags k s e v ts h1 h2 h3 h4 h5 h6 h7 h8 h9 h10 h11 =
     rw h1 (rw h2 (rw h3 (rw h4 (rw h5 (rw h6 (rw h7 (rw h8 (rw h9 (rw h10 (rw h11 refl))))))))))
+
+-- ---- a reading whose field is the first that breaks its rule
+
+pub kind_broken : (letter start end account resource key value commitment tags : List ℕ) (b : BatchCode)
+    → kind_step letter ≡ Err b
+    → reading_in letter start end account resource key value commitment tags ≡ Err b
+unfolding reading_in
+kind_broken letter start end account resource key value commitment tags b h = rw h refl
+
+pub start_broken : (letter start end account resource key value commitment tags : List ℕ) (k : Kind) (b : BatchCode)
+    → kind_step letter ≡ Ok k → stamp_step start ≡ Err b
+    → reading_in letter start end account resource key value commitment tags ≡ Err b
+unfolding reading_in
+start_broken letter start end account resource key value commitment tags k b h1 h = rw h1 (rw h refl)
+
+pub end_broken : (letter start end account resource key value commitment tags : List ℕ) (k : Kind) (s : ℤ) (b : BatchCode)
+    → kind_step letter ≡ Ok k → stamp_step start ≡ Ok s → stamp_step end ≡ Err b
+    → reading_in letter start end account resource key value commitment tags ≡ Err b
+unfolding reading_in
+end_broken letter start end account resource key value commitment tags k s b h1 h2 h = rw h1 (rw h2 (rw h refl))
+
+pub order_broken : (letter start end account resource key value commitment tags : List ℕ) (k : Kind) (s e : ℤ) (b : BatchCode)
+    → kind_step letter ≡ Ok k → stamp_step start ≡ Ok s → stamp_step end ≡ Ok e → order_step s e ≡ Err b
+    → reading_in letter start end account resource key value commitment tags ≡ Err b
+unfolding reading_in
+order_broken letter start end account resource key value commitment tags k s e b h1 h2 h3 h = rw h1 (rw h2 (rw h3 (rw h refl)))
+
+pub resource_broken : (letter start end account resource key value commitment tags : List ℕ) (k : Kind) (s e : ℤ) (b : BatchCode)
+    → kind_step letter ≡ Ok k → stamp_step start ≡ Ok s → stamp_step end ≡ Ok e → order_step s e ≡ Ok tt → text_step account ≡ Ok tt → text_step resource ≡ Err b
+    → reading_in letter start end account resource key value commitment tags ≡ Err b
+unfolding reading_in
+resource_broken letter start end account resource key value commitment tags k s e b h1 h2 h3 h4 h5 h = rw h1 (rw h2 (rw h3 (rw h4 (rw h5 (rw h refl)))))
+
+pub key_broken : (letter start end account resource key value commitment tags : List ℕ) (k : Kind) (s e : ℤ) (b : BatchCode)
+    → kind_step letter ≡ Ok k → stamp_step start ≡ Ok s → stamp_step end ≡ Ok e → order_step s e ≡ Ok tt → text_step account ≡ Ok tt → text_step resource ≡ Ok tt → key_step key ≡ Err b
+    → reading_in letter start end account resource key value commitment tags ≡ Err b
+unfolding reading_in
+key_broken letter start end account resource key value commitment tags k s e b h1 h2 h3 h4 h5 h6 h = rw h1 (rw h2 (rw h3 (rw h4 (rw h5 (rw h6 (rw h refl))))))
+
+pub value_broken : (letter start end account resource key value commitment tags : List ℕ) (k : Kind) (s e : ℤ) (b : BatchCode)
+    → kind_step letter ≡ Ok k → stamp_step start ≡ Ok s → stamp_step end ≡ Ok e → order_step s e ≡ Ok tt → text_step account ≡ Ok tt → text_step resource ≡ Ok tt → key_step key ≡ Ok tt → value_step value ≡ Err b
+    → reading_in letter start end account resource key value commitment tags ≡ Err b
+unfolding reading_in
+value_broken letter start end account resource key value commitment tags k s e b h1 h2 h3 h4 h5 h6 h7 h = rw h1 (rw h2 (rw h3 (rw h4 (rw h5 (rw h6 (rw h7 (rw h refl)))))))
+
+pub sign_broken : (letter start end account resource key value commitment tags : List ℕ) (k : Kind) (s e : ℤ) (v : ℤ) (b : BatchCode)
+    → kind_step letter ≡ Ok k → stamp_step start ≡ Ok s → stamp_step end ≡ Ok e → order_step s e ≡ Ok tt → text_step account ≡ Ok tt → text_step resource ≡ Ok tt → key_step key ≡ Ok tt → value_step value ≡ Ok v → sign_step k v ≡ Err b
+    → reading_in letter start end account resource key value commitment tags ≡ Err b
+unfolding reading_in
+sign_broken letter start end account resource key value commitment tags k s e v b h1 h2 h3 h4 h5 h6 h7 h8 h = rw h1 (rw h2 (rw h3 (rw h4 (rw h5 (rw h6 (rw h7 (rw h8 (rw h refl))))))))
+
+pub commitment_broken : (letter start end account resource key value commitment tags : List ℕ) (k : Kind) (s e : ℤ) (v : ℤ) (b : BatchCode)
+    → kind_step letter ≡ Ok k → stamp_step start ≡ Ok s → stamp_step end ≡ Ok e → order_step s e ≡ Ok tt → text_step account ≡ Ok tt → text_step resource ≡ Ok tt → key_step key ≡ Ok tt → value_step value ≡ Ok v → sign_step k v ≡ Ok tt → commitment_step k commitment ≡ Err b
+    → reading_in letter start end account resource key value commitment tags ≡ Err b
+unfolding reading_in
+commitment_broken letter start end account resource key value commitment tags k s e v b h1 h2 h3 h4 h5 h6 h7 h8 h9 h = rw h1 (rw h2 (rw h3 (rw h4 (rw h5 (rw h6 (rw h7 (rw h8 (rw h9 (rw h refl)))))))))
+
+pub tags_broken : (letter start end account resource key value commitment tags : List ℕ) (k : Kind) (s e : ℤ) (v : ℤ) (b : BatchCode)
+    → kind_step letter ≡ Ok k → stamp_step start ≡ Ok s → stamp_step end ≡ Ok e → order_step s e ≡ Ok tt → text_step account ≡ Ok tt → text_step resource ≡ Ok tt → key_step key ≡ Ok tt → value_step value ≡ Ok v → sign_step k v ≡ Ok tt → commitment_step k commitment ≡ Ok tt → tags_step tags ≡ Err b
+    → reading_in letter start end account resource key value commitment tags ≡ Err b
+unfolding reading_in
+tags_broken letter start end account resource key value commitment tags k s e v b h1 h2 h3 h4 h5 h6 h7 h8 h9 h10 h = rw h1 (rw h2 (rw h3 (rw h4 (rw h5 (rw h6 (rw h7 (rw h8 (rw h9 (rw h10 (rw h refl))))))))))
+
+-- ---- what `?` hands on
+
+-- the fault that `?` hands on
+pub handed_on : {A E : Type 0} (P : E → Type 0) (r : Result A E) (fault : E) → IsErr r × IsErrAnd r (λ e. e ≡ fault) → P fault → IfErr r P
+handed_on P (Ok x) fault told h = tt
+handed_on P (Err e) fault told h = subst P (sym told.1) h
 
 -- ---- steps that are met
 

@@ -1,9 +1,9 @@
 -- What a text of the form of a stamp says, by its date and its time.
-use Rattle.std.proofs.Common.{◌≡◌, true, false, nat_eq, List, [], ◌∷◌, ℕ, ℤ, take, slice_range, Option, Some, None, refl, sym, ap, ap₂, ◌∙◌}
+use Rattle.std.proofs.Common.{◌≡◌, true, false, ◌&&◌, nat_eq, nat_lt, List, [], ◌∷◌, ℕ, ℤ, take, slice_range, Option, Some, None, refl, sym, ap, ap₂, ◌∙◌}
 use Rattle.std.specs.Cmp.Lexicographic.{pointwise}
 use Rattle.std.specs.Option.{option_zip}
-use Rattle.std.proofs.lemmas.Bool.{and_parts, eqb-true, false≢true, cond-true, cond-false}
-use Rattle.metering_model.specs.Dates.{has_stamp_form, day_in, second_in, stamp_of, stamp_in}
+use Rattle.std.proofs.lemmas.Bool.{and_parts, eqb-true, false≢true, false_from_ne_true, cond-true, cond-false}
+use Rattle.metering_model.specs.Dates.{number_at, are_digits, has_stamp_form, has_time_form, day_in, second_in, stamp_of, stamp_in}
 
 pub same_text : (xs ys : List ℕ) → pointwise nat_eq xs ys ≡ true → xs ≡ ys
 same_text [] [] h = refl
@@ -32,3 +32,24 @@ none_first a b e = ap (λ x. option_zip x b) e
 pub none_second : (a b : Option ℤ) → None ≡ b → None ≡ option_zip a b
 none_second None b e = refl
 none_second (Some x) b e = ap (option_zip (Some x)) e
+
+-- ---- a time
+
+time_digits : (t : List ℕ) → (has_time_form t && nat_lt (number_at t 0 2) 24 && nat_lt (number_at t 3 2) 60 && nat_lt (number_at t 6 2) 60) ≡ true
+    → (are_digits t 0 2 ≡ true) × (are_digits t 3 2 ≡ true) × (are_digits t 6 2 ≡ true)
+time_digits t e =
+    let form = (and_parts _ _ (and_parts _ _ (and_parts _ _ e).0).0).0 in
+    let second = and_parts _ _ form in
+    let minute = and_parts _ _ (and_parts _ _ second.0).0 in
+    let hour = and_parts _ _ (and_parts _ _ minute.0).0 in
+    (hour.1, minute.1, second.1)
+
+-- where one of the three is no number, the text is no time
+pub no_hour : (t : List ℕ) → (are_digits t 0 2 ≡ true → false ≡ true) → None ≡ second_in t
+no_hour t none = sym (cond-false _ _ _ (false_from_ne_true _ (λ e. false≢true (none (time_digits t e).0))))
+
+pub no_minute : (t : List ℕ) → (are_digits t 3 2 ≡ true → false ≡ true) → None ≡ second_in t
+no_minute t none = sym (cond-false _ _ _ (false_from_ne_true _ (λ e. false≢true (none (time_digits t e).1))))
+
+pub no_second : (t : List ℕ) → (are_digits t 6 2 ≡ true → false ≡ true) → None ≡ second_in t
+no_second t none = sym (cond-false _ _ _ (false_from_ne_true _ (λ e. false≢true (none (time_digits t e).2))))

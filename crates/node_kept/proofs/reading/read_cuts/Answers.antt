@@ -1,9 +1,9 @@
-use Rattle.std.proofs.Common.{◌≡◌, ◌+◌, [], ◌∷◌, ◌++◌, map, cond, Err, ap, ◌∙◌, subst}
+use Rattle.std.proofs.Common.{◌≡◌, ◌+◌, [], ◌∷◌, ◌++◌, map, cond, Err, sym, ap, ◌∙◌, subst}
 use Rattle.std.specs.Arc.{arc_value}
 use Rattle.std.proofs.lemmas.Result.{err_from_is_err_and}
 use Rattle.metering_model.specs.BatchReading.{lines_in}
 use Rattle.metering_model.specs.KeptText.{cuts_in}
-use Rattle.node_kept.proofs.ReadSteps.{told_so, cut_fault, reads_cut}
+use Rattle.node_kept.proofs.ReadSteps.{AreReadSoFar, told_so, cut_fault, reads_cut, none_so_far, all_cuts}
 use Rattle.node_kept.proofs.WriteSteps.{map_one_more}
 use Rattle.node_kept.proofs.reading.read_cuts.Goals as goal
 
@@ -21,3 +21,25 @@ loop-index-preserved c =
     let pushed = c.push.ensures.items ∙ ap (λ b. cond b (l.cuts.items ++ cut ∷ []) l.cuts.items) c.if-is_err.ensures.negation in
     reads_cut c.args.text.now 2 c.args.agents c.args.count l.index _ (map arc_value l.cuts.items) _ l.rest.now (arc_value cut) c.in_ok-cut.behind.now
     (ap (λ n. 2 + n) c.from-in-loop-index.ensures) (ap (map arc_value) pushed ∙ map_one_more arc_value l.cuts.items cut) c.loop-index-test.true l.invariant c.in_ok-cut.ensures
+
+pub loop-index-init : goal.loop-index-init
+loop-index-init c =
+    let text = c.args.text.now in
+    subst (λ cuts. AreReadSoFar text 2 c.args.agents c.args.count 0 cuts text) (sym (ap (map arc_value) c.in-Ok.ensures.items)) (none_so_far text 2 c.args.agents c.args.count)
+
+pub read_cut-requires-clause-from : goal.read_cut-requires-clause-from
+read_cut-requires-clause-from c = c.requires.from
+
+pub read_cut-requires-clause-to : goal.read_cut-requires-clause-to
+read_cut-requires-clause-to c = c.requires.to
+
+pub returns-in_default : goal.returns-in_default
+returns-in_default c = tt
+
+pub returns-then-is_err : goal.returns-then-is_err
+returns-then-is_err c = tt
+
+pub returns : goal.returns
+returns c =
+    let l = c.loop-index in
+    all_cuts c.args.text.now 2 c.args.agents c.args.count l.index (map arc_value l.cuts.items) l.rest.now c.loop-index-test.false l.invariant

@@ -1,5 +1,7 @@
-use Rattle.std.proofs.Common.{rules, arith}
+use Rattle.std.proofs.Common.{ℕ, rules, arith}
+use Rattle.std.proofs.lemmas.Result.{err_from_is_err_and}
 use Rattle.period_file.specs.Inner.Reading.{Copies}
+use Rattle.period_file.proofs.Failing.{calls_of_answer, calls_of_reading, calls_of_write, never_write, none_failed, one_fault, passed}
 use Rattle.period_file.proofs.Taking.{copies_on, copies_read, on_err, stops_at_read, stops_at_write, stops_some}
 use Rattle.period_file.proofs.files.copy_lines.Given as given
 use Rattle.period_file.proofs.files.copy_lines.Goals.{After-line_end}
@@ -32,8 +34,33 @@ loop-lacking-preserved g c =
     record {
       copied = rw c.copy_ahead.ensures.read (copies_on copies c.in_ok-lacking.ensures.copied (omega (arith, c.in_ok-lacking.ensures.share.few)));
       short = rw c.copy_ahead.ensures.read c.in_ok-line_end.ensures.reads.within;
-      quiet = (search rules, search rules);
+      quiet = (
+        none_failed (g.S.Source.failed_calls c.args.source.now) (g.S.Source.failed_calls c.loop-lacking.source) c.in_ok-line_end.ensures.reads.count c.loop-lacking.invariant.quiet.0,
+        none_failed (g.W.Sink.failed_calls c.args.writer.now) (g.W.Sink.failed_calls c.loop-lacking.writer) c.in_ok-lacking.ensures.count c.loop-lacking.invariant.quiet.1,
+      );
     }
 
 pub returns-clause-copied : goal.returns-clause-copied
 returns-clause-copied g c = search rules
+
+-- ---- which calls failed
+
+pub returns-in_err-line_end-clause-short : goal.returns-in_err-line_end-clause-short
+returns-in_err-line_end-clause-short g c = λ write.
+    never_write c.in_err-line_end.field-0.0 (one_fault (passed (err_from_is_err_and c.from_residual.result c.from_residual.ensures.1)) write)
+
+pub returns-in_err-line_end-clause-calls : goal.returns-in_err-line_end-clause-calls
+returns-in_err-line_end-clause-calls g c =
+    calls_of_reading c.in_err-line_end.field-0.0 (g.S.Source.failed_calls c.args.source.now) (g.W.Sink.failed_calls c.args.writer.now)
+    (passed (err_from_is_err_and c.from_residual.result c.from_residual.ensures.1)) c.loop-lacking.invariant.quiet.0 c.loop-lacking.invariant.quiet.1 c.in_err-line_end.ensures.reads
+
+pub returns-in_default-clause-calls : goal.returns-in_default-clause-calls
+returns-in_default-clause-calls g c =
+    calls_of_answer _ (g.S.Source.failed_calls c.args.source.now) (g.W.Sink.failed_calls c.args.writer.now)
+    c.loop-lacking.invariant.quiet.0 c.loop-lacking.invariant.quiet.1 c.in_ok-line_end.ensures.reads
+
+pub returns-in_err-lacking-clause-calls : goal.returns-in_err-lacking-clause-calls
+returns-in_err-lacking-clause-calls g c =
+    calls_of_write ℕ (g.S.Source.failed_calls c.args.source.now) (g.W.Sink.failed_calls c.args.writer.now)
+    (passed (err_from_is_err_and c.from_residual-in_err-lacking.result c.from_residual-in_err-lacking.ensures.1)) c.in_err-lacking.ensures.fault c.copy_ahead.ensures.read
+    (none_failed (g.S.Source.failed_calls c.args.source.now) (g.S.Source.failed_calls c.loop-lacking.source) c.in_ok-line_end.ensures.reads.count c.loop-lacking.invariant.quiet.0) c.loop-lacking.invariant.quiet.1 c.in_ok-line_end.ensures.reads.most c.in_err-lacking.ensures.count

@@ -107,3 +107,104 @@ returns-then-are_plain_tags-clause-stamps c = λ h.
     let behind_start = behind_stamp (lent c.args.rest) (lent c.in_ok-start.start) (lent c.in_ok-start.rest) _ _ _ whole h.is_start c.in_ok-start.ensures.first c.in_ok-start.ensures.parts in
     let behind_end = behind_stamp (lent c.in_ok-start.rest) (lent c.in_ok-end.end) (lent c.in_ok-end.rest) _ _ _ behind_start.1 h.is_end c.in_ok-end.ensures.first c.in_ok-end.ensures.parts in
     (behind_start.0, behind_end.0)
+
+-- ---- what is handed on is placed, and nothing is told of a line that is not plain
+
+pub split_stamp-requires : goal.split_stamp-requires
+split_stamp-requires c = c.requires
+
+pub split_stamp-requires-2 : goal.split_stamp-requires-2
+split_stamp-requires-2 c = c.in_ok-start.ensures.placed
+
+pub split_plain-requires : goal.split_plain-requires
+split_plain-requires c = c.in_ok-end.ensures.placed
+
+pub split_plain-requires-2 : goal.split_plain-requires-2
+split_plain-requires-2 c = c.in_ok-account.ensures.placed.1
+
+pub split_plain-requires-3 : goal.split_plain-requires-3
+split_plain-requires-3 c = c.in_ok-resource.ensures.placed.1
+
+pub split_plain-requires-4 : goal.split_plain-requires-4
+split_plain-requires-4 c = c.in_ok-key.ensures.placed.1
+
+pub split_plain-requires-5 : goal.split_plain-requires-5
+split_plain-requires-5 c = c.in_ok-value.ensures.placed.1
+
+pub are_plain_tags-requires : goal.are_plain_tags-requires
+are_plain_tags-requires c = c.in_ok-commitment.ensures.placed.1
+
+pub returns-in_err-start-clause-parts : goal.returns-in_err-start-clause-parts
+returns-in_err-start-clause-parts c = rw c.from_residual.ensures tt
+
+pub returns-in_err-start-clause-plain : goal.returns-in_err-start-clause-plain
+returns-in_err-start-clause-plain c = rw c.from_residual.ensures tt
+
+pub returns-in_err-start-clause-stamps : goal.returns-in_err-start-clause-stamps
+returns-in_err-start-clause-stamps c = rw c.from_residual.ensures tt
+
+pub returns-in_err-end-clause-parts : goal.returns-in_err-end-clause-parts
+returns-in_err-end-clause-parts c = rw c.from_residual-in_err-end.ensures tt
+
+pub returns-in_err-end-clause-plain : goal.returns-in_err-end-clause-plain
+returns-in_err-end-clause-plain c = rw c.from_residual-in_err-end.ensures tt
+
+pub returns-in_err-end-clause-stamps : goal.returns-in_err-end-clause-stamps
+returns-in_err-end-clause-stamps c = rw c.from_residual-in_err-end.ensures tt
+
+pub returns-in_err-account-clause-parts : goal.returns-in_err-account-clause-parts
+returns-in_err-account-clause-parts c = rw c.from_residual-in_err-account.ensures tt
+
+pub returns-in_err-account-clause-plain : goal.returns-in_err-account-clause-plain
+returns-in_err-account-clause-plain c = rw c.from_residual-in_err-account.ensures tt
+
+pub returns-in_err-account-clause-stamps : goal.returns-in_err-account-clause-stamps
+returns-in_err-account-clause-stamps c = rw c.from_residual-in_err-account.ensures tt
+
+pub returns-in_err-resource-clause-parts : goal.returns-in_err-resource-clause-parts
+returns-in_err-resource-clause-parts c = rw c.from_residual-in_err-resource.ensures tt
+
+pub returns-in_err-resource-clause-plain : goal.returns-in_err-resource-clause-plain
+returns-in_err-resource-clause-plain c = rw c.from_residual-in_err-resource.ensures tt
+
+pub returns-in_err-resource-clause-stamps : goal.returns-in_err-resource-clause-stamps
+returns-in_err-resource-clause-stamps c = rw c.from_residual-in_err-resource.ensures tt
+
+pub returns-in_err-key-clause-parts : goal.returns-in_err-key-clause-parts
+returns-in_err-key-clause-parts c = rw c.from_residual-in_err-key.ensures tt
+
+pub returns-in_err-key-clause-plain : goal.returns-in_err-key-clause-plain
+returns-in_err-key-clause-plain c = rw c.from_residual-in_err-key.ensures tt
+
+pub returns-in_err-key-clause-stamps : goal.returns-in_err-key-clause-stamps
+returns-in_err-key-clause-stamps c = rw c.from_residual-in_err-key.ensures tt
+
+pub returns-in_err-value-clause-parts : goal.returns-in_err-value-clause-parts
+returns-in_err-value-clause-parts c = rw c.from_residual-in_err-value.ensures tt
+
+pub returns-in_err-value-clause-plain : goal.returns-in_err-value-clause-plain
+returns-in_err-value-clause-plain c = rw c.from_residual-in_err-value.ensures tt
+
+pub returns-in_err-value-clause-stamps : goal.returns-in_err-value-clause-stamps
+returns-in_err-value-clause-stamps c = rw c.from_residual-in_err-value.ensures tt
+
+pub returns-in_err-commitment-clause-parts : goal.returns-in_err-commitment-clause-parts
+returns-in_err-commitment-clause-parts c = rw c.from_residual-in_err-commitment.ensures tt
+
+pub returns-in_err-commitment-clause-plain : goal.returns-in_err-commitment-clause-plain
+returns-in_err-commitment-clause-plain c = rw c.from_residual-in_err-commitment.ensures tt
+
+pub returns-in_err-commitment-clause-stamps : goal.returns-in_err-commitment-clause-stamps
+returns-in_err-commitment-clause-stamps c = rw c.from_residual-in_err-commitment.ensures tt
+
+pub returns-else-are_plain_tags-clause-parts : goal.returns-else-are_plain_tags-clause-parts
+returns-else-are_plain_tags-clause-parts c = tt
+
+pub returns-else-are_plain_tags-clause-plain : goal.returns-else-are_plain_tags-clause-plain
+returns-else-are_plain_tags-clause-plain c = tt
+
+pub returns-else-are_plain_tags-clause-stamps : goal.returns-else-are_plain_tags-clause-stamps
+returns-else-are_plain_tags-clause-stamps c = tt
+
+pub returns-then-are_plain_tags-clause-none : goal.returns-then-are_plain_tags-clause-none
+returns-then-are_plain_tags-clause-none c = tt
