@@ -1,5 +1,5 @@
 -- The definitions by which a schedule is read never tell of want of memory.
-use Rattle.std.proofs.Common.{ℕ, zero, suc, List, Result, ok_or, codes}
+use Rattle.std.proofs.Common.{ℕ, zero, suc, List, ok_or, codes}
 use Rattle.std.specs.Prelude.{nat_le, length}
 use Rattle.metering_model.specs.FirstFailure.{holds_or}
 use Rattle.metering_model.specs.Batch.{is_empty}

@@ -1,18 +1,19 @@
 //! The batch that is to be rated.
 
-ghost use Rattle.std.specs.Prelude.{◌≡◌, [], ◌++◌, Err, Some, OnOk};
+ghost use Rattle.std.specs.Prelude.{◌≡◌, ◌≤◌, [], ◌++◌, drop, length, Ok, Err, Some, OnOk};
 ghost use Rattle.metering_model.specs.Sheet as model;
 ghost use Rattle.metering_model.specs.RatedAlone.{journaled_in};
 ghost use Rattle.fault_lines.specs.Ahead.{ahead_of_all};
 ghost use Rattle.input_check.specs.Warnings.{if_taken, warned_of_rating};
 ghost use Rattle.fault_lines.specs.Told.{bad_index};
 ghost use Rattle.input_check.specs.Checks.{said_of_batch, said_of_rating};
+ghost use Rattle.input_sections.specs.RateInput.{rate_input_in};
 
 use batch_player::first_refusal;
 use batch_view::BatchView;
 use byte_text::line_count;
 use fault_lines::{LatestDays, put_fault, put_refused_text, put_unknown_on};
-use input_sections::rate_input;
+use input_sections::{RateInput, rate_input};
 use journal_rules::first_bad_alone;
 use metering_model::Refusal;
 use price_sheet::Sheet;
@@ -69,10 +70,30 @@ pub(crate) fn check_rating(
     ensures warned { OnOk result
         (warned.new.items ≡ warned.old.items ++ warned_of_rating text.now) }
 {
-    let given = match rate_input(alloc, text) {
-        Ok(given) => given,
-        Err(fault) => return put_fault(alloc, told, text, fault),
-    };
+    match rate_input(alloc, text) {
+        Ok(given) => check_given(alloc, text, &given, told, warned),
+        Err(fault) => put_fault(alloc, told, text, fault),
+    }
+}
+
+/// The same of a text whose sections were read.
+fn check_given(
+    alloc: Global,
+    text: &[u8],
+    given: &RateInput,
+    told: &mut Vec<u8>,
+    warned: &mut Vec<u8>,
+) -> Result<(), AllocError>
+    requires within { given.now.batch_from ≤ length text.now }
+    requires taken { rate_input_in text.now ≡ Ok (record {
+      sheet = given.now.sheet;
+      issuer = given.now.issuer;
+      batch = drop given.now.batch_from text.now;
+    }) }
+    ensures said { OnOk result (told.new.items ≡ told.old.items ++ said_of_rating text.now) }
+    ensures warned { OnOk result
+        (warned.new.items ≡ warned.old.items ++ warned_of_rating text.now) }
+{
     put_unknown_on(alloc, warned, text, 1)?;
     let (above, batch) = text.split_at(given.batch_from);
     check_batch(told, warned, &given.sheet, line_count(above), batch)

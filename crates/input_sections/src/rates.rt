@@ -1,6 +1,6 @@
 //! The input of a rating: a sheet and an issuer, each if it is there, and a batch.
 
-ghost use Rattle.std.specs.Prelude.{◌≡◌, ◌≢◌, ◌≤◌, Ok, Err, IfOk, IfErr, IsOk, drop, length, codes};
+ghost use Rattle.std.specs.Prelude.{◌≡◌, ◌≢◌, ◌≤◌, ℕ, Ok, Err, IfOk, IfErr, IsOk, drop, length, codes};
 ghost use Rattle.metering_model.specs.SheetRules.{IsSheet, IsIssuer};
 ghost use Rattle.input_sections.specs.RateInput.{default_sheet, if_begun, rate_input_in};
 ghost use Rattle.input_sections.specs.Sections.{sheet_section, issuer_section, whole_of};
@@ -67,6 +67,37 @@ fn issuer_or_sample<'a>(
     }
 }
 
+/// Drops a sheet beside no other value, for the prover's time alone (docs/DECISIONS.md).
+fn drop_sheet(_sheet: Sheet) {}
+
+/// The input of a rating whose sheet was read: the issuer follows, and the batch is what is left then.
+fn input_behind<'a>(
+    alloc: Global,
+    sheet: Sheet,
+    unread: Unread<'a>,
+) -> Result<RateInput, ScheduleFault>
+    ensures sheet { IfOk result (λ r. r.sheet ≡ sheet) }
+    ensures taken { IfOk result
+        (λ r. (line : ℕ) × (if_begun (codes "issuer ") issuer_section sample_issuer unread.entry
+        ≡ Ok (r.issuer, record { text = unread.entry.text; from = r.batch_from; line = line }))) }
+    ensures within { IfOk result (λ r. r.batch_from ≤ length unread.entry.text) }
+    ensures refused { IfErr result (λ fault. fault ≢ ScheduleFault.OutOfMemory
+        → if_begun (codes "issuer ") issuer_section sample_issuer unread.entry ≡ Err fault) }
+    ensures rules { IfOk result (λ r. IsIssuer r.issuer) }
+{
+    match issuer_or_sample(alloc, unread) {
+        Ok((issuer, unread)) => Ok(RateInput {
+            sheet,
+            issuer,
+            batch_from: unread.from(),
+        }),
+        Err(fault) => {
+            drop_sheet(sheet);
+            Err(fault)
+        }
+    }
+}
+
 /// Reads the input of a rating: a text that may begin with the sections of a sheet, then of an issuer, and whose rest
 /// is a batch, which is not read here. Without a sheet the base month is 2025-01 and there are no rows; without an
 /// issuer it is the sample. Refused is the first fault by line. OutOfMemory comes only of a text of at most 16,777,216
@@ -84,10 +115,5 @@ pub fn rate_input(alloc: Global, text: &[u8]) -> Result<RateInput, ScheduleFault
 {
     let unread = Unread::whole(text)?;
     let (sheet, unread) = sheet_or_default(alloc, unread)?;
-    let (issuer, unread) = issuer_or_sample(alloc, unread)?;
-    Ok(RateInput {
-        sheet,
-        issuer,
-        batch_from: unread.from(),
-    })
+    input_behind(alloc, sheet, unread)
 }

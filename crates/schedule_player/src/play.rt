@@ -25,6 +25,16 @@ use schedule_reader::Schedule;
 use std::alloc::{AllocError, Global};
 use std::sync::Arc;
 
+/// A value, to be shared. One that is refused is dropped here, for the prover's time alone (docs/DECISIONS.md).
+fn shared<T: Drop>(alloc: Global, value: T) -> Result<Arc<T>, AllocError>
+    ensures { IfOk result (λ arc. arc_value arc ≡ value) }
+{
+    match Arc::new(alloc, value) {
+        Ok(arc) => Ok(arc),
+        Err(_) => Err(AllocError),
+    }
+}
+
 /// A group of 1 to 99 nodes, of which at least 1 votes, and 1 to 64 agents before any event, by a sheet and an issuer.
 /// An error is an allocation failure.
 pub fn opening_world(
@@ -39,12 +49,11 @@ pub fn opening_world(
     requires agents { (1 ≤ agents) × (agents ≤ most_agents) }
     ensures { IfOk result (λ world. world ≡ opening voters observers agents sheet issuer) }
 {
-    let Ok(sheet) = Arc::new(alloc, sheet) else {
+    let Ok(sheet) = shared(alloc, sheet) else {
+        drop(issuer);
         return Err(AllocError);
     };
-    let Ok(issuer) = Arc::new(alloc, issuer) else {
-        return Err(AllocError);
-    };
+    let issuer = shared(alloc, issuer)?;
     World::new(alloc, voters, observers, agents, sheet, issuer)
 }
 
@@ -126,10 +135,34 @@ fn unplayed(alloc: Global, input: &[u8]) -> PlayFault
     ensures others { (result ≢ PlayFault.Read) × (result ≢ PlayFault.Write)
         × ((refusal : Refusal) → result ≢ PlayFault.Refused refusal) }
 {
-    if let Err(fault) = Schedule::read(alloc, input) {
-        return PlayFault::from(fault);
+    let read = Schedule::read(alloc, input);
+    match read {
+        Ok(schedule) => {
+            // Dropped by a call for the prover's time alone (docs/DECISIONS.md).
+            drop(schedule);
+            PlayFault::OutOfMemory
+        }
+        Err(fault) => PlayFault::from(fault),
     }
-    PlayFault::OutOfMemory
+}
+
+/// Shares an input that was read, plays the schedule that it is, and writes its transcript.
+fn play_read<W: Sink>(alloc: Global, input: Vec<u8>, writer: &mut W) -> Result<(), PlayFault>
+    ensures writes { WritesTranscript result input.items
+        (W.contents writer.old) (W.contents writer.new)
+        (W.failed_calls writer.old) (W.failed_calls writer.new) }
+    ensures section { (fault : ScheduleFault) → result ≡ Err (PlayFault.Schedule fault)
+        → (fault ≢ ScheduleFault.OutOfMemory) × (schedule_in input.items ≡ Err fault) }
+    ensures untouched { IfErr result
+        (λ fault. fault ≢ PlayFault.Write → fault ≢ PlayFault.OutOfMemory
+        → writer.new ≡ writer.old) }
+    ensures no_read { result ≢ Err PlayFault.Read }
+    ensures no_refusal { (refusal : Refusal) → result ≢ Err (PlayFault.Refused refusal) }
+{
+    match Arc::new(alloc, input) {
+        Ok(text) => play_input(alloc, &text, &text, writer),
+        Err(refused) => Err(unplayed(alloc, &refused.value)),
+    }
 }
 
 /// Plays the schedule that a reader gives, and writes its transcript. At most 16,777,217 bytes are read. After
@@ -168,8 +201,5 @@ pub fn play_text<R: Source, W: Sink>(
         (W.failed_calls writer.old) (W.failed_calls writer.new) }
 {
     let input = read_input(alloc, reader)?;
-    match Arc::new(alloc, input) {
-        Ok(text) => play_input(alloc, &text, &text, writer),
-        Err(refused) => Err(unplayed(alloc, &refused.value)),
-    }
+    play_read(alloc, input, writer)
 }

@@ -101,6 +101,31 @@ fn play_on<W: Sink>(
     Ok(events.len())
 }
 
+/// Does the events in turn in a world, and writes their replies from these lines.
+fn play_lines<W: Sink>(
+    alloc: Global,
+    world: &mut World,
+    text: &Arc<Vec<u8>>,
+    events: &Events<'_>,
+    lines: &mut ReplyLines,
+    writer: &mut W,
+) -> Result<usize, Failed>
+    requires text { events.now.text ≡ (arc_value text.now).items }
+    requires none_wait { lines.old.text ≡ [] }
+    requires held { IsHeldOf world.old lines.old.held }
+    ensures within { IfOk result (λ done. done ≤ length events.now.planned) }
+    ensures played { IfOk result
+        (λ done. Appends (W.contents writer.old) (W.contents writer.new)
+        (text_of world.old (events_of (take done events.now.planned)))) }
+    ensures fails { FailsWithin result (W.contents writer.old) (W.contents writer.new)
+        (W.failed_calls writer.old) (W.failed_calls writer.new)
+        (text_of world.old (events_of events.now.planned)) }
+{
+    let done = play_on(alloc, world, text, events, lines, writer)?;
+    lines.write(writer)?;
+    Ok(done)
+}
+
 /// Does the events of a text in turn, as long as memory is found, and writes just what a transcript says of the replies of those
 /// that were done. It answers how many these are.
 pub(crate) fn play_events<W: Sink>(
@@ -121,7 +146,9 @@ pub(crate) fn play_events<W: Sink>(
 {
     let mut world = world;
     let mut lines = ReplyLines::new(alloc);
-    let done = play_on(alloc, &mut world, text, events, &mut lines, writer)?;
-    lines.write(writer)?;
-    Ok(done)
+    let done = play_lines(alloc, &mut world, text, events, &mut lines, writer);
+    // Dropped by calls for the prover's time alone (docs/DECISIONS.md).
+    drop(lines);
+    drop(world);
+    done
 }

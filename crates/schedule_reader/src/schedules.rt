@@ -1,9 +1,9 @@
 //! A whole schedule.
 
-ghost use Rattle.std.specs.Prelude.{◌≡◌, ◌≢◌, ◌+◌, ◌≤◌, Ok, Err, IfOk, IfErr, IsOk, MatchResult};
-ghost use Rattle.metering_model.specs.Limits.{most_agents, most_nodes};
+ghost use Rattle.std.specs.Prelude.{◌≡◌, ◌≢◌, ◌+◌, ◌≤◌, Ok, Err, IfOk, IfErr, IsOk, MatchResult, length};
+ghost use Rattle.metering_model.specs.Limits.{most_agents, most_input_bytes, most_nodes};
 ghost use Rattle.metering_model.specs.SheetRules.{IsSheet, IsIssuer};
-ghost use Rattle.schedule_reader.specs.Schedules.{head_line, nodes_line, number_line, group_in, preamble_in, schedule_in};
+ghost use Rattle.schedule_reader.specs.Schedules.{events_in, head_line, nodes_line, number_line, group_in, preamble_in, schedule_in};
 ghost use Rattle.schedule_reader.specs.Forms.{IsRead};
 
 use crate::events::events_in;
@@ -146,7 +146,14 @@ impl<'a> Preamble<'a> {
     {
         let (voters, observers, agents, unread) = group_in(text)?;
         let (sheet, unread) = read_sheet(alloc, &unread)?;
-        let (issuer, rest) = read_issuer(alloc, &unread)?;
+        let (issuer, rest) = match read_issuer(alloc, &unread) {
+            Ok(read) => read,
+            Err(fault) => {
+                // Dropped by a call for the prover's time alone (docs/DECISIONS.md).
+                drop(sheet);
+                return Err(fault);
+            }
+        };
         Ok(Preamble {
             voters,
             observers,
@@ -156,6 +163,25 @@ impl<'a> Preamble<'a> {
             rest,
         })
     }
+}
+
+/// The events of a text, of which this is left. No text has more events than bytes.
+fn all_events<'a>(
+    alloc: Global,
+    text: &'a [u8],
+    rest: Unread<'a>,
+) -> Result<Events<'a>, ScheduleFault>
+    requires of { rest.text ≡ text.now }
+    requires short { length rest.text ≤ most_input_bytes }
+    ensures taken { IfOk result
+        (λ events. events_in (length text.now) rest.entry ≡ Ok events.planned) }
+    ensures text { IfOk result (λ events. events.text ≡ text.now) }
+    ensures refused { IfErr result
+        (λ fault. fault ≢ ScheduleFault.OutOfMemory → events_in (length text.now) rest.entry
+        ≡ Err fault) }
+{
+    let events = events_in(alloc, text, rest, text.len())?;
+    Ok(events)
 }
 
 impl<'a> Schedule<'a> {
@@ -197,14 +223,21 @@ impl<'a> Schedule<'a> {
             issuer,
             rest,
         } = above;
-        let events = events_in(alloc, text, rest, text.len())?;
-        Ok(Schedule {
-            voters,
-            observers,
-            agents,
-            sheet,
-            issuer,
-            events,
-        })
+        match all_events(alloc, text, rest) {
+            Ok(events) => Ok(Schedule {
+                voters,
+                observers,
+                agents,
+                sheet,
+                issuer,
+                events,
+            }),
+            Err(fault) => {
+                // Dropped by calls for the prover's time alone (docs/DECISIONS.md).
+                drop(issuer);
+                drop(sheet);
+                Err(fault)
+            }
+        }
     }
 }

@@ -1,15 +1,16 @@
 //! Whether a text is a schedule that does what was planned. It is read as `play` reads it, and its events are done as they are read;
 //! the files are not made.
 
-ghost use Rattle.std.specs.Prelude.{◌≡◌, ◌+◌, ◌≤◌, IfOk, Ok, OnOk, Some};
+ghost use Rattle.std.specs.Prelude.{◌≡◌, ◌+◌, ◌≤◌, [], IfOk, IsTrue, Ok, OnOk, Some};
 ghost use Rattle.metering_model.specs.Limits.{last_period, most_agents, most_nodes};
 ghost use Rattle.metering_model.specs.Schedule.{event_of};
 ghost use Rattle.metering_model.specs.Step.{step};
+ghost use Rattle.metering_model.specs.World.{opening};
 ghost use Rattle.group_events.specs.Events.{event_of as offered_event};
 ghost use Rattle.schedule_reader.specs.Events.{HasWholeLines, planned_of};
 ghost use Rattle.schedule_reader.specs.Schedules.{events_in, preamble_in};
 ghost use Rattle.schedule_writer.specs.Inner.Certified.{IsCertified};
-ghost use Rattle.schedule_writer.specs.Inner.Plans.{IsDone, IsWithinGroup, behind, journals_behind, nothing_seen, plan_of};
+ghost use Rattle.schedule_writer.specs.Inner.Plans.{IsDone, IsWithinGroup, all_seen, behind, journals_behind, nothing_seen, plan_of};
 
 use crate::faults::Stop;
 use crate::plans::{Plan, Seen};
@@ -111,6 +112,40 @@ fn do_events(
     Ok(seen)
 }
 
+/// Whether what stands above the events of a text is of that group, by this sheet and this issuer.
+fn is_planned(plan: &Plan<'_>, agents: u8, issuer: &Issuer, above: &Preamble<'_>) -> bool
+    ensures { IsTrue result → (above.now.voters ≡ plan.now.voters)
+        × (above.now.observers ≡ plan.now.observers) × (above.now.agents ≡ agents)
+        × (above.now.sheet ≡ plan.now.sheet.now) × (above.now.issuer ≡ issuer.now) }
+{
+    let is_group = above.voters == plan.voters
+        && above.observers == plan.observers
+        && above.agents == agents;
+    is_group && above.sheet.same(plan.sheet) && above.issuer.same(issuer)
+}
+
+/// Drops a preamble beside no other value, for the prover's time alone (docs/DECISIONS.md).
+fn drop_preamble(_above: Preamble<'_>) {}
+
+/// What stands above the events, where it is of that group, by this sheet and this issuer.
+fn if_planned<'a>(
+    plan: &Plan<'_>,
+    agents: u8,
+    issuer: &Issuer,
+    above: Preamble<'a>,
+) -> Result<Preamble<'a>, Stop>
+    ensures same { IfOk result (λ p. p ≡ above.entry) }
+    ensures planned { IfOk result (λ p. (p.voters ≡ plan.now.voters)
+        × (p.observers ≡ plan.now.observers) × (p.agents ≡ agents)
+        × (p.sheet ≡ plan.now.sheet.now) × (p.issuer ≡ issuer.now)) }
+{
+    if is_planned(plan, agents, issuer, &above) {
+        return Ok(above);
+    }
+    drop_preamble(above);
+    Err(Stop::NotClosed)
+}
+
 /// What stands above the events of a text, where it is of that group, by this sheet and this issuer.
 fn read_above<'a>(
     alloc: Global,
@@ -128,25 +163,65 @@ fn read_above<'a>(
           issuer = p.issuer;
           rest = p.rest;
         })) }
-    ensures group { IfOk result
-        (λ p. (p.voters ≡ plan.now.voters) × (p.observers ≡ plan.now.observers)
-        × (p.agents ≡ agents)) }
-    ensures sheet { IfOk result (λ p. p.sheet ≡ plan.now.sheet.now) }
-    ensures issuer { IfOk result (λ p. p.issuer ≡ issuer.now) }
+    ensures planned { IfOk result (λ p. (p.voters ≡ plan.now.voters)
+        × (p.observers ≡ plan.now.observers) × (p.agents ≡ agents)
+        × (p.sheet ≡ plan.now.sheet.now) × (p.issuer ≡ issuer.now)) }
 {
-    let above = match Preamble::read(alloc, text) {
-        Ok(above) => above,
-        Err(ScheduleFault::OutOfMemory) => return Err(Stop::OutOfMemory),
-        Err(_) => return Err(Stop::NotClosed),
+    match Preamble::read(alloc, text) {
+        Ok(above) => if_planned(plan, agents, issuer, above),
+        Err(ScheduleFault::OutOfMemory) => Err(Stop::OutOfMemory),
+        Err(_) => Err(Stop::NotClosed),
+    }
+}
+
+/// Does events in a group without journals. Ok where they do all that was planned.
+fn do_all(
+    alloc: Global,
+    plan: &Plan<'_>,
+    world: &mut World,
+    agents: u8,
+    unread: Unread<'_>,
+    most: usize,
+) -> Result<(), Stop>
+    requires plan { IsWithinGroup plan.now }
+    requires agents { (1 ≤ agents) × (agents ≤ most_agents) }
+    requires opened { world.old.journals ≡ [] }
+    ensures { OnOk result (IsDone (plan_of plan.now) nothing_seen (all_seen (plan_of plan.now))
+        world.old (events_in most unread.entry)) }
+{
+    let Ok(mut journals) = Store::new(alloc, agents) else {
+        return Err(Stop::OutOfMemory);
     };
-    let is_group = above.voters == plan.voters
-        && above.observers == plan.observers
-        && above.agents == agents;
-    if is_group && above.sheet.same(plan.sheet) && above.issuer.same(issuer) {
-        Ok(above)
+    let seen = do_events(alloc, plan, world, &mut journals, unread, most)?;
+    if plan.is_done(seen) {
+        Ok(())
     } else {
         Err(Stop::NotClosed)
     }
+}
+
+/// Does the events of a text in a group of what stands above them. Ok where they do all that was planned.
+fn do_behind(alloc: Global, plan: &Plan<'_>, above: Preamble<'_>, most: usize) -> Result<(), Stop>
+    requires plan { IsWithinGroup plan.now }
+    requires nodes { (1 ≤ above.voters) × (above.voters + above.observers ≤ most_nodes) }
+    requires agents { (1 ≤ above.agents) × (above.agents ≤ most_agents) }
+    ensures { OnOk result (IsDone (plan_of plan.now) nothing_seen (all_seen (plan_of plan.now))
+        (opening above.entry.voters above.entry.observers above.entry.agents
+        above.entry.sheet above.entry.issuer)
+        (events_in most above.entry.rest)) }
+{
+    let Preamble {
+        voters,
+        observers,
+        agents,
+        sheet,
+        issuer,
+        rest,
+    } = above;
+    let Ok(mut world) = opening_world(alloc, voters, observers, agents, sheet, issuer) else {
+        return Err(Stop::OutOfMemory);
+    };
+    do_all(alloc, plan, &mut world, agents, rest, most)
 }
 
 /// Whether a text is a schedule that does what was planned.
@@ -166,24 +241,5 @@ pub(crate) fn certify(
         plan.now.voters plan.now.observers agents plan.now.sheet.now issuer.now text.now) }
 {
     let above = read_above(alloc, plan, agents, issuer, text)?;
-    let Preamble {
-        voters,
-        observers,
-        agents,
-        sheet,
-        issuer,
-        rest,
-    } = above;
-    let Ok(mut world) = opening_world(alloc, voters, observers, agents, sheet, issuer) else {
-        return Err(Stop::OutOfMemory);
-    };
-    let Ok(mut journals) = Store::new(alloc, agents) else {
-        return Err(Stop::OutOfMemory);
-    };
-    let seen = do_events(alloc, plan, &mut world, &mut journals, rest, text.len())?;
-    if plan.is_done(seen) {
-        Ok(())
-    } else {
-        Err(Stop::NotClosed)
-    }
+    do_behind(alloc, plan, above, text.len())
 }

@@ -1,5 +1,5 @@
 -- What is said of two sheets, and of the input that they stand in.
-use Rattle.std.proofs.Common.{◌≡◌, ◌↔◌, ℕ, ◌<◌, List, [], ◌∷◌, ◌++◌, length, Option, Some, None, Ok, Err, ℤ, refl, sym, ap, subst, ◌∙◌, arith, eq-eqb, eqb-true}
+use Rattle.std.proofs.Common.{◌≡◌, ◌↔◌, ℕ, ◌<◌, List, [], ◌∷◌, ◌++◌, length, Option, Some, None, Result, Ok, Err, ℤ, refl, sym, ap, subst, ◌∙◌, arith, eq-eqb, eqb-true}
 use Rattle.std.specs.Prelude.{◌==◌, IsTrue, IfSome}
 use Rattle.std.proofs.lemmas.List.{append-nil, length-append}
 use Rattle.metering_model.specs.FirstFailure.{◌>>=◌}
@@ -12,7 +12,7 @@ use Rattle.input_sections.specs.declared.faults.ScheduleFault.{ScheduleFault}
 use Rattle.input_sections.specs.declared.faults.ScheduleFault.TheVariants.{Refused}
 use Rattle.input_sections.specs.Sections.{Unread, sheet_section, whole_of}
 use Rattle.sheet_changes.specs.Changes.{Likeness, IsLikeness, IsLikenessText, SaysChanges, StaysBefore, region_lines, two_sheets_in}
-use Rattle.sheet_changes.specs.Inner.Compared.{StaysBy, nothing_behind}
+use Rattle.sheet_changes.specs.Inner.Compared.{StaysBy, last_sheet, nothing_behind}
 use Rattle.sheet_changes.specs.Inner.SaidLines.{too_long}
 use Rattle.sheet_changes.specs.Regions.{unlike_regions}
 use Rattle.sheet_changes.proofs.LikenessLaws.{goes_on_by}
@@ -57,14 +57,26 @@ module _ (old new : Sheet) (old_ok : IsSheet old) (new_ok : IsSheet new) (l : Li
 
 -- ---- the input
 
-pub left_behind : (text : List ℕ) (u v w : Unread) (old new : Sheet) (fault : ScheduleFault) → whole_of text ≡ Ok u → sheet_section u ≡ Ok (old, v) → sheet_section v ≡ Ok (new, w) → nothing_behind w ≡ Err fault →
-    two_sheets_in text ≡ Err fault
+abbrev pub both : Sheet → Sheet → Result (Sheet × Sheet) ScheduleFault
+both old new = Ok (old, new)
+
+-- a sheet, beside one that comes of two steps
+beside : (old new : Sheet) (r : Result (Unit {0}) ScheduleFault) → (r >>= λ (_ : Unit {0}). both old new) ≡ ((r >>= λ (_ : Unit {0}). Ok new) >>= both old)
+beside old new (Ok none) = refl
+beside old new (Err fault) = refl
+
+with_last : (old : Sheet) (r : Result (Sheet × Unread) ScheduleFault)
+    → (r >>= λ new. nothing_behind new.1 >>= λ (_ : Unit {0}). both old new.0) ≡ ((r >>= λ new. nothing_behind new.1 >>= λ (_ : Unit {0}). Ok new.0) >>= both old)
+with_last old (Ok new) = beside old new.0 (nothing_behind new.1)
+with_last old (Err fault) = refl
+
+-- the two sheets of a text are the first, and the last behind it
+pub two_of : (text : List ℕ) (u v : Unread) (old : Sheet) (r : Result Sheet ScheduleFault) → whole_of text ≡ Ok u → sheet_section u ≡ Ok (old, v) → last_sheet v ≡ r → two_sheets_in text ≡ (r >>= both old)
 unfolding two_sheets_in
-left_behind text u v w old new fault whole first second behind =
+two_of text u v old r whole first last =
     ok_step_from (whole_of text) _ u _ whole
     (ok_step_from (sheet_section u) _ (old, v) _ first
-    (ok_step_from (sheet_section v) _ (new, w) _ second
-    (ap (λ r. r >>= λ (_ : Unit {0}). Ok (old, new)) behind)))
+    (with_last old (sheet_section v) ∙ ap (λ t. t >>= both old) last))
 
 pub longer_input : (known : Option (List ℕ)) (fault : ScheduleFault) → IfSome known (λ input. 16_777_216 < length input) → fault ≡ Refused TooLong 1 → IfSome known (λ input. two_sheets_in input ≡ Err fault)
 longer_input None fault longer is = tt

@@ -14,7 +14,7 @@ ghost use Rattle.program_input.specs.Faults.{tells_of_reader, tells_of_writer};
 ghost use Rattle.sheet_changes.specs.Changes.{GoesOnBy, IsSaidOf, SaysAll, SaysChanges, StaysBefore, two_sheets_in};
 ghost use Rattle.sheet_changes.specs.Faults.{TellsFaults, of_input};
 ghost use Rattle.sheet_changes.specs.Likenesses.{likeness_of};
-ghost use Rattle.sheet_changes.specs.Inner.Compared.{StaysBy, nothing_behind};
+ghost use Rattle.sheet_changes.specs.Inner.Compared.{StaysBy, last_sheet, nothing_behind};
 
 use crate::comparisons::{Likeness, likeness_between, put_likeness};
 use crate::faults::SheetsFault;
@@ -52,6 +52,45 @@ fn nothing_behind(unread: &Unread<'_>) -> Result<(), ScheduleFault>
     }
 }
 
+/// Drops a sheet beside no other value, for the prover's time alone (docs/DECISIONS.md).
+fn drop_sheet(_sheet: Sheet) {}
+
+/// Drops two sheets, one after the other.
+pub(crate) fn drop_both(both: (Sheet, Sheet)) {
+    drop_sheet(both.0);
+    drop_sheet(both.1);
+}
+
+/// The sheet of an input's last section: what stands behind it is refused.
+fn last_sheet(alloc: Global, unread: &Unread<'_>) -> Result<Sheet, ScheduleFault>
+    ensures taken { IfOk result (λ new. (last_sheet unread.now ≡ Ok new) × IsSheet new) }
+    ensures refused { IfErr result
+        (λ fault. fault ≢ ScheduleFault.OutOfMemory → last_sheet unread.now ≡ Err fault) }
+{
+    let (new, unread) = read_sheet(alloc, unread)?;
+    match nothing_behind(&unread) {
+        Ok(()) => Ok(new),
+        Err(fault) => Err(fault),
+    }
+}
+
+/// An old sheet, and that of the last section.
+fn with_last(
+    alloc: Global,
+    old: Sheet,
+    unread: &Unread<'_>,
+) -> Result<(Sheet, Sheet), ScheduleFault>
+    ensures taken { IfOk result
+        (λ both. (both.0 ≡ old) × (last_sheet unread.now ≡ Ok both.1) × IsSheet both.1) }
+    ensures refused { IfErr result
+        (λ fault. fault ≢ ScheduleFault.OutOfMemory → last_sheet unread.now ≡ Err fault) }
+{
+    match last_sheet(alloc, unread) {
+        Ok(new) => Ok((old, new)),
+        Err(fault) => Err(fault),
+    }
+}
+
 /// The old sheet and the new one of an input, each in a section of its own.
 #[tactic(auto, unfolding(crate::specs::Changes::two_sheets_in))]
 pub(crate) fn two_sheets(alloc: Global, text: &[u8]) -> Result<(Sheet, Sheet), ScheduleFault>
@@ -62,11 +101,7 @@ pub(crate) fn two_sheets(alloc: Global, text: &[u8]) -> Result<(Sheet, Sheet), S
 {
     let unread = Unread::whole(text)?;
     let (old, unread) = read_sheet(alloc, &unread)?;
-    let (new, unread) = read_sheet(alloc, &unread)?;
-    match nothing_behind(&unread) {
-        Ok(()) => Ok((old, new)),
-        Err(fault) => Err(fault),
-    }
+    with_last(alloc, old, &unread)
 }
 
 /// Whether a new sheet goes on from a day, as its likeness tells.
@@ -162,6 +197,32 @@ fn write_changes<W: Sink>(
     }
 }
 
+/// The same of two sheets that are not needed any more.
+fn write_both<W: Sink>(
+    alloc: Global,
+    asked: Asked,
+    both: (Sheet, Sheet),
+    writer: &mut W,
+) -> Result<bool, PlayFault>
+    requires { IsSheet both.0 × IsSheet both.1 }
+    ensures said { IfOk result (λ stays. (IsTrue stays ↔ StaysBefore asked.before both.0 both.1)
+        × (text : List ℕ) × SaysAll asked.all both.0 both.1 text
+        × Appends (W.contents writer.old) (W.contents writer.new) text) }
+    ensures prefix { result ≡ Err PlayFault.Write → (text : List ℕ)
+        × SaysAll asked.all both.0 both.1 text
+        × AppendsPrefix (W.contents writer.old) (W.contents writer.new) text }
+    ensures untouched { IfErr result (λ fault. fault ≢ PlayFault.Write → writer.new ≡ writer.old) }
+    ensures others { (result ≢ Err PlayFault.Read)
+        × ((fault : ScheduleFault) → result ≢ Err (PlayFault.Schedule fault))
+        × ((refusal : Refusal) → result ≢ Err (PlayFault.Refused refusal)) }
+    ensures writes { W.failed_calls writer.new
+        ≡ count_after (tells_of_writer result) (W.failed_calls writer.old) }
+{
+    let result = write_changes(alloc, asked, &both.0, &both.1, writer);
+    drop_both(both);
+    result
+}
+
 /// Writes what is said of the two sheets of an input that was read.
 fn compare_input<W: Sink>(
     alloc: Global,
@@ -185,7 +246,7 @@ fn compare_input<W: Sink>(
         ≡ count_after (tells_of_writer result) (W.failed_calls writer.old) }
 {
     match two_sheets(alloc, input) {
-        Ok((old, new)) => write_changes(alloc, asked, &old, &new, writer),
+        Ok(both) => write_both(alloc, asked, both, writer),
         Err(fault) => Err(PlayFault::from(fault)),
     }
 }

@@ -9,7 +9,7 @@ ghost use Rattle.sheet_changes.specs.Changes.{two_sheets_in};
 ghost use Rattle.sheet_changes.specs.Checks.{IsCheckOf, said_of_two_sheets, warned_of_two_sheets};
 ghost use Rattle.sheet_changes.specs.Inner.SaidLines.{long_said, none_said};
 
-use crate::changes::two_sheets;
+use crate::changes::{drop_both, two_sheets};
 use counted_io::{Sink, Source};
 use fault_lines::{Check, check_input, put_fault, put_unknown_keys};
 use input_sections::{ScheduleCode, ScheduleFault, Unread, read_section};
@@ -24,7 +24,10 @@ fn take_sheets(alloc: Global, text: &[u8]) -> Result<(), ScheduleFault>
         (λ fault. fault ≢ ScheduleFault.OutOfMemory → two_sheets_in text.now ≡ Err fault) }
 {
     match two_sheets(alloc, text) {
-        Ok((_old, _new)) => Ok(()),
+        Ok(both) => {
+            drop_both(both);
+            Ok(())
+        }
         Err(fault) => Err(fault),
     }
 }

@@ -1,15 +1,15 @@
 -- What the comparison of two sheets finds.
-use Rattle.std.specs.Prelude.{◌≡◌, ⊤, ℕ, Bool, if◌then◌else◌, int_lt, List, ◌++◌, filter, All, IsTrue, Option, Some, None, Result, ℤ, ◌<ℤ◌, option_map}
+use Rattle.std.specs.Prelude.{◌≡◌, ⊤, ℕ, Bool, if◌then◌else◌, int_lt, List, ◌++◌, filter, All, IsTrue, Option, Some, None, Result, Ok, ℤ, ◌<ℤ◌, option_map}
 use Rattle.std.specs.List.{Contains}
 use Rattle.metering_model.specs.Sheet.{PriceRow, Commitment, Region, Sheet}
 use Rattle.metering_model.specs.PriceInForce.{price_in_force, commitment_with}
 use Rattle.sheet_laws.specs.Longer.{without_from}
 use Rattle.metering_model.specs.Batch.{is_empty}
-use Rattle.metering_model.specs.FirstFailure.{holds_or}
+use Rattle.metering_model.specs.FirstFailure.{◌>>=◌, holds_or}
 use Rattle.input_sections.specs.declared.faults.ScheduleCode.TheVariants as code
 use Rattle.input_sections.specs.declared.faults.ScheduleFault.{ScheduleFault}
 use Rattle.input_sections.specs.declared.faults.ScheduleFault.TheVariants.{Refused}
-use Rattle.input_sections.specs.Sections.{Unread, left}
+use Rattle.input_sections.specs.Sections.{Unread, left, sheet_section}
 use Rattle.sheet_changes.specs.Changes as model
 use Rattle.sheet_changes.specs.Regions.{ids_of}
 
@@ -62,3 +62,10 @@ StaysBy (Some day) l none_listed = IsTrue none_listed × model.GoesOnBy l day
 -- A fault where anything is left.
 abbrev pub nothing_behind : Unread → Result (Unit {0}) ScheduleFault
 nothing_behind u = holds_or (is_empty (left u)) (Refused code.Sheet u.line)
+
+-- The sheet of the last section; or the first fault by line.
+abbrev pub last_sheet : Unread → Result Sheet ScheduleFault
+last_sheet u = do
+  new ← sheet_section u
+  _ ← nothing_behind new.1
+  Ok new.0

@@ -1,13 +1,19 @@
-use Rattle.std.proofs.Common.{rules}
-use Rattle.schedule_writer.specs.Inner.Plans.{plan_of}
+use Rattle.std.proofs.Common.{Result, Ok, Err, OnOk, refl}
+use Rattle.schedule_writer.specs.Inner.Plans.{all_seen, plan_of}
 use Rattle.schedule_writer.proofs.PlanLaws.{certified}
 use Rattle.schedule_writer.proofs.certifying.certify.Goals as goal
 
-pub returns-then-is_done : goal.returns-then-is_done
-returns-then-is_done c =
+-- what follows from a clause of a call holds where the call's answer is passed on
+on_ok : {T E P Q : Type 0} (r : Result T E) → (P → Q) → OnOk r P → OnOk r Q
+on_ok (Ok x) so it = so it
+on_ok (Err e) so it = tt
+
+pub returns : goal.returns
+returns c =
     let a = c.in_ok-above.above in
-    let group = c.in_ok-above.ensures.group in
-    certified (plan_of c.args.plan.now) c.args.text.now
+    let is = c.in_ok-above.ensures.planned in
+    on_ok c.do_behind.result
+    (certified (plan_of c.args.plan.now) c.args.text.now
     (record { voters = a.voters; observers = a.observers; agents = a.agents; sheet = a.sheet; issuer = a.issuer; rest = a.rest })
-    _ _ _ _ _ c.in_ok-seen.seen c.in_ok-above.ensures.taken group.0 group.1 group.2 c.in_ok-above.ensures.sheet c.in_ok-above.ensures.issuer (search rules)
-    (rw c.in-Ok.ensures at c.in_ok-seen.ensures)
+    _ _ _ _ _ (all_seen (plan_of c.args.plan.now)) c.in_ok-above.ensures.taken is.0 is.1 is.2 is.3 is.4 refl)
+    c.do_behind.ensures

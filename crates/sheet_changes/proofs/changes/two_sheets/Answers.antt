@@ -1,6 +1,20 @@
-use Rattle.sheet_changes.proofs.SaidLaws.{left_behind}
+use Rattle.std.proofs.Common.{Err, Ok, ◌∙◌, ap, subst, sym}
+use Rattle.std.proofs.lemmas.Result.{IfErr-weaker, IfOk-weaker}
+use Rattle.metering_model.specs.SheetRules.{IsSheet}
+use Rattle.sheet_changes.proofs.SaidLaws.{two_of}
 use Rattle.sheet_changes.proofs.changes.two_sheets.Goals as goal
 
-pub returns-in-Err-clause-refused : goal.returns-in-Err-clause-refused
-returns-in-Err-clause-refused c = λ other.
-    left_behind c.args.text.now c.in_ok-unread.unread c.in_ok-old.unread c.in_ok-new.unread c.in_ok-old.old c.in_ok-new.new _ c.in_ok-unread.ensures.whole c.in_ok-old.ensures.taken c.in_ok-new.ensures.taken c.in-Err.ensures.refused.1
+pub returns-clause-taken : goal.returns-clause-taken
+returns-clause-taken c =
+    IfOk-weaker c.with_last.result _ _ (λ both is.
+    two_of c.args.text.now c.in_ok-unread.unread c.in_ok-old.unread c.in_ok-old.old (Ok both.1) c.in_ok-unread.ensures.whole c.in_ok-old.ensures.taken is.1
+    ∙ ap (λ old. Ok (old, both.1)) (sym is.0)) c.with_last.ensures.taken
+
+pub returns-clause-refused : goal.returns-clause-refused
+returns-clause-refused c =
+    IfErr-weaker c.with_last.result _ _ (λ fault refused other.
+    two_of c.args.text.now c.in_ok-unread.unread c.in_ok-old.unread c.in_ok-old.old (Err fault) c.in_ok-unread.ensures.whole c.in_ok-old.ensures.taken (refused other)) c.with_last.ensures.refused
+
+pub returns-clause-rules : goal.returns-clause-rules
+returns-clause-rules c =
+    IfOk-weaker c.with_last.result _ _ (λ both is. (subst IsSheet (sym is.0) c.in_ok-old.ensures.rules, is.2)) c.with_last.ensures.taken
