@@ -1,8 +1,9 @@
 -- Which field is the first that does not meet its rule, by the code of the line.
 use Rattle.std.proofs.Common.{◌≡◌, ℕ, ◌<◌, Bool, true, false, not, ◌&&◌, ◌||◌, cond, List, [], ◌∷◌, length, map, Option, Some, None, Err, codes, refl, sym, ap, ◌∙◌, subst, arith}
-use Rattle.std.specs.Prelude.{if◌then◌else◌}
+use Rattle.std.specs.Prelude.{Result, if◌then◌else◌}
 use Rattle.std.specs.Result.{result_ok}
 use Rattle.std.specs.Option.{is_some}
+use Rattle.std.proofs.lemmas.Bool.{false≢true}
 use Rattle.metering_model.specs.Batch.{is_empty, is_priced, is_text}
 use Rattle.metering_model.specs.BatchReading.{fields_in, is_same, kind_in, record_in, tags_in, whole_in}
 use Rattle.metering_model.specs.Dates.{stamp_in}
@@ -20,6 +21,24 @@ use Rattle.fault_lines.proofs.FieldLaws.{Rules, line_follows, result_of}
 
 abbrev regions : List (List ℕ) → Rules
 regions ts = map (λ t. (field.Region, is_text t)) ts
+
+-- ---- results that are not alike
+
+abbrev is_time : Result (Unit {0}) BatchCode → Bool
+is_time (Err Time) = true
+is_time _ = false
+
+abbrev is_text_code : Result (Unit {0}) BatchCode → Bool
+is_text_code (Err Text) = true
+is_text_code _ = false
+
+abbrev is_number : Result (Unit {0}) BatchCode → Bool
+is_number (Err Number) = true
+is_number _ = false
+
+abbrev is_tags : Result (Unit {0}) BatchCode → Bool
+is_tags (Err Tags) = true
+is_tags _ = false
 
 -- a region's fault is one of a text
 region_code : (ts : List (List ℕ)) (c : BatchCode) → result_of (regions ts) ≡ Err c → c ≡ Text
@@ -48,12 +67,12 @@ module _ (ts : List (List ℕ)) where
   time_first : (s e a r k v m t : Bool) → result_of (rules_by s e a r k v m t) ≡ Err Time → Some (if s then field.End else field.Start) ≡ first_not_met (rules_by s e a r k v m t)
   time_first false e a r k v m t is = refl
   time_first true false a r k v m t is = refl
-  time_first true true false r k v m t is = absurd (cc)
-  time_first true true true false k v m t is = absurd (cc)
-  time_first true true true true false v m t is = absurd (cc)
-  time_first true true true true true false m t is = absurd (cc)
-  time_first true true true true true true false t is = absurd (cc)
-  time_first true true true true true true true false is = absurd (cc)
+  time_first true true false r k v m t is = absurd (false≢true (ap is_time is))
+  time_first true true true false k v m t is = absurd (false≢true (ap is_time is))
+  time_first true true true true false v m t is = absurd (false≢true (ap is_time is))
+  time_first true true true true true false m t is = absurd (false≢true (ap is_time is))
+  time_first true true true true true true false t is = absurd (false≢true (ap is_time is))
+  time_first true true true true true true true false is = absurd (false≢true (ap is_time is))
   time_first true true true true true true true true is = absurd (let same = region_code ts Time is in cc)
 
   abbrev text_choice : (a r k m : Bool) → RecordField
@@ -61,35 +80,35 @@ module _ (ts : List (List ℕ)) where
       if not a then field.Account else (if not r then field.Resource else (if not k then field.Key else (if not m then field.Commitment else field.Region)))
 
   text_first : (s e a r k v m t : Bool) → result_of (rules_by s e a r k v m t) ≡ Err Text → Some (text_choice a r k m) ≡ first_not_met (rules_by s e a r k v m t)
-  text_first false e a r k v m t is = absurd (cc)
-  text_first true false a r k v m t is = absurd (cc)
+  text_first false e a r k v m t is = absurd (false≢true (ap is_text_code is))
+  text_first true false a r k v m t is = absurd (false≢true (ap is_text_code is))
   text_first true true false r k v m t is = refl
   text_first true true true false k v m t is = refl
   text_first true true true true false v m t is = refl
-  text_first true true true true true false m t is = absurd (cc)
+  text_first true true true true true false m t is = absurd (false≢true (ap is_text_code is))
   text_first true true true true true true false t is = refl
-  text_first true true true true true true true false is = absurd (cc)
+  text_first true true true true true true true false is = absurd (false≢true (ap is_text_code is))
   text_first true true true true true true true true is = region_first ts Text is
 
   value_first : (s e a r k v m t : Bool) → result_of (rules_by s e a r k v m t) ≡ Err Number → Some field.Value ≡ first_not_met (rules_by s e a r k v m t)
-  value_first false e a r k v m t is = absurd (cc)
-  value_first true false a r k v m t is = absurd (cc)
-  value_first true true false r k v m t is = absurd (cc)
-  value_first true true true false k v m t is = absurd (cc)
-  value_first true true true true false v m t is = absurd (cc)
+  value_first false e a r k v m t is = absurd (false≢true (ap is_number is))
+  value_first true false a r k v m t is = absurd (false≢true (ap is_number is))
+  value_first true true false r k v m t is = absurd (false≢true (ap is_number is))
+  value_first true true true false k v m t is = absurd (false≢true (ap is_number is))
+  value_first true true true true false v m t is = absurd (false≢true (ap is_number is))
   value_first true true true true true false m t is = refl
-  value_first true true true true true true false t is = absurd (cc)
-  value_first true true true true true true true false is = absurd (cc)
+  value_first true true true true true true false t is = absurd (false≢true (ap is_number is))
+  value_first true true true true true true true false is = absurd (false≢true (ap is_number is))
   value_first true true true true true true true true is = absurd (let same = region_code ts Number is in cc)
 
   tags_first : (s e a r k v m t : Bool) → result_of (rules_by s e a r k v m t) ≡ Err Tags → Some field.Tags ≡ first_not_met (rules_by s e a r k v m t)
-  tags_first false e a r k v m t is = absurd (cc)
-  tags_first true false a r k v m t is = absurd (cc)
-  tags_first true true false r k v m t is = absurd (cc)
-  tags_first true true true false k v m t is = absurd (cc)
-  tags_first true true true true false v m t is = absurd (cc)
-  tags_first true true true true true false m t is = absurd (cc)
-  tags_first true true true true true true false t is = absurd (cc)
+  tags_first false e a r k v m t is = absurd (false≢true (ap is_tags is))
+  tags_first true false a r k v m t is = absurd (false≢true (ap is_tags is))
+  tags_first true true false r k v m t is = absurd (false≢true (ap is_tags is))
+  tags_first true true true false k v m t is = absurd (false≢true (ap is_tags is))
+  tags_first true true true true false v m t is = absurd (false≢true (ap is_tags is))
+  tags_first true true true true true false m t is = absurd (false≢true (ap is_tags is))
+  tags_first true true true true true true false t is = absurd (false≢true (ap is_tags is))
   tags_first true true true true true true true false is = refl
   tags_first true true true true true true true true is = absurd (let same = region_code ts Tags is in cc)
 
@@ -166,7 +185,7 @@ rules_by_letter b one two three = cond b ((field.Sequence, one) ∷ (field.Index
 
 amendment_of : (l s i : List ℕ) (more : List (List ℕ)) → length (l ∷ s ∷ i ∷ more) < 9 → result_of (line_rules (l ∷ s ∷ i ∷ more)) ≡ Err Number
     → Some (number_field s i) ≡ first_not_met (line_rules (l ∷ s ∷ i ∷ more))
-amendment_of l s i [] low is = absurd (cc)
+amendment_of l s i [] low is = absurd (false≢true (ap is_number is))
 amendment_of l s i (x ∷ []) low is = by_letter (is_same l (codes "X")) (is_some (whole_in 1 1_000_000 s)) (is_some (whole_in 0 999 i)) (is_some (result_ok (value_in x))) is
   where
     by_letter : (b one two three : Bool) → result_of (rules_by_letter b one two three) ≡ Err Number
@@ -176,10 +195,10 @@ amendment_of l s i (x ∷ []) low is = by_letter (is_same l (codes "X")) (is_som
     by_letter true true false three so = refl
     by_letter true true true false so = refl
     by_letter true true true true so = absurd (cc)
-amendment_of l s i (_ ∷ _ ∷ []) low is = absurd (cc)
-amendment_of l s i (_ ∷ _ ∷ _ ∷ []) low is = absurd (cc)
-amendment_of l s i (_ ∷ _ ∷ _ ∷ _ ∷ []) low is = absurd (cc)
-amendment_of l s i (_ ∷ _ ∷ _ ∷ _ ∷ _ ∷ []) low is = absurd (cc)
+amendment_of l s i (_ ∷ _ ∷ []) low is = absurd (false≢true (ap is_number is))
+amendment_of l s i (_ ∷ _ ∷ _ ∷ []) low is = absurd (false≢true (ap is_number is))
+amendment_of l s i (_ ∷ _ ∷ _ ∷ _ ∷ []) low is = absurd (false≢true (ap is_number is))
+amendment_of l s i (_ ∷ _ ∷ _ ∷ _ ∷ _ ∷ []) low is = absurd (false≢true (ap is_number is))
 amendment_of l s i (_ ∷ _ ∷ _ ∷ _ ∷ _ ∷ _ ∷ more) low is = absurd (omega (arith, low))
 
 -- ---- as the calls find them
@@ -199,10 +218,10 @@ module _ (line : List ℕ) (v : Version) where
   too_few fs are low is = none fs low (subst (λ xs. result_of (line_rules xs) ≡ Err Number) are (rules_err Number (λ same. cc) is))
     where
       none : (xs : List (List ℕ)) → length xs < 4 → result_of (line_rules xs) ≡ Err Number → ⊥
-      none [] few so = cc
-      none (_ ∷ []) few so = cc
-      none (_ ∷ _ ∷ []) few so = cc
-      none (_ ∷ _ ∷ _ ∷ []) few so = cc
+      none [] few so = false≢true (ap is_number so)
+      none (_ ∷ []) few so = false≢true (ap is_number so)
+      none (_ ∷ _ ∷ []) few so = false≢true (ap is_number so)
+      none (_ ∷ _ ∷ _ ∷ []) few so = false≢true (ap is_number so)
       none (_ ∷ _ ∷ _ ∷ _ ∷ more) few so = omega (arith, few)
 
   pub amendment_told : (l s i : List ℕ) (more : List (List ℕ)) → fields_in line ≡ l ∷ s ∷ i ∷ more → length (fields_in line) < 9

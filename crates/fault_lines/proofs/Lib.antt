@@ -1,5 +1,6 @@
 pub mod SectionLaws
 pub mod RecordWords
+pub mod ToldPieces
 pub mod FieldLaws
 pub mod FieldPlaces
 pub mod FieldLines

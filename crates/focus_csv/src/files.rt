@@ -77,6 +77,28 @@ fn put_batch<'a>(
 
 /// Appends the lines of the batches from one number to before another, in order. At an allocation failure the text is
 /// as before, or has some of the lines after it.
+fn put_between<'a>(
+    batches: &RowsBetween<'a>,
+    from: usize,
+    to: usize,
+    held: &mut HeldLine<'a>,
+    rows: &mut Vec<FocusRow<'a>>,
+    text: &mut Vec<u8>,
+) -> Result<(), AllocError>
+    requires order { from ≤ to }
+    requires within { to ≤ length batches.now }
+    ensures put { OnOk result
+        (text.new.items ≡ text.old.items
+        ++ batch_lines (take (to - from) (drop from batches.now))) }
+    ensures begins { OnErr result (BeginsWith text.new.items text.old.items) }
+{
+    for k in from..to {
+        put_batch(batches, k, held, rows, text)?;
+    }
+    Ok(())
+}
+
+/// The same, made in memory that a file before has used and the next may use again.
 fn put_each(
     alloc: Global,
     room: &mut LineRoom,
@@ -94,11 +116,13 @@ fn put_each(
 {
     let mut held = HeldLine::of(room.take(alloc));
     let mut rows = Vec::new(alloc);
-    for k in from..to {
-        put_batch(batches, k, &mut held, &mut rows, text)?;
+    match put_between(batches, from, to, &mut held, &mut rows, text) {
+        Ok(()) => {
+            room.keep(held.into_pieces());
+            Ok(())
+        }
+        Err(error) => Err(error),
     }
-    room.keep(held.into_pieces());
-    Ok(())
 }
 
 /// Appends the lines of the batches from one number to before another, in order. An error is an allocation failure, and
@@ -118,7 +142,9 @@ pub fn put_batches(
     ensures kept { OnErr result (text.new.items ≡ text.old.items) }
 {
     let before = text.len();
-    match put_each(alloc, &mut LineRoom::new(), batches, from, to, text) {
+    // The room is given back here, and not behind the match, for the prover's time alone (docs/DECISIONS.md).
+    let result = put_each(alloc, &mut LineRoom::new(), batches, from, to, text);
+    match result {
         Ok(()) => Ok(()),
         Err(error) => {
             text.truncate(before);
@@ -162,6 +188,38 @@ pub fn put_file_in(
     }
 }
 
+/// Writes the text that a file begins with, and behind it the lines of the batches. Rows are put where some may stand.
+fn write_behind<'a, W: Sink>(
+    batches: &RowsBetween<'a>,
+    held: &mut HeldLine<'a>,
+    rows: &mut Vec<FocusRow<'a>>,
+    text: &mut Vec<u8>,
+    sink: &mut W,
+) -> Result<(), CsvFault>
+    requires { text.old.items ++ batch_lines batches.now ≡ file (joined batches.now) }
+    ensures written { OnOk result
+        (Appends (W.contents sink.old) (W.contents sink.new) (file (joined batches.now))) }
+    ensures prefix { result ≡ Err CsvFault.Write
+        → AppendsPrefix (W.contents sink.old) (W.contents sink.new) (file (joined batches.now)) }
+    ensures fault { result ≡ Err CsvFault.Write
+        → Rises (W.failed_calls sink.old) (W.failed_calls sink.new) }
+    ensures memory { result ≡ Err CsvFault.OutOfMemory
+        → AppendsSome (W.contents sink.old) (W.contents sink.new) (file (joined batches.now)) }
+    ensures count { W.failed_calls sink.new
+        ≡ count_after (is_sink_fault result) (W.failed_calls sink.old) }
+{
+    for k in 0..batches.batches() {
+        if let Err(fault) = write_text(sink, text.as_slice()) {
+            return Err(fault);
+        }
+        text.clear();
+        let Ok(()) = put_batch(batches, k, held, rows, text) else {
+            return Err(CsvFault::OutOfMemory);
+        };
+    }
+    write_text(sink, text.as_slice())
+}
+
 /// Writes the file of rows: the header line, and a line for each row in order.
 ///
 /// `Write` is one failed call of the sink, and a proper prefix of the file was written. At `OutOfMemory` no call
@@ -188,17 +246,5 @@ pub fn write_rows<W: Sink>(
     if text.extend_from_slice(header_text()).is_err() {
         return Err(CsvFault::OutOfMemory);
     }
-    for k in 0..batches.batches() {
-        if let Err(fault) = write_text(sink, text.as_slice()) {
-            return Err(fault);
-        }
-        text.clear();
-        let Ok(()) = put_batch(batches, k, &mut held, &mut rows, &mut text) else {
-            return Err(CsvFault::OutOfMemory);
-        };
-    }
-    if let Err(fault) = write_text(sink, text.as_slice()) {
-        return Err(fault);
-    }
-    Ok(())
+    write_behind(batches, &mut held, &mut rows, &mut text, sink)
 }

@@ -17,15 +17,24 @@ use counted_io::Sink;
 use focus_row::FocusRow;
 use std::alloc::{AllocError, Global};
 
+/// Appends the lines of the rows, in order.
+fn put_all(alloc: Global, rows: &[FocusRow<'_>], text: &mut Vec<u8>) -> Result<(), AllocError>
+    ensures { OnOk result
+        (text.new.items ≡ text.old.items ++ flat_map row_text (map model_row rows.now)) }
+{
+    let Some(first) = rows.first() else {
+        return Ok(());
+    };
+    put_lines(&mut LinePieces::new(alloc), first, rows, text)
+}
+
 /// A head, and after it the lines of the rows, in order.
 fn lines_behind(alloc: Global, head: &[u8], rows: &[FocusRow<'_>]) -> Result<Vec<u8>, AllocError>
     ensures { IfOk result (λ v. v.items ≡ head.now ++ flat_map row_text (map model_row rows.now)) }
 {
     let mut text = Vec::new(alloc);
     text.extend_from_slice(head)?;
-    if let Some(first) = rows.first() {
-        put_lines(&mut LinePieces::new(alloc), first, rows, &mut text)?;
-    }
+    put_all(alloc, rows, &mut text)?;
     Ok(text)
 }
 

@@ -1,5 +1,6 @@
 pub mod PlaceOrder
 pub mod BetweenLaws
+pub mod ReachLaws
 pub mod RowBeginnings
 pub mod StopLaws
 pub mod BatchLaws

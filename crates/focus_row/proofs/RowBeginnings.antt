@@ -1,5 +1,5 @@
 -- Rows to which others were put.
-use Rattle.std.proofs.Common.{◌≡◌, List, [], ◌∷◌, ◌++◌, map, Option, Some, sym, ap, ◌∙◌, append_assoc, append-nil}
+use Rattle.std.proofs.Common.{◌≡◌, List, [], ◌∷◌, ◌++◌, map, Option, Some, sym, ap, ◌∙◌, append_assoc, append-nil, Bool, true, false, not, cond, None}
 use Rattle.std.specs.List.{cons_option}
 use Rattle.std.proofs.lemmas.List.{map-append}
 use Rattle.std.proofs.lemmas.List.Elements.{All-push, All-same}
@@ -29,3 +29,20 @@ put_behind {sheet} {charge} {begun} {rows} row pushed is named own = record {
   named = All-same (HasItsName sheet) _ _ pushed (All-push (HasItsName sheet) begun row named own);
   begins = (row ∷ [], pushed);
 }
+
+-- none more, where a charge has no row
+pub put_none : {sheet : Sheet} {charge : Option Row} {begun : List FocusRow} → None ≡ charge → AreNamed sheet begun → IsPutBehind sheet charge begun begun
+put_none {sheet} {charge} {begun} is named = record {
+  row = sym (append-nil (map model_row begun)) ∙ ap (λ o. map model_row begun ++ cons_option o []) is;
+  named = named;
+  begins = begins_itself begun;
+}
+
+-- what a call that may fail put behind a list: where it gave no error, that, and else nothing
+pub put_if : (ok : Bool) {err : Bool} (before longer : List FocusRow) {after : List FocusRow} → after ≡ cond ok longer before → ok ≡ not err → err ≡ false → after ≡ longer
+put_if true before longer e n f = e
+put_if false before longer e n f = absurd (cc)
+
+pub kept_if : (ok : Bool) {err : Bool} (before longer : List FocusRow) {after : List FocusRow} → after ≡ cond ok longer before → ok ≡ not err → err ≡ true → after ≡ before
+kept_if true before longer e n f = absurd (cc)
+kept_if false before longer e n f = e

@@ -14,7 +14,7 @@ use charge_row::{Cut, FocusRow, Period};
 use journal_rules::{Store, first_broken_up_to};
 use metering_model::BrokenRule;
 use price_sheet::{Issuer, Sheet};
-use std::alloc::Global;
+use std::alloc::{AllocError, Global};
 use thiserror::Error;
 
 /// Why no rows are returned.
@@ -67,11 +67,28 @@ pub fn rows_of<'a>(
     if let Some(rule) = first_broken_up_to(store, sheet, to) {
         return Err(RowFault::Broken(rule));
     }
-    let Ok(batches) = rows_between(alloc, store, sheet, issuer, period, from, to) else {
-        return Err(RowFault::OutOfMemory);
-    };
-    match batches.all(alloc) {
+    match rows_met(alloc, store, sheet, issuer, period, from, to) {
         Ok(all) => Ok(all),
         Err(_) => Err(RowFault::OutOfMemory),
     }
+}
+
+/// The rows, where no batch is absent and no rule is broken. An error is an allocation failure.
+fn rows_met<'a>(
+    alloc: Global,
+    store: &'a Store,
+    sheet: &'a Sheet,
+    issuer: &'a Issuer,
+    period: Period,
+    from: &'a Cut,
+    to: &'a Cut,
+) -> Result<Vec<FocusRow<'a>>, AllocError>
+    requires cuts { AreCuts store.now.agents from.now to.now }
+    requires whole { first_missing store.now.batches to.now ≡ None }
+    requires met { MeetsJournalRules sheet.now (up_to to.now store.now.batches) }
+    ensures { IfOk result (λ all. map model_row all.items
+        ≡ rows sheet.now issuer.now store.now.batches period from.now to.now) }
+{
+    let batches = rows_between(alloc, store, sheet, issuer, period, from, to)?;
+    batches.all(alloc)
 }

@@ -58,6 +58,30 @@ impl Model for Snapshot {
         }) };
 }
 
+/// Both cuts, shared.
+fn share_cuts(from: &Arc<Cut>, to: &Arc<Cut>) -> Result<(Arc<Cut>, Arc<Cut>), AllocError>
+    ensures { IfOk result
+        (λ cuts. (arc_value cuts.0 ≡ arc_value from.now) × (arc_value cuts.1 ≡ arc_value to.now)) }
+{
+    let from = Arc::try_clone(from)?;
+    let to = Arc::try_clone(to)?;
+    Ok((from, to))
+}
+
+/// The sheet and the issuer, shared.
+fn share_names(
+    sheet: &Arc<Sheet>,
+    issuer: &Arc<Issuer>,
+) -> Result<(Arc<Sheet>, Arc<Issuer>), AllocError>
+    ensures { IfOk result
+        (λ names. (arc_value names.0 ≡ arc_value sheet.now)
+        × (arc_value names.1 ≡ arc_value issuer.now)) }
+{
+    let sheet = Arc::try_clone(sheet)?;
+    let issuer = Arc::try_clone(issuer)?;
+    Ok((sheet, issuer))
+}
+
 impl Snapshot {
     /// The snapshot of a period between two cuts: the batches up to the later one are shared. The store has to have
     /// each of them, and they to meet the rules of the journals. An error is an allocation failure.
@@ -141,13 +165,16 @@ impl Snapshot {
     pub fn copy(&self, alloc: Global) -> Result<Snapshot, AllocError>
         ensures { IfOk result (λ copy. copy ≡ self.now) }
     {
+        let (from, to) = share_cuts(&self.from, &self.to)?;
+        let batches = self.batches.share(alloc, &self.to)?;
+        let (sheet, issuer) = share_names(&self.sheet, &self.issuer)?;
         Ok(Snapshot {
             period: self.period,
-            from: Arc::try_clone(&self.from)?,
-            to: Arc::try_clone(&self.to)?,
-            batches: self.batches.share(alloc, &self.to)?,
-            sheet: Arc::try_clone(&self.sheet)?,
-            issuer: Arc::try_clone(&self.issuer)?,
+            from,
+            to,
+            batches,
+            sheet,
+            issuer,
         })
     }
 

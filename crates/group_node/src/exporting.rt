@@ -1,7 +1,9 @@
 //! Between which cuts a node exports a period.
 
-ghost use Rattle.std.specs.Prelude.{◌≡◌, Ok, Err, IfOk, MatchResult, None, Some, slice_get};
+ghost use Rattle.std.specs.Prelude.{◌≡◌, ◌≤◌, Ok, Err, IfOk, MatchResult, None, Some, slice_get};
 ghost use Rattle.std.specs.Arc.{arc_value};
+ghost use Rattle.metering_model.specs.Cut.{zero_cut};
+ghost use Rattle.metering_model.specs.Limits.{most_agents};
 ghost use Rattle.metering_model.specs.Step.{cut_before, first_missing};
 ghost use Rattle.group_node.specs.Alone.{cut_to_export};
 
@@ -10,6 +12,19 @@ use metering_model::Refusal;
 use period_cut::{Cut, Period};
 use std::alloc::{AllocError, Global};
 use std::sync::Arc;
+
+/// The cut before the first period, to be shared.
+fn shared_zero(alloc: Global, agents: u8) -> Result<Arc<Cut>, AllocError>
+    requires from { 1 ≤ agents }
+    requires to { agents ≤ most_agents }
+    ensures { IfOk result (λ cut. arc_value cut ≡ zero_cut agents) }
+{
+    let zero = Cut::zero(alloc, agents)?;
+    match Arc::new(alloc, zero) {
+        Ok(cut) => Ok(cut),
+        Err(_) => Err(AllocError),
+    }
+}
 
 impl Node {
     /// The cut that the node has learned for a period, up to which it has each batch. A period that it has not learned is
@@ -47,13 +62,7 @@ impl Node {
         };
         match before {
             Some(cut) => Arc::try_clone(cut),
-            None => {
-                let zero = Cut::zero(alloc, self.store().agents())?;
-                match Arc::new(alloc, zero) {
-                    Ok(cut) => Ok(cut),
-                    Err(_) => Err(AllocError),
-                }
-            }
+            None => shared_zero(alloc, self.store().agents()),
         }
     }
 }

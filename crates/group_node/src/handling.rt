@@ -1,5 +1,5 @@
 //! What a node does with a packet.
-ghost use Rattle.std.specs.Prelude.{◌≡◌, ℕ, ◌≤◌, IfOk, OnOk, OnErr, None};
+ghost use Rattle.std.specs.Prelude.{◌≡◌, ℕ, ◌≤◌, IfOk, OnOk, OnErr, MatchResult, Ok, Err, None};
 ghost use Rattle.std.specs.Option.{option_map};
 ghost use Rattle.std.specs.Arc.{arc_value};
 ghost use Rattle.metering_model.specs.World.{CarriesBatch};
@@ -30,6 +30,28 @@ fn learning(learns: Option<Period>) -> Handled
     Handled {
         sends: None,
         learns,
+    }
+}
+
+/// What was handled by a handler that sends.
+fn if_sent(sends: Result<Option<Packet>, AllocError>) -> Result<Handled, AllocError>
+    ensures { MatchResult sends (λ s. result ≡ Ok (record { sends = s; learns = None }))
+        (λ e. result ≡ Err e) }
+{
+    match sends {
+        Ok(sends) => Ok(sending(sends)),
+        Err(error) => Err(error),
+    }
+}
+
+/// What was handled by a handler that learns.
+fn if_learned(learns: Result<Option<Period>, AllocError>) -> Result<Handled, AllocError>
+    ensures { MatchResult learns (λ l. result ≡ Ok (record { sends = None; learns = l }))
+        (λ e. result ≡ Err e) }
+{
+    match learns {
+        Ok(learns) => Ok(learning(learns)),
+        Err(error) => Err(error),
     }
 }
 
@@ -93,29 +115,25 @@ impl Node {
                 self.on_batch(batch)?;
                 Ok(sending(None))
             }
-            Packet::Prepare { period, ballot } => {
-                Ok(sending(self.on_prepare(i, *period, *ballot)?))
-            }
+            Packet::Prepare { period, ballot } => if_sent(self.on_prepare(i, *period, *ballot)),
             Packet::Promise {
                 from,
                 period,
                 ballot,
                 vote,
-            } => Ok(sending(self.on_promise(alloc, i, base, *from, *period, *ballot, vote)?)),
+            } => if_sent(self.on_promise(alloc, i, base, *from, *period, *ballot, vote)),
             Packet::Accept {
                 period,
                 ballot,
                 cut,
-            } => Ok(sending(self.on_accept(i, *period, *ballot, cut)?)),
+            } => if_sent(self.on_accept(i, *period, *ballot, cut)),
             Packet::Accepted {
                 from,
                 period,
                 ballot,
                 cut,
-            } => Ok(learning(self.on_accepted(alloc, *from, *period, *ballot, cut)?)),
-            Packet::Decided { period, cut } => {
-                Ok(learning(self.on_decided(alloc, *period, cut)?))
-            }
+            } => if_learned(self.on_accepted(alloc, *from, *period, *ballot, cut)),
+            Packet::Decided { period, cut } => if_learned(self.on_decided(alloc, *period, cut)),
         }
     }
 }

@@ -1,6 +1,6 @@
 //! The world as it stands.
 
-ghost use Rattle.std.specs.Prelude.{◌≡◌, ◌+◌, ◌≤◌, IfOk, IfSome, replicate, slice_get};
+ghost use Rattle.std.specs.Prelude.{◌≡◌, ◌+◌, ◌≤◌, ◌++◌, ◌∷◌, [], IfOk, OnOk, IfSome, replicate, slice_get};
 ghost use Rattle.std.specs.Option.{option_copied, option_map};
 ghost use Rattle.std.specs.Arc.{arc_value};
 ghost use Rattle.metering_model.specs.World.{new_kept, opening, voter_count, wake};
@@ -52,6 +52,18 @@ impl Model for GroupState {
     ghost invariant = { λ s. AreMembers s.voters s.journals.agents s.nodes.items };
 }
 
+/// Adds a node of a group with so many voters and agents, which has begun nothing and holds nothing.
+fn add_node(alloc: Global, made: &mut Vec<Node>, voters: u8, agents: u8) -> Result<(), AllocError>
+    requires voters_to { voters ≤ most_nodes }
+    requires from { 1 ≤ agents }
+    requires to { agents ≤ most_agents }
+    ensures { OnOk result (made.new.items ≡ made.old.items
+        ++ record { voters = voters; agents = agents; node = wake new_kept } ∷ []) }
+{
+    made.push(Node::new(alloc, voters, agents)?)?;
+    Ok(())
+}
+
 /// So many nodes of a group with so many voters and agents, which have begun nothing and hold nothing.
 fn new_nodes(alloc: Global, nodes: u8, voters: u8, agents: u8) -> Result<Vec<Node>, AllocError>
     requires voters_to { voters ≤ most_nodes }
@@ -62,7 +74,7 @@ fn new_nodes(alloc: Global, nodes: u8, voters: u8, agents: u8) -> Result<Vec<Nod
 {
     let mut made = Vec::with_capacity(alloc, usize::from(nodes))?;
     for _ in 0..nodes {
-        made.push(Node::new(alloc, voters, agents)?)?;
+        add_node(alloc, &mut made, voters, agents)?;
     }
     Ok(made)
 }

@@ -1,6 +1,6 @@
 use Rattle.std.proofs.Common.{◌≡◌, ◌-◌, ◌++◌, take, drop}
 use Rattle.focus_csv.specs.Rows.{batch_lines}
-use Rattle.focus_csv.proofs.files.put_each.Given as goal
+use Rattle.focus_csv.proofs.files.put_between.Given as goal
 
 -- The lines of the batches so far stand behind the text.
 abbrev pub invariant-loop-k : goal.invariant-loop-k

@@ -1,7 +1,7 @@
 use Rattle.std.proofs.Common.{arith}
 use Rattle.focus_csv.proofs.BeginningLaws.{on_err, longer_begins}
 use Rattle.focus_csv.proofs.FileParts.{one_more_of, none_put}
-use Rattle.focus_csv.proofs.files.put_each.Goals as goal
+use Rattle.focus_csv.proofs.files.put_between.Goals as goal
 
 pub loop-k-init : goal.loop-k-init
 loop-k-init c = none_put c.args.batches.now c.args.text.now.items c.args.from

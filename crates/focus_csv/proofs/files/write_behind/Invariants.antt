@@ -3,7 +3,7 @@ use Rattle.std.specs.Io.KnownBytes.{Appends}
 use Rattle.metering_model.specs.File.{file}
 use Rattle.focus_csv.specs.Rows.{batch_lines}
 use Rattle.focus_row.specs.Rows.{joined}
-use Rattle.focus_csv.proofs.files.write_rows.Given as goal
+use Rattle.focus_csv.proofs.files.write_behind.Given as goal
 
 -- Some of the file was written, the text comes next, and the lines of the batches still to come are the rest; no call failed.
 abbrev pub invariant-loop-k : goal.invariant-loop-k

@@ -1,0 +1,53 @@
+use Rattle.std.proofs.Common.{◌≡◌, ◌<◌, ◌≤◌, ◌∙◌, ◌+◌, [], ◌++◌, length, drop, refl, arith, Result, Ok, Err, OnOk, OnErr}
+use Rattle.std.proofs.KnownBytes.{Appends-nil}
+use Rattle.metering_model.specs.File.{file}
+use Rattle.focus_csv.specs.Rows.{batch_lines}
+use Rattle.focus_row.specs.Rows.{joined}
+use Rattle.focus_csv.proofs.FileParts.{next_batch, none_left}
+use Rattle.focus_csv.proofs.Sinks.{next_prefix, next_some, next_written, last_written, begun_anew}
+use Rattle.focus_csv.proofs.files.write_behind.Goals as goal
+
+-- what follows from a clause of a call holds where the call's answer is passed on
+on_ok : {T E P Q : Type 0} (r : Result T E) → (P → Q) → OnOk r P → OnOk r Q
+on_ok (Ok x) so it = so it
+on_ok (Err e) so it = tt
+
+on_err : {T E P : Type 0} (r : Result T E) {e : E} → r ≡ Err e → OnErr r P → P
+on_err (Ok x) is it = absurd cc
+on_err (Err e) is it = it
+
+pub loop-k-init : goal.loop-k-init
+loop-k-init g c = ([], c.requires, Appends-nil _, refl)
+
+pub returns-in-Err-clause-prefix : goal.returns-in-Err-clause-prefix
+returns-in-Err-clause-prefix g c is =
+    let so = c.loop-k.invariant in
+    next_prefix _ _ _ so.0 _ _ _ _ so.1 c.as_slice.ensures.value so.2 c.in-Err.ensures.prefix
+
+pub returns-in_default-put_batch-clause-memory : goal.returns-in_default-put_batch-clause-memory
+returns-in_default-put_batch-clause-memory g c is =
+    let so = c.loop-k.invariant in
+    next_some _ _ _ so.0 _ _ _ _ so.1 c.as_slice.ensures.value so.2 c.in_default.ensures.written
+
+pub loop-k-preserved : goal.loop-k-preserved
+loop-k-preserved g c =
+    let so = c.loop-k.invariant in
+    let batches = c.args.batches.now in
+    let within : c.loop-k.k < length batches = omega (arith, c.loop-k-test.true, c.batches-k-end.ensures) in (
+      so.0 ++ c.loop-k.text.items,
+      begun_anew so.0 _ _ _ c.clear.new.self.items c.put_batch.new.text.items (batch_lines (drop (c.loop-k.k + 1) batches)) so.1 c.clear.ensures.items
+          (next_batch batches c.loop-k.k _ _ within c.in-Ok.ensures.put),
+      next_written _ _ _ so.0 c.loop-k.text.items (batch_lines (drop c.loop-k.k batches)) (file (joined batches)) _ so.1 c.as_slice.ensures.value so.2 c.in_default.ensures.written,
+      c.in_default.ensures.count ∙ so.3,
+    )
+
+pub returns-clause-prefix : goal.returns-clause-prefix
+returns-clause-prefix g c is =
+    let so = c.loop-k.invariant in
+    next_prefix _ _ _ so.0 _ _ _ _ so.1 c.as_slice-2.ensures.value so.2 (on_err c.write_text-2.result is c.write_text-2.ensures.prefix)
+
+pub returns-clause-written : goal.returns-clause-written
+returns-clause-written g c =
+    let so = c.loop-k.invariant in
+    let past : length c.args.batches.now ≤ c.loop-k.k = omega (arith, c.loop-k-test.false, c.batches-k-end.ensures) in
+    on_ok c.write_text-2.result (λ whole. last_written _ _ _ so.0 _ _ _ _ so.1 c.as_slice-2.ensures.value so.2 whole (none_left c.args.batches.now c.loop-k.k past)) c.write_text-2.ensures.written
