@@ -84,16 +84,25 @@ fn is_held(alloc: Global, held: &mut HeldText, snapshot: &Snapshot) -> Result<bo
     Ok(lines == count && has_text(alloc, held, &file)?)
 }
 
-/// The same of a group whose agent has journaled two readings, so many, and two again, and of a kept text at last.
+/// The same of one file, of another and of the first once more, and of a kept text at last.
+fn are_held_in_turn(
+    alloc: Global,
+    held: &mut HeldText,
+    few: &Snapshot,
+    many: &Snapshot,
+) -> Result<bool, AllocError> {
+    let are_so = is_held(alloc, held, few)?
+        && is_held(alloc, held, many)?
+        && is_held(alloc, held, few)?;
+    held.set_text(b"K1|0\n")?;
+    Ok(are_so && has_text(alloc, held, b"K1|0\n")?)
+}
+
+/// The same of a group whose agent has journaled two readings, so many, and two again.
 fn are_held(alloc: Global, rows: u32) -> Result<bool, AllocError> {
     let many = taken(alloc, 1, rows)?;
     let few = taken(alloc, 1, 2)?;
-    let mut held = HeldText::new(alloc);
-    let are_so = is_held(alloc, &mut held, &few)?
-        && is_held(alloc, &mut held, &many)?
-        && is_held(alloc, &mut held, &few)?;
-    held.set_text(b"K1|0\n")?;
-    Ok(are_so && has_text(alloc, &mut held, b"K1|0\n")?)
+    are_held_in_turn(alloc, &mut HeldText::new(alloc), &few, &many)
 }
 
 /// Of as many rows as are folded, and of one fewer.
