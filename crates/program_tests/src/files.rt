@@ -53,14 +53,28 @@ fn between(
     file_between(alloc, store, sheet, issuer, period, from, to).ok()
 }
 
-/// The file of a period between two last sequences.
-fn told(alloc: Global, store: &Store, period: u16, seqs: (u32, u32)) -> Option<Vec<u8>> {
+/// The file of a period between two last sequences, by a sheet.
+fn told_by(
+    alloc: Global,
+    store: &Store,
+    sheet: &Sheet,
+    period: u16,
+    seqs: (u32, u32),
+) -> Option<Vec<u8>> {
     let period = Period::new(period)?;
     let from = cut_of(alloc, seqs.0).ok()?;
     let to = cut_of(alloc, seqs.1).ok()?;
-    match (Sheet::read(alloc, SHEET), Issuer::sample(alloc)) {
-        (Ok(sheet), Ok(issuer)) => { between(alloc, store, (&sheet, &issuer), period, &from, &to) }
-        _ => None,
+    match Issuer::sample(alloc) {
+        Ok(issuer) => between(alloc, store, (sheet, &issuer), period, &from, &to),
+        Err(_) => None,
+    }
+}
+
+/// The same by the worked sheet.
+fn told(alloc: Global, store: &Store, period: u16, seqs: (u32, u32)) -> Option<Vec<u8>> {
+    match Sheet::read(alloc, SHEET) {
+        Ok(sheet) => told_by(alloc, store, &sheet, period, seqs),
+        Err(_) => None,
     }
 }
 
