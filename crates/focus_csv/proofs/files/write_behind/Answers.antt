@@ -1,5 +1,6 @@
-use Rattle.std.proofs.Common.{◌≡◌, ◌<◌, ◌≤◌, ◌∙◌, ◌+◌, [], ◌++◌, length, drop, refl, arith, Result, Ok, Err, OnOk, OnErr}
+use Rattle.std.proofs.Common.{◌≡◌, ◌<◌, ◌≤◌, ◌∙◌, ◌+◌, [], ◌++◌, length, drop, refl, arith, Result, Ok, Err, OnErr}
 use Rattle.std.proofs.KnownBytes.{Appends-nil}
+use Rattle.std.proofs.lemmas.Result.{on_ok_weaker}
 use Rattle.metering_model.specs.File.{file}
 use Rattle.focus_csv.specs.Rows.{batch_lines}
 use Rattle.focus_row.specs.Rows.{joined}
@@ -7,11 +8,7 @@ use Rattle.focus_csv.proofs.FileParts.{next_batch, none_left}
 use Rattle.focus_csv.proofs.Sinks.{next_prefix, next_some, next_written, last_written, begun_anew}
 use Rattle.focus_csv.proofs.files.write_behind.Goals as goal
 
--- what follows from a clause of a call holds where the call's answer is passed on
-on_ok : {T E P Q : Type 0} (r : Result T E) → (P → Q) → OnOk r P → OnOk r Q
-on_ok (Ok x) so it = so it
-on_ok (Err e) so it = tt
-
+-- what a clause says of an error holds where the answer is one
 on_err : {T E P : Type 0} (r : Result T E) {e : E} → r ≡ Err e → OnErr r P → P
 on_err (Ok x) is it = absurd cc
 on_err (Err e) is it = it
@@ -50,4 +47,4 @@ pub returns-clause-written : goal.returns-clause-written
 returns-clause-written g c =
     let so = c.loop-k.invariant in
     let past : length c.args.batches.now ≤ c.loop-k.k = omega (arith, c.loop-k-test.false, c.batches-k-end.ensures) in
-    on_ok c.write_text-2.result (λ whole. last_written _ _ _ so.0 _ _ _ _ so.1 c.as_slice-2.ensures.value so.2 whole (none_left c.args.batches.now c.loop-k.k past)) c.write_text-2.ensures.written
+    on_ok_weaker c.write_text-2.result (λ whole. last_written _ _ _ so.0 _ _ _ _ so.1 c.as_slice-2.ensures.value so.2 whole (none_left c.args.batches.now c.loop-k.k past)) c.write_text-2.ensures.written

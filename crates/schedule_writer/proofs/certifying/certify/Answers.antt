@@ -1,18 +1,14 @@
-use Rattle.std.proofs.Common.{Result, Ok, Err, OnOk, refl}
+use Rattle.std.proofs.Common.{refl}
+use Rattle.std.proofs.lemmas.Result.{on_ok_weaker}
 use Rattle.schedule_writer.specs.Inner.Plans.{all_seen, plan_of}
 use Rattle.schedule_writer.proofs.PlanLaws.{certified}
 use Rattle.schedule_writer.proofs.certifying.certify.Goals as goal
-
--- what follows from a clause of a call holds where the call's answer is passed on
-on_ok : {T E P Q : Type 0} (r : Result T E) → (P → Q) → OnOk r P → OnOk r Q
-on_ok (Ok x) so it = so it
-on_ok (Err e) so it = tt
 
 pub returns : goal.returns
 returns c =
     let a = c.in_ok-above.above in
     let is = c.in_ok-above.ensures.planned in
-    on_ok c.do_behind.result
+    on_ok_weaker c.do_behind.result
     (certified (plan_of c.args.plan.now) c.args.text.now
     (record { voters = a.voters; observers = a.observers; agents = a.agents; sheet = a.sheet; issuer = a.issuer; rest = a.rest })
     _ _ _ _ _ (all_seen (plan_of c.args.plan.now)) c.in_ok-above.ensures.taken is.0 is.1 is.2 is.3 is.4 refl)
