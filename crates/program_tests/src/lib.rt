@@ -1,5 +1,5 @@
-//! Tests of what the program calls, by public calls alone: words, the texts of faults, a file and failed
-//! allocations.
+//! Tests of what the program calls, by public calls alone: words, the texts of faults, a file, a group's processes and
+//! failed allocations.
 #![tactic(auto)]
 
 #[cfg(test)]
@@ -10,5 +10,7 @@ mod faults;
 mod files;
 #[cfg(test)]
 mod growths;
+#[cfg(test)]
+mod streams;
 #[cfg(test)]
 mod words;

@@ -1,5 +1,0 @@
-//! Tests of processes over streams, by public calls alone.
-#![tactic(auto)]
-
-#[cfg(test)]
-mod streams;
