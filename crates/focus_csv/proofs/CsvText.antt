@@ -1,10 +1,10 @@
 -- What the writer of CSV writes with its usual setup, in the words of the file.
-use Rattle.std.proofs.Common.{◌≡◌, ℕ, ◌+◌, ◌-◌, ◌<◌, ◌≤◌, ◌==◌, ◌||◌, Bool, true, false, List, [], ◌∷◌, ◌++◌, length, take, drop, map, refl, sym, ap, ap₂, ◌∙◌, arith}
+use Rattle.std.proofs.Common.{◌≡◌, ℕ, ◌+◌, ◌-◌, ◌<◌, ◌≤◌, ◌==◌, ◌||◌, Bool, true, false, List, [], ◌∷◌, ◌++◌, length, take, drop, map, refl, sym, ap, ap₂, ◌∙◌, append_assoc, arith}
 use Rattle.std.specs.Prelude.{if◌then◌else◌}
 use Rattle.std.specs.List.{list_any, join_with_byte}
 use Rattle.std.proofs.lemmas.Bool.Decides.{nat_tests}
 use Rattle.std.proofs.lemmas.List.{append-nil, drop_at, length-append}
-use Rattle.std.proofs.Math.Seq.{take-length}
+use Rattle.std.proofs.Math.Seq.{take-append_seam, take-length}
 use Rattle.csv.specs.Writing as csv
 use Rattle.csv.specs.declared.writer.WriterBuilder.{WriterBuilder}
 use Rattle.metering_model.specs.File.{quoted, marked}
@@ -69,6 +69,23 @@ last_copied old piece new text from begins is =
     let long : length new ≡ length old + length piece = ap length is ∙ length-append old piece in
     let n : length new - from ≡ length piece = omega (arith, long, begins) in
     ap (λ t. text ++ t) (ap₂ take n rest ∙ take-length piece)
+
+-- what stands between the quotation marks of the field that was written last
+pub within_long : (old field inner new : List ℕ) → new ≡ old ++ 44 ∷ quoted field → quoted field ≡ 34 ∷ inner ++ 34 ∷ []
+    → length new ≡ length old + (length inner + 3)
+within_long old field inner new is marked =
+    omega (arith, ap length is, length-append old (44 ∷ quoted field), ap length marked, length-append inner (34 ∷ []))
+
+pub within_copied : (old field inner new text : List ℕ) (from to : ℕ) → from ≡ length old → to ≡ length new → new ≡ old ++ 44 ∷ quoted field
+    → quoted field ≡ 34 ∷ inner ++ 34 ∷ []
+    → text ++ take ((to - 1) - (from + 2)) (drop (from + 2) new) ≡ text ++ inner
+within_copied old field inner new text from to begins ends is marked =
+    let front = old ++ 44 ∷ 34 ∷ [] in
+    let whole : new ≡ front ++ (inner ++ 34 ∷ []) = is ∙ ap (λ t. old ++ 44 ∷ t) marked ∙ sym (append_assoc old (44 ∷ 34 ∷ []) (inner ++ 34 ∷ [])) in
+    let place : length front ≡ from + 2 = omega (arith, length-append old (44 ∷ 34 ∷ []), begins) in
+    let rest : drop (from + 2) new ≡ inner ++ 34 ∷ [] = ap (drop (from + 2)) whole ∙ drop_at front (inner ++ 34 ∷ []) (from + 2) place in
+    let n : (to - 1) - (from + 2) ≡ length inner = omega (arith, within_long old field inner new is marked, begins, ends) in
+    ap (λ t. text ++ t) (ap₂ take n rest ∙ take-append_seam inner (34 ∷ []))
 
 -- ---- lines
 

@@ -2,7 +2,8 @@
 use Rattle.std.proofs.Common.{◌≡◌, ℕ, zero, suc, ◌+◌, ◌-◌, ◌<◌, List, ◌∷◌, length, get_or, sym, ap, subst, ◌∙◌, arith}
 use Rattle.std.proofs.lemmas.Bool.{false≢true}
 use Rattle.std.specs.Option.{option_map}
-use Rattle.std.specs.Prelude.{IfSome, IsTrue, Option, None, Some}
+use Rattle.metering_model.specs.Row.{Row}
+use Rattle.std.specs.Prelude.{IfSome, IsTrue, Option, None, Some, false}
 use Rattle.focus_row.specs.Rows.{FocusRow, model_row}
 use Rattle.focus_csv.specs.Inner.Pieces.{AreOf, AreOfLast}
 use Rattle.focus_csv.specs.declared.pieces.LinePieces.{LinePieces}
@@ -26,3 +27,8 @@ last_taken pieces first lent rows n taken same count some is held =
     let last : get_or (first ∷ lent) (length lent) first ≡ get_or rows (n - 1) first =
     itself_is first lent (n - 1) (length lent) (omega (arith, count, some)) ∙ ap (λ xs. get_or xs (n - 1) first) same in
     subst (λ o. AreOfLast (option_map model_row o) pieces) (sym is) (λ true. subst (λ r. AreOf pieces (model_row r)) last (held true))
+
+-- Where none are held, whatever the last row is.
+pub none_held : (row : Option Row) (pieces : LinePieces) → pieces.are_held ≡ false → AreOfLast row pieces
+none_held None pieces none = none
+none_held (Some r) pieces none = λ held. absurd (false≢true (sym none ∙ held))

@@ -14,7 +14,7 @@ ghost use Rattle.focus_csv.specs.Inner.Beginnings.{BeginsWith};
 use crate::CsvFault;
 use crate::lines::{HeldLine, header_text};
 use crate::pieces::LinePieces;
-use crate::rooms::LineRoom;
+use crate::rooms::{LineRoom, drop_pieces};
 use crate::writing::write_text;
 use counted_io::Sink;
 use focus_row::{BatchRows, FocusRow, RowsBetween};
@@ -116,13 +116,9 @@ fn put_each(
 {
     let mut held = HeldLine::of(room.take(alloc));
     let mut rows = Vec::new(alloc);
-    match put_between(batches, from, to, &mut held, &mut rows, text) {
-        Ok(()) => {
-            room.keep(held.into_pieces());
-            Ok(())
-        }
-        Err(error) => Err(error),
-    }
+    let result = put_between(batches, from, to, &mut held, &mut rows, text);
+    room.give_back(result.is_ok(), held.into_pieces());
+    result
 }
 
 /// Appends the lines of the batches from one number to before another, in order. An error is an allocation failure, and
@@ -142,8 +138,9 @@ pub fn put_batches(
     ensures kept { OnErr result (text.new.items ≡ text.old.items) }
 {
     let before = text.len();
-    // The room is given back here, and not behind the match, for the prover's time alone (docs/DECISIONS.md).
-    let result = put_each(alloc, &mut LineRoom::new(), batches, from, to, text);
+    let mut room = LineRoom::new();
+    let result = put_each(alloc, &mut room, batches, from, to, text);
+    drop_pieces(room.into_pieces());
     match result {
         Ok(()) => Ok(()),
         Err(error) => {
@@ -163,7 +160,10 @@ pub fn put_file(
     ensures put { OnOk result (text.new.items ≡ text.old.items ++ file (joined batches.now)) }
     ensures kept { OnErr result (text.new.items ≡ text.old.items) }
 {
-    put_file_in(alloc, &mut LineRoom::new(), batches, text)
+    let mut room = LineRoom::new();
+    let result = put_file_in(alloc, &mut room, batches, text);
+    drop_pieces(room.into_pieces());
+    result
 }
 
 /// Appends the file of rows, the same bytes that [`put_file`] appends, whose lines are made in memory that a file before
@@ -240,11 +240,13 @@ pub fn write_rows<W: Sink>(
     ensures count { W.failed_calls sink.new
         ≡ count_after (is_sink_fault result) (W.failed_calls sink.old) }
 {
-    let mut held = HeldLine::of(LinePieces::new(alloc));
-    let mut rows = Vec::new(alloc);
     let mut text = Vec::new(alloc);
     if text.extend_from_slice(header_text()).is_err() {
         return Err(CsvFault::OutOfMemory);
     }
-    write_behind(batches, &mut held, &mut rows, &mut text, sink)
+    let mut held = HeldLine::of(LinePieces::new(alloc));
+    let mut rows = Vec::new(alloc);
+    let result = write_behind(batches, &mut held, &mut rows, &mut text, sink);
+    drop_pieces(Some(held.into_pieces()));
+    result
 }

@@ -1,7 +1,7 @@
 //! What a reader of CSV would cut as it stands: odd fields, and odd strings of tags. `csv` writes them.
 
 ghost use Rattle.std.specs.Prelude.{◌≡◌, [], ◌∷◌, ◌++◌, IfOk, OnOk};
-ghost use Rattle.csv.specs.Writing.{writer_under};
+ghost use Rattle.csv.specs.Writing.{default_writer, writer_setup, writer_under};
 ghost use Rattle.metering_model.specs.File.{quoted};
 ghost use Rattle.focus_csv.specs.Inner.OddFields.{IsReady};
 ghost use Rattle.focus_csv.specs.Inner.Strings.{doubled};
@@ -38,9 +38,7 @@ fn begun(alloc: Global) -> Result<Writer<Vec<u8>>, AllocError>
     ensures { IfOk result IsReady }
 {
     let mut writer = Writer::from_writer(Vec::new(alloc));
-    if writer.write_field(&[]).is_err() || writer.flush().is_err() {
-        return Err(AllocError);
-    }
+    write_next(&mut writer, &[])?;
     Ok(writer)
 }
 
@@ -53,11 +51,11 @@ fn boxed(alloc: Global) -> Result<Box<Writer<Vec<u8>>>, AllocError>
     Ok(Box::new(alloc, begun(alloc)?)?)
 }
 
-/// Writes a comma and a field, and has both in the writer's own text.
+/// Writes a field, and has it in the writer's own text. Behind another one it has a comma before it.
 fn write_next(writer: &mut Writer<Vec<u8>>, field: &[u8]) -> Result<(), AllocError>
-    requires { IsReady writer.old }
+    requires { writer_setup writer.old ≡ default_writer }
     ensures ready { OnOk result (IsReady writer.new) }
-    ensures written { OnOk result ((writer_under writer.new).items
+    ensures written { OnOk result (IsReady writer.old → (writer_under writer.new).items
         ≡ (writer_under writer.old).items ++ 44 ∷ quoted field.now) }
 {
     // What is written to a Vec fails for want of memory alone.

@@ -42,8 +42,20 @@ impl LineRoom {
         }
     }
 
-    /// Keeps pieces for the next file.
-    pub(crate) fn keep(&mut self, pieces: LinePieces) {
-        self.pieces = Some(pieces);
+    /// Keeps pieces for the next file where this one was made, and else lets them go.
+    pub(crate) fn give_back(&mut self, is_made: bool, pieces: LinePieces) {
+        if is_made {
+            drop_pieces(self.pieces.replace(pieces));
+        } else {
+            drop_pieces(Some(pieces));
+        }
+    }
+
+    /// The pieces, where it has any.
+    pub(crate) fn into_pieces(self) -> Option<LinePieces> {
+        self.pieces
     }
 }
+
+/// Drops pieces beside no other value, for the prover's time alone (docs/DECISIONS.md).
+pub(crate) fn drop_pieces(_pieces: Option<LinePieces>) {}

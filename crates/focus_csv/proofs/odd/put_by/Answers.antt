@@ -8,5 +8,6 @@ pub returns-clause-put : goal.returns-clause-put
 returns-clause-put c =
     let old = (writer_under c.args.writer.now).items in
     let begins : c.len-from.result ≡ length old = search (rules, arith) in
+    let written = c.in_ok-write_next.ensures.written c.requires in
     c.in_ok-extend_from_slice.ensures.items
-    ∙ last_copied old (44 ∷ quoted c.args.field.now) _ c.args.text.now.items c.len-from.result begins (search rules)
+    ∙ last_copied old (44 ∷ quoted c.args.field.now) _ c.args.text.now.items c.len-from.result begins (search (rules, written))
