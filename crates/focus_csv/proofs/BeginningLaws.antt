@@ -3,7 +3,8 @@ use Rattle.std.proofs.Common.{◌≡◌, ℕ, List, [], ◌++◌, length, take, 
 use Rattle.std.proofs.lemmas.List.{append-nil}
 use Rattle.std.proofs.Math.Seq.{take-append_seam}
 use Rattle.std.specs.Prelude.{Result, Ok, Err, OnErr, OnOk}
-use Rattle.std.specs.Result.{IsErrAnd}
+use Rattle.std.specs.Bool.{if◌then◌else◌}
+use Rattle.std.specs.Result.{IsErrAnd, is_ok}
 use Rattle.focus_csv.specs.Inner.Beginnings.{BeginsWith}
 
 -- what holds whatever the answer is
@@ -15,6 +16,11 @@ on_err (Err e) p = p
 pub no_ok : {T E : Type 0} (P : Type 0) (Q : E → Type 0) (r : Result T E) → IsErrAnd r Q → OnOk r P
 no_ok P Q (Ok x) is = absurd is
 no_ok P Q (Err e) is = tt
+
+-- what was appended where the answer is Ok
+pub put_ok : {T E : Type 0} (r : Result T E) (new put old : List ℕ) → new ≡ (if is_ok r then put else old) → OnOk r (new ≡ put)
+put_ok (Ok x) new put old is = is
+put_ok (Err e) new put old is = tt
 
 -- a text that is as before
 pub same_begins : (text begun : List ℕ) → text ≡ begun → BeginsWith text begun

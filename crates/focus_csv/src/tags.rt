@@ -37,12 +37,19 @@ fn put_plain_tag(
         → piece.new.items ≡ piece.old.items
         ++ (front ++ doubled (json_member (record { key = key.now; value = value.now })))) }
 {
-    piece.extend_from_slice(begin)?;
-    piece.extend_from_slice(key)?;
-    piece.extend_from_slice(b"\"\":\"\"")?;
-    piece.extend_from_slice(value)?;
-    piece.extend_from_slice(b"\"\"")?;
-    Ok(())
+    let Ok(()) = piece.extend_from_slice(begin) else {
+        return Err(AllocError);
+    };
+    let Ok(()) = piece.extend_from_slice(key) else {
+        return Err(AllocError);
+    };
+    let Ok(()) = piece.extend_from_slice(b"\"\":\"\"") else {
+        return Err(AllocError);
+    };
+    let Ok(()) = piece.extend_from_slice(value) else {
+        return Err(AllocError);
+    };
+    piece.extend_from_slice(b"\"\"")
 }
 
 /// A text as a string, as `serde_json` writes it.

@@ -1,10 +1,10 @@
 //! The pieces of texts, which a row lends.
 
-ghost use Rattle.std.specs.Prelude.{◌≡◌, [], map, IsTrue, OnOk};
+ghost use Rattle.std.specs.Prelude.{◌≡◌, ◌∷◌, [], map, IsTrue, OnOk};
 ghost use Rattle.std.specs.Option.{option_copied};
 ghost use Rattle.metering_model.specs.File.{text_or_null};
 ghost use Rattle.focus_row.specs.Rows.{model_row};
-ghost use Rattle.focus_csv.specs.Inner.Runs.{behind, billing_columns, charge_columns, moment_columns, unit_columns, issuer_columns, category_columns, pricing_columns, seller_columns, region_columns, resource_columns, service_columns, account_columns};
+ghost use Rattle.focus_csv.specs.Inner.Runs.{behind, billing_columns, charge_columns, moment_columns, seller_columns, region_columns, service_columns};
 ghost use Rattle.focus_csv.specs.Inner.Pieces.{AreTextsOf, text_bytes};
 
 use crate::alike::{are_alike, are_both_alike};
@@ -57,6 +57,25 @@ fn billing<'a>(row: &'a FocusRow<'a>) -> [&'a [u8]; 5]
 }
 
 // Each of these makes the piece that of a row. One that is held is of the row before, and stays where its columns are the same.
+
+/// A piece of one column, which is empty for null.
+#[inline(always)]
+fn set_single(
+    odd: &mut OddFields,
+    piece: &mut Vec<u8>,
+    is_held: bool,
+    before: Option<&[u8]>,
+    text: Option<&[u8]>,
+) -> Result<(), AllocError>
+    requires { IsTrue is_held
+        → piece.old.items ≡ behind (text_or_null (option_copied before) ∷ []) }
+    ensures { OnOk result (piece.new.items ≡ behind (text_or_null (option_copied text.entry) ∷ [])) }
+{
+    if is_held && are_both_alike(before, text) {
+        return Ok(());
+    }
+    make_piece(odd, piece, &[text_or_null(text)])
+}
 
 /// Who bills, and for which period.
 fn set_billing(
@@ -156,75 +175,6 @@ fn set_moment(
     )
 }
 
-/// In which unit it was consumed.
-fn set_unit(
-    odd: &mut OddFields,
-    piece: &mut Vec<u8>,
-    are_held: bool,
-    before: &FocusRow<'_>,
-    row: &FocusRow<'_>,
-) -> Result<(), AllocError>
-    requires { IsTrue are_held → piece.old.items ≡ behind (unit_columns (model_row before.now)) }
-    ensures { OnOk result (piece.new.items ≡ behind (unit_columns (model_row row.now))) }
-{
-    if are_held && are_both_alike(before.consumed_unit, row.consumed_unit) {
-        return Ok(());
-    }
-    make_piece(odd, piece, &[text_or_null(row.consumed_unit)])
-}
-
-/// Who issues the invoice.
-fn set_issuer(
-    odd: &mut OddFields,
-    piece: &mut Vec<u8>,
-    are_held: bool,
-    before: &FocusRow<'_>,
-    row: &FocusRow<'_>,
-) -> Result<(), AllocError>
-    requires { IsTrue are_held → piece.old.items ≡ behind (issuer_columns (model_row before.now)) }
-    ensures { OnOk result (piece.new.items ≡ behind (issuer_columns (model_row row.now))) }
-{
-    if are_held && are_alike(before.invoice_issuer_name, row.invoice_issuer_name) {
-        return Ok(());
-    }
-    make_piece(odd, piece, &[row.invoice_issuer_name])
-}
-
-/// How it is priced.
-fn set_category(
-    odd: &mut OddFields,
-    piece: &mut Vec<u8>,
-    are_held: bool,
-    before: &FocusRow<'_>,
-    row: &FocusRow<'_>,
-) -> Result<(), AllocError>
-    requires { IsTrue are_held
-        → piece.old.items ≡ behind (category_columns (model_row before.now)) }
-    ensures { OnOk result (piece.new.items ≡ behind (category_columns (model_row row.now))) }
-{
-    if are_held && are_both_alike(before.pricing_category, row.pricing_category) {
-        return Ok(());
-    }
-    make_piece(odd, piece, &[text_or_null(row.pricing_category)])
-}
-
-/// In which unit it is priced.
-fn set_pricing(
-    odd: &mut OddFields,
-    piece: &mut Vec<u8>,
-    are_held: bool,
-    before: &FocusRow<'_>,
-    row: &FocusRow<'_>,
-) -> Result<(), AllocError>
-    requires { IsTrue are_held → piece.old.items ≡ behind (pricing_columns (model_row before.now)) }
-    ensures { OnOk result (piece.new.items ≡ behind (pricing_columns (model_row row.now))) }
-{
-    if are_held && are_both_alike(before.pricing_unit, row.pricing_unit) {
-        return Ok(());
-    }
-    make_piece(odd, piece, &[text_or_null(row.pricing_unit)])
-}
-
 /// Who provides it, and who publishes it.
 fn set_seller(
     odd: &mut OddFields,
@@ -269,24 +219,6 @@ fn set_region(
     )
 }
 
-/// What was used.
-fn set_resource(
-    odd: &mut OddFields,
-    piece: &mut Vec<u8>,
-    are_held: bool,
-    before: &FocusRow<'_>,
-    row: &FocusRow<'_>,
-) -> Result<(), AllocError>
-    requires { IsTrue are_held
-        → piece.old.items ≡ behind (resource_columns (model_row before.now)) }
-    ensures { OnOk result (piece.new.items ≡ behind (resource_columns (model_row row.now))) }
-{
-    if are_held && are_both_alike(before.resource_id, row.resource_id) {
-        return Ok(());
-    }
-    make_piece(odd, piece, &[text_or_null(row.resource_id)])
-}
-
 /// Which service, at which price.
 fn set_service(
     odd: &mut OddFields,
@@ -316,23 +248,6 @@ fn set_service(
             text_or_null(row.sku_price_id),
         ],
     )
-}
-
-/// On whose account.
-fn set_account(
-    odd: &mut OddFields,
-    piece: &mut Vec<u8>,
-    are_held: bool,
-    before: &FocusRow<'_>,
-    row: &FocusRow<'_>,
-) -> Result<(), AllocError>
-    requires { IsTrue are_held → piece.old.items ≡ behind (account_columns (model_row before.now)) }
-    ensures { OnOk result (piece.new.items ≡ behind (account_columns (model_row row.now))) }
-{
-    if are_held && are_both_alike(before.sub_account_id, row.sub_account_id) {
-        return Ok(());
-    }
-    make_piece(odd, piece, &[text_or_null(row.sub_account_id)])
 }
 
 impl TextPieces {
@@ -367,17 +282,75 @@ impl TextPieces {
         requires { IsTrue are_held → AreTextsOf self.old (model_row before.now) }
         ensures { OnOk result (AreTextsOf self.new (model_row row.now)) }
     {
-        set_billing(odd, &mut self.billing, are_held, before, row)?;
-        set_charge(odd, &mut self.charge, are_held, before, row)?;
-        set_moment(odd, &mut self.moment, are_held, before, row)?;
-        set_unit(odd, &mut self.unit, are_held, before, row)?;
-        set_issuer(odd, &mut self.issuer, are_held, before, row)?;
-        set_category(odd, &mut self.category, are_held, before, row)?;
-        set_pricing(odd, &mut self.pricing, are_held, before, row)?;
-        set_seller(odd, &mut self.seller, are_held, before, row)?;
-        set_region(odd, &mut self.region, are_held, before, row)?;
-        set_resource(odd, &mut self.resource, are_held, before, row)?;
-        set_service(odd, &mut self.service, are_held, before, row)?;
-        set_account(odd, &mut self.account, are_held, before, row)
+        let Ok(()) = set_billing(odd, &mut self.billing, are_held, before, row) else {
+            return Err(AllocError);
+        };
+        let Ok(()) = set_charge(odd, &mut self.charge, are_held, before, row) else {
+            return Err(AllocError);
+        };
+        let Ok(()) = set_moment(odd, &mut self.moment, are_held, before, row) else {
+            return Err(AllocError);
+        };
+        let Ok(()) = set_single(
+            odd,
+            &mut self.unit,
+            are_held,
+            before.consumed_unit,
+            row.consumed_unit,
+        ) else {
+            return Err(AllocError);
+        };
+        let Ok(()) = set_single(
+            odd,
+            &mut self.issuer,
+            are_held,
+            Some(before.invoice_issuer_name),
+            Some(row.invoice_issuer_name),
+        ) else {
+            return Err(AllocError);
+        };
+        let Ok(()) = set_single(
+            odd,
+            &mut self.category,
+            are_held,
+            before.pricing_category,
+            row.pricing_category,
+        ) else {
+            return Err(AllocError);
+        };
+        let Ok(()) = set_single(
+            odd,
+            &mut self.pricing,
+            are_held,
+            before.pricing_unit,
+            row.pricing_unit,
+        ) else {
+            return Err(AllocError);
+        };
+        let Ok(()) = set_seller(odd, &mut self.seller, are_held, before, row) else {
+            return Err(AllocError);
+        };
+        let Ok(()) = set_region(odd, &mut self.region, are_held, before, row) else {
+            return Err(AllocError);
+        };
+        let Ok(()) = set_single(
+            odd,
+            &mut self.resource,
+            are_held,
+            before.resource_id,
+            row.resource_id,
+        ) else {
+            return Err(AllocError);
+        };
+        let Ok(()) = set_service(odd, &mut self.service, are_held, before, row) else {
+            return Err(AllocError);
+        };
+        set_single(
+            odd,
+            &mut self.account,
+            are_held,
+            before.sub_account_id,
+            row.sub_account_id,
+        )
     }
 }

@@ -12,6 +12,7 @@ ghost use Rattle.focus_csv.specs.Faults.{is_sink_fault};
 use crate::CsvFault;
 use crate::lines::{header_text, put_lines};
 use crate::pieces::LinePieces;
+use crate::rooms::drop_pieces;
 use crate::writing::write_text;
 use counted_io::Sink;
 use focus_row::FocusRow;
@@ -25,7 +26,10 @@ fn put_all(alloc: Global, rows: &[FocusRow<'_>], text: &mut Vec<u8>) -> Result<(
     let Some(first) = rows.first() else {
         return Ok(());
     };
-    put_lines(&mut LinePieces::new(alloc), first, rows, text)
+    let mut pieces = LinePieces::new(alloc);
+    let result = put_lines(&mut pieces, first, rows, text);
+    drop_pieces(Some(pieces));
+    result
 }
 
 /// A head, and after it the lines of the rows, in order.
