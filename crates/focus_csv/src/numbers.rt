@@ -179,50 +179,64 @@ impl NumberPieces {
         ensures { OnOk result (AreNumbersOf self.new (model_row row.now)) }
     {
         let billed = row.billed_cost;
-        set_first(&mut self.billed_cost, are_held, before.billed_cost, billed)?;
+        let Ok(()) = set_first(&mut self.billed_cost, are_held, before.billed_cost, billed) else {
+            return Err(AllocError);
+        };
         let spelled = &self.billed_cost;
-        set_cost(
+        let Ok(()) = set_cost(
             &mut self.contracted_cost,
             are_held,
             before.contracted_cost,
             row.contracted_cost,
             billed,
             spelled,
-        )?;
-        set_cost(
+        ) else {
+            return Err(AllocError);
+        };
+        let Ok(()) = set_cost(
             &mut self.effective_cost,
             are_held,
             before.effective_cost,
             row.effective_cost,
             billed,
             spelled,
-        )?;
-        set_cost(
+        ) else {
+            return Err(AllocError);
+        };
+        let Ok(()) = set_cost(
             &mut self.list_cost,
             are_held,
             before.list_cost,
             row.list_cost,
             billed,
             spelled,
-        )?;
-        set_quantity(
+        ) else {
+            return Err(AllocError);
+        };
+        let Ok(()) = set_quantity(
             &mut self.consumed_quantity,
             are_held,
             before.consumed_quantity,
             row.consumed_quantity,
-        )?;
-        set_quantity(
+        ) else {
+            return Err(AllocError);
+        };
+        let Ok(()) = set_quantity(
             &mut self.pricing_quantity,
             are_held,
             before.pricing_quantity,
             row.pricing_quantity,
-        )?;
-        set_price(
+        ) else {
+            return Err(AllocError);
+        };
+        let Ok(()) = set_price(
             &mut self.contracted_unit_price,
             are_held,
             before.contracted_unit_price,
             row.contracted_unit_price,
-        )?;
+        ) else {
+            return Err(AllocError);
+        };
         set_price(
             &mut self.list_unit_price,
             are_held,
