@@ -9,7 +9,7 @@ use Rattle.metering_model.specs.File.{quoted, row_text}
 use Rattle.metering_model.proofs.LineFeeds.{spelling_quoted}
 use Rattle.focus_csv.specs.declared.pieces.LinePieces.{LinePieces}
 use Rattle.focus_csv.specs.Inner.Pieces.{AreOf, piece_list}
-use Rattle.focus_csv.specs.Inner.Runs.{behind, line_runs}
+use Rattle.focus_csv.specs.Inner.Runs.{behind, line_runs, billing_columns, charge_columns, moment_columns, seller_columns, region_columns, service_columns}
 
 joined : (f : List ℕ) (fs : List (List ℕ)) → join_with_byte 44 (map quoted (f ∷ fs)) ≡ quoted f ++ behind fs
 joined f [] = sym (append-nil (quoted f))
@@ -20,6 +20,7 @@ runs_joined [] = refl
 runs_joined (r ∷ rs) = ap (λ t. behind r ++ t) (runs_joined rs) ∙ sym (flat_map-append (λ f. 44 ∷ quoted f) r (flat_map (λ x. x) rs))
 
 line_is : (r : Row) → (quoted (spelling 12 r.billed_cost) ++ flat_map (λ t. t) (map behind (line_runs r))) ++ 10 ∷ [] ≡ row_text r
+unfolding billing_columns charge_columns moment_columns seller_columns region_columns service_columns
 line_is r =
     let first = spelling 12 r.billed_cost in
     ap (λ t. t ++ 10 ∷ [])

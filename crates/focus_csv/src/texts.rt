@@ -44,6 +44,7 @@ fn text_or_null<'a>(text: Option<&'a [u8]>) -> &'a [u8]
 
 /// The columns of who bills, and for which period.
 #[inline(always)]
+#[tactic(auto, unfolding(crate::specs::Inner::Runs::billing_columns))]
 fn billing<'a>(row: &'a FocusRow<'a>) -> [&'a [u8]; 5]
     ensures { map (λ f. f.now) result ≡ billing_columns (model_row row.now) }
 {
@@ -78,6 +79,7 @@ fn set_single(
 }
 
 /// Who bills, and for which period.
+#[tactic(auto, unfolding(crate::specs::Inner::Runs::billing_columns))]
 fn set_billing(
     odd: &mut OddFields,
     piece: &mut Vec<u8>,
@@ -101,6 +103,7 @@ fn set_billing(
 }
 
 /// What is charged.
+#[tactic(auto, unfolding(crate::specs::Inner::Runs::charge_columns))]
 fn set_charge(
     odd: &mut OddFields,
     piece: &mut Vec<u8>,
@@ -132,6 +135,7 @@ fn set_charge(
 }
 
 /// When it was, and under which commitment.
+#[tactic(auto, unfolding(crate::specs::Inner::Runs::moment_columns))]
 fn set_moment(
     odd: &mut OddFields,
     piece: &mut Vec<u8>,
@@ -176,6 +180,7 @@ fn set_moment(
 }
 
 /// Who provides it, and who publishes it.
+#[tactic(auto, unfolding(crate::specs::Inner::Runs::seller_columns))]
 fn set_seller(
     odd: &mut OddFields,
     piece: &mut Vec<u8>,
@@ -196,6 +201,7 @@ fn set_seller(
 }
 
 /// Where it was.
+#[tactic(auto, unfolding(crate::specs::Inner::Runs::region_columns))]
 fn set_region(
     odd: &mut OddFields,
     piece: &mut Vec<u8>,
@@ -220,6 +226,7 @@ fn set_region(
 }
 
 /// Which service, at which price.
+#[tactic(auto, unfolding(crate::specs::Inner::Runs::service_columns))]
 fn set_service(
     odd: &mut OddFields,
     piece: &mut Vec<u8>,

@@ -25,13 +25,13 @@ up_to_name name (c ∷ cs) = if bytes_eq c.name name then [] else c ∷ up_to_na
 abbrev pub run_of : List ℕ → List ℕ → Row → List (List ℕ)
 run_of first next r = map (λ c. c.field r) (up_to_name next (from_name first columns))
 
-abbrev pub billing_columns : Row → List (List ℕ)
+unfoldable pub billing_columns : Row → List (List ℕ)
 billing_columns = run_of (codes "BillingAccountId") (codes "ChargeCategory")
 
-abbrev pub charge_columns : Row → List (List ℕ)
+unfoldable pub charge_columns : Row → List (List ℕ)
 charge_columns = run_of (codes "ChargeCategory") (codes "ChargePeriodEnd")
 
-abbrev pub moment_columns : Row → List (List ℕ)
+unfoldable pub moment_columns : Row → List (List ℕ)
 moment_columns = run_of (codes "ChargePeriodEnd") (codes "ConsumedQuantity")
 
 abbrev pub unit_columns : Row → List (List ℕ)
@@ -46,16 +46,16 @@ category_columns = run_of (codes "PricingCategory") (codes "PricingQuantity")
 abbrev pub pricing_columns : Row → List (List ℕ)
 pricing_columns = run_of (codes "PricingUnit") (codes "ProviderName")
 
-abbrev pub seller_columns : Row → List (List ℕ)
+unfoldable pub seller_columns : Row → List (List ℕ)
 seller_columns = run_of (codes "ProviderName") (codes "RegionId")
 
-abbrev pub region_columns : Row → List (List ℕ)
+unfoldable pub region_columns : Row → List (List ℕ)
 region_columns = run_of (codes "RegionId") (codes "ResourceId")
 
 abbrev pub resource_columns : Row → List (List ℕ)
 resource_columns = run_of (codes "ResourceId") (codes "ServiceCategory")
 
-abbrev pub service_columns : Row → List (List ℕ)
+unfoldable pub service_columns : Row → List (List ℕ)
 service_columns = run_of (codes "ServiceCategory") (codes "SubAccountId")
 
 abbrev pub account_columns : Row → List (List ℕ)

@@ -5,7 +5,7 @@ use Rattle.counted_io.specs.Counts.{Rises, count_after}
 use Rattle.metering_model.specs.File.{file}
 use Rattle.focus_csv.specs.Faults.{is_sink_fault}
 use Rattle.focus_csv.specs.Rows.{batch_lines}
-use Rattle.focus_csv.specs.declared.CsvFault.TheVariants.{Write, OutOfMemory}
+use Rattle.focus_csv.specs.declared.CsvFault.TheVariants.{Write}
 use Rattle.focus_row.specs.Rows.{joined}
 use Rattle.focus_csv.proofs.FileParts.{next_batch, none_left}
 use Rattle.focus_csv.proofs.Sinks.{next_prefix, next_some, next_written, last_written, begun_anew}

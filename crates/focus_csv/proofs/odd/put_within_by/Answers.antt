@@ -1,6 +1,5 @@
 -- What stands between the quotation marks is copied.
-use Rattle.std.proofs.Common.{◌≡◌, ◌∷◌, ◌++◌, length, ◌∙◌, rules, arith}
-use Rattle.metering_model.specs.File.{quoted}
+use Rattle.std.proofs.Common.{◌≡◌, length, ◌∙◌, rules, arith}
 use Rattle.csv.specs.Writing.{writer_under}
 use Rattle.focus_csv.specs.Inner.Strings.{doubled}
 use Rattle.focus_csv.proofs.BeginningLaws.{no_ok}
