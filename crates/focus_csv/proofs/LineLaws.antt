@@ -5,7 +5,7 @@ use Rattle.std.proofs.lemmas.List.{append-nil}
 use Rattle.std.proofs.lemmas.Grind.{flat_map-append}
 use Rattle.metering_model.specs.NumberText.{spelling}
 use Rattle.metering_model.specs.Row.{Row}
-use Rattle.metering_model.specs.File.{quoted, row_text}
+use Rattle.metering_model.specs.File.{quoted, row_text, text_or_null}
 use Rattle.metering_model.proofs.LineFeeds.{spelling_quoted}
 use Rattle.focus_csv.specs.declared.pieces.LinePieces.{LinePieces}
 use Rattle.focus_csv.specs.Inner.Pieces.{AreOf, piece_list}
@@ -46,6 +46,11 @@ line_of_all p r are =
     ∙ sym (append_assoc first (flat_map (λ x. x) rest) (10 ∷ []))
     ∙ ap₂ (λ f ps. (f ++ flat_map (λ x. x) ps) ++ 10 ∷ []) n.billed_cost is
     ∙ line_is r
+
+-- where it was
+pub places : (r : Row) → region_columns r ≡ text_or_null r.region_id ∷ text_or_null r.region_name ∷ []
+unfolding region_columns
+places r = refl
 
 -- ---- numbers
 

@@ -5,7 +5,8 @@ use Rattle.counted_io.specs.Counts.{Rises, count_after}
 use Rattle.metering_model.specs.File.{file}
 use Rattle.focus_csv.specs.Faults.{is_sink_fault}
 use Rattle.focus_csv.specs.Rows.{batch_lines}
-use Rattle.focus_csv.specs.declared.CsvFault.TheVariants.{Write}
+use Rattle.focus_csv.specs.declared.CsvFault.{CsvFault}
+use Rattle.focus_csv.specs.declared.CsvFault.TheVariants.{Write, OutOfMemory}
 use Rattle.focus_row.specs.Rows.{joined}
 use Rattle.focus_csv.proofs.FileParts.{next_batch, none_left}
 use Rattle.focus_csv.proofs.Sinks.{next_prefix, next_some, next_written, last_written, begun_anew}
@@ -15,6 +16,16 @@ use Rattle.focus_csv.proofs.files.write_behind.Goals as goal
 on_err : {T E P : Type 0} (r : Result T E) {e : E} → r ≡ Err e → OnErr r P → P
 on_err (Ok x) is it = absurd cc
 on_err (Err e) is it = it
+
+-- the two faults are not one
+apart : {P : Type 0} → ◌≡◌ {A = CsvFault} OutOfMemory Write → P
+apart is = absurd (cc)
+
+of_memory : {T P : Type 0} → ◌≡◌ {A = Result T CsvFault} (Err OutOfMemory) (Err Write) → P
+of_memory is = absurd (cc)
+
+of_sink : {T P : Type 0} (fault : CsvFault) → fault ≡ Write → ◌≡◌ {A = Result T CsvFault} (Err fault) (Err OutOfMemory) → P
+of_sink fault write is = absurd (cc)
 
 pub loop-k-init : goal.loop-k-init
 loop-k-init g c = ([], c.requires, Appends-nil _, refl)
@@ -31,7 +42,7 @@ pub returns-in-Err-clause-fault : goal.returns-in-Err-clause-fault
 returns-in-Err-clause-fault g c is = subst (λ n. Rises n (g.W.Sink.failed_calls c.write_text.new.sink)) c.loop-k.invariant.3 c.in-Err.ensures.fault
 
 pub returns-in-Err-clause-memory : goal.returns-in-Err-clause-memory
-returns-in-Err-clause-memory g c is = absurd (cc (is, c.in-Err.ensures.write))
+returns-in-Err-clause-memory g c is = of_sink _ c.in-Err.ensures.write is
 
 pub returns-in-Err-clause-count : goal.returns-in-Err-clause-count
 returns-in-Err-clause-count g c = c.in-Err.ensures.count ∙ ap (count_after _) c.loop-k.invariant.3
@@ -43,10 +54,10 @@ pub returns-in_default-put_batch-clause-written : goal.returns-in_default-put_ba
 returns-in_default-put_batch-clause-written g c = tt
 
 pub returns-in_default-put_batch-clause-prefix : goal.returns-in_default-put_batch-clause-prefix
-returns-in_default-put_batch-clause-prefix g c is = absurd (cc is)
+returns-in_default-put_batch-clause-prefix g c is = of_memory is
 
 pub returns-in_default-put_batch-clause-fault : goal.returns-in_default-put_batch-clause-fault
-returns-in_default-put_batch-clause-fault g c is = absurd (cc is)
+returns-in_default-put_batch-clause-fault g c is = of_memory is
 
 pub returns-in_default-put_batch-clause-count : goal.returns-in_default-put_batch-clause-count
 returns-in_default-put_batch-clause-count g c = c.in_default.ensures.count ∙ c.loop-k.invariant.3
@@ -84,7 +95,7 @@ returns-clause-fault g c is =
     subst (λ n. Rises n (g.W.Sink.failed_calls c.write_text-2.new.sink)) c.loop-k.invariant.3 (on_err c.write_text-2.result is c.write_text-2.ensures.fault)
 
 pub returns-clause-memory : goal.returns-clause-memory
-returns-clause-memory g c is = absurd (cc (IfErr-at_err (λ fault. fault ≡ Write) is c.write_text-2.ensures.write))
+returns-clause-memory g c is = apart (IfErr-at_err (λ fault. fault ≡ Write) is c.write_text-2.ensures.write)
 
 pub returns-clause-count : goal.returns-clause-count
 returns-clause-count g c = c.write_text-2.ensures.count ∙ ap (count_after (is_sink_fault c.write_text-2.result)) c.loop-k.invariant.3
