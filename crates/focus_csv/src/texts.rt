@@ -70,7 +70,8 @@ fn set_single(
 ) -> Result<(), AllocError>
     requires { IsTrue is_held
         → piece.old.items ≡ behind (text_or_null (option_copied before) ∷ []) }
-    ensures { OnOk result (piece.new.items ≡ behind (text_or_null (option_copied text.entry) ∷ [])) }
+    ensures { OnOk result
+        (piece.new.items ≡ behind (text_or_null (option_copied text.entry) ∷ [])) }
 {
     if is_held && are_both_alike(before, text) {
         return Ok(());
