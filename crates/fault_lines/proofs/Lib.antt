@@ -9,6 +9,7 @@ pub mod LatestKept
 pub mod AheadWalks
 pub mod UnknownLaws
 mod TakenKeys
+pub mod KeyWalks
 pub mod KeysOnLine
 pub mod CheckLaws
 mod WorkedKinds

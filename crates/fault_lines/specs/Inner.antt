@@ -1,1 +1,2 @@
+pub mod KeyKinds
 pub mod LineFields

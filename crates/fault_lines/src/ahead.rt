@@ -8,7 +8,7 @@ ghost use Rattle.batch_view.specs.Batches.{batch_of};
 ghost use Rattle.fault_lines.specs.Ahead.{AreLatest, ahead_in, ahead_of, is_ahead, later, latest, start_day, told_of_record};
 ghost use Rattle.fault_lines.specs.Told.{told_at};
 
-use crate::batches::put_place;
+use crate::batches::{put_both, put_place};
 use batch_view::{Asked, BatchView, Record};
 use std::alloc::AllocError;
 use std::marker::Model;
@@ -48,6 +48,21 @@ fn day_part(text: &[u8]) -> &[u8]
     if text.len() < 10 { text } else { &text[..10] }
 }
 
+/// Appends that a reading on a line starts long after those above it.
+fn put_start(told: &mut Vec<u8>, line: u128, start: &[u8]) -> Result<(), AllocError>
+    ensures { OnOk result (told.new.items
+        ≡ told.old.items ++ told_at line (codes "ahead " ++ take 10 start.now)) }
+{
+    let Ok(()) = put_place(told, line) else {
+        return Err(AllocError);
+    };
+    let Ok(()) = put_both(told, b"ahead ", day_part(start)) else {
+        return Err(AllocError);
+    };
+    told.push(b'\n')?;
+    Ok(())
+}
+
 /// Appends that the reading at an index of a batch starts long after those above it. So many lines stand above the batch.
 fn put_reading(
     told: &mut Vec<u8>,
@@ -60,13 +75,11 @@ fn put_reading(
         ++ told_at (lines + 2 + index) (codes "ahead " ++ take 10 r.start_text)) }
 {
     match batch.record_at(index) {
-        Some(Record::Reading(reading)) => {
-            put_place(told, lines as u128 + 2 + u128::from(index))?;
-            told.extend_from_slice(b"ahead ")?;
-            told.extend_from_slice(day_part(reading.start_text.text))?;
-            told.push(b'\n')?;
-            Ok(())
-        }
+        Some(Record::Reading(reading)) => put_start(
+            told,
+            lines as u128 + 2 + u128::from(index),
+            reading.start_text.text,
+        ),
         _ => Ok(()),
     }
 }

@@ -1,6 +1,6 @@
 //! What is told of a batch that is refused.
 
-ghost use Rattle.std.specs.Prelude.{◌≡◌, ◌++◌, Err, Some, OnOk, codes};
+ghost use Rattle.std.specs.Prelude.{◌≡◌, [], ◌∷◌, ◌++◌, Err, Some, OnOk, codes};
 ghost use Rattle.metering_model.specs.Batch.{Reads};
 ghost use Rattle.metering_model.specs.BatchReading.{batch_in};
 ghost use Rattle.metering_model.specs.Transcript.{with_number};
@@ -19,19 +19,21 @@ use metering_model::{BatchFault, Refusal};
 use price_sheet::Sheet;
 use std::alloc::AllocError;
 
+/// Appends a text and another.
+pub(crate) fn put_both(told: &mut Vec<u8>, first: &[u8], second: &[u8]) -> Result<(), AllocError>
+    ensures { OnOk result (told.new.items ≡ told.old.items ++ (first.now ++ second.now)) }
+{
+    told.extend_from_slice(first)?;
+    told.extend_from_slice(second)
+}
+
 /// Appends the code of a refusal and what it tells, but for a line.
 fn put_words(told: &mut Vec<u8>, refusal: Refusal) -> Result<(), AllocError>
     ensures { OnOk result (told.new.items ≡ told.old.items ++ words_of refusal) }
 {
     match refusal {
-        Refusal::BadBatch(fault) => {
-            told.extend_from_slice(b"G1 ")?;
-            told.extend_from_slice(code_word(fault.code))
-        }
-        Refusal::BadKept(fault) => {
-            told.extend_from_slice(b"G14 ")?;
-            told.extend_from_slice(kept_code_word(fault.code))
-        }
+        Refusal::BadBatch(fault) => put_both(told, b"G1 ", code_word(fault.code)),
+        Refusal::BadKept(fault) => put_both(told, b"G14 ", kept_code_word(fault.code)),
         _ => told.extend_from_slice(refusal_line(refusal).as_slice()),
     }
 }
@@ -49,8 +51,12 @@ pub(crate) fn put_place(told: &mut Vec<u8>, line: u128) -> Result<(), AllocError
 pub fn put_at(told: &mut Vec<u8>, line: u128, refusal: Refusal) -> Result<(), AllocError>
     ensures { OnOk result (told.new.items ≡ told.old.items ++ told_at line (words_of refusal)) }
 {
-    put_place(told, line)?;
-    put_words(told, refusal)?;
+    let Ok(()) = put_place(told, line) else {
+        return Err(AllocError);
+    };
+    let Ok(()) = put_words(told, refusal) else {
+        return Err(AllocError);
+    };
     told.push(b'\n')?;
     Ok(())
 }
@@ -60,10 +66,7 @@ fn put_field(told: &mut Vec<u8>, field: Option<RecordField>) -> Result<(), Alloc
     ensures { OnOk result (told.new.items ≡ told.old.items ++ field_words field) }
 {
     match field {
-        Some(field) => {
-            told.extend_from_slice(b" ")?;
-            told.extend_from_slice(field_name(field))
-        }
+        Some(field) => put_both(told, b" ", field_name(field)),
         None => Ok(()),
     }
 }
@@ -74,11 +77,9 @@ fn put_lacking(told: &mut Vec<u8>, sheet: &Sheet, reading: &Reading<'_>) -> Resu
         ++ record_words sheet.now (Some (Reads (model_reading reading.now)))) }
 {
     if sheet.price(reading.key.text, reading.start.day()).is_some() {
-        told.extend_from_slice(b" commitment ")?;
-        told.extend_from_slice(reading.commitment.text)
+        put_both(told, b" commitment ", reading.commitment.text)
     } else {
-        told.extend_from_slice(b" price ")?;
-        told.extend_from_slice(reading.key.text)
+        put_both(told, b" price ", reading.key.text)
     }
 }
 
@@ -164,6 +165,29 @@ fn line_within(bad: Option<u16>, refusal: Refusal) -> u32
     }
 }
 
+/// Appends what is told of a batch's refusal, behind its line.
+fn put_refused_words(
+    told: &mut Vec<u8>,
+    sheet: &Sheet,
+    text: &[u8],
+    bad: Option<u16>,
+    refusal: Refusal,
+) -> Result<(), AllocError>
+    requires { (fault : BatchFault) → refusal ≡ Refusal.BadBatch fault
+        → batch_in text.now ≡ Err fault }
+    ensures { OnOk result (told.new.items ≡ told.old.items
+        ++ (words_of refusal ++ (more_words sheet.now text.now bad refusal ++ 10 ∷ []))) }
+{
+    let Ok(()) = put_words(told, refusal) else {
+        return Err(AllocError);
+    };
+    let Ok(()) = put_more(told, sheet, text, bad, refusal) else {
+        return Err(AllocError);
+    };
+    told.push(b'\n')?;
+    Ok(())
+}
+
 /// Appends that a text behind so many lines of the input is refused as a batch, of which this is the first bad record.
 pub fn put_refused_text(
     told: &mut Vec<u8>,
@@ -180,8 +204,5 @@ pub fn put_refused_text(
 {
     let within = line_within(bad, refusal);
     put_place(told, lines as u128 + u128::from(within))?;
-    put_words(told, refusal)?;
-    put_more(told, sheet, text, bad, refusal)?;
-    told.push(b'\n')?;
-    Ok(())
+    put_refused_words(told, sheet, text, bad, refusal)
 }

@@ -1,7 +1,7 @@
 //! What `check` does with an input, of whatever kind: all of it is read, and what is wrong with it is written, and then of what it is
 //! warned.
 
-ghost use Rattle.std.specs.Prelude.{◌≡◌, ◌⊎◌, ◌++◌, ℕ, List, Err, IfOk, IfErr, OnOk};
+ghost use Rattle.std.specs.Prelude.{◌≡◌, ◌⊎◌, [], ◌++◌, ℕ, List, Err, IfOk, IfErr, OnOk};
 ghost use Rattle.std.specs.Arc.{arc_value};
 ghost use Rattle.std.specs.Io.KnownBytes.{Appends};
 ghost use Rattle.counted_io.specs.Counts.{count_after};
@@ -62,6 +62,51 @@ fn write_said<W: Sink>(text: &[u8], count: u64, writer: &mut W) -> Result<u64, P
     }
 }
 
+/// Puts what is said of an input into an empty text, and behind it of what it is warned, for which there is one too. It
+/// answers how many lines the first has.
+fn put_said<C: Check>(
+    alloc: Global,
+    check: &C,
+    input: &Arc<Vec<u8>>,
+    said: &mut Vec<u8>,
+    warned: &mut Vec<u8>,
+) -> Result<u64, AllocError>
+    requires { (said.old.items ≡ []) × (warned.old.items ≡ []) }
+    ensures said { OnOk result (said.new.items ≡ C.said_of check.now (arc_value input.now).items
+        ++ C.warned_of check.now (arc_value input.now).items) }
+    ensures count { IfOk result
+        (λ count. count ≡ line_count (C.said_of check.now (arc_value input.now).items)) }
+{
+    let Ok(()) = check.put(alloc, input, said, warned) else {
+        return Err(AllocError);
+    };
+    // A warning is no fault: it stands behind them, and is not counted.
+    let count = line_count(said) as u64;
+    match said.extend_from_slice(warned) {
+        Ok(()) => Ok(count),
+        Err(error) => Err(error),
+    }
+}
+
+/// The same of an input that is shared for it.
+fn put_shared<C: Check>(
+    alloc: Global,
+    check: &C,
+    input: Vec<u8>,
+    said: &mut Vec<u8>,
+) -> Result<u64, AllocError>
+    requires { said.old.items ≡ [] }
+    ensures said { OnOk result (said.new.items
+        ≡ C.said_of check.now input.items ++ C.warned_of check.now input.items) }
+    ensures count { IfOk result (λ count. count ≡ line_count (C.said_of check.now input.items)) }
+{
+    let Ok(input) = Arc::new(alloc, input) else {
+        return Err(AllocError);
+    };
+    let mut warned = Vec::new(alloc);
+    put_said(alloc, check, &input, said, &mut warned)
+}
+
 /// Writes what is said of an input and then of what it is warned, all at once: at want of memory nothing.
 fn write_checked<C: Check, W: Sink>(
     alloc: Global,
@@ -82,20 +127,11 @@ fn write_checked<C: Check, W: Sink>(
     ensures writes { W.failed_calls writer.new
         ≡ count_after (tells_of_writer result) (W.failed_calls writer.old) }
 {
-    let Ok(input) = Arc::new(alloc, input) else {
-        return Err(PlayFault::OutOfMemory);
-    };
     let mut said = Vec::new(alloc);
-    let mut warned = Vec::new(alloc);
-    if check.put(alloc, &input, &mut said, &mut warned).is_err() {
-        return Err(PlayFault::OutOfMemory);
+    match put_shared(alloc, check, input, &mut said) {
+        Ok(count) => write_said(&said, count, writer),
+        Err(_) => Err(PlayFault::OutOfMemory),
     }
-    // A warning is no fault: it stands behind them, and is not counted.
-    let count = line_count(&said) as u64;
-    if said.extend_from_slice(&warned).is_err() {
-        return Err(PlayFault::OutOfMemory);
-    }
-    write_said(&said, count, writer)
 }
 
 /// Reads an input, and writes what is said to be wrong with it, and then of what it is warned, all at once. It answers how many

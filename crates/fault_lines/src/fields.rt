@@ -13,7 +13,7 @@ use metering_model::{BatchCode, BatchFault, Kind};
 use utc_calendar::Stamp;
 
 /// A field of a record's line, behind its letter.
-#[derive(Clone, Copy, Debug, PartialEq, Eq)]
+#[derive(Clone, Copy, PartialEq, Eq)]
 pub enum RecordField {
     Start,
     End,
@@ -63,10 +63,18 @@ fn first_four(line: &[u8]) -> Option<(&[u8], &[u8], &[u8], &[u8], &[u8])>
     ensures { MatchOption result (length (fields_in line.now) < 5)
         (λ p. fields_in line.now ≡ p.0.now ∷ p.1.now ∷ p.2.now ∷ p.3.now ∷ fields_in p.4.now) }
 {
-    let (first, rest) = split_at_bar(line)?;
-    let (second, rest) = split_at_bar(rest)?;
-    let (third, rest) = split_at_bar(rest)?;
-    let (fourth, rest) = split_at_bar(rest)?;
+    let Some((first, rest)) = split_at_bar(line) else {
+        return None;
+    };
+    let Some((second, rest)) = split_at_bar(rest) else {
+        return None;
+    };
+    let Some((third, rest)) = split_at_bar(rest) else {
+        return None;
+    };
+    let Some((fourth, rest)) = split_at_bar(rest) else {
+        return None;
+    };
     Some((first, second, third, fourth, rest))
 }
 
@@ -74,8 +82,12 @@ fn first_four(line: &[u8]) -> Option<(&[u8], &[u8], &[u8], &[u8], &[u8])>
 fn reading_fields<'a>(line: &'a [u8]) -> Option<ReadingFields<'a>>
     ensures { MatchOption result (length (fields_in line.now) < 9) (AreFieldsOf line.now) }
 {
-    let (letter, start, _, account, rest) = first_four(line)?;
-    let (resource, key, _, commitment, _) = first_four(rest)?;
+    let Some((letter, start, _, account, rest)) = first_four(line) else {
+        return None;
+    };
+    let Some((resource, key, _, commitment, _)) = first_four(rest) else {
+        return None;
+    };
     Some(ReadingFields {
         letter,
         start,
@@ -166,9 +178,15 @@ fn amendment_field(line: &[u8]) -> Option<RecordField>
     ensures { (version : Version) → record_in version (fields_in line.now) ≡ Err BatchCode.Number
         → result ≡ fault_field line.now }
 {
-    let (_, rest) = split_at_bar(line)?;
-    let (seq, rest) = split_at_bar(rest)?;
-    let (index, _) = split_at_bar(rest)?;
+    let Some((_, rest)) = split_at_bar(line) else {
+        return None;
+    };
+    let Some((seq, rest)) = split_at_bar(rest) else {
+        return None;
+    };
+    let Some((index, _)) = split_at_bar(rest) else {
+        return None;
+    };
     Some(number_field(seq, index))
 }
 

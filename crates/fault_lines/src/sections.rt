@@ -54,13 +54,19 @@ fn put_sheet_words(told: &mut Vec<u8>, fault: SheetFault) -> Result<(), AllocErr
     put_sheet_fault(told, fault)
 }
 
+/// Drops a sheet beside no other value, for the prover's time alone (docs/DECISIONS.md).
+fn drop_sheet(_sheet: Sheet) {}
+
 /// Appends what the reader of a sheet says of a text.
 fn put_sheet_answer(alloc: Global, told: &mut Vec<u8>, text: &str) -> Result<(), AllocError>
     ensures { OnOk result (told.new.items
         ≡ told.old.items ++ said_by sheet_fault_text (sheet_of_text text.now)) }
 {
     match Sheet::read(alloc, text) {
-        Ok(_) => Ok(()),
+        Ok(sheet) => {
+            drop_sheet(sheet);
+            Ok(())
+        }
         Err(SheetFault::OutOfMemory) => Err(AllocError),
         Err(fault) => put_sheet_words(told, fault),
     }
@@ -144,9 +150,15 @@ fn put_refused(
     ensures { OnOk result (told.new.items ≡ told.old.items
         ++ said_of_fault text.now (ScheduleFault.Refused code line)) }
 {
-    put_place(told, u128::from(line))?;
-    told.extend_from_slice(section_code_word(code))?;
-    put_reason(alloc, told, text, code, line)?;
+    let Ok(()) = put_place(told, u128::from(line)) else {
+        return Err(AllocError);
+    };
+    let Ok(()) = told.extend_from_slice(section_code_word(code)) else {
+        return Err(AllocError);
+    };
+    let Ok(()) = put_reason(alloc, told, text, code, line) else {
+        return Err(AllocError);
+    };
     told.push(b'\n')?;
     Ok(())
 }

@@ -6,7 +6,8 @@ ghost use Rattle.toml.specs.Parse.{parse_document};
 ghost use Rattle.toml.specs.View.{table_view};
 ghost use Rattle.metering_model.specs.BatchReading.{lines_in};
 ghost use Rattle.sheet_text.specs.Keys.{rows_under};
-ghost use Rattle.fault_lines.specs.UnknownKeys.{first_word, from_first, is_blank, is_key, is_of_key, is_taken, keys_left, opens_table, shown, stands_before_key, table_below, table_of, told_along, told_of_keys, told_of_section, told_unknown, unknown_from, unknown_from_issuer, unknown_in_issuer, unknown_in_sheet, unknown_on, with_key, with_rows, with_rows_under, with_table};
+ghost use Rattle.fault_lines.specs.UnknownKeys.{first_word, from_first, has_key, is_blank, is_key, is_of_key, is_taken, keys_left, opens_table, shown, stands_before_key, table_below, table_of, told_along, told_of_keys, told_of_section, told_unknown, unknown_from, unknown_from_issuer, unknown_in_sheet, unknown_on, with_key, with_rows, with_rows_under, with_table};
+ghost use Rattle.fault_lines.specs.Inner.KeyKinds.{is_passed, unknown_of};
 
 use crate::batches::put_place;
 use byte_text::{first_line, is_same, line_count};
@@ -56,6 +57,13 @@ const ISSUER_KEYS: [Key; 7] = [
     Key::Currency,
     Key::OtherService,
 ];
+
+/// Whose keys are looked for.
+#[derive(Clone, Copy)]
+enum Reader {
+    Sheet,
+    Issuer,
+}
 
 /// A key that no reader takes, and the name of the table in whose rows it stands: the empty text for the top.
 #[derive(Drop)]
@@ -122,7 +130,9 @@ fn add_table<'a>(
         ≡ with_table taken.now table.now found.old.items (table_view members.now)) }
 {
     for (key, _) in members.iter() {
-        add_key(taken, table, found, key.as_bytes())?;
+        let Ok(()) = add_key(taken, table, found, key.as_bytes()) else {
+            return Err(AllocError);
+        };
     }
     Ok(())
 }
@@ -163,39 +173,43 @@ fn add_rows_under<'a>(
     }
 }
 
-/// The keys of a sheet that no reader takes, at the top and then in the rows.
+/// Adds the keys of a sheet that no reader takes, at the top and then in the rows.
 #[tactic(auto, unfolding(crate::specs::UnknownKeys::unknown_in_sheet))]
-fn unknown_in_sheet<'a>(
+fn add_of_sheet<'a>(
     alloc: Global,
+    found: &mut Vec<UnknownKey<'a>>,
     members: &'a Table,
-) -> Result<Vec<UnknownKey<'a>>, AllocError>
-    ensures { IfOk result (λ found. found.items ≡ unknown_in_sheet (table_view members.now)) }
+) -> Result<(), AllocError>
+    requires { found.old.items ≡ [] }
+    ensures { OnOk result (found.new.items ≡ unknown_in_sheet (table_view members.now)) }
 {
-    let mut found = Vec::new(alloc);
-    add_table(&SHEET_KEYS, b"", &mut found, members)?;
-    add_rows_under(alloc, Key::Price, &PRICE_KEYS, &mut found, members)?;
-    add_rows_under(
-        alloc,
-        Key::Commitment,
-        &COMMITMENT_KEYS,
-        &mut found,
-        members,
-    )?;
-    add_rows_under(alloc, Key::Region, &REGION_KEYS, &mut found, members)?;
-    Ok(found)
+    let Ok(()) = add_table(&SHEET_KEYS, b"", found, members) else {
+        return Err(AllocError);
+    };
+    let Ok(()) = add_rows_under(alloc, Key::Price, &PRICE_KEYS, found, members) else {
+        return Err(AllocError);
+    };
+    let Ok(()) = add_rows_under(alloc, Key::Commitment, &COMMITMENT_KEYS, found, members) else {
+        return Err(AllocError);
+    };
+    add_rows_under(alloc, Key::Region, &REGION_KEYS, found, members)
 }
 
-/// The keys of an issuer that no reader takes.
+/// Adds the keys of a sheet or of an issuer that no reader takes.
 #[tactic(auto, unfolding(crate::specs::UnknownKeys::unknown_in_issuer))]
-fn unknown_in_issuer<'a>(
+fn add_of<'a>(
     alloc: Global,
+    reader: Reader,
+    found: &mut Vec<UnknownKey<'a>>,
     members: &'a Table,
-) -> Result<Vec<UnknownKey<'a>>, AllocError>
-    ensures { IfOk result (λ found. found.items ≡ unknown_in_issuer (table_view members.now)) }
+) -> Result<(), AllocError>
+    requires { found.old.items ≡ [] }
+    ensures { OnOk result (found.new.items ≡ unknown_of reader (table_view members.now)) }
 {
-    let mut found = Vec::new(alloc);
-    add_table(&ISSUER_KEYS, b"", &mut found, members)?;
-    Ok(found)
+    match reader {
+        Reader::Sheet => add_of_sheet(alloc, found, members),
+        Reader::Issuer => add_table(&ISSUER_KEYS, b"", found, members),
+    }
 }
 
 /// Whether a byte is a blank.
@@ -223,42 +237,37 @@ fn is_of_key(byte: u8) -> bool
         || byte == b'_'
 }
 
-/// Where the first byte stands that is no blank.
-fn first_not_blank(line: &[u8]) -> Option<usize>
-    ensures { result ≡ position (λ c. not (is_blank c)) line.now }
-{
-    line.iter().position(|c| !is_blank(*c))
+/// Which bytes are passed over in a line.
+#[derive(Clone, Copy)]
+enum Passed {
+    Blanks,
+    BeforeKey,
+    OfKey,
 }
 
-/// Where the first byte stands that may not stand before a key.
-fn first_not_before_key(line: &[u8]) -> Option<usize>
-    ensures { result ≡ position (λ c. not (stands_before_key c)) line.now }
+/// Whether a byte is one of those.
+fn is_passed(passed: Passed, byte: u8) -> bool
+    ensures { result ≡ is_passed passed byte }
 {
-    line.iter().position(|c| !stands_before_key(*c))
-}
-
-/// Where the first byte stands that is no letter, digit, `-` or `_`.
-fn first_not_of_key(text: &[u8]) -> Option<usize>
-    ensures { result ≡ position (λ c. not (is_of_key c)) text.now }
-{
-    text.iter().position(|c| !is_of_key(*c))
-}
-
-/// What stands behind the blanks at the front of a line.
-fn behind_blanks(line: &[u8]) -> &[u8]
-    ensures { result.now ≡ from_first (λ c. not (is_blank c)) line.now }
-{
-    match first_not_blank(line) {
-        Some(at) => &line[at..],
-        None => b"",
+    match passed {
+        Passed::Blanks => is_blank(byte),
+        Passed::BeforeKey => stands_before_key(byte),
+        Passed::OfKey => is_of_key(byte),
     }
 }
 
-/// What stands behind what may stand before the key at the front of a line.
-fn behind_marks(line: &[u8]) -> &[u8]
-    ensures { result.now ≡ from_first (λ c. not (stands_before_key c)) line.now }
+/// Where the first byte stands that is none of those.
+fn first_other(passed: Passed, line: &[u8]) -> Option<usize>
+    ensures { result ≡ position (λ c. not (is_passed passed c)) line.now }
 {
-    match first_not_before_key(line) {
+    line.iter().position(|c| !is_passed(passed, *c))
+}
+
+/// What stands behind those at the front of a line.
+fn behind_passed(passed: Passed, line: &[u8]) -> &[u8]
+    ensures { result.now ≡ from_first (λ c. not (is_passed passed c)) line.now }
+{
+    match first_other(passed, line) {
         Some(at) => &line[at..],
         None => b"",
     }
@@ -268,8 +277,8 @@ fn behind_marks(line: &[u8]) -> &[u8]
 fn first_word(line: &[u8]) -> &[u8]
     ensures { result.now ≡ first_word line.now }
 {
-    let behind = behind_marks(line);
-    match first_not_of_key(behind) {
+    let behind = behind_passed(Passed::BeforeKey, line);
+    match first_other(Passed::OfKey, behind) {
         Some(at) => &behind[..at],
         None => behind,
     }
@@ -279,7 +288,7 @@ fn first_word(line: &[u8]) -> &[u8]
 fn opens_table(line: &[u8]) -> bool
     ensures { result ≡ opens_table line.now }
 {
-    behind_word(behind_blanks(line), b"[").is_some()
+    behind_word(behind_passed(Passed::Blanks, line), b"[").is_some()
 }
 
 /// The table in which the first word of a line is a key, and the one that is open below the line.
@@ -315,9 +324,15 @@ fn put_name(told: &mut Vec<u8>, name: &[u8]) -> Result<(), AllocError>
 fn put_unknown(told: &mut Vec<u8>, line: u128, key: &UnknownKey<'_>) -> Result<(), AllocError>
     ensures { OnOk result (told.new.items ≡ told.old.items ++ told_unknown line key.now) }
 {
-    put_place(told, line)?;
-    told.extend_from_slice(b"unknown ")?;
-    put_name(told, key.name)?;
+    let Ok(()) = put_place(told, line) else {
+        return Err(AllocError);
+    };
+    let Ok(()) = told.extend_from_slice(b"unknown ") else {
+        return Err(AllocError);
+    };
+    let Ok(()) = put_name(told, key.name) else {
+        return Err(AllocError);
+    };
     told.push(b'\n')?;
     Ok(())
 }
@@ -359,6 +374,27 @@ fn drop_those(keys: &mut Vec<UnknownKey<'_>>, table: &[u8], name: &[u8])
     keys.retain(|key| !is_key(table, name, key));
 }
 
+/// Appends those of the keys that a line has, and leaves the others. It answers the table that is open below the line.
+fn put_on_line<'a>(
+    told: &mut Vec<u8>,
+    number: u128,
+    table: &'a [u8],
+    line: &'a [u8],
+    keys: &mut Vec<UnknownKey<'_>>,
+) -> Result<&'a [u8], AllocError>
+    ensures told { OnOk result (told.new.items ≡ told.old.items
+        ++ flat_map (told_unknown number) (filter (has_key table.now line.now) keys.old.items)) }
+    ensures left { OnOk result
+        (keys.new.items ≡ filter (λ k. not (has_key table.now line.now k)) keys.old.items) }
+    ensures below { IfOk result (λ below. below.now ≡ table_below table.now line.now) }
+{
+    let (here, below) = tables_at(table, line);
+    let word = first_word(line);
+    put_those(told, number, here, word, keys)?;
+    drop_those(keys, here, word);
+    Ok(below)
+}
+
 /// Appends each of the keys at the first line that has it, and leaves those that no line has. The section opens on that line.
 fn put_along(
     told: &mut Vec<u8>,
@@ -377,41 +413,51 @@ fn put_along(
         let Some((line, behind)) = first_line(rest) else {
             return Ok(());
         };
-        let (here, below) = tables_at(table, line);
-        let word = first_word(line);
-        put_those(
-            told,
-            u128::from(opening) + 1 + index as u128,
-            here,
-            word,
-            keys,
-        )?;
-        drop_those(keys, here, word);
-        table = below;
+        let number = u128::from(opening) + 1 + index as u128;
+        table = put_on_line(told, number, table, line, keys)?;
         rest = behind;
     }
     Ok(())
 }
 
-/// Appends the keys of a section that opens on a line: at that line those that no line of it has, then the others.
+/// Appends the keys of a section that opens on a line: at that line those that no line of it has, then the others, for
+/// which there is a text of their own.
+fn put_left(
+    told: &mut Vec<u8>,
+    along: &mut Vec<u8>,
+    opening: u32,
+    text: &[u8],
+    keys: &mut Vec<UnknownKey<'_>>,
+) -> Result<(), AllocError>
+    requires { along.old.items ≡ [] }
+    ensures { OnOk result (told.new.items
+        ≡ told.old.items ++ told_of_keys opening (lines_in text.now).lines keys.old.items) }
+{
+    let Ok(()) = put_along(along, opening, text, keys) else {
+        return Err(AllocError);
+    };
+    let Ok(()) = put_each(told, u128::from(opening), keys) else {
+        return Err(AllocError);
+    };
+    told.extend_from_slice(along)
+}
+
+/// Appends the keys of a section that opens on a line.
 fn put_keys(
     alloc: Global,
     told: &mut Vec<u8>,
     opening: u32,
     text: &[u8],
-    keys: Vec<UnknownKey<'_>>,
+    keys: &mut Vec<UnknownKey<'_>>,
 ) -> Result<(), AllocError>
     ensures { OnOk result (told.new.items
-        ≡ told.old.items ++ told_of_keys opening (lines_in text.now).lines keys.entry.items) }
+        ≡ told.old.items ++ told_of_keys opening (lines_in text.now).lines keys.old.items) }
 {
     if keys.as_slice().is_empty() {
         return Ok(());
     }
-    let mut left = keys;
     let mut along = Vec::new(alloc);
-    put_along(&mut along, opening, text, &mut left)?;
-    put_each(told, u128::from(opening), &left)?;
-    told.extend_from_slice(&along)
+    put_left(told, &mut along, opening, text, keys)
 }
 
 /// The table that a text is, where it is one.
@@ -431,49 +477,45 @@ fn document(alloc: Global, text: &str) -> Result<Option<Table>, AllocError>
     }
 }
 
-/// Appends the unknown keys of the text of a sheet, whose section opens on a line.
-#[tactic(auto, unfolding(crate::specs::UnknownKeys::told_of_section))]
-fn put_of_sheet(
+/// Appends the unknown keys of the table of a section that opens on a line.
+fn put_of_table(
     alloc: Global,
     told: &mut Vec<u8>,
+    reader: Reader,
     opening: u32,
     section: &[u8],
+    table: &Table,
 ) -> Result<(), AllocError>
-    ensures { OnOk result (told.new.items
-        ≡ told.old.items ++ told_of_section unknown_in_sheet opening section.now) }
+    ensures { OnOk result (told.new.items ≡ told.old.items
+        ++ told_of_keys opening (lines_in section.now).lines
+        (unknown_of reader (table_view table.now))) }
 {
-    let Ok(text) = str::from_utf8(section) else {
-        return Ok(());
+    let mut keys = Vec::new(alloc);
+    let Ok(()) = add_of(alloc, reader, &mut keys, table) else {
+        return Err(AllocError);
     };
-    match document(alloc, text)? {
-        Some(table) => {
-            let keys = unknown_in_sheet(alloc, &table)?;
-            put_keys(alloc, told, opening, section, keys)
-        }
-        None => Ok(()),
-    }
+    put_keys(alloc, told, opening, section, &mut keys)
 }
 
-/// Appends the unknown keys of the text of an issuer, whose section opens on a line.
+/// Appends the unknown keys of the text of a section that opens on a line.
 #[tactic(auto, unfolding(crate::specs::UnknownKeys::told_of_section))]
-fn put_of_issuer(
+fn put_of(
     alloc: Global,
     told: &mut Vec<u8>,
+    reader: Reader,
     opening: u32,
     section: &[u8],
 ) -> Result<(), AllocError>
     ensures { OnOk result (told.new.items
-        ≡ told.old.items ++ told_of_section unknown_in_issuer opening section.now) }
+        ≡ told.old.items ++ told_of_section (unknown_of reader) opening section.now) }
 {
     let Ok(text) = str::from_utf8(section) else {
         return Ok(());
     };
-    match document(alloc, text)? {
-        Some(table) => {
-            let keys = unknown_in_issuer(alloc, &table)?;
-            put_keys(alloc, told, opening, section, keys)
-        }
-        None => Ok(()),
+    match document(alloc, text) {
+        Ok(Some(table)) => put_of_table(alloc, told, reader, opening, section, &table),
+        Ok(None) => Ok(()),
+        Err(error) => Err(error),
     }
 }
 
@@ -483,7 +525,7 @@ fn put_from_issuer(alloc: Global, told: &mut Vec<u8>, unread: &Unread<'_>) -> Re
     ensures { OnOk result (told.new.items ≡ told.old.items ++ unknown_from_issuer unread.now) }
 {
     match read_section(unread, ScheduleCode::Issuer, b"issuer ", 100) {
-        Ok(section) => put_of_issuer(alloc, told, unread.line(), section.text),
+        Ok(section) => put_of(alloc, told, Reader::Issuer, unread.line(), section.text),
         Err(_) => Ok(()),
     }
 }
@@ -502,7 +544,7 @@ pub fn put_unknown_keys(
 {
     match read_section(unread, ScheduleCode::Sheet, b"sheet ", 200_000) {
         Ok(section) => {
-            put_of_sheet(alloc, told, unread.line(), section.text)?;
+            put_of(alloc, told, Reader::Sheet, unread.line(), section.text)?;
             put_from_issuer(alloc, told, &section.rest)
         }
         Err(_) => put_from_issuer(alloc, told, unread),

@@ -1,8 +1,8 @@
-use Rattle.std.proofs.Common.{◌≡◌, ◌+◌, ◌++◌, ◌≤◌, [], length, not, filter, refl, ap, ◌∙◌, arith}
+use Rattle.std.proofs.Common.{◌≡◌, ◌+◌, ◌++◌, ◌≤◌, [], length, filter, refl, ap, ◌∙◌, arith}
 use Rattle.std.specs.List.{flat_map}
 use Rattle.metering_model.specs.BatchReading.{Lines, lines_in}
 use Rattle.metering_model.specs.Transcript.{line_count}
-use Rattle.fault_lines.specs.UnknownKeys.{is_key, table_of, told_along, told_unknown}
+use Rattle.fault_lines.specs.UnknownKeys.{has_key, told_along, told_unknown}
 use Rattle.fault_lines.proofs.UnknownLaws.{along_ends, along_goes_on, is_none, left_ends, left_goes_on, lines_fit}
 use Rattle.fault_lines.proofs.unknown_keys.put_along.Goals as goal
 
@@ -22,18 +22,10 @@ loop-index-preserved c =
     let n = c.args.opening + 1 + l.index in
     let from : c.from.result + 1 + l.index ≡ n = ap (λ k. k + 1 + l.index) c.from.ensures in
     let next : c.args.opening + 1 + (l.index + 1) ≡ n + 1 = omega arith in
-    let told =
-    (rw c.deref.ensures.value at c.in_ok-put_those.ensures)
-    ∙ (ap (λ k. l.told.items ++ flat_map (told_unknown k) (filter (is_key c.tables_at.result.0.now c.first_word-word.result.now) l.keys.items)) from
-    ∙ (ap (λ t. l.told.items ++ flat_map (told_unknown n) (filter (is_key t c.first_word-word.result.now) l.keys.items)) c.tables_at.ensures.at
-    ∙ ap (λ w. l.told.items ++ flat_map (told_unknown n) (filter (is_key (table_of l.table.now line) w) l.keys.items)) c.first_word-word.ensures)) in
-    let left =
-    c.drop_those.ensures
-    ∙ (ap (λ t. filter (λ k. not (is_key t c.first_word-word.result.now k)) l.keys.items) c.tables_at.ensures.at
-    ∙ ap (λ w. filter (λ k. not (is_key (table_of l.table.now line) w k)) l.keys.items) c.first_word-word.ensures) in
+    let told = c.in_ok-table.ensures.told ∙ ap (λ k. l.told.items ++ flat_map (told_unknown k) (filter (has_key l.table.now line) l.keys.items)) from in
     let few : length (lines_in c.in-Some.behind.now).lines + (l.index + 1) ≤ line_count c.args.text.now = omega (arith, ap length rest, l.invariant.2) in (
-      along_goes_on _ _ _ l.table.now _ n _ l.keys.items _ _ line _ l.invariant.0 rest told left c.tables_at.ensures.below next,
-      left_goes_on [] [] [] l.table.now _ n n l.keys.items _ _ line _ _ l.invariant.1 rest left c.tables_at.ensures.below,
+      along_goes_on _ _ _ l.table.now _ n _ l.keys.items _ _ line _ l.invariant.0 rest told c.in_ok-table.ensures.left c.in_ok-table.ensures.below next,
+      left_goes_on [] [] [] l.table.now _ n n l.keys.items _ _ line _ _ l.invariant.1 rest c.in_ok-table.ensures.left c.in_ok-table.ensures.below,
       few,
     )
 

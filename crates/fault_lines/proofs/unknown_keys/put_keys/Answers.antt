@@ -10,5 +10,5 @@ returns-then-is_empty c =
     let told = c.args.told.now.items in
     let lines = (lines_in c.args.text.now).lines in
     let same = ap length c.as_slice.ensures.value in
-    let few : length c.args.keys.items ≤ 0 = grind (arith, nat_tests, same, c.is_empty.ensures, c.if-is_empty.true) in
-    sym (ap (λ ks. told ++ told_of_keys c.args.opening lines ks) (is_none c.args.keys.items few) ∙ (ap (λ t. told ++ t) (none_told c.args.opening lines) ∙ append-nil told))
+    let few : length c.args.keys.now.items ≤ 0 = grind (arith, nat_tests, same, c.is_empty.ensures, c.if-is_empty.true) in
+    sym (ap (λ ks. told ++ told_of_keys c.args.opening lines ks) (is_none c.args.keys.now.items few) ∙ (ap (λ t. told ++ t) (none_told c.args.opening lines) ∙ append-nil told))

@@ -5,21 +5,12 @@ use Rattle.fault_lines.specs.UnknownKeys.{UnknownKey, shown}
 use Rattle.fault_lines.proofs.ToldPieces.{put_in_four}
 use Rattle.fault_lines.proofs.unknown_keys.put_unknown.Goals as goal
 
-pub returns-in_err-put_place : goal.returns-in_err-put_place
-returns-in_err-put_place c = IfOk-from_err c.from_residual.result _ c.from_residual.ensures.0
-
-pub returns-in_err-extend_from_slice : goal.returns-in_err-extend_from_slice
-returns-in_err-extend_from_slice c = IfOk-from_err c.from_residual-in_err-extend_from_slice.result _ c.from_residual-in_err-extend_from_slice.ensures.0
-
-pub returns-in_err-put_name : goal.returns-in_err-put_name
-returns-in_err-put_name c = IfOk-from_err c.from_residual-in_err-put_name.result _ c.from_residual-in_err-put_name.ensures.0
-
 pub returns-in_err-push : goal.returns-in_err-push
-returns-in_err-push c = IfOk-from_err c.from_residual-in_err-push.result _ c.from_residual-in_err-push.ensures.0
+returns-in_err-push c = IfOk-from_err c.from_residual.result _ c.from_residual.ensures.0
 
 pub returns : goal.returns
 returns c =
     let key = ap (λ (k : UnknownKey). map shown k.name) c.key.view_is in
     put_in_four c.args.told.now.items c.put_place.new.told.items c.extend_from_slice.new.self.items c.put_name.new.told.items c.push.new.self.items
     (with_number (codes "line ") c.args.line ++ codes ": ") (codes "unknown ") (map shown c.args.key.now.name) (10 ∷ [])
-    c.in_ok-put_place.ensures c.in_ok-extend_from_slice.ensures.items (c.in_ok-put_name.ensures ∙ ap (λ t. c.extend_from_slice.new.self.items ++ t) key) c.in_ok-push.ensures.items
+    c.in-Ok.ensures c.in-Ok-extend_from_slice.ensures.items (c.in-Ok-put_name.ensures ∙ ap (λ t. c.extend_from_slice.new.self.items ++ t) key) c.in_ok-push.ensures.items
