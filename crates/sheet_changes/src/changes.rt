@@ -57,8 +57,24 @@ fn drop_sheet(_sheet: Sheet) {}
 
 /// Drops two sheets, one after the other.
 pub(crate) fn drop_both(both: (Sheet, Sheet)) {
-    drop_sheet(both.0);
-    drop_sheet(both.1);
+    let (old, new) = both;
+    drop_sheet(old);
+    drop_sheet(new);
+}
+
+/// A sheet behind which nothing is to stand.
+fn alone(sheet: Sheet, behind: &Unread<'_>) -> Result<Sheet, ScheduleFault>
+    ensures taken { IfOk result (λ new. (new ≡ sheet) × (nothing_behind behind.now ≡ Ok tt)) }
+    ensures refused { IfErr result (λ fault. (fault ≢ ScheduleFault.OutOfMemory)
+        × (nothing_behind behind.now ≡ Err fault)) }
+{
+    match nothing_behind(behind) {
+        Ok(()) => Ok(sheet),
+        Err(fault) => {
+            drop_sheet(sheet);
+            Err(fault)
+        }
+    }
 }
 
 /// The sheet of an input's last section: what stands behind it is refused.
@@ -67,9 +83,8 @@ fn last_sheet(alloc: Global, unread: &Unread<'_>) -> Result<Sheet, ScheduleFault
     ensures refused { IfErr result
         (λ fault. fault ≢ ScheduleFault.OutOfMemory → last_sheet unread.now ≡ Err fault) }
 {
-    let (new, unread) = read_sheet(alloc, unread)?;
-    match nothing_behind(&unread) {
-        Ok(()) => Ok(new),
+    match read_sheet(alloc, unread) {
+        Ok((new, behind)) => alone(new, &behind),
         Err(fault) => Err(fault),
     }
 }
@@ -87,7 +102,10 @@ fn with_last(
 {
     match last_sheet(alloc, unread) {
         Ok(new) => Ok((old, new)),
-        Err(fault) => Err(fault),
+        Err(fault) => {
+            drop_sheet(old);
+            Err(fault)
+        }
     }
 }
 

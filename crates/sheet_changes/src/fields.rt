@@ -1,6 +1,6 @@
 //! The lines of the fields in which two rows differ.
 
-ghost use Rattle.std.specs.Prelude.{◌≡◌, ◌++◌, ◌∷◌, [], map, IfOk, OnOk};
+ghost use Rattle.std.specs.Prelude.{◌≡◌, ◌++◌, ◌∷◌, [], ℕ, List, map, IfOk, OnOk, string_bytes};
 ghost use Rattle.std.specs.List.{flat_map};
 ghost use Rattle.std.specs.Option.{option_copied};
 ghost use Rattle.metering_model.specs.Sheet.{commitment_category_text, service_category_text};
@@ -24,6 +24,17 @@ pub(crate) trait Keyed {
         ensures { OnOk result (text.new.items ≡ text.old.items ++ said key self.now) };
 }
 
+/// Appends a text, if there was memory for it.
+fn put_spelled(text: &mut Vec<u8>, spelled: Result<String, AllocError>) -> Result<(), AllocError>
+    ensures { (bytes : List ℕ) → IfOk spelled (λ s. string_bytes s ≡ bytes)
+        → OnOk result (text.new.items ≡ text.old.items ++ bytes) }
+{
+    match spelled {
+        Ok(spelled) => text.extend_from_slice(spelled.as_bytes()),
+        Err(error) => Err(error),
+    }
+}
+
 impl Keyed for PriceRow {
     ghost said = { price_text };
 
@@ -36,14 +47,8 @@ impl Keyed for PriceRow {
             Key::ConsumedUnit => text.extend_from_slice(self.consumed_unit().as_bytes()),
             Key::PricingUnit => text.extend_from_slice(self.pricing_unit().as_bytes()),
             Key::Per => put_number(text, u128::from(self.per())),
-            Key::List => {
-                let price = self.list().write(alloc)?;
-                text.extend_from_slice(price.as_bytes())
-            }
-            Key::Contracted => {
-                let price = self.contracted().write(alloc)?;
-                text.extend_from_slice(price.as_bytes())
-            }
+            Key::List => put_spelled(text, self.list().write(alloc)),
+            Key::Contracted => put_spelled(text, self.contracted().write(alloc)),
             _ => Ok(()),
         }
     }
@@ -58,10 +63,7 @@ impl Keyed for Commitment {
             Key::Buy => text.extend_from_slice(self.buy().as_bytes()),
             Key::Category => text.extend_from_slice(commitment_category_text(self.category())),
             Key::Kind => text.extend_from_slice(self.kind().as_bytes()),
-            Key::Rate => {
-                let rate = self.rate().write(alloc)?;
-                text.extend_from_slice(rate.as_bytes())
-            }
+            Key::Rate => put_spelled(text, self.rate().write(alloc)),
             _ => Ok(()),
         }
     }
@@ -94,8 +96,12 @@ fn put_named(text: &mut Vec<u8>, named: &[&[u8]]) -> Result<(), AllocError>
         ≡ text.old.items ++ flat_map (λ part. part.now ++ 9 ∷ []) named.now) }
 {
     for part in named {
-        text.extend_from_slice(part)?;
-        text.push(b'\t')?;
+        let Ok(()) = text.extend_from_slice(part) else {
+            return Err(AllocError);
+        };
+        let Ok(()) = text.push(b'\t') else {
+            return Err(AllocError);
+        };
     }
     Ok(())
 }
@@ -115,9 +121,15 @@ pub(crate) fn put_changed(
     if old == new {
         return Ok(());
     }
-    put_named(text, named)?;
-    put_named(text, &[key, old])?;
-    text.extend_from_slice(new)?;
+    let Ok(()) = put_named(text, named) else {
+        return Err(AllocError);
+    };
+    let Ok(()) = put_named(text, &[key, old]) else {
+        return Err(AllocError);
+    };
+    let Ok(()) = text.extend_from_slice(new) else {
+        return Err(AllocError);
+    };
     text.push(b'\n')?;
     Ok(())
 }
@@ -147,8 +159,12 @@ fn put_key<R: Keyed>(
         (part (R.said key) (option_copied old.entry))
         (part (R.said key) (option_copied new.entry))) }
 {
-    let before = said_of(alloc, old, key)?;
-    let after = said_of(alloc, new, key)?;
+    let Ok(before) = said_of(alloc, old, key) else {
+        return Err(AllocError);
+    };
+    let Ok(after) = said_of(alloc, new, key) else {
+        return Err(AllocError);
+    };
     put_changed(text, named, key.name().as_bytes(), &before, &after)
 }
 

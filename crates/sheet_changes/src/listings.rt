@@ -2,9 +2,11 @@
 
 ghost use Rattle.std.specs.Prelude.{◌≡◌, ◌++◌, ◌∷◌, [], ℕ, List, codes, map, OnOk};
 ghost use Rattle.std.specs.Option.{option_copied};
+ghost use Rattle.std.specs.Cmp.Lexicographic.{slice_cmp};
+ghost use Rattle.std.specs.Ordering.{nat_cmp};
 ghost use Rattle.std.specs.List.{flat_map};
 ghost use Rattle.metering_model.specs.Dates.{IsDayText};
-ghost use Rattle.sheet_changes.specs.FieldChanges.{ListsFields, ListsPrices, changed, commitment_lines, part, price_lines, region_line};
+ghost use Rattle.sheet_changes.specs.FieldChanges.{AreSorted, ListsFields, ListsPrices, PriceDay, changed, commitment_ids, commitment_lines, part, price_day_cmp, price_days, price_lines, region_ids, region_line};
 ghost use Rattle.sheet_changes.specs.Inner.Listed.{day_of_pair};
 
 use crate::days::day_text;
@@ -142,6 +144,58 @@ fn put_names(text: &mut Vec<u8>, old: &Sheet, new: &Sheet, ids: &[&[u8]]) -> Res
     Ok(())
 }
 
+/// Appends the prices that differ.
+fn put_all_prices(
+    alloc: Global,
+    text: &mut Vec<u8>,
+    old: &Sheet,
+    new: &Sheet,
+) -> Result<(), AllocError>
+    ensures { OnOk result ((listed : List PriceDay) × (prices : List ℕ)
+        × AreSorted price_day_cmp (price_days old.now new.now) listed
+        × ListsPrices old.now new.now listed prices
+        × (text.new.items ≡ text.old.items ++ prices)) }
+{
+    match price_days(alloc, old, new) {
+        Ok(days) => put_prices(alloc, text, old, new, &days),
+        Err(error) => Err(error),
+    }
+}
+
+/// Appends the commitments that differ.
+fn put_all_commitments(
+    alloc: Global,
+    text: &mut Vec<u8>,
+    old: &Sheet,
+    new: &Sheet,
+) -> Result<(), AllocError>
+    ensures { OnOk result ((ids : List (List ℕ))
+        × AreSorted (slice_cmp nat_cmp) (commitment_ids old.now new.now) ids
+        × (text.new.items ≡ text.old.items ++ flat_map (commitment_lines old.now new.now) ids)) }
+{
+    match commitment_ids(alloc, old, new) {
+        Ok(ids) => put_commitments(alloc, text, old, new, &ids),
+        Err(error) => Err(error),
+    }
+}
+
+/// Appends the regions that have other names.
+fn put_all_names(
+    alloc: Global,
+    text: &mut Vec<u8>,
+    old: &Sheet,
+    new: &Sheet,
+) -> Result<(), AllocError>
+    ensures { OnOk result ((ids : List (List ℕ))
+        × AreSorted (slice_cmp nat_cmp) (region_ids old.now new.now) ids
+        × (text.new.items ≡ text.old.items ++ flat_map (region_line old.now new.now) ids)) }
+{
+    match region_ids(alloc, old, new) {
+        Ok(ids) => put_names(text, old, new, &ids),
+        Err(error) => Err(error),
+    }
+}
+
 /// Appends a line for each field in which the two sheets differ.
 pub(crate) fn put_fields(
     alloc: Global,
@@ -152,11 +206,11 @@ pub(crate) fn put_fields(
     ensures { OnOk result ((fields : List ℕ) × ListsFields old.now new.now fields
         × (text.new.items ≡ text.old.items ++ fields)) }
 {
-    let days = price_days(alloc, old, new)?;
-    put_prices(alloc, text, old, new, &days)?;
-    let commitments = commitment_ids(alloc, old, new)?;
-    put_commitments(alloc, text, old, new, &commitments)?;
-    let regions = region_ids(alloc, old, new)?;
-    put_names(text, old, new, &regions)?;
-    Ok(())
+    let Ok(()) = put_all_prices(alloc, text, old, new) else {
+        return Err(AllocError);
+    };
+    let Ok(()) = put_all_commitments(alloc, text, old, new) else {
+        return Err(AllocError);
+    };
+    put_all_names(alloc, text, old, new)
 }

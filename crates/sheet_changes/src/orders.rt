@@ -32,8 +32,12 @@ pub(crate) fn price_days<'a>(
         AreSorted price_day_cmp (price_days old.now new.now) (map day_of_pair days.items)) }
 {
     let mut days = Vec::new(alloc);
-    add_days(&mut days, old.prices())?;
-    add_days(&mut days, new.prices())?;
+    let Ok(()) = add_days(&mut days, old.prices()) else {
+        return Err(AllocError);
+    };
+    let Ok(()) = add_days(&mut days, new.prices()) else {
+        return Err(AllocError);
+    };
     days.sort_unstable();
     days.dedup();
     Ok(days)
@@ -44,7 +48,9 @@ fn add_commitments<'a>(ids: &mut Vec<&'a [u8]>, rows: &'a [Commitment]) -> Resul
         ≡ map (λ id. id.now) ids.old.items ++ map (λ c. c.id) rows.now) }
 {
     for row in rows {
-        ids.push(row.id().as_bytes())?;
+        let Ok(()) = ids.push(row.id().as_bytes()) else {
+            return Err(AllocError);
+        };
     }
     Ok(())
 }
@@ -54,7 +60,9 @@ fn add_regions<'a>(ids: &mut Vec<&'a [u8]>, rows: &'a [Region]) -> Result<(), Al
         ≡ map (λ id. id.now) ids.old.items ++ map (λ x. x.id) rows.now) }
 {
     for row in rows {
-        ids.push(row.id().as_bytes())?;
+        let Ok(()) = ids.push(row.id().as_bytes()) else {
+            return Err(AllocError);
+        };
     }
     Ok(())
 }
@@ -70,8 +78,12 @@ pub(crate) fn commitment_ids<'a>(
         (map (λ id. id.now) ids.items)) }
 {
     let mut ids = Vec::new(alloc);
-    add_commitments(&mut ids, old.commitments())?;
-    add_commitments(&mut ids, new.commitments())?;
+    let Ok(()) = add_commitments(&mut ids, old.commitments()) else {
+        return Err(AllocError);
+    };
+    let Ok(()) = add_commitments(&mut ids, new.commitments()) else {
+        return Err(AllocError);
+    };
     ids.sort_unstable();
     ids.dedup();
     Ok(ids)
@@ -87,8 +99,12 @@ pub(crate) fn region_ids<'a>(
         AreSorted (slice_cmp nat_cmp) (region_ids old.now new.now) (map (λ id. id.now) ids.items)) }
 {
     let mut ids = Vec::new(alloc);
-    add_regions(&mut ids, old.regions())?;
-    add_regions(&mut ids, new.regions())?;
+    let Ok(()) = add_regions(&mut ids, old.regions()) else {
+        return Err(AllocError);
+    };
+    let Ok(()) = add_regions(&mut ids, new.regions()) else {
+        return Err(AllocError);
+    };
     ids.sort_unstable();
     ids.dedup();
     Ok(ids)

@@ -28,8 +28,12 @@ fn is_added(old: &Sheet, region: &Region) -> bool
 fn put_region(text: &mut Vec<u8>, region: &Region) -> Result<(), AllocError>
     ensures { OnOk result (text.new.items ≡ text.old.items ++ region_lines (region.now.id ∷ [])) }
 {
-    text.extend_from_slice(b"region ")?;
-    text.extend_from_slice(region.id().as_bytes())?;
+    let Ok(()) = text.extend_from_slice(b"region ") else {
+        return Err(AllocError);
+    };
+    let Ok(()) = text.extend_from_slice(region.id().as_bytes()) else {
+        return Err(AllocError);
+    };
     text.push(b'\n')?;
     Ok(())
 }

@@ -12,6 +12,6 @@ returns c =
     of_both (λ id. id.now) (λ row. row.id) c.new-ids.result.items c.add_commitments.new.ids.items c.add_commitments-2.new.ids.items
     c.commitments.result.now c.commitments-2.result.now c.args.old.now.commitments c.args.new.now.commitments c.new-ids.ensures.items
     c.commitments.ensures c.commitments-2.ensures
-    c.in_ok-add_commitments.ensures c.in_ok-add_commitments-2.ensures in
+    c.in-Ok.ensures c.in-Ok-add_commitments.ensures in
     are_sorted (λ id. id.now) nat_list_cmp_total exact_bytes (λ a b. texts_ties a.now b.now) c.add_commitments-2.new.ids.items c.sort_unstable.new.self.items c.dedup.new.self.items (commitment_ids c.args.old.now c.args.new.now) rows c.sort_unstable.ensures.permutation c.sort_unstable.ensures.sorted
     (dedup_is _ _ _ c.dedup.ensures.filtered)

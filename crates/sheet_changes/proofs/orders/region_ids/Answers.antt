@@ -10,6 +10,6 @@ pub returns : goal.returns
 returns c =
     let rows =
     of_both (λ id. id.now) (λ row. row.id) c.new-ids.result.items c.add_regions.new.ids.items c.add_regions-2.new.ids.items c.regions.result.now c.regions-2.result.now c.args.old.now.regions c.args.new.now.regions c.new-ids.ensures.items c.regions.ensures c.regions-2.ensures
-    c.in_ok-add_regions.ensures c.in_ok-add_regions-2.ensures in
+    c.in-Ok.ensures c.in-Ok-add_regions.ensures in
     are_sorted (λ id. id.now) nat_list_cmp_total exact_bytes (λ a b. texts_ties a.now b.now) c.add_regions-2.new.ids.items c.sort_unstable.new.self.items c.dedup.new.self.items (region_ids c.args.old.now c.args.new.now) rows c.sort_unstable.ensures.permutation c.sort_unstable.ensures.sorted
     (dedup_is _ _ _ c.dedup.ensures.filtered)
