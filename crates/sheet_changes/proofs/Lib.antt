@@ -9,6 +9,7 @@ mod LikenessLaws
 mod SaidLaws
 mod SortedLists
 mod CheckLaws
+mod ListWalks
 mod ListedDays
 mod ListedLaws
 mod OneListing
