@@ -1,6 +1,6 @@
 -- What is still to be told of keys, and to be added of rows, one after another.
-use Rattle.std.proofs.Common.{◌≡◌, ℕ, ◌+◌, ◌<◌, ◌≤◌, Bool, true, false, cond, List, [], ◌∷◌, ◌++◌, length, get_or, drop, map, filter, sym, ap, ◌∙◌, append-nil, append_assoc}
-use Rattle.std.specs.List.{flat_map}
+use Rattle.std.proofs.Common.{◌≡◌, ℕ, ◌+◌, ◌<◌, ◌≤◌, Bool, true, false, ◌||◌, cond, List, [], ◌∷◌, ◌++◌, length, get_or, drop, map, filter, sym, ap, ◌∙◌, append-nil, append_assoc}
+use Rattle.std.specs.List.{flat_map, list_any}
 use Rattle.std.proofs.lemmas.List.{at_drop_all, at_drop_more}
 use Rattle.toml.specs.Data.{Members}
 use Rattle.sheet_text.specs.declared.names.Key.{Key}
@@ -44,6 +44,21 @@ module _ (f : UnknownKey → List ℕ) (told longer all : List ℕ) (keys : List
 
 pub none_left : (g : List UnknownKey → List ℕ) (told all : List ℕ) (keys : List UnknownKey) (i : ℕ) → length keys ≤ i → g [] ≡ [] → told ++ g (drop i keys) ≡ all → told ≡ all
 none_left g told all keys i past none before = sym (append-nil told) ∙ ap (λ t. told ++ t) (sym (at_drop_all g keys i past ∙ none)) ∙ before
+
+-- ---- whether one of those that are left passes a test
+
+module _ {X : Type 0} (test : X → Bool) (xs : List X) (i : ℕ) (x : X) (low : i < length xs) (item : x ≡ get_or xs i x) (before : list_any test (drop i xs) ≡ list_any test xs) where
+  first_of : list_any test (drop i xs) ≡ (test x || list_any test (drop (i + 1) xs))
+  first_of = at_drop_more (list_any test) xs i x low ∙ ap (λ (y : X). test y || list_any test (drop (i + 1) xs)) (sym item)
+
+  pub one_passes : test x ≡ true → true ≡ list_any test xs
+  one_passes passes = ap (λ b. b || list_any test (drop (i + 1) xs)) (sym passes) ∙ sym first_of ∙ before
+
+  pub next_left : test x ≡ false → list_any test (drop (i + 1) xs) ≡ list_any test xs
+  next_left fails = ap (λ b. b || list_any test (drop (i + 1) xs)) (sym fails) ∙ sym first_of ∙ before
+
+pub none_passes : {X : Type 0} (test : X → Bool) (xs : List X) (i : ℕ) → length xs ≤ i → list_any test (drop i xs) ≡ list_any test xs → false ≡ list_any test xs
+none_passes test xs i past before = sym (at_drop_all (list_any test) xs i past) ∙ before
 
 -- ---- rows
 

@@ -84,7 +84,12 @@ impl<'a> Model for UnknownKey<'a> {
 fn is_taken(taken: &[Key], name: &[u8]) -> bool
     ensures { result ≡ is_taken taken.now name.now }
 {
-    taken.iter().any(|key| is_same(name, key.name().as_bytes()))
+    for key in taken {
+        if is_same(name, key.name().as_bytes()) {
+            return true;
+        }
+    }
+    false
 }
 
 /// Whether it is the key of that table and name.
@@ -98,7 +103,12 @@ fn is_key(table: &[u8], name: &[u8], key: &UnknownKey<'_>) -> bool
 fn is_found(table: &[u8], name: &[u8], found: &[UnknownKey<'_>]) -> bool
     ensures { result ≡ list_any (is_key table.now name.now) found.now }
 {
-    found.iter().any(|key| is_key(table, name, key))
+    for key in found {
+        if is_key(table, name, key) {
+            return true;
+        }
+    }
+    false
 }
 
 /// Adds a key of a table where no reader takes it, it is not there, and there is room.
