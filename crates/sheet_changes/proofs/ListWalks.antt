@@ -1,5 +1,5 @@
 -- What was put of a list so far, of one element more, and of all.
-use Rattle.std.proofs.Common.{◌≡◌, ℕ, ◌+◌, ◌<◌, ◌≤◌, Bool, true, false, cond, List, [], ◌∷◌, ◌++◌, length, get_or, filter, take, sym, ap, ◌∙◌, codes}
+use Rattle.std.proofs.Common.{◌≡◌, ℕ, ◌+◌, ◌<◌, ◌≤◌, Bool, true, false, cond, List, [], ◌∷◌, ◌++◌, Bor, length, get_or, map, filter, take, sym, ap, ◌∙◌, codes}
 use Rattle.std.specs.List.{flat_map}
 use Rattle.std.proofs.lemmas.Grind.{flat_map-append}
 use Rattle.std.proofs.lemmas.List.{append-nil, append_assoc, map-append, take_all, take_more}
@@ -21,6 +21,27 @@ module _ {X A : Type 0} (F : List X → List A) (old told : List A) where
 
   pub all_of : (xs : List X) (i : ℕ) → length xs ≤ i → told ≡ old ++ F (take i xs) → told ≡ old ++ F xs
   all_of xs i past before = before ∙ ap (λ ys. old ++ F ys) (take_all i xs past)
+
+-- ---- what is put of each element
+
+module _ {X : Type 0} (f : X → List ℕ) (old told longer : List ℕ) (xs : List X) (i : ℕ) (d : X) where
+  pub put_next : i < length xs → longer ≡ told ++ f (get_or xs i d) → told ≡ old ++ flat_map f (take i xs) → longer ≡ old ++ flat_map f (take (i + 1) xs)
+  put_next low put before =
+      let x = get_or xs i d in
+      one_more (flat_map f) old told longer (take i xs) (take (i + 1) xs) x (flat_map-append f (take i xs) (x ∷ [])) (take_more xs i d low)
+      (put ∙ ap (λ t. told ++ t) (sym (append-nil (f x)))) before
+
+texts : List (Bor (List ℕ)) → List (List ℕ)
+texts ids = map (λ id. id.now) ids
+
+module _ (f : List ℕ → List ℕ) (old told longer : List ℕ) (ids : List (Bor (List ℕ))) (i : ℕ) (d : Bor (List ℕ)) where
+  pub put_next_text : i < length ids → longer ≡ told ++ f (get_or ids i d).now → told ≡ old ++ flat_map f (map (λ id. id.now) (take i ids)) → longer ≡ old ++ flat_map f (map (λ id. id.now) (take (i + 1) ids))
+  unfolding texts
+  put_next_text low put before =
+      let x = get_or ids i d in
+      one_more (λ xs. flat_map f (texts xs)) old told longer (take i ids) (take (i + 1) ids) x
+      (ap (flat_map f) (map-append (λ (id : Bor (List ℕ)). id.now) (take i ids) (x ∷ [])) ∙ flat_map-append f (texts (take i ids)) (x.now ∷ []))
+      (take_more ids i d low) (put ∙ ap (λ t. told ++ t) (sym (append-nil (f x.now)))) before
 
 -- ---- the lines of regions that pass a test
 
