@@ -6,7 +6,6 @@ use Rattle.std.proofs.lemmas.Result.{err_from_is_err_and}
 use Rattle.counted_io.specs.Counts.{count_after}
 use Rattle.counted_io.specs.Reading.{ConsumesAtMost}
 use Rattle.counted_io.specs.Streams.{UsesStreams}
-use Rattle.counted_io.specs.Writing.{AppendsPrefix}
 use Rattle.metering_model.specs.declared.Refusal.{Refusal}
 use Rattle.metering_model.specs.World.{World}
 use Rattle.metering_model.specs.Schedule.{Planned}
@@ -48,16 +47,13 @@ write_no_memory e = absurd (cc)
 pub memory_no_write : {A P : Type 0} → told_as {A = A} PlayFault.OutOfMemory ≡ Err PlayFault.Write → P
 memory_no_write e = absurd (cc)
 
--- a world that is the opening one by an equation
-module _ (w v : World) (same : w ≡ v) (old new : Option (List ℕ)) (events : List Planned) where
-  pub prefix_there : AppendsPrefix old new (text_of w (events_of events)) → AppendsPrefix old new (text_of v (events_of events))
-  prefix_there = subst (λ x. AppendsPrefix old new (text_of x (events_of events))) same
+-- events that were done in a world
+module _ (w : World) (old new : Option (List ℕ)) (events : List Planned) where
+  pub all_there : (done : ℕ) → done ≡ length events → Appends old new (text_of w (events_of (take done events))) → Appends old new (text_of w (events_of events))
+  all_there done all = subst (Appends old new) (text_all w events done all)
 
-  pub all_there : (done : ℕ) → done ≡ length events → Appends old new (text_of w (events_of (take done events))) → Appends old new (text_of v (events_of events))
-  all_there done all told = subst (λ x. Appends old new (text_of x (events_of events))) same (subst (Appends old new) (text_all w events done all) told)
-
-  pub first_there : (done : ℕ) → done ≤ length events → done ≢ length events → Appends old new (text_of w (events_of (take done events))) → AppendsFirst old new v events
-  first_there done within fewer told = (done, omega arith, subst (λ x. Appends old new (text_of x (events_of (take done events)))) same told)
+  pub first_there : (done : ℕ) → done ≤ length events → done ≢ length events → Appends old new (text_of w (events_of (take done events))) → AppendsFirst old new w events
+  first_there done within fewer told = (done, omega arith, told)
 
 pub no_reader : {A : Type 0} (r : Result A PlayFault) → r ≢ Err PlayFault.Read → tells_of_reader r ≡ false
 no_reader (Ok x) is_not = refl

@@ -13,7 +13,7 @@ ghost use Rattle.program_input.specs.declared.ScheduleFault.{ScheduleFault};
 ghost use Rattle.schedule_reader.specs.Schedules.{group_in, schedule_in};
 ghost use Rattle.schedule_player.specs.Faults.{TellsFaults, tells_of_reader, tells_of_writer};
 ghost use Rattle.schedule_player.specs.Transcripts.{IsPrefixOfTranscript, IsTranscriptOf, replies_to};
-ghost use Rattle.schedule_player.specs.Inner.Playing.{AppendsFirst, read_of};
+ghost use Rattle.schedule_player.specs.Inner.Playing.{AppendsFirst, events_of, read_of, text_of};
 ghost use Rattle.schedule_player.specs.Inner.Writing.{Writes, WritesTranscript};
 
 use crate::playing::play_events;
@@ -21,7 +21,7 @@ use counted_io::{Sink, Source};
 use group_core::World;
 use price_sheet::{Issuer, Sheet};
 use program_input::{PlayFault, ScheduleFault, read_input};
-use schedule_reader::Schedule;
+use schedule_reader::{Events, Schedule};
 use std::alloc::{AllocError, Global};
 use std::sync::Arc;
 
@@ -57,6 +57,36 @@ pub fn opening_world(
     World::new(alloc, voters, observers, agents, sheet, issuer)
 }
 
+/// Plays events in a world, and writes what a transcript says of them. They are by reference, for the prover's time alone
+/// (docs/DECISIONS.md).
+fn play_within<W: Sink>(
+    alloc: Global,
+    world: World,
+    text: &Arc<Vec<u8>>,
+    events: &Events<'_>,
+    writer: &mut W,
+) -> Result<(), PlayFault>
+    requires { events.now.text ≡ (arc_value text.now).items }
+    ensures writes { Writes result (W.contents writer.old) (W.contents writer.new)
+        (W.failed_calls writer.old) (W.failed_calls writer.new)
+        (text_of world (events_of events.now.planned)) }
+    ensures memory { result ≡ Err PlayFault.OutOfMemory
+        → AppendsFirst (W.contents writer.old) (W.contents writer.new)
+        world events.now.planned }
+    ensures others { (result ≢ Err PlayFault.Read)
+        × ((fault : ScheduleFault) → result ≢ Err (PlayFault.Schedule fault))
+        × ((refusal : Refusal) → result ≢ Err (PlayFault.Refused refusal)) }
+{
+    let Ok(done) = play_events(alloc, world, text, events, writer) else {
+        return Err(PlayFault::Write);
+    };
+    if done == events.len() {
+        Ok(())
+    } else {
+        Err(PlayFault::OutOfMemory)
+    }
+}
+
 /// Plays a schedule that was read in a text, and writes its transcript.
 fn play_schedule<W: Sink>(
     alloc: Global,
@@ -88,16 +118,9 @@ fn play_schedule<W: Sink>(
         issuer,
         events,
     } = schedule;
-    let Ok(world) = opening_world(alloc, voters, observers, agents, sheet, issuer) else {
-        return Err(PlayFault::OutOfMemory);
-    };
-    let Ok(done) = play_events(alloc, world, text, &events, writer) else {
-        return Err(PlayFault::Write);
-    };
-    if done == events.len() {
-        Ok(())
-    } else {
-        Err(PlayFault::OutOfMemory)
+    match opening_world(alloc, voters, observers, agents, sheet, issuer) {
+        Ok(world) => play_within(alloc, world, text, &events, writer),
+        Err(_) => Err(PlayFault::OutOfMemory),
     }
 }
 
