@@ -7,6 +7,7 @@ ghost use Rattle.metering_model.specs.Schedule.{event_of};
 ghost use Rattle.metering_model.specs.Step.{step};
 ghost use Rattle.metering_model.specs.World.{opening};
 ghost use Rattle.group_events.specs.Events.{event_of as offered_event};
+ghost use Rattle.group_events.specs.Replies.{reply_of};
 ghost use Rattle.schedule_reader.specs.Events.{HasWholeLines, planned_of};
 ghost use Rattle.schedule_reader.specs.Schedules.{events_in, preamble_in};
 ghost use Rattle.schedule_writer.specs.Inner.Certified.{IsCertified};
@@ -18,7 +19,7 @@ use batch_store::Store;
 use group_events::{Event, Offer};
 use input_sections::{ScheduleFault, Unread};
 use price_sheet::Issuer;
-use schedule_player::{World, event_of, opening_world};
+use schedule_player::{Reply, World, event_of, opening_world};
 use schedule_reader::{Planned, Preamble, event_in};
 use std::alloc::Global;
 use std::sync::Arc;
@@ -43,6 +44,81 @@ fn keep_batch(journals: &mut Store, event: &Event) -> Result<(), Stop>
     }
 }
 
+/// What was done behind an event and its reply, with these journals before it.
+fn next_seen(
+    alloc: Global,
+    plan: &Plan<'_>,
+    seen: Seen,
+    journals: &Store,
+    planned: &Planned<'_>,
+    reply: &Reply,
+) -> Result<Seen, Stop>
+    requires plan { IsWithinGroup plan.now }
+    requires whole { HasWholeLines planned.now }
+    ensures { IfOk result (λ next. behind (plan_of plan.now) seen journals.now.batches
+        (reply_of reply.now) (planned_of planned.now) ≡ Some next) }
+{
+    match plan.behind(alloc, seen, journals, planned, reply) {
+        Ok(Some(next)) => Ok(next),
+        Ok(None) => Err(Stop::NotClosed),
+        Err(stop) => Err(stop),
+    }
+}
+
+/// Does an event that was made of what is planned, and answers what was done behind it. Its batch is not kept.
+fn step_seen(
+    alloc: Global,
+    plan: &Plan<'_>,
+    world: &mut World,
+    journals: &Store,
+    seen: Seen,
+    planned: &Planned<'_>,
+    event: &Event,
+) -> Result<Seen, Stop>
+    requires plan { IsWithinGroup plan.now }
+    requires whole { HasWholeLines planned.now }
+    requires event { offered_event event.now ≡ event_of (planned_of planned.now) }
+    ensures seen { IfOk result
+        (λ next. behind (plan_of plan.now) seen journals.now.batches
+        (step world.old (event_of (planned_of planned.now))).0 (planned_of planned.now)
+        ≡ Some next) }
+    ensures world { OnOk result
+        (world.new ≡ (step world.old (event_of (planned_of planned.now))).1) }
+{
+    let Ok(reply) = world.step(alloc, event) else {
+        return Err(Stop::OutOfMemory);
+    };
+    next_seen(alloc, plan, seen, journals, planned, &reply)
+}
+
+/// The same, and the batch of the event is kept, if it has one. It is by reference, for the prover's time alone
+/// (docs/DECISIONS.md).
+fn do_made(
+    alloc: Global,
+    plan: &Plan<'_>,
+    world: &mut World,
+    journals: &mut Store,
+    seen: Seen,
+    planned: &Planned<'_>,
+    event: &Event,
+) -> Result<Seen, Stop>
+    requires plan { IsWithinGroup plan.now }
+    requires whole { HasWholeLines planned.now }
+    requires same { journals.old.batches ≡ world.old.journals }
+    requires event { offered_event event.now ≡ event_of (planned_of planned.now) }
+    ensures seen { IfOk result
+        (λ next. behind (plan_of plan.now) seen world.old.journals
+        (step world.old (event_of (planned_of planned.now))).0 (planned_of planned.now)
+        ≡ Some next) }
+    ensures world { OnOk result
+        (world.new ≡ (step world.old (event_of (planned_of planned.now))).1) }
+    ensures journals { OnOk result (journals.new.batches ≡ world.new.journals) }
+{
+    let next = step_seen(alloc, plan, world, journals, seen, planned, event)?;
+    keep_batch(journals, event)?;
+    Ok(next)
+}
+
 /// Does one event, and answers what was done behind it.
 fn do_event(
     alloc: Global,
@@ -63,17 +139,10 @@ fn do_event(
         (world.new ≡ (step world.old (event_of (planned_of planned.now))).1) }
     ensures journals { OnOk result (journals.new.batches ≡ world.new.journals) }
 {
-    let Ok(event) = event_of(alloc, planned) else {
-        return Err(Stop::OutOfMemory);
-    };
-    let Ok(reply) = world.step(alloc, &event) else {
-        return Err(Stop::OutOfMemory);
-    };
-    let Some(next) = plan.behind(alloc, seen, journals, planned, &reply)? else {
-        return Err(Stop::NotClosed);
-    };
-    keep_batch(journals, &event)?;
-    Ok(next)
+    match event_of(alloc, planned) {
+        Ok(event) => do_made(alloc, plan, world, journals, seen, planned, &event),
+        Err(_) => Err(Stop::OutOfMemory),
+    }
 }
 
 /// Does the events that are left in turn as they are read, no more than `most`, and answers what was done behind them.
@@ -124,9 +193,6 @@ fn is_planned(plan: &Plan<'_>, agents: u8, issuer: &Issuer, above: &Preamble<'_>
     is_group && above.sheet.same(plan.sheet) && above.issuer.same(issuer)
 }
 
-/// Drops a preamble beside no other value, for the prover's time alone (docs/DECISIONS.md).
-fn drop_preamble(_above: Preamble<'_>) {}
-
 /// What stands above the events, where it is of that group, by this sheet and this issuer.
 fn if_planned<'a>(
     plan: &Plan<'_>,
@@ -142,7 +208,8 @@ fn if_planned<'a>(
     if is_planned(plan, agents, issuer, &above) {
         return Ok(above);
     }
-    drop_preamble(above);
+    // Dropped by a call for the prover's time alone (docs/DECISIONS.md).
+    drop(above);
     Err(Stop::NotClosed)
 }
 

@@ -16,7 +16,7 @@ ghost use Rattle.schedule_writer.specs.Inner.SaidLines.{lines_said, said_of_long
 ghost use Rattle.schedule_writer.specs.Inner.Walks.{IsGiven, IsItemLength, IsPlace};
 
 use crate::inputs::{Item, Offered, item_at};
-use crate::judging::{read_offer, world_before};
+use crate::judging::read_offer;
 use crate::lines::journal_offered;
 use crate::warnings::put_ahead_of;
 use byte_text::line_count;
@@ -24,7 +24,7 @@ use counted_io::{Sink, Source};
 use fault_lines::{Check, LatestDays, check_input, put_fault, put_unknown_on};
 use group_events::Event;
 use input_sections::{RateInput, rate_input};
-use schedule_player::{PlayFault, World};
+use schedule_player::{PlayFault, World, opening_world};
 use std::alloc::{AllocError, Global};
 use std::sync::Arc;
 
@@ -159,13 +159,7 @@ fn check_batches(
         issuer,
         batch_from,
     } = given;
-    let Ok(sheet) = Arc::new(alloc, sheet) else {
-        return Err(AllocError);
-    };
-    let Ok(issuer) = Arc::new(alloc, issuer) else {
-        return Err(AllocError);
-    };
-    let mut world = world_before(alloc, &sheet, &issuer)?;
+    let mut world = opening_world(alloc, 1, 0, 64, sheet, issuer)?;
     check_items(alloc, &mut world, input, batch_from, told, warned)
 }
 
@@ -182,7 +176,11 @@ fn put_said(
 {
     match rate_input(alloc, input) {
         Ok(given) => {
-            put_unknown_on(alloc, warned, input, 1)?;
+            let Ok(()) = put_unknown_on(alloc, warned, input, 1) else {
+                // Dropped by a call for the prover's time alone (docs/DECISIONS.md).
+                drop(given);
+                return Err(AllocError);
+            };
             check_batches(alloc, input, given, told, warned)
         }
         Err(fault) => put_fault(alloc, told, input, fault),

@@ -56,20 +56,20 @@ fn put_nodes(draft: &mut Draft, plan: &Plan<'_>) -> Result<(), Stop> {
     draft.put(line.as_slice())
 }
 
-/// Appends what stands above the events.
-fn put_above(
-    draft: &mut Draft,
-    plan: &Plan<'_>,
-    agents: u8,
-    input: &[u8],
-    batch_from: usize,
-) -> Result<(), Stop> {
+/// Appends the head, and the lines of the nodes and the agents.
+fn put_head(draft: &mut Draft, plan: &Plan<'_>, agents: u8) -> Result<(), Stop> {
     draft.put(b"SCHEDULE 1\n")?;
     put_nodes(draft, plan)?;
-    draft.put_line(b"agents ", u128::from(agents), None)?;
-    let Some(end) = sheet_end(input) else {
-        return Err(Stop::NotClosed);
-    };
+    draft.put_line(b"agents ", u128::from(agents), None)
+}
+
+/// Appends both sections of the input, of which the sheet's ends at a byte and the issuer's at another.
+fn put_sections(
+    draft: &mut Draft,
+    input: &[u8],
+    end: usize,
+    batch_from: usize,
+) -> Result<(), Stop> {
     let Some(sheet) = input.get(..end) else {
         return Err(Stop::NotClosed);
     };
@@ -78,6 +78,21 @@ fn put_above(
     };
     put_section(draft, sheet, EMPTY_SHEET)?;
     put_section(draft, issuer, SAMPLE_ISSUER)
+}
+
+/// Appends what stands above the events.
+fn put_above(
+    draft: &mut Draft,
+    plan: &Plan<'_>,
+    agents: u8,
+    input: &[u8],
+    batch_from: usize,
+) -> Result<(), Stop> {
+    put_head(draft, plan, agents)?;
+    match sheet_end(input) {
+        Some(end) => put_sections(draft, input, end, batch_from),
+        None => Err(Stop::NotClosed),
+    }
 }
 
 /// Appends that a batch is journaled, and reaches all nodes.
@@ -106,18 +121,28 @@ fn put_round(draft: &mut Draft, packet: u32, many: u8) -> Result<(), Stop> {
     Ok(())
 }
 
-/// Appends one ballot: node 0 asks a majority, proposes, and tells all others what was decided.
-fn put_ballot(draft: &mut Draft, voters: u8, nodes: u8) -> Result<(), Stop> {
-    let many = voters / 2 + 1;
+/// Appends that node 0 asks a majority, and is answered.
+fn put_asked(draft: &mut Draft, many: u8) -> Result<(), Stop> {
     let prepare = draft.packet()?;
     draft.put_line(b"start ", 0, None)?;
-    put_round(draft, prepare, many)?;
+    put_round(draft, prepare, many)
+}
+
+/// Appends that a majority takes what node 0 proposes, which takes it too and tells all others what was decided.
+fn put_decided(draft: &mut Draft, many: u8, nodes: u8) -> Result<(), Stop> {
     let accept = draft.packet()?;
     put_round(draft, accept, many)?;
     // Who has learned a cut sends it to whoever asks for that period.
     draft.deliver(accept, 0)?;
     let decided = draft.packet()?;
     draft.deliver_to(decided, 1, nodes)
+}
+
+/// Appends one ballot: node 0 asks a majority, proposes, and tells all others what was decided.
+fn put_ballot(draft: &mut Draft, voters: u8, nodes: u8) -> Result<(), Stop> {
+    let many = voters / 2 + 1;
+    put_asked(draft, many)?;
+    put_decided(draft, many, nodes)
 }
 
 /// Appends that a period is closed, and that each node shows its file.
@@ -129,24 +154,51 @@ fn put_closed(draft: &mut Draft, voters: u8, nodes: u8, period: u16) -> Result<(
     Ok(())
 }
 
+/// Appends that the batches from one on to another are journaled.
+fn put_those(draft: &mut Draft, plan: &Plan<'_>, from: usize, to: usize) -> Result<(), Stop> {
+    match plan.batches.get(from..to) {
+        Some(batches) => put_batches(draft, plan.nodes, batches),
+        None => Err(Stop::NotClosed),
+    }
+}
+
+/// Appends that a period is closed behind the batches that stand above it, of which so many were journaled. It answers how many
+/// are.
+fn put_period(
+    draft: &mut Draft,
+    plan: &Plan<'_>,
+    journaled: usize,
+    period: u16,
+) -> Result<usize, Stop> {
+    let due = plan.due_before(period);
+    put_those(draft, plan, journaled, due)?;
+    put_closed(draft, plan.voters, plan.nodes, period)?;
+    Ok(due)
+}
+
 /// Appends all that happens: before each period is closed the batches above it are journaled, and those that are left at the end.
 fn put_events(draft: &mut Draft, plan: &Plan<'_>) -> Result<(), Stop>
     requires { plan.now.last ≤ last_period }
 {
     let mut journaled = 0;
     for period in 0..plan.last + 1 {
-        let due = plan.due_before(period);
-        let Some(batches) = plan.batches.get(journaled..due) else {
-            return Err(Stop::NotClosed);
-        };
-        put_batches(draft, plan.nodes, batches)?;
-        put_closed(draft, plan.voters, plan.nodes, period)?;
-        journaled = due;
+        journaled = put_period(draft, plan, journaled, period)?;
     }
-    let Some(batches) = plan.batches.get(journaled..) else {
-        return Err(Stop::NotClosed);
-    };
-    put_batches(draft, plan.nodes, batches)
+    put_those(draft, plan, journaled, plan.batches.len())
+}
+
+/// Appends all of a schedule.
+fn put_all(
+    draft: &mut Draft,
+    plan: &Plan<'_>,
+    agents: u8,
+    input: &[u8],
+    batch_from: usize,
+) -> Result<(), Stop>
+    requires { plan.now.last ≤ last_period }
+{
+    put_above(draft, plan, agents, input, batch_from)?;
+    put_events(draft, plan)
 }
 
 /// The text of a schedule.
@@ -160,7 +212,8 @@ pub(crate) fn schedule_for(
     requires { plan.now.last ≤ last_period }
 {
     let mut draft = Draft::new(alloc);
-    put_above(&mut draft, plan, agents, input, batch_from)?;
-    put_events(&mut draft, plan)?;
-    Ok(draft.text)
+    match put_all(&mut draft, plan, agents, input, batch_from) {
+        Ok(()) => Ok(draft.text),
+        Err(stop) => Err(stop),
+    }
 }

@@ -11,6 +11,7 @@ ghost use Rattle.metering_model.specs.Sheet as model;
 ghost use Rattle.metering_model.specs.Step.{step};
 ghost use Rattle.metering_model.specs.Transcript.{line};
 ghost use Rattle.batch_view.specs.Batches.{batch_of};
+ghost use Rattle.group_events.specs.Events.{event_of};
 ghost use Rattle.group_events.specs.Offers.{IsOfferOf};
 ghost use Rattle.schedule_writer.specs.Inputs.{batches_of, item_at, items_in};
 ghost use Rattle.schedule_writer.specs.Refusals.{IsJournaled, answer_to, answers_to, journal_of};
@@ -114,6 +115,50 @@ fn refused(told: Vec<u8>) -> WriteFault
     WriteFault::Refused(told)
 }
 
+/// Journals a batch by its event, or answers why it is refused.
+fn judge_event(
+    alloc: Global,
+    world: &mut World,
+    input: &[u8],
+    offered: &Offered<'_>,
+    event: &Event,
+) -> Result<(), WriteFault>
+    requires from { offered.now.from ≤ length input.now }
+    requires event { event_of event.now ≡ journal_of (offered_of offered.now) }
+    ensures journaled { OnOk result (IsJournaled (answer_to world.old offered.now.text.now)) }
+    ensures world { OnOk result
+        (world.new ≡ (step world.old (journal_of (offered_of offered.now))).1) }
+    ensures refused { IfErr result
+        (IsRefusedOr (IsRefusedNow input.now world.old (offered_of offered.now))) }
+{
+    let mut told = Vec::new(alloc);
+    match journal_offered(alloc, world, input, offered, None, event, &mut told) {
+        Ok(true) => Ok(()),
+        Ok(false) => Err(refused(told)),
+        Err(_) => Err(WriteFault::OutOfMemory),
+    }
+}
+
+/// The same of what its text offers. The event is dropped here, for the prover's time alone (docs/DECISIONS.md).
+fn judge_offer(
+    alloc: Global,
+    world: &mut World,
+    input: &[u8],
+    offered: &Offered<'_>,
+    offer: Offer,
+) -> Result<(), WriteFault>
+    requires from { offered.now.from ≤ length input.now }
+    requires offer { IsOfferOf offered.now.text.now offer }
+    ensures journaled { OnOk result (IsJournaled (answer_to world.old offered.now.text.now)) }
+    ensures world { OnOk result
+        (world.new ≡ (step world.old (journal_of (offered_of offered.now))).1) }
+    ensures refused { IfErr result
+        (IsRefusedOr (IsRefusedNow input.now world.old (offered_of offered.now))) }
+{
+    let event = Event::Journal(offer);
+    judge_event(alloc, world, input, offered, &event)
+}
+
 /// Journals one more batch, and answers what it asks too, or why it is refused.
 fn judge(
     alloc: Global,
@@ -137,20 +182,8 @@ fn judge(
         return Err(WriteFault::OutOfMemory);
     };
     let more = asked_too(sheet, asked, &offer);
-    let mut told = Vec::new(alloc);
-    match journal_offered(
-        alloc,
-        world,
-        input,
-        offered,
-        None,
-        &Event::Journal(offer),
-        &mut told,
-    ) {
-        Ok(true) => Ok(more),
-        Ok(false) => Err(refused(told)),
-        Err(_) => Err(WriteFault::OutOfMemory),
-    }
+    judge_offer(alloc, world, input, offered, offer)?;
+    Ok(more)
 }
 
 /// A group of one node and 64 agents, in which nothing has happened.
@@ -228,6 +261,71 @@ fn take_item<'a>(
     }
 }
 
+/// Takes the items from a byte of the input on in turn, in a group in which nothing has happened, and answers what stands there and
+/// what its batches ask of one, or which is refused first: what stands behind that is not looked at.
+fn take_items<'a>(
+    alloc: Global,
+    world: &mut World,
+    sheet: &Sheet,
+    input: &'a [u8],
+    from: usize,
+    items: &mut Items<'a>,
+) -> Result<(), WriteFault>
+    requires from { from ≤ length input.now }
+    requires none { (items.old.batches.items ≡ []) × (items.old.closes.items ≡ []) }
+    requires within { IsAskedWithin items.old.asked.agents items.old.asked.last }
+    ensures found { OnOk result
+        (IsFoundOf (items_in (length input.now) input.now from) items.new) }
+    ensures within { OnOk result (IsAskedWithin items.new.asked.agents items.new.asked.last) }
+    ensures judged { (issuer : model.Issuer)
+        → IsJudged sheet.now issuer [] world.old items.old.asked.agents items.old.asked.last
+        → OnOk result (IsJudged sheet.now issuer (map offered_of items.new.batches.items) world.new
+        items.new.asked.agents items.new.asked.last) }
+    ensures refused { (issuer : model.Issuer)
+        → IsJudged sheet.now issuer [] world.old items.old.asked.agents items.old.asked.last
+        → IfErr result (IsRefusedOr (IsRefusedAmong input.now sheet.now issuer
+        (batches_of (items_in (length input.now) input.now from)))) }
+{
+    let mut here = from;
+    for _ in 0..input.len() {
+        if here == input.len() {
+            return Ok(());
+        }
+        here += take_item(alloc, world, sheet, input, here, items)?;
+    }
+    Ok(())
+}
+
+/// Journals the batches from a byte of the input on in turn in a world, in which nothing has happened, and answers what stands there
+/// and what they ask of a group, or which is refused first.
+fn items_by<'a>(
+    alloc: Global,
+    world: &mut World,
+    sheet: &Sheet,
+    input: &'a [u8],
+    from: usize,
+) -> Result<Items<'a>, WriteFault>
+    requires { from ≤ length input.now }
+    ensures found { IfOk result (IsFoundOf (items_in (length input.now) input.now from)) }
+    ensures within { IfOk result (λ r. IsAskedWithin r.asked.agents r.asked.last) }
+    ensures judged { (issuer : model.Issuer) → world.old ≡ world_before sheet.now issuer
+        → IfOk result (λ r. IsJudged sheet.now issuer (map offered_of r.batches.items) world.new
+        r.asked.agents r.asked.last) }
+    ensures refused { (issuer : model.Issuer) → world.old ≡ world_before sheet.now issuer
+        → IfErr result (IsRefusedOr (IsRefusedAmong input.now sheet.now issuer
+        (batches_of (items_in (length input.now) input.now from)))) }
+{
+    let mut items = Items {
+        batches: Vec::new(alloc),
+        closes: Vec::new(alloc),
+        asked: Asked { agents: 1, last: 0 },
+    };
+    match take_items(alloc, world, sheet, input, from, &mut items) {
+        Ok(()) => Ok(items),
+        Err(fault) => Err(fault),
+    }
+}
+
 /// Journals the batches from a byte of the input on in turn, in such a group, and answers what stands there and what they ask of
 /// one, or which is refused first: what stands behind that is not looked at.
 pub(crate) fn read_items<'a>(
@@ -249,20 +347,8 @@ pub(crate) fn read_items<'a>(
         input.now (arc_value sheet.now) (arc_value issuer.now)
         (batches_of (items_in (length input.now) input.now from)))) }
 {
-    let Ok(mut world) = world_before(alloc, sheet, issuer) else {
-        return Err(WriteFault::OutOfMemory);
-    };
-    let mut items = Items {
-        batches: Vec::new(alloc),
-        closes: Vec::new(alloc),
-        asked: Asked { agents: 1, last: 0 },
-    };
-    let mut here = from;
-    for _ in 0..input.len() {
-        if here == input.len() {
-            return Ok(items);
-        }
-        here += take_item(alloc, &mut world, sheet, input, here, &mut items)?;
+    match world_before(alloc, sheet, issuer) {
+        Ok(mut world) => items_by(alloc, &mut world, sheet, input, from),
+        Err(_) => Err(WriteFault::OutOfMemory),
     }
-    Ok(items)
 }

@@ -1,6 +1,7 @@
 //! `focusd schedule`: from batches to a schedule that closes their months.
 
 ghost use Rattle.std.specs.Prelude.{◌≡◌, ◌≢◌, ◌+◌, ◌≤◌, ℕ, List, Some, Ok, Err, IfOk, IfErr, IfSome, IsOk, OnOk, OnErr, false, map, max, unwrap_or};
+ghost use Rattle.std.specs.Arc.{arc_value};
 ghost use Rattle.std.specs.Io.KnownBytes.{Appends, IsAtEnd};
 ghost use Rattle.counted_io.specs.Counts.{count_after};
 ghost use Rattle.counted_io.specs.Reading.{ConsumesAtMost};
@@ -143,6 +144,48 @@ fn schedule_with(
     }
 }
 
+/// The schedule for an input, behind whose sections these batches begin, by its sheet and its issuer.
+fn schedule_by(
+    alloc: Global,
+    request: Request,
+    input: &[u8],
+    batch_from: usize,
+    sheet: &Arc<Sheet>,
+    issuer: &Arc<Issuer>,
+) -> Result<Vec<u8>, WriteFault>
+    requires request { IsRequest request }
+    requires given { IsGiven input.now (arc_value sheet.now) (arc_value issuer.now) batch_from }
+    ensures schedule { IfOk result
+        (λ text. IsScheduleOf request (Some input.now) input.now text.items) }
+    ensures fault { IfErr result (IsFaultOf input.now) }
+{
+    match read_items(alloc, sheet, issuer, input, batch_from) {
+        Ok(items) => schedule_with(
+            alloc,
+            request,
+            input,
+            batch_from,
+            sheet,
+            issuer,
+            &items.batches,
+            &items.closes,
+            items.asked,
+        ),
+        Err(fault) => Err(fault),
+    }
+}
+
+/// A value, to be shared. One that is refused is dropped here, for the prover's time alone (docs/DECISIONS.md).
+fn shared<T: Drop>(alloc: Global, value: T) -> Result<Arc<T>, WriteFault>
+    ensures shared { IfOk result (λ arc. arc_value arc ≡ value) }
+    ensures fault { IfErr result (λ fault. fault ≡ WriteFault.OutOfMemory) }
+{
+    match Arc::new(alloc, value) {
+        Ok(arc) => Ok(arc),
+        Err(_) => Err(WriteFault::OutOfMemory),
+    }
+}
+
 /// The schedule for an input, behind whose sections these batches begin.
 fn schedule_of(
     alloc: Global,
@@ -161,27 +204,18 @@ fn schedule_of(
         issuer,
         batch_from,
     } = given;
-    let Ok(sheet) = Arc::new(alloc, sheet) else {
-        return Err(WriteFault::OutOfMemory);
+    let sheet = match shared(alloc, sheet) {
+        Ok(sheet) => sheet,
+        Err(fault) => {
+            // Dropped by a call for the same reason.
+            drop(issuer);
+            return Err(fault);
+        }
     };
-    let Ok(issuer) = Arc::new(alloc, issuer) else {
-        return Err(WriteFault::OutOfMemory);
-    };
-    let items = match read_items(alloc, &sheet, &issuer, input, batch_from) {
-        Ok(items) => items,
-        Err(fault) => return Err(fault),
-    };
-    schedule_with(
-        alloc,
-        request,
-        input,
-        batch_from,
-        &sheet,
-        &issuer,
-        &items.batches,
-        &items.closes,
-        items.asked,
-    )
+    match shared(alloc, issuer) {
+        Ok(issuer) => schedule_by(alloc, request, input, batch_from, &sheet, &issuer),
+        Err(fault) => Err(fault),
+    }
 }
 
 /// The schedule for an input.

@@ -1,5 +1,4 @@
-use Rattle.std.proofs.Common.{ap, ap₂, ◌∙◌, ◌++◌, []}
-use Rattle.metering_model.specs.RatedAlone.{world_before}
+use Rattle.std.proofs.Common.{ap, ◌∙◌, ◌++◌, []}
 use Rattle.fault_lines.specs.Ahead.{ahead_of_all}
 use Rattle.schedule_writer.specs.Checks.{journaled_of}
 use Rattle.schedule_writer.specs.Inputs.{batches_of, items_in}
@@ -9,15 +8,13 @@ use Rattle.schedule_writer.proofs.checking.check_batches.Goals as goal
 
 pub returns-clause-told : goal.returns-clause-told
 returns-clause-told c =
-    let same = said_of_given c.args.input.now c.args.given.batch_from c.args.given.sheet c.args.given.issuer c.in_ok-world.world c.requires.within c.requires.is_read
-    (c.in_ok-world.ensures ∙ ap₂ world_before c.in-Ok.ensures.ok c.in-Ok-new.ensures.ok) in
+    let same = said_of_given c.args.input.now c.args.given.batch_from c.args.given.sheet c.args.given.issuer c.in_ok-world.world c.requires.within c.requires.is_read c.in_ok-world.ensures in
     on_ok c.check_items.result (λ told. told ∙ ap (λ t. c.args.told.now.items ++ t) same) c.check_items.ensures.told
 
 pub returns-clause-ahead : goal.returns-clause-ahead
 returns-clause-ahead c =
     let input = c.args.input.now in
-    let before = c.in_ok-world.ensures ∙ ap₂ world_before c.in-Ok.ensures.ok c.in-Ok-new.ensures.ok in
     on_ok c.check_items.result
     (λ ahead. ahead
-    ∙ ap (λ w. c.args.warned.now.items ++ ahead_of_all [] (journaled_of input w (batches_of (items_in (length input) input c.args.given.batch_from)))) before)
+    ∙ ap (λ w. c.args.warned.now.items ++ ahead_of_all [] (journaled_of input w (batches_of (items_in (length input) input c.args.given.batch_from)))) c.in_ok-world.ensures)
     c.check_items.ensures.ahead

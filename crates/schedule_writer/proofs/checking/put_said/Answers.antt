@@ -16,10 +16,10 @@ returns-in-Err-clause-warned c =
     (λ known. still c.args.warned.now.items _ (warned_of_refused c.args.input.now c.in-Err.fault (c.in-Err.ensures.refused known)))
     c.put_fault.ensures.memory
 
-pub returns-in_ok-put_unknown_on-in-Ok-clause-warned : goal.returns-in_ok-put_unknown_on-in-Ok-clause-warned
-returns-in_ok-put_unknown_on-in-Ok-clause-warned c =
+pub returns-in-Ok-put_unknown_on-clause-warned : goal.returns-in-Ok-put_unknown_on-clause-warned
+returns-in-Ok-put_unknown_on-clause-warned c =
     let given = c.in-Ok.given in
     on_ok c.check_batches.result
-    (λ ahead. in_two_parts c.args.warned.now.items _ _ _ _ _ c.in_ok-put_unknown_on-in-Ok.ensures ahead
+    (λ ahead. in_two_parts c.args.warned.now.items _ _ _ _ _ c.in-Ok-put_unknown_on.ensures ahead
     (warned_of_given c.args.input.now given.batch_from given.sheet given.issuer c.in-Ok.ensures.within c.in-Ok.ensures.taken))
     c.check_batches.ensures.ahead

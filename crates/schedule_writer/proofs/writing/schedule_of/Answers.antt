@@ -1,37 +1,19 @@
-use Rattle.std.proofs.Common.{drop, map, sym, ap, ◌∙◌}
-use Rattle.std.proofs.lemmas.Result.{IfErr-weaker}
-use Rattle.schedule_writer.specs.Inputs.{batches_of, closes_from}
-use Rattle.schedule_writer.specs.Inner.Plans.{offered_of}
-use Rattle.schedule_writer.proofs.ScheduleLaws.{is_taken, items_behind, refused_fault, uncertain}
+use Rattle.std.proofs.Common.{Ok, drop, sym, ap₂, subst, ◌∙◌}
+use Rattle.schedule_writer.specs.Inner.Judged.{IsFaultOf}
 use Rattle.schedule_writer.proofs.writing.schedule_of.Goals as goal
 
-pub schedule_with-requires-clause-read : goal.schedule_with-requires-clause-read
-schedule_with-requires-clause-read c =
-    let input = c.args.input.now in
-    let from = c.args.given.batch_from in
-    let same = items_behind input from c.args.given.sheet c.args.given.issuer c.requires.given.within in
-    record {
-      given = record { sheet = c.args.given.sheet; issuer = c.args.given.issuer; batch = drop from input };
-      is_given = c.requires.given.is_read;
-      by_sheet = sym (c.deref.ensures ∙ c.in-Ok.ensures.ok);
-      by_issuer = sym (c.deref-2.ensures ∙ c.in-Ok-new.ensures.ok);
-      batches = ap (map offered_of) c.deref-3.ensures.value ∙ (c.in-Ok-read_items.ensures.found.batches ∙ ap batches_of same);
-      are_closes = c.deref-4.ensures.value ∙ (c.in-Ok-read_items.ensures.found.closes ∙ ap (closes_from 0) same);
-    }
+pub schedule_by-requires-clause-given : goal.schedule_by-requires-clause-given
+schedule_by-requires-clause-given c = record {
+  is_read = c.requires.given.is_read
+      ∙ sym (ap₂ (λ s i. Ok (record { sheet = s; issuer = i; batch = drop c.args.given.batch_from c.args.input.now })) c.in-Ok.ensures.shared c.in-Ok-shared.ensures.shared);
+  within = c.requires.given.within;
+}
 
 pub returns-in-Err-clause-fault : goal.returns-in-Err-clause-fault
-returns-in-Err-clause-fault c =
-    let input = c.args.input.now in
-    let from = c.args.given.batch_from in
-    let same = items_behind input from c.args.given.sheet c.args.given.issuer c.requires.given.within in
-    refused_fault input (record { sheet = c.args.given.sheet; issuer = c.args.given.issuer; batch = drop from input }) _ _ _ _ c.requires.given.is_read (sym c.in-Ok.ensures.ok)
-    (sym c.in-Ok-new.ensures.ok) (ap batches_of same) c.in-Err.ensures.refused
+returns-in-Err-clause-fault c = subst (IsFaultOf c.args.input.now) (sym c.in-Err.ensures.fault) tt
 
-pub returns-clause-fault : goal.returns-clause-fault
-returns-clause-fault c =
-    let input = c.args.input.now in
-    let from = c.args.given.batch_from in
-    let same = items_behind input from c.args.given.sheet c.args.given.issuer c.requires.given.within in
-    let taken = is_taken input (record { sheet = c.args.given.sheet; issuer = c.args.given.issuer; batch = drop from input }) _ _ _ c.requires.given.is_read
-    (sym c.in-Ok.ensures.ok) (sym c.in-Ok-new.ensures.ok) (c.in-Ok-read_items.ensures.found.batches ∙ ap batches_of same) c.in-Ok-read_items.ensures.taken in
-    IfErr-weaker c.schedule_with.result _ _ (uncertain input taken) c.schedule_with.ensures.fault
+pub returns-in-Ok-shared-clause-schedule : goal.returns-in-Ok-shared-clause-schedule
+returns-in-Ok-shared-clause-schedule c = c.schedule_by.ensures.schedule
+
+pub returns-in-Ok-shared-clause-fault : goal.returns-in-Ok-shared-clause-fault
+returns-in-Ok-shared-clause-fault c = c.schedule_by.ensures.fault

@@ -1,0 +1,46 @@
+use Rattle.std.proofs.Common.{drop, map, refl, sym, ap, ◌∙◌}
+use Rattle.std.specs.Arc.{arc_value}
+use Rattle.std.proofs.lemmas.Result.{IfErr-weaker}
+use Rattle.schedule_writer.specs.Inputs.{batches_of, closes_from}
+use Rattle.schedule_writer.specs.Inner.Plans.{offered_of}
+use Rattle.schedule_writer.proofs.ScheduleLaws.{is_taken, items_behind, refused_fault, uncertain}
+use Rattle.schedule_writer.proofs.writing.schedule_by.Goals as goal
+
+pub schedule_with-requires-clause-read : goal.schedule_with-requires-clause-read
+schedule_with-requires-clause-read c =
+    let input = c.args.input.now in
+    let from = c.args.batch_from in
+    let sheet = arc_value c.args.sheet.now in
+    let issuer = arc_value c.args.issuer.now in
+    let same = items_behind input from sheet issuer c.requires.given.within in
+    record {
+      given = record { sheet = sheet; issuer = issuer; batch = drop from input };
+      is_given = c.requires.given.is_read;
+      by_sheet = sym c.deref.ensures;
+      by_issuer = sym c.deref-in-Ok.ensures;
+      batches = ap (map offered_of) c.deref-in-Ok-2.ensures.value ∙ (c.in-Ok.ensures.found.batches ∙ ap batches_of same);
+      are_closes = c.deref-in-Ok-3.ensures.value ∙ (c.in-Ok.ensures.found.closes ∙ ap (closes_from 0) same);
+    }
+
+pub returns-in-Err-clause-fault : goal.returns-in-Err-clause-fault
+returns-in-Err-clause-fault c =
+    let input = c.args.input.now in
+    let from = c.args.batch_from in
+    let sheet = arc_value c.args.sheet.now in
+    let issuer = arc_value c.args.issuer.now in
+    let same = items_behind input from sheet issuer c.requires.given.within in
+    refused_fault input (record { sheet = sheet; issuer = issuer; batch = drop from input }) _ _ _ _ c.requires.given.is_read refl refl (ap batches_of same) c.in-Err.ensures.refused
+
+pub returns-in-Ok-clause-schedule : goal.returns-in-Ok-clause-schedule
+returns-in-Ok-clause-schedule c = c.schedule_with.ensures.schedule
+
+pub returns-in-Ok-clause-fault : goal.returns-in-Ok-clause-fault
+returns-in-Ok-clause-fault c =
+    let input = c.args.input.now in
+    let from = c.args.batch_from in
+    let sheet = arc_value c.args.sheet.now in
+    let issuer = arc_value c.args.issuer.now in
+    let same = items_behind input from sheet issuer c.requires.given.within in
+    let taken = is_taken input (record { sheet = sheet; issuer = issuer; batch = drop from input }) _ _ _ c.requires.given.is_read refl refl
+    (c.in-Ok.ensures.found.batches ∙ ap batches_of same) c.in-Ok.ensures.taken in
+    IfErr-weaker c.schedule_with.result _ _ (uncertain input taken) c.schedule_with.ensures.fault
