@@ -1,5 +1,5 @@
 -- What is said, case by case.
-use Rattle.std.proofs.Common.{◌≡◌, ℕ, suc, ◌-◌, ◌<◌, ◌≤◌, List, [], ◌++◌, length, take, drop, Some, None, Result, Ok, Err, OnOk, refl, sym, ap, ◌∙◌, arith, append-nil, append_assoc}
+use Rattle.std.proofs.Common.{◌≡◌, ℕ, suc, ◌-◌, ◌<◌, ◌≤◌, true, List, [], ◌++◌, length, take, drop, Some, None, Result, Ok, Err, OnOk, refl, sym, ap, ◌∙◌, arith, append-nil, append_assoc}
 use Rattle.std.proofs.lemmas.List.{length-drop}
 use Rattle.std.proofs.Math.Seq.{take-append_seam}
 use Rattle.metering_model.specs.Batch.{Batch}
@@ -7,8 +7,9 @@ use Rattle.metering_model.specs.Schedule.{Planned, event_of}
 use Rattle.metering_model.specs.Sheet as model
 use Rattle.metering_model.specs.Step.{step}
 use Rattle.metering_model.specs.Transcript.{line_count}
-use Rattle.metering_model.specs.World.{World, opening}
+use Rattle.metering_model.specs.World.{Delivered, Exported, Journaled, KeptText, Refused, Reply, Restarted, Started, World, opening}
 use Rattle.metering_model.specs.declared.Refusal.{Refusal}
+use Rattle.group_events.specs.Replies.{is_refused}
 use Rattle.input_sections.specs.declared.faults.ScheduleFault.{ScheduleFault}
 use Rattle.input_sections.specs.Sections.{Unread, left}
 use Rattle.input_sections.specs.RateInput.{rate_input_in}
@@ -16,7 +17,7 @@ use Rattle.schedule_reader.specs.Schedules.{Preamble, event_in, events_in, pream
 use Rattle.schedule_reader.proofs.EventLoop.{nonempty, empty}
 use Rattle.metering_model.specs.RatedAlone.{journaled_in}
 use Rattle.input_check.specs.Inner.Faults.{fault_of}
-use Rattle.input_check.specs.Checks.{said_behind, said_below, said_of_batch, said_of_events, said_of_journaled, said_of_rating, said_of_reply, said_of_schedule}
+use Rattle.input_check.specs.Checks.{said_behind, said_below, said_of_batch, said_of_events, said_of_journaled, said_of_rating, said_of_refused, said_of_reply, said_of_schedule}
 use Rattle.fault_lines.specs.Told.{bad_index, said_of_fault, told_of_text}
 
 -- ---- events
@@ -59,6 +60,16 @@ module _ (told : List ℕ) (k : ℕ) (w : World) (u : Unread) where
 
 pub said_at_end : (told : List ℕ) (w : World) (u : Unread) (n : ℕ) (before : List ℕ) → n ≡ 0 → before ≡ told ++ said_of_events n w u → told ≡ before
 said_at_end told w u n before none is = sym (is ∙ (ap (λ m. told ++ said_of_events m w u) none ∙ (ap (λ t. told ++ t) (said_end w u) ∙ append-nil told)))
+
+-- what is said of a reply in a world that is as it was where the reply refuses
+pub said_after : (n : ℕ) (w v : World) (e : Planned) (r : Reply) → (is_refused r ≡ true → v ≡ w) → said_of_reply n v e r ≡ said_of_reply n w e r
+said_after n w v e (Refused why) same = ap (λ (x : World). said_of_refused n x e why) (same refl)
+said_after n w v e (Journaled k) same = refl
+said_after n w v e (Delivered sent learned) same = refl
+said_after n w v e (Started b k) same = refl
+said_after n w v e Restarted same = refl
+said_after n w v e (Exported s) same = refl
+said_after n w v e (KeptText text) same = refl
 
 -- ---- a schedule
 

@@ -1,12 +1,12 @@
 use Rattle.std.proofs.Common.{◌≡◌, ◌++◌, length, rules, sym, ap, ◌∙◌, arith}
 use Rattle.schedule_reader.proofs.CountedEvents.{preamble_counted}
-use Rattle.input_check.proofs.SaidLaws.{both_on_ok, events_there, in_two_parts, no_events, no_schedule, on_ok, put_instead, taken_back}
+use Rattle.input_check.proofs.SaidLaws.{both_on_ok, events_there, no_events, no_schedule, on_ok, put_instead, taken_back}
 use Rattle.input_check.proofs.WarnedLaws.{events_warned, no_events_warned, no_preamble_warned}
 use Rattle.fault_lines.proofs.KeysOnLine.{still}
 use Rattle.input_check.proofs.events.check_schedule.Goals as goal
 
-pub check_behind-requires-clause-text : goal.check_behind-requires-clause-text
-check_behind-requires-clause-text c = (preamble_counted c.args.text.now _ c.in-Ok.ensures.taken).text_is ∙ c.requires
+pub check_read-requires-clause-text : goal.check_read-requires-clause-text
+check_read-requires-clause-text c = (preamble_counted c.args.text.now _ c.in-Ok.ensures.taken).text_is ∙ c.requires
 
 pub returns-in-Err-clause-said : goal.returns-in-Err-clause-said
 returns-in-Err-clause-said c =
@@ -34,9 +34,8 @@ pub returns-in-Some-clause-warned : goal.returns-in-Some-clause-warned
 returns-in-Some-clause-warned c =
     let warned = c.args.warned.now.items in
     let long : c.len-warned_before.result ≡ length warned = search (rules, arith) in
-    let both = in_two_parts warned _ _ _ _ c.in_ok-put_unknown_on.ensures c.in_ok-fault.ensures.ahead in
     let none = no_events_warned c.args.text.now _ c.in-Some.fault c.in-Ok.ensures.taken (sym c.in_ok-fault.ensures.fault ∙ c.in-Some.is) in
-    on_ok c.put_fault-in-Some.result (λ other. taken_back warned _ _ _ _ long both c.truncate-in-Some.ensures.items ∙ still warned _ none)
+    on_ok c.put_fault-in-Some.result (λ other. taken_back warned _ _ _ _ long c.in_ok-fault.ensures.warned c.truncate-in-Some.ensures.items ∙ still warned _ none)
     c.put_fault-in-Some.ensures.memory
 
 pub returns-in-None-clause-said : goal.returns-in-None-clause-said
@@ -48,4 +47,4 @@ pub returns-in-None-clause-warned : goal.returns-in-None-clause-warned
 returns-in-None-clause-warned c =
     let warned = c.args.warned.now.items in
     let there = events_warned c.args.text.now _ c.in-Ok.ensures.taken (sym c.in_ok-fault.ensures.fault ∙ c.in-None.is) in
-    in_two_parts warned _ _ _ _ c.in_ok-put_unknown_on.ensures c.in_ok-fault.ensures.ahead ∙ ap (λ t. warned ++ t) (sym there)
+    c.in_ok-fault.ensures.warned ∙ ap (λ t. warned ++ t) (sym there)
