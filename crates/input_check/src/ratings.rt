@@ -71,7 +71,12 @@ pub(crate) fn check_rating(
         (warned.new.items ≡ warned.old.items ++ warned_of_rating text.now) }
 {
     match rate_input(alloc, text) {
-        Ok(given) => check_given(alloc, text, &given, told, warned),
+        Ok(given) => {
+            let checked = check_given(alloc, text, &given, told, warned);
+            // Dropped by a call for the prover's time alone (docs/DECISIONS.md).
+            drop(given);
+            checked
+        }
         Err(fault) => put_fault(alloc, told, text, fault),
     }
 }
