@@ -114,7 +114,10 @@ pub(crate) fn journal_offered(
         → (why : Refusal) × (answer_to world.old offered.now.text.now ≡ Refused why)) }
 {
     let reply = world.step(alloc, event)?;
-    match refusal_of(&reply) {
+    let refusal = refusal_of(&reply);
+    // Dropped by a call for the prover's time alone (docs/DECISIONS.md).
+    drop(reply);
+    match refusal {
         None => Ok(true),
         Some(refusal) => {
             let bad = bad_record(world, event, offered.text, refusal);

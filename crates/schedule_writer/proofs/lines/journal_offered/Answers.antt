@@ -37,8 +37,8 @@ put_refusal-requires-clause-fault c = λ fault is.
     = sym (stepped w c.step.new.self b (event_of c.args.event.now) (reply_of c.in_ok-reply.reply) c.in_ok-reply.ensures.ok c.requires.event) ∙ c.in-Some.ensures in
     bad_batch_there w b.text fault (answer ∙ ap Refused is)
 
-pub returns-clause-told : goal.returns-clause-told
-returns-clause-told c =
+pub returns-in_ok-put_refusal-in-Some-clause-told : goal.returns-in_ok-put_refusal-in-Some-clause-told
+returns-in_ok-put_refusal-in-Some-clause-told c =
     let w = c.args.world.now in
     let b = offered_of c.args.offered.now in
     let same = c.in_ok-reply.ensures.unchanged.refused (ap is_refused c.in-Some.ensures) in
@@ -46,8 +46,8 @@ returns-clause-told c =
     = sym (stepped w c.step.new.self b (event_of c.args.event.now) (reply_of c.in_ok-reply.reply) c.in_ok-reply.ensures.ok c.requires.event) ∙ c.in-Some.ensures in
     refusal_told c.args.input.now c.args.told.now.items c.put_refusal.new.told.items w b c.in-Some.refusal answer (rw same at c.in_ok-put_refusal-in-Some.ensures)
 
-pub returns-clause-refused : goal.returns-clause-refused
-returns-clause-refused c = λ is.
+pub returns-in_ok-put_refusal-in-Some-clause-refused : goal.returns-in_ok-put_refusal-in-Some-clause-refused
+returns-in_ok-put_refusal-in-Some-clause-refused c = λ is.
     let w = c.args.world.now in
     let b = offered_of c.args.offered.now in (
       c.in-Some.refusal,
