@@ -1,4 +1,5 @@
 pub mod Passing
+pub mod Failing
 pub mod Between
 pub mod Fronts
 pub mod Refusing

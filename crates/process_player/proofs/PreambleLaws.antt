@@ -5,7 +5,7 @@ use Rattle.std.proofs.lemmas.Bool.{and_from, and_parts}
 use Rattle.metering_model.specs.Batch.{lacks}
 use Rattle.metering_model.specs.FirstFailure.{◌>>=◌}
 use Rattle.metering_model.specs.BatchReading.{Lines, fields_in, is_same, lines_in}
-use Rattle.metering_model.specs.Sheet.{Sheet}
+use Rattle.metering_model.specs.Sheet.{Sheet, Issuer}
 use Rattle.metering_model.specs.Transcript.{line}
 use Rattle.metering_model.proofs.Splitting.{lines_of_text}
 use Rattle.metering_model.proofs.StepLaws.{ok_same, ok_step_from, step_ok, test_step}
@@ -19,6 +19,7 @@ use Rattle.log_text.proofs.KeptFirst.{log_has_text}
 use Rattle.log_text.proofs.LogLaws.{log_read, short_read}
 use Rattle.process_player.specs.declared.heads.ProcessKind.{ProcessKind}
 use Rattle.process_player.specs.Starts.{Preamble, head_of, is_kind_of, kind_word, own_of, preamble_in}
+use Rattle.process_player.specs.Inner.Prices.{prices_in}
 use Rattle.process_player.proofs.Fronts.{first_by}
 
 -- ---- where the issuer is refused
@@ -26,14 +27,38 @@ use Rattle.process_player.proofs.Fronts.{first_by}
 err_step_from : {A B E : Type 0} (r : Result A E) (f : A → Result B E) (e : E) → r ≡ Err e → (r >>= f) ≡ Err e
 err_step_from r f e h = ap (λ s. s >>= f) h
 
-pub issuer_refused : (k : ProcessKind) (text : List ℕ) (u : Unread) (h : ReadLog × Unread) (s : Sheet × Unread) (fault : ScheduleFault)
-    → whole_of text ≡ Ok u → head_of k u ≡ Ok h → sheet_section h.1 ≡ Ok s → issuer_section s.1 ≡ Err fault → preamble_in k text ≡ Err fault
+pub issuer_refused : (u : Unread) (s : Sheet × Unread) (fault : ScheduleFault) → sheet_section u ≡ Ok s → issuer_section s.1 ≡ Err fault → prices_in u ≡ Err fault
+issuer_refused u s fault sheet issuer = ok_step_from (sheet_section u) _ s _ sheet (err_step_from (issuer_section s.1) _ fault issuer)
+
+pub prices_read : (u : Unread) (s : Sheet × Unread) (i : Issuer × Unread) → sheet_section u ≡ Ok s → issuer_section s.1 ≡ Ok i → prices_in u ≡ Ok (s.0, i.0, i.1)
+prices_read u s i sheet issuer = ok_step_from (sheet_section u) _ s _ sheet (ok_step_from (issuer_section s.1) _ i _ issuer refl)
+
+-- ---- a preamble is what stands first, the sheet and the issuer
+
+pub preamble_read : (k : ProcessKind) (text : List ℕ) (u : Unread) (h : ReadLog × Unread) (sheet : Sheet) (issuer : Issuer) (rest : Unread)
+    → whole_of text ≡ Ok u → head_of k u ≡ Ok h → prices_in h.1 ≡ Ok (sheet, issuer, rest)
+    → preamble_in k text ≡ Ok (record { own = h.0; sheet = sheet; issuer = issuer; rest = rest })
 unfolding preamble_in
-issuer_refused k text u h s fault whole head sheet issuer =
+preamble_read k text u h sheet issuer rest whole head prices =
+    let s = step_ok (sheet_section h.1) _ _ prices in
+    let i = step_ok (issuer_section s.0.1) _ _ s.2 in
     ok_step_from (whole_of text) _ u _ whole
     (ok_step_from (head_of k u) _ h _ head
-    (ok_step_from (sheet_section h.1) _ s _ sheet
-    (err_step_from (issuer_section s.1) _ fault issuer)))
+    (ok_step_from (sheet_section h.1) _ s.0 _ s.1
+    (ok_step_from (issuer_section s.0.1) _ i.0 _ i.1
+    (ap (λ (q : Sheet × Issuer × Unread). Ok (record { own = h.0; sheet = q.0; issuer = q.1; rest = q.2 })) (ok_same _ _ i.2)))))
+
+then_refused : {A B C E : Type 0} (r : Result A E) (f : A → Result B E) (g : A → Result C E) (e : E) → ((x : A) → f x ≡ Err e → g x ≡ Err e) → (r >>= f) ≡ Err e → (r >>= g) ≡ Err e
+then_refused (Ok x) f g e so h = so x h
+then_refused (Err y) f g e so h = let same : y ≡ e = cc in ap Err same
+
+pub prices_refused : (k : ProcessKind) (text : List ℕ) (u : Unread) (h : ReadLog × Unread) (fault : ScheduleFault)
+    → whole_of text ≡ Ok u → head_of k u ≡ Ok h → prices_in h.1 ≡ Err fault → preamble_in k text ≡ Err fault
+unfolding preamble_in
+prices_refused k text u h fault whole head prices =
+    ok_step_from (whole_of text) _ u _ whole
+    (ok_step_from (head_of k u) _ h _ head
+    (then_refused (sheet_section h.1) _ _ fault (λ s. then_refused (issuer_section s.1) _ _ fault (λ i none. absurd (cc))) prices))
 
 -- ---- its own line heads a log
 

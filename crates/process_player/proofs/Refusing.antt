@@ -1,21 +1,27 @@
 -- What is refused, where it is known what is ahead and still to come.
-use Rattle.std.proofs.Common.{◌≡◌, ◌≢◌, ℕ, ◌+◌, ◌<◌, ◌≤◌, List, [], ◌∷◌, ◌++◌, length, Option, Some, None, IfSome, inl, inr, sym, ap, ◌∙◌, subst, arith, append_assoc}
+use Rattle.std.proofs.Common.{◌≡◌, ◌≢◌, ℕ, ◌+◌, ◌<◌, ◌≤◌, false, List, [], ◌∷◌, ◌++◌, length, Option, Some, None, Result, Ok, Err, IfSome, inl, inr, refl, sym, ap, ◌∙◌, subst, arith, append_assoc}
 use Rattle.std.proofs.lemmas.List.{length-append}
 use Rattle.input_sections.specs.declared.faults.ScheduleFault.{ScheduleFault}
 use Rattle.input_sections.specs.declared.faults.ScheduleFault.TheVariants as section
+use Rattle.line_source.specs.declared.faults.SourceFault.{SourceFault}
+use Rattle.line_source.specs.declared.faults.SourceFault.TheVariants as source
+use Rattle.line_source.specs.Calls as calls
+use Rattle.line_source.specs.Calls.{ReadsWithin}
 use Rattle.line_source.specs.Reading.{ReadsUpTo, Takes}
-use Rattle.log_text.specs.LogText.{ReadLog}
+use Rattle.log_text.specs.LogText.{LogHead, ReadLog}
 use Rattle.metering_model.specs.Sheet.{Sheet, Issuer}
 use Rattle.metering_model.specs.Transcript.{line}
 use Rattle.process_text.specs.declared.processes.Process.{Process}
 use Rattle.process_player.specs.declared.faults.ProcessFault.{ProcessFault}
 use Rattle.process_player.specs.declared.faults.ProcessFault.TheVariants as fault
 use Rattle.process_player.specs.declared.heads.ProcessKind.{ProcessKind}
+use Rattle.process_player.specs.Faults.{tells_of_reader}
 use Rattle.process_player.specs.Refusals.{Behind, RefusesPreamble, Rejects}
-use Rattle.process_player.specs.Inner.Calls.{AreTaken, IsLong, IsOfReading, IsOfServing}
+use Rattle.process_player.specs.Inner.Calls.{AreTaken, IsLong, IsOfReading, IsOfServing, Reads}
 use Rattle.process_player.specs.Inner.Reading.{HasBegun, HasRead, Passes, ServesOne}
-use Rattle.process_player.specs.Inner.Refusing.{OfAll, RejectsPreamble, RejectsStored}
-use Rattle.process_player.specs.Inner.Told.{fault_of_section}
+use Rattle.process_player.specs.Inner.Refusing.{OfAll, RejectsLog, RejectsPreamble, RejectsStored}
+use Rattle.process_player.specs.Inner.Told.{fault_of_section, of_source}
+use Rattle.process_player.proofs.Failing.{silent_reads}
 
 -- ---- too long
 
@@ -49,6 +55,14 @@ taken_on k a b c (Some xs) (Some ys) None taken it = absurd it.passes.consumed
 taken_on k a b c (Some xs) (Some ys) (Some zs) taken it =
     let more = passes_taken it.passes in
     omega (arith, taken, more, length-append (line it.asked.first) it.asked.below, length-append it.asked.first (10 ∷ []))
+
+-- what was read since a mark is too long only where all of it is
+pub long_read : {mark a b : List ℕ} {r s : ℕ} {l m : Option (List ℕ)} → mark ≡ a → Takes mark b r s l m [] → r ≡ length a → 4_294_967_296 < s → IsLong a l
+long_read {l = None} same it marked long = tt
+long_read {l = Some xs} {m = None} same it marked long = absurd it.consumed
+long_read {a = a} {l = Some xs} {m = Some ys} same it marked long =
+    let counted = it.counted in
+    omega (arith, counted, marked, long, ap length it.consumed, length-append it.came ys, length-append a xs)
 
 pub serving_on : {P Q : Type 0} → (P → Q) → (e : ProcessFault) → IsOfServing P e → IsOfServing Q e
 serving_on so fault.Read it = tt
@@ -86,7 +100,37 @@ section_rejects k a None why it = tt
 section_rejects k a (Some xs) (section.Refused code number) it = it (λ h. cc)
 section_rejects k a (Some xs) section.OutOfMemory it = tt
 
+-- ---- what was stored
+
+pub source_rejects : (own : ReadLog) (next : ℕ) (e : SourceFault) (read : ℕ) (a : List ℕ) (l : Option (List ℕ)) → (4_294_967_296 < read → IsLong a l) → calls.IsOfReading e read
+    → OfAll (RejectsStored own next (of_source e)) a l
+source_rejects own next e read a None so it = tt
+source_rejects own next source.TooLong read a (Some xs) so it = so it
+source_rejects own next source.Read read a (Some xs) so it = tt
+source_rejects own next source.OutOfMemory read a (Some xs) so it = tt
+
+pub log_no_write : (head : LogHead) (log : List ℕ) {e : ProcessFault} → RejectsLog head log e → e ≢ fault.Write
+log_no_write head log it h = subst (RejectsLog head log) h it
+
+log_tells : (B : Type 0) (head : LogHead) (log : List ℕ) (e : ProcessFault) → RejectsLog head log e → tells_of_reader {A = B} (Err e) ≡ false
+log_tells B head log fault.Read it = absurd it
+log_tells B head log (fault.Section why) it = refl
+log_tells B head log (fault.Log code number) it = refl
+log_tells B head log fault.OtherLog it = refl
+log_tells B head log fault.NoJournal it = refl
+log_tells B head log fault.TooLong it = refl
+log_tells B head log fault.Write it = refl
+log_tells B head log fault.OutOfMemory it = refl
+
+pub log_reads : {A B : Type 0} {x : A} {r : Result B ProcessFault} {read f h : ℕ} (head : LogHead) (log : List ℕ) (e : ProcessFault)
+    → r ≡ Err e → RejectsLog head log e → ReadsWithin (Ok x) read f h → Reads r read f h
+log_reads {B = B} head log e is it reads = silent_reads is (log_tells B head log e it) reads
+
 -- ---- all of it
+
+pub memory_rejects : (k : ProcessKind) (a : List ℕ) (l : Option (List ℕ)) → OfAll (λ input. Rejects k input fault.OutOfMemory) a l
+memory_rejects k a None = tt
+memory_rejects k a (Some xs) = tt
 
 pub preamble_rejects : (k : ProcessKind) (e : ProcessFault) (a : List ℕ) (l : Option (List ℕ)) → OfAll (RejectsPreamble k e) a l → OfAll (λ input. Rejects k input e) a l
 preamble_rejects k e a None it = tt

@@ -46,6 +46,18 @@ all_ahead : {a a' b xs ys : List ℕ} {r s : ℕ} → a' ≡ a → Takes a' b r 
 all_ahead {a} {a'} {b} {xs} {ys} e t =
     ap (λ u. u ++ xs) (sym e) ∙ ap (λ u. a' ++ u) t.consumed ∙ sym (append_assoc a' t.came ys) ∙ ap (λ u. u ++ ys) t.joined
 
+-- no line comes
+none_first : (ls : TextLines) → length ls < 1 → ls ≡ []
+none_first [] few = refl
+none_first (l ∷ ls) few = absurd (omega (arith, few))
+
+pub none_comes : (own : ReadLog) (next : ℕ) {a a' b : List ℕ} {r s : ℕ} {l m : Option (List ℕ)} → a' ≡ a → Takes a' b r s l m [] → AreFewer 0 1 b m
+    → OfAll (RejectsStored own next (fault.Section (Refused code.Lines next))) a l
+none_comes own next {l = None} same it few = tt
+none_comes own next {l = Some xs} {m = None} same it few = absurd it.consumed
+none_comes own next {b = b} {l = Some xs} {m = Some ys} same it few =
+    ap (λ u. stored_lines next (lines_in u).lines) (all_ahead same it ∙ ap (λ u. b ++ u) few.1 ∙ append-nil b) ∙ ap (stored_lines next) (none_first (lines_in b).lines few.0)
+
 -- ---- the head of a log
 
 first_line : TextLines → List ℕ

@@ -1,5 +1,6 @@
 //! A process is begun, by what a stream gives first.
 
+ghost use Rattle.std.specs.Arc.{arc_value};
 ghost use Rattle.std.specs.Prelude.{◌≡◌, ◌<◌, ◌≤◌, length, IfErr, IfOk, MatchOption, unwrap_or, ◌≢◌, Err};
 ghost use Rattle.process_player.specs.declared.faults.ProcessFault.{ProcessFault};
 ghost use Rattle.metering_model.specs.Limits.{most_transcript_bytes};
@@ -14,7 +15,7 @@ ghost use Rattle.process_player.specs.Inner.Refusing.{OfAll};
 
 use crate::faults::ProcessFault;
 use crate::heads::ProcessKind;
-use crate::preambles::{Preamble, read_preamble};
+use crate::preambles::{Preamble, drop_issuer, drop_preamble, read_preamble};
 use crate::stored::read_stored;
 use counted_io::Source;
 use group_process::{AgentProcess, Group, NodeProcess};
@@ -27,6 +28,37 @@ use std::alloc::{AllocError, Global};
 use std::sync::Arc;
 
 /// The group of a head, a sheet and an issuer.
+fn group_with(head: &LogHead, sheet: Arc<Sheet>, issuer: Arc<Issuer>) -> Group
+    requires { IsLogHead head.now }
+    ensures { result ≡ group_said head.now (arc_value sheet) (arc_value issuer) }
+{
+    let (voters, observers, agents) = (head.voters(), head.observers(), head.agents());
+    Group::new(head.group(), voters, observers, agents, sheet, issuer)
+}
+
+/// Drops a sheet that is shared beside no other value, for the prover's time alone (docs/DECISIONS.md).
+fn drop_shared(_sheet: Arc<Sheet>) {}
+
+/// The same of an issuer that nobody shares yet.
+fn group_sharing(
+    alloc: Global,
+    head: &LogHead,
+    sheet: Arc<Sheet>,
+    issuer: Issuer,
+) -> Result<Group, AllocError>
+    requires { IsLogHead head.now }
+    ensures { IfOk result (λ group. group ≡ group_said head.now (arc_value sheet) issuer) }
+{
+    match Arc::new(alloc, issuer) {
+        Ok(issuer) => Ok(group_with(head, sheet, issuer)),
+        Err(_) => {
+            drop_shared(sheet);
+            Err(AllocError)
+        }
+    }
+}
+
+/// The same of a sheet and an issuer that nobody shares yet.
 fn group_of(
     alloc: Global,
     head: &LogHead,
@@ -34,23 +66,15 @@ fn group_of(
     issuer: Issuer,
 ) -> Result<Group, AllocError>
     requires { IsLogHead head.now }
-    ensures { IfOk result (λ group. group ≡ record {
-      name = head.now.group;
-      voters = head.now.voters;
-      observers = head.now.observers;
-      agents = head.now.agents;
-      sheet = sheet;
-      issuer = issuer;
-    }) }
+    ensures { IfOk result (λ group. group ≡ group_said head.now sheet issuer) }
 {
-    let Ok(sheet) = Arc::new(alloc, sheet) else {
-        return Err(AllocError);
-    };
-    let Ok(issuer) = Arc::new(alloc, issuer) else {
-        return Err(AllocError);
-    };
-    let (voters, observers, agents) = (head.voters(), head.observers(), head.agents());
-    Ok(Group::new(head.group(), voters, observers, agents, sheet, issuer))
+    match Arc::new(alloc, sheet) {
+        Ok(sheet) => group_sharing(alloc, head, sheet, issuer),
+        Err(_) => {
+            drop_issuer(issuer);
+            Err(AllocError)
+        }
+    }
 }
 
 /// The process that goes on with what is kept. None where that is no journal of the agent that it is.
@@ -77,9 +101,6 @@ fn kept_or(stored: Option<Kept>, own: Log) -> Kept
         None => own.into_kept(),
     }
 }
-
-/// Drops a preamble beside no other value, for the prover's time alone (docs/DECISIONS.md).
-fn drop_preamble(_preamble: Preamble) {}
 
 /// The process of a preamble, which goes on with what was stored last. None where that is no journal of the agent that it is.
 fn process_with(

@@ -77,6 +77,9 @@ fn log_of_line(alloc: Global, text: &[u8]) -> Result<Log, ScheduleFault>
     }
 }
 
+/// Drops a log beside no other value, for the prover's time alone (docs/DECISIONS.md).
+pub(crate) fn drop_log(_own: Log) {}
+
 /// Whether a line heads a log of such a process.
 pub(crate) fn heads_log(alloc: Global, kind: ProcessKind, text: &[u8]) -> Result<bool, AllocError>
     ensures { IfOk result (λ is. is ≡ heads_log kind text.now) }
@@ -103,6 +106,7 @@ fn read_own<'a>(
     if is_kind_of(kind, own.head().who()) {
         Ok((own, rest))
     } else {
+        drop_log(own);
         Err(other_head())
     }
 }

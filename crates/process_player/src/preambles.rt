@@ -9,11 +9,12 @@ ghost use Rattle.line_source.specs.Reading.{ReadsUpTo, Takes};
 ghost use Rattle.process_player.specs.Starts.{preamble_in};
 ghost use Rattle.process_player.specs.Inner.Calls.{IsOfReading, Reads};
 ghost use Rattle.process_player.specs.Inner.Fronts.{AreHeadsTo, IsPreambleTo, IsSectionTo, end_of};
+ghost use Rattle.process_player.specs.Inner.Prices.{prices_in};
 ghost use Rattle.process_player.specs.Inner.Reading.{HasRead};
 ghost use Rattle.process_player.specs.Inner.Refusing.{OfAll, RejectsPreamble};
 
 use crate::faults::{ProcessFault, fault_of_section};
-use crate::heads::{ProcessKind, first_word, heads_log, read_head};
+use crate::heads::{ProcessKind, drop_log, first_word, heads_log, read_head};
 use byte_text::is_same;
 use counted_io::Source;
 use input_sections::{
@@ -37,6 +38,22 @@ pub(crate) struct Preamble {
     pub(crate) line: u32,
 }
 
+/// Drops a sheet beside no other value, for the prover's time alone (docs/DECISIONS.md).
+fn drop_sheet(_sheet: Sheet) {}
+
+/// Drops an issuer so.
+pub(crate) fn drop_issuer(_issuer: Issuer) {}
+
+/// Drops a preamble, part by part.
+pub(crate) fn drop_preamble(preamble: Preamble) {
+    let Preamble {
+        own, sheet, issuer, ..
+    } = preamble;
+    drop_log(own);
+    drop_sheet(sheet);
+    drop_issuer(issuer);
+}
+
 /// What is judged of what is ahead, from its beginning to that place.
 #[derive(Clone, Copy)]
 pub(crate) enum Judged {
@@ -56,6 +73,23 @@ fn end_of(judged: Judged) -> usize
     }
 }
 
+/// The sheet and the issuer behind what stands first, and the number of the line behind them.
+fn read_prices(alloc: Global, unread: &Left<'_>) -> Result<(Sheet, Issuer, u32), ScheduleFault>
+    ensures read { IfOk result (λ r. (rest : sections.Unread)
+        × (prices_in unread.now ≡ Ok (r.0, r.1, rest)) × (rest.line ≡ r.2)) }
+    ensures refused { IfErr result
+        (λ fault. fault ≢ ScheduleFault.OutOfMemory → prices_in unread.now ≡ Err fault) }
+{
+    let (sheet, below) = read_sheet(alloc, unread)?;
+    match read_issuer(alloc, &below) {
+        Ok((issuer, rest)) => Ok((sheet, issuer, rest.line())),
+        Err(fault) => {
+            drop_sheet(sheet);
+            Err(fault)
+        }
+    }
+}
+
 /// The preamble that a text is.
 #[tactic(auto, unfolding(crate::specs::Starts::preamble_in))]
 fn preamble_in(alloc: Global, kind: ProcessKind, text: &[u8]) -> Result<Preamble, ScheduleFault>
@@ -70,15 +104,19 @@ fn preamble_in(alloc: Global, kind: ProcessKind, text: &[u8]) -> Result<Preamble
         (λ fault. fault ≢ ScheduleFault.OutOfMemory → preamble_in kind text.now ≡ Err fault) }
 {
     let unread = Left::whole(text)?;
-    let (own, unread) = read_head(alloc, kind, &unread)?;
-    let (sheet, unread) = read_sheet(alloc, &unread)?;
-    let (issuer, unread) = read_issuer(alloc, &unread)?;
-    Ok(Preamble {
-        own,
-        sheet,
-        issuer,
-        line: unread.line(),
-    })
+    let (own, below) = read_head(alloc, kind, &unread)?;
+    match read_prices(alloc, &below) {
+        Ok((sheet, issuer, line)) => Ok(Preamble {
+            own,
+            sheet,
+            issuer,
+            line,
+        }),
+        Err(fault) => {
+            drop_log(own);
+            Err(fault)
+        }
+    }
 }
 
 /// Reads until a section is ahead behind the first bytes, a line with a word and a number of lines, and these. Where it isn't

@@ -198,6 +198,9 @@ fn write_begun<W: Sink>(
     }
 }
 
+/// Drops a process beside no other value, for the prover's time alone (docs/DECISIONS.md).
+fn drop_process(_process: Process) {}
+
 /// Begins the process that a reader gives first, and has it do all that it is asked behind that: a command is done and answered
 /// when all of it was read. Up to the issuer there are at most 16,777,216 bytes; what was stored, and a command, has at most
 /// 4,294,967,296.
@@ -242,7 +245,14 @@ pub fn process_text<R: Source, W: Sink>(
     };
     let mut text = Vec::new(alloc);
     match write_begun(&process, &mut text, writer) {
-        Ok(()) => serve(alloc, &mut process, &mut unread, reader, &mut text, writer),
-        Err(fault) => Err(fault),
+        Ok(()) => {
+            let ended = serve(alloc, &mut process, &mut unread, reader, &mut text, writer);
+            drop_process(process);
+            ended
+        }
+        Err(fault) => {
+            drop_process(process);
+            Err(fault)
+        }
     }
 }

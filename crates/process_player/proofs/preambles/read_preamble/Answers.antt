@@ -1,8 +1,9 @@
 -- Just what is read as a preamble is taken, and what is judged is refused.
-use Rattle.std.proofs.Common.{◌∙◌, sym, ap, length, subst, arith}
+use Rattle.std.proofs.Common.{◌∙◌, ◌≤◌, Err, sym, ap, length, subst, arith}
 use Rattle.std.proofs.lemmas.Result.{err_from_is_err_and}
 use Rattle.process_player.specs.Inner.Refusing.{OfAll, RejectsPreamble}
 use Rattle.process_player.proofs.Ends.{preamble_refused, preamble_taken}
+use Rattle.process_player.proofs.Failing.{answers_on, handed, handed_reads, never_write, none_found, ok_no_write, read_still, reading_no_write, section_behind, section_no_write}
 use Rattle.process_player.proofs.Refusing.{never_long, reading_rejects, section_rejects}
 use Rattle.process_player.proofs.preambles.read_preamble.Goals as goal
 
@@ -31,3 +32,38 @@ returns-in_err-judged-clause-refused g c =
     rw (p.1, p.2)
     (reading_rejects c.args.kind (never_long c.preamble_end.ensures.takes c.preamble_end.ensures.block (c.mark.ensures.read ∙ sym (ap length c.mark.ensures.bytes)) (omega (arith, c.mark.ensures.within, c.requires.read)))
     c.in_err-judged.field-0.0 c.args.unread.now.bytes (g.S.Source.remaining c.args.source.now) c.in_err-judged.ensures.others)
+
+-- ---- for what the search finds too, and takes long for
+
+pub preamble_end-requires-clause-read : goal.preamble_end-requires-clause-read
+preamble_end-requires-clause-read g c = omega (arith, c.mark.ensures.within, c.requires.read)
+
+pub returns-in_err-judged-clause-read : goal.returns-in_err-judged-clause-read
+returns-in_err-judged-clause-read g c = none_found (handed (err_from_is_err_and c.from_residual.result c.from_residual.ensures.1)) _
+
+pub returns-in_err-judged-clause-reads : goal.returns-in_err-judged-clause-reads
+returns-in_err-judged-clause-reads g c = handed_reads (handed (err_from_is_err_and c.from_residual.result c.from_residual.ensures.1)) c.in_err-judged.ensures.reads
+
+pub returns-in_err-judged-clause-no_write : goal.returns-in_err-judged-clause-no_write
+returns-in_err-judged-clause-no_write g c = never_write (handed (err_from_is_err_and c.from_residual.result c.from_residual.ensures.1)) (reading_no_write _ c.in_err-judged.ensures.others)
+
+pub take-requires : goal.take-requires
+take-requires g c = subst (λ n. n ≤ length c.preamble_end.new.unread.bytes) (sym c.end_of-end.ensures) c.in_ok-judged.ensures.within
+
+pub returns-in-Ok-clause-refused : goal.returns-in-Ok-clause-refused
+returns-in-Ok-clause-refused g c = tt
+
+pub returns-in-Ok-clause-reads : goal.returns-in-Ok-clause-reads
+returns-in-Ok-clause-reads g c = read_still c.take.ensures.read (answers_on _ c.in_ok-judged.ensures.reads)
+
+pub returns-in-Ok-clause-no_write : goal.returns-in-Ok-clause-no_write
+returns-in-Ok-clause-no_write g c = ok_no_write
+
+pub returns-in-Err-clause-read : goal.returns-in-Err-clause-read
+returns-in-Err-clause-read g c = tt
+
+pub returns-in-Err-clause-reads : goal.returns-in-Err-clause-reads
+returns-in-Err-clause-reads g c = section_behind c.in-Err.fault (ap Err c.fault_of_section.ensures) c.in_ok-judged.ensures.reads
+
+pub returns-in-Err-clause-no_write : goal.returns-in-Err-clause-no_write
+returns-in-Err-clause-no_write g c = never_write (ap Err c.fault_of_section.ensures) (section_no_write c.in-Err.fault)

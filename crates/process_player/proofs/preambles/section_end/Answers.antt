@@ -1,11 +1,13 @@
 -- A line that is there has its line feed, and says how many lines stand below it.
+use Rattle.std.proofs.lemmas.Result.{err_from_is_err_and}
 use Rattle.std.proofs.Common.{◌≡◌, ◌+◌, ◌-◌, ◌≤◌, Some, take, drop, length, sym, ap, ◌∙◌, arith}
 use Rattle.input_sections.specs.Sections.{number_behind}
 use Rattle.line_source.specs.Lines.{AreBetween}
-use Rattle.line_source.proofs.Taking.{reads_on}
+use Rattle.line_source.proofs.Taking.{reads_on, up_to_on}
 use Rattle.process_player.proofs.AtHand.{at_hand_within}
 use Rattle.process_player.proofs.Between.{between_long}
-use Rattle.process_player.proofs.Ends.{absent, not_said, section_found, too_few}
+use Rattle.process_player.proofs.Ends.{absent, none_opens, not_said, section_found, too_few}
+use Rattle.process_player.proofs.Failing.{answer_reads, handed, none_found, reads_behind, source_others, source_reads, still_there}
 use Rattle.process_player.proofs.preambles.section_end.Given as given
 use Rattle.process_player.proofs.preambles.section_end.Goals.{In-Lines, In-Some}
 use Rattle.process_player.proofs.preambles.section_end.Goals as goal
@@ -57,3 +59,112 @@ returns-clause-found g c =
 
 pub returns-in_default-2-clause-takes : goal.returns-in_default-2-clause-takes
 returns-in_default-2-clause-takes g c = reads_on c.in_ok-opening.ensures.takes c.in_ok-end.ensures.takes
+
+-- ---- for what the search finds too, and takes long for
+
+pub returns-in_err-opening-clause-takes : goal.returns-in_err-opening-clause-takes
+returns-in_err-opening-clause-takes g c = c.in_err-opening.ensures.takes
+
+pub returns-in_err-opening-clause-found : goal.returns-in_err-opening-clause-found
+returns-in_err-opening-clause-found g c = none_found (handed (err_from_is_err_and c.from_residual.result c.from_residual.ensures.1)) _
+
+pub returns-in_err-opening-clause-within : goal.returns-in_err-opening-clause-within
+returns-in_err-opening-clause-within g c = none_found (handed (err_from_is_err_and c.from_residual.result c.from_residual.ensures.1)) _
+
+pub returns-in_err-opening-clause-block : goal.returns-in_err-opening-clause-block
+returns-in_err-opening-clause-block g c = c.in_err-opening.ensures.block
+
+pub returns-in_err-opening-clause-reads : goal.returns-in_err-opening-clause-reads
+returns-in_err-opening-clause-reads g c = source_reads (handed (err_from_is_err_and c.from_residual.result c.from_residual.ensures.1)) c.in_err-opening.ensures.reads
+
+pub returns-in_err-opening-clause-others : goal.returns-in_err-opening-clause-others
+returns-in_err-opening-clause-others g c = source_others (handed (err_from_is_err_and c.from_residual.result c.from_residual.ensures.1)) c.in_err-opening.ensures.reads
+
+pub returns-in_default-clause-takes : goal.returns-in_default-clause-takes
+returns-in_default-clause-takes g c = c.in_ok-opening.ensures.takes
+
+pub returns-in_default-clause-found : goal.returns-in_default-clause-found
+returns-in_default-clause-found g c =
+    none_opens c.args.word.now c.args.most c.args.from (length c.ahead.result.now) _ _ (still_there c.requires.from c.in_ok-opening.ensures.takes) (ap length c.ahead.ensures)
+    (absent c.args.from 1 c.lines_end_within.new.unread.bytes (g.S.Source.remaining c.lines_end_within.new.source) c.in_ok-opening.field-0 c.in_ok-opening.ensures.found c.in_default.not-Lines)
+
+pub returns-in_default-clause-within : goal.returns-in_default-clause-within
+returns-in_default-clause-within g c = omega (arith, ap length c.ahead.ensures)
+
+pub returns-in_default-clause-block : goal.returns-in_default-clause-block
+returns-in_default-clause-block g c = c.in_ok-opening.ensures.block
+
+pub returns-in_default-clause-reads : goal.returns-in_default-clause-reads
+returns-in_default-clause-reads g c = answer_reads _ c.in_ok-opening.ensures.reads
+
+pub returns-in_default-clause-others : goal.returns-in_default-clause-others
+returns-in_default-clause-others g c = tt
+
+pub slice_bounds-number_behind-end : goal.slice_bounds-number_behind-end
+slice_bounds-number_behind-end g c = let within = (line_there g (goal.at.slice_bounds-number_behind-end g c).In-Lines).within in omega (arith, within, ap length c.ahead-2.ensures)
+
+pub returns-in_default-number_behind-clause-takes : goal.returns-in_default-number_behind-clause-takes
+returns-in_default-number_behind-clause-takes g c = c.in_ok-opening.ensures.takes
+
+pub returns-in_default-number_behind-clause-within : goal.returns-in_default-number_behind-clause-within
+returns-in_default-number_behind-clause-within g c = (line_there g (goal.at.returns-in_default-number_behind-clause-within g c).In-Lines).within
+
+pub returns-in_default-number_behind-clause-block : goal.returns-in_default-number_behind-clause-block
+returns-in_default-number_behind-clause-block g c = c.in_ok-opening.ensures.block
+
+pub returns-in_default-number_behind-clause-reads : goal.returns-in_default-number_behind-clause-reads
+returns-in_default-number_behind-clause-reads g c = answer_reads _ c.in_ok-opening.ensures.reads
+
+pub returns-in_default-number_behind-clause-others : goal.returns-in_default-number_behind-clause-others
+returns-in_default-number_behind-clause-others g c = tt
+
+pub lines_end_within-requires-2-clause-read : goal.lines_end_within-requires-2-clause-read
+lines_end_within-requires-2-clause-read g c = c.in_ok-opening.ensures.reads.within
+
+pub lines_end_within-requires-2-clause-from : goal.lines_end_within-requires-2-clause-from
+lines_end_within-requires-2-clause-from g c = (line_there g (goal.at.lines_end_within-requires-2-clause-from g c).In-Lines).within
+
+pub returns-in_err-end-clause-takes : goal.returns-in_err-end-clause-takes
+returns-in_err-end-clause-takes g c = reads_on c.in_ok-opening.ensures.takes c.in_err-end.ensures.takes
+
+pub returns-in_err-end-clause-found : goal.returns-in_err-end-clause-found
+returns-in_err-end-clause-found g c = none_found (handed (err_from_is_err_and c.from_residual-in_err-end.result c.from_residual-in_err-end.ensures.1)) _
+
+pub returns-in_err-end-clause-within : goal.returns-in_err-end-clause-within
+returns-in_err-end-clause-within g c = none_found (handed (err_from_is_err_and c.from_residual-in_err-end.result c.from_residual-in_err-end.ensures.1)) _
+
+pub returns-in_err-end-clause-block : goal.returns-in_err-end-clause-block
+returns-in_err-end-clause-block g c = up_to_on 16_777_216 c.args.unread.now.bytes c.lines_end_within.new.unread.bytes c.lines_end_within-2.new.unread.bytes c.in_ok-opening.ensures.block c.in_err-end.ensures.block
+
+pub returns-in_err-end-clause-reads : goal.returns-in_err-end-clause-reads
+returns-in_err-end-clause-reads g c = reads_behind c.in_ok-opening.ensures.reads (source_reads (handed (err_from_is_err_and c.from_residual-in_err-end.result c.from_residual-in_err-end.ensures.1)) c.in_err-end.ensures.reads)
+
+pub returns-in_err-end-clause-others : goal.returns-in_err-end-clause-others
+returns-in_err-end-clause-others g c = source_others (handed (err_from_is_err_and c.from_residual-in_err-end.result c.from_residual-in_err-end.ensures.1)) c.in_err-end.ensures.reads
+
+pub returns-in_default-2-clause-within : goal.returns-in_default-2-clause-within
+returns-in_default-2-clause-within g c = omega (arith, ap length c.ahead-in_default-2.ensures)
+
+pub returns-in_default-2-clause-block : goal.returns-in_default-2-clause-block
+returns-in_default-2-clause-block g c = up_to_on 16_777_216 c.args.unread.now.bytes c.lines_end_within.new.unread.bytes c.lines_end_within-2.new.unread.bytes c.in_ok-opening.ensures.block c.in_ok-end.ensures.block
+
+pub returns-in_default-2-clause-reads : goal.returns-in_default-2-clause-reads
+returns-in_default-2-clause-reads g c = reads_behind c.in_ok-opening.ensures.reads (answer_reads _ c.in_ok-end.ensures.reads)
+
+pub returns-in_default-2-clause-others : goal.returns-in_default-2-clause-others
+returns-in_default-2-clause-others g c = tt
+
+pub returns-clause-takes : goal.returns-clause-takes
+returns-clause-takes g c = reads_on c.in_ok-opening.ensures.takes c.in_ok-end.ensures.takes
+
+pub returns-clause-within : goal.returns-clause-within
+returns-clause-within g c = (rw c.in-Lines-2.is at c.in_ok-end.ensures.found).within
+
+pub returns-clause-block : goal.returns-clause-block
+returns-clause-block g c = up_to_on 16_777_216 c.args.unread.now.bytes c.lines_end_within.new.unread.bytes c.lines_end_within-2.new.unread.bytes c.in_ok-opening.ensures.block c.in_ok-end.ensures.block
+
+pub returns-clause-reads : goal.returns-clause-reads
+returns-clause-reads g c = reads_behind c.in_ok-opening.ensures.reads (answer_reads _ c.in_ok-end.ensures.reads)
+
+pub returns-clause-others : goal.returns-clause-others
+returns-clause-others g c = tt

@@ -15,25 +15,25 @@ begun g c =
 pub begin-requires-clause-at_hand : goal.begin-requires-clause-at_hand
 begin-requires-clause-at_hand g c = omega (arith, ap length c.new-unread.ensures.bytes)
 
-pub serve-requires-clause-at_hand : goal.serve-requires-clause-at_hand
-serve-requires-clause-at_hand g c = c.in-Ok.ensures.begun.at_hand
+pub serve-ended-requires-clause-at_hand : goal.serve-ended-requires-clause-at_hand
+serve-ended-requires-clause-at_hand g c = c.in-Ok.ensures.begun.at_hand
 
 pub returns-in-Ok-write_begun-clause-done : goal.returns-in-Ok-write_begun-clause-done
-returns-in-Ok-write_begun-clause-done g c = on_ok c.serve.result (ends_of (begun g c) c.in-Ok-write_begun.ensures.written) c.serve.ensures.ended
+returns-in-Ok-write_begun-clause-done g c = on_ok c.serve-ended.result (ends_of (begun g c) c.in-Ok-write_begun.ensures.written) c.serve-ended.ensures.ended
 
 pub returns-in-Ok-write_begun-clause-whole : goal.returns-in-Ok-write_begun-clause-whole
 returns-in-Ok-write_begun-clause-whole g c =
-    on_err c.serve.result
+    on_err c.serve-ended.result
     (λ fault it other.
     let so = it other in
-    inr (record { last = so.0; piece = c.serve.new.unread.bytes; runs = runs_of (begun g c) c.in-Ok-write_begun.ensures.written so.1 }))
-    c.serve.ensures.stopped
+    inr (record { last = so.0; piece = c.serve-ended.new.unread.bytes; runs = runs_of (begun g c) c.in-Ok-write_begun.ensures.written so.1 }))
+    c.serve-ended.ensures.stopped
 
 pub returns-in-Ok-write_begun-clause-torn : goal.returns-in-Ok-write_begun-clause-torn
-returns-in-Ok-write_begun-clause-torn g c is = inr (torn_later_of (begun g c) c.in-Ok-write_begun.ensures.written (c.serve.ensures.torn is))
+returns-in-Ok-write_begun-clause-torn g c is = inr (torn_later_of (begun g c) c.in-Ok-write_begun.ensures.written (c.serve-ended.ensures.torn is))
 
 pub returns-in-Err-clause-refused : goal.returns-in-Err-clause-refused
 returns-in-Err-clause-refused g c = known_input _ _ _ _ c.new-unread.ensures.bytes c.in-Err.ensures.refused
 
 pub returns-in-Ok-write_begun-clause-refused : goal.returns-in-Ok-write_begun-clause-refused
-returns-in-Ok-write_begun-clause-refused g c = on_err c.serve.result (serving_rejects (begun g c)) c.serve.ensures.others
+returns-in-Ok-write_begun-clause-refused g c = on_err c.serve-ended.result (serving_rejects (begun g c)) c.serve-ended.ensures.others
