@@ -11,7 +11,7 @@ use Rattle.metering_model.specs.World as world
 use Rattle.metering_model.specs.declared.Refusal.TheVariants.{Missing}
 use Rattle.process_laws.specs.LocalSteps as model
 use Rattle.packet_text.specs.PacketText.{lines_of_batch}
-use Rattle.log_text.specs.LogText.{Takes, section_line}
+use Rattle.log_text.specs.LogText.{Increment, Takes, section_line}
 use Rattle.group_events.specs.Batches.{batch_of}
 use Rattle.group_process.specs.Added.{AddsJust}
 use Rattle.group_process.specs.Answers.{exported_answer, refusal_of}
@@ -19,7 +19,7 @@ use Rattle.group_process.specs.Journals.{DoesAsAgent, journaled_answer}
 use Rattle.group_process.specs.declared.agents.Journaled.{Journaled}
 use Rattle.group_process.specs.declared.refusals.ProcessRefusal.{ProcessRefusal}
 use Rattle.group_process.specs.Selves.{NodeSelf, AgentSelf, kept_of_node, kept_of_agent}
-use Rattle.process_text.specs.Answers.{answer_text, packet_sent_text, process_refusal_text, refused_text, words_text}
+use Rattle.process_text.specs.Answers.{added_text, answer_text, packet_sent_text, process_refusal_text, refused_text, words_text}
 use Rattle.process_text.specs.Requests.{AsksNode, AsksAgent}
 use Rattle.process_text.specs.Inner.Written.{AppendsNode, AppendsAgent}
 
@@ -38,6 +38,20 @@ batch_line before group n =
     append_assoc (before ++ codes "P1|") group (batch_numbered n ++ 10 ∷ [])
     ∙ append_assoc before (codes "P1|") (group ++ (batch_numbered n ++ 10 ∷ []))
     ∙ ap (λ t. before ++ (codes "P1|" ++ t)) (sym (append_assoc group (batch_numbered n) (10 ∷ [])))
+
+-- what a log gets, what is sent to all, and a line that ends with a number
+pub answer_put : (name name' : List ℕ) (added : Option Increment) (packet : world.Packet) (before one two three word : List ℕ) (number number' : ℕ)
+    → one ≡ before ++ added_text added → two ≡ one ++ packet_sent_text name' None packet → three ≡ two ++ with_number word number'
+    → name' ≡ name → number' ≡ number
+    → three ++ 10 ∷ [] ≡ before ++ (added_text added ++ packet_sent_text name None packet ++ line (with_number word number))
+answer_put name name' added packet before one two three word number number' first second third is_name is_number =
+    let gets = added_text added in
+    let sent : List ℕ → List ℕ = λ n. packet_sent_text n None packet in
+    let told : ℕ → List ℕ = λ n. line (with_number word n) in
+    ap (λ t. t ++ 10 ∷ []) third ∙ append_assoc two (with_number word number') (10 ∷ []) ∙ ap (λ t. t ++ told number') second
+    ∙ ap (λ t. t ++ sent name' ++ told number') first
+    ∙ joined before gets (sent name') (told number') ∙ ap (λ t. before ++ t) (sym (append_assoc gets (sent name') (told number')))
+    ∙ ap₂ (λ n k. before ++ (gets ++ sent n ++ told k)) is_name is_number
 
 -- what stands above a file, of so many lines
 abbrev exported_line : (period lines : ℕ) → List ℕ
