@@ -47,7 +47,10 @@ pub(crate) fn drop_issuer(_issuer: Issuer) {}
 /// Drops a preamble, part by part.
 pub(crate) fn drop_preamble(preamble: Preamble) {
     let Preamble {
-        own, sheet, issuer, ..
+        own,
+        sheet,
+        issuer,
+        ..
     } = preamble;
     drop_log(own);
     drop_sheet(sheet);
