@@ -22,6 +22,12 @@ use Rattle.process_player.specs.Inner.Told.{fault_of_section, of_source}
 pub handed : {A : Type 0} {r : Result A ProcessFault} {e : ProcessFault} → (y : ProcessFault) × (r ≡ Err y) × (y ≡ e) → r ≡ Err e
 handed told = told.1 ∙ ap Err told.2
 
+err_no_ok : {A : Type 0} {x : A} {e : ProcessFault} → ◌≢◌ {A = Result A ProcessFault} (Err e) (Ok x)
+err_no_ok h = cc
+
+pub one_fault : {A : Type 0} {x y : ProcessFault} → ◌≡◌ {A = Result A ProcessFault} (Err x) (Err y) → x ≡ y
+one_fault same = cc
+
 module _ {A : Type 0} {r : Result A ProcessFault} {e : ProcessFault} (is : r ≡ Err e) where
   pub none_found : (P : A → Type 0) → IfOk r P
   none_found P = subst (λ (x : Result A ProcessFault). IfOk x P) (sym is) tt
@@ -31,11 +37,11 @@ module _ {A : Type 0} {r : Result A ProcessFault} {e : ProcessFault} (is : r ≡
 
   pub never_write : e ≢ Write → r ≢ Err Write
   never_write other h = other (one_fault (sym is ∙ h))
-    where
-      one_fault : {x y : ProcessFault} → ◌≡◌ {A = Result A ProcessFault} (Err x) (Err y) → x ≡ y
-      one_fault same = cc
 
-tells_same : (A B : Type 0) (e : ProcessFault) → tells_of_reader {A = B} (Err e) ≡ tells_of_reader {A = A} (Err e)
+  pub no_answer : (P : Type 0) {x : A} → r ≡ Ok x → P
+  no_answer P answered = absurd (err_no_ok (sym is ∙ answered))
+
+pub tells_same : (A B : Type 0) (e : ProcessFault) → tells_of_reader {A = B} (Err e) ≡ tells_of_reader {A = A} (Err e)
 tells_same A B Read = refl
 tells_same A B (Section fault) = refl
 tells_same A B (Log code line) = refl

@@ -1,5 +1,6 @@
 pub mod Passing
 pub mod Failing
+pub mod Stopping
 pub mod Between
 pub mod Fronts
 pub mod Refusing

@@ -1,7 +1,8 @@
-use Rattle.std.proofs.Common.{[], ap, arith, length, subst, inr}
+use Rattle.std.proofs.Common.{[], ap, arith, length, subst, inl, inr}
 use Rattle.process_player.specs.Inner.Reading.{HasBegun}
 use Rattle.process_player.proofs.Commands.{ends_of, on_err, on_ok, runs_of, torn_later_of}
 use Rattle.process_player.proofs.Refusing.{known_input, serving_rejects}
+use Rattle.process_player.proofs.Stopping.{answer_rejects, refusal_no_write}
 use Rattle.process_player.proofs.serving.process_text.Given as given
 use Rattle.process_player.proofs.serving.process_text.Goals.{After-drop-unread-inside-in-Ok-write_begun}
 use Rattle.process_player.proofs.serving.process_text.Goals as goal
@@ -37,3 +38,14 @@ returns-in-Err-clause-refused g c = known_input _ _ _ _ c.new-unread.ensures.byt
 
 pub returns-in-Ok-write_begun-clause-refused : goal.returns-in-Ok-write_begun-clause-refused
 returns-in-Ok-write_begun-clause-refused g c = on_err c.serve-ended.result (serving_rejects (begun g c)) c.serve-ended.ensures.others
+
+-- ---- for what the search finds too, and takes long for
+
+pub returns-clause-untouched : goal.returns-clause-untouched
+returns-clause-untouched g c = λ it. (c.in-Err-write_begun.ensures.others (refusal_no_write it)).1
+
+pub returns-clause-whole : goal.returns-clause-whole
+returns-clause-whole g c = λ other. inl (c.in-Err-write_begun.ensures.others other).1
+
+pub returns-clause-refused : goal.returns-clause-refused
+returns-clause-refused g c = answer_rejects c.args.kind _ c.in-Err-write_begun.fault (g.R.Source.remaining c.args.reader.now) c.in-Err-write_begun.ensures.others

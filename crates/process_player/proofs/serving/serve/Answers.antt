@@ -1,7 +1,9 @@
-use Rattle.std.proofs.Common.{rules, ◌∙◌, [], refl, append-nil, arith}
+use Rattle.std.proofs.Common.{rules, ◌∙◌, [], Err, refl, ap, append-nil, arith}
 use Rattle.std.proofs.KnownBytes.{Appends-nil, Consumes-nil}
 use Rattle.process_player.proofs.Commands.{ends_it, goes_by, goes_on}
 use Rattle.process_player.proofs.Refusing.{long_before, many_taken, none_taken, serving_on, taken_on}
+use Rattle.process_player.proofs.Failing.{never_write, ok_no_write, one_fault}
+use Rattle.process_player.proofs.Stopping.{stops_reading}
 use Rattle.process_player.proofs.serving.serve.Goals as goal
 
 pub loop-init : goal.loop-init
@@ -50,3 +52,25 @@ loop-preserved g c = record {
   reads = c.in-Ok.ensures.calls.reads ∙ c.loop.invariant.reads;
   writes = c.in-Ok.ensures.calls.writes ∙ c.loop.invariant.writes;
 }
+
+-- ---- for what the search finds too, and takes long for
+
+pub returns-then-not-is_more-clause-torn : goal.returns-then-not-is_more-clause-torn
+returns-then-not-is_more-clause-torn g c = λ is. absurd (ok_no_write is)
+
+pub returns-in-Err-clause-torn : goal.returns-in-Err-clause-torn
+returns-in-Err-clause-torn g c =
+    λ is. record {
+      last = c.loop.process;
+      rest = c.loop.unread.bytes;
+      between = g.W.Sink.contents c.loop.writer;
+      middle = g.S.Source.remaining c.loop.source;
+      continues = c.loop.invariant.serves;
+      stops = c.in-Err.ensures.torn (ap Err (one_fault is));
+    }
+
+pub returns-in-Err-clause-reads : goal.returns-in-Err-clause-reads
+returns-in-Err-clause-reads g c = stops_reading c.in-Err.ensures.calls c.loop.invariant.reads
+
+pub returns-clause-torn : goal.returns-clause-torn
+returns-clause-torn g c = λ is. absurd (never_write refl (λ h. cc) is)
