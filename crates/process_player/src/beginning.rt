@@ -14,7 +14,7 @@ ghost use Rattle.process_player.specs.Inner.Reading.{HasBegun};
 ghost use Rattle.process_player.specs.Inner.Refusing.{OfAll};
 
 use crate::faults::ProcessFault;
-use crate::heads::ProcessKind;
+use crate::heads::{ProcessKind, drop_log};
 use crate::preambles::{Preamble, drop_issuer, drop_preamble, read_preamble};
 use crate::stored::read_stored;
 use counted_io::Source;
@@ -97,7 +97,10 @@ fn kept_or(stored: Option<Kept>, own: Log) -> Kept
     ensures { result ≡ unwrap_or stored own.kept }
 {
     match stored {
-        Some(kept) => kept,
+        Some(kept) => {
+            drop_log(own);
+            kept
+        }
         None => own.into_kept(),
     }
 }

@@ -85,7 +85,11 @@ pub(crate) fn heads_log(alloc: Global, kind: ProcessKind, text: &[u8]) -> Result
     ensures { IfOk result (λ is. is ≡ heads_log kind text.now) }
 {
     match log_of_line(alloc, text) {
-        Ok(own) => Ok(is_kind_of(kind, own.head().who())),
+        Ok(own) => {
+            let is_kind = is_kind_of(kind, own.head().who());
+            drop_log(own);
+            Ok(is_kind)
+        }
         Err(ScheduleFault::Refused { .. }) => Ok(false),
         Err(ScheduleFault::OutOfMemory) => Err(AllocError),
     }
