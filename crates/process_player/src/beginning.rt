@@ -126,6 +126,7 @@ fn process_with(
     } = preamble;
     let who = own.head().who();
     let Ok(group) = group_of(alloc, own.head(), sheet, issuer) else {
+        drop_log(own);
         return Err(AllocError);
     };
     let kept = kept_or(stored, own);
