@@ -10,7 +10,7 @@ use std::alloc::{AllocError, Global};
 use std::ops::Range;
 use std::sync::Wait;
 use std::thread;
-use std::thread::{JoinHandle, Threads};
+use std::thread::{JoinHandle, Scope, Threads};
 
 /// What the threads of a run are to do: how many nodes there are, the texts of each agent, how many periods the nodes
 /// are to export, and how often each asks its gate.
@@ -81,27 +81,42 @@ fn join_all<R: Threads>(
     joined
 }
 
-/// The threads of a run that were started, and whether all were.
+/// The threads of a run that were started, whether all were, and what those that are joined brought back.
 #[derive(Drop)]
 struct Started {
     nodes: Vec<JoinHandle<Brought>>,
     agents: Vec<JoinHandle<Brought>>,
+    logs: Vec<Log>,
     are_all: bool,
 }
 
-/// Leads the nodes through the periods, and joins all threads. The agents are joined before the last period, so that it
-/// has all that they journaled. A thread that was not started counts as one that had no memory.
+/// No thread yet, with room for so many and for what they bring back.
+fn none_started(alloc: Global, nodes: usize, agents: usize) -> Result<Started, AllocError> {
+    let count = nodes.saturating_add(agents);
+    let nodes = Vec::with_capacity(alloc, nodes)?;
+    let agents = Vec::with_capacity(alloc, agents)?;
+    let logs = Vec::with_capacity(alloc, count)?;
+    Ok(Started {
+        nodes,
+        agents,
+        logs,
+        are_all: false,
+    })
+}
+
+/// Leads the nodes through the periods, and joins all threads, the agents' first. They are joined before the last period,
+/// so that it has all that they journaled. A thread that was not started counts as one that had no memory.
 fn lead_and_join<R: Threads + Wait>(
     rt: &R,
     desk: &Desk,
     reports: &Receiver<Report>,
     periods: u16,
     started: Started,
-    logs: &mut Vec<Log>,
-) -> Result<(), AllocError> {
+) -> Result<Vec<Log>, AllocError> {
     let Started {
         nodes,
         agents,
+        mut logs,
         are_all,
     } = started;
     let count = nodes.len();
@@ -114,17 +129,18 @@ fn lead_and_join<R: Threads + Wait>(
     if !goes_on {
         desk.board.stop(rt);
     }
-    let journaled = join_all(rt, agents, logs);
+    let journaled = join_all(rt, agents, &mut logs);
     if goes_on {
         if journaled.is_ok() {
             led = lead(rt, desk, reports, count, last..periods);
         }
         desk.board.stop(rt);
     }
-    let exported = join_all(rt, nodes, logs);
+    let exported = join_all(rt, nodes, &mut logs);
     led?;
     journaled?;
-    exported
+    exported?;
+    Ok(logs)
 }
 
 /// Whether files are made in further threads: where there are two processors at least for each node. Nodes export at
@@ -136,8 +152,80 @@ fn is_split(rt: &impl Threads, nodes: usize) -> bool {
     }
 }
 
+/// Starts a thread for each node, until one can not be started, and tells whether all were.
+fn start_nodes<'s, E, R: Threads + Wait + Sync, G: Gate + Sync>(
+    scope: &Scope<'s, E>,
+    rt: &'s R,
+    alloc: Global,
+    work: Work<'_>,
+    gate: &'s G,
+    desk: &'s Desk,
+    handles: &mut Vec<JoinHandle<Brought>>,
+) -> bool {
+    let turns = work.turns;
+    let is_split = is_split(rt, usize::from(work.nodes));
+    for node in 0..work.nodes {
+        let seat = Seat {
+            node,
+            turns,
+            is_split,
+        };
+        match scope.spawn(move || run_node(rt, alloc, desk, gate, seat)) {
+            Ok(handle) => {
+                if handles.push(handle).is_err() {
+                    return false;
+                }
+            }
+            Err(_) => return false,
+        }
+    }
+    true
+}
+
+/// Starts a thread for each agent, until one can not be started, and tells whether all were.
+fn start_agents<'s, E, R: Wait + Sync>(
+    scope: &Scope<'s, E>,
+    rt: &'s R,
+    alloc: Global,
+    journals: &'s [Vec<Vec<u8>>],
+    desk: &'s Desk,
+    handles: &mut Vec<JoinHandle<Brought>>,
+) -> bool {
+    let mut agent = 0u8;
+    for texts in journals {
+        agent = agent.saturating_add(1);
+        let texts = texts.as_slice();
+        match scope.spawn(move || run_agent(rt, alloc, desk, agent, texts)) {
+            Ok(handle) => {
+                if handles.push(handle).is_err() {
+                    return false;
+                }
+            }
+            Err(_) => return false,
+        }
+    }
+    true
+}
+
 /// Starts a thread for each node and each agent, leads the nodes through the periods, and gives what all threads bring
-/// back: first the agents' logs, then the nodes'.
+/// back.
+fn run_in_scope<'s, E, R: Threads + Wait + Sync, G: Gate + Sync>(
+    scope: &Scope<'s, E>,
+    rt: &'s R,
+    alloc: Global,
+    work: Work<'s>,
+    gate: &'s G,
+    desk: &'s Desk,
+    reports: &Receiver<Report>,
+) -> Result<Vec<Log>, AllocError> {
+    let mut started = none_started(alloc, usize::from(work.nodes), work.journals.len())?;
+    started.are_all = start_nodes(scope, rt, alloc, work, gate, desk, &mut started.nodes)
+        && start_agents(scope, rt, alloc, work.journals, desk, &mut started.agents);
+    lead_and_join(rt, desk, reports, work.periods, started)
+}
+
+/// Runs a thread for each node and each agent, and gives what all threads bring back: first the agents' logs, then the
+/// nodes'. The scope's closure does no more than one call: what it captures makes each step of it dear to prove.
 pub(crate) fn run_threads<R: Threads + Wait + Sync, G: Gate + Sync>(
     rt: &R,
     alloc: Global,
@@ -146,46 +234,7 @@ pub(crate) fn run_threads<R: Threads + Wait + Sync, G: Gate + Sync>(
     desk: &Desk,
     reports: &Receiver<Report>,
 ) -> Result<Vec<Log>, AllocError> {
-    thread::scope(thread::scope_env(), rt, |scope| {
-        let count = usize::from(work.nodes);
-        let mut nodes = Vec::with_capacity(alloc, count)?;
-        let mut agents = Vec::with_capacity(alloc, work.journals.len())?;
-        let mut logs = Vec::with_capacity(alloc, count.saturating_add(work.journals.len()))?;
-        let mut are_all = true;
-        let turns = work.turns;
-        let is_split = is_split(rt, count);
-        for node in 0..work.nodes {
-            if !are_all {
-                break;
-            }
-            let seat = Seat {
-                node,
-                turns,
-                is_split,
-            };
-            match scope.spawn(move || run_node(rt, alloc, desk, gate, seat)) {
-                Ok(handle) => are_all = nodes.push(handle).is_ok(),
-                Err(_) => are_all = false,
-            }
-        }
-        let mut agent = 0u8;
-        for texts in work.journals {
-            if !are_all {
-                break;
-            }
-            agent = agent.saturating_add(1);
-            let texts = texts.as_slice();
-            match scope.spawn(move || run_agent(rt, alloc, desk, agent, texts)) {
-                Ok(handle) => are_all = agents.push(handle).is_ok(),
-                Err(_) => are_all = false,
-            }
-        }
-        let started = Started {
-            nodes,
-            agents,
-            are_all,
-        };
-        lead_and_join(rt, desk, reports, work.periods, started, &mut logs)?;
-        Ok(logs)
+    thread::scope(thread::scope_env(), rt, move |scope| {
+        run_in_scope(scope, rt, alloc, work, gate, desk, reports)
     })
 }
