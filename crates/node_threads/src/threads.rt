@@ -2,6 +2,7 @@
 
 use crate::Gate;
 use crate::agents::run_agent;
+use crate::boards::Board;
 use crate::desks::{Desk, Report};
 use crate::nodes::{Seat, run_node};
 use crossbeam_channel::Receiver;
@@ -28,12 +29,12 @@ type Brought = Result<Log, AllocError>;
 /// Has so many nodes learn a period, and tells whether each did.
 fn lead_period<R: Wait>(
     rt: &R,
-    desk: &Desk,
+    board: &Board,
     reports: &Receiver<Report>,
     nodes: usize,
     period: u16,
 ) -> Result<bool, AllocError> {
-    desk.board.begin(rt, period);
+    board.begin(rt, period);
     for _ in 0..nodes {
         match reports.recv(rt) {
             Ok(Report::Learned) => {}
@@ -47,13 +48,13 @@ fn lead_period<R: Wait>(
 /// Has so many nodes learn these periods in turn, until one is not learned by all.
 fn lead<R: Wait>(
     rt: &R,
-    desk: &Desk,
+    board: &Board,
     reports: &Receiver<Report>,
     nodes: usize,
     periods: Range<u16>,
 ) -> Result<bool, AllocError> {
     for period in periods {
-        if !lead_period(rt, desk, reports, nodes, period)? {
+        if !lead_period(rt, board, reports, nodes, period)? {
             return Ok(false);
         }
     }
@@ -108,7 +109,7 @@ fn none_started(alloc: Global, nodes: usize, agents: usize) -> Result<Started, A
 /// so that it has all that they journaled. A thread that was not started counts as one that had no memory.
 fn lead_and_join<R: Threads + Wait>(
     rt: &R,
-    desk: &Desk,
+    board: &Board,
     reports: &Receiver<Report>,
     periods: u16,
     started: Started,
@@ -123,23 +124,23 @@ fn lead_and_join<R: Threads + Wait>(
     let last = periods.saturating_sub(1);
     let mut led = Err(AllocError);
     if are_all {
-        led = lead(rt, desk, reports, count, 0..last);
+        led = lead(rt, board, reports, count, 0..last);
     }
     let goes_on = matches!(led, Ok(true));
     if !goes_on {
-        desk.board.stop(rt);
+        board.stop(rt);
     }
     let journaled = join_all(rt, agents, &mut logs);
     if goes_on {
         if journaled.is_ok() {
-            led = lead(rt, desk, reports, count, last..periods);
+            led = lead(rt, board, reports, count, last..periods);
         }
-        desk.board.stop(rt);
+        board.stop(rt);
     }
     let exported = join_all(rt, nodes, &mut logs);
-    led?;
-    journaled?;
-    exported?;
+    if led.is_err() || journaled.is_err() || exported.is_err() {
+        return Err(AllocError);
+    }
     Ok(logs)
 }
 
@@ -221,7 +222,7 @@ fn run_in_scope<'s, E, R: Threads + Wait + Sync, G: Gate + Sync>(
     let mut started = none_started(alloc, usize::from(work.nodes), work.journals.len())?;
     started.are_all = start_nodes(scope, rt, alloc, work, gate, desk, &mut started.nodes)
         && start_agents(scope, rt, alloc, work.journals, desk, &mut started.agents);
-    lead_and_join(rt, desk, reports, work.periods, started)
+    lead_and_join(rt, &desk.board, reports, work.periods, started)
 }
 
 /// Runs a thread for each node and each agent, and gives what all threads bring back: first the agents' logs, then the
