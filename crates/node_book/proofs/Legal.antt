@@ -1,12 +1,13 @@
 -- Legal histories: the empty one, and one more entry; and what is true of a reply whose copy takes memory.
-use Rattle.std.proofs.Common.{◌≡◌, Bool, true, false, List, [], ◌∷◌, ◌++◌, map, refl, sym, ap, ◌∙◌, Result, Ok, Err}
-use Rattle.std.specs.Prelude.{◌||◌, OnErr}
+use Rattle.std.proofs.Common.{◌≡◌, Bool, true, false, List, [], ◌∷◌, ◌++◌, map, refl, sym, ap, ◌∙◌, Result, Ok, Err, is_err}
+use Rattle.std.specs.Prelude.{◌||◌, IfOk, OnErr}
 use Rattle.std.proofs.lemmas.List.{map-append}
 use Rattle.metering_model.specs.World.{World, Reply}
 use Rattle.metering_model.specs.Step.{step, play}
 use Rattle.metering_model.specs.History.{Entry, IsLegal}
 use Rattle.metering_model.proofs.PlayLaws.{play-last, replies-last}
 use Rattle.group_events.specs.Replies.{is_exported, is_kept_text}
+use Rattle.node_book.proofs.Lists.{no_false}
 
 pub legal_begun : (w : World) → IsLegal w [] w
 legal_begun w = record { replies = refl; world = refl }
@@ -45,3 +46,8 @@ by_growth r P grows of_export of_text = by_test (is_exported r) grows of_export
 pub on_err : {A E : Type 0} (r : Result A E) (P : Type 0) → P → OnErr r P
 on_err (Ok x) P p = tt
 on_err (Err why) P p = p
+
+-- what is said of what comes with Ok, says nothing of an error
+pub if_not_ok : {A E : Type 0} (r : Result A E) (P : A → Type 0) → is_err r ≡ true → IfOk r P
+if_not_ok (Ok x) P is = no_false is
+if_not_ok (Err why) P is = tt
