@@ -1,5 +1,5 @@
-use Rattle.std.proofs.Common.{List, [], ◌∷◌, ◌++◌, map, ap, ap₂, ◌∙◌, subst}
-use Rattle.std.proofs.lemmas.List.{map-append}
+use Rattle.std.proofs.Common.{◌≡◌, ℕ, List, [], ◌∷◌, ◌++◌, length, map, ap, ap₂, ◌∙◌, arith, subst}
+use Rattle.std.proofs.lemmas.List.{length-map, map-append}
 use Rattle.std.specs.Arc.{arc_value}
 use Rattle.metering_model.specs.declared.Worker.{Worker}
 use Rattle.metering_model.specs.History.{Entry}
@@ -8,7 +8,7 @@ use Rattle.metering_model.specs.World.{Event, Reply, opening}
 use Rattle.group_core.specs.Headline.{IsUnchangedAt}
 use Rattle.group_events.specs.Events.{event_of}
 use Rattle.group_events.specs.Replies.{reply_of}
-use Rattle.node_book.specs.Books.{Book, opened}
+use Rattle.node_book.specs.Books.{Book, Told, opened}
 use Rattle.node_book.specs.Kept.{entry_of}
 use Rattle.node_book.proofs.Legal.{by_growth, if_not_ok, legal_more, on_err}
 use Rattle.node_book.proofs.books.Book.act.Goals as goal
@@ -106,3 +106,15 @@ returns-clause-unchanged c =
 
 pub returns-clause-group : goal.returns-clause-group
 returns-clause-group c = ap opened c.self.view_is
+
+abbrev told_at : ℕ → Reply → Told
+told_at index reply = record { index = index; reply = reply }
+
+pub returns-clause-receipt : goal.returns-clause-receipt
+returns-clause-receipt c =
+    let items = c.self.inside.history.items in
+    let before = ap (λ (b : Book). length b.history) c.self.view_is in
+    let index : c.len-index.result ≡ length c.args.self.now.history =
+        omega (arith, c.len-index.ensures, c.in_ok-reserve.ensures.len, c.self.inside.history.ok.0, length-map items entry_of, before) in
+    let told = ap (λ (o : Outcome). o.0) c.in_ok-reply.ensures.ok ∙ ap (λ (b : Book). (step b.world (event_of c.args.event)).0) c.self.view_is in
+    ap₂ told_at index (c.in_ok-told.ensures.copy ∙ told)
