@@ -34,6 +34,27 @@ fn run_of<R: Threads + Wait + Sync>(rt: &R, alloc: Global, size: Size) -> Result
     }
 }
 
+/// Writes the report of a run, which is read by reference: a run has many parts, and is so dropped in one place alone.
+fn write_report<W: Sink>(alloc: Global, run: &Run, writer: &mut W) -> Result<(), ThreadsFault>
+    ensures written { OnOk result
+        (Appends (W.contents writer.old) (W.contents writer.new) (report_text run.now)) }
+    ensures prefix { result ≡ Err ThreadsFault.Write →
+        AppendsPrefix (W.contents writer.old) (W.contents writer.new) (report_text run.now) }
+    ensures unrefused { result ≢ Err ThreadsFault.Refused }
+    ensures untouched { IfErr result
+        (λ fault. fault ≢ ThreadsFault.Write → writer.new ≡ writer.old) }
+    ensures writes { W.failed_calls writer.new
+        ≡ count_after (tells_of_writer result) (W.failed_calls writer.old) }
+{
+    let Ok(text) = report(alloc, run) else {
+        return Err(ThreadsFault::OutOfMemory);
+    };
+    match write_all(writer, &text) {
+        Ok(_) => Ok(()),
+        Err(_) => Err(ThreadsFault::Write),
+    }
+}
+
 /// Runs a group of that size, with the sample sheet and the sample issuer, and writes its report: for each period how
 /// many lines its file has and how many nodes wrote one, and last how many entries the history has and how many
 /// receipts the workers. After `Write`, one failed call, a proper prefix of it was written, and after any other fault
@@ -60,11 +81,5 @@ pub fn threads_text<R: Threads + Wait + Sync, W: Sink>(
         ≡ count_after (tells_of_writer result) (W.failed_calls writer.old) }
 {
     let run = run_of(rt, alloc, size)?;
-    let Ok(text) = report(alloc, &run) else {
-        return Err(ThreadsFault::OutOfMemory);
-    };
-    match write_all(writer, &text) {
-        Ok(_) => Ok(()),
-        Err(_) => Err(ThreadsFault::Write),
-    }
+    write_report(alloc, &run, writer)
 }

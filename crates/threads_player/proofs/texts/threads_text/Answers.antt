@@ -1,8 +1,22 @@
-use Rattle.std.proofs.Common.{rules}
+use Rattle.std.proofs.Common.{Result, Ok, Err, OnOk}
 use Rattle.threads_player.proofs.texts.threads_text.Goals as goal
 
-pub returns-in_default-clause-writes : goal.returns-in_default-clause-writes
-returns-in_default-clause-writes g c = search rules
+-- what is written makes known of which run
+on_ok : {A E P Q : Type 0} (r : Result A E) → (P → Q) → OnOk r P → OnOk r Q
+on_ok (Ok x) more is = more is
+on_ok (Err why) more is = tt
 
-pub returns-in-Ok-write_all-clause-written : goal.returns-in-Ok-write_all-clause-written
-returns-in-Ok-write_all-clause-written g c = search rules
+pub returns-clause-written : goal.returns-clause-written
+returns-clause-written g c = on_ok c.write_report.result (λ appended. (_, c.in_ok-run.ensures.run, appended)) c.write_report.ensures.written
+
+pub returns-clause-prefix : goal.returns-clause-prefix
+returns-clause-prefix g c = λ is. (_, c.in_ok-run.ensures.run, c.write_report.ensures.prefix is)
+
+pub returns-clause-refused : goal.returns-clause-refused
+returns-clause-refused g c = λ is. absurd (c.write_report.ensures.unrefused is)
+
+pub returns-clause-untouched : goal.returns-clause-untouched
+returns-clause-untouched g c = c.write_report.ensures.untouched
+
+pub returns-clause-writes : goal.returns-clause-writes
+returns-clause-writes g c = c.write_report.ensures.writes
