@@ -1,4 +1,5 @@
 pub mod Faults
+pub mod Grammars
 pub mod Outcomes
 pub mod Parts
 pub mod Requests

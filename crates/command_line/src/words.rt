@@ -7,7 +7,8 @@ ghost use Rattle.clap.specs.declared.builder.command.Command.TheViews.{out-Comma
 ghost use Rattle.command_line.specs.declared.commands.Command.{Command};
 ghost use Rattle.command_line.specs.declared.commands.Kind.{Kind};
 ghost use Rattle.sheet_changes.specs.declared.changes.Asked.{Asked};
-ghost use Rattle.command_line.specs.CommandLine.{bare_grammar, check_grammar, flag_option, grammar_of_focusd, kind_text, number_option, period_grammar, threads_grammar, Asks, AsksForHelp, GivesAsked, GivesDay, GivesFlag, GivesKind, GivesNumber, GivesPeriod, GivesRequest, GivesSize, GivesThrough, IsNamed, schedule_grammar, sheets_grammar, text_option};
+ghost use Rattle.command_line.specs.CommandLine.{bare_grammar, check_grammar, flag_option, grammar_of_focusd, kind_text, number_option, period_grammar, required, threads_grammar, Asks, AsksForHelp, GivesAsked, GivesDay, GivesFlag, GivesKind, GivesNumber, GivesPeriod, GivesRequest, GivesSize, GivesThrough, IsNamed, schedule_grammar, sheets_grammar, text_option};
+ghost use Rattle.command_line.specs.Inner.Grammars.{with_bills, with_groups, with_schedules};
 ghost use Rattle.command_line.specs.Inner.Requests.{IsRequestFor};
 
 use crate::commands::{Command, Kind};
@@ -155,6 +156,24 @@ fn taking<'a>(command: clap::Command<'a>, option: Arg<'a>) -> Result<clap::Comma
     }
 }
 
+// The same with `--NAME N`, a number from 1 to the most, which may not be left out
+fn counting<'a>(
+    command: clap::Command<'a>,
+    alloc: Global,
+    name: &'a str,
+    help: &'a str,
+    most: u16,
+) -> Result<clap::Command<'a>, LineFault>
+    requires local { (out-Command command).has_globals ≡ false }
+    ensures app { IfOk result (λ c. app_of c
+        ≡ with_rule (app_of command.entry) (required (number_option name.entry.now 1 most))) }
+    ensures local { IfOk result (λ c. (out-Command c).has_globals ≡ false) }
+    ensures memory { result ≢ Err LineFault.Line }
+{
+    let count = number_option(alloc, name, help, 1, most).required(true);
+    taking(command, count)
+}
+
 // `rate --period P` or `file --period P`
 fn period_grammar<'a>(
     alloc: Global,
@@ -182,21 +201,17 @@ fn threads_grammar<'a>(alloc: Global) -> Result<clap::Command<'a>, LineFault>
     ensures local { IfOk result (λ c. (out-Command c).has_globals ≡ false) }
     ensures memory { result ≢ Err LineFault.Line }
 {
-    let nodes = number_option(alloc, "nodes", "How many nodes: 1 to 9", 1, 9).required(true);
-    let agents = number_option(alloc, "agents", "How many agents: 1 to 9", 1, 9).required(true);
-    let batches = number_option(
+    let threads = plain_grammar(alloc, "threads", THREADS);
+    let nodes = counting(threads, alloc, "nodes", "How many nodes: 1 to 9", 9)?;
+    let agents = counting(nodes, alloc, "agents", "How many agents: 1 to 9", 9)?;
+    let batches = counting(
+        agents,
         alloc,
         "batches",
         "How many batches of each agent: 1 to 99",
-        1,
         99,
-    )
-    .required(true);
-    let periods = number_option(alloc, "periods", "How many months: 1 to 12", 1, 12).required(true);
-    let threads = taking(plain_grammar(alloc, "threads", THREADS), nodes)?;
-    let threads = taking(threads, agents)?;
-    let threads = taking(threads, batches)?;
-    taking(threads, periods)
+    )?;
+    counting(batches, alloc, "periods", "How many months: 1 to 12", 12)
 }
 
 // `check --kind KIND`
@@ -239,6 +254,7 @@ fn schedule_grammar<'a>(alloc: Global) -> Result<clap::Command<'a>, LineFault>
     let nodes = number_option(alloc, "nodes", "How many nodes vote: 1 to 99", 1, 99).default_value(
         "3",
     );
+    let schedule = taking(plain_grammar(alloc, "schedule", SCHEDULE), nodes)?;
     let observers = number_option(
         alloc,
         "observers",
@@ -247,6 +263,7 @@ fn schedule_grammar<'a>(alloc: Global) -> Result<clap::Command<'a>, LineFault>
         98,
     )
     .default_value("0");
+    let schedule = taking(schedule, observers)?;
     let through = number_option(
         alloc,
         "through",
@@ -254,9 +271,6 @@ fn schedule_grammar<'a>(alloc: Global) -> Result<clap::Command<'a>, LineFault>
         0,
         1_199,
     );
-    let schedule = plain_grammar(alloc, "schedule", SCHEDULE);
-    let schedule = taking(schedule, nodes)?;
-    let schedule = taking(schedule, observers)?;
     taking(schedule, through)
 }
 
@@ -293,20 +307,50 @@ fn with<'a>(
     }
 }
 
+// With the commands for a batch or an input: `rate`, `play` and `check`
+fn with_bills<'a>(alloc: Global, grammar: clap::Command<'a>) -> Result<clap::Command<'a>, LineFault>
+    ensures app { IfOk result (λ c. app_of c ≡ with_bills (app_of grammar.entry)) }
+    ensures memory { result ≢ Err LineFault.Line }
+{
+    let rating = with(grammar, period_grammar(alloc, "rate", RATE)?)?;
+    let playing = with(rating, plain_grammar(alloc, "play", PLAY))?;
+    with(playing, check_grammar(alloc)?)
+}
+
+// With those around a schedule: `file`, `schedule` and `sheets`
+fn with_schedules<'a>(
+    alloc: Global,
+    grammar: clap::Command<'a>,
+) -> Result<clap::Command<'a>, LineFault>
+    ensures app { IfOk result (λ c. app_of c ≡ with_schedules (app_of grammar.entry)) }
+    ensures memory { result ≢ Err LineFault.Line }
+{
+    let filing = with(grammar, period_grammar(alloc, "file", FILE)?)?;
+    let scheduling = with(filing, schedule_grammar(alloc)?)?;
+    with(scheduling, sheets_grammar(alloc)?)
+}
+
+// With those that run a group, or a part of one: `threads`, `node` and `agent`
+fn with_groups<'a>(
+    alloc: Global,
+    grammar: clap::Command<'a>,
+) -> Result<clap::Command<'a>, LineFault>
+    ensures app { IfOk result (λ c. app_of c ≡ with_groups (app_of grammar.entry)) }
+    ensures memory { result ≢ Err LineFault.Line }
+{
+    let threading = with(grammar, threads_grammar(alloc)?)?;
+    let nodes = with(threading, explained(alloc, "node", NODE, NODE_INPUT))?;
+    with(nodes, explained(alloc, "agent", AGENT, AGENT_INPUT))
+}
+
 // The words of all commands, without the program's name
 fn grammar<'a>(alloc: Global) -> Result<clap::Command<'a>, LineFault>
     ensures app { IfOk result (λ c. app_of c ≡ grammar_of_focusd) }
     ensures memory { result ≢ Err LineFault.Line }
 {
-    let rating = with(bare_grammar(alloc)?, period_grammar(alloc, "rate", RATE)?)?;
-    let playing = with(rating, plain_grammar(alloc, "play", PLAY))?;
-    let checking = with(playing, check_grammar(alloc)?)?;
-    let filing = with(checking, period_grammar(alloc, "file", FILE)?)?;
-    let scheduling = with(filing, schedule_grammar(alloc)?)?;
-    let comparing = with(scheduling, sheets_grammar(alloc)?)?;
-    let threading = with(comparing, threads_grammar(alloc)?)?;
-    let nodes = with(threading, explained(alloc, "node", NODE, NODE_INPUT))?;
-    with(nodes, explained(alloc, "agent", AGENT, AGENT_INPUT))
+    let bills = with_bills(alloc, bare_grammar(alloc)?)?;
+    let schedules = with_schedules(alloc, bills)?;
+    with_groups(alloc, schedules)
 }
 
 // The period that an option gives, where it is one
