@@ -47,10 +47,10 @@ line_of_all p r are =
     ∙ ap₂ (λ f ps. (f ++ flat_map (λ x. x) ps) ++ 10 ∷ []) n.billed_cost is
     ∙ line_is r
 
--- where it was
-pub places : (r : Row) → region_columns r ≡ text_or_null r.region_id ∷ text_or_null r.region_name ∷ []
+-- the columns of where it was
+pub region_fields : (r : Row) → region_columns r ≡ text_or_null r.region_id ∷ text_or_null r.region_name ∷ []
 unfolding region_columns
-places r = refl
+region_fields r = refl
 
 -- ---- numbers
 

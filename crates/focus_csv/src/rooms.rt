@@ -1,6 +1,7 @@
 //! Memory that is kept from one file to the next.
 
-ghost use Rattle.std.specs.Prelude.{◌≡◌, []};
+ghost use Rattle.std.specs.Prelude.{◌≡◌, Some, []};
+ghost use Rattle.std.specs.Bool.{if◌then◌else◌};
 
 use crate::pieces::LinePieces;
 use std::alloc::Global;
@@ -43,7 +44,9 @@ impl LineRoom {
     }
 
     /// Keeps pieces for the next file where this one was made, and else lets them go.
-    pub(crate) fn give_back(&mut self, is_made: bool, pieces: LinePieces) {
+    pub(crate) fn give_back(&mut self, is_made: bool, pieces: LinePieces)
+        ensures { self.new.pieces ≡ (if is_made then Some pieces else self.old.pieces) }
+    {
         if is_made {
             drop_pieces(self.pieces.replace(pieces));
         } else {
@@ -52,7 +55,9 @@ impl LineRoom {
     }
 
     /// The pieces, where it has any.
-    pub(crate) fn into_pieces(self) -> Option<LinePieces> {
+    pub(crate) fn into_pieces(self) -> Option<LinePieces>
+        ensures { result ≡ self.pieces }
+    {
         self.pieces
     }
 }

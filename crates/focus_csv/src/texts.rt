@@ -57,9 +57,7 @@ fn billing<'a>(row: &'a FocusRow<'a>) -> [&'a [u8]; 5]
     ]
 }
 
-// Each of these makes the piece that of a row. One that is held is of the row before, and stays where its columns are the same.
-
-/// A piece of one column, which is empty for null.
+/// Makes the piece of one column, whose text is empty for null. One that is held stays where the text is the same.
 #[inline(always)]
 fn set_single(
     odd: &mut OddFields,
@@ -78,6 +76,8 @@ fn set_single(
     }
     make_piece(odd, piece, &[text_or_null(text)])
 }
+
+// Each of these makes the piece that of a row. One that is held is of the row before, and stays where its columns are the same.
 
 /// Who bills, and for which period.
 #[tactic(auto, unfolding(crate::specs::Inner::Runs::billing_columns))]

@@ -1,6 +1,7 @@
 use Rattle.std.proofs.Common.{◌≡◌, ◌-◌, ◌++◌, take, drop, arith, subst}
 use Rattle.focus_csv.specs.Rows.{batch_lines}
-use Rattle.focus_csv.proofs.BeginningLaws.{no_ok, on_err, longer_begins}
+use Rattle.std.proofs.lemmas.Result.{IfOk-from_err}
+use Rattle.focus_csv.proofs.BeginningLaws.{on_err, longer_begins}
 use Rattle.focus_csv.proofs.FileParts.{one_more_of, none_put}
 use Rattle.focus_csv.proofs.files.put_between.Goals as goal
 
@@ -11,7 +12,7 @@ pub put_batch-requires : goal.put_batch-requires
 put_batch-requires c = omega (arith, c.loop-k-test.true, c.requires.within)
 
 pub returns-in_err-put_batch-clause-put : goal.returns-in_err-put_batch-clause-put
-returns-in_err-put_batch-clause-put c = no_ok _ _ c.from_residual.result c.from_residual.ensures.1
+returns-in_err-put_batch-clause-put c = IfOk-from_err c.from_residual.result _ c.from_residual.ensures.0
 
 pub loop-k-preserved : goal.loop-k-preserved
 loop-k-preserved c =

@@ -5,7 +5,8 @@ use Rattle.std.proofs.lemmas.List.{get_or_default, take_all}
 use Rattle.metering_model.specs.File.{row_text}
 use Rattle.focus_row.specs.Rows.{model_row}
 use Rattle.focus_csv.specs.Inner.Pieces.{AreOf}
-use Rattle.focus_csv.proofs.BeginningLaws.{no_ok, on_err}
+use Rattle.std.proofs.lemmas.Result.{IfOk-from_err}
+use Rattle.focus_csv.proofs.BeginningLaws.{on_err}
 use Rattle.focus_csv.proofs.RowBefore.{itself_is}
 use Rattle.focus_csv.proofs.RowTexts.{rows_more}
 use Rattle.focus_csv.proofs.lines.put_lines.Goals as goal
@@ -20,10 +21,10 @@ pub set-requires : goal.set-requires
 set-requires c = c.loop-i.invariant.held
 
 pub returns-in_err-set-clause-put : goal.returns-in_err-set-clause-put
-returns-in_err-set-clause-put c = no_ok _ _ c.from_residual.result c.from_residual.ensures.1
+returns-in_err-set-clause-put c = IfOk-from_err c.from_residual.result _ c.from_residual.ensures.0
 
 pub returns-in_err-set-clause-held : goal.returns-in_err-set-clause-held
-returns-in_err-set-clause-held c = no_ok _ _ c.from_residual.result c.from_residual.ensures.1
+returns-in_err-set-clause-held c = IfOk-from_err c.from_residual.result _ c.from_residual.ensures.0
 
 pub returns-in_err-set-clause-forgotten : goal.returns-in_err-set-clause-forgotten
 returns-in_err-set-clause-forgotten c = on_err c.from_residual.result c.in_err-set.ensures.forgotten

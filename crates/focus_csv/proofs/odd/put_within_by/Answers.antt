@@ -2,15 +2,15 @@
 use Rattle.std.proofs.Common.{◌≡◌, length, ◌∙◌, rules, arith}
 use Rattle.csv.specs.Writing.{writer_under}
 use Rattle.focus_csv.specs.Inner.Strings.{doubled}
-use Rattle.focus_csv.proofs.BeginningLaws.{no_ok}
+use Rattle.std.proofs.lemmas.Result.{IfOk-from_err}
 use Rattle.focus_csv.proofs.CsvText.{within_copied, within_long}
 use Rattle.focus_csv.proofs.odd.put_within_by.Goals as goal
 
 pub returns-in_err-write_next-clause-ready : goal.returns-in_err-write_next-clause-ready
-returns-in_err-write_next-clause-ready c = no_ok _ _ c.from_residual.result c.from_residual.ensures.1
+returns-in_err-write_next-clause-ready c = IfOk-from_err c.from_residual.result _ c.from_residual.ensures.0
 
 pub returns-in_err-write_next-clause-put : goal.returns-in_err-write_next-clause-put
-returns-in_err-write_next-clause-put c = no_ok _ _ c.from_residual.result c.from_residual.ensures.1
+returns-in_err-write_next-clause-put c = IfOk-from_err c.from_residual.result _ c.from_residual.ensures.0
 
 pub overflow_sub-to : goal.overflow_sub-to
 overflow_sub-to c =
@@ -30,10 +30,10 @@ slice_bounds-extend_from_slice-start c =
     omega (arith, long, begins, ends)
 
 pub returns-in_err-extend_from_slice-clause-ready : goal.returns-in_err-extend_from_slice-clause-ready
-returns-in_err-extend_from_slice-clause-ready c = no_ok _ _ c.from_residual-in_err-extend_from_slice.result c.from_residual-in_err-extend_from_slice.ensures.1
+returns-in_err-extend_from_slice-clause-ready c = IfOk-from_err c.from_residual-in_err-extend_from_slice.result _ c.from_residual-in_err-extend_from_slice.ensures.0
 
 pub returns-in_err-extend_from_slice-clause-put : goal.returns-in_err-extend_from_slice-clause-put
-returns-in_err-extend_from_slice-clause-put c = no_ok _ _ c.from_residual-in_err-extend_from_slice.result c.from_residual-in_err-extend_from_slice.ensures.1
+returns-in_err-extend_from_slice-clause-put c = IfOk-from_err c.from_residual-in_err-extend_from_slice.result _ c.from_residual-in_err-extend_from_slice.ensures.0
 
 pub returns-clause-ready : goal.returns-clause-ready
 returns-clause-ready c = c.in_ok-write_next.ensures.ready

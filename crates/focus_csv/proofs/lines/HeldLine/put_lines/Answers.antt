@@ -2,7 +2,8 @@ use Rattle.std.proofs.Common.{◌<◌, ◌++◌, map, ap, ◌∙◌, arith, rule
 use Rattle.std.specs.List.{flat_map}
 use Rattle.metering_model.specs.File.{row_text}
 use Rattle.focus_row.specs.Rows.{model_row}
-use Rattle.focus_csv.proofs.BeginningLaws.{no_ok, on_err}
+use Rattle.std.proofs.lemmas.Result.{IfOk-from_err}
+use Rattle.focus_csv.proofs.BeginningLaws.{on_err}
 use Rattle.focus_csv.proofs.RowBefore.{held_of_last, last_taken, none_held}
 use Rattle.focus_csv.proofs.lines.HeldLine.put_lines.Goals as goal
 
@@ -13,7 +14,7 @@ pub invariant_of-self : goal.invariant_of-self
 invariant_of-self c = none_held _ c.put_lines.new.pieces c.in_err-put_lines.ensures.forgotten
 
 pub returns-in_err-put_lines-clause-put : goal.returns-in_err-put_lines-clause-put
-returns-in_err-put_lines-clause-put c = no_ok _ _ c.from_residual.result c.from_residual.ensures.1
+returns-in_err-put_lines-clause-put c = IfOk-from_err c.from_residual.result _ c.from_residual.ensures.0
 
 pub returns-in_err-put_lines-clause-begins : goal.returns-in_err-put_lines-clause-begins
 returns-in_err-put_lines-clause-begins c = on_err c.from_residual.result c.in_err-put_lines.ensures.begins
