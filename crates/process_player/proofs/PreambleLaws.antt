@@ -19,7 +19,7 @@ use Rattle.log_text.proofs.KeptFirst.{log_has_text}
 use Rattle.log_text.proofs.LogLaws.{log_read, short_read}
 use Rattle.process_player.specs.declared.heads.ProcessKind.{ProcessKind}
 use Rattle.process_player.specs.Starts.{Preamble, head_of, is_kind_of, kind_word, own_of, preamble_in}
-use Rattle.process_player.specs.Inner.Prices.{prices_in}
+use Rattle.process_player.specs.Inner.SheetAndIssuer.{sheet_and_issuer_in}
 use Rattle.process_player.proofs.Fronts.{first_by}
 
 -- ---- where the issuer is refused
@@ -27,16 +27,16 @@ use Rattle.process_player.proofs.Fronts.{first_by}
 err_step_from : {A B E : Type 0} (r : Result A E) (f : A → Result B E) (e : E) → r ≡ Err e → (r >>= f) ≡ Err e
 err_step_from r f e h = ap (λ s. s >>= f) h
 
-pub issuer_refused : (u : Unread) (s : Sheet × Unread) (fault : ScheduleFault) → sheet_section u ≡ Ok s → issuer_section s.1 ≡ Err fault → prices_in u ≡ Err fault
+pub issuer_refused : (u : Unread) (s : Sheet × Unread) (fault : ScheduleFault) → sheet_section u ≡ Ok s → issuer_section s.1 ≡ Err fault → sheet_and_issuer_in u ≡ Err fault
 issuer_refused u s fault sheet issuer = ok_step_from (sheet_section u) _ s _ sheet (err_step_from (issuer_section s.1) _ fault issuer)
 
-pub prices_read : (u : Unread) (s : Sheet × Unread) (i : Issuer × Unread) → sheet_section u ≡ Ok s → issuer_section s.1 ≡ Ok i → prices_in u ≡ Ok (s.0, i.0, i.1)
-prices_read u s i sheet issuer = ok_step_from (sheet_section u) _ s _ sheet (ok_step_from (issuer_section s.1) _ i _ issuer refl)
+pub both_read : (u : Unread) (s : Sheet × Unread) (i : Issuer × Unread) → sheet_section u ≡ Ok s → issuer_section s.1 ≡ Ok i → sheet_and_issuer_in u ≡ Ok (s.0, i.0, i.1)
+both_read u s i sheet issuer = ok_step_from (sheet_section u) _ s _ sheet (ok_step_from (issuer_section s.1) _ i _ issuer refl)
 
 -- ---- a preamble is what stands first, the sheet and the issuer
 
 pub preamble_read : (k : ProcessKind) (text : List ℕ) (u : Unread) (h : ReadLog × Unread) (sheet : Sheet) (issuer : Issuer) (rest : Unread)
-    → whole_of text ≡ Ok u → head_of k u ≡ Ok h → prices_in h.1 ≡ Ok (sheet, issuer, rest)
+    → whole_of text ≡ Ok u → head_of k u ≡ Ok h → sheet_and_issuer_in h.1 ≡ Ok (sheet, issuer, rest)
     → preamble_in k text ≡ Ok (record { own = h.0; sheet = sheet; issuer = issuer; rest = rest })
 unfolding preamble_in
 preamble_read k text u h sheet issuer rest whole head prices =
@@ -52,10 +52,10 @@ then_refused : {A B C E : Type 0} (r : Result A E) (f : A → Result B E) (g : A
 then_refused (Ok x) f g e so h = so x h
 then_refused (Err y) f g e so h = let same : y ≡ e = cc in ap Err same
 
-pub prices_refused : (k : ProcessKind) (text : List ℕ) (u : Unread) (h : ReadLog × Unread) (fault : ScheduleFault)
-    → whole_of text ≡ Ok u → head_of k u ≡ Ok h → prices_in h.1 ≡ Err fault → preamble_in k text ≡ Err fault
+pub both_refused : (k : ProcessKind) (text : List ℕ) (u : Unread) (h : ReadLog × Unread) (fault : ScheduleFault)
+    → whole_of text ≡ Ok u → head_of k u ≡ Ok h → sheet_and_issuer_in h.1 ≡ Err fault → preamble_in k text ≡ Err fault
 unfolding preamble_in
-prices_refused k text u h fault whole head prices =
+both_refused k text u h fault whole head prices =
     ok_step_from (whole_of text) _ u _ whole
     (ok_step_from (head_of k u) _ h _ head
     (then_refused (sheet_section h.1) _ _ fault (λ s. then_refused (issuer_section s.1) _ _ fault (λ i none. absurd (cc))) prices))

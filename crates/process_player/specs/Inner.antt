@@ -1,6 +1,6 @@
 -- Words that the public clauses don't cite.
 pub mod Calls
-pub mod Prices
+pub mod SheetAndIssuer
 pub mod Reading
 pub mod Told
 pub mod Groups

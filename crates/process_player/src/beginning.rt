@@ -27,6 +27,9 @@ use process_text::Process;
 use std::alloc::{AllocError, Global};
 use std::sync::Arc;
 
+/// Drops a sheet that is shared beside no other value, for the prover's time alone (docs/DECISIONS.md).
+fn drop_shared(_sheet: Arc<Sheet>) {}
+
 /// The group of a head, a sheet and an issuer.
 fn group_with(head: &LogHead, sheet: Arc<Sheet>, issuer: Arc<Issuer>) -> Group
     requires { IsLogHead head.now }
@@ -35,9 +38,6 @@ fn group_with(head: &LogHead, sheet: Arc<Sheet>, issuer: Arc<Issuer>) -> Group
     let (voters, observers, agents) = (head.voters(), head.observers(), head.agents());
     Group::new(head.group(), voters, observers, agents, sheet, issuer)
 }
-
-/// Drops a sheet that is shared beside no other value, for the prover's time alone (docs/DECISIONS.md).
-fn drop_shared(_sheet: Arc<Sheet>) {}
 
 /// The same of an issuer that nobody shares yet.
 fn group_sharing(

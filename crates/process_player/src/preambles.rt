@@ -9,7 +9,7 @@ ghost use Rattle.line_source.specs.Reading.{ReadsUpTo, Takes};
 ghost use Rattle.process_player.specs.Starts.{preamble_in};
 ghost use Rattle.process_player.specs.Inner.Calls.{IsOfReading, Reads};
 ghost use Rattle.process_player.specs.Inner.Fronts.{AreHeadsTo, IsPreambleTo, IsSectionTo, end_of};
-ghost use Rattle.process_player.specs.Inner.Prices.{prices_in};
+ghost use Rattle.process_player.specs.Inner.SheetAndIssuer.{sheet_and_issuer_in};
 ghost use Rattle.process_player.specs.Inner.Reading.{HasRead};
 ghost use Rattle.process_player.specs.Inner.Refusing.{OfAll, RejectsPreamble};
 
@@ -41,7 +41,7 @@ pub(crate) struct Preamble {
 /// Drops a sheet beside no other value, for the prover's time alone (docs/DECISIONS.md).
 fn drop_sheet(_sheet: Sheet) {}
 
-/// Drops an issuer so.
+/// Drops an issuer beside no other value, as a sheet.
 pub(crate) fn drop_issuer(_issuer: Issuer) {}
 
 /// Drops a preamble, part by part.
@@ -77,11 +77,14 @@ fn end_of(judged: Judged) -> usize
 }
 
 /// The sheet and the issuer behind what stands first, and the number of the line behind them.
-fn read_prices(alloc: Global, unread: &Left<'_>) -> Result<(Sheet, Issuer, u32), ScheduleFault>
+fn read_sheet_and_issuer(
+    alloc: Global,
+    unread: &Left<'_>,
+) -> Result<(Sheet, Issuer, u32), ScheduleFault>
     ensures read { IfOk result (λ r. (rest : sections.Unread)
-        × (prices_in unread.now ≡ Ok (r.0, r.1, rest)) × (rest.line ≡ r.2)) }
+        × (sheet_and_issuer_in unread.now ≡ Ok (r.0, r.1, rest)) × (rest.line ≡ r.2)) }
     ensures refused { IfErr result
-        (λ fault. fault ≢ ScheduleFault.OutOfMemory → prices_in unread.now ≡ Err fault) }
+        (λ fault. fault ≢ ScheduleFault.OutOfMemory → sheet_and_issuer_in unread.now ≡ Err fault) }
 {
     let (sheet, below) = read_sheet(alloc, unread)?;
     match read_issuer(alloc, &below) {
@@ -108,7 +111,7 @@ fn preamble_in(alloc: Global, kind: ProcessKind, text: &[u8]) -> Result<Preamble
 {
     let unread = Left::whole(text)?;
     let (own, below) = read_head(alloc, kind, &unread)?;
-    match read_prices(alloc, &below) {
+    match read_sheet_and_issuer(alloc, &below) {
         Ok((sheet, issuer, line)) => Ok(Preamble {
             own,
             sheet,

@@ -1,5 +1,5 @@
 -- What stands first is read before the sheet and the issuer.
-use Rattle.process_player.proofs.PreambleLaws.{preamble_read, prices_refused}
+use Rattle.process_player.proofs.PreambleLaws.{preamble_read, both_refused}
 use Rattle.process_player.proofs.preambles.preamble_in.Goals as goal
 
 pub returns-in-Ok-clause-read : goal.returns-in-Ok-clause-read
@@ -12,4 +12,4 @@ returns-in-Ok-clause-read c =
 
 pub returns-in-Err-clause-refused : goal.returns-in-Err-clause-refused
 returns-in-Err-clause-refused c = λ other.
-    prices_refused c.args.kind c.args.text.now c.in_ok-unread.unread (c.in_ok-own.own, c.in_ok-own.below) c.in-Err.fault c.in_ok-unread.ensures.whole c.in_ok-own.ensures.read (c.in-Err.ensures.refused other)
+    both_refused c.args.kind c.args.text.now c.in_ok-unread.unread (c.in_ok-own.own, c.in_ok-own.below) c.in-Err.fault c.in_ok-unread.ensures.whole c.in_ok-own.ensures.read (c.in-Err.ensures.refused other)

@@ -6,8 +6,8 @@ use Rattle.input_sections.specs.declared.faults.ScheduleFault.{ScheduleFault}
 use Rattle.input_sections.specs.Sections.{Unread, issuer_section, sheet_section}
 
 -- the sheet, the issuer, and what is left behind them
-abbrev pub prices_in : Unread → Result (Sheet × Issuer × Unread) ScheduleFault
-prices_in u = do
+abbrev pub sheet_and_issuer_in : Unread → Result (Sheet × Issuer × Unread) ScheduleFault
+sheet_and_issuer_in u = do
   s ← sheet_section u
   i ← issuer_section s.1
   Ok (s.0, i.0, i.1)
