@@ -13,7 +13,7 @@ use metering_model::{BatchCode, BatchFault, Kind};
 use utc_calendar::Stamp;
 
 /// A field of a record's line, behind its letter.
-#[derive(Clone, Copy, PartialEq, Eq)]
+#[derive(Clone, Copy, Debug, PartialEq, Eq)]
 pub enum RecordField {
     Start,
     End,

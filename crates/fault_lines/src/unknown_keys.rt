@@ -7,7 +7,7 @@ ghost use Rattle.toml.specs.View.{table_view};
 ghost use Rattle.metering_model.specs.BatchReading.{lines_in};
 ghost use Rattle.sheet_text.specs.Keys.{rows_under};
 ghost use Rattle.fault_lines.specs.UnknownKeys.{first_word, from_first, has_key, is_blank, is_key, is_of_key, is_taken, keys_left, opens_table, shown, stands_before_key, table_below, table_of, told_along, told_of_keys, told_of_section, told_unknown, unknown_from, unknown_from_issuer, unknown_in_sheet, unknown_on, with_key, with_rows, with_rows_under, with_table};
-ghost use Rattle.fault_lines.specs.Inner.KeyKinds.{is_passed, unknown_of};
+ghost use Rattle.fault_lines.specs.Inner.KeyKinds.{is_of_kind, unknown_of};
 
 use crate::batches::put_place;
 use byte_text::{first_line, is_same, line_count};
@@ -60,7 +60,7 @@ const ISSUER_KEYS: [Key; 7] = [
 
 /// Whose keys are looked for.
 #[derive(Clone, Copy)]
-enum Reader {
+enum KeyOwner {
     Sheet,
     Issuer,
 }
@@ -209,16 +209,16 @@ fn add_of_sheet<'a>(
 #[tactic(auto, unfolding(crate::specs::UnknownKeys::unknown_in_issuer))]
 fn add_of<'a>(
     alloc: Global,
-    reader: Reader,
+    owner: KeyOwner,
     found: &mut Vec<UnknownKey<'a>>,
     members: &'a Table,
 ) -> Result<(), AllocError>
     requires { found.old.items ≡ [] }
-    ensures { OnOk result (found.new.items ≡ unknown_of reader (table_view members.now)) }
+    ensures { OnOk result (found.new.items ≡ unknown_of owner (table_view members.now)) }
 {
-    match reader {
-        Reader::Sheet => add_of_sheet(alloc, found, members),
-        Reader::Issuer => add_table(&ISSUER_KEYS, b"", found, members),
+    match owner {
+        KeyOwner::Sheet => add_of_sheet(alloc, found, members),
+        KeyOwner::Issuer => add_table(&ISSUER_KEYS, b"", found, members),
     }
 }
 
@@ -247,37 +247,37 @@ fn is_of_key(byte: u8) -> bool
         || byte == b'_'
 }
 
-/// Which bytes are passed over in a line.
+/// Which bytes are looked for in a line.
 #[derive(Clone, Copy)]
-enum Passed {
+enum ByteKind {
     Blanks,
     BeforeKey,
     OfKey,
 }
 
-/// Whether a byte is one of those.
-fn is_passed(passed: Passed, byte: u8) -> bool
-    ensures { result ≡ is_passed passed byte }
+/// Whether a byte is of a kind.
+fn is_of_kind(kind: ByteKind, byte: u8) -> bool
+    ensures { result ≡ is_of_kind kind byte }
 {
-    match passed {
-        Passed::Blanks => is_blank(byte),
-        Passed::BeforeKey => stands_before_key(byte),
-        Passed::OfKey => is_of_key(byte),
+    match kind {
+        ByteKind::Blanks => is_blank(byte),
+        ByteKind::BeforeKey => stands_before_key(byte),
+        ByteKind::OfKey => is_of_key(byte),
     }
 }
 
-/// Where the first byte stands that is none of those.
-fn first_other(passed: Passed, line: &[u8]) -> Option<usize>
-    ensures { result ≡ position (λ c. not (is_passed passed c)) line.now }
+/// Where the first byte stands that is not of a kind.
+fn first_other(kind: ByteKind, line: &[u8]) -> Option<usize>
+    ensures { result ≡ position (λ c. not (is_of_kind kind c)) line.now }
 {
-    line.iter().position(|c| !is_passed(passed, *c))
+    line.iter().position(|c| !is_of_kind(kind, *c))
 }
 
-/// What stands behind those at the front of a line.
-fn behind_passed(passed: Passed, line: &[u8]) -> &[u8]
-    ensures { result.now ≡ from_first (λ c. not (is_passed passed c)) line.now }
+/// What stands behind the bytes of a kind at the front of a line.
+fn behind_those(kind: ByteKind, line: &[u8]) -> &[u8]
+    ensures { result.now ≡ from_first (λ c. not (is_of_kind kind c)) line.now }
 {
-    match first_other(passed, line) {
+    match first_other(kind, line) {
         Some(at) => &line[at..],
         None => b"",
     }
@@ -287,8 +287,8 @@ fn behind_passed(passed: Passed, line: &[u8]) -> &[u8]
 fn first_word(line: &[u8]) -> &[u8]
     ensures { result.now ≡ first_word line.now }
 {
-    let behind = behind_passed(Passed::BeforeKey, line);
-    match first_other(Passed::OfKey, behind) {
+    let behind = behind_those(ByteKind::BeforeKey, line);
+    match first_other(ByteKind::OfKey, behind) {
         Some(at) => &behind[..at],
         None => behind,
     }
@@ -298,7 +298,7 @@ fn first_word(line: &[u8]) -> &[u8]
 fn opens_table(line: &[u8]) -> bool
     ensures { result ≡ opens_table line.now }
 {
-    behind_word(behind_passed(Passed::Blanks, line), b"[").is_some()
+    behind_word(behind_those(ByteKind::Blanks, line), b"[").is_some()
 }
 
 /// The table in which the first word of a line is a key, and the one that is open below the line.
@@ -491,17 +491,17 @@ fn document(alloc: Global, text: &str) -> Result<Option<Table>, AllocError>
 fn put_of_table(
     alloc: Global,
     told: &mut Vec<u8>,
-    reader: Reader,
+    owner: KeyOwner,
     opening: u32,
     section: &[u8],
     table: &Table,
 ) -> Result<(), AllocError>
     ensures { OnOk result (told.new.items ≡ told.old.items
         ++ told_of_keys opening (lines_in section.now).lines
-        (unknown_of reader (table_view table.now))) }
+        (unknown_of owner (table_view table.now))) }
 {
     let mut keys = Vec::new(alloc);
-    let Ok(()) = add_of(alloc, reader, &mut keys, table) else {
+    let Ok(()) = add_of(alloc, owner, &mut keys, table) else {
         return Err(AllocError);
     };
     put_keys(alloc, told, opening, section, &mut keys)
@@ -512,18 +512,18 @@ fn put_of_table(
 fn put_of(
     alloc: Global,
     told: &mut Vec<u8>,
-    reader: Reader,
+    owner: KeyOwner,
     opening: u32,
     section: &[u8],
 ) -> Result<(), AllocError>
     ensures { OnOk result (told.new.items
-        ≡ told.old.items ++ told_of_section (unknown_of reader) opening section.now) }
+        ≡ told.old.items ++ told_of_section (unknown_of owner) opening section.now) }
 {
     let Ok(text) = str::from_utf8(section) else {
         return Ok(());
     };
     match document(alloc, text) {
-        Ok(Some(table)) => put_of_table(alloc, told, reader, opening, section, &table),
+        Ok(Some(table)) => put_of_table(alloc, told, owner, opening, section, &table),
         Ok(None) => Ok(()),
         Err(error) => Err(error),
     }
@@ -535,7 +535,7 @@ fn put_from_issuer(alloc: Global, told: &mut Vec<u8>, unread: &Unread<'_>) -> Re
     ensures { OnOk result (told.new.items ≡ told.old.items ++ unknown_from_issuer unread.now) }
 {
     match read_section(unread, ScheduleCode::Issuer, b"issuer ", 100) {
-        Ok(section) => put_of(alloc, told, Reader::Issuer, unread.line(), section.text),
+        Ok(section) => put_of(alloc, told, KeyOwner::Issuer, unread.line(), section.text),
         Err(_) => Ok(()),
     }
 }
@@ -554,7 +554,7 @@ pub fn put_unknown_keys(
 {
     match read_section(unread, ScheduleCode::Sheet, b"sheet ", 200_000) {
         Ok(section) => {
-            put_of(alloc, told, Reader::Sheet, unread.line(), section.text)?;
+            put_of(alloc, told, KeyOwner::Sheet, unread.line(), section.text)?;
             put_from_issuer(alloc, told, &section.rest)
         }
         Err(_) => put_from_issuer(alloc, told, unread),
