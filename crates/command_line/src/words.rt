@@ -1,14 +1,14 @@
 //! The words of the command line.
 
 ghost use Rattle.std.specs.Prelude.{Bool, ◌≡◌, ◌≢◌, ◌≤◌, ℕ, ℤ, Err, IfOk, IfSome, None, Option, Some, false, map, string_bytes, []};
-ghost use Rattle.clap.specs.Words.{app_of, found_of, kind_of, new_app, rows_of, rule_of, with_rule, with_subcommand};
+ghost use Rattle.clap.specs.Words.{App, app_of, found_of, kind_of, new_app, rows_of, rule_of, with_rule, with_subcommand};
 ghost use Rattle.schedule_writer.specs.declared.asked.Request.{Request};
 ghost use Rattle.clap.specs.declared.builder.command.Command.TheViews.{out-Command};
 ghost use Rattle.command_line.specs.declared.commands.Command.{Command};
 ghost use Rattle.command_line.specs.declared.commands.Kind.{Kind};
 ghost use Rattle.sheet_changes.specs.declared.changes.Asked.{Asked};
 ghost use Rattle.command_line.specs.CommandLine.{bare_grammar, check_grammar, flag_option, grammar_of_focusd, kind_text, number_option, period_grammar, required, threads_grammar, Asks, AsksForHelp, GivesAsked, GivesDay, GivesFlag, GivesKind, GivesNumber, GivesPeriod, GivesRequest, GivesSize, GivesThrough, IsNamed, schedule_grammar, sheets_grammar, text_option};
-ghost use Rattle.command_line.specs.Inner.Grammars.{with_bills, with_groups, with_schedules};
+ghost use Rattle.command_line.specs.Inner.Grammars.{with_first, with_third, with_second};
 ghost use Rattle.command_line.specs.Inner.Requests.{IsRequestFor};
 
 use crate::commands::{Command, Kind};
@@ -202,16 +202,16 @@ fn threads_grammar<'a>(alloc: Global) -> Result<clap::Command<'a>, LineFault>
     ensures memory { result ≢ Err LineFault.Line }
 {
     let threads = plain_grammar(alloc, "threads", THREADS);
-    let nodes = counting(threads, alloc, "nodes", "How many nodes: 1 to 9", 9)?;
-    let agents = counting(nodes, alloc, "agents", "How many agents: 1 to 9", 9)?;
-    let batches = counting(
-        agents,
+    let threads = counting(threads, alloc, "nodes", "How many nodes: 1 to 9", 9)?;
+    let threads = counting(threads, alloc, "agents", "How many agents: 1 to 9", 9)?;
+    let threads = counting(
+        threads,
         alloc,
         "batches",
         "How many batches of each agent: 1 to 99",
         99,
     )?;
-    counting(batches, alloc, "periods", "How many months: 1 to 12", 12)
+    counting(threads, alloc, "periods", "How many months: 1 to 12", 12)
 }
 
 // `check --kind KIND`
@@ -292,55 +292,57 @@ fn bare_grammar<'a>(alloc: Global) -> Result<clap::Command<'a>, LineFault>
     )
 }
 
+// The grammar with a command more, if there was memory for that
 fn with<'a>(
     grammar: clap::Command<'a>,
-    command: clap::Command<'a>,
+    command: Result<clap::Command<'a>, LineFault>,
 ) -> Result<clap::Command<'a>, LineFault>
-    requires local { (out-Command command).has_globals ≡ false }
-    ensures app { IfOk result
-        (λ c. app_of c ≡ with_subcommand (app_of grammar.entry) (app_of command.entry).top) }
+    requires local { IfOk command (λ c. (out-Command c).has_globals ≡ false) }
+    requires memory { command ≢ Err LineFault.Line }
+    ensures app { (a : App) → IfOk command.entry (λ c. app_of c ≡ a)
+        → IfOk result (λ g. app_of g ≡ with_subcommand (app_of grammar.entry) a.top) }
     ensures memory { result ≢ Err LineFault.Line }
 {
+    let Ok(command) = command else {
+        return Err(LineFault::OutOfMemory);
+    };
     match grammar.subcommand(command) {
         Ok(grammar) => Ok(grammar),
         Err(_) => Err(LineFault::OutOfMemory),
     }
 }
 
-// With the commands for a batch or an input: `rate`, `play` and `check`
-fn with_bills<'a>(alloc: Global, grammar: clap::Command<'a>) -> Result<clap::Command<'a>, LineFault>
-    ensures app { IfOk result (λ c. app_of c ≡ with_bills (app_of grammar.entry)) }
+// With `rate`, `play` and `check`
+fn with_first<'a>(grammar: clap::Command<'a>, alloc: Global) -> Result<clap::Command<'a>, LineFault>
+    ensures app { IfOk result (λ c. app_of c ≡ with_first (app_of grammar.entry)) }
     ensures memory { result ≢ Err LineFault.Line }
 {
-    let rating = with(grammar, period_grammar(alloc, "rate", RATE)?)?;
-    let playing = with(rating, plain_grammar(alloc, "play", PLAY))?;
-    with(playing, check_grammar(alloc)?)
+    let rating = with(grammar, period_grammar(alloc, "rate", RATE))?;
+    let playing = with(rating, Ok(plain_grammar(alloc, "play", PLAY)))?;
+    with(playing, check_grammar(alloc))
 }
 
-// With those around a schedule: `file`, `schedule` and `sheets`
-fn with_schedules<'a>(
-    alloc: Global,
+// With `file`, `schedule` and `sheets`
+fn with_second<'a>(
     grammar: clap::Command<'a>,
+    alloc: Global,
 ) -> Result<clap::Command<'a>, LineFault>
-    ensures app { IfOk result (λ c. app_of c ≡ with_schedules (app_of grammar.entry)) }
+    ensures app { IfOk result (λ c. app_of c ≡ with_second (app_of grammar.entry)) }
     ensures memory { result ≢ Err LineFault.Line }
 {
-    let filing = with(grammar, period_grammar(alloc, "file", FILE)?)?;
-    let scheduling = with(filing, schedule_grammar(alloc)?)?;
-    with(scheduling, sheets_grammar(alloc)?)
+    let filing = with(grammar, period_grammar(alloc, "file", FILE))?;
+    let scheduling = with(filing, schedule_grammar(alloc))?;
+    with(scheduling, sheets_grammar(alloc))
 }
 
-// With those that run a group, or a part of one: `threads`, `node` and `agent`
-fn with_groups<'a>(
-    alloc: Global,
-    grammar: clap::Command<'a>,
-) -> Result<clap::Command<'a>, LineFault>
-    ensures app { IfOk result (λ c. app_of c ≡ with_groups (app_of grammar.entry)) }
+// With `threads`, `node` and `agent`
+fn with_third<'a>(grammar: clap::Command<'a>, alloc: Global) -> Result<clap::Command<'a>, LineFault>
+    ensures app { IfOk result (λ c. app_of c ≡ with_third (app_of grammar.entry)) }
     ensures memory { result ≢ Err LineFault.Line }
 {
-    let threading = with(grammar, threads_grammar(alloc)?)?;
-    let nodes = with(threading, explained(alloc, "node", NODE, NODE_INPUT))?;
-    with(nodes, explained(alloc, "agent", AGENT, AGENT_INPUT))
+    let threading = with(grammar, threads_grammar(alloc))?;
+    let nodes = with(threading, Ok(explained(alloc, "node", NODE, NODE_INPUT)))?;
+    with(nodes, Ok(explained(alloc, "agent", AGENT, AGENT_INPUT)))
 }
 
 // The words of all commands, without the program's name
@@ -348,9 +350,9 @@ fn grammar<'a>(alloc: Global) -> Result<clap::Command<'a>, LineFault>
     ensures app { IfOk result (λ c. app_of c ≡ grammar_of_focusd) }
     ensures memory { result ≢ Err LineFault.Line }
 {
-    let bills = with_bills(alloc, bare_grammar(alloc)?)?;
-    let schedules = with_schedules(alloc, bills)?;
-    with_groups(alloc, schedules)
+    let first = with_first(bare_grammar(alloc)?, alloc)?;
+    let second = with_second(first, alloc)?;
+    with_third(second, alloc)
 }
 
 // The period that an option gives, where it is one

@@ -1,11 +1,16 @@
-use Rattle.std.proofs.Common.{◌≡◌, ap₂, ◌∙◌, codes, IfOk, refl, subst}
-use Rattle.clap.specs.Words.{App, app_of, with_rule}
+use Rattle.std.proofs.Common.{◌≡◌, ap, ◌∙◌, codes, IfOk, subst}
+use Rattle.clap.specs.Words.{App, app_of, Rule, with_rule}
+use Rattle.command_line.specs.CommandLine.{number_option, required}
 use Rattle.command_line.proofs.words.threads_grammar.Goals as goal
 
 -- each call adds its option to what the command was
 pub returns-clause-app : goal.returns-clause-app
 returns-clause-app c =
-    let nodes = c.in_ok-nodes.ensures.app ∙ ap₂ with_rule c.plain_grammar-threads.ensures.app refl in
-    let agents = c.in_ok-agents.ensures.app ∙ ap₂ with_rule nodes refl in
-    let batches = c.in_ok-batches.ensures.app ∙ ap₂ with_rule agents refl in
-    subst (λ (a : App). IfOk c.counting-4.result (λ g. app_of g ≡ a)) (ap₂ with_rule batches refl) c.counting-4.ensures.app
+    let nodes : Rule = required (number_option (codes "nodes") 1 9) in
+    let agents : Rule = required (number_option (codes "agents") 1 9) in
+    let batches : Rule = required (number_option (codes "batches") 1 99) in
+    let periods : Rule = required (number_option (codes "periods") 1 12) in
+    let one = c.in_ok-threads.ensures.app ∙ ap (λ (a : App). with_rule a nodes) c.plain_grammar-threads.ensures.app in
+    let two = c.in_ok-threads-2.ensures.app ∙ ap (λ (a : App). with_rule a agents) one in
+    let three = c.in_ok-threads-3.ensures.app ∙ ap (λ (a : App). with_rule a batches) two in
+    subst (λ (a : App). IfOk c.counting-4.result (λ g. app_of g ≡ a)) (ap (λ (a : App). with_rule a periods) three) c.counting-4.ensures.app
