@@ -146,7 +146,7 @@ fn put_answer(
     put_ahead_of(latest, warned, line, event, reply)
 }
 
-/// Does one event that was made of what is planned, which begins on a line. It is by reference, for the prover's time alone
+/// Does one event that was made of what is planned, which begins on a line. The event is by reference, for the prover's time alone
 /// (docs/DECISIONS.md).
 fn check_made(
     alloc: Global,
@@ -292,7 +292,8 @@ fn check_behind(
     check_events(alloc, &mut world, text, rest, most, told, warned)
 }
 
-/// Appends the keys that no reader takes to what is warned of, and plays the events behind what stands above them.
+/// Appends the keys that no reader takes to what is warned of, and then what is wrong with the events behind what stands above
+/// them.
 fn check_read(
     alloc: Global,
     shared: &Arc<Vec<u8>>,

@@ -92,11 +92,14 @@ struct Started {
 }
 
 /// No thread yet, with room for so many and for what they bring back.
-fn none_started(alloc: Global, nodes: usize, agents: usize) -> Result<Started, AllocError> {
-    let count = nodes.saturating_add(agents);
-    let nodes = Vec::with_capacity(alloc, nodes)?;
-    let agents = Vec::with_capacity(alloc, agents)?;
-    let logs = Vec::with_capacity(alloc, count)?;
+fn none_started(
+    alloc: Global,
+    node_count: usize,
+    agent_count: usize,
+) -> Result<Started, AllocError> {
+    let nodes = Vec::with_capacity(alloc, node_count)?;
+    let agents = Vec::with_capacity(alloc, agent_count)?;
+    let logs = Vec::with_capacity(alloc, node_count.saturating_add(agent_count))?;
     Ok(Started {
         nodes,
         agents,
@@ -226,7 +229,7 @@ fn run_in_scope<'s, E, R: Threads + Wait + Sync, G: Gate + Sync>(
 }
 
 /// Runs a thread for each node and each agent, and gives what all threads bring back: first the agents' logs, then the
-/// nodes'. The scope's closure does no more than one call: what it captures makes each step of it dear to prove.
+/// nodes'. The scope's closure does no more than one call, for the prover's time alone (docs/DECISIONS.md).
 pub(crate) fn run_threads<R: Threads + Wait + Sync, G: Gate + Sync>(
     rt: &R,
     alloc: Global,

@@ -91,7 +91,7 @@ fn step_seen(
     next_seen(alloc, plan, seen, journals, planned, &reply)
 }
 
-/// The same, and the batch of the event is kept, if it has one. It is by reference, for the prover's time alone
+/// The same, and the batch of the event is kept, if it has one. The event is by reference, for the prover's time alone
 /// (docs/DECISIONS.md).
 fn do_made(
     alloc: Global,

@@ -159,6 +159,7 @@ fn check_batches(
         issuer,
         batch_from,
     } = given;
+    // Of one node and 64 agents, as it is played for a schedule.
     let mut world = opening_world(alloc, 1, 0, 64, sheet, issuer)?;
     check_items(alloc, &mut world, input, batch_from, told, warned)
 }

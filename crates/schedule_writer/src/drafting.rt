@@ -128,7 +128,7 @@ fn put_asked(draft: &mut Draft, many: u8) -> Result<(), Stop> {
     put_round(draft, prepare, many)
 }
 
-/// Appends that a majority takes what node 0 proposes, which takes it too and tells all others what was decided.
+/// Appends that a majority takes what node 0 proposes, and that it tells all others what was decided.
 fn put_decided(draft: &mut Draft, many: u8, nodes: u8) -> Result<(), Stop> {
     let accept = draft.packet()?;
     put_round(draft, accept, many)?;

@@ -187,7 +187,7 @@ fn judge(
 }
 
 /// A group of one node and 64 agents, in which nothing has happened.
-pub(crate) fn world_before(
+fn world_before(
     alloc: Global,
     sheet: &Arc<Sheet>,
     issuer: &Arc<Issuer>,

@@ -207,7 +207,7 @@ fn schedule_of(
     let sheet = match shared(alloc, sheet) {
         Ok(sheet) => sheet,
         Err(fault) => {
-            // Dropped by a call for the same reason.
+            // Dropped by a call for the prover's time alone (docs/DECISIONS.md).
             drop(issuer);
             return Err(fault);
         }

@@ -34,7 +34,7 @@ fn run_of<R: Threads + Wait + Sync>(rt: &R, alloc: Global, size: Size) -> Result
     }
 }
 
-/// Writes the report of a run, which is read by reference: a run has many parts, and is so dropped in one place alone.
+/// Writes the report of a run. That is by reference, for the prover's time alone (docs/DECISIONS.md).
 fn write_report<W: Sink>(alloc: Global, run: &Run, writer: &mut W) -> Result<(), ThreadsFault>
     ensures written { OnOk result
         (Appends (W.contents writer.old) (W.contents writer.new) (report_text run.now)) }

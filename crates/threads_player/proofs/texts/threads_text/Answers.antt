@@ -1,13 +1,8 @@
-use Rattle.std.proofs.Common.{Result, Ok, Err, OnOk}
+use Rattle.std.proofs.lemmas.Result.{on_ok_weaker}
 use Rattle.threads_player.proofs.texts.threads_text.Goals as goal
 
--- what is written makes known of which run
-on_ok : {A E P Q : Type 0} (r : Result A E) → (P → Q) → OnOk r P → OnOk r Q
-on_ok (Ok x) more is = more is
-on_ok (Err why) more is = tt
-
 pub returns-clause-written : goal.returns-clause-written
-returns-clause-written g c = on_ok c.write_report.result (λ appended. (_, c.in_ok-run.ensures.run, appended)) c.write_report.ensures.written
+returns-clause-written g c = on_ok_weaker c.write_report.result (λ appended. (_, c.in_ok-run.ensures.run, appended)) c.write_report.ensures.written
 
 pub returns-clause-prefix : goal.returns-clause-prefix
 returns-clause-prefix g c = λ is. (_, c.in_ok-run.ensures.run, c.write_report.ensures.prefix is)

@@ -115,6 +115,6 @@ returns-clause-receipt c =
     let items = c.self.inside.history.items in
     let before = ap (λ (b : Book). length b.history) c.self.view_is in
     let index : c.len-index.result ≡ length c.args.self.now.history =
-        omega (arith, c.len-index.ensures, c.in_ok-reserve.ensures.len, c.self.inside.history.ok.0, length-map items entry_of, before) in
+    omega (arith, c.len-index.ensures, c.in_ok-reserve.ensures.len, c.self.inside.history.ok.0, length-map items entry_of, before) in
     let told = ap (λ (o : Outcome). o.0) c.in_ok-reply.ensures.ok ∙ ap (λ (b : Book). (step b.world (event_of c.args.event)).0) c.self.view_is in
     ap₂ told_at index (c.in_ok-told.ensures.copy ∙ told)
