@@ -146,6 +146,86 @@ a_vote_not_stored_makes_two_files = record {
 so_a_vote_not_stored_makes_no_history : IsHistory (group 1 1) (begun (group 1 1)) with_a_vote_not_stored → ⊥
 so_a_vote_not_stored_makes_no_history = is_no_history (group 1 1) 6 with_a_vote_not_stored a_vote_not_stored_makes_two_files
 
+-- ---- a round that was not stored
+
+-- What node 0 keeps but for its round: as if the ballot that it began had left it before the round was stored.
+abbrev lacking_the_round : Kept
+lacking_the_round = record {
+  round = 0;
+  learned = [];
+  acceptor = record { promised = Some 1; vote = Some (record { ballot = 1; cut = low }) };
+  holding = [];
+}
+
+-- Node 0 proposes the low cut in its first ballot and votes for it, and the observer learns it. Then node 0 goes on without its round, and so begins
+-- the same ballot again: the promise that it gave in it, before it voted, still counts, and the ballot gets a second cut.
+abbrev with_a_round_not_stored : List Act
+with_a_round_not_stored =
+    NodeDoes 0 BeginBallot ∷ takes 0 (Prepare 0 1) ∷ takes 0 (Promise 0 0 1 None) ∷ takes 0 (Accept 0 1 low) ∷ takes 1 (Accepted 0 0 1 low)
+    ∷ NodeDoes 1 (ExportPeriod 0) ∷ NodeGoesOn 0 lacking_the_round ∷ journals_b ∷ takes 0 (CarriesBatch b) ∷ NodeDoes 0 BeginBallot
+    ∷ takes 0 (Promise 0 0 1 None) ∷ takes 0 (Accept 0 1 high) ∷ takes 0 (Accepted 0 0 1 high) ∷ NodeDoes 0 (ExportPeriod 0) ∷ []
+
+a_round_not_stored_makes_two_files : GoesWrongAt (group 1 1) 6 with_a_round_not_stored
+unfolding days_from_civil day_count days_of_years days_of_months worth_of decimals_of digits
+a_round_not_stored_makes_two_files = record {
+  others_right =
+      (lit< tt, tt) ⨾
+      (lit< tt, λ same. (0, lit< tt, refl)) ⨾
+      (lit< tt, λ same. (1, lit< tt, refl)) ⨾
+      (lit< tt, λ same. (2, lit< tt, refl)) ⨾
+      (lit< tt, λ same. (3, lit< tt, refl)) ⨾
+      (lit< tt, tt) ⨾
+      (lit≤ tt, lit≤ tt) ⨾
+      (lit< tt, λ same. (4, lit< tt, refl)) ⨾
+      (lit< tt, tt) ⨾
+      (lit< tt, λ same. (1, lit< tt, refl)) ⨾
+      (lit< tt, λ same. (6, lit< tt, refl)) ⨾
+      (lit< tt, λ same. (7, lit< tt, refl)) ⨾
+      (lit< tt, tt) ⨾ tt;
+  files = low_and_high (5, lit< tt, refl) (13, lit< tt, refl);
+}
+
+so_a_round_not_stored_makes_no_history : IsHistory (group 1 1) (begun (group 1 1)) with_a_round_not_stored → ⊥
+so_a_round_not_stored_makes_no_history = is_no_history (group 1 1) 6 with_a_round_not_stored a_round_not_stored_makes_two_files
+
+-- ---- two packets that cause each other
+
+-- Node 1 takes a cut that only later is sent, by node 2, which learned it from node 1: each of the two packets is sent by a process of the group, and
+-- each since the other one was taken.
+abbrev with_packets_in_a_ring : List Act
+with_packets_in_a_ring =
+    exports_b ++ takes 1 (Decided 0 low) ∷ takes 1 (Prepare 0 1) ∷ takes 2 (Decided 0 low) ∷ takes 2 (Prepare 0 1) ∷ NodeDoes 1 (ExportPeriod 0) ∷ []
+
+packets_in_a_ring_make_two_files : GoesWrongAt (group 1 2) 8 with_packets_in_a_ring
+unfolding days_from_civil day_count days_of_years days_of_months worth_of decimals_of digits
+packets_in_a_ring_make_two_files = record {
+  others_right =
+      (lit≤ tt, lit≤ tt) ⨾
+      (lit< tt, λ same. (0, lit< tt, refl)) ⨾
+      (lit< tt, tt) ⨾
+      (lit< tt, λ same. (1, lit< tt, refl)) ⨾
+      (lit< tt, λ same. (2, lit< tt, refl)) ⨾
+      (lit< tt, λ same. (3, lit< tt, refl)) ⨾
+      (lit< tt, λ same. (4, lit< tt, refl)) ⨾
+      (lit< tt, tt) ⨾
+      (lit< tt, λ same. (1, lit< tt, refl)) ⨾
+      (lit< tt, λ same. (5, lit< tt, refl)) ⨾
+      (lit< tt, λ same. (1, lit< tt, refl)) ⨾
+      (lit< tt, tt) ⨾ tt;
+  files = low_and_high (12, lit< tt, refl) (7, lit< tt, refl);
+}
+
+-- what node 1 sends once it has learned the cut, and what node 2 does, whose packet node 1 had taken
+each_sends_the_cut :
+    (slice_get (answers (group 1 2) (begun (group 1 2)) with_packets_in_a_ring) 9 ≡ Some (record { words = HasTaken None; sends = Some (Decided 0 low) }))
+    × (slice_get (answers (group 1 2) (begun (group 1 2)) with_packets_in_a_ring) 11
+    ≡ Some (record { words = HasTaken None; sends = Some (Decided 0 low) }))
+unfolding days_from_civil day_count days_of_years days_of_months worth_of decimals_of digits
+each_sends_the_cut = (refl, refl)
+
+so_packets_in_a_ring_make_no_history : IsHistory (group 1 2) (begun (group 1 2)) with_packets_in_a_ring → ⊥
+so_packets_in_a_ring_make_no_history = is_no_history (group 1 2) 8 with_packets_in_a_ring packets_in_a_ring_make_two_files
+
 -- ---- a node that goes on with an older state
 
 -- Of three nodes, node 0 chooses the low cut by its own vote and that of node 1, and learns it.
@@ -155,7 +235,7 @@ chooses_low =
     ∷ takes 0 (Accept 0 3 low) ∷ takes 1 (Accept 0 3 low) ∷ takes 0 (Accepted 0 0 3 low) ∷ takes 0 (Accepted 1 0 3 low) ∷ NodeDoes 0 (ExportPeriod 0) ∷ []
 
 -- Then node 2 chooses the high cut by its own vote and that of node 1.
-abbrev chooses_high : List Act
+abbrev pub chooses_high : List Act
 chooses_high =
     journals_b ∷ takes 2 (CarriesBatch b) ∷ NodeDoes 2 BeginBallot ∷ takes 1 (Prepare 0 5) ∷ takes 2 (Prepare 0 5) ∷ takes 2 (Promise 1 0 5 None)
     ∷ takes 2 (Promise 2 0 5 None) ∷ takes 1 (Accept 0 5 high) ∷ takes 2 (Accept 0 5 high) ∷ takes 2 (Accepted 1 0 5 high) ∷ takes 2 (Accepted 2 0 5 high)
@@ -204,17 +284,17 @@ with_its_own_state_it_tells_its_vote :
 unfolding days_from_civil day_count days_of_years days_of_months worth_of decimals_of digits
 with_its_own_state_it_tells_its_vote = refl
 
--- ---- an agent whose journal is lost, or that is run twice
+-- ---- an agent whose journal is lost
 
-abbrev other_text : List ℕ
+abbrev pub other_text : List ℕ
 other_text = codes "B1|1|1|1\n" ++ reading_1 ++ codes "\n"
 
 -- another batch with the agent's first sequence
 abbrev pub c : Batch
 c = elim (batch_in other_text) [ Ok x ↦ x | Err fault ↦ b ]
 
--- Node 0 has the agent's first batch, and chooses and exports the cut up to it. The agent goes on without its journal, or a second one is begun
--- beside it, and journals another first batch. Node 1 gets that one.
+-- Node 0 has the agent's first batch, and chooses and exports the cut up to it. The agent goes on without its journal, and journals another first
+-- batch. Node 1 gets that one.
 abbrev with_a_lost_journal : List Act
 with_a_lost_journal =
     exports_b ++ AgentGoesOn 1 [] ∷ AgentDoes 1 (JournalBatch (Good other_text)) ∷ takes 1 (CarriesBatch c) ∷ takes 1 (Accepted 0 0 1 high)

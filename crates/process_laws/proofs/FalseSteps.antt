@@ -1,6 +1,6 @@
 -- What a node by itself answers where it leaves out a test, or was begun otherwise than the others; and where it has learned what does not fit.
 use Rattle.std.proofs.Common.{ap, arith}
-use Rattle.std.specs.Prelude.{◌≡◌, ℕ, List, [], ◌∷◌, length, codes, refl}
+use Rattle.std.specs.Prelude.{◌≡◌, ℕ, List, [], ◌∷◌, length, codes, refl, slice_index}
 use Rattle.std.specs.Fmt.{digits}
 use Rattle.jiff_core.specs.Calendar.{days_from_civil, day_count, days_of_years, days_of_months}
 use Rattle.metering_model.specs.NumberText.{worth_of, decimals_of}
@@ -8,12 +8,13 @@ use Rattle.metering_model.specs.Batch.{Batch}
 use Rattle.metering_model.specs.Cut.{Cut}
 use Rattle.metering_model.specs.World.{Decided, Node, Snapshot, new_kept, wake}
 use Rattle.metering_model.specs.Deliveries.{handled}
-use Rattle.metering_model.proofs.Samples.{empty_sheet, sheet_with_region}
+use Rattle.metering_model.specs.Sheet.{Issuer}
+use Rattle.metering_model.proofs.Samples.{empty_sheet, issuer_1, sheet_with_region}
 use Rattle.process_laws.specs.LocalSteps.{Group, Foreign, Unfit, HasExported, saying, refusing, bare_world, unmoved, taking, exporting}
 use Rattle.process_laws.proofs.FalseHistories.{group, b, c, low, high, up_to, cuts_differ}
 
 -- a node that has learned these cuts, and holds these batches
-abbrev that_has : List Cut → List Batch → Node
+abbrev pub that_has : List Cut → List Batch → Node
 that_has cuts batches = wake (record new_kept { learned = cuts; holding = batches })
 
 -- the group of the examples: one voter, one observer and one agent
@@ -71,6 +72,23 @@ with_a_price_it_is_exported = refl
 without_a_price_it_is_unfit : exporting (record one { sheet = empty_sheet }) (that_has (high ∷ []) (c ∷ [])) 0 ≡ refusing Unfit
 unfolding days_from_civil day_count days_of_years days_of_months worth_of decimals_of digits
 without_a_price_it_is_unfit = refl
+
+-- ---- two issuers
+
+-- the same group, but that its bills are in another currency
+abbrev in_euros : Issuer
+in_euros = record issuer_1 { currency = codes "EUR" }
+
+abbrev exported_in_euros : Snapshot
+exported_in_euros = record (up_to high (b ∷ [])) { issuer = in_euros }
+
+under_another_issuer_it_exports_another_file : exporting (record one { issuer = in_euros }) learned 0 ≡ saying (HasExported exported_in_euros)
+unfolding days_from_civil day_count days_of_years days_of_months worth_of decimals_of digits
+under_another_issuer_it_exports_another_file = refl
+
+so_two_issuers_make_two_files : exported_in_euros ≡ up_to high (b ∷ []) → ⊥
+so_two_issuers_make_two_files same =
+    let letters : ◌≡◌ {A = ℕ} 69 85 = ap (λ (s : Snapshot). slice_index s.issuer.currency 0) same in absurd (omega (arith, letters))
 
 -- ---- cuts that go back
 

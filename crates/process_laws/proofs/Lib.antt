@@ -18,5 +18,5 @@ pub mod WorkedHistory
 pub mod WorkedGroup
 pub mod WorkedGroupEvents
 pub mod FalseHistories
-pub mod RunTwice
 pub mod FalseSteps
+pub mod RunTwice
