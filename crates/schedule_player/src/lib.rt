@@ -4,6 +4,7 @@
 mod events;
 mod play;
 mod playing;
+mod rendered_once;
 mod reply_lines;
 mod reply_texts;
 

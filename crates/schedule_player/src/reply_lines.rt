@@ -1,14 +1,14 @@
-//! The lines of replies that wait to be written. The file of the last export is at hand until another file or a kept text comes,
-//! and an export of its period is not rendered again.
+//! The lines of replies that wait to be written, and the file that stands after the last of them.
 
-ghost use Rattle.std.specs.Prelude.{◌≡◌, ◌↔◌, ◌≤◌, ◌++◌, [], true, false, length, None, IsTrue, OnOk, OnErr};
+ghost use Rattle.std.specs.Prelude.{◌≡◌, ◌↔◌, ◌≤◌, ◌++◌, [], false, length, None, IsTrue, OnOk, OnErr};
 ghost use Rattle.std.specs.Io.KnownBytes.{Appends};
 ghost use Rattle.metering_model.specs.Transcript.{reply_text};
 ghost use Rattle.group_events.specs.Replies.{reply_of};
-ghost use Rattle.schedule_player.specs.Inner.Held.{FitsReply, exported_period, has_file, held_with, is_same_period, told, told_of, waiting};
+ghost use Rattle.schedule_player.specs.Inner.Held.{FitsReply, has_file, held_with, waiting};
 ghost use Rattle.schedule_player.specs.Inner.Writing.{FailsWithin};
 
-use crate::reply_texts::{has_file, set_file, set_line};
+use crate::rendered_once::hold;
+use crate::reply_texts::{has_file, set_line};
 use counted_io::{Failed, Sink, write_all};
 use export_file::{HeldText, LineRoom};
 use group_events::{Period, Reply};
@@ -65,26 +65,6 @@ fn join_file(lines: &mut Vec<u8>, waits: &mut bool, file: &mut HeldText) -> Resu
     Ok(())
 }
 
-/// The period of an export, if a reply is one.
-fn exported(reply: &Reply) -> Option<Period>
-    ensures { result ≡ exported_period (reply_of reply.now) }
-{
-    match reply {
-        Reply::Exported(snapshot) => Some(snapshot.period()),
-        _ => None,
-    }
-}
-
-/// Whether a reply is an export of the period.
-fn is_export_of(period: Option<Period>, reply: &Reply) -> bool
-    ensures { result ≡ is_same_period period (exported_period (reply_of reply.now)) }
-{
-    match (period, exported(reply)) {
-        (Some(held), Some(period)) => held.number() == period.number(),
-        _ => false,
-    }
-}
-
 /// Puts the line of a reply without a file after other lines, from a buffer of its own.
 fn add_line(words: &mut Vec<u8>, lines: &mut Vec<u8>, reply: &Reply) -> Result<(), AllocError>
     requires { has_file (reply_of reply.now) ≡ false }
@@ -94,30 +74,6 @@ fn add_line(words: &mut Vec<u8>, lines: &mut Vec<u8>, reply: &Reply) -> Result<(
 {
     set_line(words, reply)?;
     lines.extend_from_slice(words)
-}
-
-/// Makes a line and a file those of a reply. Where they are of an export of the same period, they are its own.
-fn hold(
-    alloc: Global,
-    room: &mut LineRoom,
-    reply: &Reply,
-    held: &mut Option<Period>,
-    line: &mut Vec<u8>,
-    file: &mut HeldText,
-) -> Result<(), AllocError>
-    requires there { has_file (reply_of reply.now) ≡ true }
-    requires fits { FitsReply (told held.old line.old.items file.old) (reply_of reply.now) }
-    ensures text { OnOk result (line.new.items ++ file.new ≡ reply_text (reply_of reply.now)) }
-    ensures held { OnOk result
-        (told held.new line.new.items file.new ≡ told_of (reply_of reply.now)) }
-{
-    if is_export_of(*held, reply) {
-        return Ok(());
-    }
-    *held = None;
-    set_file(alloc, room, reply, line, file)?;
-    *held = exported(reply);
-    Ok(())
 }
 
 impl ReplyLines {

@@ -1,7 +1,7 @@
 use Rattle.group_events.specs.Replies.{reply_of}
 use Rattle.std.proofs.Common.{sym, ◌∙◌}
 use Rattle.schedule_player.proofs.Held.{held_is, is_told, is_told_of}
-use Rattle.schedule_player.proofs.reply_lines.hold.Goals as goal
+use Rattle.schedule_player.proofs.rendered_once.hold.Goals as goal
 
 pub returns-then-is_export_of-clause-text : goal.returns-then-is_export_of-clause-text
 returns-then-is_export_of-clause-text c =
