@@ -108,13 +108,13 @@ fn read_batch<'a>(
 
 /// Where a batch stands among all.
 #[derive(Clone, Copy)]
-struct Place {
+struct BatchPlace {
     agent: u8,
     seq: u32,
 }
 
 /// Whether the place comes after the other, by agent and then by sequence.
-fn comes_behind(place: Place, other: Place) -> bool
+fn comes_behind(place: BatchPlace, other: BatchPlace) -> bool
     ensures { result ≡ comes_behind other.agent other.seq place.agent place.seq }
 {
     other.agent < place.agent || (other.agent == place.agent && other.seq < place.seq)
@@ -142,11 +142,11 @@ fn read_batches<'a>(
     };
     let mut rest = text;
     let mut line = first;
-    let mut last = Place { agent: 0, seq: 0 };
+    let mut last = BatchPlace { agent: 0, seq: 0 };
     for _ in 0..count {
         let (batch, behind) = read_batch(alloc, rest, line)?;
         let view = batch.view();
-        let place = Place {
+        let place = BatchPlace {
             agent: view.agent(),
             seq: view.seq(),
         };

@@ -31,7 +31,7 @@ use Rattle.log_text.proofs.IncrementLaws.{increment_lacks_feed, increment_lines_
 use Rattle.log_text.proofs.LogLaws.{lines_above}
 use Rattle.log_text.proofs.WrittenLines.{feeds_end_lines}
 use Rattle.process_text.specs.Answers.{added_text, answer_text, lines_of_packet, packet_sent_text, process_refusal_text, refused_text, sent_text, words_text}
-use Rattle.process_line_laws.specs.Told.{CanBeCounted, FirstTold, MayBeAdded, MayBeSent, Place, ToLog, ToNodes, Section, Told, first_by, first_told, in_place, just, lines_under, meant, section_said, texts_sent, with_lines}
+use Rattle.process_line_laws.specs.Told.{CanBeCounted, FirstTold, MayBeAdded, MayBeSent, Receiver, ToLog, ToNodes, Section, Told, first_by, first_told, for_receiver, just, lines_under, meant, section_said, texts_sent, with_lines}
 use Rattle.process_line_laws.proofs.ReadAnswers.{increment_said, lines_of_sent, past_space, send_lacks_feed, send_words, sent_is_lines, sent_lacks_feed, packet_said}
 
 -- the text is first, and told so, with that behind it
@@ -45,7 +45,7 @@ by_section l ls rest m o = elim o [
   | None ↦ record { told = just (text_of_lines (l ∷ take (lines_under l) ls)); behind = text_of_lines (drop (lines_under l) ls) ++ rest }
   | Some s ↦
       let more : FirstTold = first_by m (drop s.lines ls) rest in
-      record { told = with_lines s.place (text_of_lines (take s.lines ls)) more.told; behind = more.behind }
+      record { told = with_lines s.receiver (text_of_lines (take s.lines ls)) more.told; behind = more.behind }
 ]
 
 -- ---- the last line
@@ -213,14 +213,14 @@ words_first (RefusedFor why) behind can =
 
 -- ---- a section above it
 
-abbrev with_first : Place → List ℕ → FirstTold → FirstTold
-with_first place lines f = record { told = with_lines place lines f.told; behind = f.behind }
+abbrev with_first : Receiver → List ℕ → FirstTold → FirstTold
+with_first receiver lines f = record { told = with_lines receiver lines f.told; behind = f.behind }
 
-counted_first : (l : List ℕ) (body : List (List ℕ)) (place : Place) (text behind : List ℕ) (t : Told) → lacks 10 l ≡ true
+counted_first : (l : List ℕ) (body : List (List ℕ)) (receiver : Receiver) (text behind : List ℕ) (t : Told) → lacks 10 l ≡ true
     → list_all (lacks 10) body ≡ true
-    → section_said l ≡ Some (in_place place (length body)) → IsFirst text behind t
-    → IsFirst (text_of_lines (l ∷ body) ++ text) behind (with_lines place (text_of_lines body) t)
-counted_first l body place text behind t whole all said later m enough =
+    → section_said l ≡ Some (for_receiver receiver (length body)) → IsFirst text behind t
+    → IsFirst (text_of_lines (l ∷ body) ++ text) behind (with_lines receiver (text_of_lines body) t)
+counted_first l body receiver text behind t whole all said later m enough =
     let below = text ++ behind in
     let above : lines_in ((text_of_lines (l ∷ body) ++ text) ++ behind)
     ≡ record { lines = (l ∷ body) ++ (lines_in below).lines; rest = (lines_in below).rest } =
@@ -229,16 +229,16 @@ counted_first l body place text behind t whole all said later m enough =
   where
     by_most : (m : ℕ) → length ((l ∷ body) ++ (lines_in (text ++ behind)).lines) ≤ m
         → first_by m ((l ∷ body) ++ (lines_in (text ++ behind)).lines) (lines_in (text ++ behind)).rest
-        ≡ record { told = with_lines place (text_of_lines body) t; behind = behind }
+        ≡ record { told = with_lines receiver (text_of_lines body) t; behind = behind }
     by_most zero enough = absurd (omega (arith, enough))
     by_most (suc m) enough =
         let more = (lines_in (text ++ behind)).lines in
         let rest = (lines_in (text ++ behind)).rest in
         let size = length-append body more in
         ap (by_section l (body ++ more) rest m) said
-        ∙ ap₂ (λ taken left. with_first place (text_of_lines taken) (first_by m left rest)) (take-append_seam body more)
+        ∙ ap₂ (λ taken left. with_first receiver (text_of_lines taken) (first_by m left rest)) (take-append_seam body more)
         (drop-append_seam body more)
-        ∙ ap (with_first place (text_of_lines body)) (later m (omega (arith, enough, size)))
+        ∙ ap (with_first receiver (text_of_lines body)) (later m (omega (arith, enough, size)))
 
 increment_first : (agents : ℕ) (i : Increment) (text behind : List ℕ) (t : Told) → HasIncrementText agents i → IsFirst text behind t
     → IsFirst (added_text (Some i) ++ text) behind (with_lines ToLog (increment_text i) t)

@@ -30,7 +30,7 @@ use Rattle.process_text.specs.declared.processes.Process.TheVariants as process
 use Rattle.group_process.specs.Added.{AddsJust}
 use Rattle.group_process.specs.Selves.{AgentSelf, NodeSelf, kept_of_agent, kept_of_node}
 use Rattle.process_text.specs.Answers.{TellsAgent, TellsNode, added_text, addressee_of, addressee_text, answer_text, begun_text, lines_of_packet, packet_sent_text, process_refusal_text, refused_text, sent_text, words_text}
-use Rattle.process_line_laws.specs.Told.{MayBeAdded, MayBeSent, Place, ToLog, ToNodes, Section, Told, behind_space, in_place, just, meant, packet_lines, section_said, texts_sent, told_by, told_in, with_lines}
+use Rattle.process_line_laws.specs.Told.{MayBeAdded, MayBeSent, Receiver, ToLog, ToNodes, Section, Told, behind_space, for_receiver, just, meant, packet_lines, section_said, texts_sent, told_by, told_in, with_lines}
 use Rattle.process_line_laws.proofs.FirstLines.{first_begins}
 
 -- the text is read so, however many lines there may be at most
@@ -44,7 +44,7 @@ so_told text t is = is (length (lines_in text).lines) (omega arith)
 abbrev by_section : List ℕ → List (List ℕ) → List ℕ → ℕ → Option Section → Told
 by_section l ls rest m o = elim o [
   | None ↦ just (text_of_lines (l ∷ ls) ++ rest)
-  | Some s ↦ with_lines s.place (text_of_lines (take s.lines ls)) (told_by m (drop s.lines ls) rest)
+  | Some s ↦ with_lines s.receiver (text_of_lines (take s.lines ls)) (told_by m (drop s.lines ls) rest)
 ]
 
 -- ---- the last line
@@ -87,11 +87,11 @@ begun_read (process.Agent a) = words_read (AgentWentOn _)
 
 -- ---- a section above it
 
-counted_read : (l : List ℕ) (body : List (List ℕ)) (place : Place) (text : List ℕ) (t : Told) → lacks 10 l ≡ true
+counted_read : (l : List ℕ) (body : List (List ℕ)) (receiver : Receiver) (text : List ℕ) (t : Told) → lacks 10 l ≡ true
     → list_all (lacks 10) body ≡ true
-    → section_said l ≡ Some (in_place place (length body)) → IsReadAs text t
-    → IsReadAs (text_of_lines (l ∷ body) ++ text) (with_lines place (text_of_lines body) t)
-counted_read l body place text t whole all said later m enough =
+    → section_said l ≡ Some (for_receiver receiver (length body)) → IsReadAs text t
+    → IsReadAs (text_of_lines (l ∷ body) ++ text) (with_lines receiver (text_of_lines body) t)
+counted_read l body receiver text t whole all said later m enough =
     let above : lines_in (text_of_lines (l ∷ body) ++ text)
     ≡ record { lines = (l ∷ body) ++ (lines_in text).lines; rest = (lines_in text).rest } =
     lines_above (l ∷ body) text (and_from _ _ whole all) in
@@ -104,20 +104,20 @@ counted_read l body place text t whole all said later m enough =
     rest = (lines_in text).rest
 
     by_most : (m : ℕ) → length ((l ∷ body) ++ (lines_in text).lines) ≤ m
-        → told_by m ((l ∷ body) ++ (lines_in text).lines) (lines_in text).rest ≡ with_lines place (text_of_lines body) t
+        → told_by m ((l ∷ body) ++ (lines_in text).lines) (lines_in text).rest ≡ with_lines receiver (text_of_lines body) t
     by_most zero enough = absurd (omega (arith, enough))
     by_most (suc m) enough =
         let size = length-append body (lines_in text).lines in
         ap (by_section l (body ++ (lines_in text).lines) (lines_in text).rest m) said
-        ∙ ap₂ (λ taken left. with_lines place (text_of_lines taken) (told_by m left (lines_in text).rest))
+        ∙ ap₂ (λ taken left. with_lines receiver (text_of_lines taken) (told_by m left (lines_in text).rest))
         (take-append_seam body (lines_in text).lines) (drop-append_seam body (lines_in text).lines)
-        ∙ ap (with_lines place (text_of_lines body)) (later m (omega (arith, enough, size)))
+        ∙ ap (with_lines receiver (text_of_lines body)) (later m (omega (arith, enough, size)))
 
 -- what is said of a number of lines for the log, or of a packet
 abbrev by_kept : List ℕ → Option ℕ → Option Section
-by_kept l o = elim o [ Some n ↦ Some (in_place ToLog n) | None ↦ option_map (in_place ToNodes) (packet_lines l) ]
+by_kept l o = elim o [ Some n ↦ Some (for_receiver ToLog n) | None ↦ option_map (for_receiver ToNodes) (packet_lines l) ]
 
-kept_said : (n : ℕ) → 1 ≤ n → n ≤ 4_294_967_295 → section_said (section (codes "kept ") n) ≡ Some (in_place ToLog n)
+kept_said : (n : ℕ) → 1 ≤ n → n ≤ 4_294_967_295 → section_said (section (codes "kept ") n) ≡ Some (for_receiver ToLog n)
 kept_said n some most = ap (by_kept (section (codes "kept ") n)) (whole_written 1 4_294_967_295 n (omega arith) some most)
 
 -- ---- what the log gets
@@ -132,9 +132,9 @@ increment_few agents (Learns period cut) has = omega arith
 increment_few agents (Takes b) has = few_lines b has
 
 pub increment_said : (agents : ℕ) (i : Increment) → HasIncrementText agents i
-    → section_said (section (codes "kept ") (lines_of_increment i)) ≡ Some (in_place ToLog (length (lines_of i)))
+    → section_said (section (codes "kept ") (lines_of_increment i)) ≡ Some (for_receiver ToLog (length (lines_of i)))
 increment_said agents i has = kept_said (lines_of_increment i) (increment_some i) (increment_few agents i has)
-    ∙ ap (λ k. Some (in_place ToLog k)) (sym (increment_size i))
+    ∙ ap (λ k. Some (for_receiver ToLog k)) (sym (increment_size i))
 
 increment_read : (agents : ℕ) (i : Increment) (text : List ℕ) (t : Told) → HasIncrementText agents i → IsReadAs text t
     → IsReadAs (added_text (Some i) ++ text) (with_lines ToLog (increment_text i) t)
@@ -229,13 +229,13 @@ send_words to = codes "send " ++ addressee_text to ++ codes " "
 abbrev numbered : Option (List ℕ) → Option ℕ
 numbered o = o >>= λ t. whole_in 1 4_294_967_295 t
 
-send_said : (to : Option ℕ) (n : ℕ) → 1 ≤ n → n ≤ 4_294_967_295 → section_said (section (send_words to) n) ≡ Some (in_place ToNodes n)
+send_said : (to : Option ℕ) (n : ℕ) → 1 ≤ n → n ≤ 4_294_967_295 → section_said (section (send_words to) n) ≡ Some (for_receiver ToNodes n)
 send_said to n some most =
     let word = addressee_text to in
     let number : behind_space ((word ++ codes " ") ++ decimal n) ≡ Some (decimal n) =
     ap behind_space (append_assoc word (codes " ") (decimal n)) ∙ past_space word (decimal n) (addressee_lacks to).0 in
-    ap (λ o. option_map (in_place ToNodes) (numbered o)) number
-    ∙ ap (option_map (in_place ToNodes)) (whole_written 1 4_294_967_295 n (omega arith) some most)
+    ap (λ o. option_map (for_receiver ToNodes) (numbered o)) number
+    ∙ ap (option_map (for_receiver ToNodes)) (whole_written 1 4_294_967_295 n (omega arith) some most)
 
 pub send_lacks_feed : (to : Option ℕ) (n : ℕ) → lacks 10 (section (send_words to) n) ≡ true
 send_lacks_feed to n =
@@ -244,11 +244,11 @@ send_lacks_feed to n =
     (list_all_both (λ c. not (c == 10)) (codes "send ") (addressee_text to) refl (addressee_lacks to).1) refl)
 
 pub packet_said : (name : List ℕ) (to : Option ℕ) (p : Packet) → HasPacketText name p
-    → section_said (section (send_words to) (lines_of_packet p)) ≡ Some (in_place ToNodes (length (lines_of_sent name p)))
+    → section_said (section (send_words to) (lines_of_packet p)) ≡ Some (for_receiver ToNodes (length (lines_of_sent name p)))
 packet_said name to p has =
     let size = under_size p in
     send_said to (lines_of_packet p) (omega (arith, size)) (packet_few p has.packet)
-    ∙ ap (λ k. Some (in_place ToNodes k)) (sym (sent_size name p))
+    ∙ ap (λ k. Some (for_receiver ToNodes k)) (sym (sent_size name p))
 
 packet_read : (name : List ℕ) (to : Option ℕ) (p : Packet) (text : List ℕ) (t : Told) → HasPacketText name p → IsReadAs text t
     → IsReadAs (packet_sent_text name to p ++ text) (with_lines ToNodes (packet_text name p) t)

@@ -12,14 +12,14 @@ use Rattle.process_text.specs.Answers.{words_text}
 
 -- ---- how an answer is read
 
--- where the lines belong that a line counts
-pub data Place : Type 0 where
-  ToLog : Place
-  ToNodes : Place
+-- who gets the lines that a line counts
+pub data Receiver : Type 0 where
+  ToLog : Receiver
+  ToNodes : Receiver
 
--- a line that counts the lines below it which belong there
+-- a line that counts the lines below it which these get
 pub record Section : Type 0 where
-  pub place : Place
+  pub receiver : Receiver
   pub lines : ℕ
 
 abbrev pub behind_space : List ℕ → Option (List ℕ)
@@ -33,14 +33,14 @@ packet_lines line = do
   number ← behind_space rest
   whole_in 1 most_kept_lines number
 
-abbrev pub in_place : Place → ℕ → Section
-in_place place lines = record { place = place; lines = lines }
+abbrev pub for_receiver : Receiver → ℕ → Section
+for_receiver receiver lines = record { receiver = receiver; lines = lines }
 
 -- `kept N`, or `send` with a word and N
 abbrev pub section_said : List ℕ → Option Section
 section_said line = elim (section_in (codes "kept ") most_kept_lines line) [
-  | Some n ↦ Some (in_place ToLog n)
-  | None ↦ option_map (in_place ToNodes) (packet_lines line)
+  | Some n ↦ Some (for_receiver ToLog n)
+  | None ↦ option_map (for_receiver ToNodes) (packet_lines line)
 ]
 
 -- what the log gets, the text of each packet, and the last line with what stands below it
@@ -53,7 +53,7 @@ abbrev pub just : List ℕ → Told
 just last = record { kept = []; sent = []; last = last }
 
 -- a section's lines, above what else is told
-abbrev pub with_lines : Place → List ℕ → Told → Told
+abbrev pub with_lines : Receiver → List ℕ → Told → Told
 with_lines ToLog lines t = record t { kept = lines ++ t.kept }
 with_lines ToNodes lines t = record t { sent = lines ∷ t.sent }
 
@@ -64,7 +64,7 @@ told_by zero ls rest = just (text_of_lines ls ++ rest)
 told_by (suc m) [] rest = just rest
 told_by (suc m) (l ∷ ls) rest = elim (section_said l) [
   | None ↦ just (text_of_lines (l ∷ ls) ++ rest)
-  | Some s ↦ with_lines s.place (text_of_lines (take s.lines ls)) (told_by m (drop s.lines ls) rest)
+  | Some s ↦ with_lines s.receiver (text_of_lines (take s.lines ls)) (told_by m (drop s.lines ls) rest)
 ]
 
 abbrev pub told_in : List ℕ → Told
@@ -106,7 +106,7 @@ first_by (suc m) (l ∷ ls) rest = elim (section_said l) [
   | None ↦ record { told = just (text_of_lines (l ∷ take (lines_under l) ls)); behind = text_of_lines (drop (lines_under l) ls) ++ rest }
   | Some s ↦
       let more : FirstTold = first_by m (drop s.lines ls) rest in
-      record { told = with_lines s.place (text_of_lines (take s.lines ls)) more.told; behind = more.behind }
+      record { told = with_lines s.receiver (text_of_lines (take s.lines ls)) more.told; behind = more.behind }
 ]
 
 abbrev pub first_told : List ℕ → FirstTold
