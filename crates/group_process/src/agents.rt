@@ -1,6 +1,6 @@
 //! An agent as a process of its own: it journals batches under sequence numbers.
 
-ghost use Rattle.std.specs.Prelude.{◌≡◌, ◌≤◌, true, false, IfOk, OnErr, None, Some, Ok, Err, MatchOption};
+ghost use Rattle.std.specs.Prelude.{◌≡◌, ◌+◌, ◌≤◌, true, false, IfOk, OnErr, None, Some, Ok, Err, MatchOption};
 ghost use Rattle.std.specs.Arc.{arc_value};
 ghost use Rattle.metering_model.specs.Holding.{held, is_batch_at, put};
 ghost use Rattle.metering_model.specs.Limits.{last_sequence};
@@ -149,7 +149,7 @@ impl AgentProcess {
     pub fn next_seq(&self) -> u32
         ensures next { result ≡ next_seq self.now.journal self.now.number }
         ensures absent { held self.now.journal self.now.number result ≡ None }
-        ensures range { (1 ≤ result) × (result ≤ 1_000_001) }
+        ensures range { (1 ≤ result) × (result ≤ last_sequence + 1) }
     {
         let kept = &self.kept;
         kept.store.first_absent(self.number)

@@ -4,7 +4,7 @@ use Rattle.std.specs.Prelude.{◌≡◌, ℕ, zero, suc, ◌+◌, ◌≤◌, ◌
 use Rattle.std.specs.List.{flat_map}
 use Rattle.std.specs.Option.{option_map, is_some}
 use Rattle.std.specs.Result.{result_ok}
-use Rattle.metering_model.specs.Limits.{most_agents, most_nodes, most_rounds, last_ballot, last_node, last_period, most_journal_lines}
+use Rattle.metering_model.specs.Limits.{most_agents, most_nodes, most_rounds, last_ballot, last_node, last_period, most_journal_lines, most_transcript_bytes}
 use Rattle.metering_model.specs.Dates.{IsPeriod}
 use Rattle.metering_model.specs.FirstFailure.{◌>>=◌, holds_or}
 use Rattle.metering_model.specs.Batch.{Batch, IsWellFormed, line_of_fields, batch_text, is_empty}
@@ -166,9 +166,9 @@ base_text (Some k) = section_line (codes "kept ") (length (lines_in (kept_text k
 abbrev pub log_text : LogHead → Option KeptAmong → List Increment → List ℕ
 log_text h base increments = head_text h ++ base_text base ++ flat_map increment_text increments
 
--- bytes of a log
+-- bytes of a log: as many as of each other input that is read as it comes
 abbrev pub most_log_bytes : ℕ
-most_log_bytes = 4_294_967_296
+most_log_bytes = most_transcript_bytes
 
 -- lines of what a log begins with: more than fit below its head line
 abbrev pub most_kept_lines : ℕ

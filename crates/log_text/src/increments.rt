@@ -1,11 +1,11 @@
 //! What a step adds to what is kept.
 
-ghost use Rattle.std.specs.Prelude.{◌≡◌, ◌≤◌, true, false, length, MatchResult};
+ghost use Rattle.std.specs.Prelude.{◌≡◌, ◌+◌, ◌≤◌, true, false, length, MatchResult};
 ghost use Rattle.std.specs.Arc.{arc_value};
 ghost use Rattle.std.specs.Option.{option_copied};
 ghost use Rattle.metering_model.specs.BatchReading.{is_same};
 ghost use Rattle.metering_model.specs.Dates.{IsPeriod};
-ghost use Rattle.metering_model.specs.Limits.{most_rounds};
+ghost use Rattle.metering_model.specs.Limits.{most_journal_lines, most_rounds};
 ghost use Rattle.batch_store.specs.Batches.{batch_of};
 ghost use Rattle.node_kept.specs.Kept.{IsKept};
 ghost use Rattle.log_text.specs.LogText.{BeginsRound, Learns, SetsBallots, Takes, among_with, ballots_go_on, goes_on, is_promised, is_same_vote, is_vote_at, lines_of_increment};
@@ -44,7 +44,7 @@ impl Taken {
     /// How many lines it has.
     pub(crate) fn lines(&self) -> u64
         ensures value { result ≡ lines_of_increment (taken_of self.now) }
-        ensures most { result ≤ 1_002 }
+        ensures most { result ≤ most_journal_lines + 1 }
     {
         match self {
             Taken::Batch(batch) => 2 + u64::from(batch.view().count()),

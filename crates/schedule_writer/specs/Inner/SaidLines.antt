@@ -137,12 +137,12 @@ is_longer n most longer = cases (nat_le n most) refl
     cases true e = absurd (omega (arith, leb-true n most e))
     cases false e = e
 
-pub too_long : (input : List ℕ) → 16_777_216 < length input → rate_input_in input ≡ Err (section.Refused TooLong 1)
+pub too_long : (input : List ℕ) → most_input_bytes < length input → rate_input_in input ≡ Err (section.Refused TooLong 1)
 unfolding rate_input_in
 too_long input longer =
     let fault = section.Refused TooLong 1 in
     let u : Unread = record { text = input; from = 0; line = 1 } in
-    let whole : whole_of input ≡ Err fault = ap (λ t. holds_or t fault >>= λ (x : Unit {0}). Ok u) (is_longer (length input) 16_777_216 longer) in
+    let whole : whole_of input ≡ Err fault = ap (λ t. holds_or t fault >>= λ (x : Unit {0}). Ok u) (is_longer (length input) most_input_bytes longer) in
     first_fails (whole_of input) _ fault whole
 
 pub said_of_long : (input : List ℕ) → most_input_bytes < length input → (said_of_input input ≡ codes "line 1: L8" ++ 10 ∷ []) × (warned_of_input input ≡ [])

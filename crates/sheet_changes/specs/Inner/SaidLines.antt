@@ -6,6 +6,7 @@ use Rattle.std.proofs.Math.Nat.{suc-ne-zero}
 use Rattle.std.proofs.Math.Numerals.{add-one}
 use Rattle.std.proofs.lemmas.List.Sums.{sum_by_push}
 use Rattle.metering_model.specs.FirstFailure.{◌>>=◌, holds_or}
+use Rattle.metering_model.specs.Limits.{most_input_bytes}
 use Rattle.metering_model.specs.Sheet.{Sheet}
 use Rattle.metering_model.specs.Transcript.{line_count, with_number}
 use Rattle.fault_lines.specs.Checked.{SaysLines, SaysTooLong}
@@ -55,10 +56,10 @@ none_said text none = by_both (two_sheets_in text) none
 
 -- ---- an input that is too long
 
-pub too_long : (text : List ℕ) (fault : ScheduleFault) → 16_777_216 < length text → fault ≡ Refused code.TooLong 1 → two_sheets_in text ≡ Err fault
+pub too_long : (text : List ℕ) (fault : ScheduleFault) → most_input_bytes < length text → fault ≡ Refused code.TooLong 1 → two_sheets_in text ≡ Err fault
 unfolding two_sheets_in
 too_long text fault longer is =
-    first_fails (whole_of text) _ fault (ap (λ b. holds_or b (Refused code.TooLong 1) >>= λ (_ : Unit {0}). Ok (record { text = text; from = 0; line = 1 })) (is_longer (length text) 16_777_216 longer) ∙ ap Err (sym is))
+    first_fails (whole_of text) _ fault (ap (λ b. holds_or b (Refused code.TooLong 1) >>= λ (_ : Unit {0}). Ok (record { text = text; from = 0; line = 1 })) (is_longer (length text) most_input_bytes longer) ∙ ap Err (sym is))
 
 pub long_said : SaysTooLong said_of_two_sheets warned_of_two_sheets
 unfolding digits
