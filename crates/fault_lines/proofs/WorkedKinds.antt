@@ -3,14 +3,14 @@ use Rattle.std.proofs.Common.{◌≡◌, ℕ, List, [], ◌∷◌, ◌++◌, Non
 use Rattle.std.specs.Fmt.{digits}
 use Rattle.metering_model.specs.NumberText.{worth_of}
 use Rattle.metering_model.specs.Schedule.{lines_text}
-use Rattle.metering_model.specs.declared.BatchCode.TheVariants.{Head, Text, Count}
+use Rattle.metering_model.specs.declared.BatchCode.TheVariants.{Head, Text, Count, TooLong}
 use Rattle.metering_model.specs.declared.Refusal.TheVariants.{BadBatch}
 use Rattle.sheet_text.proofs.WorkedSteps.{days_from_civil, day_count, days_of_years, days_of_months}
 use Rattle.input_sections.specs.RateInput.{default_sheet}
 use Rattle.input_sections.specs.declared.faults.ScheduleCode.TheVariants as code
 use Rattle.input_sections.specs.declared.faults.ScheduleFault.TheVariants.{Refused}
 use Rattle.fault_lines.specs.Fields.{fault_field}
-use Rattle.fault_lines.specs.TextKinds.{kind_words}
+use Rattle.fault_lines.specs.TextKinds.{batch_words, kind_words}
 use Rattle.fault_lines.specs.Told.{said_of_fault, told_of_text}
 
 of_nothing : kind_words [] ≡ codes " empty"
@@ -53,6 +53,17 @@ a_return_behind_a_head = refl
 no_text : told_of_text 26 default_sheet [] None (BadBatch (record { code = Head; line = 1 })) ≡ lines_text (codes "line 27: G1 V1 empty" ∷ [])
 unfolding digits fault_field
 no_text = refl
+
+-- of a text that is too long, whatever its length is here, the same is told
+too_long_with_a_mark : told_of_text 26 default_sheet (239 ∷ 187 ∷ 191 ∷ []) None (BadBatch (record { code = TooLong; line = 1 })) ≡ lines_text (codes "line 27: G1 V8 byte order mark" ∷ [])
+unfolding digits fault_field
+too_long_with_a_mark = refl
+
+too_long_in_utf16 : batch_words (255 ∷ 254 ∷ []) (record { code = TooLong; line = 1 }) ≡ codes " UTF-16"
+too_long_in_utf16 = refl
+
+too_long_with_a_return : batch_words (codes "B2|1|1|1" ++ 13 ∷ 10 ∷ []) (record { code = TooLong; line = 1 }) ≡ codes " carriage return"
+too_long_with_a_return = refl
 
 -- the line that is told is asked, and not the one above it
 a_return_above : told_of_text 26 default_sheet (codes "B1|1|1|2" ++ 13 ∷ 10 ∷ codes "x" ++ 10 ∷ []) None (BadBatch (record { code = Count; line = 2 })) ≡ lines_text (codes "line 28: G1 V2" ∷ [])

@@ -24,13 +24,13 @@ is_byte_order_mark text = begins_with (239 ∷ 187 ∷ 191 ∷ []) text
 abbrev pub is_utf16 : List ℕ → Bool
 is_utf16 text = begins_with (255 ∷ 254 ∷ []) text || begins_with (254 ∷ 255 ∷ []) text
 
--- of a text whose first line is none of its kind
+-- of a text whose first line is none of its kind, or is not looked at
 abbrev pub kind_words : List ℕ → List ℕ
 kind_words text =
     if is_empty text then codes " empty"
     else (if is_byte_order_mark text then codes " byte order mark" else (if is_utf16 text then codes " UTF-16" else return_words (line_at text 1)))
 
--- whether the code says that a text has no head line: V1
+-- whether the code says that a text has no head line, or is too long for one to be looked at: V1, V8
 abbrev pub is_of_head : BatchCode → Bool
 is_of_head code.Head = true
 is_of_head code.Count = false
@@ -39,8 +39,8 @@ is_of_head code.Time = false
 is_of_head code.Number = false
 is_of_head code.Text = false
 is_of_head code.Tags = false
-is_of_head code.TooLong = false
+is_of_head code.TooLong = true
 
--- of a text that is no batch: what it is, where its head is none, and else that the line that is told ends so
+-- of a text that is no batch: what it is, at V1 and V8, and else that the line that is told ends so
 abbrev pub batch_words : List ℕ → BatchFault → List ℕ
 batch_words text fault = if is_of_head fault.code then kind_words text else return_words (line_at text fault.line)

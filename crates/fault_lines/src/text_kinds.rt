@@ -42,7 +42,7 @@ fn is_utf16(text: &[u8]) -> bool
     behind_word(text, b"\xFF\xFE").is_some() || behind_word(text, b"\xFE\xFF").is_some()
 }
 
-/// What a text is whose first line is none of its kind, behind a space, or nothing.
+/// What a text is whose first line is none of its kind, or is not looked at, behind a space, or nothing.
 pub(crate) fn kind_words(text: &[u8]) -> &'static [u8]
     ensures { result.now ≡ kind_words text.now }
 {
@@ -57,19 +57,18 @@ pub(crate) fn kind_words(text: &[u8]) -> &'static [u8]
     }
 }
 
-/// Whether the code says that a text has no head line.
+/// Whether the code says that a text has no head line, or is too long for one to be looked at: V1, V8.
 fn is_of_head(code: BatchCode) -> bool
     ensures { result ≡ is_of_head code }
 {
     match code {
-        BatchCode::Head => true,
+        BatchCode::Head | BatchCode::TooLong => true,
         BatchCode::Count
         | BatchCode::Fields
         | BatchCode::Time
         | BatchCode::Number
         | BatchCode::Text
-        | BatchCode::Tags
-        | BatchCode::TooLong => false,
+        | BatchCode::Tags => false,
     }
 }
 
