@@ -1,6 +1,7 @@
 -- The field of a line, found by the code of its fault.
 use Rattle.std.specs.Prelude.{◌≡◌, ℕ, Bool, false, not, ◌&&◌, ◌||◌, if◌then◌else◌, List, ◌∷◌, Some, None}
 use Rattle.std.specs.Option.{is_some}
+use Rattle.metering_model.specs.Limits.{last_index, last_sequence}
 use Rattle.metering_model.specs.Batch.{is_empty, is_priced, is_text}
 use Rattle.metering_model.specs.BatchReading.{fields_in, kind_in, whole_in}
 use Rattle.metering_model.specs.Dates.{stamp_in}
@@ -33,4 +34,4 @@ text_field f =
 -- where a number of an amendment is at fault
 abbrev pub number_field : List ℕ → List ℕ → RecordField
 number_field seq index =
-    if not (is_some (whole_in 1 1_000_000 seq)) then field.Sequence else (if not (is_some (whole_in 0 999 index)) then field.Index else field.Value)
+    if not (is_some (whole_in 1 last_sequence seq)) then field.Sequence else (if not (is_some (whole_in 0 last_index index)) then field.Index else field.Value)
