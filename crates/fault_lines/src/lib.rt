@@ -5,6 +5,7 @@ mod ahead;
 mod batches;
 mod checks;
 mod fields;
+mod key_lines;
 pub mod laws;
 mod sections;
 mod text_kinds;

@@ -2,7 +2,7 @@ use Rattle.std.proofs.Common.{◌≡◌, ◌+◌, [], ◌++◌, ◌≤◌, lengt
 use Rattle.metering_model.specs.BatchReading.{lines_in}
 use Rattle.metering_model.specs.Transcript.{line_count}
 use Rattle.fault_lines.specs.UnknownKeys.{keys_left, told_along}
-use Rattle.fault_lines.proofs.unknown_keys.put_along.Given as goal
+use Rattle.fault_lines.proofs.key_lines.put_along.Given as goal
 
 -- The lines that are left tell what is still to be told of the keys that are left.
 abbrev pub invariant-loop-index : goal.invariant-loop-index

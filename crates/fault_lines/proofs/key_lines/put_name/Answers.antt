@@ -2,7 +2,7 @@ use Rattle.std.proofs.Common.{◌≡◌, ℕ, ◌+◌, ◌<◌, ◌≤◌, List,
 use Rattle.std.proofs.lemmas.List.{at_drop_all, at_drop_more}
 use Rattle.std.proofs.lemmas.Result.{IfOk-from_err}
 use Rattle.fault_lines.specs.UnknownKeys.{shown}
-use Rattle.fault_lines.proofs.unknown_keys.put_name.Goals as goal
+use Rattle.fault_lines.proofs.key_lines.put_name.Goals as goal
 
 -- one more byte is put
 one_more : (f : ℕ → ℕ) (told longer name all : List ℕ) (i b : ℕ) → i < length name → b ≡ f (get_or name i 0) → longer ≡ told ++ b ∷ [] → told ++ map f (drop i name) ≡ all

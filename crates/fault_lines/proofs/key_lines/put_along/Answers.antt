@@ -4,7 +4,7 @@ use Rattle.metering_model.specs.BatchReading.{Lines, lines_in}
 use Rattle.metering_model.specs.Transcript.{line_count}
 use Rattle.fault_lines.specs.UnknownKeys.{has_key, told_along, told_unknown}
 use Rattle.fault_lines.proofs.UnknownLaws.{along_ends, along_goes_on, is_none, left_ends, left_goes_on, lines_fit}
-use Rattle.fault_lines.proofs.unknown_keys.put_along.Goals as goal
+use Rattle.fault_lines.proofs.key_lines.put_along.Goals as goal
 
 pub loop-index-init : goal.loop-index-init
 loop-index-init c =

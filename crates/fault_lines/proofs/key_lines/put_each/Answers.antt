@@ -2,7 +2,7 @@ use Rattle.std.proofs.Common.{◌++◌, refl}
 use Rattle.std.specs.List.{flat_map}
 use Rattle.fault_lines.specs.UnknownKeys.{told_unknown}
 use Rattle.fault_lines.proofs.KeyWalks.{none_left, one_more}
-use Rattle.fault_lines.proofs.unknown_keys.put_each.Goals as goal
+use Rattle.fault_lines.proofs.key_lines.put_each.Goals as goal
 
 pub loop-key-preserved : goal.loop-key-preserved
 loop-key-preserved c =

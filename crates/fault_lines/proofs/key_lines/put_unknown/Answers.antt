@@ -3,7 +3,7 @@ use Rattle.std.proofs.lemmas.Result.{IfOk-from_err}
 use Rattle.metering_model.specs.Transcript.{with_number}
 use Rattle.fault_lines.specs.UnknownKeys.{UnknownKey, shown}
 use Rattle.fault_lines.proofs.ToldPieces.{put_in_four}
-use Rattle.fault_lines.proofs.unknown_keys.put_unknown.Goals as goal
+use Rattle.fault_lines.proofs.key_lines.put_unknown.Goals as goal
 
 pub returns-in_err-push : goal.returns-in_err-push
 returns-in_err-push c = IfOk-from_err c.from_residual.result _ c.from_residual.ensures.0

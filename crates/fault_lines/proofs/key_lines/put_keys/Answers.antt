@@ -3,7 +3,7 @@ use Rattle.std.proofs.lemmas.Bool.Decides.{nat_tests}
 use Rattle.metering_model.specs.BatchReading.{lines_in}
 use Rattle.fault_lines.specs.UnknownKeys.{told_of_keys}
 use Rattle.fault_lines.proofs.UnknownLaws.{is_none, none_told}
-use Rattle.fault_lines.proofs.unknown_keys.put_keys.Goals as goal
+use Rattle.fault_lines.proofs.key_lines.put_keys.Goals as goal
 
 pub returns-then-is_empty : goal.returns-then-is_empty
 returns-then-is_empty c =

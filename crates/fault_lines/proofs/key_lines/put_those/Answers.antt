@@ -2,8 +2,8 @@ use Rattle.std.proofs.Common.{◌++◌, filter, refl, sym, ap, ◌∙◌}
 use Rattle.std.specs.List.{flat_map}
 use Rattle.fault_lines.specs.UnknownKeys.{is_key, told_unknown}
 use Rattle.fault_lines.proofs.KeyWalks.{none_left, not_of, one_of}
-use Rattle.fault_lines.proofs.unknown_keys.put_those.Goals as goal
-use Rattle.fault_lines.proofs.unknown_keys.put_those.Goals.{then-is_key+in_ok-put_unknown, else-is_key}
+use Rattle.fault_lines.proofs.key_lines.put_those.Goals as goal
+use Rattle.fault_lines.proofs.key_lines.put_those.Goals.{then-is_key+in_ok-put_unknown, else-is_key}
 
 pub loop-key-preserved : goal.loop-key-preserved
 loop-key-preserved c =

@@ -1,7 +1,7 @@
 use Rattle.std.proofs.Common.{◌≡◌, ◌++◌, drop, filter}
 use Rattle.std.specs.List.{flat_map}
 use Rattle.fault_lines.specs.UnknownKeys.{is_key, told_unknown}
-use Rattle.fault_lines.proofs.unknown_keys.put_those.Given as goal
+use Rattle.fault_lines.proofs.key_lines.put_those.Given as goal
 
 abbrev pub invariant-loop-key : goal.invariant-loop-key
 invariant-loop-key l =
