@@ -14,7 +14,7 @@ use Rattle.program_input.specs.declared.faults.PlayFault.TheVariants as play
 use Rattle.program_input.specs.declared.ScheduleFault.TheVariants as section
 use Rattle.metering_model.specs.Limits.{most_input_bytes, most_transcript_bytes}
 use Rattle.period_file.specs.declared.faults.FileFault.TheVariants as file
-use Rattle.period_file.specs.Files.{AppendsFront}
+use Rattle.period_file.specs.Files.{AppendsPrefixOf}
 use Rattle.sheet_changes.specs.declared.changes.Asked.{Asked}
 use Rattle.threads_player.specs.declared.faults.ThreadsFault.TheVariants as threads
 use Rattle.threads_player.specs.declared.sizes.Size.{Size}
@@ -34,7 +34,7 @@ use Rattle.command_line.specs.CommandLine.{takes_input}
 use Rattle.command_line.proofs.WordLaws.{asks_for_threads, takes_or_not}
 use Rattle.command_line.proofs.FailedCalls.{IsDevice}
 
--- at 4 it is want of memory that is told
+-- at 4 it is out of memory that is told
 tells_memory : (Told : List ℕ → Type 0) (fault : Fault) → status_of fault ≡ 4 → Told (ending_line fault) → Told (ending_line (Play play.OutOfMemory))
 tells_memory Told (Line on_line.Line) four told = absurd (cc)
 tells_memory Told (Line on_line.OutOfMemory) four told = told
@@ -78,12 +78,12 @@ tells_device Told Same Part line reads reads' writes writes' (inl is) told = inl
 tells_device Told Same Part line reads reads' writes writes' (inr is) told = inr ((is.1, is.2), is.3, subst Told is.0 told)
 
 -- what is written of a file, or by a process, was asked for
-kept_of : (Same : Type 0) (Front : ℕ → Type 0) (Some_of : ProcessKind → Type 0) (Asked : Command → Type 0) (command : Command) → Asked command
-    → Same ⊎ (((period : ℕ) × (command ≡ CutFile period) × Front period) ⊎ ((kind : ProcessKind) × (command ≡ RunProcess kind) × Some_of kind))
-    → Same ⊎ (((period : ℕ) × Asked (CutFile period) × Front period) ⊎ ((kind : ProcessKind) × Asked (RunProcess kind) × Some_of kind))
-kept_of Same Front Some_of Asked command asked (inl same) = inl same
-kept_of Same Front Some_of Asked command asked (inr (inl it)) = inr (inl (it.0, subst Asked it.1 asked, it.2))
-kept_of Same Front Some_of Asked command asked (inr (inr it)) = inr (inr (it.0, subst Asked it.1 asked, it.2))
+kept_of : (Same : Type 0) (Prefix : ℕ → Type 0) (Some_of : ProcessKind → Type 0) (Asked : Command → Type 0) (command : Command) → Asked command
+    → Same ⊎ (((period : ℕ) × (command ≡ CutFile period) × Prefix period) ⊎ ((kind : ProcessKind) × (command ≡ RunProcess kind) × Some_of kind))
+    → Same ⊎ (((period : ℕ) × Asked (CutFile period) × Prefix period) ⊎ ((kind : ProcessKind) × Asked (RunProcess kind) × Some_of kind))
+kept_of Same Prefix Some_of Asked command asked (inl same) = inl same
+kept_of Same Prefix Some_of Asked command asked (inr (inl it)) = inr (inl (it.0, subst Asked it.1 asked, it.2))
+kept_of Same Prefix Some_of Asked command asked (inr (inr it)) = inr (inr (it.0, subst Asked it.1 asked, it.2))
 
 -- what is written by the one command was asked of it
 part_of : (Kept Unwritten Part : Type 0) (Asked : Command → Type 0) (one command : Command) → Asked command → (Kept → Unwritten) → Kept ⊎ ((command ≡ one) × Part) → Unwritten ⊎ (Asked one × Part)
@@ -271,7 +271,7 @@ ends source sink telling args command (Err fault) status reader reader' writer w
     let same = ending.0 in
     let known = source.remaining reader in
     let kept : IsKept sink command known writer writer' → IsUnwritten sink args known writer writer' =
-    λ it. kept_of (writer' ≡ writer) (λ period. AppendsFront known period (sink.contents writer) (sink.contents writer'))
+    λ it. kept_of (writer' ≡ writer) (λ period. AppendsPrefixOf known period (sink.contents writer) (sink.contents writer'))
     (λ kind. HasAnswered kind known (sink.contents writer) (sink.contents writer')) (AsksFor args) command asked it in
     let told : List ℕ → Type 0 = λ line.
     (Appends (telling.contents errors) (telling.contents errors') line × (telling.failed_calls errors' ≡ telling.failed_calls errors))
@@ -365,7 +365,7 @@ ends_at_words C source sink telling args on_line.OutOfMemory status reader write
   not_given = missing_of C args on_line.OutOfMemory status same missing;
 }
 
--- Where words ask for a group, only want of memory comes before.
+-- Where words ask for a group, only out of memory comes before.
 pub memory_alone : {A B : Type 0} (args : Result (IntoIter (String A) B) Error) (fault : LineFault) (status : ℕ) → status ≡ status_of (Line fault)
     → (fault ≡ on_line.Line → (command : Command) → ¬ AsksFor args command) → (size : Size) → AsksFor args (RunThreads size) → status ≡ 4
 memory_alone args on_line.Line status same unasked size asked = absurd (unasked refl (RunThreads size) asked)

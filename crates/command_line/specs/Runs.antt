@@ -23,7 +23,7 @@ use Rattle.input_check.specs.RateInput.{rated_file}
 use Rattle.input_check.specs.Charges.{IsFileOf}
 use Rattle.input_check.specs.Inputs.{IsSaidAs, IsSaidOf}
 use Rattle.input_check.specs.declared.kinds.InputKind.TheVariants as checked_as
-use Rattle.period_file.specs.Files.{AppendsFront, AppendsLess, AppendsPart, IsFileOf as IsFirstFileOf, file_in}
+use Rattle.period_file.specs.Files.{AppendsLess, AppendsPart, AppendsPrefixOf, IsFileOf as IsFirstFileOf, file_in}
 use Rattle.period_file.specs.declared.faults.FileFault.{FileFault}
 use Rattle.period_file.specs.declared.faults.FileFault.TheVariants as file
 use Rattle.input_sections.specs.RateInput.{rate_input_in}
@@ -146,12 +146,12 @@ Says Help fault known old new = ⊥
 Says Version fault known old new = ⊥
 
 -- What a command leaves where it refuses: `file` of a torn file all that the input has, and of an input that is too long a
--- front of the file; a process that is asked for too much its answers before; all else leaves nothing at all.
+-- prefix of the file; a process that is asked for too much its answers before; all else leaves nothing at all.
 abbrev pub IsLeftBy : {W : Type 0} → SinkOf W → Command → Fault → (known : Option (List ℕ)) (writer writer' : W) → Type 0
 IsLeftBy sink (File period) (of_fault.File file.Torn) known writer writer' =
     AppendsPart known period (sink.contents writer) (sink.contents writer')
 IsLeftBy sink (File period) (of_fault.File file.TooLong) known writer writer' =
-    AppendsFront known period (sink.contents writer) (sink.contents writer')
+    AppendsPrefixOf known period (sink.contents writer) (sink.contents writer')
 IsLeftBy sink (Process kind) (of_fault.Process process.TooLong) known writer writer' =
     (writer' ≡ writer) ⊎ HasAnswered kind known (sink.contents writer) (sink.contents writer')
 IsLeftBy sink command fault known writer writer' = writer' ≡ writer
@@ -160,13 +160,13 @@ IsLeftBy sink command fault known writer writer' = writer' ≡ writer
 abbrev pub IsPlayedInPart : Option (List ℕ) → Option (List ℕ) → Option (List ℕ) → Type 0
 IsPlayedInPart known old new = (input text : List ℕ) × IsPrefixOfTranscript known input text × Appends old new text
 
--- The writer is as it was; or the words ask for a period's file, and of that a front was written, as far as the input has it; or
+-- The writer is as it was; or the words ask for a period's file, and of that a prefix was written, as far as the input has it; or
 -- for a process, and whole answers were.
 abbrev pub IsUnwritten : {W A B : Type 0} → SinkOf W → Result (IntoIter (String A) B) Error → Option (List ℕ)
     → (writer writer' : W) → Type 0
 IsUnwritten sink args known writer writer' =
     (writer' ≡ writer)
-    ⊎ (((period : ℕ) × AsksFor args (File period) × AppendsFront known period (sink.contents writer) (sink.contents writer'))
+    ⊎ (((period : ℕ) × AsksFor args (File period) × AppendsPrefixOf known period (sink.contents writer) (sink.contents writer'))
     ⊎ ((kind : ProcessKind) × AsksFor args (Process kind) × HasAnswered kind known (sink.contents writer) (sink.contents writer')))
 
 -- Of what is asked for a prefix was written that is not all of it, and nothing else. Which text help is no clause can say, since
@@ -242,7 +242,7 @@ pub record Ends {R W E A B : Type 0} (source : SourceOf R) (sink : SinkOf W) (te
       × Tells telling (of_fault.Play play.Write) errors errors'))
   pub calm : status ≢ 3 → (source.failed_calls reader' ≡ source.failed_calls reader)
       × (sink.failed_calls writer' ≡ sink.failed_calls writer)
-  -- 4: memory was wanting; a schedule may have been played up to some event, a file written up to some byte, or a process have
+  -- 4: out of memory; a schedule may have been played up to some event, a file written up to some byte, or a process have
   -- answered what it was asked first.
   pub memory : status ≡ 4 → Tells telling (of_fault.Play play.OutOfMemory) errors errors'
   pub part : status ≡ 4 → IsUnwritten sink args (source.remaining reader) writer writer'

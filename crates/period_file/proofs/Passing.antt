@@ -1,4 +1,4 @@
--- Lines that are passed over, and what their fronts say of them.
+-- Lines that are passed over, and what their prefixes say of them.
 use Rattle.std.proofs.Common.{◌≡◌, ◌∙◌, ℕ, ◌+◌, ◌-◌, ◌<◌, ◌≤◌, true, false, List, [], ◌∷◌, ◌++◌, length, take, drop, Option, Some, None, ◌⊎◌, inl, inr, refl, sym, ap, arith, append_assoc, append-nil}
 use Rattle.std.specs.Io.KnownBytes.{IsAtEnd}
 use Rattle.std.proofs.KnownBytes.{Consumes-trans}
@@ -19,7 +19,7 @@ use Rattle.line_source.proofs.Taking.{takes_line, takes_on}
 use Rattle.period_file.specs.Inner.Reading.{EndsUntold, IsTold, Passes, TakesTold}
 use Rattle.period_file.proofs.Seen.{none_seen}
 
--- ---- what a front says
+-- ---- what a prefix says
 
 same_itself : (t : List ℕ) → is_same t t ≡ true
 same_itself [] = refl
@@ -36,9 +36,9 @@ other_untold words b came c text enough other joined = cases (told_behind words 
         let rest = parts.number ++ (10 ∷ []) in
         let begins : b ++ came ≡ words ++ (rest ++ c) =
         joined ∙ ap (λ t. line t ++ c) parts.joined ∙ ap (λ t. t ++ c) (append_assoc words parts.number (10 ∷ [])) ∙ append_assoc words rest c in
-        let front : take (length words) b ≡ words =
+        let prefix : take (length words) b ≡ words =
         sym (take-append-le (length words) b came enough) ∙ ap (take (length words)) begins ∙ take-append_seam words (rest ++ c) in
-        let same : is_same (take (length words) b) words ≡ true = ap (λ t. is_same t words) front ∙ same_itself words in
+        let same : is_same (take (length words) b) words ≡ true = ap (λ t. is_same t words) prefix ∙ same_itself words in
         absurd (cc)
 
 -- so does a text with fewer bytes than the words

@@ -20,7 +20,7 @@ use Rattle.transcript_laws.specs.FirstFiles.{NoFile, TornFile, WholeFile, first_
 use Rattle.transcript_laws.proofs.TextLaws.{are_whole, lines_append, lines_and_rest, lines_before, whole_both}
 use Rattle.transcript_laws.proofs.FirstFileLaws.{file_is_whole, file_is_torn, first_behind, part_begins, told_first}
 use Rattle.period_file.specs.Faults.{of_source}
-use Rattle.period_file.specs.Files.{AppendsFront, IsRefusal, answer_of, file_in}
+use Rattle.period_file.specs.Files.{AppendsPrefixOf, IsRefusal, answer_of, file_in}
 use Rattle.period_file.specs.declared.faults.FileFault.{FileFault}
 use Rattle.period_file.specs.declared.faults.FileFault.TheVariants as fault
 use Rattle.period_file.specs.Inner.Calls.{IsOfCopying}
@@ -66,9 +66,9 @@ pub if_known : (known : Option (List ℕ)) (input : List ℕ) → IfSome known (
 if_known None input is P holds = tt
 if_known (Some xs) input is P holds = subst P is holds
 
-pub any_front : (known : Option (List ℕ)) (period : ℕ) (w : Option (List ℕ)) → AppendsFront known period w w
-any_front None period w = record { input = []; is_input = tt; appended = (0, omega arith, Appends-nil w) }
-any_front (Some xs) period w = record { input = xs; is_input = refl; appended = (0, omega arith, Appends-nil w) }
+pub any_prefix : (known : Option (List ℕ)) (period : ℕ) (w : Option (List ℕ)) → AppendsPrefixOf known period w w
+any_prefix None period w = record { input = []; is_input = tt; appended = (0, omega arith, Appends-nil w) }
+any_prefix (Some xs) period w = record { input = xs; is_input = refl; appended = (0, omega arith, Appends-nil w) }
 
 -- of all that was read some was taken
 module _ {known left : Option (List ℕ)} {rest : List ℕ} {read : ℕ} {taken : List ℕ} (it : Takes [] rest 0 read known left taken) where
@@ -113,9 +113,9 @@ first_seen : (period number : ℕ) (ls : TextLines) (above behind : List ℕ) �
     → first_file period ((lines_text ls ++ line above) ++ behind) ≡ file_of_lines number (lines_in behind).lines
 first_seen period number ls above behind whole none ends told =
     let own : lines_text (above ∷ []) ≡ line above = append-nil (line above) in
-    let front : lines_text ls ++ line above ≡ lines_text (ls ++ above ∷ []) = sym (lines_append ls (above ∷ []) ∙ ap (λ t. lines_text ls ++ t) own) in
+    let prefix : lines_text ls ++ line above ≡ lines_text (ls ++ above ∷ []) = sym (lines_append ls (above ∷ []) ∙ ap (λ t. lines_text ls ++ t) own) in
     let more = (lines_in behind).lines in
-    ap (λ t. first_file period (t ++ behind)) front
+    ap (λ t. first_file period (t ++ behind)) prefix
     ∙ ap (first_of_lines period) (lines_before (ls ++ above ∷ []) behind (whole_both ls (above ∷ []) whole (and_from _ _ ends refl)) ∙ append_assoc ls (above ∷ []) more)
     ∙ first_behind period ls (above ∷ more) none ∙ told_first period number above more told
 
@@ -148,9 +148,9 @@ module _ {period count : ℕ} {known mid : Option (List ℕ)} {ahead : List ℕ}
         let long = lines_long lines in
         omega (arith, all, one, two, long)
 
-    -- at most so many lines as the line above says are a front of the file
-    pub front_seen : length lines ≤ count → (more : List ℕ) × (part_of (first_file period input) ≡ lines_text lines ++ more)
-    front_seen few =
+    -- at most so many lines as the line above says are a prefix of the file
+    pub prefix_seen : length lines ≤ count → (more : List ℕ) × (part_of (first_file period input) ≡ lines_text lines ++ more)
+    prefix_seen few =
         let told = found.is_told.2 in
         let begins = part_begins found.is_told.0 lines (lines_in behind).lines (omega (arith, few, told)) in
         (begins.0, ap part_of first_of_input ∙ begins.1)

@@ -9,10 +9,10 @@ use Rattle.metering_model.specs.Schedule.{lines_text}
 use Rattle.line_source.specs.Reading.{IsEnded, Takes}
 use Rattle.line_source.proofs.Taking.{takes_on}
 use Rattle.transcript_laws.specs.FirstFiles.{TornFile, first_file, part_of}
-use Rattle.period_file.specs.Files.{AppendsFront, AppendsLess, AppendsPart, IsFileOf, answer_of, file_in}
+use Rattle.period_file.specs.Files.{AppendsPrefixOf, AppendsLess, AppendsPart, IsFileOf, answer_of, file_in}
 use Rattle.period_file.specs.declared.faults.FileFault.TheVariants as fault
 use Rattle.period_file.specs.Inner.Reading.{EndsUntold, Finds, Copies, Stops}
-use Rattle.period_file.proofs.Seen.{all_of, front_seen, if_known, input_fits, input_of, input_seen, short_answer, torn_seen, whole_seen}
+use Rattle.period_file.proofs.Seen.{all_of, prefix_seen, if_known, input_fits, input_of, input_seen, short_answer, torn_seen, whole_seen}
 
 -- all was read, and no line stands above a file
 pub none_answer : {period : ℕ} {known left : Option (List ℕ)} {read : ℕ} → EndsUntold period [] 0 read known left → read ≤ 4_294_967_296 → IfSome known (λ input. file_in period input ≡ Err fault.NoFile)
@@ -33,24 +33,24 @@ at_end rest behind over ends = ap (λ t. lacks 10 (rest ++ t)) over ∙ ap (lack
 
 module _ {period count : ℕ} {known mid : Option (List ℕ)} {ahead : List ℕ} {read : ℕ} (found : Finds period count [] ahead 0 read known mid) where
   -- copying stopped
-  stop_front : {Appended : Option (List ℕ) → Option (List ℕ) → List ℕ → Type 0} {left : Option (List ℕ)} {read' : ℕ} {old new : Option (List ℕ)} (stops : Stops Appended count ahead read read' mid left old new)
+  stop_prefix : {Appended : Option (List ℕ) → Option (List ℕ) → List ℕ → Type 0} {left : Option (List ℕ)} {read' : ℕ} {old new : Option (List ℕ)} (stops : Stops Appended count ahead read read' mid left old new)
       → (more : List ℕ) × (part_of (first_file period (input_of (takes_on found.takes stops.takes)).input) ≡ lines_text stops.lines ++ more)
-  stop_front stops =
+  stop_prefix stops =
       let all = takes_on found.takes stops.takes in
-      front_seen found stops.lines (stops.rest ++ (input_of all).rest) (input_of all).input stops.whole (input_seen all) stops.few
+      prefix_seen found stops.lines (stops.rest ++ (input_of all).rest) (input_of all).input stops.whole (input_seen all) stops.few
 
-  pub front_at_stop : {left : Option (List ℕ)} {read' : ℕ} {old new : Option (List ℕ)} → Stops AppendsSome count ahead read read' mid left old new → AppendsFront known period old new
-  front_at_stop {left} {read'} {old} {new} stops =
+  pub prefix_at_stop : {left : Option (List ℕ)} {read' : ℕ} {old new : Option (List ℕ)} → Stops AppendsSome count ahead read read' mid left old new → AppendsPrefixOf known period old new
+  prefix_at_stop {left} {read'} {old} {new} stops =
       let it = input_of (takes_on found.takes stops.takes) in
-      let front = stop_front stops in
-      record { input = it.input; is_input = it.is_input; appended = subst (AppendsSome old new) (sym front.1) (some_longer old new (lines_text stops.lines) front.0 stops.appended) }
+      let prefix = stop_prefix stops in
+      record { input = it.input; is_input = it.is_input; appended = subst (AppendsSome old new) (sym prefix.1) (some_longer old new (lines_text stops.lines) prefix.0 stops.appended) }
 
   -- short of all that was read
   pub less_at_stop : {left : Option (List ℕ)} {read' : ℕ} {old new : Option (List ℕ)} → Stops AppendsPrefix count ahead read read' mid left old new → AppendsLess known period old new
   less_at_stop {left} {read'} {old} {new} stops =
       let it = input_of (takes_on found.takes stops.takes) in
-      let front = stop_front stops in
-      record { input = it.input; is_input = it.is_input; appended = subst (AppendsPrefix old new) (sym front.1) (prefix_within old new (lines_text stops.lines) front.0 stops.appended) }
+      let prefix = stop_prefix stops in
+      record { input = it.input; is_input = it.is_input; appended = subst (AppendsPrefix old new) (sym prefix.1) (prefix_within old new (lines_text stops.lines) prefix.0 stops.appended) }
 
   module _ {lacking : ℕ} {left : Option (List ℕ)} {rest : List ℕ} {read' : ℕ} {old new : Option (List ℕ)} (copies : Copies count lacking ahead rest read read' mid left old new) where
     -- lines lack

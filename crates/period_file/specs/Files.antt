@@ -37,8 +37,8 @@ pub record AppendsPart (known : Option (List ℕ)) (period : ℕ) (old new : Opt
   pub is_torn : file_in period input ≡ Err fault.Torn
   pub appended : Appends old new (part_of (first_file period input))
 
--- They grew by a front of these bytes, or by all.
-pub record AppendsFront (known : Option (List ℕ)) (period : ℕ) (old new : Option (List ℕ)) : Type 0 where
+-- They grew by a prefix of these bytes, or by all.
+pub record AppendsPrefixOf (known : Option (List ℕ)) (period : ℕ) (old new : Option (List ℕ)) : Type 0 where
   pub input : List ℕ
   pub is_input : IfSome known (λ bytes. input ≡ bytes)
   pub appended : AppendsSome old new (part_of (first_file period input))
@@ -50,8 +50,8 @@ pub record AppendsLess (known : Option (List ℕ)) (period : ℕ) (old new : Opt
   pub appended : AppendsPrefix old new (part_of (first_file period input))
 
 -- What an answer that is a fault leaves of the file: of a torn one all that the input has, after `Write` less than that, and else
--- a front of it.
+-- a prefix of it, or all.
 pub record WritesAtFault {A : Type 0} (answer : Result A FileFault) (known : Option (List ℕ)) (period : ℕ) (old new : Option (List ℕ)) : Type 0 where
   pub torn : answer ≡ Err fault.Torn → AppendsPart known period old new
-  pub front : OnErr answer (AppendsFront known period old new)
-  pub prefix : answer ≡ Err fault.Write → AppendsLess known period old new
+  pub prefix : OnErr answer (AppendsPrefixOf known period old new)
+  pub less : answer ≡ Err fault.Write → AppendsLess known period old new

@@ -33,8 +33,8 @@ pub(crate) fn told_behind(words: &[u8], line: &[u8]) -> Option<u64>
     if line.len() < words.len() {
         return None;
     }
-    let (front, number) = line.split_at(words.len());
-    if is_same(front, words) && is_whole_part(number) {
+    let (prefix, number) = line.split_at(words.len());
+    if is_same(prefix, words) && is_whole_part(number) {
         Some(whole_up_to(number, TOO_MANY).unwrap_or(TOO_MANY))
     } else {
         None

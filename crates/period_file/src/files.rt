@@ -144,7 +144,7 @@ pub fn file_text<R: Source, W: Sink>(
         → IfSome (R.remaining reader.old) (λ input. file_in period input ≡ Err fault)) }
     ensures none { result ≡ Err FileFault.NoFile → writer.new ≡ writer.old }
 
-    // Of a torn file all went out that the input has, at each other fault a front of that, and after `Write` never all.
+    // Of a torn file all went out that the input has, at each other fault a prefix of that or all, and after `Write` never all.
     ensures stopped { WritesAtFault result (R.remaining reader.old) period
         (W.contents writer.old) (W.contents writer.new) }
 

@@ -3,7 +3,7 @@ use Rattle.std.specs.Prelude.{⊤, ◌≡◌, ◌≢◌, ◌⊎◌, ℕ, List, O
 use Rattle.counted_io.specs.Counts.{next_count}
 use Rattle.counted_io.specs.declared.writing.Sink.{Ghosts as SinkOf}
 use Rattle.program_input.specs.declared.faults.PlayFault.TheVariants as play
-use Rattle.period_file.specs.Files.{AppendsFront}
+use Rattle.period_file.specs.Files.{AppendsPrefixOf}
 use Rattle.process_player.specs.declared.heads.ProcessKind.{ProcessKind}
 use Rattle.process_player.specs.Runs.{HasAnswered}
 use Rattle.schedule_writer.specs.Requests.{IsRequest}
@@ -21,11 +21,11 @@ pub record Does {W : Type 0} (sink : SinkOf W) (command : Command) (known left :
   pub done : IsDone command known left (sink.contents writer) (sink.contents writer')
   pub calm : (reads' ≡ reads) × (sink.failed_calls writer' ≡ sink.failed_calls writer)
 
--- The writer is as it was; or a period's file is asked for, and of that a front was written; or a process, and whole answers were.
+-- The writer is as it was; or a period's file is asked for, and of that a prefix was written; or a process, and whole answers were.
 abbrev pub IsKept : {W : Type 0} → SinkOf W → Command → Option (List ℕ) → (writer writer' : W) → Type 0
 IsKept sink command known writer writer' =
     (writer' ≡ writer)
-    ⊎ (((period : ℕ) × (command ≡ File period) × AppendsFront known period (sink.contents writer) (sink.contents writer'))
+    ⊎ (((period : ℕ) × (command ≡ File period) × AppendsPrefixOf known period (sink.contents writer) (sink.contents writer'))
     ⊎ ((kind : ProcessKind) × (command ≡ Process kind) × HasAnswered kind known (sink.contents writer) (sink.contents writer')))
 
 -- The command came to the fault.

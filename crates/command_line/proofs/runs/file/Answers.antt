@@ -25,5 +25,5 @@ returns-in-Err-clause-outcome g c =
     let fault = c.in-Err.fault in
     let told = c.in-Err.ensures in
     file_comes_to g.W.Sink c.args.period fault known _ _ _ _ told.streams.reads told.streams.writes
-    (λ is. told.none (ap Err is)) (λ is. told.stopped.torn (ap Err is)) told.stopped.front (λ is. told.stopped.prefix (ap Err is))
+    (λ is. told.none (ap Err is)) (λ is. told.stopped.torn (ap Err is)) told.stopped.prefix (λ is. told.stopped.less (ap Err is))
     (λ one. refuses c.args.period known fault one told.refused)

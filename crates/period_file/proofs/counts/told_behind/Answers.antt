@@ -19,10 +19,10 @@ as_number : (number : List ℕ) (r : Option ℕ) → is_whole_part number ≡ tr
 as_number number None whole many = many whole
 as_number number (Some k) whole few = (few.1, few.2)
 
-told : (words line front number : List ℕ) → front ≡ take (length words) line → number ≡ drop (length words) line → is_same front words ≡ true → is_whole_part number ≡ true
+told : (words line prefix number : List ℕ) → prefix ≡ take (length words) line → number ≡ drop (length words) line → is_same prefix words ≡ true → is_whole_part number ≡ true
     → told_behind words line ≡ Some (number_of number)
-told words line front number is_front is_number same whole =
-    let joined : line ≡ words ++ number = sym (take-append-drop (length words) line) ∙ ap₂ ◌++◌ (sym is_front ∙ same_read front words same) (sym is_number) in
+told words line prefix number is_prefix is_number same whole =
+    let joined : line ≡ words ++ number = sym (take-append-drop (length words) line) ∙ ap₂ ◌++◌ (sym is_prefix ∙ same_read prefix words same) (sym is_number) in
     ap (told_behind words) joined ∙ parts_told words number whole
 
 pub returns-then-is_whole_part : goal.returns-then-is_whole_part

@@ -6,8 +6,8 @@ use Rattle.period_file.specs.Faults.{of_source, tells_of_reader, tells_of_writer
 use Rattle.period_file.specs.Inner.Reading.{Finds}
 use Rattle.period_file.proofs.Failing.{answered, never_none, never_torn, never_write, no_answer, none_failed, none_is_torn, none_is_write, one_fault, passed, reads_of, told_on, torn_is_write, writes_of}
 use Rattle.period_file.proofs.Taking.{copies_read, on_err, stops_at_read}
-use Rattle.period_file.proofs.Seen.{any_front, copying_of, read_within, refused}
-use Rattle.period_file.proofs.Told.{front_at_stop, less_at_stop, none_answer, torn_answer, torn_refused, whole_answer}
+use Rattle.period_file.proofs.Seen.{any_prefix, copying_of, read_within, refused}
+use Rattle.period_file.proofs.Told.{prefix_at_stop, less_at_stop, none_answer, torn_answer, torn_refused, whole_answer}
 use Rattle.period_file.proofs.files.file_text.Given as given
 use Rattle.period_file.proofs.files.file_text.Goals.{In-Some}
 use Rattle.period_file.proofs.files.file_text.Goals as goal
@@ -31,8 +31,8 @@ returns-in_err-count-clause-stopped g c =
     let is = passed (err_from_is_err_and c.from_residual.result c.from_residual.ensures.1) in
     record {
       torn = λ torn. never_torn c.find_line_above.new.unread.read (copying_of c.in_err-count.field-0.0 c.find_line_above.new.unread.read c.in_err-count.ensures.reads.reading) is torn;
-      front = on_err c.from_residual.result (any_front (g.R.Source.remaining c.args.reader.now) c.args.period (g.W.Sink.contents c.args.writer.now));
-      prefix = λ write. never_write c.in_err-count.field-0.0 (one_fault is write);
+      prefix = on_err c.from_residual.result (any_prefix (g.R.Source.remaining c.args.reader.now) c.args.period (g.W.Sink.contents c.args.writer.now));
+      less = λ write. never_write c.in_err-count.field-0.0 (one_fault is write);
     }
 
 pub returns-in_err-count-clause-streams : goal.returns-in_err-count-clause-streams
@@ -49,8 +49,8 @@ returns-in_err-count-clause-streams g c =
 pub returns-in_default-clause-stopped : goal.returns-in_default-clause-stopped
 returns-in_default-clause-stopped g c = record {
   torn = λ torn. none_is_torn _ refl (one_fault refl torn);
-  front = any_front (g.R.Source.remaining c.args.reader.now) c.args.period (g.W.Sink.contents c.args.writer.now);
-  prefix = λ write. none_is_write _ refl (one_fault refl write);
+  prefix = any_prefix (g.R.Source.remaining c.args.reader.now) c.args.period (g.W.Sink.contents c.args.writer.now);
+  less = λ write. none_is_write _ refl (one_fault refl write);
 }
 
 pub returns-in_default-clause-streams : goal.returns-in_default-clause-streams
@@ -81,8 +81,8 @@ returns-in_err-lacking-clause-stopped g c =
     let is = passed (err_from_is_err_and c.from_residual-in_err-lacking.result c.from_residual-in_err-lacking.ensures.1) in
     record {
       torn = λ torn. never_torn c.copy_lines.new.unread.read c.in_err-lacking.ensures.calls.copying is torn;
-      front = on_err c.from_residual-in_err-lacking.result (front_at_stop found c.in_err-lacking.ensures.stopped);
-      prefix = λ write. less_at_stop found (c.in_err-lacking.ensures.short (ap Err (one_fault is write)));
+      prefix = on_err c.from_residual-in_err-lacking.result (prefix_at_stop found c.in_err-lacking.ensures.stopped);
+      less = λ write. less_at_stop found (c.in_err-lacking.ensures.short (ap Err (one_fault is write)));
     }
 
 pub returns-in_err-lacking-clause-streams : goal.returns-in_err-lacking-clause-streams
@@ -106,8 +106,8 @@ returns-then-lacking-gt0-clause-stopped g c =
     let found = above g (goal.at.returns-then-lacking-gt0-clause-stopped g c).In-Some in
     record {
       torn = λ is. torn_answer found c.in_ok-lacking.ensures.copied c.if-lacking-gt0.true (c.in_ok-lacking.ensures.ended c.if-lacking-gt0.true) c.in_ok-lacking.ensures.calls.within;
-      front = front_at_stop found (stops_at_read c.in_ok-lacking.ensures.copied);
-      prefix = λ write. torn_is_write _ refl (one_fault refl write);
+      prefix = prefix_at_stop found (stops_at_read c.in_ok-lacking.ensures.copied);
+      less = λ write. torn_is_write _ refl (one_fault refl write);
     }
 
 pub returns-then-lacking-gt0-clause-streams : goal.returns-then-lacking-gt0-clause-streams
@@ -137,8 +137,8 @@ returns-in_err-drop_rest-clause-stopped g c =
     let is = passed (err_from_is_err_and c.from_residual-in_err-drop_rest.result c.from_residual-in_err-drop_rest.ensures.1) in
     record {
       torn = λ torn. never_torn c.drop_rest.new.unread.read (copying_of c.in_err-drop_rest.field-0.0 c.drop_rest.new.unread.read c.in_err-drop_rest.ensures.reads.reading) is torn;
-      front = on_err c.from_residual-in_err-drop_rest.result (front_at_stop found (stops_at_read (copies_read c.in_ok-lacking.ensures.copied (only_read c.drop_rest.ensures.takes.1))));
-      prefix = λ write. never_write c.in_err-drop_rest.field-0.0 (one_fault is write);
+      prefix = on_err c.from_residual-in_err-drop_rest.result (prefix_at_stop found (stops_at_read (copies_read c.in_ok-lacking.ensures.copied (only_read c.drop_rest.ensures.takes.1))));
+      less = λ write. never_write c.in_err-drop_rest.field-0.0 (one_fault is write);
     }
 
 pub returns-in_err-drop_rest-clause-streams : goal.returns-in_err-drop_rest-clause-streams
@@ -175,4 +175,4 @@ pub returns-clause-none : goal.returns-clause-none
 returns-clause-none g c = λ none. answered _ refl none
 
 pub returns-clause-stopped : goal.returns-clause-stopped
-returns-clause-stopped g c = record { torn = λ torn. answered _ refl torn; front = tt; prefix = λ write. answered _ refl write }
+returns-clause-stopped g c = record { torn = λ torn. answered _ refl torn; prefix = tt; less = λ write. answered _ refl write }
