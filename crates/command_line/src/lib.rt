@@ -3,6 +3,7 @@
 #![tactic(auto)]
 
 mod commands;
+mod grammar;
 mod runs;
 mod statuses;
 mod words;

@@ -1,7 +1,7 @@
 use Rattle.std.proofs.Common.{◌≡◌, ap, ◌∙◌, codes, IfOk, subst}
 use Rattle.clap.specs.Words.{App, app_of, with_subcommand}
 use Rattle.command_line.specs.CommandLine.{period_grammar, schedule_grammar, sheets_grammar}
-use Rattle.command_line.proofs.words.with_second.Goals as goal
+use Rattle.command_line.proofs.grammar.with_second.Goals as goal
 
 -- each call adds its command to what the grammar was
 pub returns-clause-app : goal.returns-clause-app

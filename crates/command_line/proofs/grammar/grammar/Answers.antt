@@ -1,7 +1,7 @@
 use Rattle.std.proofs.Common.{◌≡◌, ap, ◌∙◌, IfOk, subst}
 use Rattle.clap.specs.Words.{App, app_of}
 use Rattle.command_line.specs.Inner.Grammars.{with_first, with_third, with_second}
-use Rattle.command_line.proofs.words.grammar.Goals as goal
+use Rattle.command_line.proofs.grammar.grammar.Goals as goal
 
 -- each call adds its commands to what the grammar was
 pub returns-clause-app : goal.returns-clause-app

@@ -1,7 +1,7 @@
 use Rattle.std.proofs.Common.{◌≡◌, ap, ◌∙◌, codes, IfOk, subst}
 use Rattle.clap.specs.Words.{App, app_of, new_app, with_subcommand}
 use Rattle.command_line.specs.CommandLine.{threads_grammar}
-use Rattle.command_line.proofs.words.with_third.Goals as goal
+use Rattle.command_line.proofs.grammar.with_third.Goals as goal
 
 -- each call adds its command to what the grammar was
 pub returns-clause-app : goal.returns-clause-app

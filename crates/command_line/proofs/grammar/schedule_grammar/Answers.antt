@@ -1,7 +1,7 @@
 use Rattle.std.proofs.Common.{◌≡◌, ap, ap₂, ◌∙◌, codes, IfOk, subst}
 use Rattle.clap.specs.Words.{App, app_of, rule_of, with_rule}
 use Rattle.command_line.specs.CommandLine.{defaulting_to}
-use Rattle.command_line.proofs.words.schedule_grammar.Goals as goal
+use Rattle.command_line.proofs.grammar.schedule_grammar.Goals as goal
 
 pub returns-clause-app : goal.returns-clause-app
 returns-clause-app c =

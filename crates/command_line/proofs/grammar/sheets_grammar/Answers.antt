@@ -1,6 +1,6 @@
 use Rattle.std.proofs.Common.{◌≡◌, ap₂, ◌∙◌, IfOk, subst}
 use Rattle.clap.specs.Words.{App, app_of, with_rule}
-use Rattle.command_line.proofs.words.sheets_grammar.Goals as goal
+use Rattle.command_line.proofs.grammar.sheets_grammar.Goals as goal
 
 pub returns-clause-app : goal.returns-clause-app
 returns-clause-app c =

@@ -1,7 +1,7 @@
 use Rattle.std.proofs.Common.{◌≡◌, ap, ◌∙◌, codes, IfOk, subst}
 use Rattle.clap.specs.Words.{App, app_of, Rule, with_rule}
 use Rattle.command_line.specs.CommandLine.{number_option, required}
-use Rattle.command_line.proofs.words.threads_grammar.Goals as goal
+use Rattle.command_line.proofs.grammar.threads_grammar.Goals as goal
 
 -- each call adds its option to what the command was
 pub returns-clause-app : goal.returns-clause-app

@@ -1,7 +1,7 @@
 use Rattle.std.proofs.Common.{◌≡◌, ap, ◌∙◌, IfOk, subst}
 use Rattle.clap.specs.Words.{App, app_of, Rule, rule_of, with_rule}
 use Rattle.command_line.specs.CommandLine.{required}
-use Rattle.command_line.proofs.words.counting.Goals as goal
+use Rattle.command_line.proofs.grammar.counting.Goals as goal
 
 pub returns-clause-app : goal.returns-clause-app
 returns-clause-app c =

@@ -1,0 +1,317 @@
+//! The grammar of the command line, with the texts of its help.
+
+ghost use Rattle.std.specs.Prelude.{◌≡◌, ◌≢◌, Err, IfOk, false};
+ghost use Rattle.clap.specs.Words.{App, app_of, new_app, rule_of, with_rule, with_subcommand};
+ghost use Rattle.clap.specs.declared.builder.command.Command.TheViews.{out-Command};
+ghost use Rattle.command_line.specs.CommandLine.{bare_grammar, check_grammar, flag_option, grammar_of_focusd, number_option, period_grammar, required, threads_grammar, schedule_grammar, sheets_grammar, text_option};
+ghost use Rattle.command_line.specs.Inner.Grammars.{with_first, with_third, with_second};
+
+use crate::words::LineFault;
+use clap::{Arg, ArgAction};
+use std::alloc::Global;
+
+const FOCUSD: &str =
+    "Turns usage records into FOCUS 1.0 cost rows. Input comes on standard input alone";
+
+const RATE: &str = "Writes the file of a period of one batch, from an input of at most 16 MiB";
+
+const PLAY: &str = "Plays a schedule of at most 16 MiB, and writes its transcript";
+
+const CHECK: &str = "Writes what is refused of an input of at most 16 MiB, and warnings, by lines";
+
+const CHECK_INPUT: &str = "Input, by its kind:
+  rate      a section `sheet n` and its n lines, a section `issuer n` and its n lines, each if it is
+            there, and one batch
+  play      a schedule, which begins with the line `SCHEDULE 1`
+  schedule  sections as for rate, then batches, and lines `close` between them
+  sheets    two sections `sheet n` and its n lines: the old sheet, then the new";
+
+const FILE: &str = "Copies the file of a period out of a transcript of at most 4 GiB";
+
+const SCHEDULE: &str =
+    "Writes a schedule that closes the months of batches, from an input of at most 16 MiB";
+
+const SHEETS: &str =
+    "Writes what a new price sheet changes of an old one, from an input of at most 16 MiB";
+
+const SHEETS_INPUT: &str =
+    "Input: two sections `sheet n` and its n lines: the old sheet, then the new";
+
+const NODE: &str = "Runs a node of a group: reads what begins it, then commands, and answers each";
+
+const NODE_INPUT: &str =
+    "Input: the line `NODE 1`, the head line of its log, a section `sheet n` and its n lines, a
+section `issuer n` and its n lines, and the line `new`, or `log n` and the n lines of its log; then
+commands: `packet n` and n lines, `start`, `export p`, `keep`, `give a s`";
+
+const AGENT: &str =
+    "Runs an agent of a group: reads what begins it, then commands, and answers each";
+
+const AGENT_INPUT: &str =
+    "Input: the line `AGENT 1`, the head line of its log, a section `sheet n` and its n lines, a
+section `issuer n` and its n lines, and the line `new`, or `log n` and the n lines of its log; then
+commands: `journal n` and n lines, `keep`, `again s`";
+
+const THREADS: &str = "Runs a group in threads, without an input, and writes a report";
+
+// `--NAME VALUE`, which may be left out
+fn text_option<'a>(alloc: Global, name: &'a str, help: &'a str) -> Arg<'a>
+    ensures rule { rule_of result ≡ text_option name.entry.now }
+    ensures local { result.global ≡ false }
+{
+    Arg::new(alloc, name)
+        .long(name)
+        .help(help)
+        .action(ArgAction::Set)
+}
+
+// `--NAME`, which may be left out
+fn flag<'a>(alloc: Global, name: &'a str, help: &'a str) -> Arg<'a>
+    ensures rule { rule_of result ≡ flag_option name.entry.now }
+    ensures local { result.global ≡ false }
+{
+    Arg::new(alloc, name)
+        .long(name)
+        .help(help)
+        .action(ArgAction::SetTrue)
+}
+
+// `--NAME N` with a number from the one to the other, which may be left out
+fn number_option<'a>(alloc: Global, name: &'a str, help: &'a str, least: u16, most: u16) -> Arg<'a>
+    ensures rule { rule_of result ≡ number_option name.entry.now least most }
+    ensures local { result.global ≡ false }
+{
+    let numbers = clap::value_parser!(u16).range(i64::from(least)..=i64::from(most));
+    text_option(alloc, name, help).value_parser(numbers)
+}
+
+// A command without options
+fn plain_grammar<'a>(alloc: Global, name: &'a str, about: &'a str) -> clap::Command<'a>
+    ensures app { app_of result ≡ new_app name.entry.now }
+    ensures local { (out-Command result).has_globals ≡ false }
+{
+    clap::Command::new(alloc, name).about(about)
+}
+
+// The same, whose help says behind all else what the input is
+fn explained<'a>(alloc: Global, name: &'a str, about: &'a str, input: &'a str) -> clap::Command<'a>
+    ensures app { app_of result ≡ new_app name.entry.now }
+    ensures local { (out-Command result).has_globals ≡ false }
+{
+    clap::Command::new(alloc, name)
+        .about(about)
+        .after_help(input)
+}
+
+// A command with one option more
+fn taking<'a>(command: clap::Command<'a>, option: Arg<'a>) -> Result<clap::Command<'a>, LineFault>
+    requires local { ((out-Command command).has_globals ≡ false) × (option.global ≡ false) }
+    ensures app { IfOk result
+        (λ c. app_of c ≡ with_rule (app_of command.entry) (rule_of option.entry)) }
+    ensures local { IfOk result (λ c. (out-Command c).has_globals ≡ false) }
+    ensures memory { result ≢ Err LineFault.Line }
+{
+    match command.arg(option) {
+        Ok(command) => Ok(command),
+        Err(_) => Err(LineFault::OutOfMemory),
+    }
+}
+
+// The same with `--NAME N`, a number from 1 to the most, which may not be left out
+fn counting<'a>(
+    command: clap::Command<'a>,
+    alloc: Global,
+    name: &'a str,
+    help: &'a str,
+    most: u16,
+) -> Result<clap::Command<'a>, LineFault>
+    requires local { (out-Command command).has_globals ≡ false }
+    ensures app { IfOk result (λ c. app_of c
+        ≡ with_rule (app_of command.entry) (required (number_option name.entry.now 1 most))) }
+    ensures local { IfOk result (λ c. (out-Command c).has_globals ≡ false) }
+    ensures memory { result ≢ Err LineFault.Line }
+{
+    let count = number_option(alloc, name, help, 1, most).required(true);
+    taking(command, count)
+}
+
+// `rate --period P` or `file --period P`
+fn period_grammar<'a>(
+    alloc: Global,
+    name: &'a str,
+    about: &'a str,
+) -> Result<clap::Command<'a>, LineFault>
+    ensures app { IfOk result (λ c. app_of c ≡ period_grammar name.entry.now) }
+    ensures local { IfOk result (λ c. (out-Command c).has_globals ≡ false) }
+    ensures memory { result ≢ Err LineFault.Line }
+{
+    let period = number_option(
+        alloc,
+        "period",
+        "The billing period, in months from the base of the price sheet: 0 to 1199",
+        0,
+        1_199,
+    )
+    .required(true);
+    taking(plain_grammar(alloc, name, about), period)
+}
+
+// `threads --nodes N --agents A --batches K --periods P`
+fn threads_grammar<'a>(alloc: Global) -> Result<clap::Command<'a>, LineFault>
+    ensures app { IfOk result (λ c. app_of c ≡ threads_grammar) }
+    ensures local { IfOk result (λ c. (out-Command c).has_globals ≡ false) }
+    ensures memory { result ≢ Err LineFault.Line }
+{
+    let threads = plain_grammar(alloc, "threads", THREADS);
+    let threads = counting(threads, alloc, "nodes", "How many nodes: 1 to 9", 9)?;
+    let threads = counting(threads, alloc, "agents", "How many agents: 1 to 9", 9)?;
+    let threads = counting(
+        threads,
+        alloc,
+        "batches",
+        "How many batches of each agent: 1 to 99",
+        99,
+    )?;
+    counting(threads, alloc, "periods", "How many months: 1 to 12", 12)
+}
+
+// `check --kind KIND`
+fn check_grammar<'a>(alloc: Global) -> Result<clap::Command<'a>, LineFault>
+    ensures app { IfOk result (λ c. app_of c ≡ check_grammar) }
+    ensures local { IfOk result (λ c. (out-Command c).has_globals ≡ false) }
+    ensures memory { result ≢ Err LineFault.Line }
+{
+    let kind = text_option(
+        alloc,
+        "kind",
+        "What the input is for: rate, play, schedule or sheets; left out, its first line decides on rate or play",
+    );
+    taking(explained(alloc, "check", CHECK, CHECK_INPUT), kind)
+}
+
+// `sheets --before DAY --all`
+fn sheets_grammar<'a>(alloc: Global) -> Result<clap::Command<'a>, LineFault>
+    ensures app { IfOk result (λ c. app_of c ≡ sheets_grammar) }
+    ensures local { IfOk result (λ c. (out-Command c).has_globals ≡ false) }
+    ensures memory { result ≢ Err LineFault.Line }
+{
+    let before = text_option(
+        alloc,
+        "before",
+        "A day, as 2025-04-01: files of months that end before it have to stay",
+    );
+    let all = flag(alloc, "all", "Lists each field that differs too");
+    let sheets = explained(alloc, "sheets", SHEETS, SHEETS_INPUT);
+    let sheets = taking(sheets, before)?;
+    taking(sheets, all)
+}
+
+// `schedule --nodes N --observers M --through P`
+fn schedule_grammar<'a>(alloc: Global) -> Result<clap::Command<'a>, LineFault>
+    ensures app { IfOk result (λ c. app_of c ≡ schedule_grammar) }
+    ensures local { IfOk result (λ c. (out-Command c).has_globals ≡ false) }
+    ensures memory { result ≢ Err LineFault.Line }
+{
+    let nodes = number_option(alloc, "nodes", "How many nodes vote: 1 to 99", 1, 99).default_value(
+        "3",
+    );
+    let schedule = taking(plain_grammar(alloc, "schedule", SCHEDULE), nodes)?;
+    let observers = number_option(
+        alloc,
+        "observers",
+        "How many more observe: 0 to 98, at most 99 with those that vote",
+        0,
+        98,
+    )
+    .default_value("0");
+    let schedule = taking(schedule, observers)?;
+    let through = number_option(
+        alloc,
+        "through",
+        "The last period to close: 0 to 1199; left out, at least the last in which a reading starts",
+        0,
+        1_199,
+    );
+    taking(schedule, through)
+}
+
+// Without its commands: `help` is none of them, since `--help` asks for it.
+fn bare_grammar<'a>(alloc: Global) -> Result<clap::Command<'a>, LineFault>
+    ensures app { IfOk result (λ c. app_of c ≡ bare_grammar) }
+    ensures memory { result ≢ Err LineFault.Line }
+{
+    let Ok(focusd) = clap::Command::new(alloc, "focusd").bin_name("focusd") else {
+        return Err(LineFault::OutOfMemory);
+    };
+    Ok(
+        focusd
+            .about(FOCUSD)
+            .version("0.3.0")
+            .no_binary_name(true)
+            .disable_help_subcommand(true)
+            .subcommand_required(true),
+    )
+}
+
+// The grammar with a command more, if there was memory for that
+fn with<'a>(
+    grammar: clap::Command<'a>,
+    command: Result<clap::Command<'a>, LineFault>,
+) -> Result<clap::Command<'a>, LineFault>
+    requires local { IfOk command (λ c. (out-Command c).has_globals ≡ false) }
+    requires memory { command ≢ Err LineFault.Line }
+    ensures app { (a : App) → IfOk command.entry (λ c. app_of c ≡ a)
+        → IfOk result (λ g. app_of g ≡ with_subcommand (app_of grammar.entry) a.top) }
+    ensures memory { result ≢ Err LineFault.Line }
+{
+    let Ok(command) = command else {
+        return Err(LineFault::OutOfMemory);
+    };
+    match grammar.subcommand(command) {
+        Ok(grammar) => Ok(grammar),
+        Err(_) => Err(LineFault::OutOfMemory),
+    }
+}
+
+// With `rate`, `play` and `check`
+fn with_first<'a>(grammar: clap::Command<'a>, alloc: Global) -> Result<clap::Command<'a>, LineFault>
+    ensures app { IfOk result (λ c. app_of c ≡ with_first (app_of grammar.entry)) }
+    ensures memory { result ≢ Err LineFault.Line }
+{
+    let rating = with(grammar, period_grammar(alloc, "rate", RATE))?;
+    let playing = with(rating, Ok(plain_grammar(alloc, "play", PLAY)))?;
+    with(playing, check_grammar(alloc))
+}
+
+// With `file`, `schedule` and `sheets`
+fn with_second<'a>(
+    grammar: clap::Command<'a>,
+    alloc: Global,
+) -> Result<clap::Command<'a>, LineFault>
+    ensures app { IfOk result (λ c. app_of c ≡ with_second (app_of grammar.entry)) }
+    ensures memory { result ≢ Err LineFault.Line }
+{
+    let filing = with(grammar, period_grammar(alloc, "file", FILE))?;
+    let scheduling = with(filing, schedule_grammar(alloc))?;
+    with(scheduling, sheets_grammar(alloc))
+}
+
+// With `threads`, `node` and `agent`
+fn with_third<'a>(grammar: clap::Command<'a>, alloc: Global) -> Result<clap::Command<'a>, LineFault>
+    ensures app { IfOk result (λ c. app_of c ≡ with_third (app_of grammar.entry)) }
+    ensures memory { result ≢ Err LineFault.Line }
+{
+    let threading = with(grammar, threads_grammar(alloc))?;
+    let nodes = with(threading, Ok(explained(alloc, "node", NODE, NODE_INPUT)))?;
+    with(nodes, Ok(explained(alloc, "agent", AGENT, AGENT_INPUT)))
+}
+
+/// The words of all commands, without the program's name.
+pub(crate) fn grammar<'a>(alloc: Global) -> Result<clap::Command<'a>, LineFault>
+    ensures app { IfOk result (λ c. app_of c ≡ grammar_of_focusd) }
+    ensures memory { result ≢ Err LineFault.Line }
+{
+    let first = with_first(bare_grammar(alloc)?, alloc)?;
+    let second = with_second(first, alloc)?;
+    with_third(second, alloc)
+}
