@@ -37,7 +37,7 @@ is_calm play.OutOfMemory reads reads' writes writes' read wrote other = (read, w
 is_calm (play.Refused refusal) reads reads' writes writes' read wrote other = (read, wrote)
 is_calm (play.Schedule bad) reads reads' writes writes' read wrote other = (read, wrote)
 
--- what holds but at want of memory and a failed write
+-- what holds but out of memory and at a failed write
 but_at_3_and_4 : (Same : Type 0) (fault : PlayFault) → (fault ≢ play.Write → fault ≢ play.OutOfMemory → Same)
     → status_of (Play fault) ≢ 3 → status_of (Play fault) ≢ 4 → Same
 but_at_3_and_4 Same play.Read same not_3 not_4 = absurd (not_3 refl)

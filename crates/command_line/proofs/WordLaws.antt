@@ -39,13 +39,13 @@ pub grammar_is_free : is_simple_and_free grammar_of_focusd ≡ true
 unfolding clap_on_literals
 grammar_is_free = refl
 
--- what has no fault fails for want of memory alone
+-- what has no fault fails out of memory alone
 pub only_memory : (kinds : Kinds) (e : Error) → kinds ≡ [] → HasKind kinds e → kind_of e ≡ OutOfMemory
 only_memory [] e none (inl memory) = memory
 only_memory [] e none (inr among) = absurd among
 only_memory (k ∷ ks) e none fault = absurd (cc)
 
--- what has one kind of fault fails for that, or for want of memory
+-- what has one kind of fault fails for that, or out of memory
 only_kind : (k : ErrorKind) (kinds : Kinds) (e : Error) → kinds ≡ k ∷ [] → HasKind kinds e → (kind_of e ≡ OutOfMemory) ⊎ (kind_of e ≡ k)
 only_kind k kinds e is has = either_of (subst (λ ks. HasKind ks e) is has)
   where
@@ -91,7 +91,7 @@ named_asks words (Process kind) named = named
 named_asks words Help named = absurd named.named
 named_asks words Version named = absurd named.named
 
--- an error that is neither want of memory nor a request is of words that ask for nothing
+-- an error that is neither out of memory nor a request is of words that ask for nothing
 pub asks_for_nothing : (words : List Text) (e : Error) → HasKind (fault_of grammar_of_focusd words) e → kind_of e ≢ OutOfMemory → kind_of e ≢ DisplayHelp → kind_of e ≢ DisplayVersion
     → (command : Command) → Asks words command → ⊥
 asks_for_nothing words e has no_memory no_help no_version command asked = nothing_of (by_name words command asked)

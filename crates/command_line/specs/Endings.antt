@@ -30,7 +30,7 @@ status_of_process process.TooLong = 1
 status_of_process process.Write = 3
 status_of_process process.OutOfMemory = 4
 
--- 1 refused input, no whole file, a mismatch or sheets that are unlike, 2 the command line, 3 a failed read or write, 4 want of
+-- 1 refused input, no whole file, a mismatch or sheets that are unlike, 2 the command line, 3 a failed read or write, 4 out of
 -- memory
 abbrev pub status_of : Fault → ℕ
 status_of (Line on_line.Line) = 2

@@ -362,7 +362,7 @@ pub fn run_alone<R: Source, W: Sink, E: Sink>(
     ensures untouched { IsErr result
         → (reader.new ≡ reader.old) × (writer.new ≡ writer.old) × (errors.new ≡ errors.old) }
 
-    // Where they are asked for, only want of memory comes before.
+    // Where they are asked for, only out of memory comes before: an allocation failed.
     ensures only_memory { IfOk result (λ status. (size : Size) → AsksFor args (Command.Threads size)
         → status ≡ 4) }
 {
@@ -384,7 +384,7 @@ pub fn run_alone<R: Source, W: Sink, E: Sink>(
 /// refused of it, that it has no whole file of the period, that not all stays of two sheets that is
 /// to stay, that no schedule was found, that the built-in sheet of `threads` is refused, or that its
 /// run came to a mismatch; 2 that the words ask for nothing, or are no text; 3 that a read or a
-/// write failed; 4 that memory was wanting.
+/// write failed; 4 that it is out of memory: an allocation failed.
 /// In each case but 0 a line tells of it on `errors`, as far as that takes it. At most 16,777,217
 /// bytes are read, by `file` at most 4,294,967,297, by a process as many as come, and none at 2, by
 /// `threads`, or for help or the version. What is no group in threads is done by [`run_alone`],

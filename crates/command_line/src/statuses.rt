@@ -20,8 +20,8 @@ use threads_player::ThreadsFault;
 pub enum Fault {
     /// The command line.
     Line(LineFault),
-    /// `rate` or `play`, the sections of `sheets` or `schedule`, or a device, or want of memory, of any
-    /// but `file`, `threads`, `node` and `agent`.
+    /// `rate` or `play`, the sections of `sheets` or `schedule`; of any but `file`, `threads`, `node` and
+    /// `agent` also a device, or out of memory: an allocation failed.
     Play(PlayFault),
     /// `check` wrote so many lines of what is wrong.
     Faults(u64),
@@ -223,7 +223,7 @@ fn tell<W: Sink>(fault: &Fault, writer: &mut W) -> Result<(), Failed>
 
 /// Writes the line of the fault in one write, or in three where a batch is refused, and gives the status
 /// to end with: 1 for refused input, a mismatch or sheets that are unlike, 2 for the command line, 3 for
-/// a failed read or write, 4 for want of memory.
+/// a failed read or write, 4 when out of memory: an allocation failed.
 ///
 /// The status is the same where the writer fails. It takes no memory.
 pub fn ending<W: Sink>(fault: &Fault, writer: &mut W) -> u8

@@ -6,7 +6,7 @@ use Rattle.period_file.specs.declared.faults.FileFault.{FileFault}
 use Rattle.period_file.specs.declared.faults.FileFault.TheVariants as fault
 use Rattle.period_file.specs.Faults.{tells_of_reader, tells_of_writer}
 
--- a failed read, a failed write, want of memory, or too long an input: then more was read than one may have
+-- a failed read, a failed write, out of memory, or too long an input: then more was read than one may have
 abbrev pub IsOfCopying : FileFault → ℕ → Type 0
 IsOfCopying fault.NoFile read = ⊥
 IsOfCopying fault.Torn read = ⊥
