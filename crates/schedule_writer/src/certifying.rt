@@ -2,13 +2,14 @@
 //! the files are not made.
 
 ghost use Rattle.std.specs.Prelude.{◌≡◌, ◌+◌, ◌≤◌, [], IfOk, IsTrue, Ok, OnOk, Some};
+ghost use Rattle.std.specs.Arc.{arc_value};
 ghost use Rattle.metering_model.specs.Limits.{last_period, most_agents, most_nodes};
 ghost use Rattle.metering_model.specs.Schedule.{event_of};
 ghost use Rattle.metering_model.specs.Step.{step};
 ghost use Rattle.metering_model.specs.World.{opening};
 ghost use Rattle.group_events.specs.Events.{event_of as offered_event};
 ghost use Rattle.group_events.specs.Replies.{reply_of};
-ghost use Rattle.schedule_reader.specs.Events.{HasWholeLines, planned_of};
+ghost use Rattle.schedule_reader.specs.Events.{HasWholeLines, StandsFrom, planned_of};
 ghost use Rattle.schedule_reader.specs.Schedules.{events_in, preamble_in};
 ghost use Rattle.schedule_writer.specs.Inner.Certified.{IsCertified};
 ghost use Rattle.schedule_writer.specs.Inner.Plans.{IsDone, IsWithinGroup, all_seen, behind, journals_behind, nothing_seen, plan_of};
@@ -19,7 +20,7 @@ use batch_store::Store;
 use group_events::{Event, Offer};
 use input_sections::{ScheduleFault, Unread};
 use price_sheet::Issuer;
-use schedule_player::{Reply, World, event_of, opening_world};
+use schedule_player::{Reply, World, event_within, opening_world};
 use schedule_reader::{Planned, Preamble, event_in};
 use std::alloc::Global;
 use std::sync::Arc;
@@ -119,17 +120,20 @@ fn do_made(
     Ok(next)
 }
 
-/// Does one event, and answers what was done behind it.
+/// Does one event, of which what is journaled stands in the text from a place on, and answers what was done behind it.
 fn do_event(
     alloc: Global,
     plan: &Plan<'_>,
     world: &mut World,
     journals: &mut Store,
     seen: Seen,
+    text: &Arc<Vec<u8>>,
     planned: &Planned<'_>,
+    from: usize,
 ) -> Result<Seen, Stop>
     requires plan { IsWithinGroup plan.now }
     requires whole { HasWholeLines planned.now }
+    requires there { StandsFrom (arc_value text.now).items from planned.now }
     requires same { journals.old.batches ≡ world.old.journals }
     ensures seen { IfOk result
         (λ next. behind (plan_of plan.now) seen world.old.journals
@@ -139,22 +143,25 @@ fn do_event(
         (world.new ≡ (step world.old (event_of (planned_of planned.now))).1) }
     ensures journals { OnOk result (journals.new.batches ≡ world.new.journals) }
 {
-    match event_of(alloc, planned) {
+    match event_within(alloc, text, planned, from) {
         Ok(event) => do_made(alloc, plan, world, journals, seen, planned, &event),
         Err(_) => Err(Stop::OutOfMemory),
     }
 }
 
-/// Does the events that are left in turn as they are read, no more than `most`, and answers what was done behind them.
+/// Does the events that are left of the text in turn as they are read, no more than `most`, and answers what was done behind
+/// them.
 fn do_events(
     alloc: Global,
     plan: &Plan<'_>,
     world: &mut World,
     journals: &mut Store,
+    text: &Arc<Vec<u8>>,
     unread: Unread<'_>,
     most: usize,
 ) -> Result<Seen, Stop>
     requires plan { IsWithinGroup plan.now }
+    requires text { unread.text ≡ (arc_value text.now).items }
     requires same { journals.old.batches ≡ world.old.journals }
     ensures { IfOk result
         (λ seen. IsDone (plan_of plan.now) nothing_seen seen world.old
@@ -175,7 +182,8 @@ fn do_events(
             Ok(parts) => parts,
             Err(_) => return Err(Stop::NotClosed),
         };
-        seen = do_event(alloc, plan, world, journals, seen, &planned)?;
+        let from = planned.journal_from(rest.from());
+        seen = do_event(alloc, plan, world, journals, seen, text, &planned, from)?;
         here = rest;
     }
     Ok(seen)
@@ -241,16 +249,18 @@ fn read_above<'a>(
     }
 }
 
-/// Does events in a group without journals. Ok where they do all that was planned.
+/// Does the events that are left of the text in a group without journals. Ok where they do all that was planned.
 fn do_all(
     alloc: Global,
     plan: &Plan<'_>,
     world: &mut World,
     agents: u8,
+    text: &Arc<Vec<u8>>,
     unread: Unread<'_>,
     most: usize,
 ) -> Result<(), Stop>
     requires plan { IsWithinGroup plan.now }
+    requires text { unread.text ≡ (arc_value text.now).items }
     requires agents { (1 ≤ agents) × (agents ≤ most_agents) }
     requires opened { world.old.journals ≡ [] }
     ensures { OnOk result (IsDone (plan_of plan.now) nothing_seen (all_seen (plan_of plan.now))
@@ -259,7 +269,7 @@ fn do_all(
     let Ok(mut journals) = Store::new(alloc, agents) else {
         return Err(Stop::OutOfMemory);
     };
-    let seen = do_events(alloc, plan, world, &mut journals, unread, most)?;
+    let seen = do_events(alloc, plan, world, &mut journals, text, unread, most)?;
     if plan.is_done(seen) {
         Ok(())
     } else {
@@ -268,8 +278,15 @@ fn do_all(
 }
 
 /// Does the events of a text in a group of what stands above them. Ok where they do all that was planned.
-fn do_behind(alloc: Global, plan: &Plan<'_>, above: Preamble<'_>, most: usize) -> Result<(), Stop>
+fn do_behind(
+    alloc: Global,
+    plan: &Plan<'_>,
+    text: &Arc<Vec<u8>>,
+    above: Preamble<'_>,
+    most: usize,
+) -> Result<(), Stop>
     requires plan { IsWithinGroup plan.now }
+    requires text { above.rest.text ≡ (arc_value text.now).items }
     requires nodes { (1 ≤ above.voters) × (above.voters + above.observers ≤ most_nodes) }
     requires agents { (1 ≤ above.agents) × (above.agents ≤ most_agents) }
     ensures { OnOk result (IsDone (plan_of plan.now) nothing_seen (all_seen (plan_of plan.now))
@@ -288,25 +305,27 @@ fn do_behind(alloc: Global, plan: &Plan<'_>, above: Preamble<'_>, most: usize) -
     let Ok(mut world) = opening_world(alloc, voters, observers, agents, sheet, issuer) else {
         return Err(Stop::OutOfMemory);
     };
-    do_all(alloc, plan, &mut world, agents, rest, most)
+    do_all(alloc, plan, &mut world, agents, text, rest, most)
 }
 
-/// Whether a text is a schedule that does what was planned.
+/// Whether a text, which is shared, is a schedule that does what was planned. Its batches are not copied.
 pub(crate) fn certify(
     alloc: Global,
     plan: &Plan<'_>,
     agents: u8,
     issuer: &Issuer,
-    text: &[u8],
+    text: &Arc<Vec<u8>>,
+    lent: &[u8],
 ) -> Result<(), Stop>
+    requires lent { lent.now ≡ (arc_value text.now).items }
     requires voters { 1 ≤ plan.now.voters }
     requires nodes { (plan.now.nodes ≡ plan.now.voters + plan.now.observers)
         × (plan.now.nodes ≤ most_nodes) }
     requires last { plan.now.last ≤ last_period }
     requires agents { (1 ≤ agents) × (agents ≤ most_agents) }
     ensures { OnOk result (IsCertified (plan_of plan.now)
-        plan.now.voters plan.now.observers agents plan.now.sheet.now issuer.now text.now) }
+        plan.now.voters plan.now.observers agents plan.now.sheet.now issuer.now lent.now) }
 {
-    let above = read_above(alloc, plan, agents, issuer, text)?;
-    do_behind(alloc, plan, above, text.len())
+    let above = read_above(alloc, plan, agents, issuer, lent)?;
+    do_behind(alloc, plan, text, above, lent.len())
 }

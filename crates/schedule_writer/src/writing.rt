@@ -80,7 +80,7 @@ fn asked_for(through: Option<u16>, last: u16) -> u16
     }
 }
 
-/// The text of a schedule, where it stands the test.
+/// The text of a schedule, where it stands the test. It is shared, so that the test copies no batch of it.
 fn certified_text(
     alloc: Global,
     plan: &Plan<'_>,
@@ -88,17 +88,21 @@ fn certified_text(
     issuer: &Issuer,
     input: &[u8],
     batch_from: usize,
-) -> Result<Vec<u8>, Stop>
+) -> Result<Arc<Vec<u8>>, Stop>
     requires voters { 1 ≤ plan.now.voters }
     requires nodes { (plan.now.nodes ≡ plan.now.voters + plan.now.observers)
         × (plan.now.nodes ≤ most_nodes) }
     requires last { plan.now.last ≤ last_period }
     requires agents { (1 ≤ agents) × (agents ≤ most_agents) }
     ensures { IfOk result (λ text. IsCertified (plan_of plan.now)
-        plan.now.voters plan.now.observers agents plan.now.sheet.now issuer.now text.items) }
+        plan.now.voters plan.now.observers agents plan.now.sheet.now issuer.now
+        (arc_value text).items) }
 {
     let text = schedule_for(alloc, plan, agents, input, batch_from)?;
-    certify(alloc, plan, agents, issuer, &text)?;
+    let Ok(text) = Arc::new(alloc, text) else {
+        return Err(Stop::OutOfMemory);
+    };
+    certify(alloc, plan, agents, issuer, &text, &text)?;
     Ok(text)
 }
 
@@ -114,14 +118,14 @@ fn schedule_with(
     batches: &[Offered<'_>],
     closes: &[usize],
     asked: Asked,
-) -> Result<Vec<u8>, WriteFault>
+) -> Result<Arc<Vec<u8>>, WriteFault>
     requires request { IsRequest request }
     requires within { IsAskedWithin asked.agents asked.last }
     requires read { IsReadInput input.now sheet.now issuer.now
         (map offered_of batches.now) closes.now }
     requires asked { IsAskedBy sheet.now.base (map offered_of batches.now) asked.agents asked.last }
     ensures schedule { IfOk result
-        (λ text. IsScheduleOf request (Some input.now) input.now text.items) }
+        (λ text. IsScheduleOf request (Some input.now) input.now (arc_value text).items) }
     ensures fault { IfErr result IsUncertain }
 {
     let through = asked_for(request.through, asked.last);
@@ -152,11 +156,11 @@ fn schedule_by(
     batch_from: usize,
     sheet: &Arc<Sheet>,
     issuer: &Arc<Issuer>,
-) -> Result<Vec<u8>, WriteFault>
+) -> Result<Arc<Vec<u8>>, WriteFault>
     requires request { IsRequest request }
     requires given { IsGiven input.now (arc_value sheet.now) (arc_value issuer.now) batch_from }
     ensures schedule { IfOk result
-        (λ text. IsScheduleOf request (Some input.now) input.now text.items) }
+        (λ text. IsScheduleOf request (Some input.now) input.now (arc_value text).items) }
     ensures fault { IfErr result (IsFaultOf input.now) }
 {
     match read_items(alloc, sheet, issuer, input, batch_from) {
@@ -192,11 +196,11 @@ fn schedule_of(
     request: Request,
     input: &[u8],
     given: RateInput,
-) -> Result<Vec<u8>, WriteFault>
+) -> Result<Arc<Vec<u8>>, WriteFault>
     requires request { IsRequest request }
     requires given { IsGiven input.now given.sheet given.issuer given.batch_from }
     ensures schedule { IfOk result
-        (λ text. IsScheduleOf request (Some input.now) input.now text.items) }
+        (λ text. IsScheduleOf request (Some input.now) input.now (arc_value text).items) }
     ensures fault { IfErr result (IsFaultOf input.now) }
 {
     let RateInput {
@@ -219,10 +223,14 @@ fn schedule_of(
 }
 
 /// The schedule for an input.
-fn schedule_for_input(alloc: Global, request: Request, input: &[u8]) -> Result<Vec<u8>, WriteFault>
+fn schedule_for_input(
+    alloc: Global,
+    request: Request,
+    input: &[u8],
+) -> Result<Arc<Vec<u8>>, WriteFault>
     requires request { IsRequest request }
     ensures schedule { IfOk result
-        (λ text. IsScheduleOf request (Some input.now) input.now text.items) }
+        (λ text. IsScheduleOf request (Some input.now) input.now (arc_value text).items) }
     ensures fault { IfErr result (IsFaultOf input.now) }
 {
     match rate_input(alloc, input) {
