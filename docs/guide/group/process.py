@@ -55,7 +55,8 @@ class Process:
         self.child = subprocess.Popen(self.words, stdin=subprocess.PIPE, stdout=subprocess.PIPE, stderr=subprocess.PIPE)
         try:
             self.tell(self.front + self.sections + counted(b"log", self.log.settled()))
-            self.at = int(self.read_line().split()[2])  # of a node its period, of an agent its next sequence
+            _, _, at, *of = self.read_line().split()
+            self.at, self.round = int(at), int(of[1]) if of else 0  # of a node its period and its round, of an agent its next sequence
         except Lost as why:
             torn = re.search(r"refused log: torn line (\d+)", str(why))
             if not torn:
