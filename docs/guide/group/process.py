@@ -48,10 +48,10 @@ class Process:
     def __init__(self, log, focusd, kind, head, sections, send):
         self.log, self.room, self.words, self.head, self.send, self.long = log, log.room, [focusd, kind], head, send, LONG
         self.front, self.sections = b"%s 1\n%s" % (kind.upper().encode(), head), sections
-        self.begin()
+        self.begin(True)
 
-    def begin(self):
-        """Begins it with its log, which is cut where the process says that it is torn."""
+    def begin(self, is_first=False):
+        """Begins it with its log. What another host left is cut where the process says that it is torn: this one stores whole steps alone."""
         self.child = subprocess.Popen(self.words, stdin=subprocess.PIPE, stdout=subprocess.PIPE, stderr=subprocess.PIPE)
         try:
             self.tell(self.front + self.sections + counted(b"log", self.log.settled()))
@@ -59,10 +59,10 @@ class Process:
             self.at, self.round = int(at), int(of[1]) if of else 0  # of a node its period and its round, of an agent its next sequence
         except Lost as why:
             torn = re.search(r"refused log: torn line (\d+)", str(why))
-            if not torn:
+            if not torn or not is_first:
                 raise Stopped(f"{os.path.basename(self.room)}: {why}") from None
             self.log.cut(int(torn[1]))
-            self.begin()
+            self.begin(True)
         write(f"{self.room}/pid", b"%d\n" % self.child.pid, "wb")
 
     def tell(self, text):
