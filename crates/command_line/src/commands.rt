@@ -41,9 +41,9 @@ pub enum Command {
     /// `schedule --nodes N --observers M --through P`: a schedule that closes the months of batches.
     Schedule { request: Request },
     /// `node` or `agent`: a process of a group, which is begun by what the input gives first, and answers
-    /// each command behind it.
+    /// each command after it.
     Process { kind: ProcessKind },
-    /// `--help`, also behind a command: how the program, or that command, is called.
+    /// `--help`, also after a command: how the program, or that command, is called.
     Help,
     /// `--version`: which version of the program it is.
     Version,

@@ -346,7 +346,7 @@ fn ended<E: Sink>(outcome: Result<(), Fault>, errors: &mut E) -> u8
 /// Does what the arguments ask for, of which the first is the program's name, but for a group in
 /// threads: where they ask for one nothing is done, and its size is the error.
 ///
-/// The status is that of [`run`], and so is what is read, written and told.
+/// The status is that of [`run`], and so is what is read, written and reported.
 pub fn run_alone<R: Source, W: Sink, E: Sink>(
     alloc: Global,
     args: io::Result<Args>,

@@ -222,7 +222,7 @@ fn named(name: &str, options: &ArgMatches<'_>) -> Option<Command>
     }
 }
 
-/// Reads the words behind the program's name.
+/// Reads the words after the program's name.
 ///
 /// `Line` says that they ask for nothing, and `OutOfMemory` nothing of them.
 pub fn command(alloc: Global, words: &[String]) -> Result<Command, LineFault>
@@ -271,7 +271,7 @@ fn text_of(alloc: Global, error: &clap::Error) -> Result<String, LineFault>
     }
 }
 
-/// The help that the words behind the program's name ask for, which is `clap`'s text and not empty.
+/// The help that the words after the program's name ask for, which is `clap`'s text and not empty.
 ///
 /// With Ok they ask for it; `Line` says that they ask for none, and `OutOfMemory` nothing of them.
 pub fn help(alloc: Global, words: &[String]) -> Result<String, LineFault>

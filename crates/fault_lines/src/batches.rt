@@ -188,7 +188,7 @@ fn put_refused_words(
     Ok(())
 }
 
-/// Appends that a text behind so many lines of the input is refused as a batch, of which this is the first bad record.
+/// Appends that a text after so many lines of the input is refused as a batch, of which this is the first bad record.
 pub fn put_refused_text(
     told: &mut Vec<u8>,
     lines: usize,

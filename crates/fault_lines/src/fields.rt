@@ -12,7 +12,7 @@ use byte_text::{first_line, lines_length, read_whole, split_at_bar};
 use metering_model::{BatchCode, BatchFault, Kind};
 use utc_calendar::Stamp;
 
-/// A field of a record's line, behind its letter.
+/// A field of a record's line, after its letter.
 #[derive(Clone, Copy, Debug, PartialEq, Eq)]
 pub enum RecordField {
     Start,

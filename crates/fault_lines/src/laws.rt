@@ -11,7 +11,7 @@ ghost use Rattle.fault_lines.specs.Fields.{IsFaultOf, field_of, is_of_field, lin
 ghost use Rattle.fault_lines.specs.UnknownKeys.{AreAlikeIn, commitment_keys, issuer_keys, price_keys, region_keys, sheet_keys};
 ghost use Rattle.fault_lines.specs.declared.fields.RecordField.{RecordField};
 
-/// The field that is told of a batch's fault is the first in its line that breaks its rule, and the code is that field's.
+/// The field that is reported of a batch's fault is the first in its line that breaks its rule, and the code is that field's.
 pub fn each_fault_is_of_its_field()
     ensures field { (text : List ℕ) (fault : BatchFault) → batch_in text ≡ Err fault
         → is_of_field fault.code ≡ true
@@ -19,7 +19,7 @@ pub fn each_fault_is_of_its_field()
         × (field_of text fault ≡ Some f) × IsFaultOf line fault.code f }
 {}
 
-/// What is told as a key that no reader takes has no effect on its table: tables in which the same stands under the keys that are
+/// What is reported as a key that no reader takes has no effect on its table: tables in which the same stands under the keys that are
 /// taken are read alike, or refused alike, whatever stands under others. Of texts nothing is said.
 pub fn keys_that_no_reader_takes_change_nothing()
     ensures sheet { (ms ns : Members) → AreAlikeIn sheet_keys ms ns → sheet_in ms ≡ sheet_in ns }

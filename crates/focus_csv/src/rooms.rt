@@ -19,9 +19,9 @@ pub fn text_for(alloc: Global, rows: usize) -> Vec<u8>
     }
 }
 
-/// Memory in which the lines of a file are made: that of their pieces, and of the writer for odd texts. It is taken from
-/// one file to the next, which asks for more where a text of it is longer than those before, is the first odd one, or
-/// comes after 65,536 bytes of odd ones, and for all of it where the file before could not be made. What was made in it is
+/// Memory in which the lines of a file are made: that of their pieces, and of the writer for texts that have to be quoted. It is taken from
+/// one file to the next, which asks for more where a text of it is longer than those before, is the first such one, or
+/// comes after 65,536 bytes of such ones, and for all of it where the file before could not be made. What was made in it is
 /// never used again.
 #[derive(Drop)]
 pub struct LineRoom {

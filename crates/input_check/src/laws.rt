@@ -33,7 +33,7 @@ ghost use Rattle.input_check.specs.RateForms.{IsRateForm, RateForm};
 /// Of what is checked as to be rated, in whichever period, nothing is said where `rate` gives a file, and else just why it refuses,
 /// with its line. Of what is checked as to be played the first fault of the schedule is said, or just which events are answered as
 /// refused, each by the line on which it begins, or by one below it where the fault is of a line of the text that it hands in. It
-/// begins on the line that is one more than the line feeds of the text above it. A batch that breaks a rule of the journals is told
+/// begins on the line that is one more than the line feeds of the text above it. A batch that breaks a rule of the journals is reported
 /// at the line of the first record with which it is refused.
 pub fn what_is_said_is_what_is_refused()
     ensures rated { (period : ℕ) (text : List ℕ)
@@ -77,7 +77,7 @@ pub fn nothing_is_refused_for_a_warning()
         → CountsWhatIsJournaled lines events replies }
 {}
 
-/// What is told behind the code of a section, wherever it stands, is what the reader of its sheet or of its issuer says of the text of
+/// What is reported after the code of a section, wherever it stands, is what the reader of its sheet or of its issuer says of the text of
 /// its lines.
 pub fn each_reason_is_of_its_section()
     ensures sheet { IsSaidOfSection ScheduleCode.Sheet
@@ -87,7 +87,7 @@ pub fn each_reason_is_of_its_section()
 {}
 
 /// An input that is to be rated is read as a sheet, an issuer and a batch exactly where it joins the sections of these, each where
-/// it is there, and the batch behind them.
+/// it is there, and the batch after them.
 pub fn each_rating_is_read()
     ensures form { (text : List ℕ) (given : RateInput) → rate_input_in text ≡ Ok given
         → (f : RateForm) × IsRateForm text given f }

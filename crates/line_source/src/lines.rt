@@ -96,7 +96,7 @@ pub fn line_end<S: Source>(
     Ok(found)
 }
 
-/// Reads until so many whole lines are ahead behind the first bytes, or more than the most bytes are ahead in all: then no more
+/// Reads until so many whole lines are ahead after the first bytes, or more than the most bytes are ahead in all: then no more
 /// is read. A line without end takes no more room than these and a block.
 pub fn lines_end_within<S: Source>(
     unread: &mut Unread,
@@ -135,7 +135,7 @@ pub fn lines_end_within<S: Source>(
     Ok(Found::Lines(end))
 }
 
-/// Reads until so many whole lines are ahead behind the first bytes, and returns how many bytes these and the lines have
+/// Reads until so many whole lines are ahead after the first bytes, and returns how many bytes these and the lines have
 /// together: None where no more comes, and fewer lines are there.
 pub fn lines_end<S: Source>(
     unread: &mut Unread,

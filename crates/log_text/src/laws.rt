@@ -36,7 +36,7 @@ pub fn what_is_kept_may_stand_first()
 {}
 
 /// A log that breaks off within the text of one more increment is refused as torn, at the line on which that increment
-/// begins: the one behind the log's own lines. So is one that breaks off within what it begins with, at its second line.
+/// begins: the one after the log's own lines. So is one that breaks off within what it begins with, at its second line.
 /// And where a text is torn, what stands above that line is a log; the rest is not empty. One that breaks off within its
 /// head line is refused as having no head.
 pub fn a_torn_log_is_refused()

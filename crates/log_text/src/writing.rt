@@ -203,7 +203,7 @@ fn put_section(text: &mut Vec<u8>, written: &[u8]) -> Result<(), AllocError>
     result
 }
 
-/// Appends what is kept, as what a log begins with behind its head line. An error is an allocation failure, and leaves
+/// Appends what is kept, as what a log begins with after its head line. An error is an allocation failure, and leaves
 /// the text's bytes as they were.
 pub fn put_kept(text: &mut Vec<u8>, alloc: Global, kept: &Kept) -> Result<(), AllocError>
     ensures put { OnOk result (text.new.items ≡ text.old.items ++ base_text (Some kept.now)) }

@@ -28,10 +28,10 @@ pub fn texts_of_packets_are_short()
         length (packet_text group packet) ≤ most_packet_bytes }
 {}
 
-/// A stream of packets is cut in one way. Of a packet's text with any text behind it the packet is read, and what is
-/// behind; of a piece of it, which breaks off before its end, nothing. What is read as the first packet of a text may
+/// A stream of packets is cut in one way. Of a packet's text with any text after it the packet is read, and what is
+/// after it; of a piece of it, which breaks off before its end, nothing. What is read as the first packet of a text may
 /// be written, and its text stands there first. No text begins with those of two packets. A text is a packet's just
-/// where that packet is its first, and nothing is behind.
+/// where that packet is its first, and nothing is after it.
 pub fn texts_of_packets_end_by_themselves()
     ensures first { (group : List ℕ) (packet : Packet) (rest : List ℕ)
         → HasPacketText group packet →

@@ -11,7 +11,7 @@ ghost use Rattle.process_laws.specs.Histories.{Act, GoesOnInWorld, IsDoneByWorld
 
 /// Whatever the processes of a group do, each by itself, handed of the group's packets just what one of them sent, in any
 /// order, once, often or never, and stopped whenever, if each goes on with the newest that it stored: a world does the
-/// same, and the headline holds of it. In a world with room for more acts, these are more events behind those before, and
+/// same, and the headline holds of it. In a world with room for more acts, these are more events after those before, and
 /// each time the world has what the processes have.
 pub fn processes_do_what_a_world_does()
     ensures done { (g : Group) (acts : List Act) → IsHistory g (begun g) acts →

@@ -47,7 +47,7 @@ pub fn what_is_kept_or_sent_has_the_lines_that_are_told()
         × ((lines_in (packet_text name p)).rest ≡ []) }
 {}
 
-/// In a stream of answers the first one ends where its last line says, whatever stands behind: a host that counts lines
+/// In a stream of answers the first one ends where its last line says, whatever stands after it: a host that counts lines
 /// takes just the answer. A kept text is one of whole lines, as a file is.
 pub fn an_answer_ends_where_it_says()
     ensures first { (name : List ℕ) (to : Packet → Option ℕ) (agents : ℕ)

@@ -28,7 +28,7 @@ pub enum ProcessFault {
     /// The log is the agent's, and no journal of it alone without a gap.
     #[error("refused log: no journal of this agent")]
     NoJournal,
-    /// A log or a command has more than 4,294,967,296 bytes, or 2^63 commands were done. What stands before the log is never told
+    /// A log or a command has more than 4,294,967,296 bytes, or 2^63 commands were done. What stands before the log is never reported
     /// so: too much there is refused, as L8.
     #[error("too long")]
     TooLong,

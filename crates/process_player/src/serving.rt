@@ -201,13 +201,13 @@ fn write_begun<W: Sink>(
 /// Drops a process beside no other value, for the prover's time alone (docs/DECISIONS.md).
 fn drop_process(_process: Process) {}
 
-/// Begins the process that a reader gives first, and has it do all that it is asked behind that: a command is done and answered
+/// Begins the process that a reader gives first, and has it do all that it is asked after that: a command is done and answered
 /// when all of it was read. Up to the issuer there are at most 16,777,216 bytes; what was stored, and a command, has at most
 /// 4,294,967,296.
 ///
 /// With Ok the input has ended, perhaps within a command, which is not done then. After `Section`, `Log`, `OtherLog` and
 /// `NoJournal`, by which nothing is begun, nothing was written; after each other fault whole answers of first commands were, or
-/// nothing, and after `Write` a prefix of one behind them.
+/// nothing, and after `Write` a prefix of one after them.
 pub fn process_text<R: Source, W: Sink>(
     alloc: Global,
     kind: ProcessKind,

@@ -212,8 +212,8 @@ impl Check for ToSchedule {
     }
 }
 
-/// Reads what `schedule` would read, and writes what is wrong with it and what is odd: the first fault of its sections alone, or a line
-/// for each batch that is not journaled behind those above it that were, and then the warnings. It answers how many lines the refusals
+/// Reads what `schedule` would read, and writes what is wrong with it and what is unusual: the first fault of its sections alone, or a line
+/// for each batch that is not journaled after those above it that were, and then the warnings. It answers how many lines the refusals
 /// are.
 ///
 /// At most 16,777,217 bytes are read. After `Write` a prefix of the lines was written, and after any other fault nothing. Neither

@@ -25,7 +25,7 @@ pub enum WriteFault {
     /// A call of the writer failed.
     #[error("write failed")]
     Write,
-    /// A growth was refused.
+    /// Out of memory: an allocation failed.
     #[error("out of memory")]
     OutOfMemory,
 }

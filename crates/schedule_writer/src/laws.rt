@@ -15,7 +15,7 @@ ghost use Rattle.schedule_writer.specs.Checks.{CountsWhatIsJournaled, journaled_
 ghost use Rattle.schedule_writer.specs.Inputs.{Item, Offered, Offers, batches_of, head_text, items_of, items_text, offered_length};
 ghost use Rattle.schedule_writer.specs.Refusals.{IsRefusedAt, IsTaken};
 
-/// The items of an input are what stands behind its sections, cut in order: no byte is left out, and none belongs to two of them. Each
+/// The items of an input are what stands after its sections, cut in order: no byte is left out, and none belongs to two of them. Each
 /// batch begins where those above it end. A first line that is no head of a batch stands by itself, however long it is.
 pub fn items_are_the_input_cut_in_order()
     ensures whole { (input : List ℕ) (given : RateInput) → rate_input_in input ≡ Ok given
@@ -28,8 +28,8 @@ pub fn items_are_the_input_cut_in_order()
 {}
 
 /// What `check` says of an input begins with what `schedule` refuses: the fault of its sections alone; or first the line for which one
-/// of its batches is refused, whatever stands behind it; and nothing exactly where its sections are read and each of its batches is
-/// journaled behind those above it.
+/// of its batches is refused, whatever stands after it; and nothing exactly where its sections are read and each of its batches is
+/// journaled after those above it.
 pub fn what_is_said_is_what_is_refused()
     ensures section { (input : List ℕ) (fault : ScheduleFault) → rate_input_in input ≡ Err fault
         → said_of_input input ≡ said_of_fault input fault }
@@ -40,7 +40,7 @@ pub fn what_is_said_is_what_is_refused()
 {}
 
 /// Where the sections are refused nothing is warned of. Else the keys that no reader takes come first, and then the readings of the
-/// batches that count: just those that a group of one node and 64 agents journals behind those above them that it did journal, in their
+/// batches that count: just those that a group of one node and 64 agents journals after those above them that it did journal, in their
 /// order, each with as many lines as stand above its head.
 pub fn what_is_journaled_counts_for_a_warning()
     ensures refused { (input : List ℕ) (fault : ScheduleFault) → rate_input_in input ≡ Err fault

@@ -276,12 +276,12 @@ fn write_text<W: Sink>(text: &[u8], writer: &mut W) -> Result<(), WriteFault>
 }
 
 /// Reads a sheet and an issuer, each if it is there, and batches, and writes a schedule that closes their months: each batch is
-/// journaled, and each period closed behind the batches that stand above its line `close`, or behind all.
+/// journaled, and each period closed after the batches that stand above its line `close`, or after all.
 ///
 /// At most 16,777,217 bytes are read. After `Write` a prefix of the schedule was written, and after any other fault nothing.
 /// `Refused` has the line of the whole input on which the first batch that is not journaled is refused, and why, in the words of
 /// `check`. `TooLong` is meant for a schedule that would have more bytes, packets or periods than one may have, and `NotClosed` for
-/// one that did not stand the test. A clause says that the journals take all batches then, and none says when either is told.
+/// one that did not stand the test. A clause says that the journals take all batches then, and none says when either is reported.
 pub fn schedule_text<R: Source, W: Sink>(
     alloc: Global,
     request: Request,

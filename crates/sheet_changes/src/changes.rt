@@ -274,7 +274,7 @@ fn compare_input<W: Sink>(
 /// there follows a line for each field that differs of a price in force, a commitment or a region.
 ///
 /// Where a day is given, the new sheet is to go on from it and to name each region alike. Where it does not, that is
-/// told once all lines were written (`Unlike`). At most 16,777,217 bytes are read. After `Write` a prefix of the lines
+/// reported once all lines were written (`Unlike`). At most 16,777,217 bytes are read. After `Write` a prefix of the lines
 /// was written, and after any fault but that and `Unlike` nothing. `Refused` is never answered.
 pub fn sheets_text<R: Source, W: Sink>(
     alloc: Global,

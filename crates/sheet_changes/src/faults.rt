@@ -6,7 +6,7 @@ use thiserror::Error;
 /// Why a comparison did not end well.
 #[derive(Clone, Copy, Debug, PartialEq, Eq, Drop, Error)]
 pub enum SheetsFault {
-    /// The input is refused, a read or a write failed, or a growth was refused.
+    /// The input is refused, a read or a write failed, or an allocation did.
     #[error("{0}")]
     Input(PlayFault),
     /// All was written. From the day that was asked for the new sheet does not go on, or a region is named otherwise.
