@@ -1,14 +1,15 @@
--- What goes wrong where one act of a history may not be done: two files of one period that differ. Each fault is small, and every other act is as
--- it should be.
-use Rattle.std.proofs.Common.{ap}
-use Rattle.std.specs.Prelude.{◌≡◌, ℕ, zero, suc, List, [], ◌∷◌, ◌++◌, length, map, Some, None, Ok, Err, slice_get, codes, refl}
+-- What goes wrong where one act of a history may not be done: two files of one period whose bytes differ. Each fault is small, and every other act
+-- is as it should be.
+use Rattle.std.proofs.Common.{ap, arith}
+use Rattle.std.specs.Prelude.{◌≡◌, ℕ, zero, suc, List, [], ◌∷◌, ◌++◌, Some, None, pos, slice_get, slice_index, codes, refl}
 use Rattle.std.specs.List.{Contains}
 use Rattle.std.specs.Fmt.{digits}
 use Rattle.std.proofs.Math.Dec.{lit<, lit≤}
 use Rattle.jiff_core.specs.Calendar.{days_from_civil, day_count, days_of_years, days_of_months}
 use Rattle.metering_model.specs.NumberText.{worth_of, decimals_of}
-use Rattle.metering_model.specs.Batch.{Batch}
-use Rattle.metering_model.specs.BatchReading.{batch_in}
+use Rattle.metering_model.specs.Batch.{Batch, Reads}
+use Rattle.metering_model.specs.Transcript.{file_of, line_count}
+use Rattle.metering_model.specs.declared.Kind.TheVariants.{Credit, Usage}
 use Rattle.metering_model.specs.declared.Version.TheVariants.{B1}
 use Rattle.metering_model.specs.Cut.{Cut}
 use Rattle.metering_model.specs.World.{Packet, CarriesBatch, Prepare, Promise, Accept, Accepted, Decided, Kept, Good, Snapshot, new_kept}
@@ -29,11 +30,32 @@ group voters observers = record { name = name; voters = voters; observers = obse
 abbrev pub takes : ℕ → Packet → Act
 takes i p = NodeDoes i (TakePacket name p)
 
+-- the agent's first batch, of one credit, which is charged without a price
 abbrev pub b : Batch
-b = record { version = B1; agent = 1; seq = 1; records = [] }
+b = record {
+  version = B1;
+  agent = 1;
+  seq = 1;
+  records =
+      Reads (record {
+        kind = Credit;
+        start = pos 1_735_689_600;
+        end = pos 1_735_693_200;
+        start_text = codes "2025-01-01T00:00:00Z";
+        end_text = codes "2025-01-01T01:00:00Z";
+        account = [];
+        resource = [];
+        key = codes "Launch credit";
+        value = pos 5_000_000;
+        commitment = [];
+        tags = [];
+        region = None;
+      })
+      ∷ [];
+}
 
 abbrev pub journals_b : Act
-journals_b = AgentDoes 1 (JournalBatch (Good (codes "B1|1|1|0\n")))
+journals_b = AgentDoes 1 (JournalBatch (Good (codes "B1|1|1|1\nC|2025-01-01T00:00:00Z|2025-01-01T01:00:00Z|||Launch credit|5||\n")))
 
 abbrev pub low : Cut
 low = 0 ∷ []
@@ -45,23 +67,25 @@ high = 1 ∷ []
 abbrev pub up_to : Cut → List Batch → Snapshot
 up_to cut batches = record { period = 0; from = low; to = cut; batches = batches; sheet = sheet_0; issuer = issuer_1 }
 
-pub cuts_differ : up_to low [] ≡ up_to high (b ∷ []) → ⊥
-cuts_differ same = let cuts = ap (λ (s : Snapshot). s.to) same in absurd (cc (cuts))
+-- the one file has a header line alone, and the other one the credit's line too
+pub bytes_differ : file_of (up_to low []) ≡ file_of (up_to high (b ∷ [])) → ⊥
+unfolding days_from_civil day_count days_of_years days_of_months worth_of decimals_of digits
+bytes_differ same = let lines : ◌≡◌ {A = ℕ} 1 2 = ap line_count same in absurd (cc (lines))
 
 -- ---- what a fault comes to
 
--- two files of one period are among the answers, and are not made of the same
+-- Two exports of one period are among the answers, and the bytes of their files are not the same.
 pub record HaveTwoFiles (xs ys : List Answer) : Type 0 where
   pub one : Snapshot
   pub other : Snapshot
   pub has : Contains xs (saying (HasExported one))
   pub had : Contains ys (saying (HasExported other))
   pub same_period : one.period ≡ other.period
-  pub differ : one ≡ other → ⊥
+  pub differ : file_of one ≡ file_of other → ⊥
 
 pub low_and_high : {xs ys : List Answer} → Contains xs (saying (HasExported (up_to low [])))
     → Contains ys (saying (HasExported (up_to high (b ∷ [])))) → HaveTwoFiles xs ys
-low_and_high has had = record { one = up_to low []; other = up_to high (b ∷ []); has = has; had = had; same_period = refl; differ = cuts_differ }
+low_and_high has had = record { one = up_to low []; other = up_to high (b ∷ []); has = has; had = had; same_period = refl; differ = bytes_differ }
 
 -- each act may be done where it stands, of the one at this place nothing is asked
 abbrev IsHistoryBut : Group → Processes → (place : ℕ) → List Act → Type 0
@@ -76,7 +100,7 @@ record GoesWrongAt (g : Group) (place : ℕ) (acts : List Act) : Type 0 where
 -- by the law such a list is no history
 is_no_history : (g : Group) (place : ℕ) (acts : List Act) → GoesWrongAt g place acts → IsHistory g (begun g) acts → ⊥
 is_no_history g place acts wrong history =
-    let two = wrong.files in two.differ (files_are_the_same g acts history two.one two.other two.has two.had two.same_period)
+    let two = wrong.files in two.differ (ap file_of (files_are_the_same g acts history two.one two.other two.has two.had two.same_period))
 
 -- ---- a packet that nobody sent
 
@@ -289,16 +313,43 @@ with_its_own_state_it_tells_its_vote = refl
 abbrev pub other_text : List ℕ
 other_text = codes "B1|1|1|1\n" ++ reading_1 ++ codes "\n"
 
--- another batch with the agent's first sequence
+-- another batch with the agent's first sequence, of one reading, which has a price
 abbrev pub c : Batch
-c = elim (batch_in other_text) [ Ok x ↦ x | Err fault ↦ b ]
+c = record {
+  version = B1;
+  agent = 1;
+  seq = 1;
+  records =
+      Reads (record {
+        kind = Usage;
+        start = pos 1_736_467_200;
+        end = pos 1_736_474_400;
+        start_text = codes "2025-01-10T00:00:00Z";
+        end_text = codes "2025-01-10T02:00:00Z";
+        account = codes "acc-7";
+        resource = codes "vm-1";
+        key = codes "cpu";
+        value = pos 5_400_000_000;
+        commitment = [];
+        tags = record { key = codes "env"; value = codes "prod" } ∷ [];
+        region = None;
+      })
+      ∷ [];
+}
+
+abbrev pub journals_c : Act
+journals_c = AgentDoes 1 (JournalBatch (Good other_text))
+
+-- the credit's line and the reading's, from their first bytes on
+pub rows_differ : file_of (up_to high (b ∷ [])) ≡ file_of (up_to high (c ∷ [])) → ⊥
+unfolding days_from_civil day_count days_of_years days_of_months worth_of decimals_of digits
+rows_differ same = let bytes : ◌≡◌ {A = ℕ} 53 48 = ap (λ t. slice_index t 575) same in absurd (omega (arith, bytes))
 
 -- Node 0 has the agent's first batch, and chooses and exports the cut up to it. The agent goes on without its journal, and journals another first
 -- batch. Node 1 gets that one.
 abbrev with_a_lost_journal : List Act
 with_a_lost_journal =
-    exports_b ++ AgentGoesOn 1 [] ∷ AgentDoes 1 (JournalBatch (Good other_text)) ∷ takes 1 (CarriesBatch c) ∷ takes 1 (Accepted 0 0 1 high)
-    ∷ NodeDoes 1 (ExportPeriod 0) ∷ []
+    exports_b ++ AgentGoesOn 1 [] ∷ journals_c ∷ takes 1 (CarriesBatch c) ∷ takes 1 (Accepted 0 0 1 high) ∷ NodeDoes 1 (ExportPeriod 0) ∷ []
 
 a_lost_journal_makes_two_files : GoesWrongAt (group 1 1) 8 with_a_lost_journal
 unfolding days_from_civil day_count days_of_years days_of_months worth_of decimals_of digits
@@ -322,7 +373,7 @@ a_lost_journal_makes_two_files = record {
     has = (7, lit< tt, refl);
     had = (12, lit< tt, refl);
     same_period = refl;
-    differ = λ same. let counts : ◌≡◌ {A = List ℕ} (0 ∷ []) (1 ∷ []) = ap (λ (s : Snapshot). map (λ x. length x.records) s.batches) same in absurd (cc (counts));
+    differ = rows_differ;
   };
 }
 

@@ -19,4 +19,5 @@ pub mod WorkedGroup
 pub mod WorkedGroupEvents
 pub mod FalseHistories
 pub mod FalseSteps
+pub mod FalseBeginnings
 pub mod RunTwice

@@ -1,16 +1,16 @@
 -- What goes wrong where a node or an agent is run twice at once, or two processes are begun with other numbers: each run is a history by itself, and
--- together they make two files of one period that differ.
-use Rattle.std.proofs.Common.{ap, arith}
-use Rattle.std.specs.Prelude.{◌≡◌, ℕ, List, [], ◌∷◌, ◌++◌, length, map, Some, None, refl}
+-- together they make two files of one period whose bytes differ.
+use Rattle.std.specs.Prelude.{◌≡◌, ℕ, ◌==◌, if◌then◌else◌, List, [], ◌∷◌, ◌++◌, map, Some, None, refl}
 use Rattle.std.specs.Fmt.{digits}
+use Rattle.std.proofs.Math.Dec.{lit<, lit≤}
 use Rattle.jiff_core.specs.Calendar.{days_from_civil, day_count, days_of_years, days_of_months}
 use Rattle.metering_model.specs.NumberText.{worth_of, decimals_of}
-use Rattle.metering_model.specs.World.{CarriesBatch, Prepare, Promise, Accept, Accepted, Good, Kept, Snapshot}
-use Rattle.process_laws.specs.LocalSteps.{Group, BeginBallot, ExportPeriod, HasExported, HasJournaled, JournalBatch, exporting, saying}
-use Rattle.process_laws.specs.Histories.{Act, AgentDoes, NodeDoes, NodeGoesOn, begun, answers, after, IsHistory}
+use Rattle.metering_model.specs.Holding.{Holding}
+use Rattle.metering_model.specs.World.{CarriesBatch, Prepare, Promise, Accept, Accepted, Good, Kept}
+use Rattle.process_laws.specs.LocalSteps.{Group, BeginBallot, ExportPeriod, AgentCommand, JournalBatch, Answer}
+use Rattle.process_laws.specs.Histories.{Processes, Act, AgentDoes, NodeDoes, NodeGoesOn, acted, begun, answers, after, MayAct, IsHistory}
 use Rattle.process_laws.proofs.EachAct.{◌⨾◌}
-use Rattle.process_laws.proofs.FalseHistories.{group, takes, b, c, journals_b, chooses_high, other_text, low, high, up_to, HaveTwoFiles, low_and_high}
-use Rattle.process_laws.proofs.FalseSteps.{that_has}
+use Rattle.process_laws.proofs.FalseHistories.{group, takes, b, c, journals_b, chooses_high, other_text, low, high, up_to, rows_differ, HaveTwoFiles, low_and_high}
 
 -- Two runs go on from one state. Done by one process each, they are a group that goes wrong.
 record GoesWrongTwice (g : Group) (before one other : List Act) : Type 0 where
@@ -41,52 +41,111 @@ a_node_that_is_run_twice_makes_two_files : GoesWrongTwice (group 1 0) begins is_
 unfolding days_from_civil day_count days_of_years days_of_months worth_of decimals_of digits
 a_node_that_is_run_twice_makes_two_files = record {
   rightly_before =
-      (omega arith, tt) ⨾
-      (omega arith, λ same. (0, omega arith, refl)) ⨾ tt;
+      (lit< tt, tt) ⨾
+      (lit< tt, λ same. (0, lit< tt, refl)) ⨾ tt;
   rightly_one =
-      (omega arith, λ same. (1, omega arith, refl)) ⨾
-      (omega arith, λ same. (2, omega arith, refl)) ⨾
-      (omega arith, λ same. (3, omega arith, refl)) ⨾
-      (omega arith, tt) ⨾ tt;
+      (lit< tt, λ same. (1, lit< tt, refl)) ⨾
+      (lit< tt, λ same. (2, lit< tt, refl)) ⨾
+      (lit< tt, λ same. (3, lit< tt, refl)) ⨾
+      (lit< tt, tt) ⨾ tt;
   rightly_other =
       (_, refl, refl) ⨾
-      (omega arith, omega arith) ⨾
-      (omega arith, λ same. (2, omega arith, refl)) ⨾
-      (omega arith, tt) ⨾
-      (omega arith, λ same. (3, omega arith, refl)) ⨾
-      (omega arith, λ same. (4, omega arith, refl)) ⨾
-      (omega arith, λ same. (5, omega arith, refl)) ⨾
-      (omega arith, λ same. (6, omega arith, refl)) ⨾
-      (omega arith, tt) ⨾ tt;
-  files = low_and_high (3, omega arith, refl) (8, omega arith, refl);
+      (lit≤ tt, lit≤ tt) ⨾
+      (lit< tt, λ same. (2, lit< tt, refl)) ⨾
+      (lit< tt, tt) ⨾
+      (lit< tt, λ same. (3, lit< tt, refl)) ⨾
+      (lit< tt, λ same. (4, lit< tt, refl)) ⨾
+      (lit< tt, λ same. (5, lit< tt, refl)) ⨾
+      (lit< tt, λ same. (6, lit< tt, refl)) ⨾
+      (lit< tt, tt) ⨾ tt;
+  files = low_and_high (3, lit< tt, refl) (8, lit< tt, refl);
 }
 
 -- ---- an agent
 
-abbrev journals_c : Act
-journals_c = AgentDoes 1 (JournalBatch (Good other_text))
+-- all processes of a group, and the journal of one more, which is a second process of agent 1
+record Twice : Type 0 where
+  pub all : Processes
+  pub journal : Holding
 
--- Both runs of the agent begin with nothing, and each journals its first batch. Node 0 learned the cut up to it and holds the one; another node that
--- learned the same cut holds the other.
-record SendsTwoBatches (g : Group) : Type 0 where
-  pub rightly_one : IsHistory g (begun g) (journals_b ∷ [])
-  pub rightly_other : IsHistory g (begun g) (journals_c ∷ [])
-  pub sends_one : answers g (begun g) (journals_b ∷ []) ≡ record { words = HasJournaled 1; sends = Some (CarriesBatch b) } ∷ []
-  pub sends_other : answers g (begun g) (journals_c ∷ []) ≡ record { words = HasJournaled 1; sends = Some (CarriesBatch c) } ∷ []
-  pub exports_one : exporting g (that_has (high ∷ []) (b ∷ [])) 0 ≡ saying (HasExported (up_to high (b ∷ [])))
-  pub exports_other : exporting g (that_has (high ∷ []) (c ∷ [])) 0 ≡ saying (HasExported (up_to high (c ∷ [])))
-  pub differ : up_to high (b ∷ []) ≡ up_to high (c ∷ []) → ⊥
+-- what a process of the group does, of agent 1 the first one; or what the second one of agent 1 does
+data ActOfTwice : Type 0 where
+  Does : Act → ActOfTwice
+  SecondDoes : AgentCommand → ActOfTwice
 
-an_agent_that_is_run_twice_makes_two_files : SendsTwoBatches (group 1 1)
+record ActedTwice : Type 0 where
+  pub answer : Answer
+  pub after : Twice
+
+-- the group in which the second process stands in place of the first
+abbrev with_second : Twice → Processes
+with_second s = record s.all { journals = λ agent. if agent == 1 then s.journal else s.all.journals agent }
+
+-- The second process does what an agent does, from a journal of its own. What it sends is sent like any other packet.
+abbrev acted_twice : Group → Twice → ActOfTwice → ActedTwice
+acted_twice g s (Does a) = let x = acted g s.all a in record { answer = x.answer; after = record s { all = x.after } }
+acted_twice g s (SecondDoes command) =
+    let x = acted g (with_second s) (AgentDoes 1 command) in
+    record { answer = x.answer; after = record { all = record x.after { journals = s.all.journals }; journal = x.after.journals 1 } }
+
+abbrev MayActTwice : Group → Twice → ActOfTwice → Type 0
+MayActTwice g s (Does a) = MayAct g s.all a
+MayActTwice g s (SecondDoes command) = MayAct g (with_second s) (AgentDoes 1 command)
+
+abbrev IsHistoryOfTwice : Group → Twice → List ActOfTwice → Type 0
+IsHistoryOfTwice g s [] = Unit {0}
+IsHistoryOfTwice g s (a ∷ acts) = MayActTwice g s a × IsHistoryOfTwice g (acted_twice g s a).after acts
+
+abbrev answers_of_twice : Group → Twice → List ActOfTwice → List Answer
+answers_of_twice g s [] = []
+answers_of_twice g s (a ∷ acts) = (acted_twice g s a).answer ∷ answers_of_twice g (acted_twice g s a).after acts
+
+-- both processes of the agent begin with nothing
+abbrev begun_twice : Group → Twice
+begun_twice g = record { all = begun g; journal = [] }
+
+-- Where the second process does nothing it is a history: so no other premise is dropped.
+without_the_second : (g : Group) (s : Twice) (acts : List Act) → IsHistoryOfTwice g s (map Does acts) → IsHistory g s.all acts
+without_the_second g s [] history = tt
+without_the_second g s (a ∷ acts) history = (history.0, without_the_second g (acted_twice g s (Does a)).after acts history.1)
+
+-- Each act may be done where it stands, by a process of its own, and that of agent 1 by one of its two.
+record GoesWrongWithSecond (g : Group) (acts : List ActOfTwice) : Type 0 where
+  pub rightly : IsHistoryOfTwice g (begun_twice g) acts
+  pub files : HaveTwoFiles (answers_of_twice g (begun_twice g) acts) (answers_of_twice g (begun_twice g) acts)
+
+-- Each of the two journals its first batch. Node 0 gets the one, chooses the cut up to it, and exports; node 1 learns this cut, and has the other batch.
+abbrev both_journal : List ActOfTwice
+both_journal =
+    Does journals_b ∷ SecondDoes (JournalBatch (Good other_text)) ∷ Does (takes 0 (CarriesBatch b)) ∷ Does (takes 1 (CarriesBatch c))
+    ∷ Does (NodeDoes 0 BeginBallot) ∷ Does (takes 0 (Prepare 0 1)) ∷ Does (takes 0 (Promise 0 0 1 None)) ∷ Does (takes 0 (Accept 0 1 high))
+    ∷ Does (takes 0 (Accepted 0 0 1 high)) ∷ Does (takes 1 (Accepted 0 0 1 high)) ∷ Does (NodeDoes 0 (ExportPeriod 0)) ∷ Does (NodeDoes 1 (ExportPeriod 0))
+    ∷ []
+
+an_agent_that_is_run_twice_makes_two_files : GoesWrongWithSecond (group 1 1) both_journal
 unfolding days_from_civil day_count days_of_years days_of_months worth_of decimals_of digits
 an_agent_that_is_run_twice_makes_two_files = record {
-  rightly_one = (omega arith, omega arith) ⨾ tt;
-  rightly_other = (omega arith, omega arith) ⨾ tt;
-  sends_one = refl;
-  sends_other = refl;
-  exports_one = refl;
-  exports_other = refl;
-  differ = λ same. let counts : ◌≡◌ {A = List ℕ} (0 ∷ []) (1 ∷ []) = ap (λ (s : Snapshot). map (λ x. length x.records) s.batches) same in absurd (cc (counts));
+  rightly =
+      (lit≤ tt, lit≤ tt) ⨾
+      (lit≤ tt, lit≤ tt) ⨾
+      (lit< tt, λ same. (0, lit< tt, refl)) ⨾
+      (lit< tt, λ same. (1, lit< tt, refl)) ⨾
+      (lit< tt, tt) ⨾
+      (lit< tt, λ same. (2, lit< tt, refl)) ⨾
+      (lit< tt, λ same. (3, lit< tt, refl)) ⨾
+      (lit< tt, λ same. (4, lit< tt, refl)) ⨾
+      (lit< tt, λ same. (5, lit< tt, refl)) ⨾
+      (lit< tt, λ same. (5, lit< tt, refl)) ⨾
+      (lit< tt, tt) ⨾
+      (lit< tt, tt) ⨾ tt;
+  files = record {
+    one = up_to high (b ∷ []);
+    other = up_to high (c ∷ []);
+    has = (10, lit< tt, refl);
+    had = (11, lit< tt, refl);
+    same_period = refl;
+    differ = rows_differ;
+  };
 }
 
 -- ---- other numbers of nodes
@@ -103,25 +162,25 @@ other_numbers_of_nodes_make_two_files : GoesWrongApart (group 1 0) (group 3 0) (
 unfolding days_from_civil day_count days_of_years days_of_months worth_of decimals_of digits
 other_numbers_of_nodes_make_two_files = record {
   rightly_one =
-      (omega arith, tt) ⨾
-      (omega arith, λ same. (0, omega arith, refl)) ⨾
-      (omega arith, λ same. (1, omega arith, refl)) ⨾
-      (omega arith, λ same. (2, omega arith, refl)) ⨾
-      (omega arith, λ same. (3, omega arith, refl)) ⨾
-      (omega arith, tt) ⨾ tt;
+      (lit< tt, tt) ⨾
+      (lit< tt, λ same. (0, lit< tt, refl)) ⨾
+      (lit< tt, λ same. (1, lit< tt, refl)) ⨾
+      (lit< tt, λ same. (2, lit< tt, refl)) ⨾
+      (lit< tt, λ same. (3, lit< tt, refl)) ⨾
+      (lit< tt, tt) ⨾ tt;
   rightly_other =
-      (omega arith, omega arith) ⨾
-      (omega arith, λ same. (0, omega arith, refl)) ⨾
-      (omega arith, tt) ⨾
-      (omega arith, λ same. (1, omega arith, refl)) ⨾
-      (omega arith, λ same. (1, omega arith, refl)) ⨾
-      (omega arith, λ same. (2, omega arith, refl)) ⨾
-      (omega arith, λ same. (3, omega arith, refl)) ⨾
-      (omega arith, λ same. (4, omega arith, refl)) ⨾
-      (omega arith, λ same. (4, omega arith, refl)) ⨾
-      (omega arith, λ same. (5, omega arith, refl)) ⨾
-      (omega arith, λ same. (6, omega arith, refl)) ⨾
-      (omega arith, tt) ⨾ tt;
+      (lit≤ tt, lit≤ tt) ⨾
+      (lit< tt, λ same. (0, lit< tt, refl)) ⨾
+      (lit< tt, tt) ⨾
+      (lit< tt, λ same. (1, lit< tt, refl)) ⨾
+      (lit< tt, λ same. (1, lit< tt, refl)) ⨾
+      (lit< tt, λ same. (2, lit< tt, refl)) ⨾
+      (lit< tt, λ same. (3, lit< tt, refl)) ⨾
+      (lit< tt, λ same. (4, lit< tt, refl)) ⨾
+      (lit< tt, λ same. (4, lit< tt, refl)) ⨾
+      (lit< tt, λ same. (5, lit< tt, refl)) ⨾
+      (lit< tt, λ same. (6, lit< tt, refl)) ⨾
+      (lit< tt, tt) ⨾ tt;
   alike = refl;
-  files = low_and_high (5, omega arith, refl) (11, omega arith, refl);
+  files = low_and_high (5, lit< tt, refl) (11, lit< tt, refl);
 }
