@@ -35,9 +35,11 @@ answers_of_both one other s [] = []
 answers_of_both one other s (a ∷ acts) =
     (acted (begun_with one other a) s a).answer ∷ answers_of_both one other (acted (begun_with one other a) s a).after acts
 
--- Each act may be done where it stands, by a process of the one description or of the other.
+-- Node 1 was begun otherwise, and the group goes wrong.
 record GoesWrongTogether (one other : Group) (acts : List Act) : Type 0 where
+  -- each act may be done where it stands, by its process as that was begun
   pub rightly : IsHistoryOfBoth one other (begun one) acts
+  -- two of the answers are exports of one period
   pub files : HaveTwoFiles (answers_of_both one other (begun one) acts) (answers_of_both one other (begun one) acts)
 
 either : (t : Bool) (g : Group) → (if t then g else g) ≡ g

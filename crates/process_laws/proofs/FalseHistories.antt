@@ -8,15 +8,16 @@ use Rattle.std.proofs.Math.Dec.{lit<, lit≤}
 use Rattle.jiff_core.specs.Calendar.{days_from_civil, day_count, days_of_years, days_of_months}
 use Rattle.metering_model.specs.NumberText.{worth_of, decimals_of}
 use Rattle.metering_model.specs.Batch.{Batch, Reads}
-use Rattle.metering_model.specs.Transcript.{file_of, line_count}
-use Rattle.metering_model.specs.declared.Kind.TheVariants.{Credit, Usage}
+use Rattle.metering_model.specs.declared.Kind.TheVariants.{Usage}
 use Rattle.metering_model.specs.declared.Version.TheVariants.{B1}
+use Rattle.metering_model.specs.Transcript.{file_of, line_count}
 use Rattle.metering_model.specs.Cut.{Cut}
 use Rattle.metering_model.specs.World.{Packet, CarriesBatch, Prepare, Promise, Accept, Accepted, Decided, Kept, Good, Snapshot, new_kept}
 use Rattle.metering_model.proofs.Samples.{sheet_0, issuer_1, reading_1}
 use Rattle.process_laws.specs.LocalSteps.{Group, TakePacket, BeginBallot, ExportPeriod, JournalBatch, HasTaken, HasExported, Answer, saying}
 use Rattle.process_laws.specs.Histories.{Processes, Act, NodeDoes, NodeGoesOn, AgentDoes, AgentGoesOn, acted, begun, answers, after, MayAct, IsHistory}
 use Rattle.process_laws.proofs.EachAct.{◌⨾◌}
+use Rattle.process_laws.proofs.WorkedGroup.{batch_of_1, text_of_1}
 use Rattle.process_laws.proofs.AgreedExports.{files_are_the_same}
 
 -- ---- the group
@@ -32,30 +33,10 @@ takes i p = NodeDoes i (TakePacket name p)
 
 -- the agent's first batch, of one credit, which is charged without a price
 abbrev pub b : Batch
-b = record {
-  version = B1;
-  agent = 1;
-  seq = 1;
-  records =
-      Reads (record {
-        kind = Credit;
-        start = pos 1_735_689_600;
-        end = pos 1_735_693_200;
-        start_text = codes "2025-01-01T00:00:00Z";
-        end_text = codes "2025-01-01T01:00:00Z";
-        account = [];
-        resource = [];
-        key = codes "Launch credit";
-        value = pos 5_000_000;
-        commitment = [];
-        tags = [];
-        region = None;
-      })
-      ∷ [];
-}
+b = batch_of_1
 
 abbrev pub journals_b : Act
-journals_b = AgentDoes 1 (JournalBatch (Good (codes "B1|1|1|1\nC|2025-01-01T00:00:00Z|2025-01-01T01:00:00Z|||Launch credit|5||\n")))
+journals_b = AgentDoes 1 (JournalBatch (Good text_of_1))
 
 abbrev pub low : Cut
 low = 0 ∷ []

@@ -1,4 +1,4 @@
--- What a node by itself answers where it leaves out a test, and where what it has learned does not fit, or its sheet does not.
+-- What a node by itself answers where it leaves out a test; and where its sheet lacks a price, or what it has learned does not fit.
 use Rattle.std.specs.Prelude.{◌≡◌, List, [], ◌∷◌, codes, refl}
 use Rattle.std.specs.Fmt.{digits}
 use Rattle.jiff_core.specs.Calendar.{days_from_civil, day_count, days_of_years, days_of_months}

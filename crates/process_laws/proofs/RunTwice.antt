@@ -1,6 +1,6 @@
--- What goes wrong where a node or an agent is run twice at once, or two processes are begun with other numbers: each run is a history by itself, and
--- together they make two files of one period whose bytes differ.
-use Rattle.std.specs.Prelude.{◌≡◌, ℕ, ◌==◌, if◌then◌else◌, List, [], ◌∷◌, ◌++◌, map, Some, None, refl}
+-- What goes wrong where a node or an agent is run twice at once, or two processes are begun with other numbers: two files of one period whose bytes
+-- differ. Each run is a history by itself; or each act of one list may be done where it stands, by one of two processes.
+use Rattle.std.specs.Prelude.{◌≡◌, ◌==◌, if◌then◌else◌, List, [], ◌∷◌, ◌++◌, map, Some, None, refl}
 use Rattle.std.specs.Fmt.{digits}
 use Rattle.std.proofs.Math.Dec.{lit<, lit≤}
 use Rattle.jiff_core.specs.Calendar.{days_from_civil, day_count, days_of_years, days_of_months}
@@ -63,9 +63,11 @@ a_node_that_is_run_twice_makes_two_files = record {
 
 -- ---- an agent
 
--- all processes of a group, and the journal of one more, which is a second process of agent 1
+-- a group of which agent 1 has two processes
 record Twice : Type 0 where
+  -- all processes, with the first one of agent 1
   pub all : Processes
+  -- what the second one has journaled
   pub journal : Holding
 
 -- what a process of the group does, of agent 1 the first one; or what the second one of agent 1 does
@@ -109,9 +111,11 @@ without_the_second : (g : Group) (s : Twice) (acts : List Act) → IsHistoryOfTw
 without_the_second g s [] history = tt
 without_the_second g s (a ∷ acts) history = (history.0, without_the_second g (acted_twice g s (Does a)).after acts history.1)
 
--- Each act may be done where it stands, by a process of its own, and that of agent 1 by one of its two.
+-- Agent 1 is run twice, and goes wrong.
 record GoesWrongWithSecond (g : Group) (acts : List ActOfTwice) : Type 0 where
+  -- each act may be done where it stands, by its process, and those of agent 1 by one of its two
   pub rightly : IsHistoryOfTwice g (begun_twice g) acts
+  -- two of the answers are exports of one period
   pub files : HaveTwoFiles (answers_of_twice g (begun_twice g) acts) (answers_of_twice g (begun_twice g) acts)
 
 -- Each of the two journals its first batch. Node 0 gets the one, chooses the cut up to it, and exports; node 1 learns this cut, and has the other batch.
