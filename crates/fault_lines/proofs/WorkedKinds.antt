@@ -11,7 +11,8 @@ use Rattle.input_sections.specs.declared.faults.ScheduleCode.TheVariants as code
 use Rattle.input_sections.specs.declared.faults.ScheduleFault.TheVariants.{Refused}
 use Rattle.fault_lines.specs.Fields.{fault_field}
 use Rattle.fault_lines.specs.TextKinds.{batch_words, kind_words}
-use Rattle.fault_lines.specs.Told.{said_of_fault, told_of_text}
+use Rattle.input_sections.specs.Sections.{section_in}
+use Rattle.fault_lines.specs.Told.{from_line, said_of_fault, section_on, told_of_text}
 
 of_nothing : kind_words [] ≡ codes " empty"
 of_nothing = refl
@@ -35,6 +36,25 @@ of_another_kind = refl
 a_schedule_with_a_mark : said_of_fault (239 ∷ 187 ∷ 191 ∷ codes "SCHEDULE 1" ++ 10 ∷ []) (Refused code.Head 1) ≡ lines_text (codes "line 1: L1 byte order mark" ∷ [])
 unfolding digits
 a_schedule_with_a_mark = refl
+
+-- ---- a line that is to open a section
+
+a_sheet_with_returns : said_of_fault (codes "sheet 1" ++ 13 ∷ 10 ∷ codes "base" ++ 13 ∷ 10 ∷ []) (Refused code.Sheet 1) ≡ lines_text (codes "line 1: L4 carriage return" ∷ [])
+unfolding digits section_on from_line section_in
+a_sheet_with_returns = refl
+
+a_sheet_behind_a_mark : said_of_fault (239 ∷ 187 ∷ 191 ∷ codes "sheet 1" ++ 10 ∷ codes "base" ++ 10 ∷ []) (Refused code.Sheet 1) ≡ lines_text (codes "line 1: L4 byte order mark" ∷ [])
+unfolding digits section_on from_line section_in
+a_sheet_behind_a_mark = refl
+
+an_issuer_with_a_return : said_of_fault (codes "sheet 1" ++ 10 ∷ codes "base" ++ 10 ∷ codes "issuer 7" ++ 13 ∷ 10 ∷ []) (Refused code.Issuer 3) ≡ lines_text (codes "line 3: L5 carriage return" ∷ [])
+unfolding digits section_on from_line section_in
+an_issuer_with_a_return = refl
+
+-- only the first line tells what the text is
+an_issuer_with_a_mark : said_of_fault (codes "sheet 1" ++ 10 ∷ codes "base" ++ 10 ∷ 239 ∷ 187 ∷ 191 ∷ codes "issuer 7" ++ 10 ∷ []) (Refused code.Issuer 3) ≡ lines_text (codes "line 3: L5" ∷ [])
+unfolding digits section_on from_line section_in
+an_issuer_with_a_mark = refl
 
 -- ---- a batch that opens on line 27
 

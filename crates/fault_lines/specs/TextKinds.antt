@@ -1,5 +1,5 @@
 -- What a text is that is none of its kind: told behind the code of its first fault.
-use Rattle.std.specs.Prelude.{ℕ, ◌-◌, Bool, true, false, ◌||◌, if◌then◌else◌, List, [], ◌∷◌, length, drop, Option, Some, None, codes}
+use Rattle.std.specs.Prelude.{ℕ, ◌-◌, nat_le, Bool, true, false, ◌||◌, if◌then◌else◌, List, [], ◌∷◌, length, drop, Option, Some, None, codes}
 use Rattle.metering_model.specs.Batch.{is_empty}
 use Rattle.metering_model.specs.BatchReading.{is_same}
 use Rattle.metering_model.specs.declared.BatchCode.{BatchCode}
@@ -29,6 +29,10 @@ abbrev pub kind_words : List ℕ → List ℕ
 kind_words text =
     if is_empty text then codes " empty"
     else (if is_byte_order_mark text then codes " byte order mark" else (if is_utf16 text then codes " UTF-16" else return_words (line_at text 1)))
+
+-- of a line that opens no section: what the text is, where it is the first, and else that it ends so
+abbrev pub opening_words : List ℕ → ℕ → List ℕ
+opening_words text n = if nat_le n 1 then kind_words text else return_words (line_at text n)
 
 -- whether the code says that a text has no head line, or is too long for one to be looked at: V1, V8
 abbrev pub is_of_head : BatchCode → Bool

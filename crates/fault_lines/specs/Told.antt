@@ -23,7 +23,7 @@ use Rattle.input_sections.specs.declared.faults.ScheduleFault.TheVariants as sec
 use Rattle.input_sections.specs.Sections.{Section, Unread, lines_left, section_in, section_of, whole_of}
 use Rattle.answer_words.specs.Words.{issuer_fault_text, section_code_text, sheet_fault_text}
 use Rattle.fault_lines.specs.Fields.{field_name, field_of}
-use Rattle.fault_lines.specs.TextKinds.{batch_words, kind_words}
+use Rattle.fault_lines.specs.TextKinds.{batch_words, kind_words, opening_words}
 use Rattle.fault_lines.specs.declared.fields.RecordField.{RecordField}
 
 -- ---- a line of what is said
@@ -57,14 +57,15 @@ said_by words (Err fault) = codes " " ++ words fault
 unfoldable pub said_of_text : {A E : Type 0} → (E → List ℕ) → (List ℕ → Result A E) → List ℕ → List ℕ
 said_of_text words reader text = if is_utf8 text then said_by words (reader text) else codes " not UTF-8"
 
-abbrev pub said_of : {A E : Type 0} → (E → List ℕ) → (List ℕ → Result A E) → Option (List ℕ) → List ℕ
-said_of words reader (Some text) = said_of_text words reader text
-said_of words reader None = []
+abbrev pub said_of : {A E : Type 0} → (E → List ℕ) → (List ℕ → Result A E) → List ℕ → Option (List ℕ) → List ℕ
+said_of words reader otherwise (Some text) = said_of_text words reader text
+said_of words reader otherwise None = otherwise
 
--- of a section with a sheet or an issuer, which are the ones with readers of their own; of a text without a head what it is
+-- Of a section with a sheet or an issuer what its reader says, which are the ones with readers of their own, or what the line is that was to
+-- open one; of a text without a head what it is.
 abbrev pub reason : List ℕ → ScheduleCode → ℕ → List ℕ
-reason text code.Sheet n = said_of sheet_fault_text sheet_of_text (section_on code.Sheet (codes "sheet ") most_sheet_lines n text)
-reason text code.Issuer n = said_of issuer_fault_text issuer_of_text (section_on code.Issuer (codes "issuer ") most_issuer_lines n text)
+reason text code.Sheet n = said_of sheet_fault_text sheet_of_text (opening_words text n) (section_on code.Sheet (codes "sheet ") most_sheet_lines n text)
+reason text code.Issuer n = said_of issuer_fault_text issuer_of_text (opening_words text n) (section_on code.Issuer (codes "issuer ") most_issuer_lines n text)
 reason text code.Head n = kind_words text
 reason text code.Nodes n = []
 reason text code.Agents n = []

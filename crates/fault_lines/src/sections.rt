@@ -7,7 +7,7 @@ ghost use Rattle.answer_words.specs.Words.{issuer_fault_text, sheet_fault_text};
 ghost use Rattle.fault_lines.specs.Told.{reason, said_by, said_of_fault, said_of_text, section_on};
 
 use crate::batches::put_place;
-use crate::text_kinds::kind_words;
+use crate::text_kinds::{kind_words, opening_words};
 use answer_words::{put_issuer_fault, put_sheet_fault, section_code_word};
 use input_sections::{ScheduleCode, ScheduleFault, Unread, read_section};
 use price_sheet::Sheet;
@@ -115,7 +115,8 @@ fn put_issuer_reason(alloc: Global, told: &mut Vec<u8>, section: &[u8]) -> Resul
     }
 }
 
-/// Appends what the reader of a sheet or of an issuer says of the section on a line, or what a text is that has no head.
+/// Appends what the reader of a sheet or of an issuer says of the section on a line, or what that line is where it opens none; or what
+/// a text is that has no head.
 fn put_reason(
     alloc: Global,
     told: &mut Vec<u8>,
@@ -128,11 +129,11 @@ fn put_reason(
     match code {
         ScheduleCode::Sheet => match section_on(text, code, b"sheet ", 200_000, line) {
             Some(section) => put_sheet_reason(alloc, told, section),
-            None => Ok(()),
+            None => told.extend_from_slice(opening_words(text, line)),
         },
         ScheduleCode::Issuer => match section_on(text, code, b"issuer ", 100, line) {
             Some(section) => put_issuer_reason(alloc, told, section),
-            None => Ok(()),
+            None => told.extend_from_slice(opening_words(text, line)),
         },
         ScheduleCode::Head => told.extend_from_slice(kind_words(text)),
         _ => Ok(()),

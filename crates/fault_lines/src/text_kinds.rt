@@ -2,7 +2,7 @@
 
 ghost use Rattle.std.specs.Prelude.{◌≡◌};
 ghost use Rattle.fault_lines.specs.Fields.{line_at};
-ghost use Rattle.fault_lines.specs.TextKinds.{batch_words, ends_with_return, is_byte_order_mark, is_of_head, is_utf16, kind_words, return_words};
+ghost use Rattle.fault_lines.specs.TextKinds.{batch_words, ends_with_return, is_byte_order_mark, is_of_head, is_utf16, kind_words, opening_words, return_words};
 
 use crate::fields::line_at;
 use input_sections::behind_word;
@@ -54,6 +54,17 @@ pub(crate) fn kind_words(text: &[u8]) -> &'static [u8]
         b" UTF-16"
     } else {
         return_words(text, 1)
+    }
+}
+
+/// What is told of a line of a text, counted from 1, that opens no section, behind a space, or nothing.
+pub(crate) fn opening_words(text: &[u8], line: u32) -> &'static [u8]
+    ensures { result.now ≡ opening_words text.now line }
+{
+    if line <= 1 {
+        kind_words(text)
+    } else {
+        return_words(text, line)
     }
 }
 
