@@ -47,22 +47,22 @@ class Process:
 
     def __init__(self, log, focusd, kind, head, sections, send):
         self.log, self.room, self.words, self.head, self.send, self.long = log, log.room, [focusd, kind], head, send, LONG
-        self.front, self.sections = b"%s 1\n%s" % (kind.upper().encode(), head), sections
-        self.begin(True)
+        self.front, self.sections, self.is_begun = b"%s 1\n%s" % (kind.upper().encode(), head), sections, False
+        self.begin()
 
-    def begin(self, is_first=False):
+    def begin(self):
         """Begins it with its log. What another host left is cut where the process says that it is torn: this one stores whole steps alone."""
         self.child = subprocess.Popen(self.words, stdin=subprocess.PIPE, stdout=subprocess.PIPE, stderr=subprocess.PIPE)
         try:
             self.tell(self.front + self.sections + counted(b"log", self.log.settled()))
             _, _, at, *of = self.read_line().split()
-            self.at, self.round = int(at), int(of[1]) if of else 0  # of a node its period and its round, of an agent its next sequence
+            self.at, self.round, self.is_begun = int(at), int(of[1]) if of else 0, True  # a node's period and round, an agent's next sequence
         except Lost as why:
             torn = re.search(r"refused log: torn line (\d+)", str(why))
-            if not torn or not is_first:
+            if not torn or self.is_begun:
                 raise Stopped(f"{os.path.basename(self.room)}: {why}") from None
             self.log.cut(int(torn[1]))
-            self.begin(True)
+            self.begin()
         write(f"{self.room}/pid", b"%d\n" % self.child.pid, "wb")
 
     def tell(self, text):
