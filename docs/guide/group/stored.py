@@ -72,7 +72,7 @@ class Log:
         self.size = len(text)
 
     def cut(self, line):
-        """Cuts off what begins on a line, if it is the last step, of which is taken that it was never stored whole. A kept text was, before
+        """Cuts off what begins on a line, if it is the last step, which is taken never to have been stored whole. A kept text was, before
         the log had its name; and where a step would take others with it, lines are lost that were stored."""
         lines = self.text().splitlines(True)
         if lines[line - 1].startswith(b"kept ") or any(STEP.match(it) for it in lines[line:]):
