@@ -1,6 +1,6 @@
 //! Readings that start long after those of their agent above them.
 
-ghost use Rattle.std.specs.Prelude.{◌≡◌, [], ◌∷◌, ◌++◌, ◌+◌, codes, List, ℤ, Some, IfOk, OnOk, take};
+ghost use Rattle.std.specs.Prelude.{◌≡◌, [], ◌∷◌, ◌++◌, ◌+◌, codes, List, ℤ, Some, None, IfOk, OnOk, take, replicate};
 ghost use Rattle.std.specs.List.{flat_map, slice_get};
 ghost use Rattle.metering_model.specs.Batch.{Batch, Reading, Reads, Record as ModelRecord};
 ghost use Rattle.batch_view.specs.Asked.{asked_in, record_asked};
@@ -8,7 +8,7 @@ ghost use Rattle.batch_view.specs.Batches.{batch_of};
 ghost use Rattle.fault_lines.specs.Ahead.{AreLatest, ahead_in, ahead_of, is_ahead, later, latest, start_day, told_of_record};
 ghost use Rattle.fault_lines.specs.Told.{told_at};
 
-use crate::batches::{put_both, put_place};
+use crate::batches::{put_both, put_end, put_place};
 use batch_view::{Asked, BatchView, Record};
 use std::alloc::AllocError;
 use std::marker::Model;
@@ -59,8 +59,7 @@ fn put_start(told: &mut Vec<u8>, line: u128, start: &[u8]) -> Result<(), AllocEr
     let Ok(()) = put_both(told, b"ahead ", day_part(start)) else {
         return Err(AllocError);
     };
-    told.push(b'\n')?;
-    Ok(())
+    put_end(told)
 }
 
 /// Appends that the reading at an index of a batch starts long after those above it. So many lines stand above the batch.
@@ -107,7 +106,9 @@ fn put_record(
         Asked::Reading(reading) => {
             let day = reading.start.day().number();
             if is_ahead(above, day) {
-                put_reading(told, lines, batch, index)?;
+                let Ok(()) = put_reading(told, lines, batch, index) else {
+                    return Err(AllocError);
+                };
             }
             Ok(Some(later(day, above)))
         }
@@ -135,7 +136,10 @@ fn put_batch(
     let mut latest = above;
     let mut index = 0;
     for asked in batch.asked() {
-        latest = put_record(told, lines, batch, index, latest, &asked)?;
+        let Ok(now) = put_record(told, lines, batch, index, latest, &asked) else {
+            return Err(AllocError);
+        };
+        latest = now;
         index += 1;
     }
     Ok(latest)
@@ -156,13 +160,20 @@ impl Model for LatestDays {
     ghost view = { λ l. l.days };
 }
 
+/// No day, so many times.
+fn no_days<const N: usize>() -> [Option<i32>; N]
+    ensures { result ≡ replicate N None }
+{
+    [None; N]
+}
+
 impl LatestDays {
     /// Those of no batches.
     pub fn none() -> LatestDays
         ensures { AreLatest result [] }
     {
         LatestDays {
-            days: [None; MOST_AGENTS],
+            days: no_days::<MOST_AGENTS>(),
         }
     }
 
@@ -184,7 +195,10 @@ impl LatestDays {
             → OnOk result (AreLatest self.new (batch_of batch.now ∷ journaled)) }
     {
         let place = usize::from(batch.agent() - 1);
-        self.days[place] = put_batch(told, lines, batch, self.days[place])?;
+        let Ok(latest) = put_batch(told, lines, batch, self.days[place]) else {
+            return Err(AllocError);
+        };
+        self.days[place] = latest;
         Ok(())
     }
 }

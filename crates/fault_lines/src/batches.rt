@@ -23,7 +23,9 @@ use std::alloc::AllocError;
 pub(crate) fn put_both(told: &mut Vec<u8>, first: &[u8], second: &[u8]) -> Result<(), AllocError>
     ensures { OnOk result (told.new.items ≡ told.old.items ++ (first.now ++ second.now)) }
 {
-    told.extend_from_slice(first)?;
+    let Ok(()) = told.extend_from_slice(first) else {
+        return Err(AllocError);
+    };
     told.extend_from_slice(second)
 }
 
@@ -43,8 +45,18 @@ pub(crate) fn put_place(told: &mut Vec<u8>, line: u128) -> Result<(), AllocError
     ensures { OnOk result (told.new.items
         ≡ told.old.items ++ (with_number (codes "line ") line ++ codes ": ")) }
 {
-    put_numbered(told, b"line ", line)?;
+    let Ok(()) = put_numbered(told, b"line ", line) else {
+        return Err(AllocError);
+    };
     told.extend_from_slice(b": ")
+}
+
+/// Appends the end of a line.
+pub(crate) fn put_end(told: &mut Vec<u8>) -> Result<(), AllocError>
+    ensures { OnOk result (told.new.items ≡ told.old.items ++ 10 ∷ []) }
+{
+    told.push(b'\n')?;
+    Ok(())
 }
 
 /// Appends that something is refused at a line of the input.
@@ -57,8 +69,7 @@ pub fn put_at(told: &mut Vec<u8>, line: u128, refusal: Refusal) -> Result<(), Al
     let Ok(()) = put_words(told, refusal) else {
         return Err(AllocError);
     };
-    told.push(b'\n')?;
-    Ok(())
+    put_end(told)
 }
 
 /// Appends the name of a field, where there is one.
@@ -90,7 +101,9 @@ fn put_record(told: &mut Vec<u8>, sheet: &Sheet, what: &Record<'_>) -> Result<()
 {
     match what {
         Record::Amend { seq, index, .. } => {
-            put_numbered(told, b" ", u128::from(*seq))?;
+            let Ok(()) = put_numbered(told, b" ", u128::from(*seq)) else {
+                return Err(AllocError);
+            };
             put_numbered(told, b" ", u128::from(*index))
         }
         Record::Reading(reading) => put_lacking(told, sheet, reading),
@@ -122,7 +135,9 @@ fn put_batch_words(told: &mut Vec<u8>, text: &[u8], fault: BatchFault) -> Result
     ensures { OnOk result (told.new.items ≡ told.old.items
         ++ (field_words (field_of text.now fault) ++ batch_words text.now fault)) }
 {
-    put_field(told, field_of(text, fault))?;
+    let Ok(()) = put_field(told, field_of(text, fault)) else {
+        return Err(AllocError);
+    };
     told.extend_from_slice(batch_words(text, fault))
 }
 
@@ -184,8 +199,7 @@ fn put_refused_words(
     let Ok(()) = put_more(told, sheet, text, bad, refusal) else {
         return Err(AllocError);
     };
-    told.push(b'\n')?;
-    Ok(())
+    put_end(told)
 }
 
 /// Appends that a text after so many lines of the input is refused as a batch, of which this is the first bad record.

@@ -58,24 +58,32 @@ struct ReadingFields<'a> {
     commitment: &'a [u8],
 }
 
+/// The first two fields of a line, and what stands behind them; None where it has no more.
+fn first_two(line: &[u8]) -> Option<(&[u8], &[u8], &[u8])>
+    ensures { MatchOption result (length (fields_in line.now) < 3)
+        (λ p. fields_in line.now ≡ p.0.now ∷ p.1.now ∷ fields_in p.2.now) }
+{
+    let Some((first, rest)) = split_at_bar(line) else {
+        return None;
+    };
+    match split_at_bar(rest) {
+        Some((second, rest)) => Some((first, second, rest)),
+        None => None,
+    }
+}
+
 /// The first four fields of a line, and what stands behind them; None where it has no more.
 fn first_four(line: &[u8]) -> Option<(&[u8], &[u8], &[u8], &[u8], &[u8])>
     ensures { MatchOption result (length (fields_in line.now) < 5)
         (λ p. fields_in line.now ≡ p.0.now ∷ p.1.now ∷ p.2.now ∷ p.3.now ∷ fields_in p.4.now) }
 {
-    let Some((first, rest)) = split_at_bar(line) else {
+    let Some((first, second, rest)) = first_two(line) else {
         return None;
     };
-    let Some((second, rest)) = split_at_bar(rest) else {
-        return None;
-    };
-    let Some((third, rest)) = split_at_bar(rest) else {
-        return None;
-    };
-    let Some((fourth, rest)) = split_at_bar(rest) else {
-        return None;
-    };
-    Some((first, second, third, fourth, rest))
+    match first_two(rest) {
+        Some((third, fourth, rest)) => Some((first, second, third, fourth, rest)),
+        None => None,
+    }
 }
 
 /// These fields of a line; None where it has fewer than nine.
@@ -178,16 +186,13 @@ fn amendment_field(line: &[u8]) -> Option<RecordField>
     ensures { (version : Version) → record_in version (fields_in line.now) ≡ Err BatchCode.Number
         → result ≡ fault_field line.now }
 {
-    let Some((_, rest)) = split_at_bar(line) else {
+    let Some((_, seq, rest)) = first_two(line) else {
         return None;
     };
-    let Some((seq, rest)) = split_at_bar(rest) else {
-        return None;
-    };
-    let Some((index, _)) = split_at_bar(rest) else {
-        return None;
-    };
-    Some(number_field(seq, index))
+    match split_at_bar(rest) {
+        Some((index, _)) => Some(number_field(seq, index)),
+        None => None,
+    }
 }
 
 /// The field of a line that breaks its rule first, where the line is refused with this code.
@@ -213,7 +218,9 @@ pub(crate) fn line_at(text: &[u8], number: u32) -> Option<&[u8]>
     ensures { MatchOption result (line_at text.now number ≡ None)
         (λ line. line_at text.now number ≡ Some line.now) }
 {
-    let at = lines_length(text, number.saturating_sub(1))?;
+    let Some(at) = lines_length(text, number.saturating_sub(1)) else {
+        return None;
+    };
     let (_, behind) = text.split_at(at);
     match first_line(behind) {
         Some((line, _)) => Some(line),
@@ -237,8 +244,10 @@ fn field_at(text: &[u8], fault: BatchFault) -> Option<RecordField>
     requires of { is_of_field fault.code ≡ true }
     ensures { result ≡ option_and_then fault_field (line_at text.now fault.line) }
 {
-    let line = line_at(text, fault.line)?;
-    fault_field(fault.code, line)
+    match line_at(text, fault.line) {
+        Some(line) => fault_field(fault.code, line),
+        None => None,
+    }
 }
 
 /// The field for which a text is no batch, where its first fault is of a field.

@@ -6,7 +6,7 @@ ghost use Rattle.metering_model.specs.BatchReading.{lines_in};
 ghost use Rattle.fault_lines.specs.UnknownKeys.{first_word, from_first, has_key, is_blank, is_key, is_of_key, keys_left, opens_table, shown, stands_before_key, table_below, table_of, told_along, told_of_keys, told_unknown};
 ghost use Rattle.fault_lines.specs.Inner.KeyKinds.{is_of_kind};
 
-use crate::batches::put_place;
+use crate::batches::{put_end, put_place};
 use byte_text::{first_line, is_same, line_count};
 use input_sections::behind_word;
 use std::alloc::{AllocError, Global};
@@ -137,7 +137,9 @@ fn put_name(told: &mut Vec<u8>, name: &[u8]) -> Result<(), AllocError>
     ensures { OnOk result (told.new.items ≡ told.old.items ++ map shown name.now) }
 {
     for byte in name {
-        told.push(shown(*byte))?;
+        let Ok(()) = told.push(shown(*byte)) else {
+            return Err(AllocError);
+        };
     }
     Ok(())
 }
@@ -155,8 +157,7 @@ fn put_unknown(told: &mut Vec<u8>, line: u128, key: &UnknownKey<'_>) -> Result<(
     let Ok(()) = put_name(told, key.name) else {
         return Err(AllocError);
     };
-    told.push(b'\n')?;
-    Ok(())
+    put_end(told)
 }
 
 /// Appends it of each of the keys.
@@ -165,7 +166,9 @@ fn put_each(told: &mut Vec<u8>, line: u128, keys: &[UnknownKey<'_>]) -> Result<(
         ≡ told.old.items ++ flat_map (told_unknown line) keys.now) }
 {
     for key in keys {
-        put_unknown(told, line, key)?;
+        let Ok(()) = put_unknown(told, line, key) else {
+            return Err(AllocError);
+        };
     }
     Ok(())
 }
@@ -183,7 +186,9 @@ fn put_those(
 {
     for key in keys {
         if is_key(table, name, key) {
-            put_unknown(told, line, key)?;
+            let Ok(()) = put_unknown(told, line, key) else {
+                return Err(AllocError);
+            };
         }
     }
     Ok(())
@@ -212,7 +217,9 @@ fn put_on_line<'a>(
 {
     let (here, below) = tables_at(table, line);
     let word = first_word(line);
-    put_those(told, number, here, word, keys)?;
+    let Ok(()) = put_those(told, number, here, word, keys) else {
+        return Err(AllocError);
+    };
     drop_those(keys, here, word);
     Ok(below)
 }
@@ -236,7 +243,10 @@ fn put_along(
             return Ok(());
         };
         let number = u128::from(opening) + 1 + index as u128;
-        table = put_on_line(told, number, table, line, keys)?;
+        let Ok(below) = put_on_line(told, number, table, line, keys) else {
+            return Err(AllocError);
+        };
+        table = below;
         rest = behind;
     }
     Ok(())

@@ -6,7 +6,7 @@ ghost use Rattle.sheet_text.specs.IssuerReading.{issuer_of_text};
 ghost use Rattle.answer_words.specs.Words.{issuer_fault_text, sheet_fault_text};
 ghost use Rattle.fault_lines.specs.Told.{reason, said_by, said_of_fault, said_of_text, section_on};
 
-use crate::batches::put_place;
+use crate::batches::{put_end, put_place};
 use crate::text_kinds::{kind_words, opening_words};
 use answer_words::{put_issuer_fault, put_sheet_fault, section_code_word};
 use input_sections::{ScheduleCode, ScheduleFault, Unread, read_section};
@@ -50,7 +50,9 @@ fn put_sheet_words(told: &mut Vec<u8>, fault: SheetFault) -> Result<(), AllocErr
     ensures { OnOk result (told.new.items
         ≡ told.old.items ++ (codes " " ++ sheet_fault_text fault)) }
 {
-    told.extend_from_slice(b" ")?;
+    let Ok(()) = told.extend_from_slice(b" ") else {
+        return Err(AllocError);
+    };
     put_sheet_fault(told, fault)
 }
 
@@ -88,9 +90,14 @@ fn put_issuer_words(told: &mut Vec<u8>, fault: IssuerFault) -> Result<(), AllocE
     ensures { OnOk result (told.new.items
         ≡ told.old.items ++ (codes " " ++ issuer_fault_text fault)) }
 {
-    told.extend_from_slice(b" ")?;
+    let Ok(()) = told.extend_from_slice(b" ") else {
+        return Err(AllocError);
+    };
     put_issuer_fault(told, fault)
 }
+
+/// Drops an issuer beside no other value, for the prover's time alone.
+fn drop_issuer(_issuer: Issuer) {}
 
 /// Appends what the reader of an issuer says of a text.
 fn put_issuer_answer(alloc: Global, told: &mut Vec<u8>, text: &str) -> Result<(), AllocError>
@@ -98,7 +105,10 @@ fn put_issuer_answer(alloc: Global, told: &mut Vec<u8>, text: &str) -> Result<()
         ≡ told.old.items ++ said_by issuer_fault_text (issuer_of_text text.now)) }
 {
     match Issuer::read(alloc, text) {
-        Ok(_) => Ok(()),
+        Ok(issuer) => {
+            drop_issuer(issuer);
+            Ok(())
+        }
         Err(IssuerFault::OutOfMemory) => Err(AllocError),
         Err(fault) => put_issuer_words(told, fault),
     }
@@ -160,8 +170,7 @@ fn put_refused(
     let Ok(()) = put_reason(alloc, told, text, code, line) else {
         return Err(AllocError);
     };
-    told.push(b'\n')?;
-    Ok(())
+    put_end(told)
 }
 
 /// Appends the line of the fault that a text has by its sections, or as a schedule. Want of memory is handed on.

@@ -1,6 +1,6 @@
 //! Keys of a sheet or of an issuer that no reader takes.
 
-ghost use Rattle.std.specs.Prelude.{◌≡◌, [], ◌++◌, Some, None, IfOk, MatchOption, OnOk, map};
+ghost use Rattle.std.specs.Prelude.{◌≡◌, ◌≢◌, [], ◌++◌, Some, None, IfOk, MatchOption, OnOk, map};
 ghost use Rattle.std.specs.List.{list_any};
 ghost use Rattle.toml.specs.Parse.{parse_document};
 ghost use Rattle.toml.specs.View.{table_view};
@@ -11,7 +11,7 @@ ghost use Rattle.fault_lines.specs.Inner.KeyKinds.{unknown_of};
 
 use crate::key_lines::{UnknownKey, is_key, put_keys};
 use byte_text::is_same;
-use input_sections::{ScheduleCode, Unread, read_section};
+use input_sections::{ScheduleCode, Section, Unread, read_section};
 use sheet_text::{Key, KeyFault, rows_under};
 use std::alloc::{AllocError, Global};
 use toml::Table;
@@ -20,9 +20,9 @@ use toml::Table;
 const MOST_UNKNOWN_KEYS: usize = 100;
 
 /// The keys that readers take: at the top of a sheet, in its rows, and of an issuer.
-const SHEET_KEYS: [Key; 4] = [Key::Base, Key::Price, Key::Commitment, Key::Region];
+const SHEET_KEYS: &[Key] = &[Key::Base, Key::Price, Key::Commitment, Key::Region];
 
-const PRICE_KEYS: [Key; 11] = [
+const PRICE_KEYS: &[Key] = &[
     Key::Sku,
     Key::PriceId,
     Key::From,
@@ -36,7 +36,7 @@ const PRICE_KEYS: [Key; 11] = [
     Key::Contracted,
 ];
 
-const COMMITMENT_KEYS: [Key; 6] = [
+const COMMITMENT_KEYS: &[Key] = &[
     Key::Id,
     Key::Sku,
     Key::Buy,
@@ -45,9 +45,9 @@ const COMMITMENT_KEYS: [Key; 6] = [
     Key::Rate,
 ];
 
-const REGION_KEYS: [Key; 2] = [Key::Id, Key::Name];
+const REGION_KEYS: &[Key] = &[Key::Id, Key::Name];
 
-const ISSUER_KEYS: [Key; 7] = [
+const ISSUER_KEYS: &[Key] = &[
     Key::Provider,
     Key::Publisher,
     Key::Issuer,
@@ -101,7 +101,9 @@ fn add_key<'a>(
     if is_taken(taken, name) || is_found(table, name, found) || found.len() >= MOST_UNKNOWN_KEYS {
         return Ok(());
     }
-    found.push(UnknownKey { table, name })?;
+    let Ok(()) = found.push(UnknownKey { table, name }) else {
+        return Err(AllocError);
+    };
     Ok(())
 }
 
@@ -136,9 +138,21 @@ fn add_rows<'a>(
         (map (λ t. table_view t.now) rows.now)) }
 {
     for row in rows {
-        add_table(taken, table, found, row)?;
+        let Ok(()) = add_table(taken, table, found, row) else {
+            return Err(AllocError);
+        };
     }
     Ok(())
+}
+
+/// Nothing is added where there are no rows; an allocation failure is handed on.
+fn without_rows(fault: KeyFault) -> Result<(), AllocError>
+    ensures { OnOk result (fault ≢ KeyFault.OutOfMemory) }
+{
+    match fault {
+        KeyFault::OutOfMemory => Err(AllocError),
+        KeyFault::Missing(_) | KeyFault::BadValue(_) => Ok(()),
+    }
 }
 
 /// Adds those of the keys of the rows under a key.
@@ -155,8 +169,7 @@ fn add_rows_under<'a>(
 {
     match rows_under(alloc, members, key) {
         Ok(rows) => add_rows(taken, key.name().as_bytes(), found, &rows),
-        Err(KeyFault::OutOfMemory) => Err(AllocError),
-        Err(KeyFault::Missing(_) | KeyFault::BadValue(_)) => Ok(()),
+        Err(fault) => without_rows(fault),
     }
 }
 
@@ -170,16 +183,16 @@ fn add_of_sheet<'a>(
     requires { found.old.items ≡ [] }
     ensures { OnOk result (found.new.items ≡ unknown_in_sheet (table_view members.now)) }
 {
-    let Ok(()) = add_table(&SHEET_KEYS, b"", found, members) else {
+    let Ok(()) = add_table(SHEET_KEYS, b"", found, members) else {
         return Err(AllocError);
     };
-    let Ok(()) = add_rows_under(alloc, Key::Price, &PRICE_KEYS, found, members) else {
+    let Ok(()) = add_rows_under(alloc, Key::Price, PRICE_KEYS, found, members) else {
         return Err(AllocError);
     };
-    let Ok(()) = add_rows_under(alloc, Key::Commitment, &COMMITMENT_KEYS, found, members) else {
+    let Ok(()) = add_rows_under(alloc, Key::Commitment, COMMITMENT_KEYS, found, members) else {
         return Err(AllocError);
     };
-    add_rows_under(alloc, Key::Region, &REGION_KEYS, found, members)
+    add_rows_under(alloc, Key::Region, REGION_KEYS, found, members)
 }
 
 /// Adds the keys of a sheet or of an issuer that no reader takes.
@@ -195,7 +208,7 @@ fn add_of<'a>(
 {
     match owner {
         KeyOwner::Sheet => add_of_sheet(alloc, found, members),
-        KeyOwner::Issuer => add_table(&ISSUER_KEYS, b"", found, members),
+        KeyOwner::Issuer => add_table(ISSUER_KEYS, b"", found, members),
     }
 }
 
@@ -269,6 +282,23 @@ fn put_from_issuer(alloc: Global, told: &mut Vec<u8>, unread: &Unread<'_>) -> Re
     }
 }
 
+/// Appends the unknown keys of the section of a sheet that opens on a line, and of the section of an issuer behind it.
+fn put_from_sheet(
+    alloc: Global,
+    told: &mut Vec<u8>,
+    opening: u32,
+    section: &Section<'_>,
+) -> Result<(), AllocError>
+    ensures { OnOk result (told.new.items ≡ told.old.items
+        ++ (told_of_section unknown_in_sheet opening section.now.text.now
+        ++ unknown_from_issuer section.now.rest)) }
+{
+    let Ok(()) = put_of(alloc, told, KeyOwner::Sheet, opening, section.text) else {
+        return Err(AllocError);
+    };
+    put_from_issuer(alloc, told, &section.rest)
+}
+
 /// Appends a line for each key that no reader takes, at most 100 of a section, of the sections of a sheet and of an issuer that
 /// what is left begins with, each where it is there: `line 12: unknown regions`. The line is that of the whole text.
 ///
@@ -282,10 +312,7 @@ pub fn put_unknown_keys(
     ensures { OnOk result (told.new.items ≡ told.old.items ++ unknown_from unread.now) }
 {
     match read_section(unread, ScheduleCode::Sheet, b"sheet ", 200_000) {
-        Ok(section) => {
-            put_of(alloc, told, KeyOwner::Sheet, unread.line(), section.text)?;
-            put_from_issuer(alloc, told, &section.rest)
-        }
+        Ok(section) => put_from_sheet(alloc, told, unread.line(), &section),
         Err(_) => put_from_issuer(alloc, told, unread),
     }
 }

@@ -39,9 +39,9 @@ loop-asked-preserved c =
       index = ap (λ (t : RecordsLeft). t.index) walk ∙ ap (λ n. n + 1) l.index;
       walked = λ days is.
           let w = subst (λ left. IsWalked c.args.lines days c.args.told.now.items c.loop-asked.told.items rs left c.loop-asked.index c.loop-asked.latest) next.rest (l.walked days is) in
-          walk_goes_on c.args.lines days c.args.told.now.items c.loop-asked.told.items c.put_record.new.told.items rs c.loop-asked.index c.loop-asked.latest c.in_ok-latest.latest
+          walk_goes_on c.args.lines days c.args.told.now.items c.loop-asked.told.items c.put_record.new.told.items rs c.loop-asked.index c.loop-asked.latest c.in-Ok.now
           next.r (drop (c.loop-asked.index + 1) rs) w
-          (c.in_ok-latest.ensures.told next.r w.seen next.there next.asked w.is_latest) (c.in_ok-latest.ensures.latest next.r w.seen next.asked w.is_latest);
+          (c.in-Ok.ensures.told next.r w.seen next.there next.asked w.is_latest) (c.in-Ok.ensures.latest next.r w.seen next.asked w.is_latest);
     }
 
 pub returns-clause-told : goal.returns-clause-told

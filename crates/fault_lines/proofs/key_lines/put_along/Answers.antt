@@ -22,10 +22,10 @@ loop-index-preserved c =
     let n = c.args.opening + 1 + l.index in
     let from : c.from.result + 1 + l.index ≡ n = ap (λ k. k + 1 + l.index) c.from.ensures in
     let next : c.args.opening + 1 + (l.index + 1) ≡ n + 1 = omega arith in
-    let told = c.in_ok-table.ensures.told ∙ ap (λ k. l.told.items ++ flat_map (told_unknown k) (filter (has_key l.table.now line) l.keys.items)) from in
+    let told = c.in-Ok.ensures.told ∙ ap (λ k. l.told.items ++ flat_map (told_unknown k) (filter (has_key l.table.now line) l.keys.items)) from in
     let few : length (lines_in c.in-Some.behind.now).lines + (l.index + 1) ≤ line_count c.args.text.now = omega (arith, ap length rest, l.invariant.2) in (
-      along_goes_on _ _ _ l.table.now _ n _ l.keys.items _ _ line _ l.invariant.0 rest told c.in_ok-table.ensures.left c.in_ok-table.ensures.below next,
-      left_goes_on [] [] [] l.table.now _ n n l.keys.items _ _ line _ _ l.invariant.1 rest c.in_ok-table.ensures.left c.in_ok-table.ensures.below,
+      along_goes_on _ _ _ l.table.now _ n _ l.keys.items _ _ line _ l.invariant.0 rest told c.in-Ok.ensures.left c.in-Ok.ensures.below next,
+      left_goes_on [] [] [] l.table.now _ n n l.keys.items _ _ line _ _ l.invariant.1 rest c.in-Ok.ensures.left c.in-Ok.ensures.below,
       few,
     )
 

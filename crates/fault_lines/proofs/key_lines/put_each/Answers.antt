@@ -7,7 +7,7 @@ use Rattle.fault_lines.proofs.key_lines.put_each.Goals as goal
 pub loop-key-preserved : goal.loop-key-preserved
 loop-key-preserved c =
     one_more (told_unknown c.args.line) c.loop-key.told.items c.put_unknown.new.told.items (c.args.told.now.items ++ flat_map (told_unknown c.args.line) c.args.keys.now)
-    c.args.keys.now c.loop-key.key-index c.key-item.result c.loop-key-test.true c.key-item.is c.in_ok-put_unknown.ensures c.loop-key.invariant
+    c.args.keys.now c.loop-key.key-index c.key-item.result c.loop-key-test.true c.key-item.is c.in-Ok.ensures c.loop-key.invariant
 
 pub returns : goal.returns
 returns c =

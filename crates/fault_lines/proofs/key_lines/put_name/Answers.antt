@@ -1,6 +1,5 @@
 use Rattle.std.proofs.Common.{◌≡◌, ℕ, ◌+◌, ◌<◌, ◌≤◌, List, [], ◌∷◌, ◌++◌, length, get_or, drop, map, refl, sym, ap, ◌∙◌, append-nil, append_assoc}
 use Rattle.std.proofs.lemmas.List.{at_drop_all, at_drop_more}
-use Rattle.std.proofs.lemmas.Result.{IfOk-from_err}
 use Rattle.fault_lines.specs.UnknownKeys.{shown}
 use Rattle.fault_lines.proofs.key_lines.put_name.Goals as goal
 
@@ -22,13 +21,10 @@ none_left f told name all i past before = sym (append-nil told) ∙ ap (λ t. to
 pub loop-byte-init : goal.loop-byte-init
 loop-byte-init c = refl
 
-pub returns-in_err-push : goal.returns-in_err-push
-returns-in_err-push c = IfOk-from_err c.from_residual.result _ c.from_residual.ensures.0
-
 pub loop-byte-preserved : goal.loop-byte-preserved
 loop-byte-preserved c =
     one_more shown c.loop-byte.told.items c.push.new.self.items c.args.name.now (c.args.told.now.items ++ map shown c.args.name.now) c.loop-byte.byte-index c.shown.result
-    c.loop-byte-test.true c.shown.ensures c.in_ok-push.ensures.items c.loop-byte.invariant
+    c.loop-byte-test.true c.shown.ensures c.in-Ok.ensures.items c.loop-byte.invariant
 
 pub returns : goal.returns
 returns c = none_left shown c.loop-byte.told.items c.args.name.now (c.args.told.now.items ++ map shown c.args.name.now) c.loop-byte.byte-index c.loop-byte-test.false c.loop-byte.invariant

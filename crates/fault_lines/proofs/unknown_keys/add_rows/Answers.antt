@@ -7,7 +7,7 @@ use Rattle.fault_lines.proofs.unknown_keys.add_rows.Goals as goal
 pub loop-row-preserved : goal.loop-row-preserved
 loop-row-preserved c =
     one_row (λ t. table_view t.now) c.args.taken.now c.args.table.now c.loop-row.found.items (with_rows c.args.taken.now c.args.table.now c.args.found.now.items (map (λ t. table_view t.now) c.args.rows.now))
-    c.args.rows.now c.loop-row.row-index c.add_table.new.found.items c.row-item.result c.loop-row-test.true c.row-item.is c.in_ok-add_table.ensures c.loop-row.invariant
+    c.args.rows.now c.loop-row.row-index c.add_table.new.found.items c.row-item.result c.loop-row-test.true c.row-item.is c.in-Ok.ensures c.loop-row.invariant
 
 pub returns : goal.returns
 returns c =

@@ -16,7 +16,7 @@ returns-clause-said c = λ journaled are.
     let there = subst (λ days. AreLatest days journaled) (sym c.self.view_is) are in
     let here : slice_index_or c.self.inside.days c.from-place.result None ≡ latest (days_of b.agent journaled) =
     ap (λ n. slice_index_or c.self.inside.days n None) at ∙ get_or_from_slice_get c.self.inside.days (b.agent - 1) _ None (there b.agent low high) in
-    c.in_ok-self-inside.ensures.told (days_of b.agent journaled) here
+    c.in-Ok.ensures.told (days_of b.agent journaled) here
 
 pub returns-clause-kept : goal.returns-clause-kept
 returns-clause-kept c = λ journaled are.
@@ -27,5 +27,5 @@ returns-clause-kept c = λ journaled are.
     let there = subst (λ days. AreLatest days journaled) (sym c.self.view_is) are in
     let here : slice_index_or c.self.inside.days c.from-place.result None ≡ latest (days_of b.agent journaled) =
     ap (λ n. slice_index_or c.self.inside.days n None) at ∙ get_or_from_slice_get c.self.inside.days (b.agent - 1) _ None (there b.agent low high) in
-    kept b journaled c.self.inside.days c.from-place.result c.in_ok-self-inside.field-0 low high at
-    (c.in_ok-self-inside.ensures.latest (days_of b.agent journaled) here) there
+    kept b journaled c.self.inside.days c.from-place.result c.in-Ok.latest low high at
+    (c.in-Ok.ensures.latest (days_of b.agent journaled) here) there
