@@ -1,14 +1,13 @@
 //! The grammar of the command line, with the texts of its help.
 
-ghost use Rattle.std.specs.Prelude.{◌≡◌, ◌≢◌, Err, IfOk, false};
+ghost use Rattle.std.specs.Prelude.{◌≡◌, IfOk, false};
 ghost use Rattle.clap.specs.Words.{App, app_of, new_app, rule_of, with_rule, with_subcommand};
 ghost use Rattle.clap.specs.declared.builder.command.Command.TheViews.{out-Command};
 ghost use Rattle.command_line.specs.CommandLine.{bare_grammar, check_grammar, flag_option, grammar_of_focusd, number_option, period_grammar, required, threads_grammar, schedule_grammar, sheets_grammar, text_option};
 ghost use Rattle.command_line.specs.Inner.Grammars.{with_first, with_third, with_second};
 
-use crate::words::LineFault;
 use clap::{Arg, ArgAction};
-use std::alloc::Global;
+use std::alloc::{AllocError, Global};
 
 const FOCUSD: &str =
     "Turns usage records into FOCUS 1.0 cost rows. Input comes on standard input alone";
@@ -104,17 +103,13 @@ fn explained<'a>(alloc: Global, name: &'a str, about: &'a str, input: &'a str) -
 }
 
 // A command with one option more
-fn taking<'a>(command: clap::Command<'a>, option: Arg<'a>) -> Result<clap::Command<'a>, LineFault>
+fn taking<'a>(command: clap::Command<'a>, option: Arg<'a>) -> Result<clap::Command<'a>, AllocError>
     requires local { ((out-Command command).has_globals ≡ false) × (option.global ≡ false) }
     ensures app { IfOk result
         (λ c. app_of c ≡ with_rule (app_of command.entry) (rule_of option.entry)) }
     ensures local { IfOk result (λ c. (out-Command c).has_globals ≡ false) }
-    ensures memory { result ≢ Err LineFault.Line }
 {
-    match command.arg(option) {
-        Ok(command) => Ok(command),
-        Err(_) => Err(LineFault::OutOfMemory),
-    }
+    command.arg(option)
 }
 
 // The same with `--NAME N`, a number from 1 to the most, which may not be left out
@@ -124,12 +119,11 @@ fn counting<'a>(
     name: &'a str,
     help: &'a str,
     most: u16,
-) -> Result<clap::Command<'a>, LineFault>
+) -> Result<clap::Command<'a>, AllocError>
     requires local { (out-Command command).has_globals ≡ false }
     ensures app { IfOk result (λ c. app_of c
         ≡ with_rule (app_of command.entry) (required (number_option name.entry.now 1 most))) }
     ensures local { IfOk result (λ c. (out-Command c).has_globals ≡ false) }
-    ensures memory { result ≢ Err LineFault.Line }
 {
     let count = number_option(alloc, name, help, 1, most).required(true);
     taking(command, count)
@@ -140,10 +134,9 @@ fn period_grammar<'a>(
     alloc: Global,
     name: &'a str,
     about: &'a str,
-) -> Result<clap::Command<'a>, LineFault>
+) -> Result<clap::Command<'a>, AllocError>
     ensures app { IfOk result (λ c. app_of c ≡ period_grammar name.entry.now) }
     ensures local { IfOk result (λ c. (out-Command c).has_globals ≡ false) }
-    ensures memory { result ≢ Err LineFault.Line }
 {
     let period = number_option(
         alloc,
@@ -157,29 +150,33 @@ fn period_grammar<'a>(
 }
 
 // `threads --nodes N --agents A --batches K --periods P`
-fn threads_grammar<'a>(alloc: Global) -> Result<clap::Command<'a>, LineFault>
+fn threads_grammar<'a>(alloc: Global) -> Result<clap::Command<'a>, AllocError>
     ensures app { IfOk result (λ c. app_of c ≡ threads_grammar) }
     ensures local { IfOk result (λ c. (out-Command c).has_globals ≡ false) }
-    ensures memory { result ≢ Err LineFault.Line }
 {
     let threads = plain_grammar(alloc, "threads", THREADS);
-    let threads = counting(threads, alloc, "nodes", "How many nodes: 1 to 9", 9)?;
-    let threads = counting(threads, alloc, "agents", "How many agents: 1 to 9", 9)?;
-    let threads = counting(
+    let Ok(threads) = counting(threads, alloc, "nodes", "How many nodes: 1 to 9", 9) else {
+        return Err(AllocError);
+    };
+    let Ok(threads) = counting(threads, alloc, "agents", "How many agents: 1 to 9", 9) else {
+        return Err(AllocError);
+    };
+    let Ok(threads) = counting(
         threads,
         alloc,
         "batches",
         "How many batches of each agent: 1 to 99",
         99,
-    )?;
+    ) else {
+        return Err(AllocError);
+    };
     counting(threads, alloc, "periods", "How many months: 1 to 12", 12)
 }
 
 // `check --kind KIND`
-fn check_grammar<'a>(alloc: Global) -> Result<clap::Command<'a>, LineFault>
+fn check_grammar<'a>(alloc: Global) -> Result<clap::Command<'a>, AllocError>
     ensures app { IfOk result (λ c. app_of c ≡ check_grammar) }
     ensures local { IfOk result (λ c. (out-Command c).has_globals ≡ false) }
-    ensures memory { result ≢ Err LineFault.Line }
 {
     let kind = text_option(
         alloc,
@@ -190,32 +187,34 @@ fn check_grammar<'a>(alloc: Global) -> Result<clap::Command<'a>, LineFault>
 }
 
 // `sheets --before DAY --all`
-fn sheets_grammar<'a>(alloc: Global) -> Result<clap::Command<'a>, LineFault>
+fn sheets_grammar<'a>(alloc: Global) -> Result<clap::Command<'a>, AllocError>
     ensures app { IfOk result (λ c. app_of c ≡ sheets_grammar) }
     ensures local { IfOk result (λ c. (out-Command c).has_globals ≡ false) }
-    ensures memory { result ≢ Err LineFault.Line }
 {
     let before = text_option(
         alloc,
         "before",
         "A day, as 2025-04-01: files of months that end before it have to stay",
     );
-    let all = flag(alloc, "all", "Lists each field that differs too");
     let sheets = explained(alloc, "sheets", SHEETS, SHEETS_INPUT);
-    let sheets = taking(sheets, before)?;
+    let Ok(sheets) = taking(sheets, before) else {
+        return Err(AllocError);
+    };
+    let all = flag(alloc, "all", "Lists each field that differs too");
     taking(sheets, all)
 }
 
 // `schedule --nodes N --observers M --through P`
-fn schedule_grammar<'a>(alloc: Global) -> Result<clap::Command<'a>, LineFault>
+fn schedule_grammar<'a>(alloc: Global) -> Result<clap::Command<'a>, AllocError>
     ensures app { IfOk result (λ c. app_of c ≡ schedule_grammar) }
     ensures local { IfOk result (λ c. (out-Command c).has_globals ≡ false) }
-    ensures memory { result ≢ Err LineFault.Line }
 {
     let nodes = number_option(alloc, "nodes", "How many nodes vote: 1 to 99", 1, 99).default_value(
         "3",
     );
-    let schedule = taking(plain_grammar(alloc, "schedule", SCHEDULE), nodes)?;
+    let Ok(schedule) = taking(plain_grammar(alloc, "schedule", SCHEDULE), nodes) else {
+        return Err(AllocError);
+    };
     let observers = number_option(
         alloc,
         "observers",
@@ -224,7 +223,9 @@ fn schedule_grammar<'a>(alloc: Global) -> Result<clap::Command<'a>, LineFault>
         98,
     )
     .default_value("0");
-    let schedule = taking(schedule, observers)?;
+    let Ok(schedule) = taking(schedule, observers) else {
+        return Err(AllocError);
+    };
     let through = number_option(
         alloc,
         "through",
@@ -236,12 +237,11 @@ fn schedule_grammar<'a>(alloc: Global) -> Result<clap::Command<'a>, LineFault>
 }
 
 // Without its commands: `help` is none of them, since `--help` asks for it.
-fn bare_grammar<'a>(alloc: Global) -> Result<clap::Command<'a>, LineFault>
+fn bare_grammar<'a>(alloc: Global) -> Result<clap::Command<'a>, AllocError>
     ensures app { IfOk result (λ c. app_of c ≡ bare_grammar) }
-    ensures memory { result ≢ Err LineFault.Line }
 {
     let Ok(focusd) = clap::Command::new(alloc, "focusd").bin_name("focusd") else {
-        return Err(LineFault::OutOfMemory);
+        return Err(AllocError);
     };
     Ok(
         focusd
@@ -256,30 +256,28 @@ fn bare_grammar<'a>(alloc: Global) -> Result<clap::Command<'a>, LineFault>
 // The grammar with a command more, if there was memory for that
 fn with<'a>(
     grammar: clap::Command<'a>,
-    command: Result<clap::Command<'a>, LineFault>,
-) -> Result<clap::Command<'a>, LineFault>
+    command: Result<clap::Command<'a>, AllocError>,
+) -> Result<clap::Command<'a>, AllocError>
     requires local { IfOk command (λ c. (out-Command c).has_globals ≡ false) }
-    requires memory { command ≢ Err LineFault.Line }
     ensures app { (a : App) → IfOk command.entry (λ c. app_of c ≡ a)
         → IfOk result (λ g. app_of g ≡ with_subcommand (app_of grammar.entry) a.top) }
-    ensures memory { result ≢ Err LineFault.Line }
 {
-    let Ok(command) = command else {
-        return Err(LineFault::OutOfMemory);
-    };
-    match grammar.subcommand(command) {
-        Ok(grammar) => Ok(grammar),
-        Err(_) => Err(LineFault::OutOfMemory),
+    match command {
+        Ok(command) => grammar.subcommand(command),
+        Err(error) => Err(error),
     }
 }
 
 // With `rate`, `play` and `check`
-fn with_first<'a>(grammar: clap::Command<'a>, alloc: Global) -> Result<clap::Command<'a>, LineFault>
+fn with_first<'a>(grammar: clap::Command<'a>, alloc: Global) -> Result<clap::Command<'a>, AllocError>
     ensures app { IfOk result (λ c. app_of c ≡ with_first (app_of grammar.entry)) }
-    ensures memory { result ≢ Err LineFault.Line }
 {
-    let rating = with(grammar, period_grammar(alloc, "rate", RATE))?;
-    let playing = with(rating, Ok(plain_grammar(alloc, "play", PLAY)))?;
+    let Ok(rating) = with(grammar, period_grammar(alloc, "rate", RATE)) else {
+        return Err(AllocError);
+    };
+    let Ok(playing) = with(rating, Ok(plain_grammar(alloc, "play", PLAY))) else {
+        return Err(AllocError);
+    };
     with(playing, check_grammar(alloc))
 }
 
@@ -287,31 +285,43 @@ fn with_first<'a>(grammar: clap::Command<'a>, alloc: Global) -> Result<clap::Com
 fn with_second<'a>(
     grammar: clap::Command<'a>,
     alloc: Global,
-) -> Result<clap::Command<'a>, LineFault>
+) -> Result<clap::Command<'a>, AllocError>
     ensures app { IfOk result (λ c. app_of c ≡ with_second (app_of grammar.entry)) }
-    ensures memory { result ≢ Err LineFault.Line }
 {
-    let filing = with(grammar, period_grammar(alloc, "file", FILE))?;
-    let scheduling = with(filing, schedule_grammar(alloc))?;
+    let Ok(filing) = with(grammar, period_grammar(alloc, "file", FILE)) else {
+        return Err(AllocError);
+    };
+    let Ok(scheduling) = with(filing, schedule_grammar(alloc)) else {
+        return Err(AllocError);
+    };
     with(scheduling, sheets_grammar(alloc))
 }
 
 // With `threads`, `node` and `agent`
-fn with_third<'a>(grammar: clap::Command<'a>, alloc: Global) -> Result<clap::Command<'a>, LineFault>
+fn with_third<'a>(grammar: clap::Command<'a>, alloc: Global) -> Result<clap::Command<'a>, AllocError>
     ensures app { IfOk result (λ c. app_of c ≡ with_third (app_of grammar.entry)) }
-    ensures memory { result ≢ Err LineFault.Line }
 {
-    let threading = with(grammar, threads_grammar(alloc))?;
-    let nodes = with(threading, Ok(explained(alloc, "node", NODE, NODE_INPUT)))?;
+    let Ok(threading) = with(grammar, threads_grammar(alloc)) else {
+        return Err(AllocError);
+    };
+    let Ok(nodes) = with(threading, Ok(explained(alloc, "node", NODE, NODE_INPUT))) else {
+        return Err(AllocError);
+    };
     with(nodes, Ok(explained(alloc, "agent", AGENT, AGENT_INPUT)))
 }
 
 /// The words of all commands, without the program's name.
-pub(crate) fn grammar<'a>(alloc: Global) -> Result<clap::Command<'a>, LineFault>
+pub(crate) fn grammar<'a>(alloc: Global) -> Result<clap::Command<'a>, AllocError>
     ensures app { IfOk result (λ c. app_of c ≡ grammar_of_focusd) }
-    ensures memory { result ≢ Err LineFault.Line }
 {
-    let first = with_first(bare_grammar(alloc)?, alloc)?;
-    let second = with_second(first, alloc)?;
+    let Ok(bare) = bare_grammar(alloc) else {
+        return Err(AllocError);
+    };
+    let Ok(first) = with_first(bare, alloc) else {
+        return Err(AllocError);
+    };
+    let Ok(second) = with_second(first, alloc) else {
+        return Err(AllocError);
+    };
     with_third(second, alloc)
 }

@@ -230,7 +230,10 @@ pub fn command(alloc: Global, words: &[String]) -> Result<Command, LineFault>
     ensures not_asked { result ≡ Err LineFault.Line
         → (command : Command) → ¬ Asks (map string_bytes words.now) command }
 {
-    let matches = match grammar(alloc)?.try_get_matches_from(words) {
+    let Ok(grammar) = grammar(alloc) else {
+        return Err(LineFault::OutOfMemory);
+    };
+    let matches = match grammar.try_get_matches_from(words) {
         Ok(matches) => matches,
         Err(error) => return request_of(&error),
     };
@@ -279,7 +282,10 @@ pub fn help(alloc: Global, words: &[String]) -> Result<String, LineFault>
     ensures asked { IfOk result (λ _. AsksForHelp (map string_bytes words.now)) }
     ensures not_asked { result ≡ Err LineFault.Line → ¬ AsksForHelp (map string_bytes words.now) }
 {
-    match grammar(alloc)?.try_get_matches_from(words) {
+    let Ok(grammar) = grammar(alloc) else {
+        return Err(LineFault::OutOfMemory);
+    };
+    match grammar.try_get_matches_from(words) {
         Ok(_) => Err(LineFault::Line),
         Err(error) => text_of(alloc, &error),
     }

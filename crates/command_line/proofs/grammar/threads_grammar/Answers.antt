@@ -10,7 +10,7 @@ returns-clause-app c =
     let agents : Rule = required (number_option (codes "agents") 1 9) in
     let batches : Rule = required (number_option (codes "batches") 1 99) in
     let periods : Rule = required (number_option (codes "periods") 1 12) in
-    let one = c.in_ok-threads.ensures.app ∙ ap (λ (a : App). with_rule a nodes) c.plain_grammar-threads.ensures.app in
-    let two = c.in_ok-threads-2.ensures.app ∙ ap (λ (a : App). with_rule a agents) one in
-    let three = c.in_ok-threads-3.ensures.app ∙ ap (λ (a : App). with_rule a batches) two in
+    let one = c.in-Ok.ensures.app ∙ ap (λ (a : App). with_rule a nodes) c.plain_grammar-threads.ensures.app in
+    let two = c.in-Ok-counting.ensures.app ∙ ap (λ (a : App). with_rule a agents) one in
+    let three = c.in-Ok-counting-2.ensures.app ∙ ap (λ (a : App). with_rule a batches) two in
     subst (λ (a : App). IfOk c.counting-4.result (λ g. app_of g ≡ a)) (ap (λ (a : App). with_rule a periods) three) c.counting-4.ensures.app

@@ -4,8 +4,8 @@ use Rattle.command_line.specs.CommandLine.{check_grammar, period_grammar}
 use Rattle.command_line.proofs.grammar.with_first.Goals as goal
 
 -- each call adds its command to what the grammar was
-pub returns-clause-app : goal.returns-clause-app
-returns-clause-app c =
-    let rating = c.in_ok-rating.ensures.app (period_grammar (codes "rate")) c.period_grammar.ensures.app in
-    let playing = c.in_ok-playing.ensures.app (new_app (codes "play")) c.plain_grammar.ensures.app ∙ ap (λ (a : App). with_subcommand a (new_app (codes "play")).top) rating in
-    subst (λ (a : App). IfOk c.with-3.result (λ g. app_of g ≡ a)) (ap (λ (a : App). with_subcommand a check_grammar.top) playing) (c.with-3.ensures.app check_grammar c.check_grammar.ensures.app)
+pub returns : goal.returns
+returns c =
+    let rating = c.in-Ok.ensures.app (period_grammar (codes "rate")) c.period_grammar.ensures.app in
+    let playing = c.in-Ok-with.ensures.app (new_app (codes "play")) c.plain_grammar.ensures.app ∙ ap (λ (a : App). with_subcommand a (new_app (codes "play")).top) rating in
+    record { app = subst (λ (a : App). IfOk c.with-3.result (λ g. app_of g ≡ a)) (ap (λ (a : App). with_subcommand a check_grammar.top) playing) (c.with-3.ensures.app check_grammar c.check_grammar.ensures.app) }

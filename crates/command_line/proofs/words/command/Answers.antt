@@ -7,14 +7,14 @@ use Rattle.command_line.proofs.words.command.Goals as goal
 
 pub returns-in-Err-clause-asked : goal.returns-in-Err-clause-asked
 returns-in-Err-clause-asked c =
-    let app = c.in_ok-grammar.ensures.app in
+    let app = c.in-Ok.ensures.app in
     let words = map string_bytes c.args.words.now in
     let kinds = c.in-Err.ensures.kinds (ap is_simple_and_free app ∙ grammar_is_free) in
     request_asks words c.in-Err.error c.request_of.result (subst (λ a. HasKind (fault_of a words) c.in-Err.error) app kinds) c.request_of.ensures.request
 
 pub returns-in-Err-clause-not_asked : goal.returns-in-Err-clause-not_asked
 returns-in-Err-clause-not_asked c is command asked =
-    let app = c.in_ok-grammar.ensures.app in
+    let app = c.in-Ok.ensures.app in
     let words = map string_bytes c.args.words.now in
     let kinds = c.in-Err.ensures.kinds (ap is_simple_and_free app ∙ grammar_is_free) in
     let line = c.request_of.ensures.line is in
@@ -22,20 +22,20 @@ returns-in-Err-clause-not_asked c is command asked =
 
 pub returns-in-Some-named-clause-asked : goal.returns-in-Some-named-clause-asked
 returns-in-Some-named-clause-asked c =
-    let app = c.in_ok-grammar.ensures.app in
+    let app = c.in-Ok.ensures.app in
     let words = map string_bytes c.args.words.now in
-    let matches = c.in-Ok.ensures.matches (ap is_simple app ∙ grammar_is_simple) in
-    let taken = ap (λ a. fault_of a words) (sym app) ∙ c.in-Ok.ensures.kinds (ap is_simple_and_free app ∙ grammar_is_free) in
+    let matches = c.in-Ok-try_get_matches_from.ensures.matches (ap is_simple app ∙ grammar_is_simple) in
+    let taken = ap (λ a. fault_of a words) (sym app) ∙ c.in-Ok-try_get_matches_from.ensures.kinds (ap is_simple_and_free app ∙ grammar_is_free) in
     let rows = rows_of (found_of c.in-Some.options.now) in
-    let inside = met c.in-Ok.matches c.in-Some.name.now rows (sym c.in-Some.ensures.name) (sym c.in-Some.ensures.rows) in
+    let inside = met c.in-Ok-try_get_matches_from.matches c.in-Some.name.now rows (sym c.in-Some.ensures.name) (sym c.in-Some.ensures.rows) in
     named_is_asked words c.in-Some.name.now rows c.in-Some-named.command taken (ap (λ a. subcommand_of a words) (sym app) ∙ (sym matches.1 ∙ inside)) c.in-Some-named.ensures.asked
 
 pub returns-clause-not_asked : goal.returns-clause-not_asked
 returns-clause-not_asked c is command asked =
-    let app = c.in_ok-grammar.ensures.app in
+    let app = c.in-Ok.ensures.app in
     let words = map string_bytes c.args.words.now in
-    let matches = c.in-Ok.ensures.matches (ap is_simple app ∙ grammar_is_simple) in
-    let taken = ap (λ a. fault_of a words) (sym app) ∙ c.in-Ok.ensures.kinds (ap is_simple_and_free app ∙ grammar_is_free) in
+    let matches = c.in-Ok-try_get_matches_from.ensures.matches (ap is_simple app ∙ grammar_is_simple) in
+    let taken = ap (λ a. fault_of a words) (sym app) ∙ c.in-Ok-try_get_matches_from.ensures.kinds (ap is_simple_and_free app ∙ grammar_is_free) in
     let rows = rows_of (found_of c.in-Some.options.now) in
-    let inside = met c.in-Ok.matches c.in-Some.name.now rows (sym c.in-Some.ensures.name) (sym c.in-Some.ensures.rows) in
+    let inside = met c.in-Ok-try_get_matches_from.matches c.in-Some.name.now rows (sym c.in-Some.ensures.name) (sym c.in-Some.ensures.rows) in
     c.in-None.ensures.not_asked refl command (asked_is_named words c.in-Some.name.now rows command taken (ap (λ a. subcommand_of a words) (sym app) ∙ (sym matches.1 ∙ inside)) asked)

@@ -6,20 +6,20 @@ use Rattle.command_line.proofs.words.help.Goals as goal
 
 pub returns-clause-asked : goal.returns-clause-asked
 returns-clause-asked c =
-    let app = c.in_ok-grammar.ensures.app in
+    let app = c.in-Ok.ensures.app in
     let words = map string_bytes c.args.words.now in
     let kinds = c.in-Err.ensures.kinds (ap is_simple_and_free app ∙ grammar_is_free) in
     help_asked words c.in-Err.error c.text_of.result (subst (λ a. HasKind (fault_of a words) c.in-Err.error) app kinds) c.text_of.ensures.asked
 
-pub returns-in-Ok-clause-not_asked : goal.returns-in-Ok-clause-not_asked
-returns-in-Ok-clause-not_asked c is asked =
-    let app = c.in_ok-grammar.ensures.app in
+pub returns-in-Ok-try_get_matches_from-clause-not_asked : goal.returns-in-Ok-try_get_matches_from-clause-not_asked
+returns-in-Ok-try_get_matches_from-clause-not_asked c is asked =
+    let app = c.in-Ok.ensures.app in
     let words = map string_bytes c.args.words.now in
-    no_help_asked words (ap (λ a. fault_of a words) (sym app) ∙ c.in-Ok.ensures.kinds (ap is_simple_and_free app ∙ grammar_is_free)) asked
+    no_help_asked words (ap (λ a. fault_of a words) (sym app) ∙ c.in-Ok-try_get_matches_from.ensures.kinds (ap is_simple_and_free app ∙ grammar_is_free)) asked
 
 pub returns-clause-not_asked : goal.returns-clause-not_asked
 returns-clause-not_asked c is asked =
-    let app = c.in_ok-grammar.ensures.app in
+    let app = c.in-Ok.ensures.app in
     let words = map string_bytes c.args.words.now in
     let kinds = c.in-Err.ensures.kinds (ap is_simple_and_free app ∙ grammar_is_free) in
     let line = c.text_of.ensures.line is in
