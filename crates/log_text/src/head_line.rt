@@ -1,6 +1,6 @@
 //! The head line of a log, read.
 
-ghost use Rattle.std.specs.Prelude.{◌≡◌, ◌≤◌, [], ◌∷◌, Ok, Err, IfSome, MatchOption};
+ghost use Rattle.std.specs.Prelude.{◌≡◌, ◌≤◌, [], ◌∷◌, length, Ok, Err, IfSome, MatchOption};
 ghost use Rattle.std.specs.Option.{option_map};
 ghost use Rattle.metering_model.specs.BatchReading.{fields_in, whole_in};
 ghost use Rattle.metering_model.specs.Limits.{last_node, most_agents, most_nodes};
@@ -11,6 +11,25 @@ use crate::faults::LogCode;
 use crate::heads::{LogHead, Who};
 use byte_text::{is_same, read_whole, split_at_bar};
 use packet_text::is_group;
+
+/// Two fields of a line, and what stands behind these.
+#[derive(Clone, Copy)]
+struct Pair<'a> {
+    one: &'a [u8],
+    other: &'a [u8],
+    behind: &'a [u8],
+}
+
+/// The first two fields, if others stand behind them.
+fn read_pair(fields: &[u8]) -> Option<Pair<'_>>
+    ensures { MatchOption result
+        (length (fields_in fields.now) ≤ 2)
+        (λ p. fields_in fields.now ≡ p.one.now ∷ p.other.now ∷ fields_in p.behind.now) }
+{
+    let (one, others) = split_at_bar(fields)?;
+    let (other, behind) = split_at_bar(others)?;
+    Some(Pair { one, other, behind })
+}
 
 /// The seven fields of a head line.
 #[derive(Clone, Copy)]
@@ -32,22 +51,20 @@ fn head_fields(line: &[u8]) -> Option<HeadFields<'_>>
         ≡ f.version.now ∷ f.group.now ∷ f.word.now ∷ f.number.now ∷ f.voters.now
         ∷ f.observers.now ∷ f.agents.now ∷ []) }
 {
-    let (version, rest) = split_at_bar(line)?;
-    let (group, rest) = split_at_bar(rest)?;
-    let (word, rest) = split_at_bar(rest)?;
-    let (number, rest) = split_at_bar(rest)?;
-    let (voters, rest) = split_at_bar(rest)?;
-    let (observers, agents) = split_at_bar(rest)?;
+    let name = read_pair(line)?;
+    let who = read_pair(name.behind)?;
+    let nodes = read_pair(who.behind)?;
+    let agents = nodes.behind;
     if split_at_bar(agents).is_some() {
         return None;
     }
     Some(HeadFields {
-        version,
-        group,
-        word,
-        number,
-        voters,
-        observers,
+        version: name.one,
+        group: name.other,
+        word: who.one,
+        number: who.other,
+        voters: nodes.one,
+        observers: nodes.other,
         agents,
     })
 }

@@ -53,24 +53,22 @@ impl Taken {
     }
 }
 
-/// What is kept when the round was begun, if that is the next one.
-fn with_round(parts: Parts, round: u16) -> Result<Parts, Unread>
-    requires kept { IsKept parts }
+// Each of these adds to what is kept, where that goes on. At an error it is not told what is kept then.
+
+/// Begins the round, if that is the next one.
+fn add_round(parts: &mut Parts, round: u16) -> Result<(), Unread>
+    requires kept { IsKept parts.old }
     requires most { round ≤ most_rounds }
     ensures { MatchResult result
-        (λ next. (goes_on (BeginsRound round) parts ≡ true)
-        × (next ≡ among_with (BeginsRound round) parts) × IsKept next)
-        (λ why. IfNotThere why (goes_on (BeginsRound round) parts ≡ false)) }
+        (λ _. (goes_on (BeginsRound round) parts.old ≡ true)
+        × (parts.new ≡ among_with (BeginsRound round) parts.old) × IsKept parts.new)
+        (λ why. IfNotThere why (goes_on (BeginsRound round) parts.old ≡ false)) }
 {
     if round != parts.round + 1 {
         return Err(Unread::NotThere);
     }
-    Ok(Parts {
-        round,
-        learned: parts.learned,
-        acceptor: parts.acceptor,
-        store: parts.store,
-    })
+    parts.round = round;
+    Ok(())
 }
 
 /// Whether both are the same cut.
@@ -127,79 +125,81 @@ fn ballots_go_on(old: &Acceptor, new: &Acceptor) -> bool
         && !(is_promised(ballot, old.promised()) && same)
 }
 
-/// What is kept when a promise or a vote was made in that period, if it goes on from those before.
-fn with_ballots(parts: Parts, period: u16, acceptor: Acceptor) -> Result<Parts, Unread>
-    requires kept { IsKept parts }
-    requires limits { IsWithin parts.agents (SetsBallots period acceptor) }
+/// Makes a promise or a vote in that period, if it goes on from those before.
+fn add_ballots(parts: &mut Parts, period: u16, acceptor: Acceptor) -> Result<(), Unread>
+    requires kept { IsKept parts.old }
+    requires limits { IsWithin parts.old.agents (SetsBallots period acceptor) }
     ensures { MatchResult result
-        (λ next. (goes_on (SetsBallots period acceptor) parts ≡ true)
-        × (next ≡ among_with (SetsBallots period acceptor) parts) × IsKept next)
-        (λ why. IfNotThere why (goes_on (SetsBallots period acceptor) parts ≡ false)) }
+        (λ _. (goes_on (SetsBallots period acceptor) parts.old ≡ true)
+        × (parts.new ≡ among_with (SetsBallots period acceptor) parts.old) × IsKept parts.new)
+        (λ why. IfNotThere why (goes_on (SetsBallots period acceptor) parts.old ≡ false)) }
 {
     if usize::from(period) != parts.learned.len() || !ballots_go_on(&parts.acceptor, &acceptor) {
         return Err(Unread::NotThere);
     }
-    Ok(Parts {
-        round: parts.round,
-        learned: parts.learned,
-        acceptor,
-        store: parts.store,
-    })
+    parts.acceptor = acceptor;
+    Ok(())
 }
 
-/// What is kept when the period's cut was learned, if that is the next one: promise and vote are of the period behind.
-fn with_cut(parts: Parts, period: u16, cut: Arc<Cut>) -> Result<Parts, Unread>
-    requires kept { IsKept parts }
+/// Learns the period's cut, if that is the next one: promise and vote are of the period behind.
+fn add_cut(parts: &mut Parts, period: u16, cut: Arc<Cut>) -> Result<(), Unread>
+    requires kept { IsKept parts.old }
     requires period { IsPeriod period }
-    requires agents { length (arc_value cut) ≡ parts.agents }
+    requires agents { length (arc_value cut) ≡ parts.old.agents }
     ensures { MatchResult result
-        (λ next. (goes_on (Learns period (arc_value cut)) parts ≡ true)
-        × (next ≡ among_with (Learns period (arc_value cut)) parts) × IsKept next)
-        (λ why. IfNotThere why (goes_on (Learns period (arc_value cut)) parts ≡ false)) }
+        (λ _. (goes_on (Learns period (arc_value cut)) parts.old ≡ true)
+        × (parts.new ≡ among_with (Learns period (arc_value cut)) parts.old) × IsKept parts.new)
+        (λ why. IfNotThere why (goes_on (Learns period (arc_value cut)) parts.old ≡ false)) }
 {
     if usize::from(period) != parts.learned.len() {
         return Err(Unread::NotThere);
     }
-    let mut learned = parts.learned;
-    if learned.push(cut).is_err() {
+    if parts.learned.push(cut).is_err() {
         return Err(Unread::NoMemory);
     }
-    Ok(Parts {
-        round: parts.round,
-        learned,
-        acceptor: Acceptor::new(),
-        store: parts.store,
-    })
+    parts.acceptor = Acceptor::new();
+    Ok(())
 }
 
-/// What is kept when a batch was taken, if it is of an agent that there is, and was not there.
-fn with_batch(parts: Parts, batch: Arc<OwnedBatch>) -> Result<Parts, Unread>
-    requires kept { IsKept parts }
+/// Takes a batch, if it is of an agent that there is, and was not there.
+fn add_batch(parts: &mut Parts, batch: Arc<OwnedBatch>) -> Result<(), Unread>
+    requires kept { IsKept parts.old }
     ensures { MatchResult result
-        (λ next. (goes_on (Takes (batch_of (arc_value batch))) parts ≡ true)
-        × (next ≡ among_with (Takes (batch_of (arc_value batch))) parts) × IsKept next)
-        (λ why. IfNotThere why (goes_on (Takes (batch_of (arc_value batch))) parts ≡ false)) }
+        (λ _. (goes_on (Takes (batch_of (arc_value batch))) parts.old ≡ true)
+        × (parts.new ≡ among_with (Takes (batch_of (arc_value batch))) parts.old) × IsKept parts.new)
+        (λ why. IfNotThere why (goes_on (Takes (batch_of (arc_value batch))) parts.old ≡ false)) }
 {
-    let mut store = parts.store;
-    if batch.view().agent() > store.agents() {
+    if batch.view().agent() > parts.store.agents() {
         return Err(Unread::NotThere);
     }
-    let Ok(added) = store.put(batch) else {
+    let Ok(added) = parts.store.put(batch) else {
         return Err(Unread::NoMemory);
     };
     if !added {
         return Err(Unread::NotThere);
     }
-    Ok(Parts {
-        round: parts.round,
-        learned: parts.learned,
-        acceptor: parts.acceptor,
-        store,
-    })
+    Ok(())
+}
+
+/// Adds this, if it goes on from what is kept.
+fn add(parts: &mut Parts, taken: Taken) -> Result<(), Unread>
+    requires kept { IsKept parts.old }
+    requires limits { IsWithin parts.old.agents (taken_of taken) }
+    ensures { MatchResult result
+        (λ _. (goes_on (taken_of taken) parts.old ≡ true)
+        × (parts.new ≡ among_with (taken_of taken) parts.old) × IsKept parts.new)
+        (λ why. IfNotThere why (goes_on (taken_of taken) parts.old ≡ false)) }
+{
+    match taken {
+        Taken::Round(round) => add_round(parts, round),
+        Taken::Ballots(period, acceptor) => add_ballots(parts, period, acceptor),
+        Taken::Learned(period, cut) => add_cut(parts, period, cut),
+        Taken::Batch(batch) => add_batch(parts, batch),
+    }
 }
 
 /// What is kept when this was added, if it goes on from what is kept.
-pub(crate) fn kept_with(parts: Parts, taken: Taken) -> Result<Parts, Unread>
+pub(crate) fn kept_with(mut parts: Parts, taken: Taken) -> Result<Parts, Unread>
     requires kept { IsKept parts }
     requires limits { IsWithin parts.agents (taken_of taken) }
     ensures { MatchResult result
@@ -207,10 +207,8 @@ pub(crate) fn kept_with(parts: Parts, taken: Taken) -> Result<Parts, Unread>
         × (next ≡ among_with (taken_of taken) parts) × IsKept next)
         (λ why. IfNotThere why (goes_on (taken_of taken) parts ≡ false)) }
 {
-    match taken {
-        Taken::Round(round) => with_round(parts, round),
-        Taken::Ballots(period, acceptor) => with_ballots(parts, period, acceptor),
-        Taken::Learned(period, cut) => with_cut(parts, period, cut),
-        Taken::Batch(batch) => with_batch(parts, batch),
+    match add(&mut parts, taken) {
+        Ok(()) => Ok(parts),
+        Err(why) => Err(why),
     }
 }

@@ -4,11 +4,11 @@ use Rattle.metering_model.specs.KeptText.{KeptAmong}
 use Rattle.node_kept.specs.Kept.{IsKept}
 use Rattle.log_text.specs.LogText.{BeginsRound, among_with}
 use Rattle.log_text.proofs.KeptSteps.{round_kept}
-use Rattle.log_text.proofs.increments.with_round.Goals as goal
+use Rattle.log_text.proofs.increments.add_round.Goals as goal
 
 pub returns : goal.returns
 returns c =
-    let k = c.args.parts in
+    let k = c.args.parts.now in
     let round = c.args.round in
     let own = ap (λ (x : KeptAmong). x.kept.round) c.parts.view_is in
     let next : round ≡ k.kept.round + 1 = omega (arith, own) in

@@ -9,7 +9,7 @@ use Rattle.batch_store.specs.Stores.{Stored}
 use Rattle.node_kept.specs.Kept.{IsKept}
 use Rattle.log_text.specs.LogText.{Takes, among_with, goes_on}
 use Rattle.log_text.proofs.KeptSteps.{batch_kept}
-use Rattle.log_text.proofs.increments.with_batch.Goals as goal
+use Rattle.log_text.proofs.increments.add_batch.Goals as goal
 
 pub returns : goal.returns
 returns c =
@@ -22,4 +22,4 @@ returns c =
     let is =
     ap (λ (s : Stored). record { agents = s.agents; kept = record { round = inside.round; learned = map arc_value inside.learned.items; acceptor = inside.acceptor; holding = s.batches } }) c.in-Ok.ensures.batches
     ∙ ap (among_with (Takes b)) c.parts.view_is in
-    (subst (λ (x : KeptAmong). goes_on (Takes b) x ≡ true) c.parts.view_is goes, is, subst IsKept (sym is) (batch_kept c.args.parts b c.requires.kept))
+    (subst (λ (x : KeptAmong). goes_on (Takes b) x ≡ true) c.parts.view_is goes, is, subst IsKept (sym is) (batch_kept c.args.parts.now b c.requires.kept))
