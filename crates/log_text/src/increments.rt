@@ -182,7 +182,7 @@ fn add_batch(parts: &mut Parts, batch: Arc<OwnedBatch>) -> Result<(), Unread>
 }
 
 /// Adds this, if it goes on from what is kept.
-fn add(parts: &mut Parts, taken: Taken) -> Result<(), Unread>
+pub(crate) fn add(parts: &mut Parts, taken: Taken) -> Result<(), Unread>
     requires kept { IsKept parts.old }
     requires limits { IsWithin parts.old.agents (taken_of taken) }
     ensures { MatchResult result
@@ -195,20 +195,5 @@ fn add(parts: &mut Parts, taken: Taken) -> Result<(), Unread>
         Taken::Ballots(period, acceptor) => add_ballots(parts, period, acceptor),
         Taken::Learned(period, cut) => add_cut(parts, period, cut),
         Taken::Batch(batch) => add_batch(parts, batch),
-    }
-}
-
-/// What is kept when this was added, if it goes on from what is kept.
-pub(crate) fn kept_with(mut parts: Parts, taken: Taken) -> Result<Parts, Unread>
-    requires kept { IsKept parts }
-    requires limits { IsWithin parts.agents (taken_of taken) }
-    ensures { MatchResult result
-        (λ next. (goes_on (taken_of taken) parts ≡ true)
-        × (next ≡ among_with (taken_of taken) parts) × IsKept next)
-        (λ why. IfNotThere why (goes_on (taken_of taken) parts ≡ false)) }
-{
-    match add(&mut parts, taken) {
-        Ok(()) => Ok(parts),
-        Err(why) => Err(why),
     }
 }

@@ -13,7 +13,7 @@ use crate::faults::{LogCode, LogFault, fault_at};
 use crate::head_line::read_head;
 use crate::heads::LogHead;
 use crate::increment_lines::read_increment;
-use crate::increments::kept_with;
+use crate::increments::add;
 use byte_text::first_line;
 use node_kept::{Kept, Parts};
 use std::alloc::Global;
@@ -60,43 +60,41 @@ impl Log {
     }
 }
 
-/// What is kept with the increment that stands first, on the line of that number, how many lines this has, and what
-/// stands behind it.
-fn read_step<'a>(
+/// Adds the increment that stands first, on the line of that number, to what is kept. It returns how many lines this
+/// has, and what stands behind it.
+fn add_step<'a>(
     alloc: Global,
-    parts: Parts,
+    parts: &mut Parts,
     number: u64,
     line: &[u8],
     below: &'a [u8],
-) -> Result<(Parts, u64, &'a [u8]), LogFault>
-    requires { IsKept parts }
+) -> Result<(u64, &'a [u8]), LogFault>
+    requires { IsKept parts.old }
     ensures { MatchResult result
-        (λ read. IsStep parts line.now below.now read.0 read.1 read.2.now)
-        (λ fault. IfTold fault (HasNoStep parts number line.now below.now)) }
+        (λ read. IsStep parts.old line.now below.now parts.new read.0 read.1.now)
+        (λ fault. IfTold fault (HasNoStep parts.old number line.now below.now)) }
 {
     let agents = parts.store.agents();
     let (taken, behind) = read_increment(alloc, number, line, below, agents)?;
     let lines = taken.lines();
-    match kept_with(parts, taken) {
-        Ok(next) => Ok((next, lines, behind)),
+    match add(parts, taken) {
+        Ok(()) => Ok((lines, behind)),
         Err(why) => Err(fault_at(number, LogCode::Increment, why)),
     }
 }
 
-/// What is kept when all increments were added, of which the first stands on that line.
-fn read_increments(alloc: Global, text: &[u8], first: u64, parts: Parts) -> Result<Parts, LogFault>
-    requires kept { IsKept parts }
+/// Adds all increments, of which the first stands on that line, to what is kept.
+fn add_increments(alloc: Global, text: &[u8], first: u64, parts: &mut Parts) -> Result<(), LogFault>
+    requires kept { IsKept parts.old }
     requires lines { first + length (lines_in text.now).lines ≤ 10_000_000_000 }
     ensures { MatchResult result
-        (λ kept. IsKept kept × (kept_below first parts text.now ≡ Ok kept))
-        (λ fault. IfTold fault (λ f. kept_below first parts text.now ≡ Err f)) }
+        (λ _. IsKept parts.new × (kept_below first parts.old text.now ≡ Ok parts.new))
+        (λ fault. IfTold fault (λ f. kept_below first parts.old text.now ≡ Err f)) }
 {
-    let mut kept = parts;
     let mut rest = text;
     let mut line = first;
     while let Some((here, below)) = first_line(rest) {
-        let (next, lines, behind) = read_step(alloc, kept, line, here, below)?;
-        kept = next;
+        let (lines, behind) = add_step(alloc, parts, line, here, below)?;
         line += lines;
         rest = behind;
     }
@@ -106,7 +104,7 @@ fn read_increments(alloc: Global, text: &[u8], first: u64, parts: Parts) -> Resu
             line,
         });
     }
-    Ok(kept)
+    Ok(())
 }
 
 /// What is kept by the lines below a head line.
@@ -118,8 +116,8 @@ fn read_below(alloc: Global, agents: u8, text: &[u8]) -> Result<Kept, LogFault>
         (λ kept. all_below agents text.now ≡ Ok kept)
         (λ fault. IfTold fault (λ f. all_below agents text.now ≡ Err f)) }
 {
-    let (parts, first, left) = read_base(alloc, agents, text)?;
-    let parts = read_increments(alloc, left, first, parts)?;
+    let (mut parts, first, left) = read_base(alloc, agents, text)?;
+    add_increments(alloc, left, first, &mut parts)?;
     Ok(Kept::of(parts))
 }
 

@@ -2,10 +2,10 @@
 use Rattle.std.proofs.Common.{length}
 use Rattle.metering_model.specs.BatchReading.{lines_in}
 use Rattle.log_text.proofs.ReadLogs.{ReadsOn}
-use Rattle.log_text.proofs.reading.read_increments.Given as goal
+use Rattle.log_text.proofs.reading.add_increments.Given as goal
 
 abbrev pub invariant-loop-here : goal.invariant-loop-here
-invariant-loop-here l = ReadsOn l.text l.first l.fn.parts l.line l.kept l.rest
+invariant-loop-here l = ReadsOn l.text l.first l.fn.parts l.line l.parts l.rest
 
 abbrev pub decreases-loop-here : goal.decreases-loop-here
 decreases-loop-here l = length (lines_in l.rest).lines
