@@ -1,6 +1,6 @@
 -- What is lent of a plan, and what one event more has done.
-use Rattle.std.proofs.Common.{◌≡◌, ◌<◌, ◌≤◌, ◌&&◌, ℕ, suc, Bool, true, false, cond, nat_eq, nat_lt, List, [], ◌∷◌, length, map, get_or, Option, Some, None, Result, Ok, refl, sym, ap, ap₂, ◌∙◌, arith, lt-ltb}
-use Rattle.std.specs.Prelude.{◌↔◌, IsTrue, not, nat_le}
+use Rattle.std.proofs.Common.{◌≡◌, ◌<◌, ◌≤◌, ◌&&◌, ℕ, suc, Bool, true, false, cond, nat_eq, nat_lt, List, [], ◌∷◌, length, map, get_or, Option, Some, None, Result, Ok, refl, sym, ap, ap₂, ◌∙◌, arith, lt-ltb, subst}
+use Rattle.std.specs.Prelude.{◌↔◌, IfOk, IsTrue, not, nat_le}
 use Rattle.std.specs.Option.{option_and_then, option_map_or}
 use Rattle.std.proofs.lemmas.Bool.{and_from, eq-eqb}
 use Rattle.std.proofs.lemmas.List.{get_or-map, length-map}
@@ -19,11 +19,12 @@ use Rattle.group_events.specs.Replies.{is_refused}
 use Rattle.schedule_reader.specs.Schedules.{Preamble, event_in, events_in, preamble_in}
 use Rattle.schedule_reader.proofs.PreambleLaws.{taken_behind}
 use Rattle.schedule_writer.specs.Schedules.{learned_in}
+use Rattle.schedule_writer.specs.declared.faults.Stop.{Stop}
 use Rattle.schedule_writer.specs.declared.inputs.Offered.{Offered as LentBatch}
 use Rattle.schedule_writer.specs.declared.plans.Plan.{Plan as LentPlan}
 use Rattle.schedule_writer.specs.declared.plans.Seen.{Seen}
 use Rattle.schedule_writer.specs.Inner.Certified.{IsCertified}
-use Rattle.schedule_writer.specs.Inner.Plans.{IsDone, Plan, all_seen, behind, behind_all, behind_taken, is_behind, is_next, journals_behind, nothing_seen, offered_of, plan_of}
+use Rattle.schedule_writer.specs.Inner.Plans.{IsDone, IsDoneNext, Plan, all_seen, behind, behind_all, behind_taken, is_behind, is_next, journals_behind, nothing_seen, offered_of, plan_of}
 use Rattle.schedule_writer.proofs.JournalLaws.{journals_after}
 
 pub next_is : (p : LentPlan) (seen : Seen) (text : List ℕ) (d : LentBatch) → seen.journaled < length p.batches.now
@@ -71,6 +72,17 @@ kept_journals plan seen next w v e event before after one behind_it same old new
     new ∙ (ap₂ journals_behind old same
     ∙ (sym (journals_after w (event_of e) (not_refused plan seen next w.journals (step w (event_of e)).0 e one)) ∙ ap (λ (x : World). x.journals) (sym behind_it)))
 
+-- what was done behind an event that the world took, and the world behind it
+pub behind_made : (plan : Plan) (seen next : Seen) (w v : World) (h : Holding) (r : Reply) (e : Planned) (event : Event) (result : Result (Option Seen) Stop)
+    → (r, v) ≡ step w event → event ≡ event_of e → h ≡ w.journals → IfOk result (λ n. n ≡ behind plan seen h r e) → result ≡ Ok (Some next)
+    → (behind plan seen w.journals (step w (event_of e)).0 e ≡ Some next) × (v ≡ (step w (event_of e)).1)
+behind_made plan seen next w v h r e event result stepped made same is here =
+    let there : ◌≡◌ {A = Reply × World} (r, v) (step w (event_of e)) = stepped ∙ ap (step w) made in
+    let one : Some next ≡ behind plan seen h r e = subst (λ (x : Result (Option Seen) Stop). IfOk x (λ n. n ≡ behind plan seen h r e)) here is in (
+      ap₂ (λ j q. behind plan seen j q e) (sym same) (sym (ap (λ (p : Reply × World). p.0) there)) ∙ sym one,
+      ap (λ (p : Reply × World). p.1) there,
+    )
+
 not_empty : {A : Type 0} (t : List ℕ) (x y : A) → 0 < length t → cond (is_empty t) x y ≡ y
 not_empty [] x y some = absurd (omega arith)
 not_empty (c ∷ cs) x y some = refl
@@ -80,21 +92,20 @@ all_empty [] x y none = refl
 all_empty (c ∷ cs) x y none = absurd (omega arith)
 
 module _ (plan : Plan) where
-  pub done_more : (seen next last : Seen) (w v : World) (k most : ℕ) (u : Unread) (e : Planned × Unread) → most ≡ suc k → 0 < length (left u) → event_in u ≡ Ok e
-      → behind plan seen w.journals (step w (event_of e.0)).0 e.0 ≡ Some next → v ≡ (step w (event_of e.0)).1
-      → IsDone plan next last v (events_in k e.1) → IsDone plan seen last w (events_in most u)
+  pub done_more : (seen next last : Seen) (w v : World) (k most : ℕ) (u rest : Unread) → most ≡ suc k → 0 < length (left u) → IsDoneNext plan seen next w v u rest
+      → IsDone plan next last v (events_in k rest) → IsDone plan seen last w (events_in most u)
   unfolding events_in behind_all
-  done_more seen next last w v k most u e more some here one after is =
+  done_more seen next last w v k most u rest more some one is =
       record {
-        events = e.0 ∷ is.events;
+        events = one.event ∷ is.events;
         is_read =
             ap (λ n. events_in n u) more
             ∙ (not_empty (left u) (Ok []) (event_in u >>= λ (x : Planned × Unread). events_in k x.1 >>= λ (es : List Planned). Ok (x.0 ∷ es)) some
-            ∙ (ap (λ (r : Result (Planned × Unread) ScheduleFault). r >>= λ (x : Planned × Unread). events_in k x.1 >>= λ (es : List Planned). Ok (x.0 ∷ es)) here
-            ∙ ap (λ (r : Result (List Planned) ScheduleFault). r >>= λ (es : List Planned). Ok (e.0 ∷ es)) is.is_read));
+            ∙ (ap (λ (r : Result (Planned × Unread) ScheduleFault). r >>= λ (x : Planned × Unread). events_in k x.1 >>= λ (es : List Planned). Ok (x.0 ∷ es)) one.is_read
+            ∙ ap (λ (r : Result (List Planned) ScheduleFault). r >>= λ (es : List Planned). Ok (one.event ∷ es)) is.is_read));
         done =
-            ap (option_and_then (λ n. behind_all plan n (step w (event_of e.0)).1 is.events)) one
-            ∙ (ap (λ x. behind_all plan next x is.events) (sym after) ∙ is.done);
+            ap (option_and_then (λ n. behind_all plan n (step w (event_of one.event)).1 is.events)) one.done
+            ∙ (ap (λ x. behind_all plan next x is.events) (sym one.after) ∙ is.done);
       }
 
   -- nothing more is left, or nothing more is looked at

@@ -1,7 +1,7 @@
 //! Whether a text is a schedule that does what was planned. It is read as `play` reads it, and its events are done as they are read;
 //! the files are not made.
 
-ghost use Rattle.std.specs.Prelude.{◌≡◌, ◌+◌, ◌≤◌, [], IfOk, IsTrue, Ok, OnOk, Some};
+ghost use Rattle.std.specs.Prelude.{◌≡◌, ◌+◌, ◌≤◌, [], IfOk, IsTrue, Ok, OnOk, Some, length};
 ghost use Rattle.std.specs.Arc.{arc_value};
 ghost use Rattle.metering_model.specs.Limits.{last_period, most_agents, most_nodes};
 ghost use Rattle.metering_model.specs.Schedule.{event_of};
@@ -9,10 +9,10 @@ ghost use Rattle.metering_model.specs.Step.{step};
 ghost use Rattle.metering_model.specs.World.{opening};
 ghost use Rattle.group_events.specs.Events.{event_of as offered_event};
 ghost use Rattle.group_events.specs.Replies.{reply_of};
-ghost use Rattle.schedule_reader.specs.Events.{HasWholeLines, StandsFrom, planned_of};
+ghost use Rattle.schedule_reader.specs.Events.{HasWholeLines, planned_of};
 ghost use Rattle.schedule_reader.specs.Schedules.{events_in, preamble_in};
 ghost use Rattle.schedule_writer.specs.Inner.Certified.{IsCertified};
-ghost use Rattle.schedule_writer.specs.Inner.Plans.{IsDone, IsWithinGroup, all_seen, behind, journals_behind, nothing_seen, plan_of};
+ghost use Rattle.schedule_writer.specs.Inner.Plans.{IsDone, IsDoneNext, IsWithinGroup, behind, journals_behind, nothing_seen, plan_of};
 
 use crate::faults::Stop;
 use crate::plans::{Plan, Seen};
@@ -45,55 +45,8 @@ fn keep_batch(journals: &mut Store, event: &Event) -> Result<(), Stop>
     }
 }
 
-/// What was done behind an event and its reply, with these journals before it.
-fn next_seen(
-    alloc: Global,
-    plan: &Plan<'_>,
-    seen: Seen,
-    journals: &Store,
-    planned: &Planned<'_>,
-    reply: &Reply,
-) -> Result<Seen, Stop>
-    requires plan { IsWithinGroup plan.now }
-    requires whole { HasWholeLines planned.now }
-    ensures { IfOk result (λ next. behind (plan_of plan.now) seen journals.now.batches
-        (reply_of reply.now) (planned_of planned.now) ≡ Some next) }
-{
-    match plan.behind(alloc, seen, journals, planned, reply) {
-        Ok(Some(next)) => Ok(next),
-        Ok(None) => Err(Stop::NotClosed),
-        Err(stop) => Err(stop),
-    }
-}
-
-/// Does an event that was made of what is planned, and answers what was done behind it. Its batch is not kept.
-fn step_seen(
-    alloc: Global,
-    plan: &Plan<'_>,
-    world: &mut World,
-    journals: &Store,
-    seen: Seen,
-    planned: &Planned<'_>,
-    event: &Event,
-) -> Result<Seen, Stop>
-    requires plan { IsWithinGroup plan.now }
-    requires whole { HasWholeLines planned.now }
-    requires event { offered_event event.now ≡ event_of (planned_of planned.now) }
-    ensures seen { IfOk result
-        (λ next. behind (plan_of plan.now) seen journals.now.batches
-        (step world.old (event_of (planned_of planned.now))).0 (planned_of planned.now)
-        ≡ Some next) }
-    ensures world { OnOk result
-        (world.new ≡ (step world.old (event_of (planned_of planned.now))).1) }
-{
-    let Ok(reply) = world.step(alloc, event) else {
-        return Err(Stop::OutOfMemory);
-    };
-    next_seen(alloc, plan, seen, journals, planned, &reply)
-}
-
-/// The same, and the batch of the event is kept, if it has one. The event is by reference, for the prover's time alone
-/// (docs/DECISIONS.md).
+/// Does an event that was made of what is planned, keeps its batch, if it has one, and answers what was done behind it. The event
+/// is by reference, for the prover's time alone (docs/DECISIONS.md).
 fn do_made(
     alloc: Global,
     plan: &Plan<'_>,
@@ -115,37 +68,53 @@ fn do_made(
         (world.new ≡ (step world.old (event_of (planned_of planned.now))).1) }
     ensures journals { OnOk result (journals.new.batches ≡ world.new.journals) }
 {
-    let next = step_seen(alloc, plan, world, journals, seen, planned, event)?;
-    keep_batch(journals, event)?;
-    Ok(next)
+    let Ok(reply) = world.step(alloc, event) else {
+        return Err(Stop::OutOfMemory);
+    };
+    let next = plan.behind(alloc, seen, journals, planned, &reply);
+    // Dropped by a call for the prover's time alone (docs/DECISIONS.md).
+    drop(reply);
+    match next {
+        Ok(Some(next)) => match keep_batch(journals, event) {
+            Ok(()) => Ok(next),
+            Err(stop) => Err(stop),
+        },
+        Ok(None) => Err(Stop::NotClosed),
+        Err(stop) => Err(stop),
+    }
 }
 
-/// Does one event, of which what is journaled stands in the text from a place on, and answers what was done behind it.
-fn do_event(
+/// Reads the event that stands next in the text, does it, and answers what was done behind it, and what is left of the text.
+fn do_next<'a>(
     alloc: Global,
     plan: &Plan<'_>,
     world: &mut World,
     journals: &mut Store,
     seen: Seen,
     text: &Arc<Vec<u8>>,
-    planned: &Planned<'_>,
-    from: usize,
-) -> Result<Seen, Stop>
+    here: &Unread<'a>,
+) -> Result<(Seen, Unread<'a>), Stop>
     requires plan { IsWithinGroup plan.now }
-    requires whole { HasWholeLines planned.now }
-    requires there { StandsFrom (arc_value text.now).items from planned.now }
+    requires text { here.now.text ≡ (arc_value text.now).items }
+    requires within { here.now.from ≤ length (arc_value text.now).items }
     requires same { journals.old.batches ≡ world.old.journals }
-    ensures seen { IfOk result
-        (λ next. behind (plan_of plan.now) seen world.old.journals
-        (step world.old (event_of (planned_of planned.now))).0 (planned_of planned.now)
-        ≡ Some next) }
-    ensures world { OnOk result
-        (world.new ≡ (step world.old (event_of (planned_of planned.now))).1) }
+    ensures done { IfOk result (λ next. IsDoneNext
+        (plan_of plan.now) seen next.0 world.old world.new here.now next.1) }
+    ensures left { IfOk result (λ next. (next.1.text ≡ (arc_value text.now).items)
+        × (next.1.from ≤ length (arc_value text.now).items)) }
     ensures journals { OnOk result (journals.new.batches ≡ world.new.journals) }
 {
-    match event_within(alloc, text, planned, from) {
-        Ok(event) => do_made(alloc, plan, world, journals, seen, planned, &event),
-        Err(_) => Err(Stop::OutOfMemory),
+    let Ok(parts) = event_in(here) else {
+        return Err(Stop::NotClosed);
+    };
+    let (planned, rest) = parts;
+    let from = planned.journal_from(rest.from());
+    let Ok(event) = event_within(alloc, text, &planned, from) else {
+        return Err(Stop::OutOfMemory);
+    };
+    match do_made(alloc, plan, world, journals, seen, &planned, &event) {
+        Ok(next) => Ok((next, rest)),
+        Err(stop) => Err(stop),
     }
 }
 
@@ -178,13 +147,13 @@ fn do_events(
         if here.left().is_empty() {
             return Ok(seen);
         }
-        let (planned, rest) = match event_in(&here) {
-            Ok(parts) => parts,
-            Err(_) => return Err(Stop::NotClosed),
-        };
-        let from = planned.journal_from(rest.from());
-        seen = do_event(alloc, plan, world, journals, seen, text, &planned, from)?;
-        here = rest;
+        match do_next(alloc, plan, world, journals, seen, text, &here) {
+            Ok((next, rest)) => {
+                seen = next;
+                here = rest;
+            }
+            Err(stop) => return Err(stop),
+        }
     }
     Ok(seen)
 }
@@ -249,7 +218,7 @@ fn read_above<'a>(
     }
 }
 
-/// Does the events that are left of the text in a group without journals. Ok where they do all that was planned.
+/// Does the events that are left of the text in a group without journals, and answers what was done behind them.
 fn do_all(
     alloc: Global,
     plan: &Plan<'_>,
@@ -258,38 +227,34 @@ fn do_all(
     text: &Arc<Vec<u8>>,
     unread: Unread<'_>,
     most: usize,
-) -> Result<(), Stop>
+) -> Result<Seen, Stop>
     requires plan { IsWithinGroup plan.now }
     requires text { unread.text ≡ (arc_value text.now).items }
     requires agents { (1 ≤ agents) × (agents ≤ most_agents) }
     requires opened { world.old.journals ≡ [] }
-    ensures { OnOk result (IsDone (plan_of plan.now) nothing_seen (all_seen (plan_of plan.now))
-        world.old (events_in most unread.entry)) }
+    ensures { IfOk result
+        (λ seen. IsDone (plan_of plan.now) nothing_seen seen world.old
+        (events_in most unread.entry)) }
 {
     let Ok(mut journals) = Store::new(alloc, agents) else {
         return Err(Stop::OutOfMemory);
     };
-    let seen = do_events(alloc, plan, world, &mut journals, text, unread, most)?;
-    if plan.is_done(seen) {
-        Ok(())
-    } else {
-        Err(Stop::NotClosed)
-    }
+    do_events(alloc, plan, world, &mut journals, text, unread, most)
 }
 
-/// Does the events of a text in a group of what stands above them. Ok where they do all that was planned.
+/// Does the events of a text in a group of what stands above them, and answers what was done behind them.
 fn do_behind(
     alloc: Global,
     plan: &Plan<'_>,
     text: &Arc<Vec<u8>>,
     above: Preamble<'_>,
     most: usize,
-) -> Result<(), Stop>
+) -> Result<Seen, Stop>
     requires plan { IsWithinGroup plan.now }
     requires text { above.rest.text ≡ (arc_value text.now).items }
     requires nodes { (1 ≤ above.voters) × (above.voters + above.observers ≤ most_nodes) }
     requires agents { (1 ≤ above.agents) × (above.agents ≤ most_agents) }
-    ensures { OnOk result (IsDone (plan_of plan.now) nothing_seen (all_seen (plan_of plan.now))
+    ensures { IfOk result (λ seen. IsDone (plan_of plan.now) nothing_seen seen
         (opening above.entry.voters above.entry.observers above.entry.agents
         above.entry.sheet above.entry.issuer)
         (events_in most above.entry.rest)) }
@@ -327,5 +292,10 @@ pub(crate) fn certify(
         plan.now.voters plan.now.observers agents plan.now.sheet.now issuer.now lent.now) }
 {
     let above = read_above(alloc, plan, agents, issuer, lent)?;
-    do_behind(alloc, plan, text, above, lent.len())
+    let seen = do_behind(alloc, plan, text, above, lent.len())?;
+    if plan.is_done(seen) {
+        Ok(())
+    } else {
+        Err(Stop::NotClosed)
+    }
 }

@@ -55,13 +55,14 @@ fn check_offered(
     ensures world { OnOk result
         (world.new ≡ (step world.old (journal_of (offered_of offered.now))).1) }
 {
-    let offer = read_offer(alloc, offered.text)?;
+    let Ok(offer) = read_offer(alloc, offered.text) else {
+        return Err(AllocError);
+    };
     let event = Event::Journal(offer);
-    let journaled = journal_offered(alloc, world, input, offered, Some(above), &event, told)?;
-    if journaled {
-        put_ahead_of(latest, warned, above, &event)
-    } else {
-        Ok(())
+    match journal_offered(alloc, world, input, offered, Some(above), &event, told) {
+        Ok(true) => put_ahead_of(latest, warned, above, &event),
+        Ok(false) => Ok(()),
+        Err(error) => Err(error),
     }
 }
 
@@ -94,8 +95,10 @@ fn check_item(
     match item {
         Item::Closes => Ok(length),
         Item::Offers(offered) => {
-            check_offered(alloc, world, input, above, &offered, told, latest, warned)?;
-            Ok(length)
+            match check_offered(alloc, world, input, above, &offered, told, latest, warned) {
+                Ok(()) => Ok(length),
+                Err(error) => Err(error),
+            }
         }
     }
 }
@@ -189,7 +192,7 @@ fn put_said(
 }
 
 /// What is to have a schedule.
-#[derive(Clone, Copy, Drop)]
+#[derive(Drop)]
 struct ToSchedule;
 
 impl Check for ToSchedule {

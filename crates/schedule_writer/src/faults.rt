@@ -48,7 +48,7 @@ impl From<ScheduleFault> for WriteFault {
 }
 
 /// Why a step stopped that reads nothing and writes nothing.
-#[derive(Clone, Copy, Debug, PartialEq, Eq, Drop)]
+#[derive(Clone, Copy, Drop)]
 pub(crate) enum Stop {
     TooLong,
     NotClosed,

@@ -18,7 +18,7 @@ pub(crate) struct Offered<'a> {
 }
 
 /// What stands next in an input.
-#[derive(Clone, Copy, Drop)]
+#[derive(Drop)]
 pub(crate) enum Item<'a> {
     Offers(Offered<'a>),
     /// A line that closes the period which is open.

@@ -254,9 +254,13 @@ fn take_item<'a>(
             Err(_) => Err(WriteFault::OutOfMemory),
         },
         Item::Offers(offered) => {
-            let asked = judge(alloc, world, sheet, input, &offered, items.asked)?;
-            put_batch(items, offered, asked)?;
-            Ok(length)
+            match judge(alloc, world, sheet, input, &offered, items.asked) {
+                Ok(asked) => match put_batch(items, offered, asked) {
+                    Ok(()) => Ok(length),
+                    Err(fault) => Err(fault),
+                },
+                Err(fault) => Err(fault),
+            }
         }
     }
 }

@@ -113,7 +113,9 @@ pub(crate) fn journal_offered(
     ensures refused { IfOk result (λ is. is ≡ false
         → (why : Refusal) × (answer_to world.old offered.now.text.now ≡ Refused why)) }
 {
-    let reply = world.step(alloc, event)?;
+    let Ok(reply) = world.step(alloc, event) else {
+        return Err(AllocError);
+    };
     let refusal = refusal_of(&reply);
     // Dropped by a call for the prover's time alone (docs/DECISIONS.md).
     drop(reply);
@@ -121,8 +123,10 @@ pub(crate) fn journal_offered(
         None => Ok(true),
         Some(refusal) => {
             let bad = bad_record(world, event, offered.text, refusal);
-            put_refusal(told, world, input, offered, known, bad, refusal)?;
-            Ok(false)
+            match put_refusal(told, world, input, offered, known, bad, refusal) {
+                Ok(()) => Ok(false),
+                Err(error) => Err(error),
+            }
         }
     }
 }

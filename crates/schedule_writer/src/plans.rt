@@ -20,7 +20,7 @@ use schedule_reader::Planned;
 use std::alloc::Global;
 
 /// What a schedule is to journal and to close.
-#[derive(Clone, Copy, Drop)]
+#[derive(Drop)]
 pub(crate) struct Plan<'a> {
     pub(crate) voters: u8,
     pub(crate) observers: u8,

@@ -12,6 +12,8 @@ use Rattle.metering_model.specs.Step.{step}
 use Rattle.metering_model.specs.World.{World, Event, Journal, Good, Reply, Exported}
 use Rattle.group_events.specs.Replies.{is_refused}
 use Rattle.input_sections.specs.declared.faults.ScheduleFault.{ScheduleFault}
+use Rattle.input_sections.specs.Sections.{Unread}
+use Rattle.schedule_reader.specs.Schedules.{event_in}
 use Rattle.schedule_writer.specs.declared.inputs.Item.{Item as LentItem}
 use Rattle.schedule_writer.specs.declared.inputs.Item.TheVariants as lent
 use Rattle.schedule_writer.specs.declared.inputs.Offered.{Offered as LentBatch}
@@ -115,6 +117,13 @@ pub record IsDone (plan : Plan) (seen last : Seen) (w : World) (read : Result (L
   pub events : List Planned
   pub is_read : read ≡ Ok events
   pub done : behind_all plan seen w events ≡ Some last
+
+-- The next event that was read is what is planned, this was done behind it, and the world is as it leaves it.
+pub record IsDoneNext (plan : Plan) (seen next : Seen) (w v : World) (here rest : Unread) : Type 0 where
+  pub event : Planned
+  pub is_read : event_in here ≡ Ok (event, rest)
+  pub done : behind plan seen w.journals (step w (event_of event)).0 event ≡ Some next
+  pub after : v ≡ (step w (event_of event)).1
 
 abbrev pub nothing_seen : Seen
 nothing_seen = record { journaled = 0; ballots = 0; node = 0; period = 0 }

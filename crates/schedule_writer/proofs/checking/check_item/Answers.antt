@@ -30,26 +30,26 @@ pub returns-in-Closes-clause-world : goal.returns-in-Closes-clause-world
 returns-in-Closes-clause-world c =
     world_none c.args.world.now (item_at c.args.input.now c.args.from) (sym (ap item_of c.in-Closes.is) ∙ c.item_at-length.ensures.item)
 
-pub returns-in_ok-check_offered-in-Offers-clause-told : goal.returns-in_ok-check_offered-in-Offers-clause-told
-returns-in_ok-check_offered-in-Offers-clause-told c =
+pub returns-in-Ok-clause-told : goal.returns-in-Ok-clause-told
+returns-in-Ok-clause-told c =
     told_one c.args.input.now c.args.told.now.items c.check_offered.new.told.items c.args.world.now (item_at c.args.input.now c.args.from)
-    (offered_of c.in-Offers.offered) (sym (ap item_of c.in-Offers.is) ∙ c.item_at-length.ensures.item) c.in_ok-check_offered-in-Offers.ensures.told
+    (offered_of c.in-Offers.offered) (sym (ap item_of c.in-Offers.is) ∙ c.item_at-length.ensures.item) c.in-Ok.ensures.told
 
-pub returns-in_ok-check_offered-in-Offers-clause-ahead : goal.returns-in_ok-check_offered-in-Offers-clause-ahead
-returns-in_ok-check_offered-in-Offers-clause-ahead c = λ before latest.
+pub returns-in-Ok-clause-ahead : goal.returns-in-Ok-clause-ahead
+returns-in-Ok-clause-ahead c = λ before latest.
     let same = counted_one c.args.input.now c.args.world.now (item_at c.args.input.now c.args.from) (offered_of c.in-Offers.offered)
     (sym (ap item_of c.in-Offers.is) ∙ c.item_at-length.ensures.item) in
     subst (λ (xs : List (ℕ × Batch)). c.check_offered.new.warned.items ≡ c.args.warned.now.items ++ ahead_of_all before xs) same
-    (c.in_ok-check_offered-in-Offers.ensures.ahead before latest)
+    (c.in-Ok.ensures.ahead before latest)
 
-pub returns-in_ok-check_offered-in-Offers-clause-latest : goal.returns-in_ok-check_offered-in-Offers-clause-latest
-returns-in_ok-check_offered-in-Offers-clause-latest c = λ before latest.
+pub returns-in-Ok-clause-latest : goal.returns-in-Ok-clause-latest
+returns-in-Ok-clause-latest c = λ before latest.
     let same = counted_one c.args.input.now c.args.world.now (item_at c.args.input.now c.args.from) (offered_of c.in-Offers.offered)
     (sym (ap item_of c.in-Offers.is) ∙ c.item_at-length.ensures.item) in
     subst (λ (xs : List (ℕ × Batch)). AreLatest c.check_offered.new.latest (with_journaled xs before)) same
-    (c.in_ok-check_offered-in-Offers.ensures.latest before latest)
+    (c.in-Ok.ensures.latest before latest)
 
-pub returns-in_ok-check_offered-in-Offers-clause-world : goal.returns-in_ok-check_offered-in-Offers-clause-world
-returns-in_ok-check_offered-in-Offers-clause-world c =
+pub returns-in-Ok-clause-world : goal.returns-in-Ok-clause-world
+returns-in-Ok-clause-world c =
     world_one c.args.world.now c.check_offered.new.world (item_at c.args.input.now c.args.from) (offered_of c.in-Offers.offered)
-    (sym (ap item_of c.in-Offers.is) ∙ c.item_at-length.ensures.item) c.in_ok-check_offered-in-Offers.ensures.world
+    (sym (ap item_of c.in-Offers.is) ∙ c.item_at-length.ensures.item) c.in-Ok.ensures.world

@@ -1,4 +1,4 @@
-use Rattle.std.proofs.Common.{◌≡◌, ◌++◌, ℕ, List, OnOk, sym, ap, subst, ◌∙◌, rules}
+use Rattle.std.proofs.Common.{◌≡◌, ◌++◌, ℕ, List, OnOk, sym, ap, subst, ◌∙◌, refl}
 use Rattle.metering_model.specs.Batch.{Batch}
 use Rattle.metering_model.specs.World.{Refused}
 use Rattle.metering_model.specs.declared.Refusal.{Refusal}
@@ -10,30 +10,30 @@ use Rattle.schedule_writer.specs.Inner.Plans.{offered_of}
 use Rattle.schedule_writer.proofs.CountedLaws.{ahead_of_none, handed_in_there, journal_there, none_counted}
 use Rattle.schedule_writer.proofs.checking.check_offered.Goals as goal
 
-pub returns-then-journaled-clause-ahead : goal.returns-then-journaled-clause-ahead
-returns-then-journaled-clause-ahead c = λ before latest.
+pub returns-in-Ok-true-clause-ahead : goal.returns-in-Ok-true-clause-ahead
+returns-in-Ok-true-clause-ahead c = λ before latest.
     let b = offered_of c.args.offered.now in
-    let journaled : IsJournaled (answer_to c.args.world.now b.text) = search rules in
-    let same = handed_in_there c.args.input.now c.args.world.now b c.args.above _ (journal_there b.text c.in_ok-offer.offer c.in_ok-offer.ensures) c.requires.above journaled in
+    let journaled : IsJournaled (answer_to c.args.world.now b.text) = c.in-Ok-true.ensures.journaled c.in-Ok-true.field-0-test in
+    let same = handed_in_there c.args.input.now c.args.world.now b c.args.above _ (journal_there b.text c.in-Ok.offer c.in-Ok.ensures) c.requires.above journaled in
     subst (λ (xs : List (ℕ × Batch)). OnOk c.put_ahead_of.result (c.put_ahead_of.new.warned.items ≡ c.args.warned.now.items ++ ahead_of_all before xs)) same
     (c.put_ahead_of.ensures.said before latest)
 
-pub returns-then-journaled-clause-latest : goal.returns-then-journaled-clause-latest
-returns-then-journaled-clause-latest c = λ before latest.
+pub returns-in-Ok-true-clause-latest : goal.returns-in-Ok-true-clause-latest
+returns-in-Ok-true-clause-latest c = λ before latest.
     let b = offered_of c.args.offered.now in
-    let journaled : IsJournaled (answer_to c.args.world.now b.text) = search rules in
-    let same = handed_in_there c.args.input.now c.args.world.now b c.args.above _ (journal_there b.text c.in_ok-offer.offer c.in_ok-offer.ensures) c.requires.above journaled in
+    let journaled : IsJournaled (answer_to c.args.world.now b.text) = c.in-Ok-true.ensures.journaled c.in-Ok-true.field-0-test in
+    let same = handed_in_there c.args.input.now c.args.world.now b c.args.above _ (journal_there b.text c.in-Ok.offer c.in-Ok.ensures) c.requires.above journaled in
     subst (λ (xs : List (ℕ × Batch)). OnOk c.put_ahead_of.result (AreLatest c.put_ahead_of.new.latest (with_journaled xs before))) same
     (c.put_ahead_of.ensures.kept before latest)
 
-pub returns-clause-ahead : goal.returns-clause-ahead
-returns-clause-ahead c = λ before latest.
+pub returns-in-Ok-false-clause-ahead : goal.returns-in-Ok-false-clause-ahead
+returns-in-Ok-false-clause-ahead c = λ before latest.
     let b = offered_of c.args.offered.now in
-    let refused : (why : Refusal) × (answer_to c.args.world.now b.text ≡ Refused why) = search rules in
+    let refused : (why : Refusal) × (answer_to c.args.world.now b.text ≡ Refused why) = c.in-Ok-false.ensures.refused c.in-Ok-false.field-0-test in
     still c.args.warned.now.items _ (ap (ahead_of_all before) (none_counted c.args.input.now c.args.world.now b refused) ∙ ahead_of_none before)
 
-pub returns-clause-latest : goal.returns-clause-latest
-returns-clause-latest c = λ before latest.
+pub returns-in-Ok-false-clause-latest : goal.returns-in-Ok-false-clause-latest
+returns-in-Ok-false-clause-latest c = λ before latest.
     let b = offered_of c.args.offered.now in
-    let refused : (why : Refusal) × (answer_to c.args.world.now b.text ≡ Refused why) = search rules in
+    let refused : (why : Refusal) × (answer_to c.args.world.now b.text ≡ Refused why) = c.in-Ok-false.ensures.refused c.in-Ok-false.field-0-test in
     subst (λ (xs : List (ℕ × Batch)). AreLatest c.args.latest.now (with_journaled xs before)) (sym (none_counted c.args.input.now c.args.world.now b refused)) latest
