@@ -53,7 +53,7 @@ impl Taken {
     }
 }
 
-// Each of these adds to what is kept, where that goes on. At an error it is not told what is kept then.
+// Each of these adds to what is kept, if it goes on from that. At an error nothing is said of what is kept then.
 
 /// Begins the round, if that is the next one.
 fn add_round(parts: &mut Parts, round: u16) -> Result<(), Unread>
@@ -166,7 +166,8 @@ fn add_batch(parts: &mut Parts, batch: Arc<OwnedBatch>) -> Result<(), Unread>
     requires kept { IsKept parts.old }
     ensures { MatchResult result
         (λ _. (goes_on (Takes (batch_of (arc_value batch))) parts.old ≡ true)
-        × (parts.new ≡ among_with (Takes (batch_of (arc_value batch))) parts.old) × IsKept parts.new)
+        × (parts.new ≡ among_with (Takes (batch_of (arc_value batch))) parts.old)
+        × IsKept parts.new)
         (λ why. IfNotThere why (goes_on (Takes (batch_of (arc_value batch))) parts.old ≡ false)) }
 {
     if batch.view().agent() > parts.store.agents() {
