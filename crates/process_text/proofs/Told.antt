@@ -1,25 +1,27 @@
 -- What stands behind a text where a process that stays as it is answers.
 use Rattle.std.proofs.Common.{◌≡◌, ℕ, List, [], ◌∷◌, ◌++◌, ◌+◌, refl, sym, ap, ap₂, subst, ◌∙◌}
-use Rattle.std.specs.Prelude.{codes, decimal, Option, None, Some, Result, Ok, Err, IfOk, MatchOption}
+use Rattle.std.specs.Prelude.{codes, decimal, Option, None, Some, Result, Ok, Err, IfOk, IfSome, MatchOption}
 use Rattle.std.specs.Arc.{arc_value}
 use Rattle.std.proofs.lemmas.List.{append_assoc}
 use Rattle.metering_model.specs.Batch.{Batch, batch_text, line_of_fields}
 use Rattle.metering_model.specs.Holding.{Holding, held}
 use Rattle.metering_model.specs.KeptText.{kept_text}
-use Rattle.metering_model.specs.Transcript.{file_of, line, line_count, reply_text, with_number}
+use Rattle.metering_model.specs.Transcript.{file_of, if_any, line, line_count, reply_text, with_number}
 use Rattle.metering_model.specs.World as world
 use Rattle.metering_model.specs.declared.Refusal.TheVariants.{Missing}
 use Rattle.process_laws.specs.LocalSteps as model
 use Rattle.packet_text.specs.PacketText.{lines_of_batch}
 use Rattle.log_text.specs.LogText.{Increment, Takes, section_line}
 use Rattle.group_events.specs.Batches.{batch_of}
-use Rattle.group_process.specs.Added.{AddsJust}
-use Rattle.group_process.specs.Answers.{exported_answer, refusal_of}
+use Rattle.group_process.specs.Added.{AddsJust, increment_after}
+use Rattle.group_process.specs.Answers.{Does, begun_answer, exported_answer, refusal_of, taken_answer}
 use Rattle.group_process.specs.Journals.{DoesAsAgent, journaled_answer}
 use Rattle.group_process.specs.declared.agents.Journaled.{Journaled}
+use Rattle.group_process.specs.declared.beginning.Begun.{Begun}
 use Rattle.group_process.specs.declared.refusals.ProcessRefusal.{ProcessRefusal}
+use Rattle.group_process.specs.declared.taking.Taken.{Taken}
 use Rattle.group_process.specs.Selves.{NodeSelf, AgentSelf, kept_of_node, kept_of_agent}
-use Rattle.process_text.specs.Answers.{added_text, answer_text, packet_sent_text, process_refusal_text, refused_text, words_text}
+use Rattle.process_text.specs.Answers.{added_text, addressee, answer_text, packet_sent_text, process_refusal_text, refused_text, words_text}
 use Rattle.process_text.specs.Requests.{AsksNode, AsksAgent}
 use Rattle.process_text.specs.Inner.Written.{AppendsNode, AppendsAgent}
 
@@ -39,16 +41,44 @@ batch_line before group n =
     ∙ append_assoc before (codes "P1|") (group ++ (batch_numbered n ++ 10 ∷ []))
     ∙ ap (λ t. before ++ (codes "P1|" ++ t)) (sym (append_assoc group (batch_numbered n) (10 ∷ [])))
 
+-- a word and a number, and a line feed behind them
+pub line_put : (old one word : List ℕ) (n number : ℕ) → n ≡ number → one ≡ old ++ with_number word n → one ++ 10 ∷ [] ≡ old ++ line (with_number word number)
+line_put old one word n number same put =
+    ap (λ t. t ++ 10 ∷ []) (put ∙ ap (λ k. old ++ with_number word k) same) ∙ append_assoc old (with_number word number) (10 ∷ [])
+
+-- two words, each with a number, and a line feed
+pub two_put : (old one two first second : List ℕ) (n m number other : ℕ) → n ≡ number → m ≡ other → one ≡ old ++ with_number first n
+    → two ≡ one ++ line (with_number second m) → two ≡ old ++ line (with_number first number ++ with_number second other)
+two_put old one two first second n m number other same same' one_put second_put =
+    let w = with_number first number in
+    let v = with_number second other in
+    second_put ∙ ap₂ (λ t k. t ++ line (with_number second k)) (one_put ∙ ap (λ k. old ++ with_number first k) same) same'
+    ∙ append_assoc old w (line v) ∙ ap (λ t. old ++ t) (sym (append_assoc w v (10 ∷ [])))
+
+-- a line above, and what stands below it
+pub below_put : (old above one two below : List ℕ) → one ≡ old ++ above → two ≡ one ++ 10 ∷ [] → two ++ below ≡ old ++ (line above ++ below)
+below_put old above one two below first second =
+    ap (λ t. t ++ below) (second ∙ ap (λ t. t ++ 10 ∷ []) first ∙ append_assoc old above (10 ∷ [])) ∙ append_assoc old (line above) below
+
+-- a word that says that a packet was taken, and the period that was learned by it
+pub delivered_put : (old one two : List ℕ) (learned : Option ℕ) (n period : ℕ) → learned ≡ Some period → n ≡ period
+    → one ≡ old ++ codes "delivered" → two ≡ one ++ line (with_number (codes " learned ") n)
+    → two ≡ old ++ line (codes "delivered" ++ if_any (codes " learned ") learned)
+delivered_put old one two learned n period is same first second =
+    second ∙ ap₂ (λ t k. t ++ line (with_number (codes " learned ") k)) first same
+    ∙ append_assoc old (codes "delivered") (line (with_number (codes " learned ") period))
+    ∙ ap (λ o. old ++ line (codes "delivered" ++ if_any (codes " learned ") o)) (sym is)
+
 -- what a log gets, what is sent to all, and a line that ends with a number
 pub answer_put : (name name' : List ℕ) (added : Option Increment) (packet : world.Packet) (before one two three word : List ℕ) (number number' : ℕ)
-    → one ≡ before ++ added_text added → two ≡ one ++ packet_sent_text name' None packet → three ≡ two ++ with_number word number'
+    → one ≡ before ++ added_text added → two ≡ one ++ packet_sent_text name' None packet → three ≡ two ++ line (with_number word number')
     → name' ≡ name → number' ≡ number
-    → three ++ 10 ∷ [] ≡ before ++ (added_text added ++ packet_sent_text name None packet ++ line (with_number word number))
+    → three ≡ before ++ (added_text added ++ packet_sent_text name None packet ++ line (with_number word number))
 answer_put name name' added packet before one two three word number number' first second third is_name is_number =
     let gets = added_text added in
     let sent : List ℕ → List ℕ = λ n. packet_sent_text n None packet in
     let told : ℕ → List ℕ = λ n. line (with_number word n) in
-    ap (λ t. t ++ 10 ∷ []) third ∙ append_assoc two (with_number word number') (10 ∷ []) ∙ ap (λ t. t ++ told number') second
+    third ∙ ap (λ t. t ++ told number') second
     ∙ ap (λ t. t ++ sent name' ++ told number') first
     ∙ joined before gets (sent name') (told number') ∙ ap (λ t. before ++ t) (sym (append_assoc gets (sent name') (told number')))
     ∙ ap₂ (λ n k. before ++ (gets ++ sent n ++ told k)) is_name is_number
@@ -103,6 +133,44 @@ agent_journals offer old new r j b before after does adds is of put =
       };
       joined = put;
     }
+
+-- ---- what a node begins and takes is told
+
+pub node_begins : (old new : NodeSelf) (b : Begun) (before after : List ℕ) → Does model.BeginBallot old new (begun_answer (Ok b))
+    → AddsJust (kept_of_node old) (kept_of_node new) (increment_after b.added (kept_of_node new))
+    → after ≡ before ++ answer_text new.group.name (λ sent. None) (increment_after b.added (kept_of_node new)) (begun_answer (Ok b))
+    → AppendsNode (AsksNode model.BeginBallot) old new before after
+node_begins old new b before after does adds put = record {
+  said = answer_text new.group.name (λ sent. None) (increment_after b.added (kept_of_node new)) (begun_answer (Ok b));
+  answers = record {
+    answer = begun_answer (Ok b);
+    does = does;
+    added = increment_after b.added (kept_of_node new);
+    adds = adds;
+    text = ap (λ g. answer_text g.name (λ sent. None) (increment_after b.added (kept_of_node new)) (begun_answer (Ok b))) does.group;
+  };
+  joined = put;
+}
+
+pub node_takes : (old new : NodeSelf) (name name' : List ℕ) (p p' taken : world.Packet) (o : Option Taken) (t : Taken) (before after : List ℕ)
+    → name' ≡ name → p' ≡ p → taken ≡ p → o ≡ Some t
+    → Does (model.TakePacket name' p') old new (taken_answer o)
+    → IfSome o (λ t. AddsJust (kept_of_node old) (kept_of_node new) (increment_after t.added (kept_of_node new)))
+    → after ≡ before ++ answer_text new.group.name (addressee new.group.voters taken) (increment_after t.added (kept_of_node new)) (taken_answer (Some t))
+    → AppendsNode (AsksNode (model.TakePacket name p)) old new before after
+node_takes old new name name' p p' taken o t before after is_name is_packet is_taken is does adds put = record {
+  said = answer_text new.group.name (addressee new.group.voters p) (increment_after t.added (kept_of_node new)) (taken_answer (Some t));
+  answers = record {
+    answer = taken_answer (Some t);
+    does = subst (λ q. Does (model.TakePacket name q) old new (taken_answer (Some t))) is_packet
+        (subst (λ n. Does (model.TakePacket n p') old new (taken_answer (Some t))) is_name
+        (subst (λ x. Does (model.TakePacket name' p') old new (taken_answer x)) is does));
+    added = increment_after t.added (kept_of_node new);
+    adds = subst (λ x. IfSome x (λ t. AddsJust (kept_of_node old) (kept_of_node new) (increment_after t.added (kept_of_node new)))) is adds;
+    text = ap (λ g. answer_text g.name (addressee g.voters p) (increment_after t.added (kept_of_node new)) (taken_answer (Some t))) does.group;
+  };
+  joined = put ∙ ap (λ q. before ++ answer_text new.group.name (addressee new.group.voters q) (increment_after t.added (kept_of_node new)) (taken_answer (Some t))) is_taken;
+}
 
 -- ---- what is exported is told
 
@@ -179,10 +247,17 @@ sent_there h agent seq b there = rw (there, model.sending_held) refl
 sent_absent : (h : Holding) (agent seq : ℕ) → held h agent seq ≡ None → model.sending_held h agent seq ≡ given None agent seq
 sent_absent h agent seq absent = rw (absent, model.sending_held) refl
 
-pub node_gives : (n : NodeSelf) (agent seq : ℕ) (before : List ℕ) (b : Batch) → held n.node.kept.holding agent seq ≡ Some b
-    → AppendsNode (AsksNode (model.SendBatch agent seq)) n n before
-    (before ++ packet_sent_text n.group.name None (world.CarriesBatch b) ++ line (codes "sent"))
-node_gives n agent seq before b there = record {
+-- the batch, and that it was sent
+gives : (name name' before one after : List ℕ) (b : Batch) → name' ≡ name → one ≡ before ++ packet_sent_text name' None (world.CarriesBatch b)
+    → after ≡ one ++ line (codes "sent") → after ≡ before ++ (packet_sent_text name None (world.CarriesBatch b) ++ line (codes "sent"))
+gives name name' before one after b is_name first second =
+    second ∙ ap (λ t. t ++ line (codes "sent")) (first ∙ ap (λ n. before ++ packet_sent_text n None (world.CarriesBatch b)) is_name)
+    ∙ append_assoc before (packet_sent_text name None (world.CarriesBatch b)) (line (codes "sent"))
+
+pub node_gives : (n : NodeSelf) (agent seq : ℕ) (name before one after : List ℕ) (b : Batch) → held n.node.kept.holding agent seq ≡ Some b
+    → name ≡ n.group.name → one ≡ before ++ packet_sent_text name None (world.CarriesBatch b) → after ≡ one ++ line (codes "sent")
+    → AppendsNode (AsksNode (model.SendBatch agent seq)) n n before after
+node_gives n agent seq name before one after b there is_name first second = record {
   said = given_text n.group.name (Some b) agent seq;
   answers = record {
     answer = given (Some b) agent seq;
@@ -191,13 +266,13 @@ node_gives n agent seq before b there = record {
     adds = refl;
     text = refl;
   };
-  joined = append_assoc before _ _;
+  joined = gives n.group.name name before one after b is_name first second;
 }
 
-pub node_lacks : (n : NodeSelf) (agent seq : ℕ) (before : List ℕ) → held n.node.kept.holding agent seq ≡ None
-    → AppendsNode (AsksNode (model.SendBatch agent seq)) n n before
-    (before ++ refused_text (process_refusal_text (model.OfModel (Missing agent seq))))
-node_lacks n agent seq before absent = record {
+pub node_lacks : (n : NodeSelf) (agent seq : ℕ) (before after : List ℕ) → held n.node.kept.holding agent seq ≡ None
+    → after ≡ before ++ refused_text (process_refusal_text (model.OfModel (Missing agent seq)))
+    → AppendsNode (AsksNode (model.SendBatch agent seq)) n n before after
+node_lacks n agent seq before after absent put = record {
   said = given_text n.group.name None agent seq;
   answers = record {
     answer = given None agent seq;
@@ -206,13 +281,13 @@ node_lacks n agent seq before absent = record {
     adds = refl;
     text = refl;
   };
-  joined = refl;
+  joined = put;
 }
 
-pub agent_gives : (a : AgentSelf) (seq : ℕ) (before : List ℕ) (b : Batch) → held a.journal a.number seq ≡ Some b
-    → AppendsAgent (AsksAgent (model.SendAgain seq)) a a before
-    (before ++ packet_sent_text a.group.name None (world.CarriesBatch b) ++ line (codes "sent"))
-agent_gives a seq before b there = record {
+pub agent_gives : (a : AgentSelf) (seq : ℕ) (name before one after : List ℕ) (b : Batch) → held a.journal a.number seq ≡ Some b
+    → name ≡ a.group.name → one ≡ before ++ packet_sent_text name None (world.CarriesBatch b) → after ≡ one ++ line (codes "sent")
+    → AppendsAgent (AsksAgent (model.SendAgain seq)) a a before after
+agent_gives a seq name before one after b there is_name first second = record {
   said = given_text a.group.name (Some b) a.number seq;
   answers = record {
     answer = given (Some b) a.number seq;
@@ -221,7 +296,7 @@ agent_gives a seq before b there = record {
     adds = refl;
     text = refl;
   };
-  joined = append_assoc before _ _;
+  joined = gives a.group.name name before one after b is_name first second;
 }
 
 pub agent_lacks : {B : Type 0} (There : B → Type 0) (a : AgentSelf) (seq number : ℕ) (before after : List ℕ) (o : Option B)

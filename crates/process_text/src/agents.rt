@@ -6,16 +6,15 @@ ghost use Rattle.log_text.specs.LogText.{Takes};
 ghost use Rattle.process_laws.specs.LocalSteps.{HasJournaled, JournalBatch, SendAgain, TellJournal};
 ghost use Rattle.group_events.specs.Batches.{batch_of};
 ghost use Rattle.group_events.specs.Events.{offer_of};
-ghost use Rattle.process_text.specs.Answers.{AnswersAgent, agent_begun_text, answer_text};
+ghost use Rattle.process_text.specs.Answers.{AnswersAgent, answer_text};
 ghost use Rattle.process_text.specs.Requests.{AsksAgent, agent_request};
 ghost use Rattle.process_text.specs.Inner.Read.{agent_request_of};
 ghost use Rattle.process_text.specs.Inner.Written.{AppendsAgent};
 
 use crate::answers::{
-    put_added, put_batch, put_kept_text, put_no_command, put_refusal, put_resent,
+    put_added, put_batch, put_kept_text, put_line, put_no_command, put_refusal, put_resent,
 };
 use crate::requests::{AgentRequest, agent_request};
-use byte_text::put_numbered;
 use group_events::{Offer, OwnedBatch};
 use group_process::{AgentProcess, ProcessRefusal};
 use log_text::Increment;
@@ -37,8 +36,7 @@ fn put_journaled(
 {
     put_added(text, Some(Increment::Batch(batch)))?;
     put_batch(text, agent.group().name(), batch)?;
-    put_numbered(text, b"journaled seq ", u128::from(batch.view().seq()))?;
-    text.extend_from_slice(b"\n")
+    put_line(text, b"journaled seq ", batch.view().seq())
 }
 
 /// Has an agent journal what is offered.
@@ -62,7 +60,7 @@ fn keep(alloc: Global, agent: &AgentProcess, text: &mut Vec<u8>) -> Result<(), A
 }
 
 /// Has an agent send a batch once more.
-#[tactic(auto, using(crate::proofs::Told::agent_gives))]
+
 fn again(agent: &AgentProcess, seq: u32, text: &mut Vec<u8>) -> Result<(), AllocError>
     ensures { OnOk result (AppendsAgent (AsksAgent (SendAgain seq))
         agent.now agent.now text.old.items text.new.items) }
@@ -116,15 +114,4 @@ pub(crate) fn answer_agent(
     let request = agent_request(alloc, line, below)?;
     text.clear();
     put_answer(alloc, agent, &request, text)
-}
-
-/// Makes a text what an agent says first: the sequence of its next batch. An error is an allocation failure, and leaves some
-/// of that.
-pub(crate) fn put_agent_begun(agent: &AgentProcess, text: &mut Vec<u8>) -> Result<(), AllocError>
-    ensures { OnOk result
-        (text.new.items ≡ agent_begun_text agent.now.number agent.now.journal) }
-{
-    text.clear();
-    put_numbered(text, b"begun seq ", u128::from(agent.next_seq()))?;
-    text.extend_from_slice(b"\n")
 }

@@ -25,11 +25,12 @@ use std::alloc::{AllocError, Global};
 
 // Each of these appends a piece of an answer. Where an allocation fails some of the piece may stand there.
 
-/// Appends a word, a number of lines, and a line feed.
-fn put_section(text: &mut Vec<u8>, word: &[u8], lines: u32) -> Result<(), AllocError>
-    ensures { OnOk result (text.new.items ≡ text.old.items ++ section_line word.now lines) }
+/// Appends a word, a number, and a line feed.
+pub(crate) fn put_line(text: &mut Vec<u8>, word: &[u8], number: u32) -> Result<(), AllocError>
+    ensures { OnOk result
+        (text.new.items ≡ text.old.items ++ line (with_number word.now number)) }
 {
-    put_numbered(text, word, u128::from(lines))?;
+    put_numbered(text, word, u128::from(number))?;
     text.extend_from_slice(b"\n")
 }
 
@@ -50,7 +51,7 @@ pub(crate) fn put_added(text: &mut Vec<u8>, added: Option<Increment<'_>>) -> Res
 {
     match added {
         Some(increment) => {
-            put_section(text, b"kept ", increment_lines(&increment))?;
+            put_line(text, b"kept ", increment_lines(&increment))?;
             put_increment(text, &increment)
         }
         None => Ok(()),
@@ -87,21 +88,27 @@ fn put_to(text: &mut Vec<u8>, to: Option<u32>, lines: u32) -> Result<(), AllocEr
         ++ section_line (codes "send " ++ addressee_text to ++ codes " ") lines) }
 {
     match to {
-        Some(node) => put_numbered(text, b"send ", u128::from(node))?,
-        None => text.extend_from_slice(b"send all")?,
+        Some(node) => {
+            put_numbered(text, b"send ", u128::from(node))?;
+            put_line(text, b" ", lines)
+        }
+        None => put_line(text, b"send all ", lines),
     }
-    put_section(text, b" ", lines)
 }
 
 /// Appends the line of a packet that carries a batch of so many lines.
-#[tactic(auto, using(crate::proofs::Told::batch_line))]
+
 fn put_batch_line(text: &mut Vec<u8>, group: &[u8], lines: u32) -> Result<(), AllocError>
     ensures { OnOk result (text.new.items ≡ text.old.items
         ++ line_of_fields (codes "P1" ∷ group.now ∷ codes "batch" ∷ decimal lines ∷ [])) }
 {
-    text.extend_from_slice(b"P1|")?;
-    text.extend_from_slice(group)?;
-    put_section(text, b"|batch|", lines)
+    let Ok(()) = text.extend_from_slice(b"P1|") else {
+        return Err(AllocError);
+    };
+    let Ok(()) = text.extend_from_slice(group) else {
+        return Err(AllocError);
+    };
+    put_line(text, b"|batch|", lines)
 }
 
 /// Appends a batch as a packet of the group, which is for all.
@@ -114,8 +121,12 @@ pub(crate) fn put_batch(
         ++ packet_sent_text group.now None (world.CarriesBatch (batch_of batch.now))) }
 {
     let lines = 1 + u32::from(batch.view().count());
-    put_to(text, None, 1 + lines)?;
-    put_batch_line(text, group, lines)?;
+    let Ok(()) = put_to(text, None, 1 + lines) else {
+        return Err(AllocError);
+    };
+    let Ok(()) = put_batch_line(text, group, lines) else {
+        return Err(AllocError);
+    };
     text.extend_from_slice(batch.bytes())
 }
 
@@ -149,10 +160,10 @@ pub(crate) fn put_delivered(text: &mut Vec<u8>, learned: Option<Period>) -> Resu
         ++ line (codes "delivered" ++ if_any (codes " learned ") learned)) }
 {
     text.extend_from_slice(b"delivered")?;
-    if let Some(period) = learned {
-        put_numbered(text, b" learned ", u128::from(period.number()))?;
+    match learned {
+        Some(period) => put_line(text, b" learned ", u32::from(period.number())),
+        None => text.extend_from_slice(b"\n"),
     }
-    text.extend_from_slice(b"\n")
 }
 
 /// Appends a line, and what stands below it.
@@ -160,8 +171,12 @@ fn put_below(text: &mut Vec<u8>, above: &[u8], below: &[u8]) -> Result<(), Alloc
     ensures { OnOk result
         (text.new.items ≡ text.old.items ++ (line above.now ++ below.now)) }
 {
-    text.extend_from_slice(above)?;
-    text.extend_from_slice(b"\n")?;
+    let Ok(()) = text.extend_from_slice(above) else {
+        return Err(AllocError);
+    };
+    let Ok(()) = text.extend_from_slice(b"\n") else {
+        return Err(AllocError);
+    };
     text.extend_from_slice(below)
 }
 
@@ -175,8 +190,12 @@ pub(crate) fn put_file(
         ≡ text.old.items ++ reply_text (world.Exported snapshot.now)) }
 {
     let (mut above, mut file) = (Vec::new(alloc), Vec::new(alloc));
-    snapshot.put_csv(alloc, &mut file)?;
-    put_exported(&mut above, snapshot.period(), line_count(&file))?;
+    let Ok(()) = snapshot.put_csv(alloc, &mut file) else {
+        return Err(AllocError);
+    };
+    let Ok(()) = put_exported(&mut above, snapshot.period(), line_count(&file)) else {
+        return Err(AllocError);
+    };
     put_below(text, &above, &file)
 }
 
@@ -185,8 +204,12 @@ pub(crate) fn put_kept_text(text: &mut Vec<u8>, kept: &[u8]) -> Result<(), Alloc
     ensures { OnOk result
         (text.new.items ≡ text.old.items ++ reply_text (world.KeptText kept.now)) }
 {
-    put_kept(text, line_count(kept))?;
-    text.push(b'\n')?;
+    let Ok(()) = put_kept(text, line_count(kept)) else {
+        return Err(AllocError);
+    };
+    let Ok(()) = text.push(b'\n') else {
+        return Err(AllocError);
+    };
     text.extend_from_slice(kept)
 }
 
@@ -226,26 +249,11 @@ pub(crate) fn put_no_command(text: &mut Vec<u8>) -> Result<(), AllocError>
     text.extend_from_slice(b"refused L6\n")
 }
 
-/// Appends two words, each with a number behind it.
-fn put_two(
-    text: &mut Vec<u8>,
-    first: &[u8],
-    one: u16,
-    second: &[u8],
-    other: u16,
-) -> Result<(), AllocError>
-    ensures { OnOk result (text.new.items
-        ≡ text.old.items ++ (with_number first.now one ++ with_number second.now other)) }
-{
-    put_numbered(text, first, u128::from(one))?;
-    put_numbered(text, second, u128::from(other))
-}
-
 /// Appends in which period a node goes on, and how many ballots it has begun.
 pub(crate) fn put_begun(text: &mut Vec<u8>, period: u16, round: u16) -> Result<(), AllocError>
     ensures { OnOk result (text.new.items
         ≡ text.old.items ++ words_text (NodeWentOn period round)) }
 {
-    put_two(text, b"begun period ", period, b" round ", round)?;
-    text.extend_from_slice(b"\n")
+    put_numbered(text, b"begun period ", u128::from(period))?;
+    put_line(text, b" round ", u32::from(round))
 }

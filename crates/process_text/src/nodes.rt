@@ -6,17 +6,16 @@ ghost use Rattle.process_laws.specs.LocalSteps.{BeginBallot, ExportPeriod, HasBe
 ghost use Rattle.group_node.specs.Packets.{packet_of};
 ghost use Rattle.group_process.specs.Added.{increment_after};
 ghost use Rattle.group_process.specs.Selves.{kept_of_node};
-ghost use Rattle.process_text.specs.Answers.{AnswersNode, addressee, answer_text, node_begun_text};
+ghost use Rattle.process_text.specs.Answers.{AnswersNode, addressee, answer_text};
 ghost use Rattle.process_text.specs.Requests.{AsksNode, node_request};
 ghost use Rattle.process_text.specs.Inner.Read.{node_request_of};
 ghost use Rattle.process_text.specs.Inner.Written.{AppendsNode};
 
 use crate::answers::{
-    addressee, put_added, put_batch, put_begun, put_delivered, put_file, put_foreign,
-    put_kept_text, put_no_command, put_refusal, put_resent, put_sent,
+    addressee, put_added, put_batch, put_delivered, put_file, put_foreign, put_kept_text, put_line,
+    put_no_command, put_refusal, put_resent, put_sent,
 };
 use crate::requests::{NodeRequest, node_request};
-use byte_text::put_numbered;
 use group_node::Packet;
 use group_process::{Begun, NodeProcess, ProcessRefusal, Taken};
 use metering_model::Refusal;
@@ -72,8 +71,7 @@ fn put_started(text: &mut Vec<u8>, node: &NodeProcess, begun: &Begun) -> Result<
 {
     put_added(text, node.increment(begun.added))?;
     put_sent(text, node.group().name(), None, &begun.sends)?;
-    put_numbered(text, b"started ballot ", u128::from(begun.ballot.number()))?;
-    text.extend_from_slice(b"\n")
+    put_line(text, b"started ballot ", begun.ballot.number())
 }
 
 /// Has a node begin a ballot.
@@ -113,7 +111,7 @@ fn keep(alloc: Global, node: &NodeProcess, text: &mut Vec<u8>) -> Result<(), All
 }
 
 /// Has a node send a batch once more.
-#[tactic(auto, using(crate::proofs::Told::node_gives, crate::proofs::Told::node_lacks))]
+
 fn give(node: &NodeProcess, agent: u8, seq: u32, text: &mut Vec<u8>) -> Result<(), AllocError>
     ensures { OnOk result (AppendsNode (AsksNode (SendBatch agent seq))
         node.now node.now text.old.items text.new.items) }
@@ -167,13 +165,4 @@ pub(crate) fn answer_node(
     let request = node_request(alloc, line, below)?;
     text.clear();
     put_answer(alloc, node, &request, text)
-}
-
-/// Makes a text what a node says first: in which period it goes on, and how many ballots it has begun. An error is an
-/// allocation failure, and leaves some of that.
-pub(crate) fn put_node_begun(node: &NodeProcess, text: &mut Vec<u8>) -> Result<(), AllocError>
-    ensures { OnOk result (text.new.items ≡ node_begun_text node.now.node) }
-{
-    text.clear();
-    put_begun(text, node.current_period(), node.round())
 }

@@ -4,9 +4,10 @@ ghost use Rattle.std.specs.Prelude.{◌≡◌, ◌≤◌, OnOk};
 ghost use Rattle.process_text.specs.Answers.{Answers, begun_text};
 ghost use Rattle.process_text.specs.Requests.{lines_below, most_packet_lines};
 
-use crate::agents::{answer_agent, put_agent_begun};
-use crate::nodes::{answer_node, put_node_begun};
-use crate::requests::{agent_lines, node_lines};
+use crate::agents::answer_agent;
+use crate::answers::{put_begun, put_line};
+use crate::nodes::answer_node;
+use crate::requests::{journal_lines, packet_lines};
 use group_process::{AgentProcess, NodeProcess};
 use std::alloc::{AllocError, Global};
 
@@ -24,8 +25,8 @@ impl Process {
         ensures most { result ≤ most_packet_lines }
     {
         match self {
-            Process::Node(_) => node_lines(line),
-            Process::Agent(_) => agent_lines(line),
+            Process::Node(_) => packet_lines(line).unwrap_or(0),
+            Process::Agent(_) => journal_lines(line).unwrap_or(0),
         }
     }
 
@@ -52,9 +53,10 @@ impl Process {
     pub fn put_begun(&self, text: &mut Vec<u8>) -> Result<(), AllocError>
         ensures { OnOk result (text.new.items ≡ begun_text self.now) }
     {
+        text.clear();
         match self {
-            Process::Node(node) => put_node_begun(node, text),
-            Process::Agent(agent) => put_agent_begun(agent, text),
+            Process::Node(node) => put_begun(text, node.current_period(), node.round()),
+            Process::Agent(agent) => put_line(text, b"begun seq ", agent.next_seq()),
         }
     }
 }

@@ -1,7 +1,6 @@
 //! What a node and an agent are asked: a line, and the lines that it says to be below it.
 
 ghost use Rattle.std.specs.Prelude.{◌≡◌, ◌≤◌, codes, IfOk, IfSome};
-ghost use Rattle.std.specs.Option.{unwrap_or};
 ghost use Rattle.metering_model.specs.Limits.{most_journal_lines};
 ghost use Rattle.metering_model.specs.World as world;
 ghost use Rattle.input_sections.specs.Sections.{number_behind};
@@ -53,7 +52,7 @@ pub(crate) enum AgentRequest {
 }
 
 /// How many lines a line says to be below it where it hands a packet to a node, else None.
-fn packet_lines(line: &[u8]) -> Option<u32>
+pub(crate) fn packet_lines(line: &[u8]) -> Option<u32>
     ensures value { result ≡ number_behind (codes "packet ") most_packet_lines line.now }
     ensures most { IfSome result (λ lines. lines ≤ most_packet_lines) }
 {
@@ -61,35 +60,11 @@ fn packet_lines(line: &[u8]) -> Option<u32>
 }
 
 /// How many lines a line says to be below it where it hands a batch to an agent, else None.
-fn journal_lines(line: &[u8]) -> Option<u32>
+pub(crate) fn journal_lines(line: &[u8]) -> Option<u32>
     ensures value { result ≡ number_behind (codes "journal ") most_journal_lines line.now }
     ensures most { IfSome result (λ lines. lines ≤ most_journal_lines) }
 {
     number_behind(line, b"journal ", MOST_JOURNAL_LINES)
-}
-
-/// How many lines below it belong to a line that a node is asked with: at most 1,002.
-pub(crate) fn node_lines(line: &[u8]) -> u32
-    ensures value { result
-        ≡ unwrap_or (number_behind (codes "packet ") most_packet_lines line.now) 0 }
-    ensures most { result ≤ most_packet_lines }
-{
-    match packet_lines(line) {
-        Some(lines) => lines,
-        None => 0,
-    }
-}
-
-/// How many lines below it belong to a line that an agent is asked with: at most 1,001.
-pub(crate) fn agent_lines(line: &[u8]) -> u32
-    ensures value { result
-        ≡ unwrap_or (number_behind (codes "journal ") most_journal_lines line.now) 0 }
-    ensures most { result ≤ most_journal_lines }
-{
-    match journal_lines(line) {
-        Some(lines) => lines,
-        None => 0,
-    }
 }
 
 /// The period that is to be exported.
@@ -103,9 +78,15 @@ fn read_period(line: &[u8]) -> Option<u16>
 fn read_place(text: &[u8]) -> Option<(u8, u32)>
     ensures { result ≡ place_in text.now }
 {
-    let space = find_byte(text, b' ')?;
-    let agent = read_whole(&text[..space], 1, 64)?;
-    let seq = read_whole(&text[space + 1..], 1, 1_000_000)?;
+    let Some(space) = find_byte(text, b' ') else {
+        return None;
+    };
+    let Some(agent) = read_whole(&text[..space], 1, 64) else {
+        return None;
+    };
+    let Some(seq) = read_whole(&text[space + 1..], 1, 1_000_000) else {
+        return None;
+    };
     Some((agent as u8, seq))
 }
 
@@ -153,11 +134,10 @@ pub(crate) fn node_request(
     if packet_lines(line).is_none() {
         return Ok(line_request(line));
     }
-    let read = read_packet(alloc, below)?;
-    Ok(match read {
-        Some(packet) => NodeRequest::Packet(packet),
-        None => NodeRequest::NoPacket,
-    })
+    match read_packet(alloc, below)? {
+        Some(packet) => Ok(NodeRequest::Packet(packet)),
+        None => Ok(NodeRequest::NoPacket),
+    }
 }
 
 /// What the bytes of a batch hand in: they are copied once, and the copy is read once and kept.
@@ -184,8 +164,8 @@ pub(crate) fn agent_request(
     if is_same(line, b"keep") {
         return Ok(AgentRequest::Keep);
     }
-    Ok(match read_again(line) {
-        Some(seq) => AgentRequest::Again(seq),
-        None => AgentRequest::NoCommand,
-    })
+    match read_again(line) {
+        Some(seq) => Ok(AgentRequest::Again(seq)),
+        None => Ok(AgentRequest::NoCommand),
+    }
 }

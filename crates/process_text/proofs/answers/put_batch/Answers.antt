@@ -15,4 +15,4 @@ returns c =
     let is_text = c.bytes.ensures.bytes ∙ bytes_are_text c.args.batch.now c.bytes.ensures.batch in
     then_put c.extend_from_slice.result c.put_batch_line.new.text.items _ c.bytes.result.now _ c.extend_from_slice.ensures.items
     (batch_put c.args.text.now.items c.args.group.now c.put_to.new.text.items c.put_batch_line.new.text.items c.bytes.result.now b
-    (1 + c.from-lines.result) lines is_text c.in_ok-put_to.ensures c.in_ok-put_batch_line.ensures)
+    (1 + c.from-lines.result) lines is_text c.in-Ok.ensures c.in-Ok-put_batch_line.ensures)

@@ -1,8 +1,11 @@
-use Rattle.std.proofs.Common.{[], ◌∷◌, ◌++◌, ap, ◌∙◌, append_assoc}
-use Rattle.log_text.proofs.WrittenLines.{then_put}
+use Rattle.std.proofs.Common.{codes}
+use Rattle.packet_text.proofs.Pieces.{then_ok}
+use Rattle.process_text.proofs.Told.{two_put}
 use Rattle.process_text.proofs.answers.put_begun.Goals as goal
 
 pub returns : goal.returns
 returns c =
-    then_put c.extend_from_slice.result c.put_two.new.text.items _ (10 ∷ []) _ c.extend_from_slice.ensures.items
-    (ap (λ t. t ++ 10 ∷ []) c.in_ok-put_two.ensures ∙ append_assoc c.args.text.now.items _ (10 ∷ []))
+    then_ok c.put_line.result _ _
+    (two_put c.args.text.now.items c.put_numbered.new.text.items c.put_line.new.text.items (codes "begun period ") (codes " round ") c.from.result c.from-2.result c.args.period c.args.round
+    c.from.ensures c.from-2.ensures c.in_ok-put_numbered.ensures.put)
+    c.put_line.ensures

@@ -1,14 +1,15 @@
-use Rattle.std.proofs.Common.{[], ◌∷◌, rules, codes, ap, ◌∙◌}
+use Rattle.std.proofs.Common.{rules, codes, ap, ◌∙◌}
 use Rattle.group_node.specs.Packets.{packet_of}
 use Rattle.group_process.specs.Added.{increment_after}
 use Rattle.group_process.specs.Selves.{kept_of_node}
-use Rattle.log_text.proofs.WrittenLines.{then_put}
+use Rattle.packet_text.proofs.Pieces.{then_ok}
 use Rattle.process_text.proofs.Told.{answer_put}
 use Rattle.process_text.proofs.nodes.put_started.Goals as goal
 
 pub returns : goal.returns
 returns c =
-    then_put c.extend_from_slice.result c.put_numbered.new.text.items _ (10 ∷ []) _ c.extend_from_slice.ensures.items
-    (answer_put c.args.node.now.group.name _ (increment_after c.args.begun.now.added (kept_of_node c.args.node.now)) (packet_of c.args.begun.now.sends) c.args.text.now.items c.put_added.new.text.items _ _
+    then_ok c.put_line.result _ _
+    (λ put. answer_put c.args.node.now.group.name _ (increment_after c.args.begun.now.added (kept_of_node c.args.node.now)) (packet_of c.args.begun.now.sends) c.args.text.now.items c.put_added.new.text.items _ _
     (codes "started ballot ") c.args.begun.now.ballot _
-    (search rules) c.in_ok-put_sent.ensures c.in_ok-put_numbered.ensures.put (c.name.ensures ∙ ap (λ g. g.name) c.group.ensures) (c.from.ensures ∙ c.number.ensures))
+    (search rules) c.in_ok-put_sent.ensures put (c.name.ensures ∙ ap (λ g. g.name) c.group.ensures) c.number.ensures)
+    c.put_line.ensures

@@ -1,0 +1,27 @@
+use Rattle.std.proofs.Common.{true, false, None, Some, refl, sym, ◌∙◌}
+use Rattle.process_text.proofs.Requested.{asked_by}
+use Rattle.process_text.proofs.requests.line_request.Goals as goal
+
+pub returns-then-is_same : goal.returns-then-is_same
+returns-then-is_same c = asked_by c.args.line.now true _ _ _ (sym c.if-is_same.true ∙ c.is_same.ensures) refl refl refl
+
+pub returns-then-is_same-2 : goal.returns-then-is_same-2
+returns-then-is_same-2 c =
+    asked_by c.args.line.now false true _ _ (sym c.if-is_same.false ∙ c.is_same.ensures) (sym c.if-is_same-2.true ∙ c.is_same-2.ensures) refl refl
+
+pub returns-in-Some : goal.returns-in-Some
+returns-in-Some c =
+    asked_by c.args.line.now false false (Some c.in-Some.period) _
+    (sym c.if-is_same.false ∙ c.is_same.ensures) (sym c.if-is_same-2.false ∙ c.is_same-2.ensures) (sym c.in-Some.is ∙ c.read_period.ensures) refl
+
+pub returns-in-Some-read_given : goal.returns-in-Some-read_given
+returns-in-Some-read_given c =
+    asked_by c.args.line.now false false None (Some (c.in-Some-read_given.agent, c.in-Some-read_given.seq))
+    (sym c.if-is_same.false ∙ c.is_same.ensures) (sym c.if-is_same-2.false ∙ c.is_same-2.ensures) (sym c.in_default.is ∙ c.read_period.ensures)
+    (sym c.in-Some-read_given.is ∙ c.read_given.ensures)
+
+pub returns-in-None : goal.returns-in-None
+returns-in-None c =
+    asked_by c.args.line.now false false None None
+    (sym c.if-is_same.false ∙ c.is_same.ensures) (sym c.if-is_same-2.false ∙ c.is_same-2.ensures) (sym c.in_default.is ∙ c.read_period.ensures)
+    (sym c.in-None.is ∙ c.read_given.ensures)
