@@ -12,7 +12,7 @@ ghost use Rattle.process_text.specs.Inner.Read.{agent_request_of};
 ghost use Rattle.process_text.specs.Inner.Written.{AppendsAgent};
 
 use crate::answers::{
-    put_added, put_batch, put_kept_text, put_line, put_no_command, put_refusal, put_resent,
+    NO_COMMAND, SENT, put_added, put_batch, put_kept_text, put_line, put_refusal,
 };
 use crate::requests::{AgentRequest, agent_request};
 use group_events::{Offer, OwnedBatch};
@@ -68,7 +68,7 @@ fn again(agent: &AgentProcess, seq: u32, text: &mut Vec<u8>) -> Result<(), Alloc
     match agent.journaled(seq) {
         Some(batch) => {
             put_batch(text, agent.group().name(), batch)?;
-            put_resent(text)
+            text.extend_from_slice(SENT)
         }
         None => put_refusal(
             text,
@@ -94,7 +94,7 @@ fn put_answer(
         AgentRequest::Journal(offer) => journal(agent, offer, text),
         AgentRequest::Keep => keep(alloc, agent, text),
         AgentRequest::Again(seq) => again(agent, *seq, text),
-        AgentRequest::NoCommand => put_no_command(text),
+        AgentRequest::NoCommand => text.extend_from_slice(NO_COMMAND),
     }
 }
 

@@ -5,13 +5,12 @@ ghost use Rattle.std.specs.Option.{option_map};
 ghost use Rattle.metering_model.specs.Transcript.{if_any, line, reply_text, with_number};
 ghost use Rattle.metering_model.specs.Batch.{line_of_fields};
 ghost use Rattle.metering_model.specs.World as world;
-ghost use Rattle.process_laws.specs.LocalSteps.{Foreign, NodeWentOn};
 ghost use Rattle.group_events.specs.Batches.{batch_of};
 ghost use Rattle.group_node.specs.Packets.{packet_of};
 ghost use Rattle.log_text.specs.Increments.{increment_of};
 ghost use Rattle.log_text.specs.LogText.{lines_of_increment, section_line};
 ghost use Rattle.group_process.specs.Answers.{refusal_of};
-ghost use Rattle.process_text.specs.Answers.{added_text, addressee, addressee_text, asker, lines_of_packet, packet_sent_text, process_refusal_text, refused_text, words_text};
+ghost use Rattle.process_text.specs.Answers.{added_text, addressee, addressee_text, asker, lines_of_packet, packet_sent_text, process_refusal_text, refused_text};
 
 use answer_words::replies::{put_exported, put_kept, put_refused};
 use byte_text::{line_count, put_numbered};
@@ -22,6 +21,13 @@ use group_process::ProcessRefusal;
 use log_text::{Increment, put_increment};
 use packet_text::put_packet;
 use std::alloc::{AllocError, Global};
+
+/// What is told where a batch was sent once more.
+pub(crate) const SENT: &[u8] = b"sent\n";
+/// What is told where what should be a packet is none of the group.
+pub(crate) const FOREIGN: &[u8] = b"refused G16\n";
+/// What is told where a line is no command.
+pub(crate) const NO_COMMAND: &[u8] = b"refused L6\n";
 
 // Each of these appends a piece of an answer. Where an allocation fails some of the piece may stand there.
 
@@ -213,13 +219,6 @@ pub(crate) fn put_kept_text(text: &mut Vec<u8>, kept: &[u8]) -> Result<(), Alloc
     text.extend_from_slice(kept)
 }
 
-/// Appends that a batch was sent once more.
-pub(crate) fn put_resent(text: &mut Vec<u8>) -> Result<(), AllocError>
-    ensures { OnOk result (text.new.items ≡ text.old.items ++ line (codes "sent")) }
-{
-    text.extend_from_slice(b"sent\n")
-}
-
 /// Appends why a process does not do what it is asked.
 pub(crate) fn put_refusal(text: &mut Vec<u8>, why: ProcessRefusal) -> Result<(), AllocError>
     ensures { OnOk result (text.new.items
@@ -232,28 +231,4 @@ pub(crate) fn put_refusal(text: &mut Vec<u8>, why: ProcessRefusal) -> Result<(),
         }
         ProcessRefusal::Unfit => text.extend_from_slice(b"refused G17\n"),
     }
-}
-
-/// Appends that what should be a packet is none of the group.
-pub(crate) fn put_foreign(text: &mut Vec<u8>) -> Result<(), AllocError>
-    ensures { OnOk result (text.new.items
-        ≡ text.old.items ++ refused_text (process_refusal_text Foreign)) }
-{
-    text.extend_from_slice(b"refused G16\n")
-}
-
-/// Appends that a line is no command.
-pub(crate) fn put_no_command(text: &mut Vec<u8>) -> Result<(), AllocError>
-    ensures { OnOk result (text.new.items ≡ text.old.items ++ refused_text (codes "L6")) }
-{
-    text.extend_from_slice(b"refused L6\n")
-}
-
-/// Appends in which period a node goes on, and how many ballots it has begun.
-pub(crate) fn put_begun(text: &mut Vec<u8>, period: u16, round: u16) -> Result<(), AllocError>
-    ensures { OnOk result (text.new.items
-        ≡ text.old.items ++ words_text (NodeWentOn period round)) }
-{
-    put_numbered(text, b"begun period ", u128::from(period))?;
-    put_line(text, b" round ", u32::from(round))
 }

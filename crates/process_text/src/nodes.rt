@@ -12,8 +12,8 @@ ghost use Rattle.process_text.specs.Inner.Read.{node_request_of};
 ghost use Rattle.process_text.specs.Inner.Written.{AppendsNode};
 
 use crate::answers::{
-    addressee, put_added, put_batch, put_delivered, put_file, put_foreign, put_kept_text, put_line,
-    put_no_command, put_refusal, put_resent, put_sent,
+    FOREIGN, NO_COMMAND, SENT, addressee, put_added, put_batch, put_delivered, put_file,
+    put_kept_text, put_line, put_refusal, put_sent,
 };
 use crate::requests::{NodeRequest, node_request};
 use group_node::Packet;
@@ -58,7 +58,7 @@ fn take(
 {
     match node.take(alloc, handed.group(), handed.packet())? {
         Some(taken) => put_taken(text, node, handed.packet(), &taken),
-        None => put_foreign(text),
+        None => text.extend_from_slice(FOREIGN),
     }
 }
 
@@ -119,7 +119,7 @@ fn give(node: &NodeProcess, agent: u8, seq: u32, text: &mut Vec<u8>) -> Result<(
     match node.held(agent, seq) {
         Some(batch) => {
             put_batch(text, node.group().name(), batch)?;
-            put_resent(text)
+            text.extend_from_slice(SENT)
         }
         None => put_refusal(
             text,
@@ -140,12 +140,12 @@ fn put_answer(
 {
     match request {
         NodeRequest::Packet(handed) => take(alloc, node, handed, text),
-        NodeRequest::NoPacket => put_foreign(text),
+        NodeRequest::NoPacket => text.extend_from_slice(FOREIGN),
         NodeRequest::Begin => begin(node, text),
         NodeRequest::Export(period) => export(alloc, node, *period, text),
         NodeRequest::Keep => keep(alloc, node, text),
         NodeRequest::Give { agent, seq } => give(node, *agent, *seq, text),
-        NodeRequest::NoCommand => put_no_command(text),
+        NodeRequest::NoCommand => text.extend_from_slice(NO_COMMAND),
     }
 }
 

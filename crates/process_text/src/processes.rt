@@ -5,9 +5,10 @@ ghost use Rattle.process_text.specs.Answers.{Answers, begun_text};
 ghost use Rattle.process_text.specs.Requests.{lines_below, most_packet_lines};
 
 use crate::agents::answer_agent;
-use crate::answers::{put_begun, put_line};
+use crate::answers::put_line;
 use crate::nodes::answer_node;
 use crate::requests::{journal_lines, packet_lines};
+use byte_text::put_numbered;
 use group_process::{AgentProcess, NodeProcess};
 use std::alloc::{AllocError, Global};
 
@@ -55,7 +56,10 @@ impl Process {
     {
         text.clear();
         match self {
-            Process::Node(node) => put_begun(text, node.current_period(), node.round()),
+            Process::Node(node) => {
+                put_numbered(text, b"begun period ", u128::from(node.current_period()))?;
+                put_line(text, b" round ", u32::from(node.round()))
+            }
             Process::Agent(agent) => put_line(text, b"begun seq ", agent.next_seq()),
         }
     }
