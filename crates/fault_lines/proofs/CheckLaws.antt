@@ -1,10 +1,13 @@
 -- What is written of an input that is too long: one line.
-use Rattle.std.proofs.Common.{◌≡◌, ℕ, zero, suc, ◌<◌, List, [], ◌∷◌, ◌++◌, length, Option, Some, None, IfSome, codes, refl, sym, ap, ◌∙◌, subst, arith, append-nil}
+use Rattle.std.proofs.Common.{◌≡◌, ◌≢◌, ◌⊎◌, inl, inr, ℕ, zero, suc, ◌<◌, false, Result, Ok, Err, IfErr, List, [], ◌∷◌, ◌++◌, length, Option, Some, None, IfSome, codes, refl, sym, ap, ◌∙◌, subst, arith, append-nil}
 use Rattle.std.specs.Io.KnownBytes.{Appends}
 use Rattle.counted_io.specs.Writing.{AppendsPrefix}
 use Rattle.metering_model.specs.Limits.{most_input_bytes}
 use Rattle.metering_model.specs.Transcript.{line_count}
-use Rattle.fault_lines.specs.Checked.{IsSaid, SaysTooLong}
+use Rattle.program_input.specs.Faults.{RefusesNothing, tells_of_reader}
+use Rattle.program_input.specs.declared.faults.PlayFault.{PlayFault}
+use Rattle.program_input.specs.declared.faults.PlayFault.TheVariants.{OutOfMemory, Write}
+use Rattle.fault_lines.specs.Checked.{IsSaid, SaysLines, SaysTooLong}
 
 -- ---- an input whose bytes are not known, and which is too long
 
@@ -44,3 +47,37 @@ module _ (said_of warned_of : List ℕ → List ℕ) where
   written_in_part_where_long too_long known old new long part =
       let is = said_where_long too_long known long in
       (is.0, _, _, is.1, subst (AppendsPrefix old new) (sym (append-nil (codes "line 1: L8" ++ 10 ∷ []))) part)
+
+-- ---- an answer that tells of a failed write, or of want of memory
+
+abbrev IsOwn : PlayFault → Type 0
+IsOwn fault = (fault ≡ Write) ⊎ (fault ≡ OutOfMemory)
+
+abbrev no_answer : PlayFault → Result ℕ PlayFault
+no_answer fault = Err fault
+
+pub no_read : (answer : Result ℕ PlayFault) → IfErr answer IsOwn → tells_of_reader answer ≡ false
+no_read (Ok count) own = refl
+no_read (Err fault) (inl is) = ap (λ (f : PlayFault). tells_of_reader (no_answer f)) is
+no_read (Err fault) (inr is) = ap (λ (f : PlayFault). tells_of_reader (no_answer f)) is
+
+pub refuses_nothing : (answer : Result ℕ PlayFault) → IfErr answer IsOwn → RefusesNothing answer
+refuses_nothing (Ok count) own = record { no_section = λ fault is. cc; no_refusal = λ refusal is. cc }
+refuses_nothing (Err fault) (inl write) = record { no_section = λ other is. cc; no_refusal = λ refusal is. cc }
+refuses_nothing (Err fault) (inr memory) = record { no_section = λ other is. cc; no_refusal = λ refusal is. cc }
+
+pub untouched_but_by_writing : {W : Type 0} (answer : Result ℕ PlayFault) (writer writer' : W) → IfErr answer IsOwn → (answer ≡ Err OutOfMemory → writer' ≡ writer)
+    → IfErr answer (λ fault. fault ≢ Write → writer' ≡ writer)
+untouched_but_by_writing (Ok count) writer writer' own memory = tt
+untouched_but_by_writing (Err fault) writer writer' (inl is) memory = λ other. absurd (other is)
+untouched_but_by_writing (Err fault) writer writer' (inr is) memory = λ other. memory (ap Err is)
+
+pub one_line_at_least : ◌≡◌ {A = ℕ} 0 1 → ⊥
+one_line_at_least none = omega (arith, none)
+
+-- Where no line is counted, nothing is said, and the warnings were written alone.
+pub ahead_alone : (said_of warned_of : List ℕ → List ℕ) (known old new : Option (List ℕ)) → SaysLines said_of → (input : List ℕ) → IsSaid said_of warned_of known input (said_of input) (warned_of input)
+    → Appends old new (said_of input ++ warned_of input) × (0 ≡ line_count (said_of input)) → (text warned : List ℕ) × IsSaid said_of warned_of known text [] warned × Appends old new warned
+ahead_alone said_of warned_of known old new lines input whole done =
+    let none = lines input (sym done.1) in
+    (input, warned_of input, record { is_input = whole.is_input; is_said = sym none; is_warned = refl }, subst (λ t. Appends old new (t ++ warned_of input)) none done.0)

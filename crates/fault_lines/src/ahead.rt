@@ -161,6 +161,7 @@ impl Model for LatestDays {
 }
 
 /// No day, so many times.
+#[inline(always)]
 fn no_days<const N: usize>() -> [Option<i32>; N]
     ensures { result ≡ replicate N None }
 {

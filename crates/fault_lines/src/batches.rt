@@ -52,6 +52,7 @@ pub(crate) fn put_place(told: &mut Vec<u8>, line: u128) -> Result<(), AllocError
 }
 
 /// Appends the end of a line.
+#[inline(always)]
 pub(crate) fn put_end(told: &mut Vec<u8>) -> Result<(), AllocError>
     ensures { OnOk result (told.new.items ≡ told.old.items ++ 10 ∷ []) }
 {
