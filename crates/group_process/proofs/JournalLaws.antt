@@ -1,19 +1,24 @@
 -- The journal of an agent: which sequences it has, and one batch more.
-use Rattle.std.proofs.Common.{◌≡◌, ℕ, suc, ◌+◌, ◌<◌, ◌≤◌, Bool, true, false, [], ◌∷◌, length, refl, sym, ap, subst, ◌∙◌, arith, Option, Some, None, Ok, inl, inr}
-use Rattle.std.specs.Prelude.{◌==◌, not, nat_le, Result}
+use Rattle.std.proofs.Common.{◌≡◌, ℕ, suc, ◌+◌, ◌<◌, ◌≤◌, Bool, true, false, List, [], ◌∷◌, length, refl, sym, ap, subst, ◌∙◌, arith, Option, Some, None, Ok, Err, inl, inr}
+use Rattle.std.specs.Prelude.{◌==◌, ◌&&◌, not, nat_le, Result}
 use Rattle.std.specs.Option.{is_some}
-use Rattle.std.proofs.lemmas.Bool.{and_from, and_parts, cases_Bool, cond-true, cond-false, eq-eqb, eqb-true, le-leb}
+use Rattle.std.proofs.lemmas.Bool.{and_from, and_parts, cases_Bool, cond-true, cond-false, eq-eqb, eqb-true, le-leb, ne_eqb}
 use Rattle.std.proofs.lemmas.Bool.Decides.{nat_tests}
 use Rattle.metering_model.specs.FirstFailure.{◌>>=◌, holds_or}
 use Rattle.metering_model.specs.Batch.{Batch, IsWellFormed}
+use Rattle.metering_model.specs.BatchReading.{batch_in}
 use Rattle.metering_model.specs.Holding.{Holding, comes_before, held, is_batch_at, placed, put, sequences_of}
 use Rattle.metering_model.specs.JournalRules.{first_broken, next_seq}
+use Rattle.metering_model.specs.declared.BatchFault.{BatchFault}
+use Rattle.metering_model.specs.declared.BrokenRule.{BrokenRule}
 use Rattle.metering_model.specs.declared.Refusal.{Refusal}
 use Rattle.metering_model.specs.declared.Refusal.TheVariants.{NoAgent, WrongSeq}
-use Rattle.metering_model.specs.Step.{unless_broken}
+use Rattle.metering_model.specs.Sheet.{Sheet}
+use Rattle.metering_model.specs.Step.{or_bad_batch, unless_broken}
+use Rattle.metering_model.specs.World.{CarriesBatch, Good}
 use Rattle.metering_model.proofs.BatchOrder.{place_of_batch, put_cases}
 use Rattle.metering_model.proofs.Journals.{sequences-of_agent}
-use Rattle.process_laws.specs.LocalSteps.{Group, journal_refusal}
+use Rattle.process_laws.specs.LocalSteps.{AgentDone, Group, HasJournaled, JournalBatch, OfModel, agent_does, batch_to_journal, journal_refusal, refusing, unmoved_journal}
 use Rattle.log_text.specs.LogText.{Takes}
 use Rattle.group_process.specs.Added.{AddsJust}
 use Rattle.group_process.specs.Journals.{are_journaled_from, is_journal_of}
@@ -28,6 +33,10 @@ first_of a s b h is =
     let parts = and_parts (is_batch_at a s b) (are_journaled_from a (s + 1) h) is in
     let place = place_of_batch a s b parts.0 in
     (place.0, place.1, parts.1)
+
+-- one batch of a journal more was looked at
+pub journal_goes_on : (a s : ℕ) (all rest : Holding) (b : Batch) → all ≡ b ∷ rest → true ≡ is_batch_at a s b → are_journaled_from a s all ≡ are_journaled_from a (s + 1) rest
+journal_goes_on a s all rest b first is = ap (are_journaled_from a s) first ∙ ap (λ t. t && are_journaled_from a (s + 1) rest) (sym is)
 
 -- each batch is one of the agent's sequences
 length_of_journal : (a s : ℕ) (h : Holding) → IsFrom a s h → length (sequences_of a h) ≡ length h
@@ -106,11 +115,46 @@ both_held true true x y rest e = (refl, refl)
 both_held true false x y rest e = absurd (cc)
 both_held false u x y rest e = absurd (cc)
 
+-- what the tests tell of an agent, of a sequence and of a rule
+pub no_agent_told : (g : Group) (a : ℕ) (h : Holding) (b : Batch) (agent : ℕ) → agent ≡ b.agent → (agent ≡ a → ⊥) → journal_refusal g a h b ≡ Err NoAgent
+no_agent_told g a h b agent of other = rw (ne_eqb b.agent a (λ e. other (of ∙ e))) refl
+
+module _ (g : Group) (a : ℕ) (h : Holding) (b : Batch) (agent seq wanted : ℕ) (of : agent ≡ b.agent) (at : seq ≡ b.seq) (next : wanted ≡ next_seq h a) (mine : agent ≡ a) where
+  is_mine : (b.agent == a) ≡ true
+  is_mine = eq-eqb b.agent a (sym of ∙ mine)
+
+  pub wrong_seq_told : (seq ≡ wanted → ⊥) → journal_refusal g a h b ≡ Err (WrongSeq wanted)
+  wrong_seq_told other = rw (is_mine, ne_eqb b.seq (next_seq h a) (λ e. other (at ∙ (e ∙ sym next)))) (ap (λ n. Err (WrongSeq n)) (sym next))
+
+  pub rule_told : seq ≡ wanted → (sheet : Sheet) (held : Holding) (read : Batch) (o : Option BrokenRule) → sheet ≡ g.sheet → held ≡ h → read ≡ b
+      → o ≡ first_broken sheet (put held read) (placed read) → journal_refusal g a h b ≡ unless_broken o
+  rule_told same sheet held read o same_sheet same_held same_read broken =
+      rw (is_mine, eq-eqb b.seq (next_seq h a) (sym at ∙ (same ∙ next)), ← same_sheet, ← same_held, ← same_read, ← broken) refl
+
 -- what is not refused is the agent's next
 pub journaled_is_next : (g : Group) (a : ℕ) (h : Holding) (b : Batch) → journal_refusal g a h b ≡ Ok tt → (b.agent ≡ a) × (b.seq ≡ next_seq h a)
 journaled_is_next g a h b ok =
     let both = both_held (b.agent == a) (b.seq == next_seq h a) NoAgent (WrongSeq (next_seq h a)) (unless_broken (first_broken g.sheet (put h b) (placed b))) ok in
     (eqb-true b.agent a both.0, eqb-true b.seq (next_seq h a) both.1)
+
+-- what is answered for a text that is a batch
+module _ (g : Group) (a : ℕ) (h : Holding) (text : List ℕ) (b : Batch) (read : batch_in text ≡ Ok b) where
+  abbrev by_refusal : Result (Unit {0}) Refusal → Result Batch Refusal
+  by_refusal r = r >>= λ _. Ok b
+
+  to_journal : (r : Result (Unit {0}) Refusal) → journal_refusal g a h b ≡ r → batch_to_journal g a h (Good text) ≡ by_refusal r
+  to_journal r is = ap (λ (o : Result Batch BatchFault). or_bad_batch o >>= λ b. journal_refusal g a h b >>= λ _. Ok b) read ∙ ap by_refusal is
+
+  abbrev done_by : Result Batch Refusal → AgentDone
+  done_by (Ok b) = record { answer = record { words = HasJournaled b.seq; sends = Some (CarriesBatch b) }; journal = put h b }
+  done_by (Err why) = unmoved_journal (refusing (OfModel why)) h
+
+  pub refused_told : (why : Refusal) → journal_refusal g a h b ≡ Err why → agent_does g a h (JournalBatch (Good text)) ≡ unmoved_journal (refusing (OfModel why)) h
+  refused_told why refused = ap done_by (to_journal (Err why) refused)
+
+  pub journaled_told : journal_refusal g a h b ≡ Ok tt
+      → agent_does g a h (JournalBatch (Good text)) ≡ record { answer = record { words = HasJournaled b.seq; sends = Some (CarriesBatch b) }; journal = put h b }
+  journaled_told may = ap done_by (to_journal (Ok tt) may)
 
 -- What an agent journals is added to what it keeps, and is all that is.
 pub adds_batch : (old new : AgentSelf) (b : Batch) → IsWellFormed b → is_journal_of old.number old.journal ≡ true → old.number ≤ old.group.agents

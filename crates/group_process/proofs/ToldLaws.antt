@@ -1,5 +1,5 @@
 -- What is told as added has lines: where there are none, nothing is told.
-use Rattle.std.proofs.Common.{◌≡◌, ℕ, ◌-◌, true, eqb, List, [], ◌∷◌, ◌++◌, ◌&&◌, length, Option, Some, None, refl, sym, ap, subst, ◌∙◌}
+use Rattle.std.proofs.Common.{◌≡◌, ℕ, ◌-◌, true, eqb, List, ◌&&◌, length, Option, Some, None, refl, sym, ap, subst, ◌∙◌}
 use Rattle.std.specs.Prelude.{slice_get, not, unwrap_or, if◌then◌else◌}
 use Rattle.std.specs.Option.{is_some, option_map}
 use Rattle.std.proofs.lemmas.Bool.{cond_both}
@@ -11,7 +11,7 @@ use Rattle.metering_model.specs.World.{World, Node, Packet, CarriesBatch, Prepar
 use Rattle.metering_model.specs.Deliveries.{Handled, after_promise, handled, if_votes, learning, on_accept, on_prepare, on_promise, proposal, sending, silent, unless_learned}
 use Rattle.metering_model.specs.Step.{kept_now}
 use Rattle.metering_model.proofs.HoldingLaws.{held-put_same}
-use Rattle.log_text.specs.LogText.{Increment, Takes}
+use Rattle.log_text.specs.LogText.{Increment, Learns, Takes}
 use Rattle.group_process.specs.declared.added.Added.{Added}
 use Rattle.group_process.specs.declared.added.Added.TheVariants.{Nothing, Round, Ballots, Learned, Batch as TakesBatch}
 use Rattle.group_process.specs.Added.{increment_after}
@@ -99,3 +99,14 @@ module _ (w : World) (i : ℕ) (n : Node) (holding : IsHolding n.kept.holding) w
       unless period x (if_votes w i n (on_accept i n period ballot cut)) (voting x (on_accept i n period ballot cut) (accept_stays ballot cut x likely) (accepts period ballot cut x likely))
   nothing_is_told_without_lines (Accepted from period ballot cut) x likely = subst (λ y. Told y (handled w i n (Accepted from period ballot cut))) (sym likely) (accepted from period ballot cut)
   nothing_is_told_without_lines (Decided period cut) x likely = subst (λ y. Told y (handled w i n (Decided period cut))) (sym likely) (decided period cut)
+
+-- ---- what the code tells
+
+-- what was learned is told before all else
+pub learned_first : (x : Added) (sends : Option Packet) (learns : Option ℕ) → true ≡ is_some learns → Learned ≡ added_for x sends learns
+learned_first x sends None e = absurd (cc)
+learned_first x sends (Some period) e = refl
+
+-- the line of the cut that was learned last
+pub learned_told : (cuts : List Cut) (periods : ℕ) (cut : Cut) → periods ≡ length cuts → Some cut ≡ slice_get cuts (periods - 1) → Some (Learns (periods - 1) cut) ≡ option_map (Learns (length cuts - 1)) (slice_get cuts (length cuts - 1))
+learned_told cuts periods cut all last = subst (λ n. Some (Learns (periods - 1) cut) ≡ option_map (Learns (n - 1)) (slice_get cuts (n - 1))) all (ap (option_map (Learns (periods - 1))) last)

@@ -179,24 +179,29 @@ impl AgentProcess {
         }
     }
 
-    /// Puts a batch into the journal that may be journaled. An error is an allocation failure, and leaves the agent as it was.
-    fn keep(&mut self, batch: Arc<OwnedBatch>) -> Result<(), AllocError>
+    /// Puts a batch into the journal that may be journaled, and gives it out. An error is an allocation failure, and leaves the
+    /// agent as it was.
+    fn keep(&mut self, batch: &Arc<OwnedBatch>) -> Result<Journaled, AllocError>
         requires { journal_refusal self.old.group self.old.number self.old.journal
-            (batch_of (arc_value batch)) ≡ Ok tt }
+            (batch_of (arc_value batch.now)) ≡ Ok tt }
         ensures journal { IfOk result (λ _. self.new ≡ record {
           group = self.old.group;
           number = self.old.number;
-          journal = put self.old.journal (batch_of (arc_value batch));
+          journal = put self.old.journal (batch_of (arc_value batch.now));
         }) }
+        ensures given { IfOk result
+            (λ journaled. arc_value journaled.batch ≡ arc_value batch.now) }
         ensures adds { IfOk result (λ _. AddsJust (kept_of_agent self.old)
-            (kept_of_agent self.new) (Some (Takes (batch_of (arc_value batch))))) }
+            (kept_of_agent self.new) (Some (Takes (batch_of (arc_value batch.now))))) }
         ensures unchanged { OnErr result (self.new ≡ self.old) }
     {
         // For the proof alone: its clause says that the bytes are a batch.
         let _ = batch.bytes();
+        let given = Arc::try_clone(batch)?;
+        let stored = Arc::try_clone(batch)?;
         let kept = &mut self.kept;
-        kept.store.put(batch)?;
-        Ok(())
+        kept.store.put(stored)?;
+        Ok(Journaled { batch: given })
     }
 
     /// Journals a batch that is the agent's next and breaks no rule. An error is an allocation failure, and leaves the agent as
@@ -221,10 +226,8 @@ impl AgentProcess {
         if let Some(refusal) = self.refusal(batch) {
             return Ok(Err(ProcessRefusal::OfModel(refusal)));
         }
-        let given = Arc::try_clone(batch)?;
-        let stored = Arc::try_clone(batch)?;
-        self.keep(stored)?;
-        Ok(Ok(Journaled { batch: given }))
+        let journaled = self.keep(batch)?;
+        Ok(Ok(journaled))
     }
 
     /// The batch at a sequence of its journal, if it is there.

@@ -1,15 +1,17 @@
 //! A node exports a period.
 
-ghost use Rattle.std.specs.Prelude.{◌≡◌, ◌+◌, ◌<◌, length, take, IfOk};
+ghost use Rattle.std.specs.Prelude.{◌≡◌, ◌+◌, ◌<◌, true, length, take, IfOk, None, Some, slice_get};
+ghost use Rattle.std.specs.Arc.{arc_value};
 ghost use Rattle.metering_model.specs.Cut.{zero_cut};
-ghost use Rattle.metering_model.specs.Step.{cut_before};
-ghost use Rattle.process_laws.specs.LocalSteps.{are_growing, exporting};
+ghost use Rattle.metering_model.specs.Step.{cut_before, first_missing};
+ghost use Rattle.process_laws.specs.LocalSteps.{are_growing, exporting, is_fit};
 ghost use Rattle.group_process.specs.Answers.{exported_answer};
 ghost use Rattle.group_process.specs.Inner.Growing.{goes_on};
+ghost use Rattle.group_process.specs.Inner.Snapshots.{snapshot_up_to};
 
 use crate::nodes::NodeProcess;
 use crate::refusals::ProcessRefusal;
-use group_events::Snapshot;
+use group_events::{Cut, Period, Snapshot};
 use journal_rules::first_broken_up_to;
 use std::alloc::{AllocError, Global};
 use std::sync::Arc;
@@ -49,6 +51,46 @@ impl NodeProcess {
         true
     }
 
+    /// Whether a file may be made of a period, which was learned, and up to whose cut the node has each batch.
+    fn is_fit(&self, period: u16, to: &Cut) -> bool
+        requires learned { slice_get self.now.node.kept.learned period ≡ Some to.now }
+        requires whole { first_missing self.now.node.kept.holding to.now ≡ None }
+        ensures { result ≡ is_fit self.now.group self.now.node
+            (snapshot_up_to self.now.group self.now.node period to.now) }
+    {
+        // For the proof alone: its clause says that each learned cut has an entry for each agent.
+        let _voters = self.node.voters();
+        self.has_growing_cuts(period)
+            && first_broken_up_to(self.node.store(), self.group.sheet(), to).is_none()
+    }
+
+    /// What the file of such a period is made of, from the cut before on. An error is an allocation failure.
+    fn snapshot(
+        &self,
+        alloc: Global,
+        of: Period,
+        from: Arc<Cut>,
+        to: &Arc<Cut>,
+    ) -> Result<Snapshot, AllocError>
+        requires from { arc_value from
+            ≡ cut_before self.now.group.agents self.now.node.kept.learned of }
+        requires learned { slice_get self.now.node.kept.learned of ≡ Some (arc_value to.now) }
+        requires whole { first_missing self.now.node.kept.holding (arc_value to.now) ≡ None }
+        requires fit { is_fit self.now.group self.now.node
+            (snapshot_up_to self.now.group self.now.node of (arc_value to.now)) ≡ true }
+        ensures { IfOk result (λ taken. taken
+            ≡ snapshot_up_to self.now.group self.now.node of (arc_value to.now)) }
+    {
+        // For the proof alone: their clauses say that each learned cut has an entry for each agent, and that the batches are a
+        // holding.
+        let store = self.node.store();
+        let (_voters, _agents) = (self.node.voters(), store.agents());
+        let to = Arc::try_clone(to)?;
+        let sheet = Arc::try_clone(self.group.sheet())?;
+        let issuer = Arc::try_clone(self.group.issuer())?;
+        Snapshot::of(alloc, of, from, to, store, sheet, issuer)
+    }
+
     /// What the file of a period is made of, or why there is none. Each batch up to the period's cut is looked at for this,
     /// as it is not known that all that was handed in was given out by a process of the group. An error is an allocation
     /// failure.
@@ -60,25 +102,15 @@ impl NodeProcess {
         ensures { IfOk result (λ answer.
             exported_answer answer ≡ exporting self.now.group self.now.node period) }
     {
-        // For the proof alone: their clauses say that each learned cut has an entry for each agent, and that the batches are a
-        // holding.
-        let store = self.node.store();
-        let (_voters, _agents) = (self.node.voters(), store.agents());
         let (of, to) = match self.node.cut_to_export(period) {
             Ok(found) => found,
             Err(refusal) => return Ok(Err(ProcessRefusal::OfModel(refusal))),
         };
         let from = self.node.cut_before(alloc, period)?;
-        if !self.has_growing_cuts(period) {
+        if !self.is_fit(period, to) {
             return Ok(Err(ProcessRefusal::Unfit));
         }
-        if first_broken_up_to(store, self.group.sheet(), to).is_some() {
-            return Ok(Err(ProcessRefusal::Unfit));
-        }
-        let to = Arc::try_clone(to)?;
-        let sheet = Arc::try_clone(self.group.sheet())?;
-        let issuer = Arc::try_clone(self.group.issuer())?;
-        let taken = Snapshot::of(alloc, of, from, to, store, sheet, issuer)?;
+        let taken = self.snapshot(alloc, of, from, to)?;
         Ok(Ok(taken))
     }
 }

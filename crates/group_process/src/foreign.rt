@@ -1,12 +1,13 @@
 //! Which packets are of a group.
 
-ghost use Rattle.std.specs.Prelude.{◌≡◌};
+ghost use Rattle.std.specs.Prelude.{◌≡◌, ◌&&◌, nat_le, nat_lt};
 ghost use Rattle.std.specs.Option.{option_copied};
+ghost use Rattle.group_events.specs.Batches.{batch_of};
 ghost use Rattle.group_node.specs.Packets.{packet_of};
 ghost use Rattle.process_laws.specs.LocalSteps.{is_ballot_of, is_cut_of, is_of_group, is_packet_of, is_period, is_vote_of};
 
 use crate::groups::Group;
-use group_events::{Cut, Period};
+use group_events::{Cut, OwnedBatch, Period};
 use group_node::Packet;
 use node_kept::{Ballot, Vote};
 
@@ -48,40 +49,52 @@ impl Group {
         }
     }
 
+    /// Whether a batch is of one of the group's agents.
+    fn has_batch(&self, batch: &OwnedBatch) -> bool
+        ensures { result ≡ nat_le (batch_of batch.now).agent self.now.agents }
+    {
+        batch.view().agent() <= self.agents
+    }
+
+    /// Whether a period and a ballot are of the group.
+    fn has_attempt(&self, period: Period, ballot: Ballot) -> bool
+        ensures { result ≡ (is_period period && is_ballot_of self.now.voters ballot) }
+    {
+        is_period(period) && self.has_ballot(ballot)
+    }
+
+    /// Whether a voter of the group, a period and a ballot are.
+    fn has_attempt_of(&self, from: u8, period: Period, ballot: Ballot) -> bool
+        ensures { result ≡ (nat_lt from self.now.voters && is_period period
+            && is_ballot_of self.now.voters ballot) }
+    {
+        from < self.voters && is_period(period) && self.has_ballot(ballot)
+    }
+
     /// Whether the numbers of a packet are of the group.
     pub(crate) fn has_packet(&self, packet: &Packet) -> bool
         ensures { result ≡ is_packet_of self.now.voters self.now.agents (packet_of packet.now) }
     {
         match packet {
-            Packet::Batch(batch) => batch.view().agent() <= self.agents,
-            Packet::Prepare { period, ballot } => is_period(*period) && self.has_ballot(*ballot),
+            Packet::Batch(batch) => self.has_batch(batch),
+            Packet::Prepare { period, ballot } => self.has_attempt(*period, *ballot),
             Packet::Promise {
                 from,
                 period,
                 ballot,
                 vote,
-            } => {
-                *from < self.voters
-                    && is_period(*period)
-                    && self.has_ballot(*ballot)
-                    && self.has_vote(vote.as_ref())
-            }
+            } => self.has_attempt_of(*from, *period, *ballot) && self.has_vote(vote.as_ref()),
             Packet::Accept {
                 period,
                 ballot,
                 cut,
-            } => is_period(*period) && self.has_ballot(*ballot) && self.has_cut(cut),
+            } => self.has_attempt(*period, *ballot) && self.has_cut(cut),
             Packet::Accepted {
                 from,
                 period,
                 ballot,
                 cut,
-            } => {
-                *from < self.voters
-                    && is_period(*period)
-                    && self.has_ballot(*ballot)
-                    && self.has_cut(cut)
-            }
+            } => self.has_attempt_of(*from, *period, *ballot) && self.has_cut(cut),
             Packet::Decided { period, cut } => is_period(*period) && self.has_cut(cut),
         }
     }

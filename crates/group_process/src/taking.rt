@@ -4,7 +4,9 @@ ghost use Rattle.std.specs.Prelude.{◌≡◌, ◌↔◌, true, IsTrue, IfOk, If
 ghost use Rattle.std.specs.Option.{option_map};
 ghost use Rattle.metering_model.specs.Ballot.{after_accept};
 ghost use Rattle.metering_model.specs.Deliveries.{handled};
+ghost use Rattle.metering_model.specs.World.{CarriesBatch};
 ghost use Rattle.process_laws.specs.LocalSteps.{TakePacket, bare_world, is_packet_of};
+ghost use Rattle.group_events.specs.Batches.{batch_of};
 ghost use Rattle.group_node.specs.Packets.{packet_of};
 ghost use Rattle.group_process.specs.Added.{AddsJust, increment_after};
 ghost use Rattle.group_process.specs.Answers.{Does, taken_answer};
@@ -13,7 +15,7 @@ ghost use Rattle.group_process.specs.Selves.{kept_of_node};
 
 use crate::added::Added;
 use crate::nodes::NodeProcess;
-use group_events::{Cut, Period};
+use group_events::{Cut, OwnedBatch, Period};
 use group_node::{Handled, Packet};
 use node_kept::{Acceptor, Ballot};
 use std::alloc::{AllocError, Global};
@@ -106,20 +108,25 @@ fn know_vote(acceptor: &Acceptor)
 }
 
 impl NodeProcess {
+    /// What taking a batch adds: the batch, unless the node holds it.
+    fn added_by_batch(&self, batch: &OwnedBatch) -> Added
+        ensures { IsLikely self.now.node (CarriesBatch (batch_of batch.now)) result }
+    {
+        let view = batch.view();
+        let (agent, seq) = (view.agent(), view.seq());
+        if self.held(agent, seq).is_some() {
+            Added::Nothing
+        } else {
+            Added::Batch { agent, seq }
+        }
+    }
+
     /// What taking a packet may add: a batch that the node lacks; what it promises or accepts, unless it has done so before.
     fn added_by(&self, packet: &Packet) -> Added
         ensures { IsLikely self.now.node (packet_of packet.now) result }
     {
         match packet {
-            Packet::Batch(batch) => {
-                let view = batch.view();
-                let (agent, seq) = (view.agent(), view.seq());
-                if self.held(agent, seq).is_some() {
-                    Added::Nothing
-                } else {
-                    Added::Batch { agent, seq }
-                }
-            }
+            Packet::Batch(batch) => self.added_by_batch(batch),
             Packet::Prepare { .. } => Added::Ballots,
             Packet::Accept { ballot, cut, .. } => {
                 added_by_vote(self.node.acceptor(), *ballot, cut)

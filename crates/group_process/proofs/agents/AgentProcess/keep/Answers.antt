@@ -16,9 +16,9 @@ use Rattle.group_process.proofs.agents.AgentProcess.keep.Goals as goal
 pub invariant_of-self-2 : goal.invariant_of-self-2
 invariant_of-self-2 c =
     let number = c.self.inside.number in
-    let b = batch_of (arc_value c.args.batch) in
+    let b = batch_of (arc_value c.args.batch.now) in
     let here = ap (λ (k : KeptAmong). k.kept.holding) c.kept.view_is in
-    let batches = ap (λ (s : Stored). s.batches) c.in_ok-put.ensures.batches in
+    let batches = ap (λ (s : Stored). s.batches) c.in_ok-put.ensures.batches ∙ ap (λ t. put c.kept.inside.store.batches (batch_of t)) c.in_ok-stored.ensures in
     let may = subst (λ (a : AgentSelf). journal_refusal a.group a.number a.journal b ≡ Ok tt) (sym c.self.view_is) c.requires in
     let next = journaled_is_next c.self.inside.group number c.self.inside.kept.kept.holding b may in
     let is = is_journal_with number c.self.inside.kept.kept.holding b c.self.invariant.2 next.0 next.1 in (
@@ -30,15 +30,15 @@ invariant_of-self-2 c =
 
 pub returns-clause-adds : goal.returns-clause-adds
 returns-clause-adds c =
-    let b = batch_of (arc_value c.args.batch) in
+    let b = batch_of (arc_value c.args.batch.now) in
     let read = subst (λ t. batch_in t ≡ Ok (batch_of t)) c.deref.ensures c.bytes.ensures.batch in
     let here = ap (λ (k : KeptAmong). k.kept.holding) c.kept.view_is in
-    let batches = ap (λ (s : Stored). s.batches) c.in_ok-put.ensures.batches in
+    let batches = ap (λ (s : Stored). s.batches) c.in_ok-put.ensures.batches ∙ ap (λ t. put c.kept.inside.store.batches (batch_of t)) c.in_ok-stored.ensures in
     let with : Holding → AgentSelf = λ h. record { group = c.self.inside.group; number = c.self.inside.number; journal = h } in
     let journal = ap with (batches ∙ ap (λ h. put h b) here) in
     let after : AgentSelf → AgentSelf = λ a. record { group = a.group; number = a.number; journal = put a.journal b } in
     let seen = ap after c.self.view_is in
-    adds_batch c.args.self.now _ b (IsWellFormed-read (arc_value c.args.batch) b read)
+    adds_batch c.args.self.now _ b (IsWellFormed-read (arc_value c.args.batch.now) b read)
     (subst (λ (a : AgentSelf). is_journal_of a.number a.journal ≡ true) c.self.view_is c.self.invariant.2)
     (subst (λ (a : AgentSelf). a.number ≤ a.group.agents) c.self.view_is c.self.invariant.3.number.1)
     c.requires (journal ∙ seen)

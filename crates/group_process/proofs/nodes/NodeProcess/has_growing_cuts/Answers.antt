@@ -1,4 +1,4 @@
-use Rattle.std.proofs.Common.{◌≡◌, ◌+◌, suc, length, sym, ap, arith}
+use Rattle.std.proofs.Common.{◌≡◌, ◌+◌, suc, length, refl, sym, ap, arith}
 use Rattle.group_process.specs.Selves.{NodeSelf}
 use Rattle.group_process.proofs.Growing.{grow_more, grow_not}
 use Rattle.group_process.proofs.nodes.NodeProcess.has_growing_cuts.Goals as goal
@@ -7,6 +7,9 @@ pub overflow_add-next-end : goal.overflow_add-next-end
 overflow_add-next-end c =
     let same = ap (λ (n : NodeSelf). length n.node.kept.learned) c.self.view_is in
     omega (arith, same)
+
+pub loop-next-init : goal.loop-next-init
+loop-next-init c = refl
 
 pub returns-then-not-goes_on : goal.returns-then-not-goes_on
 returns-then-not-goes_on c =
