@@ -269,7 +269,10 @@ fn with<'a>(
 }
 
 // With `rate`, `play` and `check`
-fn with_first<'a>(grammar: clap::Command<'a>, alloc: Global) -> Result<clap::Command<'a>, AllocError>
+fn with_first<'a>(
+    grammar: clap::Command<'a>,
+    alloc: Global,
+) -> Result<clap::Command<'a>, AllocError>
     ensures app { IfOk result (λ c. app_of c ≡ with_first (app_of grammar.entry)) }
 {
     let Ok(rating) = with(grammar, period_grammar(alloc, "rate", RATE)) else {
@@ -298,7 +301,10 @@ fn with_second<'a>(
 }
 
 // With `threads`, `node` and `agent`
-fn with_third<'a>(grammar: clap::Command<'a>, alloc: Global) -> Result<clap::Command<'a>, AllocError>
+fn with_third<'a>(
+    grammar: clap::Command<'a>,
+    alloc: Global,
+) -> Result<clap::Command<'a>, AllocError>
     ensures app { IfOk result (λ c. app_of c ≡ with_third (app_of grammar.entry)) }
 {
     let Ok(threading) = with(grammar, threads_grammar(alloc)) else {

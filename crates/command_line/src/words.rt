@@ -187,31 +187,31 @@ fn named(name: &str, options: &ArgMatches<'_>) -> Option<Command>
         → ¬ IsNamed name.now (rows_of (found_of options.now)) command }
 {
     match name {
-        "rate" => {
-            let period = period(options, "period")?;
-            Some(Command::Rate { period })
-        }
+        "rate" => match period(options, "period") {
+            Some(period) => Some(Command::Rate { period }),
+            None => None,
+        },
         "play" => Some(Command::Play),
-        "check" => {
-            let kind = kind(options)?;
-            Some(Command::Check(kind))
-        }
-        "file" => {
-            let period = period(options, "period")?;
-            Some(Command::File { period })
-        }
-        "threads" => {
-            let size = size(options)?;
-            Some(Command::Threads { size })
-        }
-        "sheets" => {
-            let asked = asked_of_sheets(options)?;
-            Some(Command::Sheets { asked })
-        }
-        "schedule" => {
-            let request = request(options)?;
-            Some(Command::Schedule { request })
-        }
+        "check" => match kind(options) {
+            Some(kind) => Some(Command::Check(kind)),
+            None => None,
+        },
+        "file" => match period(options, "period") {
+            Some(period) => Some(Command::File { period }),
+            None => None,
+        },
+        "threads" => match size(options) {
+            Some(size) => Some(Command::Threads { size }),
+            None => None,
+        },
+        "sheets" => match asked_of_sheets(options) {
+            Some(asked) => Some(Command::Sheets { asked }),
+            None => None,
+        },
+        "schedule" => match request(options) {
+            Some(request) => Some(Command::Schedule { request }),
+            None => None,
+        },
         "node" => Some(Command::Process {
             kind: ProcessKind::Node,
         }),

@@ -1,6 +1,6 @@
 use Rattle.std.proofs.Common.{◌≡◌, Ok, Err, ap, arith}
 use Rattle.std.proofs.lemmas.Bool.Decides.{nat_tests}
-use Rattle.command_line.proofs.CheckRuns.{check_comes_to}
+use Rattle.command_line.proofs.CheckRuns.{check_comes_to, says}
 use Rattle.command_line.proofs.runs.check.Goals as goal
 
 pub returns-in-Ok-eq0-clause-outcome : goal.returns-in-Ok-eq0-clause-outcome
@@ -11,6 +11,11 @@ returns-in-Ok-eq0-clause-outcome g c =
       done = (told.ensures.ahead (ap Ok zero), told.ensures.streams.end (ap Ok zero));
       calm = (told.ensures.streams.reads, told.ensures.streams.writes);
     }
+
+pub returns-in-Ok-clause-outcome : goal.returns-in-Ok-clause-outcome
+returns-in-Ok-clause-outcome g c =
+    let told = c.in-Ok.ensures in
+    says g.W.Sink c.args.kind c.in-Ok.count (g.R.Source.remaining c.args.reader.now) _ _ _ _ c.in-Ok.count-test.1 told.streams.reads told.streams.writes told.said
 
 pub returns-in-Err-clause-outcome : goal.returns-in-Err-clause-outcome
 returns-in-Err-clause-outcome g c =
