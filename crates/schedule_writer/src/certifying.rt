@@ -10,9 +10,9 @@ ghost use Rattle.metering_model.specs.World.{opening};
 ghost use Rattle.group_events.specs.Events.{event_of as offered_event};
 ghost use Rattle.group_events.specs.Replies.{reply_of};
 ghost use Rattle.schedule_reader.specs.Events.{HasWholeLines, planned_of};
-ghost use Rattle.schedule_reader.specs.Schedules.{events_in, preamble_in};
+ghost use Rattle.schedule_reader.specs.Schedules.{events_in};
 ghost use Rattle.schedule_writer.specs.Inner.Certified.{IsCertified};
-ghost use Rattle.schedule_writer.specs.Inner.Plans.{IsDone, IsDoneNext, IsWithinGroup, behind, journals_behind, nothing_seen, plan_of};
+ghost use Rattle.schedule_writer.specs.Inner.Plans.{IsDone, IsDoneNext, IsWithinGroup, all_seen, behind, journals_behind, nothing_seen, plan_of};
 
 use crate::faults::Stop;
 use crate::plans::{Plan, Seen};
@@ -170,78 +170,6 @@ fn is_planned(plan: &Plan<'_>, agents: u8, issuer: &Issuer, above: &Preamble<'_>
     is_group && above.sheet.same(plan.sheet) && above.issuer.same(issuer)
 }
 
-/// What stands above the events, where it is of that group, by this sheet and this issuer.
-fn if_planned<'a>(
-    plan: &Plan<'_>,
-    agents: u8,
-    issuer: &Issuer,
-    above: Preamble<'a>,
-) -> Result<Preamble<'a>, Stop>
-    ensures same { IfOk result (λ p. p ≡ above.entry) }
-    ensures planned { IfOk result (λ p. (p.voters ≡ plan.now.voters)
-        × (p.observers ≡ plan.now.observers) × (p.agents ≡ agents)
-        × (p.sheet ≡ plan.now.sheet.now) × (p.issuer ≡ issuer.now)) }
-{
-    if is_planned(plan, agents, issuer, &above) {
-        return Ok(above);
-    }
-    // Dropped by a call for the prover's time alone (docs/DECISIONS.md).
-    drop(above);
-    Err(Stop::NotClosed)
-}
-
-/// What stands above the events of a text, where it is of that group, by this sheet and this issuer.
-fn read_above<'a>(
-    alloc: Global,
-    plan: &Plan<'_>,
-    agents: u8,
-    issuer: &Issuer,
-    text: &'a [u8],
-) -> Result<Preamble<'a>, Stop>
-    ensures taken { IfOk result (λ p. preamble_in text.now
-        ≡ Ok (record {
-          voters = p.voters;
-          observers = p.observers;
-          agents = p.agents;
-          sheet = p.sheet;
-          issuer = p.issuer;
-          rest = p.rest;
-        })) }
-    ensures planned { IfOk result (λ p. (p.voters ≡ plan.now.voters)
-        × (p.observers ≡ plan.now.observers) × (p.agents ≡ agents)
-        × (p.sheet ≡ plan.now.sheet.now) × (p.issuer ≡ issuer.now)) }
-{
-    match Preamble::read(alloc, text) {
-        Ok(above) => if_planned(plan, agents, issuer, above),
-        Err(ScheduleFault::OutOfMemory) => Err(Stop::OutOfMemory),
-        Err(_) => Err(Stop::NotClosed),
-    }
-}
-
-/// Does the events that are left of the text in a group without journals, and answers what was done behind them.
-fn do_all(
-    alloc: Global,
-    plan: &Plan<'_>,
-    world: &mut World,
-    agents: u8,
-    text: &Arc<Vec<u8>>,
-    unread: Unread<'_>,
-    most: usize,
-) -> Result<Seen, Stop>
-    requires plan { IsWithinGroup plan.now }
-    requires text { unread.text ≡ (arc_value text.now).items }
-    requires agents { (1 ≤ agents) × (agents ≤ most_agents) }
-    requires opened { world.old.journals ≡ [] }
-    ensures { IfOk result
-        (λ seen. IsDone (plan_of plan.now) nothing_seen seen world.old
-        (events_in most unread.entry)) }
-{
-    let Ok(mut journals) = Store::new(alloc, agents) else {
-        return Err(Stop::OutOfMemory);
-    };
-    do_events(alloc, plan, world, &mut journals, text, unread, most)
-}
-
 /// Does the events of a text in a group of what stands above them, and answers what was done behind them.
 fn do_behind(
     alloc: Global,
@@ -270,7 +198,50 @@ fn do_behind(
     let Ok(mut world) = opening_world(alloc, voters, observers, agents, sheet, issuer) else {
         return Err(Stop::OutOfMemory);
     };
-    do_all(alloc, plan, &mut world, agents, text, rest, most)
+    match Store::new(alloc, agents) {
+        Ok(mut journals) => do_events(alloc, plan, &mut world, &mut journals, text, rest, most),
+        Err(_) => Err(Stop::OutOfMemory),
+    }
+}
+
+/// Whether what stands above the events of a text is planned, and the events do all that was planned.
+fn certify_below(
+    alloc: Global,
+    plan: &Plan<'_>,
+    agents: u8,
+    issuer: &Issuer,
+    text: &Arc<Vec<u8>>,
+    above: Preamble<'_>,
+    most: usize,
+) -> Result<(), Stop>
+    requires plan { IsWithinGroup plan.now }
+    requires text { above.rest.text ≡ (arc_value text.now).items }
+    requires nodes { (1 ≤ above.voters) × (above.voters + above.observers ≤ most_nodes) }
+    requires agents { (1 ≤ above.agents) × (above.agents ≤ most_agents) }
+    ensures planned { OnOk result ((above.entry.voters ≡ plan.now.voters)
+        × (above.entry.observers ≡ plan.now.observers) × (above.entry.agents ≡ agents)
+        × (above.entry.sheet ≡ plan.now.sheet.now) × (above.entry.issuer ≡ issuer.now)) }
+    ensures done { OnOk result
+        (IsDone (plan_of plan.now) nothing_seen (all_seen (plan_of plan.now))
+        (opening above.entry.voters above.entry.observers above.entry.agents
+        above.entry.sheet above.entry.issuer)
+        (events_in most above.entry.rest)) }
+{
+    if !is_planned(plan, agents, issuer, &above) {
+        // Dropped by a call for the prover's time alone (docs/DECISIONS.md).
+        drop(above);
+        return Err(Stop::NotClosed);
+    }
+    match do_behind(alloc, plan, text, above, most) {
+        Ok(seen) => {
+            if plan.is_done(seen) {
+                Ok(())
+            } else {
+                Err(Stop::NotClosed)
+            }
+        }
+        Err(stop) => Err(stop),
+    }
 }
 
 /// Whether a text, which is shared, is a schedule that does what was planned. Its batches are not copied.
@@ -291,11 +262,9 @@ pub(crate) fn certify(
     ensures { OnOk result (IsCertified (plan_of plan.now)
         plan.now.voters plan.now.observers agents plan.now.sheet.now issuer.now lent.now) }
 {
-    let above = read_above(alloc, plan, agents, issuer, lent)?;
-    let seen = do_behind(alloc, plan, text, above, lent.len())?;
-    if plan.is_done(seen) {
-        Ok(())
-    } else {
-        Err(Stop::NotClosed)
+    match Preamble::read(alloc, lent) {
+        Ok(above) => certify_below(alloc, plan, agents, issuer, text, above, lent.len()),
+        Err(ScheduleFault::OutOfMemory) => Err(Stop::OutOfMemory),
+        Err(_) => Err(Stop::NotClosed),
     }
 }

@@ -5,7 +5,6 @@ ghost use Rattle.metering_model.specs.Limits.{last_period};
 
 use crate::drafts::Draft;
 use crate::faults::Stop;
-use crate::inputs::Offered;
 use crate::plans::Plan;
 use byte_text::{Line, line_count};
 use input_sections::{ScheduleCode, Unread, read_section};
@@ -103,14 +102,6 @@ fn put_batch(draft: &mut Draft, nodes: u8, text: &[u8]) -> Result<(), Stop> {
     draft.deliver_to(packet, 0, nodes)
 }
 
-/// Appends that these batches are journaled.
-fn put_batches(draft: &mut Draft, nodes: u8, batches: &[Offered<'_>]) -> Result<(), Stop> {
-    for offered in batches {
-        put_batch(draft, nodes, offered.text)?;
-    }
-    Ok(())
-}
-
 /// Appends that each of the first nodes takes a packet and answers it by one that reaches node 0.
 fn put_round(draft: &mut Draft, packet: u32, many: u8) -> Result<(), Stop> {
     draft.deliver_to(packet, 0, many)?;
@@ -156,10 +147,13 @@ fn put_closed(draft: &mut Draft, voters: u8, nodes: u8, period: u16) -> Result<(
 
 /// Appends that the batches from one on to another are journaled.
 fn put_those(draft: &mut Draft, plan: &Plan<'_>, from: usize, to: usize) -> Result<(), Stop> {
-    match plan.batches.get(from..to) {
-        Some(batches) => put_batches(draft, plan.nodes, batches),
-        None => Err(Stop::NotClosed),
+    let Some(batches) = plan.batches.get(from..to) else {
+        return Err(Stop::NotClosed);
+    };
+    for offered in batches {
+        put_batch(draft, plan.nodes, offered.text)?;
     }
+    Ok(())
 }
 
 /// Appends that a period is closed behind the batches that stand above it, of which so many were journaled. It answers how many
