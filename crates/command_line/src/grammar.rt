@@ -278,7 +278,7 @@ fn with_first<'a>(
     let Ok(rating) = with(grammar, period_grammar(alloc, "rate", RATE)) else {
         return Err(AllocError);
     };
-    let Ok(playing) = with(rating, Ok(plain_grammar(alloc, "play", PLAY))) else {
+    let Ok(playing) = rating.subcommand(plain_grammar(alloc, "play", PLAY)) else {
         return Err(AllocError);
     };
     with(playing, check_grammar(alloc))
@@ -310,10 +310,10 @@ fn with_third<'a>(
     let Ok(threading) = with(grammar, threads_grammar(alloc)) else {
         return Err(AllocError);
     };
-    let Ok(nodes) = with(threading, Ok(explained(alloc, "node", NODE, NODE_INPUT))) else {
+    let Ok(nodes) = threading.subcommand(explained(alloc, "node", NODE, NODE_INPUT)) else {
         return Err(AllocError);
     };
-    with(nodes, Ok(explained(alloc, "agent", AGENT, AGENT_INPUT)))
+    nodes.subcommand(explained(alloc, "agent", AGENT, AGENT_INPUT))
 }
 
 /// The words of all commands, without the program's name.

@@ -1,7 +1,7 @@
 -- The numbers that are let through are those from the one to the other, since both are numbers of 16 bits.
 use mir.Syntax.{w64}
 use mir.Val.{of_z, to_z}
-use Rattle.std.proofs.Common.{◌≡◌, ◌<◌, ◌^◌, ℕ, ℤ, Option, Some, pos, arith, ap, ap₂, sym, subst, ◌∙◌}
+use Rattle.std.proofs.Common.{◌≡◌, ◌<◌, ◌^◌, ℕ, ℤ, Option, Some, pos, arith, ap, ap₂, subst, ◌∙◌}
 use Rattle.std.proofs.lemmas.Int.{ints, to_z_pos}
 use Rattle.clap.specs.Words.{NarrowsTo, Rule, rule_of}
 use Rattle.clap.specs.declared.builder.value_parser.ValueParser.{ValueParser}

@@ -1,4 +1,4 @@
-use Rattle.std.proofs.Common.{Ok, refl}
+use Rattle.std.proofs.Common.{refl}
 use Rattle.command_line.proofs.runs.ended.Goals as goal
 
 pub returns-in-Ok : goal.returns-in-Ok

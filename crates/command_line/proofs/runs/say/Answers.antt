@@ -1,4 +1,4 @@
-use Rattle.std.proofs.Common.{◌≡◌, ◌∙◌, ℕ, List, Option, None, Some, Result, ap, subst, sym}
+use Rattle.std.proofs.Common.{◌≡◌, ◌∙◌, ℕ, List, Option, Some, Result, ap, subst, sym}
 use Rattle.program_input.specs.declared.faults.PlayFault.{PlayFault}
 use Rattle.input_check.specs.Inputs.{Checks}
 use Rattle.command_line.specs.Runs.{IsChecked}
