@@ -96,7 +96,7 @@ fn put_issuer_words(told: &mut Vec<u8>, fault: IssuerFault) -> Result<(), AllocE
     put_issuer_fault(told, fault)
 }
 
-/// Drops an issuer beside no other value, for the prover's time alone.
+/// Drops an issuer beside no other value, for the prover's time alone (docs/DECISIONS.md).
 fn drop_issuer(_issuer: Issuer) {}
 
 /// Appends what the reader of an issuer says of a text.

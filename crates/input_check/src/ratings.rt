@@ -99,7 +99,9 @@ fn check_given(
     ensures warned { OnOk result
         (warned.new.items ≡ warned.old.items ++ warned_of_rating text.now) }
 {
-    put_unknown_on(alloc, warned, text, 1)?;
+    let Ok(()) = put_unknown_on(alloc, warned, text, 1) else {
+        return Err(AllocError);
+    };
     let (above, batch) = text.split_at(given.batch_from);
     check_batch(told, warned, &given.sheet, line_count(above), batch)
 }

@@ -18,5 +18,5 @@ returns-clause-warned c =
     let there = rating_warned c.args.text.now given.sheet given.issuer given.batch_from c.requires.within c.requires.taken in
     let here = rw c.line_count.ensures at (c.check_batch.ensures.ahead given.issuer) in
     on_ok c.check_batch.result
-    (λ ahead. in_two_parts warned _ _ _ _ c.in_ok-put_unknown_on.ensures ahead ∙ ap (λ t. warned ++ t) (sym there))
+    (λ ahead. in_two_parts warned _ _ _ _ c.in-Ok.ensures ahead ∙ ap (λ t. warned ++ t) (sym there))
     (rw c.split_at.ensures.front at (rw c.split_at.ensures.back at here))
