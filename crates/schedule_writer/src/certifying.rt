@@ -112,7 +112,10 @@ fn do_next<'a>(
     let Ok(event) = event_within(alloc, text, &planned, from) else {
         return Err(Stop::OutOfMemory);
     };
-    match do_made(alloc, plan, world, journals, seen, &planned, &event) {
+    let next = do_made(alloc, plan, world, journals, seen, &planned, &event);
+    // Dropped by a call for the prover's time alone (docs/DECISIONS.md).
+    drop(event);
+    match next {
         Ok(next) => Ok((next, rest)),
         Err(stop) => Err(stop),
     }
@@ -199,8 +202,16 @@ fn do_behind(
         return Err(Stop::OutOfMemory);
     };
     match Store::new(alloc, agents) {
-        Ok(mut journals) => do_events(alloc, plan, &mut world, &mut journals, text, rest, most),
-        Err(_) => Err(Stop::OutOfMemory),
+        Ok(mut journals) => {
+            let seen = do_events(alloc, plan, &mut world, &mut journals, text, rest, most);
+            // Dropped by a call for the prover's time alone (docs/DECISIONS.md), as in the other arm.
+            drop(world);
+            seen
+        }
+        Err(_) => {
+            drop(world);
+            Err(Stop::OutOfMemory)
+        }
     }
 }
 

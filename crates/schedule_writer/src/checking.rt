@@ -163,8 +163,13 @@ fn check_batches(
         batch_from,
     } = given;
     // Of one node and 64 agents, as it is played for a schedule.
-    let mut world = opening_world(alloc, 1, 0, 64, sheet, issuer)?;
-    check_items(alloc, &mut world, input, batch_from, told, warned)
+    let Ok(mut world) = opening_world(alloc, 1, 0, 64, sheet, issuer) else {
+        return Err(AllocError);
+    };
+    let checked = check_items(alloc, &mut world, input, batch_from, told, warned);
+    // Dropped by a call for the prover's time alone (docs/DECISIONS.md).
+    drop(world);
+    checked
 }
 
 /// Appends what is wrong with an input, and to another text what is odd: first the keys that no reader takes.

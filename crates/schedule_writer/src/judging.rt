@@ -195,14 +195,13 @@ fn world_before(
     ensures { IfOk result (λ world. world
         ≡ world_before (arc_value sheet.now) (arc_value issuer.now)) }
 {
-    World::new(
-        alloc,
-        1,
-        0,
-        64,
-        Arc::try_clone(sheet)?,
-        Arc::try_clone(issuer)?,
-    )
+    let Ok(sheet) = Arc::try_clone(sheet) else {
+        return Err(AllocError);
+    };
+    match Arc::try_clone(issuer) {
+        Ok(issuer) => World::new(alloc, 1, 0, 64, sheet, issuer),
+        Err(error) => Err(error),
+    }
 }
 
 /// Puts a batch that was journaled behind those above it.
@@ -352,7 +351,12 @@ pub(crate) fn read_items<'a>(
         (batches_of (items_in (length input.now) input.now from)))) }
 {
     match world_before(alloc, sheet, issuer) {
-        Ok(mut world) => items_by(alloc, &mut world, sheet, input, from),
+        Ok(mut world) => {
+            let items = items_by(alloc, &mut world, sheet, input, from);
+            // Dropped by a call for the prover's time alone (docs/DECISIONS.md).
+            drop(world);
+            items
+        }
         Err(_) => Err(WriteFault::OutOfMemory),
     }
 }

@@ -20,8 +20,8 @@ event_within-requires-clause-there c =
     there c.in-Ok.ensures.lines c.in-Ok.ensures.event in
     c.journal_from-from.ensures (arc_value c.args.text.now).items ends.1
 
-pub returns-in-Ok-do_made : goal.returns-in-Ok-do_made
-returns-in-Ok-do_made c =
+pub returns-in-Ok-next : goal.returns-in-Ok-next
+returns-in-Ok-next c =
     let rest = c.in-Ok.parts.1 in
     let there : rest.from ≤ length rest.text = omega (arith, c.from.ensures.value, c.from.ensures.within) in
     let text = c.in-Ok.ensures.text ∙ c.requires.text in
@@ -29,9 +29,9 @@ returns-in-Ok-do_made c =
       done = record {
         event = planned_of c.in-Ok.parts.0;
         is_read = c.in-Ok.ensures.event;
-        done = c.in-Ok-do_made.ensures.seen;
-        after = c.in-Ok-do_made.ensures.world;
+        done = rw c.in-Ok-next.is at c.do_made-next.ensures.seen;
+        after = rw c.in-Ok-next.is at c.do_made-next.ensures.world;
       };
       left = (text, subst (λ t. rest.from ≤ length t) text there);
-      journals = c.in-Ok-do_made.ensures.journals;
+      journals = rw c.in-Ok-next.is at c.do_made-next.ensures.journals;
     }
