@@ -15,7 +15,7 @@ ghost use Rattle.process_player.specs.Inner.Refusing.{OfAll};
 
 use crate::faults::ProcessFault;
 use crate::heads::{ProcessKind, drop_log};
-use crate::preambles::{Preamble, drop_issuer, drop_preamble, read_preamble};
+use crate::preambles::{Preamble, drop_issuer, drop_preamble, drop_sheet, read_preamble};
 use crate::stored::read_stored;
 use counted_io::Source;
 use group_process::{AgentProcess, Group, NodeProcess};
@@ -51,7 +51,8 @@ fn group_sharing(
 {
     match Arc::new(alloc, issuer) {
         Ok(issuer) => Ok(group_with(head, sheet, issuer)),
-        Err(_) => {
+        Err(unshared) => {
+            drop_issuer(unshared.value);
             drop_shared(sheet);
             Err(AllocError)
         }
@@ -70,7 +71,8 @@ fn group_of(
 {
     match Arc::new(alloc, sheet) {
         Ok(sheet) => group_sharing(alloc, head, sheet, issuer),
-        Err(_) => {
+        Err(unshared) => {
+            drop_sheet(unshared.value);
             drop_issuer(issuer);
             Err(AllocError)
         }

@@ -39,7 +39,7 @@ pub(crate) struct Preamble {
 }
 
 /// Drops a sheet beside no other value, for the prover's time alone (docs/DECISIONS.md).
-fn drop_sheet(_sheet: Sheet) {}
+pub(crate) fn drop_sheet(_sheet: Sheet) {}
 
 /// Drops an issuer beside no other value, as a sheet.
 pub(crate) fn drop_issuer(_issuer: Issuer) {}
