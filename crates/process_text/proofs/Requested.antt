@@ -1,5 +1,5 @@
 -- What is asked, by what was found of a line.
-use Rattle.std.proofs.Common.{◌≡◌, ℕ, Bool, true, false, not, if◌then◌else◌, List, codes, Option, Some, None, refl, sym, ap, ap₂, ◌∙◌}
+use Rattle.std.proofs.Common.{◌≡◌, ℕ, Bool, true, false, if◌then◌else◌, List, codes, Option, Some, None, refl, sym, ap, ap₂, ◌∙◌}
 use Rattle.std.specs.Option.{is_some}
 use Rattle.metering_model.specs.BatchReading.{is_same}
 use Rattle.process_laws.specs.LocalSteps.{BeginBallot, TellKept}

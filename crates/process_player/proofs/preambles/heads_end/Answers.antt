@@ -22,24 +22,29 @@ second g c = rw c.in-Lines-2.is at c.in_ok-both.ensures.found
 pub slice_bounds-is_same-count : goal.slice_bounds-is_same-count
 slice_bounds-is_same-count g c = omega (arith, between_long (first g (goal.at.slice_bounds-is_same-count g c).In-Lines))
 
-pub returns-then-not-is_same-clause-found : goal.returns-then-not-is_same-clause-found
-returns-then-not-is_same-clause-found g c =
-    let end = c.in-Lines.first in
-    other_first c.args.kind (first g (goal.at.returns-then-not-is_same-clause-found g c).In-Lines)
-    (ap (λ t. is_same (take (end - 1) t) (kind_word c.args.kind)) (sym c.ahead-2.ensures) ∙ ap (is_same (take (end - 1) c.ahead-2.result.now)) (sym c.first_word.ensures)
-    ∙ sym c.is_same.ensures ∙ c.if-not-is_same.true)
+pub returns-then-not-is_same : goal.returns-then-not-is_same
+returns-then-not-is_same g c = record {
+  takes = c.in_ok-first.ensures.takes;
+  found = let end = c.in-Lines.first in
+      other_first c.args.kind (first g (goal.at.returns-then-not-is_same g c).In-Lines)
+      (ap (λ t. is_same (take (end - 1) t) (kind_word c.args.kind)) (sym c.ahead-2.ensures) ∙ ap (is_same (take (end - 1) c.ahead-2.result.now)) (sym c.first_word.ensures)
+      ∙ sym c.is_same.ensures ∙ c.if-not-is_same.true);
+  within = (first g (goal.at.returns-then-not-is_same g c).In-Lines).within;
+  block = c.in_ok-first.ensures.block;
+  reads = answer_reads _ c.in_ok-first.ensures.reads;
+  others = tt;
+}
 
-pub returns-in_default-2-clause-takes : goal.returns-in_default-2-clause-takes
-returns-in_default-2-clause-takes g c = reads_on c.in_ok-first.ensures.takes c.in_ok-both.ensures.takes
-
-pub returns-in_default-2-clause-block : goal.returns-in_default-2-clause-block
-returns-in_default-2-clause-block g c =
-    up_to_on 16_777_216 c.args.unread.now.bytes c.lines_end_within.new.unread.bytes c.lines_end_within-2.new.unread.bytes c.in_ok-first.ensures.block c.in_ok-both.ensures.block
-
-pub returns-in_default-2-clause-found : goal.returns-in_default-2-clause-found
-returns-in_default-2-clause-found g c =
-    no_second c.args.kind (first g (goal.at.returns-in_default-2-clause-found g c).In-Lines) c.in_ok-both.ensures.takes (length c.ahead-in_default-2.result.now) (ap length c.ahead-in_default-2.ensures)
-    (absent c.in-Lines.first 1 c.lines_end_within-2.new.unread.bytes (g.S.Source.remaining c.lines_end_within-2.new.source) c.in_ok-both.field-0 c.in_ok-both.ensures.found c.in_default-2.not-Lines)
+pub returns-in_default-2 : goal.returns-in_default-2
+returns-in_default-2 g c = record {
+  takes = reads_on c.in_ok-first.ensures.takes c.in_ok-both.ensures.takes;
+  found = no_second c.args.kind (first g (goal.at.returns-in_default-2 g c).In-Lines) c.in_ok-both.ensures.takes (length c.ahead-in_default-2.result.now) (ap length c.ahead-in_default-2.ensures)
+      (absent c.in-Lines.first 1 c.lines_end_within-2.new.unread.bytes (g.S.Source.remaining c.lines_end_within-2.new.source) c.in_ok-both.field-0 c.in_ok-both.ensures.found c.in_default-2.not-Lines);
+  within = omega (arith, ap length c.ahead-in_default-2.ensures);
+  block = up_to_on 16_777_216 c.args.unread.now.bytes c.lines_end_within.new.unread.bytes c.lines_end_within-2.new.unread.bytes c.in_ok-first.ensures.block c.in_ok-both.ensures.block;
+  reads = reads_behind c.in_ok-first.ensures.reads (answer_reads _ c.in_ok-both.ensures.reads);
+  others = tt;
+}
 
 pub slice_bounds-heads_log-count : goal.slice_bounds-heads_log-count
 slice_bounds-heads_log-count g c = omega (arith, between_long (second g (goal.at.slice_bounds-heads_log-count g c).In-Lines-2))
@@ -62,16 +67,28 @@ is_kinds g c =
     ap (λ t. is_same (take (end - 1) t) (kind_word c.args.kind)) (sym c.ahead-2.ensures) ∙ ap (is_same (take (end - 1) c.ahead-2.result.now)) (sym c.first_word.ensures)
     ∙ sym c.is_same.ensures ∙ c.if-not-is_same.false
 
-pub returns-then-not-is_head-clause-found : goal.returns-then-not-is_head-clause-found
-returns-then-not-is_head-clause-found g c =
-    let at = goal.at.returns-then-not-is_head-clause-found g c in
-    other_second c.args.kind (first g at.In-Lines) c.in_ok-both.ensures.takes (second g at.In-Lines-2) (is_kinds g at.In-Ok) (said g at.In-Ok ∙ c.if-not-is_head.true)
+pub returns-then-not-is_head : goal.returns-then-not-is_head
+returns-then-not-is_head g c = record {
+  takes = reads_on c.in_ok-first.ensures.takes c.in_ok-both.ensures.takes;
+  found = let at = goal.at.returns-then-not-is_head g c in
+      other_second c.args.kind (first g at.In-Lines) c.in_ok-both.ensures.takes (second g at.In-Lines-2) (is_kinds g at.In-Ok) (said g at.In-Ok ∙ c.if-not-is_head.true);
+  within = (second g (goal.at.returns-then-not-is_head g c).In-Lines-2).within;
+  block = up_to_on 16_777_216 c.args.unread.now.bytes c.lines_end_within.new.unread.bytes c.lines_end_within-2.new.unread.bytes c.in_ok-first.ensures.block c.in_ok-both.ensures.block;
+  reads = reads_behind c.in_ok-first.ensures.reads (answer_reads _ c.in_ok-both.ensures.reads);
+  others = tt;
+}
 
-pub returns-clause-found : goal.returns-clause-found
-returns-clause-found g c =
-    let at = goal.at.returns-clause-found g c in
-    heads_found c.args.kind (first g at.In-Lines) c.in_ok-both.ensures.takes (second g at.In-Lines-2) (is_kinds g at.In-Ok) (said g at.In-Ok ∙ c.if-not-is_head.false)
-    (at_hand_within (at_hand_within c.requires.at_hand (first g at.In-Lines) 16_777_216 c.lines_end_within.ensures.last) (second g at.In-Lines-2) 16_777_216 c.lines_end_within-2.ensures.last)
+pub returns : goal.returns
+returns g c = record {
+  takes = reads_on c.in_ok-first.ensures.takes c.in_ok-both.ensures.takes;
+  found = let at = goal.at.returns g c in
+      heads_found c.args.kind (first g at.In-Lines) c.in_ok-both.ensures.takes (second g at.In-Lines-2) (is_kinds g at.In-Ok) (said g at.In-Ok ∙ c.if-not-is_head.false)
+      (at_hand_within (at_hand_within c.requires.at_hand (first g at.In-Lines) 16_777_216 c.lines_end_within.ensures.last) (second g at.In-Lines-2) 16_777_216 c.lines_end_within-2.ensures.last);
+  within = (second g (goal.at.returns g c).In-Lines-2).within;
+  block = up_to_on 16_777_216 c.args.unread.now.bytes c.lines_end_within.new.unread.bytes c.lines_end_within-2.new.unread.bytes c.in_ok-first.ensures.block c.in_ok-both.ensures.block;
+  reads = reads_behind c.in_ok-first.ensures.reads (answer_reads _ c.in_ok-both.ensures.reads);
+  others = tt;
+}
 
 -- ---- for what the search finds too, and takes long for
 
@@ -87,130 +104,43 @@ overflow_sub-both g c = omega (arith, between_long (second g (goal.at.overflow_s
 pub slice_bounds-heads_log-end : goal.slice_bounds-heads_log-end
 slice_bounds-heads_log-end g c = let within = (second g (goal.at.slice_bounds-heads_log-end g c).In-Lines-2).within in omega (arith, within, ap length c.ahead-3.ensures)
 
-pub returns-in_err-first-clause-takes : goal.returns-in_err-first-clause-takes
-returns-in_err-first-clause-takes g c = c.in_err-first.ensures.takes
+pub returns-in_err-first : goal.returns-in_err-first
+returns-in_err-first g c = record {
+  takes = c.in_err-first.ensures.takes;
+  found = none_found (handed (err_from_is_err_and c.from_residual.result c.from_residual.ensures.1)) _;
+  within = none_found (handed (err_from_is_err_and c.from_residual.result c.from_residual.ensures.1)) _;
+  block = c.in_err-first.ensures.block;
+  reads = source_reads (handed (err_from_is_err_and c.from_residual.result c.from_residual.ensures.1)) c.in_err-first.ensures.reads;
+  others = source_others (handed (err_from_is_err_and c.from_residual.result c.from_residual.ensures.1)) c.in_err-first.ensures.reads;
+}
 
-pub returns-in_err-first-clause-block : goal.returns-in_err-first-clause-block
-returns-in_err-first-clause-block g c = c.in_err-first.ensures.block
+pub returns-in_err-both : goal.returns-in_err-both
+returns-in_err-both g c = record {
+  takes = reads_on c.in_ok-first.ensures.takes c.in_err-both.ensures.takes;
+  found = none_found (handed (err_from_is_err_and c.from_residual-in_err-both.result c.from_residual-in_err-both.ensures.1)) _;
+  within = none_found (handed (err_from_is_err_and c.from_residual-in_err-both.result c.from_residual-in_err-both.ensures.1)) _;
+  block = up_to_on 16_777_216 c.args.unread.now.bytes c.lines_end_within.new.unread.bytes c.lines_end_within-2.new.unread.bytes c.in_ok-first.ensures.block c.in_err-both.ensures.block;
+  reads = reads_behind c.in_ok-first.ensures.reads (source_reads (handed (err_from_is_err_and c.from_residual-in_err-both.result c.from_residual-in_err-both.ensures.1)) c.in_err-both.ensures.reads);
+  others = source_others (handed (err_from_is_err_and c.from_residual-in_err-both.result c.from_residual-in_err-both.ensures.1)) c.in_err-both.ensures.reads;
+}
 
-pub returns-in_err-first-clause-reads : goal.returns-in_err-first-clause-reads
-returns-in_err-first-clause-reads g c = source_reads (handed (err_from_is_err_and c.from_residual.result c.from_residual.ensures.1)) c.in_err-first.ensures.reads
+pub returns-in_default : goal.returns-in_default
+returns-in_default g c = record {
+  takes = c.in_ok-first.ensures.takes;
+  found = no_first c.args.kind (length c.ahead.result.now) _ _ (ap length c.ahead.ensures)
+      (absent 0 1 c.lines_end_within.new.unread.bytes (g.S.Source.remaining c.lines_end_within.new.source) c.in_ok-first.field-0 c.in_ok-first.ensures.found c.in_default.not-Lines);
+  within = omega (arith, ap length c.ahead.ensures);
+  block = c.in_ok-first.ensures.block;
+  reads = answer_reads _ c.in_ok-first.ensures.reads;
+  others = tt;
+}
 
-pub returns-in_err-first-clause-found : goal.returns-in_err-first-clause-found
-returns-in_err-first-clause-found g c = none_found (handed (err_from_is_err_and c.from_residual.result c.from_residual.ensures.1)) _
-
-pub returns-in_err-first-clause-within : goal.returns-in_err-first-clause-within
-returns-in_err-first-clause-within g c = none_found (handed (err_from_is_err_and c.from_residual.result c.from_residual.ensures.1)) _
-
-pub returns-in_err-first-clause-others : goal.returns-in_err-first-clause-others
-returns-in_err-first-clause-others g c = source_others (handed (err_from_is_err_and c.from_residual.result c.from_residual.ensures.1)) c.in_err-first.ensures.reads
-
-pub returns-in_err-both-clause-takes : goal.returns-in_err-both-clause-takes
-returns-in_err-both-clause-takes g c = reads_on c.in_ok-first.ensures.takes c.in_err-both.ensures.takes
-
-pub returns-in_err-both-clause-block : goal.returns-in_err-both-clause-block
-returns-in_err-both-clause-block g c = up_to_on 16_777_216 c.args.unread.now.bytes c.lines_end_within.new.unread.bytes c.lines_end_within-2.new.unread.bytes c.in_ok-first.ensures.block c.in_err-both.ensures.block
-
-pub returns-in_err-both-clause-reads : goal.returns-in_err-both-clause-reads
-returns-in_err-both-clause-reads g c = reads_behind c.in_ok-first.ensures.reads (source_reads (handed (err_from_is_err_and c.from_residual-in_err-both.result c.from_residual-in_err-both.ensures.1)) c.in_err-both.ensures.reads)
-
-pub returns-in_err-both-clause-found : goal.returns-in_err-both-clause-found
-returns-in_err-both-clause-found g c = none_found (handed (err_from_is_err_and c.from_residual-in_err-both.result c.from_residual-in_err-both.ensures.1)) _
-
-pub returns-in_err-both-clause-within : goal.returns-in_err-both-clause-within
-returns-in_err-both-clause-within g c = none_found (handed (err_from_is_err_and c.from_residual-in_err-both.result c.from_residual-in_err-both.ensures.1)) _
-
-pub returns-in_err-both-clause-others : goal.returns-in_err-both-clause-others
-returns-in_err-both-clause-others g c = source_others (handed (err_from_is_err_and c.from_residual-in_err-both.result c.from_residual-in_err-both.ensures.1)) c.in_err-both.ensures.reads
-
-pub returns-in_default-clause-takes : goal.returns-in_default-clause-takes
-returns-in_default-clause-takes g c = c.in_ok-first.ensures.takes
-
-pub returns-in_default-clause-found : goal.returns-in_default-clause-found
-returns-in_default-clause-found g c =
-    no_first c.args.kind (length c.ahead.result.now) _ _ (ap length c.ahead.ensures)
-    (absent 0 1 c.lines_end_within.new.unread.bytes (g.S.Source.remaining c.lines_end_within.new.source) c.in_ok-first.field-0 c.in_ok-first.ensures.found c.in_default.not-Lines)
-
-pub returns-in_default-clause-within : goal.returns-in_default-clause-within
-returns-in_default-clause-within g c = omega (arith, ap length c.ahead.ensures)
-
-pub returns-in_default-clause-block : goal.returns-in_default-clause-block
-returns-in_default-clause-block g c = c.in_ok-first.ensures.block
-
-pub returns-in_default-clause-reads : goal.returns-in_default-clause-reads
-returns-in_default-clause-reads g c = answer_reads _ c.in_ok-first.ensures.reads
-
-pub returns-in_default-clause-others : goal.returns-in_default-clause-others
-returns-in_default-clause-others g c = tt
-
-pub returns-then-not-is_same-clause-takes : goal.returns-then-not-is_same-clause-takes
-returns-then-not-is_same-clause-takes g c = c.in_ok-first.ensures.takes
-
-pub returns-then-not-is_same-clause-within : goal.returns-then-not-is_same-clause-within
-returns-then-not-is_same-clause-within g c = (first g (goal.at.returns-then-not-is_same-clause-within g c).In-Lines).within
-
-pub returns-then-not-is_same-clause-block : goal.returns-then-not-is_same-clause-block
-returns-then-not-is_same-clause-block g c = c.in_ok-first.ensures.block
-
-pub returns-then-not-is_same-clause-reads : goal.returns-then-not-is_same-clause-reads
-returns-then-not-is_same-clause-reads g c = answer_reads _ c.in_ok-first.ensures.reads
-
-pub returns-then-not-is_same-clause-others : goal.returns-then-not-is_same-clause-others
-returns-then-not-is_same-clause-others g c = tt
-
-pub returns-in_default-2-clause-within : goal.returns-in_default-2-clause-within
-returns-in_default-2-clause-within g c = omega (arith, ap length c.ahead-in_default-2.ensures)
-
-pub returns-in_default-2-clause-reads : goal.returns-in_default-2-clause-reads
-returns-in_default-2-clause-reads g c = reads_behind c.in_ok-first.ensures.reads (answer_reads _ c.in_ok-both.ensures.reads)
-
-pub returns-in_default-2-clause-others : goal.returns-in_default-2-clause-others
-returns-in_default-2-clause-others g c = tt
-
-pub returns-in_default-heads_log-clause-takes : goal.returns-in_default-heads_log-clause-takes
-returns-in_default-heads_log-clause-takes g c = reads_on c.in_ok-first.ensures.takes c.in_ok-both.ensures.takes
-
-pub returns-in_default-heads_log-clause-found : goal.returns-in_default-heads_log-clause-found
-returns-in_default-heads_log-clause-found g c = tt
-
-pub returns-in_default-heads_log-clause-within : goal.returns-in_default-heads_log-clause-within
-returns-in_default-heads_log-clause-within g c = tt
-
-pub returns-in_default-heads_log-clause-block : goal.returns-in_default-heads_log-clause-block
-returns-in_default-heads_log-clause-block g c = up_to_on 16_777_216 c.args.unread.now.bytes c.lines_end_within.new.unread.bytes c.lines_end_within-2.new.unread.bytes c.in_ok-first.ensures.block c.in_ok-both.ensures.block
-
-pub returns-in_default-heads_log-clause-reads : goal.returns-in_default-heads_log-clause-reads
-returns-in_default-heads_log-clause-reads g c = reads_behind c.in_ok-first.ensures.reads (silent_reads refl refl c.in_ok-both.ensures.reads)
-
-pub returns-in_default-heads_log-clause-others : goal.returns-in_default-heads_log-clause-others
-returns-in_default-heads_log-clause-others g c = tt
-
-pub returns-then-not-is_head-clause-takes : goal.returns-then-not-is_head-clause-takes
-returns-then-not-is_head-clause-takes g c = reads_on c.in_ok-first.ensures.takes c.in_ok-both.ensures.takes
-
-pub returns-then-not-is_head-clause-within : goal.returns-then-not-is_head-clause-within
-returns-then-not-is_head-clause-within g c = (second g (goal.at.returns-then-not-is_head-clause-within g c).In-Lines-2).within
-
-pub returns-then-not-is_head-clause-block : goal.returns-then-not-is_head-clause-block
-returns-then-not-is_head-clause-block g c = up_to_on 16_777_216 c.args.unread.now.bytes c.lines_end_within.new.unread.bytes c.lines_end_within-2.new.unread.bytes c.in_ok-first.ensures.block c.in_ok-both.ensures.block
-
-pub returns-then-not-is_head-clause-reads : goal.returns-then-not-is_head-clause-reads
-returns-then-not-is_head-clause-reads g c = reads_behind c.in_ok-first.ensures.reads (answer_reads _ c.in_ok-both.ensures.reads)
-
-pub returns-then-not-is_head-clause-others : goal.returns-then-not-is_head-clause-others
-returns-then-not-is_head-clause-others g c = tt
-
-pub returns-clause-takes : goal.returns-clause-takes
-returns-clause-takes g c = reads_on c.in_ok-first.ensures.takes c.in_ok-both.ensures.takes
-
-pub returns-clause-within : goal.returns-clause-within
-returns-clause-within g c = (second g (goal.at.returns-clause-within g c).In-Lines-2).within
-
-pub returns-clause-block : goal.returns-clause-block
-returns-clause-block g c = up_to_on 16_777_216 c.args.unread.now.bytes c.lines_end_within.new.unread.bytes c.lines_end_within-2.new.unread.bytes c.in_ok-first.ensures.block c.in_ok-both.ensures.block
-
-pub returns-clause-reads : goal.returns-clause-reads
-returns-clause-reads g c = reads_behind c.in_ok-first.ensures.reads (answer_reads _ c.in_ok-both.ensures.reads)
-
-pub returns-clause-others : goal.returns-clause-others
-returns-clause-others g c = tt
+pub returns-in_default-heads_log : goal.returns-in_default-heads_log
+returns-in_default-heads_log g c = record {
+  takes = reads_on c.in_ok-first.ensures.takes c.in_ok-both.ensures.takes;
+  found = tt;
+  within = tt;
+  block = up_to_on 16_777_216 c.args.unread.now.bytes c.lines_end_within.new.unread.bytes c.lines_end_within-2.new.unread.bytes c.in_ok-first.ensures.block c.in_ok-both.ensures.block;
+  reads = reads_behind c.in_ok-first.ensures.reads (silent_reads refl refl c.in_ok-both.ensures.reads);
+  others = tt;
+}

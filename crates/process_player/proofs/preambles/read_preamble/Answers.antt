@@ -10,60 +10,45 @@ use Rattle.process_player.proofs.preambles.read_preamble.Goals as goal
 pub preamble_end-requires-clause-at_hand : goal.preamble_end-requires-clause-at_hand
 preamble_end-requires-clause-at_hand g c = omega (arith, c.requires.at_hand, ap length c.mark.ensures.bytes)
 
-pub returns-in-Ok-clause-read : goal.returns-in-Ok-clause-read
-returns-in-Ok-clause-read g c =
-    let p = c.in-Ok.preamble in
-    preamble_taken c.args.kind c.mark.ensures.bytes c.preamble_end.ensures.takes c.in_ok-judged.judged c.in_ok-judged.ensures.found c.end_of-end.result c.end_of-end.ensures
-    p.own p.sheet p.issuer p.line (rw c.ahead.ensures at c.in-Ok.ensures.read) c.take.ensures.bytes
+pub returns-in-Ok : goal.returns-in-Ok
+returns-in-Ok g c = record {
+  read = let p = c.in-Ok.preamble in
+      preamble_taken c.args.kind c.mark.ensures.bytes c.preamble_end.ensures.takes c.in_ok-judged.judged c.in_ok-judged.ensures.found c.end_of-end.result c.end_of-end.ensures
+      p.own p.sheet p.issuer p.line (rw c.ahead.ensures at c.in-Ok.ensures.read) c.take.ensures.bytes;
+  refused = tt;
+  reads = read_still c.take.ensures.read (answers_on _ c.in_ok-judged.ensures.reads);
+  no_write = ok_no_write;
+}
 
-pub returns-in-Err-clause-refused : goal.returns-in-Err-clause-refused
-returns-in-Err-clause-refused g c =
-    let left = g.S.Source.remaining c.args.source.now in
-    let why = c.in-Err.fault in
-    subst (λ fault. OfAll (RejectsPreamble c.args.kind fault) c.args.unread.now.bytes left) (sym c.fault_of_section.ensures)
-    (section_rejects c.args.kind c.args.unread.now.bytes left why
-    (λ other.
-    preamble_refused c.args.kind c.mark.ensures.bytes c.preamble_end.ensures.takes c.in_ok-judged.judged c.in_ok-judged.ensures.found c.end_of-end.result c.end_of-end.ensures
-    why (rw c.ahead.ensures at (c.in-Err.ensures.refused other))))
+pub returns-in-Err : goal.returns-in-Err
+returns-in-Err g c = record {
+  read = tt;
+  refused = let left = g.S.Source.remaining c.args.source.now in
+      let why = c.in-Err.fault in
+      subst (λ fault. OfAll (RejectsPreamble c.args.kind fault) c.args.unread.now.bytes left) (sym c.fault_of_section.ensures)
+      (section_rejects c.args.kind c.args.unread.now.bytes left why
+      (λ other.
+      preamble_refused c.args.kind c.mark.ensures.bytes c.preamble_end.ensures.takes c.in_ok-judged.judged c.in_ok-judged.ensures.found c.end_of-end.result c.end_of-end.ensures
+      why (rw c.ahead.ensures at (c.in-Err.ensures.refused other))));
+  reads = section_behind c.in-Err.fault (ap Err c.fault_of_section.ensures) c.in_ok-judged.ensures.reads;
+  no_write = never_write (ap Err c.fault_of_section.ensures) (section_no_write c.in-Err.fault);
+}
 
-pub returns-in_err-judged-clause-refused : goal.returns-in_err-judged-clause-refused
-returns-in_err-judged-clause-refused g c =
-    let p = err_from_is_err_and c.from_residual.result c.from_residual.ensures.1 in
-    rw (p.1, p.2)
-    (reading_rejects c.args.kind (never_long c.preamble_end.ensures.takes c.preamble_end.ensures.block (c.mark.ensures.read ∙ sym (ap length c.mark.ensures.bytes)) (omega (arith, c.mark.ensures.within, c.requires.read)))
-    c.in_err-judged.field-0.0 c.args.unread.now.bytes (g.S.Source.remaining c.args.source.now) c.in_err-judged.ensures.others)
+pub returns-in_err-judged : goal.returns-in_err-judged
+returns-in_err-judged g c = record {
+  read = none_found (handed (err_from_is_err_and c.from_residual.result c.from_residual.ensures.1)) _;
+  refused = let p = err_from_is_err_and c.from_residual.result c.from_residual.ensures.1 in
+      rw (p.1, p.2)
+      (reading_rejects c.args.kind (never_long c.preamble_end.ensures.takes c.preamble_end.ensures.block (c.mark.ensures.read ∙ sym (ap length c.mark.ensures.bytes)) (omega (arith, c.mark.ensures.within, c.requires.read)))
+      c.in_err-judged.field-0.0 c.args.unread.now.bytes (g.S.Source.remaining c.args.source.now) c.in_err-judged.ensures.others);
+  reads = handed_reads (handed (err_from_is_err_and c.from_residual.result c.from_residual.ensures.1)) c.in_err-judged.ensures.reads;
+  no_write = never_write (handed (err_from_is_err_and c.from_residual.result c.from_residual.ensures.1)) (reading_no_write _ c.in_err-judged.ensures.others);
+}
 
 -- ---- for what the search finds too, and takes long for
 
 pub preamble_end-requires-clause-read : goal.preamble_end-requires-clause-read
 preamble_end-requires-clause-read g c = omega (arith, c.mark.ensures.within, c.requires.read)
 
-pub returns-in_err-judged-clause-read : goal.returns-in_err-judged-clause-read
-returns-in_err-judged-clause-read g c = none_found (handed (err_from_is_err_and c.from_residual.result c.from_residual.ensures.1)) _
-
-pub returns-in_err-judged-clause-reads : goal.returns-in_err-judged-clause-reads
-returns-in_err-judged-clause-reads g c = handed_reads (handed (err_from_is_err_and c.from_residual.result c.from_residual.ensures.1)) c.in_err-judged.ensures.reads
-
-pub returns-in_err-judged-clause-no_write : goal.returns-in_err-judged-clause-no_write
-returns-in_err-judged-clause-no_write g c = never_write (handed (err_from_is_err_and c.from_residual.result c.from_residual.ensures.1)) (reading_no_write _ c.in_err-judged.ensures.others)
-
 pub take-requires : goal.take-requires
 take-requires g c = subst (λ n. n ≤ length c.preamble_end.new.unread.bytes) (sym c.end_of-end.ensures) c.in_ok-judged.ensures.within
-
-pub returns-in-Ok-clause-refused : goal.returns-in-Ok-clause-refused
-returns-in-Ok-clause-refused g c = tt
-
-pub returns-in-Ok-clause-reads : goal.returns-in-Ok-clause-reads
-returns-in-Ok-clause-reads g c = read_still c.take.ensures.read (answers_on _ c.in_ok-judged.ensures.reads)
-
-pub returns-in-Ok-clause-no_write : goal.returns-in-Ok-clause-no_write
-returns-in-Ok-clause-no_write g c = ok_no_write
-
-pub returns-in-Err-clause-read : goal.returns-in-Err-clause-read
-returns-in-Err-clause-read g c = tt
-
-pub returns-in-Err-clause-reads : goal.returns-in-Err-clause-reads
-returns-in-Err-clause-reads g c = section_behind c.in-Err.fault (ap Err c.fault_of_section.ensures) c.in_ok-judged.ensures.reads
-
-pub returns-in-Err-clause-no_write : goal.returns-in-Err-clause-no_write
-returns-in-Err-clause-no_write g c = never_write (ap Err c.fault_of_section.ensures) (section_no_write c.in-Err.fault)

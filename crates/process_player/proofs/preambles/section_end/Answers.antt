@@ -27,12 +27,18 @@ slice_bounds-number_behind-count g c = omega (arith, behind g (goal.at.slice_bou
 pub slice_bounds-number_behind-start : goal.slice_bounds-number_behind-start
 slice_bounds-number_behind-start g c = omega (arith, behind g (goal.at.slice_bounds-number_behind-start g c).In-Lines)
 
-pub returns-in_default-number_behind-clause-found : goal.returns-in_default-number_behind-clause-found
-returns-in_default-number_behind-clause-found g c =
-    let from = c.args.from in
-    let opening = c.in-Lines.opening in
-    let none = ap (λ t. number_behind c.args.word.now c.args.most (take (opening - 1 - from) (drop from t))) (sym c.ahead-2.ensures) ∙ sym c.in_default-number_behind.ensures.value in
-    not_said (line_there g (goal.at.returns-in_default-number_behind-clause-found g c).In-Lines) c.args.word.now c.args.most none
+pub returns-in_default-number_behind : goal.returns-in_default-number_behind
+returns-in_default-number_behind g c = record {
+  takes = c.in_ok-opening.ensures.takes;
+  found = let from = c.args.from in
+      let opening = c.in-Lines.opening in
+      let none = ap (λ t. number_behind c.args.word.now c.args.most (take (opening - 1 - from) (drop from t))) (sym c.ahead-2.ensures) ∙ sym c.in_default-number_behind.ensures.value in
+      not_said (line_there g (goal.at.returns-in_default-number_behind g c).In-Lines) c.args.word.now c.args.most none;
+  within = (line_there g (goal.at.returns-in_default-number_behind g c).In-Lines).within;
+  block = c.in_ok-opening.ensures.block;
+  reads = answer_reads _ c.in_ok-opening.ensures.reads;
+  others = tt;
+}
 
 -- the line says so many lines
 says : (g : given.Over) (c : In-Some g)
@@ -42,81 +48,58 @@ says g c =
     let opening = c.in-Lines.opening in
     ap (λ t. number_behind c.args.word.now c.args.most (take (opening - 1 - from) (drop from t))) (sym c.ahead-2.ensures) ∙ sym c.in-Some.ensures.value
 
-pub returns-in_default-2-clause-found : goal.returns-in_default-2-clause-found
-returns-in_default-2-clause-found g c =
-    let said = says g (goal.at.returns-in_default-2-clause-found g c).In-Some ∙ ap Some (sym c.from-count.ensures) in
-    let few = absent c.in-Lines.opening c.from-count.result c.lines_end_within-2.new.unread.bytes (g.S.Source.remaining c.lines_end_within-2.new.source) c.in_ok-end.field-0 c.in_ok-end.ensures.found c.in_default-2.not-Lines in
-    too_few (line_there g (goal.at.returns-in_default-2-clause-found g c).In-Lines) c.args.word.now c.args.most c.from-count.result said c.lines_end_within-2.ensures.takes
-    (length c.ahead-in_default-2.result.now) (ap length c.ahead-in_default-2.ensures) few
+pub returns-in_default-2 : goal.returns-in_default-2
+returns-in_default-2 g c = record {
+  takes = reads_on c.in_ok-opening.ensures.takes c.in_ok-end.ensures.takes;
+  found = let said = says g (goal.at.returns-in_default-2 g c).In-Some ∙ ap Some (sym c.from-count.ensures) in
+      let few = absent c.in-Lines.opening c.from-count.result c.lines_end_within-2.new.unread.bytes (g.S.Source.remaining c.lines_end_within-2.new.source) c.in_ok-end.field-0 c.in_ok-end.ensures.found c.in_default-2.not-Lines in
+      too_few (line_there g (goal.at.returns-in_default-2 g c).In-Lines) c.args.word.now c.args.most c.from-count.result said c.lines_end_within-2.ensures.takes
+      (length c.ahead-in_default-2.result.now) (ap length c.ahead-in_default-2.ensures) few;
+  within = omega (arith, ap length c.ahead-in_default-2.ensures);
+  block = up_to_on 16_777_216 c.args.unread.now.bytes c.lines_end_within.new.unread.bytes c.lines_end_within-2.new.unread.bytes c.in_ok-opening.ensures.block c.in_ok-end.ensures.block;
+  reads = reads_behind c.in_ok-opening.ensures.reads (answer_reads _ c.in_ok-end.ensures.reads);
+  others = tt;
+}
 
-pub returns-clause-found : goal.returns-clause-found
-returns-clause-found g c =
-    let said = says g (goal.at.returns-clause-found g c).In-Some ∙ ap Some (sym c.from-count.ensures) in
-    let lines = rw c.in-Lines-2.is at c.in_ok-end.ensures.found in
-    let one = line_there g (goal.at.returns-clause-found g c).In-Lines in
-    section_found one c.args.word.now c.args.most c.from-count.result said c.lines_end_within-2.ensures.takes c.in-Lines-2.end lines
-    (at_hand_within (at_hand_within c.requires.at_hand one 16_777_216 c.lines_end_within.ensures.last) lines 16_777_216 c.lines_end_within-2.ensures.last)
-
-pub returns-in_default-2-clause-takes : goal.returns-in_default-2-clause-takes
-returns-in_default-2-clause-takes g c = reads_on c.in_ok-opening.ensures.takes c.in_ok-end.ensures.takes
+pub returns : goal.returns
+returns g c = record {
+  takes = reads_on c.in_ok-opening.ensures.takes c.in_ok-end.ensures.takes;
+  found = let said = says g (goal.at.returns g c).In-Some ∙ ap Some (sym c.from-count.ensures) in
+      let lines = rw c.in-Lines-2.is at c.in_ok-end.ensures.found in
+      let one = line_there g (goal.at.returns g c).In-Lines in
+      section_found one c.args.word.now c.args.most c.from-count.result said c.lines_end_within-2.ensures.takes c.in-Lines-2.end lines
+      (at_hand_within (at_hand_within c.requires.at_hand one 16_777_216 c.lines_end_within.ensures.last) lines 16_777_216 c.lines_end_within-2.ensures.last);
+  within = (rw c.in-Lines-2.is at c.in_ok-end.ensures.found).within;
+  block = up_to_on 16_777_216 c.args.unread.now.bytes c.lines_end_within.new.unread.bytes c.lines_end_within-2.new.unread.bytes c.in_ok-opening.ensures.block c.in_ok-end.ensures.block;
+  reads = reads_behind c.in_ok-opening.ensures.reads (answer_reads _ c.in_ok-end.ensures.reads);
+  others = tt;
+}
 
 -- ---- for what the search finds too, and takes long for
 
-pub returns-in_err-opening-clause-takes : goal.returns-in_err-opening-clause-takes
-returns-in_err-opening-clause-takes g c = c.in_err-opening.ensures.takes
+pub returns-in_err-opening : goal.returns-in_err-opening
+returns-in_err-opening g c = record {
+  takes = c.in_err-opening.ensures.takes;
+  found = none_found (handed (err_from_is_err_and c.from_residual.result c.from_residual.ensures.1)) _;
+  within = none_found (handed (err_from_is_err_and c.from_residual.result c.from_residual.ensures.1)) _;
+  block = c.in_err-opening.ensures.block;
+  reads = source_reads (handed (err_from_is_err_and c.from_residual.result c.from_residual.ensures.1)) c.in_err-opening.ensures.reads;
+  others = source_others (handed (err_from_is_err_and c.from_residual.result c.from_residual.ensures.1)) c.in_err-opening.ensures.reads;
+}
 
-pub returns-in_err-opening-clause-found : goal.returns-in_err-opening-clause-found
-returns-in_err-opening-clause-found g c = none_found (handed (err_from_is_err_and c.from_residual.result c.from_residual.ensures.1)) _
-
-pub returns-in_err-opening-clause-within : goal.returns-in_err-opening-clause-within
-returns-in_err-opening-clause-within g c = none_found (handed (err_from_is_err_and c.from_residual.result c.from_residual.ensures.1)) _
-
-pub returns-in_err-opening-clause-block : goal.returns-in_err-opening-clause-block
-returns-in_err-opening-clause-block g c = c.in_err-opening.ensures.block
-
-pub returns-in_err-opening-clause-reads : goal.returns-in_err-opening-clause-reads
-returns-in_err-opening-clause-reads g c = source_reads (handed (err_from_is_err_and c.from_residual.result c.from_residual.ensures.1)) c.in_err-opening.ensures.reads
-
-pub returns-in_err-opening-clause-others : goal.returns-in_err-opening-clause-others
-returns-in_err-opening-clause-others g c = source_others (handed (err_from_is_err_and c.from_residual.result c.from_residual.ensures.1)) c.in_err-opening.ensures.reads
-
-pub returns-in_default-clause-takes : goal.returns-in_default-clause-takes
-returns-in_default-clause-takes g c = c.in_ok-opening.ensures.takes
-
-pub returns-in_default-clause-found : goal.returns-in_default-clause-found
-returns-in_default-clause-found g c =
-    none_opens c.args.word.now c.args.most c.args.from (length c.ahead.result.now) _ _ (still_there c.requires.from c.in_ok-opening.ensures.takes) (ap length c.ahead.ensures)
-    (absent c.args.from 1 c.lines_end_within.new.unread.bytes (g.S.Source.remaining c.lines_end_within.new.source) c.in_ok-opening.field-0 c.in_ok-opening.ensures.found c.in_default.not-Lines)
-
-pub returns-in_default-clause-within : goal.returns-in_default-clause-within
-returns-in_default-clause-within g c = omega (arith, ap length c.ahead.ensures)
-
-pub returns-in_default-clause-block : goal.returns-in_default-clause-block
-returns-in_default-clause-block g c = c.in_ok-opening.ensures.block
-
-pub returns-in_default-clause-reads : goal.returns-in_default-clause-reads
-returns-in_default-clause-reads g c = answer_reads _ c.in_ok-opening.ensures.reads
-
-pub returns-in_default-clause-others : goal.returns-in_default-clause-others
-returns-in_default-clause-others g c = tt
+pub returns-in_default : goal.returns-in_default
+returns-in_default g c = record {
+  takes = c.in_ok-opening.ensures.takes;
+  found = none_opens c.args.word.now c.args.most c.args.from (length c.ahead.result.now) _ _ (still_there c.requires.from c.in_ok-opening.ensures.takes) (ap length c.ahead.ensures)
+      (absent c.args.from 1 c.lines_end_within.new.unread.bytes (g.S.Source.remaining c.lines_end_within.new.source) c.in_ok-opening.field-0 c.in_ok-opening.ensures.found c.in_default.not-Lines);
+  within = omega (arith, ap length c.ahead.ensures);
+  block = c.in_ok-opening.ensures.block;
+  reads = answer_reads _ c.in_ok-opening.ensures.reads;
+  others = tt;
+}
 
 pub slice_bounds-number_behind-end : goal.slice_bounds-number_behind-end
 slice_bounds-number_behind-end g c = let within = (line_there g (goal.at.slice_bounds-number_behind-end g c).In-Lines).within in omega (arith, within, ap length c.ahead-2.ensures)
-
-pub returns-in_default-number_behind-clause-takes : goal.returns-in_default-number_behind-clause-takes
-returns-in_default-number_behind-clause-takes g c = c.in_ok-opening.ensures.takes
-
-pub returns-in_default-number_behind-clause-within : goal.returns-in_default-number_behind-clause-within
-returns-in_default-number_behind-clause-within g c = (line_there g (goal.at.returns-in_default-number_behind-clause-within g c).In-Lines).within
-
-pub returns-in_default-number_behind-clause-block : goal.returns-in_default-number_behind-clause-block
-returns-in_default-number_behind-clause-block g c = c.in_ok-opening.ensures.block
-
-pub returns-in_default-number_behind-clause-reads : goal.returns-in_default-number_behind-clause-reads
-returns-in_default-number_behind-clause-reads g c = answer_reads _ c.in_ok-opening.ensures.reads
-
-pub returns-in_default-number_behind-clause-others : goal.returns-in_default-number_behind-clause-others
-returns-in_default-number_behind-clause-others g c = tt
 
 pub lines_end_within-requires-2-clause-read : goal.lines_end_within-requires-2-clause-read
 lines_end_within-requires-2-clause-read g c = c.in_ok-opening.ensures.reads.within
@@ -124,47 +107,12 @@ lines_end_within-requires-2-clause-read g c = c.in_ok-opening.ensures.reads.with
 pub lines_end_within-requires-2-clause-from : goal.lines_end_within-requires-2-clause-from
 lines_end_within-requires-2-clause-from g c = (line_there g (goal.at.lines_end_within-requires-2-clause-from g c).In-Lines).within
 
-pub returns-in_err-end-clause-takes : goal.returns-in_err-end-clause-takes
-returns-in_err-end-clause-takes g c = reads_on c.in_ok-opening.ensures.takes c.in_err-end.ensures.takes
-
-pub returns-in_err-end-clause-found : goal.returns-in_err-end-clause-found
-returns-in_err-end-clause-found g c = none_found (handed (err_from_is_err_and c.from_residual-in_err-end.result c.from_residual-in_err-end.ensures.1)) _
-
-pub returns-in_err-end-clause-within : goal.returns-in_err-end-clause-within
-returns-in_err-end-clause-within g c = none_found (handed (err_from_is_err_and c.from_residual-in_err-end.result c.from_residual-in_err-end.ensures.1)) _
-
-pub returns-in_err-end-clause-block : goal.returns-in_err-end-clause-block
-returns-in_err-end-clause-block g c = up_to_on 16_777_216 c.args.unread.now.bytes c.lines_end_within.new.unread.bytes c.lines_end_within-2.new.unread.bytes c.in_ok-opening.ensures.block c.in_err-end.ensures.block
-
-pub returns-in_err-end-clause-reads : goal.returns-in_err-end-clause-reads
-returns-in_err-end-clause-reads g c = reads_behind c.in_ok-opening.ensures.reads (source_reads (handed (err_from_is_err_and c.from_residual-in_err-end.result c.from_residual-in_err-end.ensures.1)) c.in_err-end.ensures.reads)
-
-pub returns-in_err-end-clause-others : goal.returns-in_err-end-clause-others
-returns-in_err-end-clause-others g c = source_others (handed (err_from_is_err_and c.from_residual-in_err-end.result c.from_residual-in_err-end.ensures.1)) c.in_err-end.ensures.reads
-
-pub returns-in_default-2-clause-within : goal.returns-in_default-2-clause-within
-returns-in_default-2-clause-within g c = omega (arith, ap length c.ahead-in_default-2.ensures)
-
-pub returns-in_default-2-clause-block : goal.returns-in_default-2-clause-block
-returns-in_default-2-clause-block g c = up_to_on 16_777_216 c.args.unread.now.bytes c.lines_end_within.new.unread.bytes c.lines_end_within-2.new.unread.bytes c.in_ok-opening.ensures.block c.in_ok-end.ensures.block
-
-pub returns-in_default-2-clause-reads : goal.returns-in_default-2-clause-reads
-returns-in_default-2-clause-reads g c = reads_behind c.in_ok-opening.ensures.reads (answer_reads _ c.in_ok-end.ensures.reads)
-
-pub returns-in_default-2-clause-others : goal.returns-in_default-2-clause-others
-returns-in_default-2-clause-others g c = tt
-
-pub returns-clause-takes : goal.returns-clause-takes
-returns-clause-takes g c = reads_on c.in_ok-opening.ensures.takes c.in_ok-end.ensures.takes
-
-pub returns-clause-within : goal.returns-clause-within
-returns-clause-within g c = (rw c.in-Lines-2.is at c.in_ok-end.ensures.found).within
-
-pub returns-clause-block : goal.returns-clause-block
-returns-clause-block g c = up_to_on 16_777_216 c.args.unread.now.bytes c.lines_end_within.new.unread.bytes c.lines_end_within-2.new.unread.bytes c.in_ok-opening.ensures.block c.in_ok-end.ensures.block
-
-pub returns-clause-reads : goal.returns-clause-reads
-returns-clause-reads g c = reads_behind c.in_ok-opening.ensures.reads (answer_reads _ c.in_ok-end.ensures.reads)
-
-pub returns-clause-others : goal.returns-clause-others
-returns-clause-others g c = tt
+pub returns-in_err-end : goal.returns-in_err-end
+returns-in_err-end g c = record {
+  takes = reads_on c.in_ok-opening.ensures.takes c.in_err-end.ensures.takes;
+  found = none_found (handed (err_from_is_err_and c.from_residual-in_err-end.result c.from_residual-in_err-end.ensures.1)) _;
+  within = none_found (handed (err_from_is_err_and c.from_residual-in_err-end.result c.from_residual-in_err-end.ensures.1)) _;
+  block = up_to_on 16_777_216 c.args.unread.now.bytes c.lines_end_within.new.unread.bytes c.lines_end_within-2.new.unread.bytes c.in_ok-opening.ensures.block c.in_err-end.ensures.block;
+  reads = reads_behind c.in_ok-opening.ensures.reads (source_reads (handed (err_from_is_err_and c.from_residual-in_err-end.result c.from_residual-in_err-end.ensures.1)) c.in_err-end.ensures.reads);
+  others = source_others (handed (err_from_is_err_and c.from_residual-in_err-end.result c.from_residual-in_err-end.ensures.1)) c.in_err-end.ensures.reads;
+}

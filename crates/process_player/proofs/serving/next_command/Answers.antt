@@ -8,59 +8,55 @@ use Rattle.process_player.proofs.Passing.{passes_marked}
 use Rattle.process_player.proofs.Refusing.{long_read}
 use Rattle.process_player.proofs.serving.next_command.Goals as goal
 
-pub returns-in_default-clause-found : goal.returns-in_default-clause-found
-returns-in_default-clause-found g c =
-    let few = rw c.in_default.is at c.in_ok-end.ensures.found in
-    (few.1, torn_first c.args.process.now c.lines_end.new.unread.bytes _ few)
+pub returns-in_default : goal.returns-in_default
+returns-in_default g c = record {
+  passes = passes_marked c.mark.ensures.bytes c.in_ok-end.ensures.takes;
+  found = let few = rw c.in_default.is at c.in_ok-end.ensures.found in
+      (few.1, torn_first c.args.process.now c.lines_end.new.unread.bytes _ few);
+  reads = answer_reads _ c.in_ok-end.ensures.reads;
+  others = tt;
+}
 
 pub slice_bounds-lines_below-count : goal.slice_bounds-lines_below-count
 slice_bounds-lines_below-count g c = some_first (rw c.in-Some.is at c.in_ok-end.ensures.found)
 
-pub returns-in_default-2-clause-passes : goal.returns-in_default-2-clause-passes
-returns-in_default-2-clause-passes g c = passes_twice c.mark.ensures.bytes c.in_ok-end.ensures.takes c.in_ok-all.ensures.takes
+pub returns-in_default-2 : goal.returns-in_default-2
+returns-in_default-2 g c = record {
+  passes = passes_twice c.mark.ensures.bytes c.in_ok-end.ensures.takes c.in_ok-all.ensures.takes;
+  found = let one = rw c.in-Some.is at c.in_ok-end.ensures.found in
+      let few = rw c.in_default-2.is at c.in_ok-all.ensures.found in (
+        few.1,
+        torn_later c.args.process.now c.in-Some.end c.lines_below-lines.result c.from.result c.lines_end.new.unread.bytes c.ahead.result.now c.lines_end-2.new.unread.bytes _
+            one c.in_ok-all.ensures.takes c.lines_below-lines.ensures.value c.ahead.ensures c.from.ensures few,
+      );
+  reads = reads_behind c.in_ok-end.ensures.reads (answer_reads _ c.in_ok-all.ensures.reads);
+  others = tt;
+}
 
-pub returns-in_default-2-clause-found : goal.returns-in_default-2-clause-found
-returns-in_default-2-clause-found g c =
-    let one = rw c.in-Some.is at c.in_ok-end.ensures.found in
-    let few = rw c.in_default-2.is at c.in_ok-all.ensures.found in (
-      few.1,
-      torn_later c.args.process.now c.in-Some.end c.lines_below-lines.result c.from.result c.lines_end.new.unread.bytes c.ahead.result.now c.lines_end-2.new.unread.bytes _
-          one c.in_ok-all.ensures.takes c.lines_below-lines.ensures.value c.ahead.ensures c.from.ensures few,
-    )
-
-pub returns-clause-found : goal.returns-clause-found
-returns-clause-found g c =
-    let one = rw c.in-Some.is at c.in_ok-end.ensures.found in
-    let below = rw c.in-Some-2.is at c.in_ok-all.ensures.found in
-    command_later c.args.process.now c.in-Some.end c.lines_below-lines.result c.from.result c.in-Some-2.all c.lines_end.new.unread.bytes c.ahead.result.now c.lines_end-2.new.unread.bytes
-    one c.in_ok-all.ensures.takes c.lines_below-lines.ensures.value c.ahead.ensures c.from.ensures below
-    (at_hand (at_hand (omega (arith, c.requires.at_hand, ap length c.mark.ensures.bytes)) one c.lines_end.ensures.last) below c.lines_end-2.ensures.last)
+pub returns : goal.returns
+returns g c = record {
+  passes = passes_twice c.mark.ensures.bytes c.in_ok-end.ensures.takes c.in_ok-all.ensures.takes;
+  found = let one = rw c.in-Some.is at c.in_ok-end.ensures.found in
+      let below = rw c.in-Some-2.is at c.in_ok-all.ensures.found in
+      command_later c.args.process.now c.in-Some.end c.lines_below-lines.result c.from.result c.in-Some-2.all c.lines_end.new.unread.bytes c.ahead.result.now c.lines_end-2.new.unread.bytes
+      one c.in_ok-all.ensures.takes c.lines_below-lines.ensures.value c.ahead.ensures c.from.ensures below
+      (at_hand (at_hand (omega (arith, c.requires.at_hand, ap length c.mark.ensures.bytes)) one c.lines_end.ensures.last) below c.lines_end-2.ensures.last);
+  reads = reads_behind c.in_ok-end.ensures.reads (answer_reads _ c.in_ok-all.ensures.reads);
+  others = tt;
+}
 
 -- ---- for what the search finds too, and takes long for
 
 pub lines_end-requires-clause-read : goal.lines_end-requires-clause-read
 lines_end-requires-clause-read g c = omega (arith, c.mark.ensures.within, c.requires.read)
 
-pub returns-in_err-end-clause-passes : goal.returns-in_err-end-clause-passes
-returns-in_err-end-clause-passes g c = passes_marked c.mark.ensures.bytes c.in_err-end.ensures.takes
-
-pub returns-in_err-end-clause-found : goal.returns-in_err-end-clause-found
-returns-in_err-end-clause-found g c = none_found (handed (err_from_is_err_and c.from_residual.result c.from_residual.ensures.1)) _
-
-pub returns-in_err-end-clause-reads : goal.returns-in_err-end-clause-reads
-returns-in_err-end-clause-reads g c = source_reads (handed (err_from_is_err_and c.from_residual.result c.from_residual.ensures.1)) c.in_err-end.ensures.reads
-
-pub returns-in_err-end-clause-others : goal.returns-in_err-end-clause-others
-returns-in_err-end-clause-others g c = source_long (handed (err_from_is_err_and c.from_residual.result c.from_residual.ensures.1)) c.in_err-end.ensures.reads (long_read c.mark.ensures.bytes c.in_err-end.ensures.takes c.mark.ensures.read)
-
-pub returns-in_default-clause-passes : goal.returns-in_default-clause-passes
-returns-in_default-clause-passes g c = passes_marked c.mark.ensures.bytes c.in_ok-end.ensures.takes
-
-pub returns-in_default-clause-reads : goal.returns-in_default-clause-reads
-returns-in_default-clause-reads g c = answer_reads _ c.in_ok-end.ensures.reads
-
-pub returns-in_default-clause-others : goal.returns-in_default-clause-others
-returns-in_default-clause-others g c = tt
+pub returns-in_err-end : goal.returns-in_err-end
+returns-in_err-end g c = record {
+  passes = passes_marked c.mark.ensures.bytes c.in_err-end.ensures.takes;
+  found = none_found (handed (err_from_is_err_and c.from_residual.result c.from_residual.ensures.1)) _;
+  reads = source_reads (handed (err_from_is_err_and c.from_residual.result c.from_residual.ensures.1)) c.in_err-end.ensures.reads;
+  others = source_long (handed (err_from_is_err_and c.from_residual.result c.from_residual.ensures.1)) c.in_err-end.ensures.reads (long_read c.mark.ensures.bytes c.in_err-end.ensures.takes c.mark.ensures.read);
+}
 
 pub lines_end-requires-2-clause-read : goal.lines_end-requires-2-clause-read
 lines_end-requires-2-clause-read g c = c.in_ok-end.ensures.reads.within
@@ -68,29 +64,10 @@ lines_end-requires-2-clause-read g c = c.in_ok-end.ensures.reads.within
 pub lines_end-requires-2-clause-from : goal.lines_end-requires-2-clause-from
 lines_end-requires-2-clause-from g c = (rw c.in-Some.is at c.in_ok-end.ensures.found).within
 
-pub returns-in_err-all-clause-passes : goal.returns-in_err-all-clause-passes
-returns-in_err-all-clause-passes g c = passes_twice c.mark.ensures.bytes c.in_ok-end.ensures.takes c.in_err-all.ensures.takes
-
-pub returns-in_err-all-clause-found : goal.returns-in_err-all-clause-found
-returns-in_err-all-clause-found g c = none_found (handed (err_from_is_err_and c.from_residual-in_err-all.result c.from_residual-in_err-all.ensures.1)) _
-
-pub returns-in_err-all-clause-reads : goal.returns-in_err-all-clause-reads
-returns-in_err-all-clause-reads g c = reads_behind c.in_ok-end.ensures.reads (source_reads (handed (err_from_is_err_and c.from_residual-in_err-all.result c.from_residual-in_err-all.ensures.1)) c.in_err-all.ensures.reads)
-
-pub returns-in_err-all-clause-others : goal.returns-in_err-all-clause-others
-returns-in_err-all-clause-others g c = source_long (handed (err_from_is_err_and c.from_residual-in_err-all.result c.from_residual-in_err-all.ensures.1)) c.in_err-all.ensures.reads (long_read c.mark.ensures.bytes (reads_on c.in_ok-end.ensures.takes c.in_err-all.ensures.takes) c.mark.ensures.read)
-
-pub returns-in_default-2-clause-reads : goal.returns-in_default-2-clause-reads
-returns-in_default-2-clause-reads g c = reads_behind c.in_ok-end.ensures.reads (answer_reads _ c.in_ok-all.ensures.reads)
-
-pub returns-in_default-2-clause-others : goal.returns-in_default-2-clause-others
-returns-in_default-2-clause-others g c = tt
-
-pub returns-clause-passes : goal.returns-clause-passes
-returns-clause-passes g c = passes_twice c.mark.ensures.bytes c.in_ok-end.ensures.takes c.in_ok-all.ensures.takes
-
-pub returns-clause-reads : goal.returns-clause-reads
-returns-clause-reads g c = reads_behind c.in_ok-end.ensures.reads (answer_reads _ c.in_ok-all.ensures.reads)
-
-pub returns-clause-others : goal.returns-clause-others
-returns-clause-others g c = tt
+pub returns-in_err-all : goal.returns-in_err-all
+returns-in_err-all g c = record {
+  passes = passes_twice c.mark.ensures.bytes c.in_ok-end.ensures.takes c.in_err-all.ensures.takes;
+  found = none_found (handed (err_from_is_err_and c.from_residual-in_err-all.result c.from_residual-in_err-all.ensures.1)) _;
+  reads = reads_behind c.in_ok-end.ensures.reads (source_reads (handed (err_from_is_err_and c.from_residual-in_err-all.result c.from_residual-in_err-all.ensures.1)) c.in_err-all.ensures.reads);
+  others = source_long (handed (err_from_is_err_and c.from_residual-in_err-all.result c.from_residual-in_err-all.ensures.1)) c.in_err-all.ensures.reads (long_read c.mark.ensures.bytes (reads_on c.in_ok-end.ensures.takes c.in_err-all.ensures.takes) c.mark.ensures.read);
+}

@@ -22,25 +22,46 @@ loop-init g c = record {
   writes = refl;
 }
 
-pub returns-then-not-is_more-clause-ended : goal.returns-then-not-is_more-clause-ended
-returns-then-not-is_more-clause-ended g c =
-    let here = c.in-Ok.ensures.ended (search rules) in
-    (ends_it c.loop.invariant.serves here, here.end, here.torn)
+pub returns-then-not-is_more : goal.returns-then-not-is_more
+returns-then-not-is_more g c = record {
+  ended = let here = c.in-Ok.ensures.ended (search rules) in
+      (ends_it c.loop.invariant.serves here, here.end, here.torn);
+  stopped = tt;
+  torn = λ is. absurd (ok_no_write is);
+  reads = search rules;
+  writes = search rules;
+  others = tt;
+}
 
-pub returns-in-Err-clause-stopped : goal.returns-in-Err-clause-stopped
-returns-in-Err-clause-stopped g c not_write =
-    let next = c.in-Err.ensures.stopped not_write in
-    (c.loop.process, goes_by c.loop.invariant.serves next.1 next.0)
+pub returns-in-Err : goal.returns-in-Err
+returns-in-Err g c = record {
+  ended = tt;
+  stopped = λ not_write. let next = c.in-Err.ensures.stopped not_write in
+      (c.loop.process, goes_by c.loop.invariant.serves next.1 next.0);
+  torn = λ is. record {
+    last = c.loop.process;
+    rest = c.loop.unread.bytes;
+    between = g.W.Sink.contents c.loop.writer;
+    middle = g.S.Source.remaining c.loop.source;
+    continues = c.loop.invariant.serves;
+    stops = c.in-Err.ensures.torn (ap Err (one_fault is));
+  };
+  reads = stops_reading c.in-Err.ensures.calls c.loop.invariant.reads;
+  writes = search rules;
+  others = serving_on
+      (long_before c.loop.counter c.args.unread.now.bytes c.loop.unread.bytes (g.S.Source.remaining c.args.source.now) (g.S.Source.remaining c.loop.source) c.loop.invariant.taken)
+      c.in-Err.fault c.in-Err.ensures.others;
+}
 
-pub returns-in-Err-clause-others : goal.returns-in-Err-clause-others
-returns-in-Err-clause-others g c =
-    serving_on
-    (long_before c.loop.counter c.args.unread.now.bytes c.loop.unread.bytes (g.S.Source.remaining c.args.source.now) (g.S.Source.remaining c.loop.source) c.loop.invariant.taken)
-    c.in-Err.fault c.in-Err.ensures.others
-
-pub returns-clause-others : goal.returns-clause-others
-returns-clause-others g c =
-    many_taken c.loop.counter c.args.unread.now.bytes c.loop.unread.bytes (g.S.Source.remaining c.args.source.now) (g.S.Source.remaining c.loop.source) (omega arith) c.loop.invariant.taken
+pub returns : goal.returns
+returns g c = record {
+  ended = tt;
+  stopped = search rules;
+  torn = λ is. absurd (never_write refl (λ h. cc) is);
+  reads = search rules;
+  writes = search rules;
+  others = many_taken c.loop.counter c.args.unread.now.bytes c.loop.unread.bytes (g.S.Source.remaining c.args.source.now) (g.S.Source.remaining c.loop.source) (omega arith) c.loop.invariant.taken;
+}
 
 pub loop-preserved : goal.loop-preserved
 loop-preserved g c = record {
@@ -54,23 +75,3 @@ loop-preserved g c = record {
 }
 
 -- ---- for what the search finds too, and takes long for
-
-pub returns-then-not-is_more-clause-torn : goal.returns-then-not-is_more-clause-torn
-returns-then-not-is_more-clause-torn g c = λ is. absurd (ok_no_write is)
-
-pub returns-in-Err-clause-torn : goal.returns-in-Err-clause-torn
-returns-in-Err-clause-torn g c =
-    λ is. record {
-      last = c.loop.process;
-      rest = c.loop.unread.bytes;
-      between = g.W.Sink.contents c.loop.writer;
-      middle = g.S.Source.remaining c.loop.source;
-      continues = c.loop.invariant.serves;
-      stops = c.in-Err.ensures.torn (ap Err (one_fault is));
-    }
-
-pub returns-in-Err-clause-reads : goal.returns-in-Err-clause-reads
-returns-in-Err-clause-reads g c = stops_reading c.in-Err.ensures.calls c.loop.invariant.reads
-
-pub returns-clause-torn : goal.returns-clause-torn
-returns-clause-torn g c = λ is. absurd (never_write refl (λ h. cc) is)

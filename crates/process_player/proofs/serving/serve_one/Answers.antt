@@ -6,70 +6,53 @@ use Rattle.process_player.proofs.Failing.{handed, never_write, no_answer, ok_no_
 use Rattle.process_player.proofs.Stopping.{answer_calls, reading_calls, serving_answer, serving_of}
 use Rattle.process_player.proofs.serving.serve_one.Goals as goal
 
-pub returns-in_err-answer-clause-torn : goal.returns-in_err-answer-clause-torn
-returns-in_err-answer-clause-torn g c is =
-    let here = some_found _ _ c.in_ok-end.field-0 (c.in-Some.end, c.in-Some.all) c.in_ok-end.ensures.found c.in-Some.is in
-    stops_in_it _ _ c.in-Some.end c.in-Some.all c.ahead-ahead.result.now here c.in_ok-end.ensures.passes c.ahead-ahead.ensures
-    (c.in_err-answer.ensures.torn (search rules))
+pub returns-in_err-answer : goal.returns-in_err-answer
+returns-in_err-answer g c = record {
+  served = λ is. no_answer (handed (err_from_is_err_and c.from_residual-in_err-answer.result c.from_residual-in_err-answer.ensures.1)) _ is;
+  ended = λ is. no_answer (handed (err_from_is_err_and c.from_residual-in_err-answer.result c.from_residual-in_err-answer.ensures.1)) _ is;
+  stopped = same_fault (handed (err_from_is_err_and c.from_residual-in_err-answer.result c.from_residual-in_err-answer.ensures.1)) _ (λ other. (ap g.W.Sink.contents (c.in_err-answer.ensures.others other).1, c.in_ok-end.ensures.passes));
+  torn = λ is. let here = some_found _ _ c.in_ok-end.field-0 (c.in-Some.end, c.in-Some.all) c.in_ok-end.ensures.found c.in-Some.is in
+      stops_in_it _ _ c.in-Some.end c.in-Some.all c.ahead-ahead.result.now here c.in_ok-end.ensures.passes c.ahead-ahead.ensures
+      (c.in_err-answer.ensures.torn (search rules));
+  calls = search rules;
+  others = same_fault (handed (err_from_is_err_and c.from_residual-in_err-answer.result c.from_residual-in_err-answer.ensures.1)) _ (serving_answer _ _ c.in_err-answer.field-0.0 c.in_err-answer.ensures.others);
+}
 
-pub returns-clause-served : goal.returns-clause-served
-returns-clause-served g c is =
-    let here = some_found _ _ c.in_ok-end.field-0 (c.in-Some.end, c.in-Some.all) c.in_ok-end.ensures.found c.in-Some.is in
-    serves_it _ _ c.in-Some.end c.in-Some.all c.ahead-ahead.result.now here c.in_ok-end.ensures.passes c.ahead-ahead.ensures c.take.ensures.bytes
-    c.in_ok-answer.ensures.answered.0 c.in_ok-answer.ensures.answered.1
+pub returns : goal.returns
+returns g c = record {
+  served = λ is. let here = some_found _ _ c.in_ok-end.field-0 (c.in-Some.end, c.in-Some.all) c.in_ok-end.ensures.found c.in-Some.is in
+      serves_it _ _ c.in-Some.end c.in-Some.all c.ahead-ahead.result.now here c.in_ok-end.ensures.passes c.ahead-ahead.ensures c.take.ensures.bytes
+      c.in_ok-answer.ensures.answered.0 c.in_ok-answer.ensures.answered.1;
+  ended = λ is. absurd (cc);
+  stopped = tt;
+  torn = λ is. absurd (ok_no_write is);
+  calls = search rules;
+  others = tt;
+}
 
 -- ---- for what the search finds too, and takes long for
 
-pub returns-in_err-end-clause-served : goal.returns-in_err-end-clause-served
-returns-in_err-end-clause-served g c = λ is. no_answer (handed (err_from_is_err_and c.from_residual.result c.from_residual.ensures.1)) _ is
+pub returns-in_err-end : goal.returns-in_err-end
+returns-in_err-end g c = record {
+  served = λ is. no_answer (handed (err_from_is_err_and c.from_residual.result c.from_residual.ensures.1)) _ is;
+  ended = λ is. no_answer (handed (err_from_is_err_and c.from_residual.result c.from_residual.ensures.1)) _ is;
+  stopped = same_fault (handed (err_from_is_err_and c.from_residual.result c.from_residual.ensures.1)) _ (λ other. (refl, c.in_err-end.ensures.passes));
+  torn = λ is. absurd (never_write (handed (err_from_is_err_and c.from_residual.result c.from_residual.ensures.1)) (reading_no_write _ c.in_err-end.ensures.others) is);
+  calls = reading_calls _ c.in_err-end.field-0.0 _ (handed (err_from_is_err_and c.from_residual.result c.from_residual.ensures.1)) c.in_err-end.ensures.others c.in_err-end.ensures.reads;
+  others = same_fault (handed (err_from_is_err_and c.from_residual.result c.from_residual.ensures.1)) _ (serving_of _ c.in_err-end.field-0.0 c.in_err-end.ensures.others);
+}
 
-pub returns-in_err-end-clause-ended : goal.returns-in_err-end-clause-ended
-returns-in_err-end-clause-ended g c = λ is. no_answer (handed (err_from_is_err_and c.from_residual.result c.from_residual.ensures.1)) _ is
-
-pub returns-in_err-end-clause-torn : goal.returns-in_err-end-clause-torn
-returns-in_err-end-clause-torn g c = λ is. absurd (never_write (handed (err_from_is_err_and c.from_residual.result c.from_residual.ensures.1)) (reading_no_write _ c.in_err-end.ensures.others) is)
-
-pub returns-in_err-end-clause-stopped : goal.returns-in_err-end-clause-stopped
-returns-in_err-end-clause-stopped g c = same_fault (handed (err_from_is_err_and c.from_residual.result c.from_residual.ensures.1)) _ (λ other. (refl, c.in_err-end.ensures.passes))
-
-pub returns-in_err-end-clause-calls : goal.returns-in_err-end-clause-calls
-returns-in_err-end-clause-calls g c = reading_calls _ c.in_err-end.field-0.0 _ (handed (err_from_is_err_and c.from_residual.result c.from_residual.ensures.1)) c.in_err-end.ensures.others c.in_err-end.ensures.reads
-
-pub returns-in_err-end-clause-others : goal.returns-in_err-end-clause-others
-returns-in_err-end-clause-others g c = same_fault (handed (err_from_is_err_and c.from_residual.result c.from_residual.ensures.1)) _ (serving_of _ c.in_err-end.field-0.0 c.in_err-end.ensures.others)
-
-pub returns-in_default-clause-served : goal.returns-in_default-clause-served
-returns-in_default-clause-served g c = λ is. absurd (cc)
-
-pub returns-in_default-clause-ended : goal.returns-in_default-clause-ended
-returns-in_default-clause-ended g c =
-    λ is.
-    let found = rw c.in_default.is at c.in_ok-end.ensures.found in
-    record { process = refl; written = refl; passes = c.in_ok-end.ensures.passes; end = found.0; torn = found.1 }
-
-pub returns-in_default-clause-torn : goal.returns-in_default-clause-torn
-returns-in_default-clause-torn g c = λ is. absurd (ok_no_write is)
-
-pub returns-in_default-clause-calls : goal.returns-in_default-clause-calls
-returns-in_default-clause-calls g c = answer_calls _ _ c.in_ok-end.ensures.reads
-
-pub returns-in_err-answer-clause-served : goal.returns-in_err-answer-clause-served
-returns-in_err-answer-clause-served g c = λ is. no_answer (handed (err_from_is_err_and c.from_residual-in_err-answer.result c.from_residual-in_err-answer.ensures.1)) _ is
-
-pub returns-in_err-answer-clause-ended : goal.returns-in_err-answer-clause-ended
-returns-in_err-answer-clause-ended g c = λ is. no_answer (handed (err_from_is_err_and c.from_residual-in_err-answer.result c.from_residual-in_err-answer.ensures.1)) _ is
-
-pub returns-in_err-answer-clause-stopped : goal.returns-in_err-answer-clause-stopped
-returns-in_err-answer-clause-stopped g c = same_fault (handed (err_from_is_err_and c.from_residual-in_err-answer.result c.from_residual-in_err-answer.ensures.1)) _ (λ other. (ap g.W.Sink.contents (c.in_err-answer.ensures.others other).1, c.in_ok-end.ensures.passes))
-
-pub returns-in_err-answer-clause-others : goal.returns-in_err-answer-clause-others
-returns-in_err-answer-clause-others g c = same_fault (handed (err_from_is_err_and c.from_residual-in_err-answer.result c.from_residual-in_err-answer.ensures.1)) _ (serving_answer _ _ c.in_err-answer.field-0.0 c.in_err-answer.ensures.others)
-
-pub returns-clause-ended : goal.returns-clause-ended
-returns-clause-ended g c = λ is. absurd (cc)
-
-pub returns-clause-torn : goal.returns-clause-torn
-returns-clause-torn g c = λ is. absurd (ok_no_write is)
+pub returns-in_default : goal.returns-in_default
+returns-in_default g c = record {
+  served = λ is. absurd (cc);
+  ended = λ is.
+      let found = rw c.in_default.is at c.in_ok-end.ensures.found in
+      record { process = refl; written = refl; passes = c.in_ok-end.ensures.passes; end = found.0; torn = found.1 };
+  stopped = tt;
+  torn = λ is. absurd (ok_no_write is);
+  calls = answer_calls _ _ c.in_ok-end.ensures.reads;
+  others = tt;
+}
 
 pub take-requires : goal.take-requires
 take-requires g c = (some_found _ _ c.in_ok-end.field-0 (c.in-Some.end, c.in-Some.all) c.in_ok-end.ensures.found c.in-Some.is).within
