@@ -1,6 +1,6 @@
 //! A run from its plan to its logs.
 
-ghost use Rattle.std.specs.Prelude.{◌≡◌, ◌+◌, ◌-◌, ◌≤◌, map, vec_len, IfOk, IsTrue};
+ghost use Rattle.std.specs.Prelude.{◌≡◌, ◌+◌, ◌-◌, ◌≤◌, map, vec_len, IfOk};
 ghost use Rattle.metering_model.specs.Limits.{most_agents, most_periods, most_nodes};
 ghost use Rattle.metering_model.specs.History.{IsLegal};
 ghost use Rattle.group_laws.specs.Headline.{HoldsAfter};
@@ -17,19 +17,30 @@ use std::alloc::{AllocError, Global};
 use std::sync::Wait;
 use std::thread::Threads;
 
-/// Whether logs agree with the book and the plan, and the last period leaves nothing out.
-fn is_right(alloc: Global, book: &Book, plan: &Plan, logs: &[Log]) -> Result<bool, AllocError>
+/// What the threads brought back, where it agrees with the book and the plan, and the last period leaves nothing out.
+fn right_logs(
+    alloc: Global,
+    book: &Book,
+    plan: &Plan,
+    brought: Result<Vec<Log>, AllocError>,
+) -> Result<Vec<Log>, RunFault>
     requires periods { 1 ≤ plan.now.periods }
     ensures agree { IfOk result
-        (λ is. IsTrue is → Agree book.now (plan_of plan.now) (map log_of logs.now)) }
-    ensures files { IfOk result (λ is. IsTrue is → FilesAgree (map log_of logs.now)) }
-    ensures whole { IfOk result
-        (λ is. IsTrue is → LeavesNothingOut book.now (plan.now.periods - 1)) }
+        (λ logs. Agree book.now (plan_of plan.now) (map log_of logs.items)) }
+    ensures files { IfOk result (λ logs. FilesAgree (map log_of logs.items)) }
+    ensures whole { IfOk result (λ _. LeavesNothingOut book.now (plan.now.periods - 1)) }
 {
-    if !book.agrees(plan, logs) {
-        return Ok(false);
+    let Ok(logs) = brought else {
+        return Err(RunFault::OutOfMemory);
+    };
+    if !book.agrees(plan, logs.as_slice()) {
+        return Err(RunFault::Mismatch);
     }
-    book.leaves_nothing_out(alloc, plan.periods - 1)
+    match book.leaves_nothing_out(alloc, plan.periods - 1) {
+        Ok(true) => Ok(logs),
+        Ok(false) => Err(RunFault::Mismatch),
+        Err(_) => Err(RunFault::OutOfMemory),
+    }
 }
 
 /// Runs a group of 1 or more voters, at most 99 nodes, 1 to 64 agents and 1 to 1,200 periods: a thread for each node
@@ -70,16 +81,9 @@ pub fn run_group<R: Threads + Wait + Sync, G: Gate + Sync>(
         periods: plan.periods,
         turns: plan.turns,
     };
-    let Ok(logs) = run_threads(rt, alloc, work, gate, &desk, &reports) else {
-        return Err(RunFault::OutOfMemory);
-    };
+    let brought = run_threads(rt, alloc, work, gate, &desk, &reports);
     let book = desk.into_book();
     book.legal();
-    let Ok(is_right) = is_right(alloc, &book, &plan, logs.as_slice()) else {
-        return Err(RunFault::OutOfMemory);
-    };
-    if !is_right {
-        return Err(RunFault::Mismatch);
-    }
+    let logs = right_logs(alloc, &book, &plan, brought)?;
     Ok(Run { plan, book, logs })
 }
