@@ -15,9 +15,9 @@ fn add_days<'a>(days: &mut Vec<(&'a [u8], Day)>, rows: &'a [PriceRow]) -> Result
         ≡ map day_of_pair days.old.items ++ map price_day rows.now) }
 {
     for row in rows {
-        if days.push((row.sku().as_bytes(), row.from())).is_err() {
+        let Ok(()) = days.push((row.sku().as_bytes(), row.from())) else {
             return Err(AllocError);
-        }
+        };
     }
     Ok(())
 }
