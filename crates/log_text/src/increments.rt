@@ -154,9 +154,9 @@ fn add_cut(parts: &mut Parts, period: u16, cut: Arc<Cut>) -> Result<(), Unread>
     if usize::from(period) != parts.learned.len() {
         return Err(Unread::NotThere);
     }
-    if parts.learned.push(cut).is_err() {
+    let Ok(()) = parts.learned.push(cut) else {
         return Err(Unread::NoMemory);
-    }
+    };
     parts.acceptor = Acceptor::new();
     Ok(())
 }
