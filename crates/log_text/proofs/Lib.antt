@@ -8,6 +8,7 @@ pub mod AddedSteps
 pub mod WrittenLines
 pub mod KeptSteps
 pub mod ReadFields
+pub mod ReadHeads
 pub mod ReadSections
 pub mod ReadLogs
 mod WorkedLogs

@@ -24,12 +24,16 @@ fn nothing_kept(alloc: Global, agents: u8) -> Result<Parts, AllocError>
     requires to { agents ≤ most_agents }
     ensures { IfOk result (λ parts. (parts ≡ nothing_kept agents) × IsKept parts) }
 {
-    Ok(Parts {
-        round: 0,
-        learned: Vec::new(alloc),
-        acceptor: Acceptor::new(),
-        store: Store::new(alloc, agents)?,
-    })
+    // The store comes first, so that nothing has to be dropped where it is refused.
+    match Store::new(alloc, agents) {
+        Ok(store) => Ok(Parts {
+            round: 0,
+            learned: Vec::new(alloc),
+            acceptor: Acceptor::new(),
+            store,
+        }),
+        Err(failed) => Err(failed),
+    }
 }
 
 /// What is kept that a text is, of so many lines and agents.

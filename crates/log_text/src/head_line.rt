@@ -1,11 +1,12 @@
 //! The head line of a log, read.
 
-ghost use Rattle.std.specs.Prelude.{◌≡◌, ◌≤◌, [], ◌∷◌, length, Ok, Err, IfSome, MatchOption};
+ghost use Rattle.std.specs.Prelude.{◌≡◌, ◌≤◌, [], ◌∷◌, length, None, Some, Ok, Err, IfSome, MatchOption};
 ghost use Rattle.std.specs.Option.{option_map};
 ghost use Rattle.metering_model.specs.BatchReading.{fields_in, whole_in};
 ghost use Rattle.metering_model.specs.Limits.{last_node, most_agents, most_nodes};
 ghost use Rattle.log_text.specs.Heads.{who_of};
 ghost use Rattle.log_text.specs.LogText.{head_in, is_among, who_in};
+ghost use Rattle.log_text.specs.Inner.Reading.{sizes_in};
 
 use crate::faults::LogCode;
 use crate::heads::{LogHead, Who};
@@ -26,9 +27,13 @@ fn read_pair(fields: &[u8]) -> Option<Pair<'_>>
         (length (fields_in fields.now) ≤ 2)
         (λ p. fields_in fields.now ≡ p.one.now ∷ p.other.now ∷ fields_in p.behind.now) }
 {
-    let (one, others) = split_at_bar(fields)?;
-    let (other, behind) = split_at_bar(others)?;
-    Some(Pair { one, other, behind })
+    let Some((one, others)) = split_at_bar(fields) else {
+        return None;
+    };
+    match split_at_bar(others) {
+        Some((other, behind)) => Some(Pair { one, other, behind }),
+        None => None,
+    }
 }
 
 /// The seven fields of a head line.
@@ -51,9 +56,15 @@ fn head_fields(line: &[u8]) -> Option<HeadFields<'_>>
         ≡ f.version.now ∷ f.group.now ∷ f.word.now ∷ f.number.now ∷ f.voters.now
         ∷ f.observers.now ∷ f.agents.now ∷ []) }
 {
-    let name = read_pair(line)?;
-    let who = read_pair(name.behind)?;
-    let nodes = read_pair(who.behind)?;
+    let Some(name) = read_pair(line) else {
+        return None;
+    };
+    let Some(who) = read_pair(name.behind) else {
+        return None;
+    };
+    let Some(nodes) = read_pair(who.behind) else {
+        return None;
+    };
     let agents = nodes.behind;
     if split_at_bar(agents).is_some() {
         return None;
@@ -93,6 +104,47 @@ fn read_nodes(text: &[u8], low: u32) -> Option<u8>
     Some(read_whole(text, low, 99)? as u8)
 }
 
+/// How many nodes vote, how many observe, how many there are, and how many agents.
+#[derive(Clone, Copy)]
+struct Sizes {
+    voters: u8,
+    observers: u8,
+    nodes: u8,
+    agents: u8,
+}
+
+/// The sizes of a group that has at most 99 nodes.
+fn read_sizes(voters: &[u8], observers: &[u8], agents: &[u8]) -> Option<Sizes>
+    ensures { MatchOption result
+        (sizes_in voters.now observers.now agents.now ≡ None)
+        (λ s. (sizes_in voters.now observers.now agents.now ≡ Some (record {
+          voters = s.voters;
+          observers = s.observers;
+          nodes = s.nodes;
+          agents = s.agents;
+        })) × (1 ≤ s.agents) × (s.agents ≤ most_agents)) }
+{
+    let Some(voters) = read_nodes(voters, 1) else {
+        return None;
+    };
+    let Some(observers) = read_nodes(observers, 0) else {
+        return None;
+    };
+    let Some(agents) = read_agents(agents) else {
+        return None;
+    };
+    let nodes = voters + observers;
+    if nodes > 99 {
+        return None;
+    }
+    Some(Sizes {
+        voters,
+        observers,
+        nodes,
+        agents,
+    })
+}
+
 /// Whose log it is.
 fn read_who(word: &[u8], number: &[u8]) -> Option<Who>
     ensures { option_map who_of result ≡ who_in word.now number.now }
@@ -118,29 +170,34 @@ fn is_among(who: Who, nodes: u8, agents: u8) -> bool
 
 /// The head that a line is.
 pub(crate) fn read_head(line: &[u8]) -> Option<LogHead>
-    ensures read { MatchOption result
+    ensures { MatchOption result
         (head_in (fields_in line.now) ≡ Err LogCode.Head)
-        (λ head. head_in (fields_in line.now) ≡ Ok head) }
-    ensures from { IfSome result (λ head. 1 ≤ head.agents) }
-    ensures to { IfSome result (λ head. head.agents ≤ most_agents) }
+        (λ head. (head_in (fields_in line.now) ≡ Ok head)
+        × (1 ≤ head.agents) × (head.agents ≤ most_agents)) }
 {
-    let fields = head_fields(line)?;
+    let Some(fields) = head_fields(line) else {
+        return None;
+    };
     if !is_same(fields.version, b"G1") {
         return None;
     }
     if !is_group(fields.group) {
         return None;
     }
-    let who = read_who(fields.word, fields.number)?;
-    let voters = read_nodes(fields.voters, 1)?;
-    let observers = read_nodes(fields.observers, 0)?;
-    let agents = read_agents(fields.agents)?;
-    let nodes = voters + observers;
-    if nodes > 99 {
+    let Some(who) = read_who(fields.word, fields.number) else {
+        return None;
+    };
+    let Some(sizes) = read_sizes(fields.voters, fields.observers, fields.agents) else {
+        return None;
+    };
+    if !is_among(who, sizes.nodes, sizes.agents) {
         return None;
     }
-    if !is_among(who, nodes, agents) {
-        return None;
-    }
-    Some(LogHead::new(fields.group, who, voters, observers, agents))
+    Some(LogHead::new(
+        fields.group,
+        who,
+        sizes.voters,
+        sizes.observers,
+        sizes.agents,
+    ))
 }

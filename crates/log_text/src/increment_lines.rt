@@ -64,10 +64,16 @@ fn read_some_vote(alloc: Global, ballot: &[u8], cut: &[u8], agents: u8) -> Resul
         × IsVoteAmong agents (Some vote))
         (λ why. IfNotThere why (told_vote agents ballot.now (fields_in cut.now) ≡ None)) }
 {
-    let number = read_whole(ballot, 0, LAST_BALLOT).ok_or(Unread::NotThere)?;
-    let ballot = Ballot::numbered(number).ok_or(Unread::NotThere)?;
-    let cut = read_cut(alloc, cut, agents)?;
-    Ok(Vote { ballot, cut })
+    let Some(number) = read_whole(ballot, 0, LAST_BALLOT) else {
+        return Err(Unread::NotThere);
+    };
+    let Some(ballot) = Ballot::numbered(number) else {
+        return Err(Unread::NotThere);
+    };
+    match read_cut(alloc, cut, agents) {
+        Ok(cut) => Ok(Vote { ballot, cut }),
+        Err(why) => Err(why),
+    }
 }
 
 /// The vote, if there is one: its ballot and its cut, or the ballot 0 alone.
@@ -113,10 +119,18 @@ fn ballot_fields(fields: &[u8], _agents: u8) -> Option<BallotFields<'_>>
         (λ f. AreBallots _agents (fields_in fields.now) f.period f.promised
         (fields_in f.vote.now)) }
 {
-    let (period, rest) = split_at_bar(fields)?;
-    let (promised, vote) = split_at_bar(rest)?;
-    let period = read_period(period)?;
-    let number = read_whole(promised, 0, LAST_BALLOT)?;
+    let Some((period, rest)) = split_at_bar(fields) else {
+        return None;
+    };
+    let Some((promised, vote)) = split_at_bar(rest) else {
+        return None;
+    };
+    let Some(period) = read_period(period) else {
+        return None;
+    };
+    let Some(number) = read_whole(promised, 0, LAST_BALLOT) else {
+        return None;
+    };
     Some(BallotFields {
         period,
         promised: Ballot::numbered(number),
@@ -151,10 +165,16 @@ fn read_learned(alloc: Global, fields: &[u8], agents: u8) -> Result<Taken, Unrea
         × (lines_of_increment (taken_of taken) ≡ 1))
         (λ why. IfNotThere why (learned_in agents (fields_in fields.now) ≡ None)) }
 {
-    let (period, cut) = split_at_bar(fields).ok_or(Unread::NotThere)?;
-    let period = read_period(period).ok_or(Unread::NotThere)?;
-    let cut = read_cut(alloc, cut, agents)?;
-    Ok(Taken::Learned(period, cut))
+    let Some((period, cut)) = split_at_bar(fields) else {
+        return Err(Unread::NotThere);
+    };
+    let Some(period) = read_period(period) else {
+        return Err(Unread::NotThere);
+    };
+    match read_cut(alloc, cut, agents) {
+        Ok(cut) => Ok(Taken::Learned(period, cut)),
+        Err(why) => Err(why),
+    }
 }
 
 /// The increment of that word that is one line.

@@ -82,12 +82,12 @@ fn is_same_cut(one: &Cut, two: &Cut) -> bool
 fn is_same_vote(one: Option<&Vote>, two: Option<&Vote>) -> bool
     ensures { result ≡ is_same_vote (option_copied one.entry) (option_copied two.entry) }
 {
-    match (one, two) {
-        (Some(one), Some(two)) => {
-            one.ballot.number() == two.ballot.number() && is_same_cut(&one.cut, &two.cut)
-        }
-        (None, None) => true,
-        _ => false,
+    let Some(one) = one else {
+        return two.is_none();
+    };
+    match two {
+        Some(two) => one.ballot.number() == two.ballot.number() && is_same_cut(&one.cut, &two.cut),
+        None => false,
     }
 }
 
@@ -154,9 +154,9 @@ fn add_cut(parts: &mut Parts, period: u16, cut: Arc<Cut>) -> Result<(), Unread>
     if usize::from(period) != parts.learned.len() {
         return Err(Unread::NotThere);
     }
-    if parts.learned.push(cut).is_err() {
+    let Ok(()) = parts.learned.push(cut) else {
         return Err(Unread::NoMemory);
-    }
+    };
     parts.acceptor = Acceptor::new();
     Ok(())
 }

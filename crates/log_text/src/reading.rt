@@ -117,8 +117,10 @@ fn read_below(alloc: Global, agents: u8, text: &[u8]) -> Result<Kept, LogFault>
         (λ fault. IfTold fault (λ f. all_below agents text.now ≡ Err f)) }
 {
     let (mut parts, first, left) = read_base(alloc, agents, text)?;
-    add_increments(alloc, left, first, &mut parts)?;
-    Ok(Kept::of(parts))
+    match add_increments(alloc, left, first, &mut parts) {
+        Ok(()) => Ok(Kept::of(parts)),
+        Err(fault) => Err(fault),
+    }
 }
 
 /// The log whose text this is: its head, and what is kept when all that it says was added, in order. `Refused` is the

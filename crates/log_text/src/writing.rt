@@ -4,35 +4,24 @@ ghost use Rattle.std.specs.Prelude.{◌≡◌, Some, [], ◌∷◌, ◌++◌, co
 ghost use Rattle.std.specs.Option.{option_copied};
 ghost use Rattle.metering_model.specs.Transcript.{line_count};
 ghost use Rattle.packet_text.specs.PacketText.{vote_fields};
-ghost use Rattle.packet_text.specs.Inner.Pieces.{HasBehind, barred};
-ghost use Rattle.batch_store.specs.Batches.{batch_of};
+ghost use Rattle.packet_text.specs.Inner.Pieces.{Puts, barred};
 ghost use Rattle.log_text.specs.Heads.{who_of};
 ghost use Rattle.log_text.specs.Increments.{increment_of};
-ghost use Rattle.log_text.specs.LogText.{BeginsRound, SetsBallots, Learns, Takes, base_text, has_head, head_text, increment_text, section_line, who_fields};
+ghost use Rattle.log_text.specs.LogText.{SetsBallots, base_text, has_head, head_text, increment_text, section_line, who_fields};
 
 use crate::heads::{LogHead, Who};
 use crate::increments::Increment;
-use batch_store::{Cut, OwnedBatch};
+use batch_store::Cut;
 use byte_text::{is_same, line_count, put_numbered};
 use node_kept::{Kept, promised_number};
 use paxos_ballot::{Acceptor, Vote};
 use std::alloc::{AllocError, Global};
 
-// Where the clause `behind` stands, some of what is appended may stand there when an allocation fails.
-
-/// Appends a `|` and the number.
-fn put_field(text: &mut Vec<u8>, number: u32) -> Result<(), AllocError>
-    ensures put { OnOk result (text.new.items ≡ text.old.items ++ barred (decimal number ∷ [])) }
-    ensures behind { OnErr result (HasBehind text.old.items text.new.items) }
-{
-    put_numbered(text, b"|", u128::from(number))
-}
+// Each of these appends a piece of a log's text. Where an allocation fails some of the piece may stand there.
 
 /// Appends whose log it is.
 fn put_who(text: &mut Vec<u8>, who: Who) -> Result<(), AllocError>
-    ensures put { OnOk result
-        (text.new.items ≡ text.old.items ++ barred (who_fields (who_of who))) }
-    ensures behind { OnErr result (HasBehind text.old.items text.new.items) }
+    ensures { Puts result text.old.items text.new.items (barred (who_fields (who_of who))) }
 {
     match who {
         Who::Node(node) => put_numbered(text, b"|node|", u128::from(node)),
@@ -40,114 +29,120 @@ fn put_who(text: &mut Vec<u8>, who: Who) -> Result<(), AllocError>
     }
 }
 
-/// Appends the head line.
-fn put_whole_head(text: &mut Vec<u8>, head: &LogHead) -> Result<(), AllocError>
-    ensures put { OnOk result (text.new.items ≡ text.old.items ++ head_text head.now) }
-    ensures behind { OnErr result (HasBehind text.old.items text.new.items) }
+/// Appends how many nodes vote and observe, and how many agents there are, and ends the line.
+fn put_sizes(text: &mut Vec<u8>, head: &LogHead) -> Result<(), AllocError>
+    ensures { Puts result text.old.items text.new.items (barred
+        (decimal head.now.voters ∷ decimal head.now.observers ∷ decimal head.now.agents ∷ [])
+        ++ 10 ∷ []) }
 {
-    text.extend_from_slice(b"G1|")?;
-    text.extend_from_slice(head.group())?;
-    put_who(text, head.who())?;
-    put_field(text, u32::from(head.voters()))?;
-    put_field(text, u32::from(head.observers()))?;
-    put_field(text, u32::from(head.agents()))?;
+    let Ok(()) = put_numbered(text, b"|", u128::from(head.voters())) else {
+        return Err(AllocError);
+    };
+    let Ok(()) = put_numbered(text, b"|", u128::from(head.observers())) else {
+        return Err(AllocError);
+    };
+    let Ok(()) = put_numbered(text, b"|", u128::from(head.agents())) else {
+        return Err(AllocError);
+    };
     text.extend_from_slice(b"\n")
 }
 
-/// Appends the fields of a cut.
-fn put_cut(text: &mut Vec<u8>, cut: &Cut) -> Result<(), AllocError>
-    ensures put { OnOk result (text.new.items ≡ text.old.items ++ barred (map decimal cut.now)) }
-    ensures behind { OnErr result (HasBehind text.old.items text.new.items) }
+/// Appends the head line.
+fn put_whole_head(text: &mut Vec<u8>, head: &LogHead) -> Result<(), AllocError>
+    ensures { Puts result text.old.items text.new.items (head_text head.now) }
+{
+    let Ok(()) = text.extend_from_slice(b"G1|") else {
+        return Err(AllocError);
+    };
+    let Ok(()) = text.extend_from_slice(head.group()) else {
+        return Err(AllocError);
+    };
+    let Ok(()) = put_who(text, head.who()) else {
+        return Err(AllocError);
+    };
+    put_sizes(text, head)
+}
+
+/// Appends a word and a number, and behind them the fields of a cut, and ends the line.
+fn put_cut(text: &mut Vec<u8>, word: &[u8], number: u32, cut: &Cut) -> Result<(), AllocError>
+    ensures { Puts result text.old.items text.new.items
+        (((word.now ++ decimal number) ++ barred (map decimal cut.now)) ++ 10 ∷ []) }
 {
     // For the proof alone: its clause says that there is an entry.
     cut.agents();
-    text.extend_from_slice(b"|")?;
-    cut.put(text)
-}
-
-/// Appends the line of a round.
-fn put_round(text: &mut Vec<u8>, round: u16) -> Result<(), AllocError>
-    ensures put { OnOk result
-        (text.new.items ≡ text.old.items ++ increment_text (BeginsRound round)) }
-    ensures behind { OnErr result (HasBehind text.old.items text.new.items) }
-{
-    put_numbered(text, b"round|", u128::from(round))?;
+    let Ok(()) = put_numbered(text, word, u128::from(number)) else {
+        return Err(AllocError);
+    };
+    let Ok(()) = text.extend_from_slice(b"|") else {
+        return Err(AllocError);
+    };
+    let Ok(()) = cut.put(text) else {
+        return Err(AllocError);
+    };
     text.extend_from_slice(b"\n")
 }
 
-/// Appends the ballot and the cut of a vote; 0 for none.
+/// Appends the ballot and the cut of a vote, or 0 for none, and ends the line.
 fn put_vote(text: &mut Vec<u8>, vote: Option<&Vote>) -> Result<(), AllocError>
-    ensures put { OnOk result (text.new.items ≡ text.old.items
-        ++ barred (vote_fields (option_copied vote.entry))) }
-    ensures behind { OnErr result (HasBehind text.old.items text.new.items) }
+    ensures { Puts result text.old.items text.new.items
+        (barred (vote_fields (option_copied vote.entry)) ++ 10 ∷ []) }
 {
     match vote {
-        Some(vote) => {
-            put_field(text, vote.ballot.number())?;
-            put_cut(text, &vote.cut)
-        }
-        None => text.extend_from_slice(b"|0"),
+        Some(vote) => put_cut(text, b"|", vote.ballot.number(), &vote.cut),
+        None => text.extend_from_slice(b"|0\n"),
     }
 }
 
 /// Appends the line of a promise and a vote of a period.
 fn put_ballots(text: &mut Vec<u8>, period: u16, acceptor: &Acceptor) -> Result<(), AllocError>
-    ensures put { OnOk result (text.new.items
-        ≡ text.old.items ++ increment_text (SetsBallots period acceptor.now)) }
-    ensures behind { OnErr result (HasBehind text.old.items text.new.items) }
+    ensures { Puts result text.old.items text.new.items
+        (increment_text (SetsBallots period acceptor.now)) }
 {
-    put_numbered(text, b"ballot|", u128::from(period))?;
-    put_field(text, promised_number(acceptor.promised()))?;
-    put_vote(text, acceptor.vote())?;
+    let Ok(()) = put_numbered(text, b"ballot|", u128::from(period)) else {
+        return Err(AllocError);
+    };
+    let promised = promised_number(acceptor.promised());
+    let Ok(()) = put_numbered(text, b"|", u128::from(promised)) else {
+        return Err(AllocError);
+    };
+    put_vote(text, acceptor.vote())
+}
+
+/// Appends a word and a number, and ends the line.
+fn put_counted(text: &mut Vec<u8>, word: &[u8], number: u128) -> Result<(), AllocError>
+    ensures { Puts result text.old.items text.new.items (section_line word.now number) }
+{
+    let Ok(()) = put_numbered(text, word, number) else {
+        return Err(AllocError);
+    };
     text.extend_from_slice(b"\n")
 }
 
-/// Appends the line of a period's cut that was learned.
-fn put_learned(text: &mut Vec<u8>, period: u16, cut: &Cut) -> Result<(), AllocError>
-    ensures put { OnOk result
-        (text.new.items ≡ text.old.items ++ increment_text (Learns period cut.now)) }
-    ensures behind { OnErr result (HasBehind text.old.items text.new.items) }
+/// Appends a word and how many lines follow, and these.
+fn put_section(text: &mut Vec<u8>, word: &[u8], lines: u128, below: &[u8]) -> Result<(), AllocError>
+    ensures { Puts result text.old.items text.new.items
+        (section_line word.now lines ++ below.now) }
 {
-    put_numbered(text, b"learned|", u128::from(period))?;
-    put_cut(text, cut)?;
-    text.extend_from_slice(b"\n")
-}
-
-/// Appends how many lines a batch has, and these.
-fn put_batch(text: &mut Vec<u8>, batch: &OwnedBatch) -> Result<(), AllocError>
-    ensures put { OnOk result
-        (text.new.items ≡ text.old.items ++ increment_text (Takes (batch_of batch.now))) }
-    ensures behind { OnErr result (HasBehind text.old.items text.new.items) }
-{
-    let lines = 1 + u128::from(batch.view().count());
-    put_numbered(text, b"batch ", lines)?;
-    text.extend_from_slice(b"\n")?;
-    text.extend_from_slice(batch.bytes())
+    let Ok(()) = put_counted(text, word, lines) else {
+        return Err(AllocError);
+    };
+    text.extend_from_slice(below)
 }
 
 /// Appends the lines of an increment.
 fn put_whole_increment(text: &mut Vec<u8>, increment: &Increment) -> Result<(), AllocError>
-    ensures put { OnOk result (text.new.items ≡ text.old.items
-        ++ increment_text (increment_of increment.now)) }
-    ensures behind { OnErr result (HasBehind text.old.items text.new.items) }
+    ensures { Puts result text.old.items text.new.items
+        (increment_text (increment_of increment.now)) }
 {
     match increment {
-        Increment::Round(round) => put_round(text, *round),
+        Increment::Round(round) => put_counted(text, b"round|", u128::from(*round)),
         Increment::Ballots(period, acceptor) => put_ballots(text, *period, acceptor),
-        Increment::Learned(period, cut) => put_learned(text, *period, cut),
-        Increment::Batch(batch) => put_batch(text, batch),
+        Increment::Learned(period, cut) => put_cut(text, b"learned|", u32::from(*period), cut),
+        Increment::Batch(batch) => {
+            let lines = 1 + u128::from(batch.view().count());
+            put_section(text, b"batch ", lines, batch.bytes())
+        }
     }
-}
-
-/// Appends how many lines the text of what is kept has, and that text.
-fn put_whole_section(text: &mut Vec<u8>, written: &[u8]) -> Result<(), AllocError>
-    ensures put { OnOk result (text.new.items ≡ text.old.items
-        ++ section_line (codes "kept ") (line_count written.now) ++ written.now) }
-    ensures behind { OnErr result (HasBehind text.old.items text.new.items) }
-{
-    put_numbered(text, b"kept ", line_count(written) as u128)?;
-    text.extend_from_slice(b"\n")?;
-    text.extend_from_slice(written)
 }
 
 /// Appends the head line with which a log begins. An error is an allocation failure, and leaves the text's bytes as
@@ -190,13 +185,13 @@ pub fn put_increment(text: &mut Vec<u8>, increment: &Increment) -> Result<(), Al
 
 /// Appends the text of what is kept, with a line above it that counts its lines. An error leaves the text's bytes as
 /// they were.
-fn put_section(text: &mut Vec<u8>, written: &[u8]) -> Result<(), AllocError>
+fn put_base(text: &mut Vec<u8>, written: &[u8]) -> Result<(), AllocError>
     ensures put { OnOk result (text.new.items ≡ text.old.items
         ++ section_line (codes "kept ") (line_count written.now) ++ written.now) }
     ensures kept { OnErr result (text.new.items ≡ text.old.items) }
 {
     let before = text.len();
-    let result = put_whole_section(text, written);
+    let result = put_section(text, b"kept ", line_count(written) as u128, written);
     if result.is_err() {
         text.truncate(before);
     }
@@ -210,5 +205,5 @@ pub fn put_kept(text: &mut Vec<u8>, alloc: Global, kept: &Kept) -> Result<(), Al
     ensures kept { OnErr result (text.new.items ≡ text.old.items) }
 {
     let written = kept.write(alloc)?;
-    put_section(text, &written)
+    put_base(text, &written)
 }

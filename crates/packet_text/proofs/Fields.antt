@@ -8,7 +8,7 @@ use Rattle.std.proofs.lemmas.Bool.{eq-eqb}
 use Rattle.metering_model.specs.Batch.{Batch}
 use Rattle.metering_model.specs.BatchReading.{batch_in, fields_in, whole_in}
 use Rattle.metering_model.specs.World.{Packet, CarriesBatch}
-use Rattle.packet_text.specs.PacketText.{GroupPacket, batch_packet_in, lines_of_batch, prepare_in, sent_vote_in, some_vote_in}
+use Rattle.packet_text.specs.PacketText.{◌>>=◌, GroupPacket, batch_packet_in, holds, lines_of_batch, prepare_in, sent_vote_in, some_vote_in}
 use Rattle.packet_text.proofs.OptionSteps.{step_iff, test_iff}
 use Rattle.packet_text.proofs.SentNumbers.{vote_goes_on}
 use Rattle.packet_text.specs.declared.reading.Unread.{Unread}
@@ -47,6 +47,14 @@ of_parts r group p g e = ap₂ (λ (name : List ℕ) (sent : Packet). record { g
 pub no_packet_so : (why : Unread) (P Q : Type 0) → (P → Q) → IfNoPacket why P → IfNoPacket why Q
 no_packet_so NoPacket P Q so p = so p
 no_packet_so NoMemory P Q so p = tt
+
+-- no batch stands below its line
+pub no_batch_there : (numbers below : List ℕ) (lines : ℕ) → fields_in numbers ≡ numbers ∷ [] → whole_in 1 1_001 numbers ≡ Some lines → result_ok (batch_in below) ≡ None
+    → batch_packet_in (fields_in numbers) below ≡ None
+no_batch_there numbers below lines fields said none =
+    ap (λ fs. batch_packet_in fs below) fields
+    ∙ ap (λ o. o >>= λ n. result_ok (batch_in below) >>= λ b. holds (n == lines_of_batch b) >>= λ _. Some (CarriesBatch b)) said
+    ∙ ap (λ o. o >>= λ b. holds (lines == lines_of_batch b) >>= λ _. Some (CarriesBatch b)) none
 
 -- a batch below its line, which has as many lines as are said
 pub batch_there : (numbers below : List ℕ) (lines : ℕ) (b : Batch) → fields_in numbers ≡ numbers ∷ [] → whole_in 1 1_001 numbers ≡ Some lines → batch_in below ≡ Ok b

@@ -1,38 +1,16 @@
 -- What a reader of a packet finds, from what the readers of its parts found.
-use Rattle.std.proofs.Common.{◌≡◌, ℕ, Bool, true, false, cond, List, ◌∷◌, codes, Option, Some, None, Result, Ok, Err, IfErr, MatchResult, refl, sym, ap, ◌∙◌, subst}
+use Rattle.std.proofs.Common.{◌≡◌, ℕ, Bool, true, false, cond, List, codes, Option, Some, None, Result, Ok, Err, IfErr, MatchResult, refl, sym, ap, ◌∙◌, subst}
 use Rattle.std.specs.Prelude.{◌||◌}
 use Rattle.std.specs.Bool.{IsTrue}
 use Rattle.std.specs.Option.{ok_or, option_map}
-use Rattle.std.specs.Result.{IsErr, IsErrAnd}
-use Rattle.std.proofs.lemmas.Result.{MatchResult-from_err, err_from_is_err_and}
-use Rattle.metering_model.specs.Ballot.{Vote}
 use Rattle.metering_model.specs.BatchReading.{is_same}
-use Rattle.metering_model.specs.Cut.{Cut}
-use Rattle.metering_model.specs.World.{Packet, Promise, Accepted}
-use Rattle.packet_text.specs.PacketText.{◌>>=◌, accept_in, accepted_in, decided_in, is_stored_word, line_packet_in, node_in, prepare_in, promise_in, sent_cut_in, sent_vote_in}
-use Rattle.packet_text.specs.Inner.Numbers.{Numbers, numbers_in}
+use Rattle.metering_model.specs.World.{Packet}
+use Rattle.packet_text.specs.PacketText.{accept_in, accepted_in, decided_in, is_stored_word, line_packet_in, prepare_in, promise_in}
 use Rattle.packet_text.specs.Inner.Unread.{IfNoMemory, IfNoPacket}
 use Rattle.packet_text.specs.declared.reading.Unread.{Unread}
 use Rattle.packet_text.specs.declared.reading.Unread.TheVariants.{NoPacket, NoMemory}
-use Rattle.packet_text.proofs.Fields.{no_packet_so}
-use Rattle.packet_text.proofs.NumberSteps.{accepted_by, promise_by}
 
 -- ---- what a result says
-
-no_packet : (why : Unread) {P : Type 0} → P → IfNoPacket why P
-no_packet NoPacket p = p
-no_packet NoMemory p = tt
-
--- an error says that there is none
-pub none_there : {A : Type 0} (r : Result A Unread) (P : A → Type 0) {Q : Type 0} → IsErr r → Q → MatchResult r P (λ why. IfNoPacket why Q)
-none_there r P {Q} failed q = MatchResult-from_err r P (λ why. IfNoPacket why Q) failed (λ why. no_packet why q)
-
--- an error that is passed on says it of what it was found in
-pub passed_on : {A : Type 0} (r : Result A Unread) (P : A → Type 0) (Q R : Type 0) (why : Unread) → IsErrAnd r (λ y. y ≡ why) → IfNoPacket why Q → (Q → R) → MatchResult r P (λ y. IfNoPacket y R)
-passed_on {A} r P Q R why failed none so =
-    let at = err_from_is_err_and r failed in
-    let is : r ≡ Err why = at.1 ∙ ap Err at.2 in
-    subst (λ (x : Result A Unread). MatchResult x P (λ y. IfNoPacket y R)) (sym is) (no_packet_so why Q R so none)
 
 -- what is read, as it is viewed
 abbrev pub Says : {A : Type 0} → (A → Packet) → Result A Unread → Option Packet → Type 0
@@ -139,62 +117,3 @@ module _ (word : List ℕ) where
 
   pub decided_stored : is_same word (codes "decided") ≡ true → IsTrue (is_stored_word word)
   decided_stored is = or_right (b || p || a || d) e is
-
--- ---- by a node, a period and a ballot, and what stands behind them
-
-abbrev Both : Type 0
-Both = ℕ → Numbers → Option Packet
-
-abbrev both : Option ℕ → Option Numbers → Both → Option Packet
-both o q f = o >>= λ i. q >>= λ (x : Numbers). f i x
-
-no_first : (o : Option ℕ) (q : Option Numbers) (f : Both) → o ≡ None → both o q f ≡ None
-no_first o q f is = ap (λ (t : Option ℕ). both t q f) is
-
-no_second : (o : Option ℕ) (q : Option Numbers) (f : Both) (i : ℕ) → o ≡ Some i → q ≡ None → both o q f ≡ None
-no_second o q f i first then = ap (λ (t : Option ℕ). both t q f) first ∙ ap (λ (t : Option Numbers). t >>= λ (x : Numbers). f i x) then
-
-at_both : (o : Option ℕ) (q : Option Numbers) (f : Both) (i : ℕ) (x : Numbers) → o ≡ Some i → q ≡ Some x → both o q f ≡ f i x
-at_both o q f i x first also = ap (λ (t : Option ℕ). both t q f) first ∙ ap (λ (t : Option Numbers). t >>= λ (y : Numbers). f i y) also
-
-abbrev with_vote : Both
-with_vote i x = sent_vote_in x.rest >>= λ (v : Option Vote). Some (Promise i x.period x.ballot v)
-
-abbrev with_cut : Both
-with_cut i x = sent_cut_in x.rest >>= λ (c : Cut). Some (Accepted i x.period x.ballot c)
-
-module _ (fields : List (List ℕ)) (from : List ℕ) (fs : List (List ℕ)) (are : fields ≡ from ∷ fs) where
-  promise_is : promise_in fields ≡ both (node_in from) (numbers_in fs) with_vote
-  promise_is = ap promise_in are ∙ promise_by from fs
-
-  accepted_is : accepted_in fields ≡ both (node_in from) (numbers_in fs) with_cut
-  accepted_is = ap accepted_in are ∙ accepted_by from fs
-
-  pub promise_no_node : node_in from ≡ None → promise_in fields ≡ None
-  promise_no_node is = promise_is ∙ no_first (node_in from) (numbers_in fs) with_vote is
-
-  pub accepted_no_node : node_in from ≡ None → accepted_in fields ≡ None
-  accepted_no_node is = accepted_is ∙ no_first (node_in from) (numbers_in fs) with_cut is
-
-  module _ (i : ℕ) (node : node_in from ≡ Some i) where
-    pub promise_no_numbers : numbers_in fs ≡ None → promise_in fields ≡ None
-    promise_no_numbers is = promise_is ∙ no_second (node_in from) (numbers_in fs) with_vote i node is
-
-    pub accepted_no_numbers : numbers_in fs ≡ None → accepted_in fields ≡ None
-    accepted_no_numbers is = accepted_is ∙ no_second (node_in from) (numbers_in fs) with_cut i node is
-
-    module _ (x : Numbers) (numbers : numbers_in fs ≡ Some x) where
-      pub promise_no_vote : sent_vote_in x.rest ≡ None → promise_in fields ≡ None
-      promise_no_vote is =
-          promise_is ∙ at_both (node_in from) (numbers_in fs) with_vote i x node numbers ∙ ap (λ (t : Option (Option Vote)). t >>= λ (v : Option Vote). Some (Promise i x.period x.ballot v)) is
-
-      pub accepted_no_cut : sent_cut_in x.rest ≡ None → accepted_in fields ≡ None
-      accepted_no_cut is = accepted_is ∙ at_both (node_in from) (numbers_in fs) with_cut i x node numbers ∙ ap (λ (t : Option Cut). t >>= λ (c : Cut). Some (Accepted i x.period x.ballot c)) is
-
-      pub promise_there : (v : Option Vote) → sent_vote_in x.rest ≡ Some v → promise_in fields ≡ Some (Promise i x.period x.ballot v)
-      promise_there v is =
-          promise_is ∙ at_both (node_in from) (numbers_in fs) with_vote i x node numbers ∙ ap (λ (t : Option (Option Vote)). t >>= λ (w : Option Vote). Some (Promise i x.period x.ballot w)) is
-
-      pub accepted_there : (c : Cut) → sent_cut_in x.rest ≡ Some c → accepted_in fields ≡ Some (Accepted i x.period x.ballot c)
-      accepted_there c is =
-          accepted_is ∙ at_both (node_in from) (numbers_in fs) with_cut i x node numbers ∙ ap (λ (t : Option Cut). t >>= λ (k : Cut). Some (Accepted i x.period x.ballot k)) is

@@ -10,7 +10,7 @@ ghost use Rattle.batch_view.specs.Batches.{batch_of};
 ghost use Rattle.group_node.specs.Packets.{packet_of};
 ghost use Rattle.packet_text.specs.PacketText.{HasPacketText, accept_in, accepted_in, batch_packet_in, decided_in, is_group, is_stored_word, line_packet_in, may_take_memory, packet_in, prepare_in, promise_in, sent_cut_in, sent_vote_in, some_vote_in, word_packet_in};
 ghost use Rattle.packet_text.specs.Inner.Heads.{HasHead, HasNoHead};
-ghost use Rattle.packet_text.specs.Inner.Numbers.{numbers_in};
+ghost use Rattle.packet_text.specs.Inner.Numbers.{numbers_in, sent_in};
 ghost use Rattle.packet_text.specs.Inner.Unread.{IfNoMemory, IfNoPacket};
 
 use crate::numbers::{count_fields, is_group, read_ballot, read_lines, read_node, read_period};
@@ -49,13 +49,17 @@ fn two_fields(fields: &[u8]) -> Option<Two<'_>>
         (length (fields_in fields.now) ≤ 2)
         (λ two. fields_in fields.now ≡ two.first.now ∷ two.second.now ∷ fields_in two.rest.now) }
 {
-    let (first, rest) = split_at_bar(fields)?;
-    let (second, rest) = split_at_bar(rest)?;
-    Some(Two {
-        first,
-        second,
-        rest,
-    })
+    let Some((first, behind)) = split_at_bar(fields) else {
+        return None;
+    };
+    match split_at_bar(behind) {
+        Some((second, rest)) => Some(Two {
+            first,
+            second,
+            rest,
+        }),
+        None => None,
+    }
 }
 
 /// The cut of as many agents as there are fields.
@@ -80,9 +84,13 @@ fn read_some_vote(alloc: Global, ballot: &[u8], cut: &[u8]) -> Result<Vote, Unre
         (λ vote. some_vote_in ballot.now (fields_in cut.now) ≡ Some vote)
         (λ why. IfNoPacket why (some_vote_in ballot.now (fields_in cut.now) ≡ None)) }
 {
-    let ballot = read_ballot(ballot).ok_or(Unread::NoPacket)?;
-    let cut = read_cut(alloc, cut)?;
-    Ok(Vote { ballot, cut })
+    let Some(ballot) = read_ballot(ballot) else {
+        return Err(Unread::NoPacket);
+    };
+    match read_cut(alloc, cut) {
+        Ok(cut) => Ok(Vote { ballot, cut }),
+        Err(why) => Err(why),
+    }
 }
 
 /// The vote that a promise tells, if it tells one.
@@ -105,14 +113,19 @@ fn read_vote(alloc: Global, fields: &[u8]) -> Result<Option<Vote>, Unread>
 fn read_prepare(numbers: &[u8]) -> Option<Packet>
     ensures { option_map packet_of result ≡ prepare_in (fields_in numbers.now) }
 {
-    let (period, ballot) = split_at_bar(numbers)?;
+    let Some((period, ballot)) = split_at_bar(numbers) else {
+        return None;
+    };
     if split_at_bar(ballot).is_some() {
         return None;
     }
-    Some(Packet::Prepare {
-        period: read_period(period)?,
-        ballot: read_ballot(ballot)?,
-    })
+    let Some(period) = read_period(period) else {
+        return None;
+    };
+    match read_ballot(ballot) {
+        Some(ballot) => Some(Packet::Prepare { period, ballot }),
+        None => None,
+    }
 }
 
 /// The period and the ballot of a packet, and the fields behind them.
@@ -124,44 +137,81 @@ struct Numbered<'a> {
 }
 
 /// Period and ballot, if other fields stand behind them.
-#[tactic(auto, using(crate::proofs::NumberSteps::numbers_of))]
 fn read_numbered(fields: &[u8]) -> Option<Numbered<'_>>
     ensures { MatchOption result
         (numbers_in (fields_in fields.now) ≡ None)
         (λ n. numbers_in (fields_in fields.now)
         ≡ Some (record { period = n.period; ballot = n.ballot; rest = fields_in n.rest.now })) }
 {
-    let two = two_fields(fields)?;
-    Some(Numbered {
-        period: read_period(two.first)?,
-        ballot: read_ballot(two.second)?,
-        rest: two.rest,
-    })
+    let Some(two) = two_fields(fields) else {
+        return None;
+    };
+    let Some(period) = read_period(two.first) else {
+        return None;
+    };
+    match read_ballot(two.second) {
+        Some(ballot) => Some(Numbered {
+            period,
+            ballot,
+            rest: two.rest,
+        }),
+        None => None,
+    }
+}
+
+/// The node that sends a packet, its period and its ballot, and the fields behind them.
+#[derive(Clone, Copy)]
+struct Sent<'a> {
+    from: u8,
+    numbered: Numbered<'a>,
+}
+
+/// Node, period and ballot, if other fields stand behind them.
+fn read_sent(fields: &[u8]) -> Option<Sent<'_>>
+    ensures { MatchOption result
+        (sent_in (fields_in fields.now) ≡ None)
+        (λ s. sent_in (fields_in fields.now) ≡ Some (record {
+          from = s.from;
+          numbers = record {
+            period = s.numbered.period;
+            ballot = s.numbered.ballot;
+            rest = fields_in s.numbered.rest.now;
+          };
+        })) }
+{
+    let Some((from, rest)) = split_at_bar(fields) else {
+        return None;
+    };
+    let Some(from) = read_node(from) else {
+        return None;
+    };
+    match read_numbered(rest) {
+        Some(numbered) => Some(Sent { from, numbered }),
+        None => None,
+    }
 }
 
 /// A Promise from its numbers and its vote.
-#[tactic(auto, using(crate::proofs::NumberSteps::promise_by))]
 fn read_promise(alloc: Global, numbers: &[u8]) -> Result<Packet, Unread>
     ensures { MatchResult result
         (λ packet. promise_in (fields_in numbers.now) ≡ Some (packet_of packet))
         (λ why. IfNoPacket why (promise_in (fields_in numbers.now) ≡ None)) }
 {
-    let (from, rest) = split_at_bar(numbers).ok_or(Unread::NoPacket)?;
-    let from = read_node(from).ok_or(Unread::NoPacket)?;
-    let Some(numbered) = read_numbered(rest) else {
+    let Some(sent) = read_sent(numbers) else {
         return Err(Unread::NoPacket);
     };
-    let vote = read_vote(alloc, numbered.rest)?;
-    Ok(Packet::Promise {
-        from,
-        period: numbered.period,
-        ballot: numbered.ballot,
-        vote,
-    })
+    match read_vote(alloc, sent.numbered.rest) {
+        Ok(vote) => Ok(Packet::Promise {
+            from: sent.from,
+            period: sent.numbered.period,
+            ballot: sent.numbered.ballot,
+            vote,
+        }),
+        Err(why) => Err(why),
+    }
 }
 
 /// An Accept from its numbers and its cut.
-#[tactic(auto, using(crate::proofs::NumberSteps::accept_by))]
 fn read_accept(alloc: Global, numbers: &[u8]) -> Result<Packet, Unread>
     ensures { MatchResult result
         (λ packet. accept_in (fields_in numbers.now) ≡ Some (packet_of packet))
@@ -170,33 +220,34 @@ fn read_accept(alloc: Global, numbers: &[u8]) -> Result<Packet, Unread>
     let Some(numbered) = read_numbered(numbers) else {
         return Err(Unread::NoPacket);
     };
-    let cut = read_cut(alloc, numbered.rest)?;
-    Ok(Packet::Accept {
-        period: numbered.period,
-        ballot: numbered.ballot,
-        cut,
-    })
+    match read_cut(alloc, numbered.rest) {
+        Ok(cut) => Ok(Packet::Accept {
+            period: numbered.period,
+            ballot: numbered.ballot,
+            cut,
+        }),
+        Err(why) => Err(why),
+    }
 }
 
 /// An Accepted from its numbers and its cut.
-#[tactic(auto, using(crate::proofs::NumberSteps::accepted_by))]
 fn read_accepted(alloc: Global, numbers: &[u8]) -> Result<Packet, Unread>
     ensures { MatchResult result
         (λ packet. accepted_in (fields_in numbers.now) ≡ Some (packet_of packet))
         (λ why. IfNoPacket why (accepted_in (fields_in numbers.now) ≡ None)) }
 {
-    let (from, rest) = split_at_bar(numbers).ok_or(Unread::NoPacket)?;
-    let from = read_node(from).ok_or(Unread::NoPacket)?;
-    let Some(numbered) = read_numbered(rest) else {
+    let Some(sent) = read_sent(numbers) else {
         return Err(Unread::NoPacket);
     };
-    let cut = read_cut(alloc, numbered.rest)?;
-    Ok(Packet::Accepted {
-        from,
-        period: numbered.period,
-        ballot: numbered.ballot,
-        cut,
-    })
+    match read_cut(alloc, sent.numbered.rest) {
+        Ok(cut) => Ok(Packet::Accepted {
+            from: sent.from,
+            period: sent.numbered.period,
+            ballot: sent.numbered.ballot,
+            cut,
+        }),
+        Err(why) => Err(why),
+    }
 }
 
 /// A Decided from its period and its cut.
@@ -205,10 +256,16 @@ fn read_decided(alloc: Global, numbers: &[u8]) -> Result<Packet, Unread>
         (λ packet. decided_in (fields_in numbers.now) ≡ Some (packet_of packet))
         (λ why. IfNoPacket why (decided_in (fields_in numbers.now) ≡ None)) }
 {
-    let (period, cut) = split_at_bar(numbers).ok_or(Unread::NoPacket)?;
-    let period = read_period(period).ok_or(Unread::NoPacket)?;
-    let cut = read_cut(alloc, cut)?;
-    Ok(Packet::Decided { period, cut })
+    let Some((period, cut)) = split_at_bar(numbers) else {
+        return Err(Unread::NoPacket);
+    };
+    let Some(period) = read_period(period) else {
+        return Err(Unread::NoPacket);
+    };
+    match read_cut(alloc, cut) {
+        Ok(cut) => Ok(Packet::Decided { period, cut }),
+        Err(why) => Err(why),
+    }
 }
 
 /// The packet of that word that is one line.
@@ -274,8 +331,13 @@ fn read_batch_packet(alloc: Global, numbers: &[u8], below: &[u8]) -> Result<Pack
         (λ packet. batch_packet_in (fields_in numbers.now) below.now ≡ Some (packet_of packet))
         (λ why. IfNoPacket why (batch_packet_in (fields_in numbers.now) below.now ≡ None)) }
 {
-    let lines = read_count(numbers).ok_or(Unread::NoPacket)?;
-    let batch = read_batch(alloc, below)?;
+    let Some(lines) = read_count(numbers) else {
+        return Err(Unread::NoPacket);
+    };
+    let batch = match read_batch(alloc, below) {
+        Ok(batch) => batch,
+        Err(why) => return Err(why),
+    };
     if lines != 1 + batch.view().count() {
         return Err(Unread::NoPacket);
     }
@@ -319,11 +381,15 @@ fn read_head(line: &[u8]) -> Option<Head<'_>>
         (λ head. HasHead (fields_in line.now) head.name.now head.word.now
         (fields_in head.numbers.now)) }
 {
-    let (version, rest) = split_at_bar(line)?;
+    let Some((version, rest)) = split_at_bar(line) else {
+        return None;
+    };
     if !is_same(version, b"P1") {
         return None;
     }
-    let two = two_fields(rest)?;
+    let Some(two) = two_fields(rest) else {
+        return None;
+    };
     if !is_group(two.first) {
         return None;
     }

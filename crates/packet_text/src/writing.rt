@@ -5,7 +5,7 @@ ghost use Rattle.std.specs.Option.{option_copied};
 ghost use Rattle.batch_view.specs.Batches.{batch_of};
 ghost use Rattle.group_node.specs.Packets.{packet_of};
 ghost use Rattle.packet_text.specs.PacketText.{lines_of_batch, packet_fields, packet_text, text_below, vote_fields};
-ghost use Rattle.packet_text.specs.Inner.Pieces.{HasBehind, barred};
+ghost use Rattle.packet_text.specs.Inner.Pieces.{Puts, barred};
 
 use batch_view::OwnedBatch;
 use byte_text::put_numbered;
@@ -16,50 +16,69 @@ use std::alloc::AllocError;
 
 // Each of these appends a piece of a packet's text. Where an allocation fails some of the piece may stand there.
 
-/// Appends the fields of a cut.
-fn put_cut(text: &mut Vec<u8>, cut: &Cut) -> Result<(), AllocError>
-    ensures put { OnOk result (text.new.items ≡ text.old.items ++ barred (map decimal cut.now)) }
-    ensures behind { OnErr result (HasBehind text.old.items text.new.items) }
+/// Appends a word and a number, and behind them the fields of a cut.
+fn put_numbered_cut(
+    text: &mut Vec<u8>,
+    word: &[u8],
+    number: u32,
+    cut: &Cut,
+) -> Result<(), AllocError>
+    ensures { Puts result text.old.items text.new.items
+        ((word.now ++ decimal number) ++ barred (map decimal cut.now)) }
 {
     // For the proof alone: its clause says that there is an entry.
     cut.agents();
-    text.push(b'|')?;
+    let Ok(()) = put_numbered(text, word, u128::from(number)) else {
+        return Err(AllocError);
+    };
+    let Ok(()) = text.push(b'|') else {
+        return Err(AllocError);
+    };
     cut.put(text)
 }
 
 /// Appends a vote's ballot and cut; 0 for none.
 fn put_vote(text: &mut Vec<u8>, vote: Option<&Vote>) -> Result<(), AllocError>
-    ensures put { OnOk result (text.new.items
-        ≡ text.old.items ++ barred (vote_fields (option_copied vote.entry))) }
-    ensures behind { OnErr result (HasBehind text.old.items text.new.items) }
+    ensures { Puts result text.old.items text.new.items
+        (barred (vote_fields (option_copied vote.entry))) }
 {
     match vote {
-        Some(vote) => {
-            put_numbered(text, b"|", u128::from(vote.ballot.number()))?;
-            put_cut(text, &vote.cut)
-        }
+        Some(vote) => put_numbered_cut(text, b"|", vote.ballot.number(), &vote.cut),
         None => text.extend_from_slice(b"|0"),
     }
 }
 
-/// Appends the numbers of a period and of a ballot.
-fn put_ballot(text: &mut Vec<u8>, period: Period, ballot: Ballot) -> Result<(), AllocError>
-    ensures put { OnOk result (text.new.items
-        ≡ text.old.items ++ barred (decimal period ∷ decimal ballot ∷ [])) }
-    ensures behind { OnErr result (HasBehind text.old.items text.new.items) }
+/// Appends a word and the number of a period, and behind them that of a ballot.
+fn put_ballot(
+    text: &mut Vec<u8>,
+    word: &[u8],
+    period: Period,
+    ballot: Ballot,
+) -> Result<(), AllocError>
+    ensures { Puts result text.old.items text.new.items
+        ((word.now ++ decimal period) ++ barred (decimal ballot ∷ [])) }
 {
-    put_numbered(text, b"|", u128::from(period.number()))?;
+    let Ok(()) = put_numbered(text, word, u128::from(period.number())) else {
+        return Err(AllocError);
+    };
     put_numbered(text, b"|", u128::from(ballot.number()))
 }
 
-/// Appends the own fields of a Prepare.
-fn put_prepare(text: &mut Vec<u8>, period: Period, ballot: Ballot) -> Result<(), AllocError>
-    ensures put { OnOk result (text.new.items
-        ≡ text.old.items ++ barred (codes "prepare" ∷ decimal period ∷ decimal ballot ∷ [])) }
-    ensures behind { OnErr result (HasBehind text.old.items text.new.items) }
+/// Appends a word and the number of a period, and behind them those of a ballot and a cut.
+fn put_proposal(
+    text: &mut Vec<u8>,
+    word: &[u8],
+    period: Period,
+    ballot: Ballot,
+    cut: &Cut,
+) -> Result<(), AllocError>
+    ensures { Puts result text.old.items text.new.items
+        ((word.now ++ decimal period) ++ barred (decimal ballot ∷ map decimal cut.now)) }
 {
-    text.extend_from_slice(b"|prepare")?;
-    put_ballot(text, period, ballot)
+    let Ok(()) = put_numbered(text, word, u128::from(period.number())) else {
+        return Err(AllocError);
+    };
+    put_numbered_cut(text, b"|", ballot.number(), cut)
 }
 
 /// Appends the own fields of a Promise.
@@ -70,30 +89,17 @@ fn put_promise(
     ballot: Ballot,
     vote: Option<&Vote>,
 ) -> Result<(), AllocError>
-    ensures put { OnOk result (text.new.items ≡ text.old.items
-        ++ barred (codes "promise" ∷ decimal from ∷ decimal period ∷ decimal ballot
+    ensures { Puts result text.old.items text.new.items
+        (barred (codes "promise" ∷ decimal from ∷ decimal period ∷ decimal ballot
         ∷ vote_fields (option_copied vote.entry))) }
-    ensures behind { OnErr result (HasBehind text.old.items text.new.items) }
 {
-    put_numbered(text, b"|promise|", u128::from(from))?;
-    put_ballot(text, period, ballot)?;
+    let Ok(()) = put_numbered(text, b"|promise|", u128::from(from)) else {
+        return Err(AllocError);
+    };
+    let Ok(()) = put_ballot(text, b"|", period, ballot) else {
+        return Err(AllocError);
+    };
     put_vote(text, vote)
-}
-
-/// Appends the own fields of an Accept.
-fn put_accept(
-    text: &mut Vec<u8>,
-    period: Period,
-    ballot: Ballot,
-    cut: &Cut,
-) -> Result<(), AllocError>
-    ensures put { OnOk result (text.new.items ≡ text.old.items
-        ++ barred (codes "accept" ∷ decimal period ∷ decimal ballot ∷ map decimal cut.now)) }
-    ensures behind { OnErr result (HasBehind text.old.items text.new.items) }
-{
-    text.extend_from_slice(b"|accept")?;
-    put_ballot(text, period, ballot)?;
-    put_cut(text, cut)
 }
 
 /// Appends the own fields of an Accepted.
@@ -104,31 +110,20 @@ fn put_accepted(
     ballot: Ballot,
     cut: &Cut,
 ) -> Result<(), AllocError>
-    ensures put { OnOk result (text.new.items ≡ text.old.items
-        ++ barred (codes "accepted" ∷ decimal from ∷ decimal period ∷ decimal ballot
+    ensures { Puts result text.old.items text.new.items
+        (barred (codes "accepted" ∷ decimal from ∷ decimal period ∷ decimal ballot
         ∷ map decimal cut.now)) }
-    ensures behind { OnErr result (HasBehind text.old.items text.new.items) }
 {
-    put_numbered(text, b"|accepted|", u128::from(from))?;
-    put_ballot(text, period, ballot)?;
-    put_cut(text, cut)
-}
-
-/// Appends the own fields of a Decided.
-fn put_decided(text: &mut Vec<u8>, period: Period, cut: &Cut) -> Result<(), AllocError>
-    ensures put { OnOk result (text.new.items
-        ≡ text.old.items ++ barred (codes "decided" ∷ decimal period ∷ map decimal cut.now)) }
-    ensures behind { OnErr result (HasBehind text.old.items text.new.items) }
-{
-    put_numbered(text, b"|decided|", u128::from(period.number()))?;
-    put_cut(text, cut)
+    let Ok(()) = put_numbered(text, b"|accepted|", u128::from(from)) else {
+        return Err(AllocError);
+    };
+    put_proposal(text, b"|", period, ballot, cut)
 }
 
 /// Appends the own fields of a batch: how many lines it has.
 fn put_lines(text: &mut Vec<u8>, batch: &OwnedBatch) -> Result<(), AllocError>
-    ensures put { OnOk result (text.new.items ≡ text.old.items
-        ++ barred (codes "batch" ∷ decimal (lines_of_batch (batch_of batch.now)) ∷ [])) }
-    ensures behind { OnErr result (HasBehind text.old.items text.new.items) }
+    ensures { Puts result text.old.items text.new.items
+        (barred (codes "batch" ∷ decimal (lines_of_batch (batch_of batch.now)) ∷ [])) }
 {
     let lines = 1 + u128::from(batch.view().count());
     put_numbered(text, b"|batch|", lines)
@@ -136,13 +131,12 @@ fn put_lines(text: &mut Vec<u8>, batch: &OwnedBatch) -> Result<(), AllocError>
 
 /// Appends a packet's own fields.
 fn put_fields(text: &mut Vec<u8>, packet: &Packet) -> Result<(), AllocError>
-    ensures put { OnOk result (text.new.items
-        ≡ text.old.items ++ barred (packet_fields (packet_of packet.now))) }
-    ensures behind { OnErr result (HasBehind text.old.items text.new.items) }
+    ensures { Puts result text.old.items text.new.items
+        (barred (packet_fields (packet_of packet.now))) }
 {
     match packet {
         Packet::Batch(batch) => put_lines(text, batch),
-        Packet::Prepare { period, ballot } => put_prepare(text, *period, *ballot),
+        Packet::Prepare { period, ballot } => put_ballot(text, b"|prepare|", *period, *ballot),
         Packet::Promise {
             from,
             period,
@@ -153,22 +147,22 @@ fn put_fields(text: &mut Vec<u8>, packet: &Packet) -> Result<(), AllocError>
             period,
             ballot,
             cut,
-        } => put_accept(text, *period, *ballot, cut),
+        } => put_proposal(text, b"|accept|", *period, *ballot, cut),
         Packet::Accepted {
             from,
             period,
             ballot,
             cut,
         } => put_accepted(text, *from, *period, *ballot, cut),
-        Packet::Decided { period, cut } => put_decided(text, *period, cut),
+        Packet::Decided { period, cut } => {
+            put_numbered_cut(text, b"|decided|", u32::from(period.number()), cut)
+        }
     }
 }
 
 /// Appends what stands below a packet's line.
 fn put_below(text: &mut Vec<u8>, packet: &Packet) -> Result<(), AllocError>
-    ensures put { OnOk result
-        (text.new.items ≡ text.old.items ++ text_below (packet_of packet.now)) }
-    ensures behind { OnErr result (HasBehind text.old.items text.new.items) }
+    ensures { Puts result text.old.items text.new.items (text_below (packet_of packet.now)) }
 {
     match packet {
         Packet::Batch(batch) => text.extend_from_slice(batch.bytes()),
@@ -176,25 +170,23 @@ fn put_below(text: &mut Vec<u8>, packet: &Packet) -> Result<(), AllocError>
     }
 }
 
-/// Appends a packet's line.
-fn put_line(text: &mut Vec<u8>, group: &[u8], packet: &Packet) -> Result<(), AllocError>
-    ensures put { OnOk result (text.new.items ≡ text.old.items
-        ++ codes "P1" ++ barred (group.now ∷ packet_fields (packet_of packet.now)) ++ 10 ∷ []) }
-    ensures behind { OnErr result (HasBehind text.old.items text.new.items) }
-{
-    text.extend_from_slice(b"P1|")?;
-    text.extend_from_slice(group)?;
-    put_fields(text, packet)?;
-    text.extend_from_slice(b"\n")
-}
-
 /// Appends a packet's line, and what stands below it.
-fn put_whole(text: &mut Vec<u8>, group: &[u8], packet: &Packet) -> Result<(), AllocError>
-    ensures put { OnOk result (text.new.items
-        ≡ text.old.items ++ packet_text group.now (packet_of packet.now)) }
-    ensures behind { OnErr result (HasBehind text.old.items text.new.items) }
+fn put_whole(text: &mut Vec<u8>, name: &[u8], packet: &Packet) -> Result<(), AllocError>
+    ensures { Puts result text.old.items text.new.items
+        (packet_text name.now (packet_of packet.now)) }
 {
-    put_line(text, group, packet)?;
+    let Ok(()) = text.extend_from_slice(b"P1|") else {
+        return Err(AllocError);
+    };
+    let Ok(()) = text.extend_from_slice(name) else {
+        return Err(AllocError);
+    };
+    let Ok(()) = put_fields(text, packet) else {
+        return Err(AllocError);
+    };
+    let Ok(()) = text.extend_from_slice(b"\n") else {
+        return Err(AllocError);
+    };
     put_below(text, packet)
 }
 

@@ -7,7 +7,7 @@ use Rattle.metering_model.specs.FirstFailure.{◌>>=◌, holds_or}
 use Rattle.metering_model.specs.Batch.{Batch, is_empty}
 use Rattle.metering_model.specs.BatchReading.{batch_in, lines_in, whole_in}
 use Rattle.metering_model.specs.Ballot.{Vote}
-use Rattle.metering_model.specs.Limits.{last_ballot, most_rounds}
+use Rattle.metering_model.specs.Limits.{last_ballot, most_agents, most_nodes, most_rounds}
 use Rattle.metering_model.specs.Dates.{IsPeriod}
 use Rattle.metering_model.specs.KeptText.{KeptAmong, IsBallotNumber, kept_in, kept_text}
 use Rattle.packet_text.specs.PacketText.{lines_of_batch}
@@ -20,6 +20,26 @@ use Rattle.log_text.specs.declared.faults.Unread.{Unread}
 use Rattle.log_text.specs.declared.faults.Unread.TheVariants.{NotThere, NoMemory}
 use Rattle.log_text.specs.declared.increments.Taken.{Taken}
 use Rattle.log_text.specs.declared.increments.Taken.TheVariants as taken
+
+-- how many nodes vote, how many observe, how many there are, and how many agents
+pub record Sizes : Type 0 where
+  pub voters : ℕ
+  pub observers : ℕ
+  pub nodes : ℕ
+  pub agents : ℕ
+
+-- the sizes of a group, of which a head says the nodes apart
+abbrev pub sizes_in : (voters observers agents : List ℕ) → Option Sizes
+sizes_in voters observers agents = elim (whole_in 1 most_nodes voters) [
+  | None ↦ None
+  | Some v ↦ elim (whole_in 0 most_nodes observers) [
+    | None ↦ None
+    | Some o ↦ elim (whole_in 1 most_agents agents) [
+      | None ↦ None
+      | Some a ↦ if nat_le (v + o) most_nodes then Some (record { voters = v; observers = o; nodes = v + o; agents = a }) else None
+    ]
+  ]
+]
 
 -- what is said where nothing of the kind stands there; want of memory says nothing
 abbrev pub IfNotThere : Unread → Type 0 → Type 0

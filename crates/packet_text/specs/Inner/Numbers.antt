@@ -1,6 +1,6 @@
 -- The period and the ballot of a packet, with others behind them.
-use Rattle.std.specs.Prelude.{ℕ, List, ◌∷◌, Option, Some, None}
-use Rattle.packet_text.specs.PacketText.{◌>>=◌, ballot_in, period_in}
+use Rattle.std.specs.Prelude.{ℕ, List, [], ◌∷◌, Option, Some, None}
+use Rattle.packet_text.specs.PacketText.{◌>>=◌, ballot_in, node_in, period_in}
 
 -- a period, a ballot, and the fields behind them
 pub record Numbers : Type 0 where
@@ -15,3 +15,16 @@ numbers_in (period ∷ ballot ∷ field ∷ fields) = do
   b ← ballot_in ballot
   Some (record { period = p; ballot = b; rest = field ∷ fields })
 numbers_in _ = None
+
+-- the node that sends a packet, and these numbers
+pub record Sent : Type 0 where
+  pub from : ℕ
+  pub numbers : Numbers
+
+-- a node, a period and a ballot, if other fields stand behind them
+abbrev pub sent_in : List (List ℕ) → Option Sent
+sent_in [] = None
+sent_in (from ∷ fields) = do
+  i ← node_in from
+  n ← numbers_in fields
+  Some (record { from = i; numbers = n })

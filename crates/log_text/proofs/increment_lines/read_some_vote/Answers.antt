@@ -3,5 +3,5 @@ use Rattle.std.proofs.Common.{rules}
 use Rattle.log_text.proofs.ReadFields.{zero_vote}
 use Rattle.log_text.proofs.increment_lines.read_some_vote.Goals as goal
 
-pub returns-in_err-ballot : goal.returns-in_err-ballot
-returns-in_err-ballot c = search (rules, zero_vote)
+pub returns-in_default-numbered : goal.returns-in_default-numbered
+returns-in_default-numbered c = search (rules, zero_vote)

@@ -14,7 +14,7 @@ pub returns-in_default-clause-refused : goal.returns-in_default-clause-refused
 returns-in_default-clause-refused c = without_line c.args.text.now (omega arith) c.in_default.ensures
 
 pub returns-in_default-read_head-clause-refused : goal.returns-in_default-read_head-clause-refused
-returns-in_default-read_head-clause-refused c = bad_head c.args.text.now c.in-Some.line.now c.in-Some.below.now (omega arith) c.in-Some.ensures c.in_default-read_head.ensures.read
+returns-in_default-read_head-clause-refused c = bad_head c.args.text.now c.in-Some.line.now c.in-Some.below.now (omega arith) c.in-Some.ensures c.in_default-read_head.ensures
 
 pub read_below-requires-clause-short : goal.read_below-requires-clause-short
 read_below-requires-clause-short c =
@@ -28,10 +28,10 @@ returns-in_err-kept-clause-refused c =
     let below = c.in-Some.below.now in
     let own = ap (λ n. all_below n below) (sym c.agents.ensures) in
     rw (p.1, p.2) (fault_of c.args.text.now c.in_err-kept.field-0.0
-    (told_so c.in_err-kept.field-0.0 _ _ (λ f e. log_fault c.args.text.now c.in-Some.line.now below (omega arith) c.in-Some.ensures head c.in-Some-read_head.ensures.read f (own ∙ e)) c.in_err-kept.ensures))
+    (told_so c.in_err-kept.field-0.0 _ _ (λ f e. log_fault c.args.text.now c.in-Some.line.now below (omega arith) c.in-Some.ensures head c.in-Some-read_head.ensures.0 f (own ∙ e)) c.in_err-kept.ensures))
 
 pub returns-clause-read : goal.returns-clause-read
 returns-clause-read c =
     let below = c.in-Some.below.now in
     let own = ap (λ n. all_below n below) (sym c.agents.ensures) in
-    log_read c.args.text.now c.in-Some.line.now below (omega arith) c.in-Some.ensures c.in-Some-read_head.head c.in-Some-read_head.ensures.read c.in_ok-kept.kept (own ∙ c.in_ok-kept.ensures)
+    log_read c.args.text.now c.in-Some.line.now below (omega arith) c.in-Some.ensures c.in-Some-read_head.head c.in-Some-read_head.ensures.0 c.in_ok-kept.kept (own ∙ c.in_ok-kept.ensures)

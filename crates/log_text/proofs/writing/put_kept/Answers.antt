@@ -9,5 +9,5 @@ pub returns-clause-put : goal.returns-clause-put
 returns-clause-put c =
     let old = c.args.text.now.items in
     let written = c.deref.result.now in
-    then_ok c.put_section.result _ _
-    (λ put. put ∙ append_assoc old (section_line (codes "kept ") (line_count written)) written ∙ ap (λ t. old ++ t) (kept_put c.args.kept.now written (c.deref.ensures.value ∙ c.in_ok-written.ensures))) c.put_section.ensures.put
+    then_ok c.put_base.result _ _
+    (λ put. put ∙ append_assoc old (section_line (codes "kept ") (line_count written)) written ∙ ap (λ t. old ++ t) (kept_put c.args.kept.now written (c.deref.ensures.value ∙ c.in_ok-written.ensures))) c.put_base.ensures.put

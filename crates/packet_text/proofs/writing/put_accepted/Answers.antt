@@ -1,32 +1,14 @@
-use Rattle.std.proofs.Common.{[], ◌∷◌, ◌++◌, codes, decimal, map}
-use Rattle.std.proofs.lemmas.Result.{IfOk-from_err}
+use Rattle.std.proofs.Common.{◌∷◌, ◌++◌, codes, decimal, map, ap, ◌∙◌}
 use Rattle.packet_text.specs.Inner.Pieces.{barred}
-use Rattle.packet_text.proofs.Pieces.{fields_put, grown, number_put, so_failed, stayed, then_err, then_ok}
+use Rattle.packet_text.proofs.Pieces.{puts_both, stayed}
 use Rattle.packet_text.proofs.writing.put_accepted.Goals as goal
 
-pub returns-in_err-put_numbered-clause-put : goal.returns-in_err-put_numbered-clause-put
-returns-in_err-put_numbered-clause-put c = IfOk-from_err c.from_residual.result _ c.from_residual.ensures.0
+pub returns-in_default : goal.returns-in_default
+returns-in_default c = stayed c.in_default.ensures.kept
 
-pub returns-in_err-put_numbered-clause-behind : goal.returns-in_err-put_numbered-clause-behind
-returns-in_err-put_numbered-clause-behind c = so_failed c.from_residual.result (stayed c.in_err-put_numbered.ensures.kept)
-
-pub returns-in_err-put_ballot-clause-put : goal.returns-in_err-put_ballot-clause-put
-returns-in_err-put_ballot-clause-put c = IfOk-from_err c.from_residual-in_err-put_ballot.result _ c.from_residual-in_err-put_ballot.ensures.0
-
-pub returns-in_err-put_ballot-clause-behind : goal.returns-in_err-put_ballot-clause-behind
-returns-in_err-put_ballot-clause-behind c =
-    so_failed c.from_residual-in_err-put_ballot.result (grown (codes "|accepted|" ++ decimal c.from.result) c.in_ok-put_numbered.ensures.put c.in_err-put_ballot.ensures.behind)
-
-pub returns-clause-put : goal.returns-clause-put
-returns-clause-put c =
+pub returns : goal.returns
+returns c =
     let old = c.args.text.now.items in
-    let numbers = decimal c.args.period ∷ decimal c.args.ballot ∷ [] in
-    let sender = number_put old c.put_numbered.new.text.items (codes "accepted") c.from.result c.args.from c.from.ensures c.in_ok-put_numbered.ensures.put in
-    let head = fields_put old c.put_numbered.new.text.items c.put_ballot.new.text.items (codes "accepted" ∷ decimal c.args.from ∷ []) numbers sender c.in_ok-put_ballot.ensures.put in
-    then_ok c.put_cut.result _ _
-    (λ end. fields_put old c.put_ballot.new.text.items c.put_cut.new.text.items (codes "accepted" ∷ decimal c.args.from ∷ numbers) (map decimal c.args.cut.now) head end) c.put_cut.ensures.put
-
-pub returns-clause-behind : goal.returns-clause-behind
-returns-clause-behind c =
-    let numbers = decimal c.args.period ∷ decimal c.args.ballot ∷ [] in
-    then_err c.put_cut.result (λ end. grown (codes "|accepted|" ++ decimal c.from.result) c.in_ok-put_numbered.ensures.put (grown (barred numbers) c.in_ok-put_ballot.ensures.put end)) c.put_cut.ensures.behind
+    let first = c.in-Ok.ensures.put ∙ ap (λ n. old ++ (codes "|accepted|" ++ decimal n)) c.from.ensures in
+    puts_both c.put_proposal.result old c.put_numbered.new.text.items _ (codes "|accepted|" ++ decimal c.args.from)
+    (barred (decimal c.args.period ∷ decimal c.args.ballot ∷ map decimal c.args.cut.now)) first c.put_proposal.ensures

@@ -4,7 +4,7 @@ use Rattle.group_node.specs.declared.packets.Packet.{Packet}
 use Rattle.group_node.specs.declared.packets.Packet.TheVariants as packet
 use Rattle.group_node.specs.Packets.{packet_of}
 use Rattle.packet_text.specs.PacketText.{text_below}
-use Rattle.packet_text.proofs.Pieces.{appended, bytes_are_text, not_appended}
+use Rattle.packet_text.proofs.Pieces.{bytes_are_text, puts_bytes}
 use Rattle.packet_text.proofs.writing.put_below.Goals as goal
 
 -- nothing stands below another packet
@@ -16,16 +16,13 @@ none_below (packet.Accept period ballot cut) other = refl
 none_below (packet.Accepted from period ballot cut) other = refl
 none_below (packet.Decided period cut) other = refl
 
-pub returns-in-Batch-clause-put : goal.returns-in-Batch-clause-put
-returns-in-Batch-clause-put c =
+pub returns-in-Batch : goal.returns-in-Batch
+returns-in-Batch c =
     let is_batch = bytes_are_text (arc_value c.in-Batch.batch) (rw c.deref.ensures at c.bytes.ensures.batch) in
-    appended c.extend_from_slice.result c.args.text.now.items _ c.bytes.result.now (text_below (packet_of c.args.packet.now)) c.extend_from_slice.ensures.items
+    puts_bytes c.extend_from_slice.result c.args.text.now.items _ c.bytes.result.now (text_below (packet_of c.args.packet.now)) c.extend_from_slice.ensures.items
     (c.bytes.ensures.bytes ∙ c.deref.ensures ∙ is_batch ∙ sym (ap (λ p. text_below (packet_of p)) c.in-Batch.is))
 
-pub returns-in-Batch-clause-behind : goal.returns-in-Batch-clause-behind
-returns-in-Batch-clause-behind c = not_appended c.extend_from_slice.result _ _ c.bytes.result.now c.extend_from_slice.ensures.items
-
-pub returns-in_default-clause-put : goal.returns-in_default-clause-put
-returns-in_default-clause-put c =
+pub returns-in_default : goal.returns-in_default
+returns-in_default c =
     let old = c.args.text.now.items in
     sym (append-nil old) ∙ ap (λ t. old ++ t) (sym (none_below c.args.packet.now c.in_default.not-Batch))
