@@ -36,14 +36,15 @@ fn has_accepted(acceptor: &Acceptor, ballot: Ballot, cut: &Cut) -> bool
     ensures { IsTrue result
         ↔ (acceptor.now ≡ after_accept (record { ballot = ballot; cut = cut.now }) acceptor.now) }
 {
-    match (acceptor.promised(), acceptor.vote()) {
-        (Some(promised), Some(vote)) => {
-            promised.number() == ballot.number()
-                && vote.ballot.number() == ballot.number()
-                && vote.cut.same(cut)
-        }
-        _ => false,
-    }
+    let Some(promised) = acceptor.promised() else {
+        return false;
+    };
+    let Some(vote) = acceptor.vote() else {
+        return false;
+    };
+    promised.number() == ballot.number()
+        && vote.ballot.number() == ballot.number()
+        && vote.cut.same(cut)
 }
 
 /// What accepting a cut may add.
@@ -189,7 +190,7 @@ impl NodeProcess {
             increment_after t.added (kept_of_node self.new) ≡ None → t.added ≡ Added.Nothing)) }
         ensures unchanged { OnErr result (self.new ≡ self.old) }
     {
-        if !self.group.has_sent(name, packet) {
+        if !self.group().has_sent(name, packet) {
             return Ok(None);
         }
         let taken = self.take_own(alloc, packet)?;
