@@ -1,17 +1,10 @@
--- What a process answers, by what its calls have told.
-use Rattle.std.proofs.Common.{◌≡◌, ℕ, Bool, true, false, if◌then◌else◌, List, Result, Ok, Err, OnErr, sym, ap, ◌∙◌}
+-- What a node answers to a packet, by the test whether it is one of its group.
+use Rattle.std.proofs.Common.{◌≡◌, ℕ, Bool, true, false, if◌then◌else◌, List, sym, ap, ◌∙◌}
 use Rattle.std.proofs.lemmas.Bool.{and_parts}
 use Rattle.metering_model.specs.BatchReading.{is_same}
 use Rattle.metering_model.specs.Deliveries.{Handled, handled}
 use Rattle.metering_model.specs.World.{Node, Packet}
 use Rattle.process_laws.specs.LocalSteps.{Foreign, Group, NodeDone, after_handling, bare_world, is_of_group, is_packet_of, refusing, taking, unmoved}
-
--- what holds where a call has failed
-pub on_any_err : {T E P : Type 0} (r : Result T E) → P → OnErr r P
-on_any_err (Ok x) p = tt
-on_any_err (Err e) p = p
-
--- ---- a packet, by the test of it
 
 module _ (g asked : Group) (name : List ℕ) (p : Packet) (t : Bool) (same : asked ≡ g) (is : t ≡ is_of_group asked name p) where
   of_group : is_of_group g name p ≡ t

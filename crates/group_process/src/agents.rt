@@ -241,8 +241,10 @@ impl AgentProcess {
         if let Some(refusal) = self.refusal(batch) {
             return Ok(Err(ProcessRefusal::OfModel(refusal)));
         }
-        let journaled = self.keep(batch)?;
-        Ok(Ok(journaled))
+        match self.keep(batch) {
+            Ok(journaled) => Ok(Ok(journaled)),
+            Err(failed) => Err(failed),
+        }
     }
 
     /// The batch at a sequence of its journal, if it is there.
