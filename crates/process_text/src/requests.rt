@@ -134,9 +134,10 @@ pub(crate) fn node_request(
     if packet_lines(line).is_none() {
         return Ok(line_request(line));
     }
-    match read_packet(alloc, below)? {
-        Some(packet) => Ok(NodeRequest::Packet(packet)),
-        None => Ok(NodeRequest::NoPacket),
+    match read_packet(alloc, below) {
+        Ok(Some(packet)) => Ok(NodeRequest::Packet(packet)),
+        Ok(None) => Ok(NodeRequest::NoPacket),
+        Err(failed) => Err(failed),
     }
 }
 
@@ -144,7 +145,9 @@ pub(crate) fn node_request(
 fn read_offer(alloc: Global, text: &[u8]) -> Result<Offer, AllocError>
     ensures { IfOk result (λ offer. offer_of offer ≡ world.offer_of text.now) }
 {
-    let bytes = Vec::from_slice(alloc, text)?;
+    let Ok(bytes) = Vec::from_slice(alloc, text) else {
+        return Err(AllocError);
+    };
     Offer::read(alloc, bytes)
 }
 
@@ -158,8 +161,10 @@ pub(crate) fn agent_request(
         (λ request. agent_request_of request ≡ agent_request line.now below.now) }
 {
     if journal_lines(line).is_some() {
-        let offer = read_offer(alloc, below)?;
-        return Ok(AgentRequest::Journal(offer));
+        return match read_offer(alloc, below) {
+            Ok(offer) => Ok(AgentRequest::Journal(offer)),
+            Err(failed) => Err(failed),
+        };
     }
     if is_same(line, b"keep") {
         return Ok(AgentRequest::Keep);
