@@ -59,7 +59,9 @@ pub(crate) fn put_added(text: &mut Vec<u8>, added: Option<Increment<'_>>) -> Res
 {
     match added {
         Some(increment) => {
-            put_line(text, b"kept ", increment_lines(&increment))?;
+            let Ok(()) = put_line(text, b"kept ", increment_lines(&increment)) else {
+                return Err(AllocError);
+            };
             put_increment(text, &increment)
         }
         None => Ok(()),
@@ -97,7 +99,9 @@ fn put_to(text: &mut Vec<u8>, to: Option<u32>, lines: u32) -> Result<(), AllocEr
 {
     match to {
         Some(node) => {
-            put_numbered(text, b"send ", u128::from(node))?;
+            let Ok(()) = put_numbered(text, b"send ", u128::from(node)) else {
+                return Err(AllocError);
+            };
             put_line(text, b" ", lines)
         }
         None => put_line(text, b"send all ", lines),

@@ -41,7 +41,9 @@ fn put_taken(
     if let Some(sent) = &taken.sends {
         let group = node.group();
         let (voters, _, _) = group.sizes();
-        put_sent(text, group.name(), addressee(voters, packet, sent), sent)?;
+        let Ok(()) = put_sent(text, group.name(), addressee(voters, packet, sent), sent) else {
+            return Err(AllocError);
+        };
     }
     put_delivered(text, taken.learned)
 }
