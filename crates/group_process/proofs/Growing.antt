@@ -1,5 +1,5 @@
 -- Cuts that grow, by the tests of the local step.
-use Rattle.std.proofs.Common.{◌≡◌, ℕ, zero, suc, ◌+◌, ◌-◌, ◌<◌, ◌≤◌, Bool, true, false, ◌&&◌, List, [], ◌∷◌, length, take, refl, sym, ap, ap₂, subst, ◌∙◌, arith, Some}
+use Rattle.std.proofs.Common.{◌≡◌, ℕ, zero, suc, ◌+◌, ◌-◌, ◌<◌, ◌≤◌, Bool, true, false, ◌&&◌, List, [], ◌∷◌, length, take, refl, sym, ap, ap₂, subst, ◌∙◌, arith, Some, None}
 use Rattle.std.specs.Prelude.{All, IsTrue, ◌↔◌, slice_get, unwrap_or}
 use Rattle.std.proofs.lemmas.Bool.{and_parts, and_from, leb-true, le-leb}
 use Rattle.std.proofs.lemmas.Option.{same_Some, none-some}
@@ -85,6 +85,12 @@ pub period_within : (cuts : List Cut) (p : ℕ) (cut : Cut) → slice_get cuts p
 period_within [] p cut e = absurd (none-some cut e)
 period_within (c ∷ cs) zero cut e = omega arith
 period_within (c ∷ cs) (suc p) cut e = let low = period_within cs p cut e in omega arith
+
+-- and one below how many are learned is learned
+pub none_absent : (cuts : List Cut) (p : ℕ) → p < length cuts → slice_get cuts p ≡ None → ⊥
+none_absent [] p within e = omega arith
+none_absent (c ∷ cs) zero within e = absurd (cc)
+none_absent (c ∷ cs) (suc p) within e = none_absent cs p (omega arith) e
 
 grows_at : (first default : Cut) (cuts : List Cut) (p : ℕ) (to : Cut) → are_growing first (take (suc p) cuts) ≡ true → slice_get cuts p ≡ Some to
     → IsAtLeast to (elim p [ zero ↦ first | suc q ↦ unwrap_or (slice_get cuts q) default ])

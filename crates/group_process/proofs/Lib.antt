@@ -4,4 +4,4 @@ mod Exports
 mod JournalLaws
 mod PacketLaws
 mod AddedLaws
-mod ToldLaws
+mod Answering

@@ -10,7 +10,7 @@ use crate::nodes::NodeProcess;
 use log_text::Increment;
 
 /// What a step added to what a process keeps, if anything.
-#[derive(Clone, Copy, Debug, PartialEq, Eq, Drop)]
+#[derive(Clone, Copy, Drop)]
 pub enum Added {
     /// All stayed.
     Nothing,

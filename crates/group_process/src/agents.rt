@@ -6,6 +6,7 @@ ghost use Rattle.metering_model.specs.Holding.{held, is_batch_at, put};
 ghost use Rattle.metering_model.specs.Limits.{last_sequence};
 ghost use Rattle.metering_model.specs.JournalRules.{next_seq};
 ghost use Rattle.metering_model.specs.KeptText.{kept_text};
+ghost use Rattle.metering_model.specs.Step.{unless_broken};
 ghost use Rattle.process_laws.specs.LocalSteps.{JournalBatch, journal_kept, journal_refusal};
 ghost use Rattle.group_events.specs.Batches.{batch_of};
 ghost use Rattle.group_events.specs.Events.{offer_of};
@@ -104,6 +105,18 @@ fn keeps_journal_of(agent: u8, kept: &Parts) -> bool
         && is_journal_of(agent, &kept.store)
 }
 
+/// Why a batch that breaks a rule is not journaled; None where it breaks none.
+fn unless_broken(broken: Option<BrokenRule>) -> Option<Refusal>
+    ensures { MatchOption result (unless_broken broken ≡ Ok tt)
+        (λ refusal. unless_broken broken ≡ Err refusal) }
+{
+    match broken {
+        Some(BrokenRule::BadTarget) => Some(Refusal::BadTarget),
+        Some(BrokenRule::Unpriced) => Some(Refusal::Unpriced),
+        None => None,
+    }
+}
+
 impl AgentProcess {
     /// The agent of that number, from 1, goes on with what it stored last. None where that is no journal of the agent: a round
     /// was begun, something was promised, accepted or learned, or there is a batch of another agent, or a gap.
@@ -172,11 +185,7 @@ impl AgentProcess {
             return Some(Refusal::WrongSeq { wanted });
         }
         let (kept, group) = (&self.kept, &self.group);
-        match first_broken(&kept.store, group.sheet(), &view) {
-            Some(BrokenRule::BadTarget) => Some(Refusal::BadTarget),
-            Some(BrokenRule::Unpriced) => Some(Refusal::Unpriced),
-            None => None,
-        }
+        unless_broken(first_broken(&kept.store, group.sheet(), &view))
     }
 
     /// Puts a batch into the journal that may be journaled, and gives it out. An error is an allocation failure, and leaves the
@@ -197,10 +206,16 @@ impl AgentProcess {
     {
         // For the proof alone: its clause says that the bytes are a batch.
         let _ = batch.bytes();
-        let given = Arc::try_clone(batch)?;
-        let stored = Arc::try_clone(batch)?;
+        let Ok(given) = Arc::try_clone(batch) else {
+            return Err(AllocError);
+        };
+        let Ok(stored) = Arc::try_clone(batch) else {
+            return Err(AllocError);
+        };
         let kept = &mut self.kept;
-        kept.store.put(stored)?;
+        let Ok(_) = kept.store.put(stored) else {
+            return Err(AllocError);
+        };
         Ok(Journaled { batch: given })
     }
 
@@ -226,8 +241,10 @@ impl AgentProcess {
         if let Some(refusal) = self.refusal(batch) {
             return Ok(Err(ProcessRefusal::OfModel(refusal)));
         }
-        let journaled = self.keep(batch)?;
-        Ok(Ok(journaled))
+        match self.keep(batch) {
+            Ok(journaled) => Ok(Ok(journaled)),
+            Err(failed) => Err(failed),
+        }
     }
 
     /// The batch at a sequence of its journal, if it is there.

@@ -29,10 +29,13 @@ impl NodeProcess {
         if period == 0 {
             return true;
         }
-        match (self.node.learned(period - 1), self.node.learned(period)) {
-            (Some(before), Some(cut)) => cut.at_least(before),
-            _ => false,
-        }
+        let Some(before) = self.node.learned(period - 1) else {
+            return false;
+        };
+        let Some(cut) = self.node.learned(period) else {
+            return false;
+        };
+        cut.at_least(before)
     }
 
     /// Whether the cuts that were learned up to a period, which has to be one of them, each go on from the one before.
@@ -85,10 +88,41 @@ impl NodeProcess {
         // holding.
         let store = self.node.store();
         let (_voters, _agents) = (self.node.voters(), store.agents());
-        let to = Arc::try_clone(to)?;
-        let sheet = Arc::try_clone(self.group.sheet())?;
-        let issuer = Arc::try_clone(self.group.issuer())?;
+        let Ok(to) = Arc::try_clone(to) else {
+            return Err(AllocError);
+        };
+        let Ok(sheet) = Arc::try_clone(self.group.sheet()) else {
+            return Err(AllocError);
+        };
+        let Ok(issuer) = Arc::try_clone(self.group.issuer()) else {
+            return Err(AllocError);
+        };
         Snapshot::of(alloc, of, from, to, store, sheet, issuer)
+    }
+
+    /// What the file of a period is made of that was learned, and up to whose cut the node has each batch, or why there is none.
+    /// An error is an allocation failure.
+    fn export_up_to(
+        &self,
+        alloc: Global,
+        period: u16,
+        of: Period,
+        to: &Arc<Cut>,
+    ) -> Result<Result<Snapshot, ProcessRefusal>, AllocError>
+        requires of { of ≡ period }
+        requires learned { slice_get self.now.node.kept.learned period ≡ Some (arc_value to.now) }
+        requires whole { first_missing self.now.node.kept.holding (arc_value to.now) ≡ None }
+        ensures { IfOk result (λ answer.
+            exported_answer answer ≡ exporting self.now.group self.now.node period) }
+    {
+        let from = self.node.cut_before(alloc, period)?;
+        if !self.is_fit(period, to) {
+            return Ok(Err(ProcessRefusal::Unfit));
+        }
+        match self.snapshot(alloc, of, from, to) {
+            Ok(taken) => Ok(Ok(taken)),
+            Err(failed) => Err(failed),
+        }
     }
 
     /// What the file of a period is made of, or why there is none. Each batch up to the period's cut is looked at for this,
@@ -106,11 +140,6 @@ impl NodeProcess {
             Ok(found) => found,
             Err(refusal) => return Ok(Err(ProcessRefusal::OfModel(refusal))),
         };
-        let from = self.node.cut_before(alloc, period)?;
-        if !self.is_fit(period, to) {
-            return Ok(Err(ProcessRefusal::Unfit));
-        }
-        let taken = self.snapshot(alloc, of, from, to)?;
-        Ok(Ok(taken))
+        self.export_up_to(alloc, period, of, to)
     }
 }

@@ -36,14 +36,15 @@ fn has_accepted(acceptor: &Acceptor, ballot: Ballot, cut: &Cut) -> bool
     ensures { IsTrue result
         ↔ (acceptor.now ≡ after_accept (record { ballot = ballot; cut = cut.now }) acceptor.now) }
 {
-    match (acceptor.promised(), acceptor.vote()) {
-        (Some(promised), Some(vote)) => {
-            promised.number() == ballot.number()
-                && vote.ballot.number() == ballot.number()
-                && vote.cut.same(cut)
-        }
-        _ => false,
-    }
+    let Some(promised) = acceptor.promised() else {
+        return false;
+    };
+    let Some(vote) = acceptor.vote() else {
+        return false;
+    };
+    promised.number() == ballot.number()
+        && vote.ballot.number() == ballot.number()
+        && vote.cut.same(cut)
 }
 
 /// What accepting a cut may add.
@@ -157,13 +158,16 @@ impl NodeProcess {
         ensures unchanged { OnErr result (self.new ≡ self.old) }
     {
         // For the proof alone: their clauses say what group, node, packet and vote keep by their types.
-        let store = self.node.store();
-        let (_sizes, _voters, _agents) = (self.group.sizes(), self.node.voters(), store.agents());
+        self.group.sizes();
+        self.node.voters();
+        self.node.store().agents();
         know_packet(packet);
         know_vote(self.node.acceptor());
         let likely = self.added_by(packet);
         let base = self.group.sheet().base_month();
-        let handled = self.node.handle(alloc, self.number, base, packet)?;
+        let Ok(handled) = self.node.handle(alloc, self.number, base, packet) else {
+            return Err(AllocError);
+        };
         let added = added_for(likely, &handled);
         Ok(Taken {
             sends: handled.sends,
@@ -189,10 +193,12 @@ impl NodeProcess {
             increment_after t.added (kept_of_node self.new) ≡ None → t.added ≡ Added.Nothing)) }
         ensures unchanged { OnErr result (self.new ≡ self.old) }
     {
-        if !self.group.has_sent(name, packet) {
+        if !self.group().has_sent(name, packet) {
             return Ok(None);
         }
-        let taken = self.take_own(alloc, packet)?;
-        Ok(Some(taken))
+        match self.take_own(alloc, packet) {
+            Ok(taken) => Ok(Some(taken)),
+            Err(failed) => Err(failed),
+        }
     }
 }

@@ -46,15 +46,6 @@ pub line_put : (old one word : List ℕ) (n number : ℕ) → n ≡ number → o
 line_put old one word n number same put =
     ap (λ t. t ++ 10 ∷ []) (put ∙ ap (λ k. old ++ with_number word k) same) ∙ append_assoc old (with_number word number) (10 ∷ [])
 
--- two words, each with a number, and a line feed
-pub two_put : (old one two first second : List ℕ) (n m number other : ℕ) → n ≡ number → m ≡ other → one ≡ old ++ with_number first n
-    → two ≡ one ++ line (with_number second m) → two ≡ old ++ line (with_number first number ++ with_number second other)
-two_put old one two first second n m number other same same' one_put second_put =
-    let w = with_number first number in
-    let v = with_number second other in
-    second_put ∙ ap₂ (λ t k. t ++ line (with_number second k)) (one_put ∙ ap (λ k. old ++ with_number first k) same) same'
-    ∙ append_assoc old w (line v) ∙ ap (λ t. old ++ t) (sym (append_assoc w v (10 ∷ [])))
-
 -- a line above, and what stands below it
 pub below_put : (old above one two below : List ℕ) → one ≡ old ++ above → two ≡ one ++ 10 ∷ [] → two ++ below ≡ old ++ (line above ++ below)
 below_put old above one two below first second =

@@ -34,8 +34,12 @@ fn put_journaled(
           sends = Some (CarriesBatch (batch_of batch.now));
         })) }
 {
-    put_added(text, Some(Increment::Batch(batch)))?;
-    put_batch(text, agent.group().name(), batch)?;
+    let Ok(()) = put_added(text, Some(Increment::Batch(batch))) else {
+        return Err(AllocError);
+    };
+    let Ok(()) = put_batch(text, agent.group().name(), batch) else {
+        return Err(AllocError);
+    };
     put_line(text, b"journaled seq ", batch.view().seq())
 }
 
@@ -44,9 +48,10 @@ fn journal(agent: &mut AgentProcess, offer: &Offer, text: &mut Vec<u8>) -> Resul
     ensures { OnOk result (AppendsAgent (AsksAgent (JournalBatch (offer_of offer.now)))
         agent.old agent.new text.old.items text.new.items) }
 {
-    match agent.journal(offer)? {
-        Ok(journaled) => put_journaled(text, agent, &journaled.batch),
-        Err(why) => put_refusal(text, why),
+    match agent.journal(offer) {
+        Ok(Ok(journaled)) => put_journaled(text, agent, &journaled.batch),
+        Ok(Err(why)) => put_refusal(text, why),
+        Err(failed) => Err(failed),
     }
 }
 
@@ -55,7 +60,9 @@ fn keep(alloc: Global, agent: &AgentProcess, text: &mut Vec<u8>) -> Result<(), A
     ensures { OnOk result (AppendsAgent (AsksAgent TellJournal)
         agent.now agent.now text.old.items text.new.items) }
 {
-    let kept = agent.write_kept(alloc)?;
+    let Ok(kept) = agent.write_kept(alloc) else {
+        return Err(AllocError);
+    };
     put_kept_text(text, &kept)
 }
 
@@ -111,7 +118,9 @@ pub(crate) fn answer_agent(
     ensures { OnOk result
         (AnswersAgent (agent_request line.now below.now) agent.old agent.new text.new.items) }
 {
-    let request = agent_request(alloc, line, below)?;
+    let Ok(request) = agent_request(alloc, line, below) else {
+        return Err(AllocError);
+    };
     text.clear();
     put_answer(alloc, agent, &request, text)
 }

@@ -36,7 +36,9 @@ pub(crate) fn put_line(text: &mut Vec<u8>, word: &[u8], number: u32) -> Result<(
     ensures { OnOk result
         (text.new.items ≡ text.old.items ++ line (with_number word.now number)) }
 {
-    put_numbered(text, word, u128::from(number))?;
+    let Ok(()) = put_numbered(text, word, u128::from(number)) else {
+        return Err(AllocError);
+    };
     text.extend_from_slice(b"\n")
 }
 
@@ -57,7 +59,9 @@ pub(crate) fn put_added(text: &mut Vec<u8>, added: Option<Increment<'_>>) -> Res
 {
     match added {
         Some(increment) => {
-            put_line(text, b"kept ", increment_lines(&increment))?;
+            let Ok(()) = put_line(text, b"kept ", increment_lines(&increment)) else {
+                return Err(AllocError);
+            };
             put_increment(text, &increment)
         }
         None => Ok(()),
@@ -95,7 +99,9 @@ fn put_to(text: &mut Vec<u8>, to: Option<u32>, lines: u32) -> Result<(), AllocEr
 {
     match to {
         Some(node) => {
-            put_numbered(text, b"send ", u128::from(node))?;
+            let Ok(()) = put_numbered(text, b"send ", u128::from(node)) else {
+                return Err(AllocError);
+            };
             put_line(text, b" ", lines)
         }
         None => put_line(text, b"send all ", lines),
@@ -156,7 +162,9 @@ pub(crate) fn put_sent(
     ensures { OnOk result (text.new.items
         ≡ text.old.items ++ packet_sent_text group.now to (packet_of packet.now)) }
 {
-    put_to(text, to, packet_lines(packet))?;
+    let Ok(()) = put_to(text, to, packet_lines(packet)) else {
+        return Err(AllocError);
+    };
     put_packet(text, group, packet)
 }
 
@@ -165,7 +173,9 @@ pub(crate) fn put_delivered(text: &mut Vec<u8>, learned: Option<Period>) -> Resu
     ensures { OnOk result (text.new.items ≡ text.old.items
         ++ line (codes "delivered" ++ if_any (codes " learned ") learned)) }
 {
-    text.extend_from_slice(b"delivered")?;
+    let Ok(()) = text.extend_from_slice(b"delivered") else {
+        return Err(AllocError);
+    };
     match learned {
         Some(period) => put_line(text, b" learned ", u32::from(period.number())),
         None => text.extend_from_slice(b"\n"),

@@ -41,7 +41,9 @@ fn put_taken(
     if let Some(sent) = &taken.sends {
         let group = node.group();
         let (voters, _, _) = group.sizes();
-        put_sent(text, group.name(), addressee(voters, packet, sent), sent)?;
+        let Ok(()) = put_sent(text, group.name(), addressee(voters, packet, sent), sent) else {
+            return Err(AllocError);
+        };
     }
     put_delivered(text, taken.learned)
 }
@@ -56,9 +58,10 @@ fn take(
     ensures { OnOk result (AppendsNode (AsksNode (TakePacket handed.now.group handed.now.packet))
         node.old node.new text.old.items text.new.items) }
 {
-    match node.take(alloc, handed.group(), handed.packet())? {
-        Some(taken) => put_taken(text, node, handed.packet(), &taken),
-        None => text.extend_from_slice(FOREIGN),
+    match node.take(alloc, handed.group(), handed.packet()) {
+        Ok(Some(taken)) => put_taken(text, node, handed.packet(), &taken),
+        Ok(None) => text.extend_from_slice(FOREIGN),
+        Err(failed) => Err(failed),
     }
 }
 
@@ -95,9 +98,10 @@ fn export(
     ensures { OnOk result (AppendsNode (AsksNode (ExportPeriod period))
         node.now node.now text.old.items text.new.items) }
 {
-    match node.export(alloc, period)? {
-        Ok(snapshot) => put_file(alloc, text, &snapshot),
-        Err(why) => put_refusal(text, why),
+    match node.export(alloc, period) {
+        Ok(Ok(snapshot)) => put_file(alloc, text, &snapshot),
+        Ok(Err(why)) => put_refusal(text, why),
+        Err(failed) => Err(failed),
     }
 }
 
@@ -106,7 +110,9 @@ fn keep(alloc: Global, node: &NodeProcess, text: &mut Vec<u8>) -> Result<(), All
     ensures { OnOk result (AppendsNode (AsksNode TellKept)
         node.now node.now text.old.items text.new.items) }
 {
-    let kept = node.write_kept(alloc)?;
+    let Ok(kept) = node.write_kept(alloc) else {
+        return Err(AllocError);
+    };
     put_kept_text(text, &kept)
 }
 
@@ -162,7 +168,9 @@ pub(crate) fn answer_node(
     ensures { OnOk result
         (AnswersNode (node_request line.now below.now) node.old node.new text.new.items) }
 {
-    let request = node_request(alloc, line, below)?;
+    let Ok(request) = node_request(alloc, line, below) else {
+        return Err(AllocError);
+    };
     text.clear();
     put_answer(alloc, node, &request, text)
 }

@@ -57,7 +57,10 @@ impl Process {
         text.clear();
         match self {
             Process::Node(node) => {
-                put_numbered(text, b"begun period ", u128::from(node.current_period()))?;
+                let period = u128::from(node.current_period());
+                let Ok(()) = put_numbered(text, b"begun period ", period) else {
+                    return Err(AllocError);
+                };
                 put_line(text, b" round ", u32::from(node.round()))
             }
             Process::Agent(agent) => put_line(text, b"begun seq ", agent.next_seq()),

@@ -71,7 +71,13 @@ pub(crate) fn journal_lines(line: &[u8]) -> Option<u32>
 fn read_period(line: &[u8]) -> Option<u16>
     ensures { result ≡ period_behind line.now }
 {
-    Some(read_whole(behind_word(line, b"export ")?, 0, 1_199)? as u16)
+    let Some(number) = behind_word(line, b"export ") else {
+        return None;
+    };
+    match read_whole(number, 0, 1_199) {
+        Some(period) => Some(period as u16),
+        None => None,
+    }
 }
 
 /// An agent's number and a sequence, parted by a space.
@@ -94,14 +100,20 @@ fn read_place(text: &[u8]) -> Option<(u8, u32)>
 fn read_given(line: &[u8]) -> Option<(u8, u32)>
     ensures { result ≡ place_behind line.now }
 {
-    read_place(behind_word(line, b"give ")?)
+    let Some(place) = behind_word(line, b"give ") else {
+        return None;
+    };
+    read_place(place)
 }
 
 /// The sequence of the batch that is to be sent once more.
 fn read_again(line: &[u8]) -> Option<u32>
     ensures { result ≡ seq_behind line.now }
 {
-    read_whole(behind_word(line, b"again ")?, 1, 1_000_000)
+    let Some(number) = behind_word(line, b"again ") else {
+        return None;
+    };
+    read_whole(number, 1, 1_000_000)
 }
 
 /// What a node is asked by a line below which nothing stands.
@@ -134,9 +146,10 @@ pub(crate) fn node_request(
     if packet_lines(line).is_none() {
         return Ok(line_request(line));
     }
-    match read_packet(alloc, below)? {
-        Some(packet) => Ok(NodeRequest::Packet(packet)),
-        None => Ok(NodeRequest::NoPacket),
+    match read_packet(alloc, below) {
+        Ok(Some(packet)) => Ok(NodeRequest::Packet(packet)),
+        Ok(None) => Ok(NodeRequest::NoPacket),
+        Err(failed) => Err(failed),
     }
 }
 
@@ -144,7 +157,9 @@ pub(crate) fn node_request(
 fn read_offer(alloc: Global, text: &[u8]) -> Result<Offer, AllocError>
     ensures { IfOk result (λ offer. offer_of offer ≡ world.offer_of text.now) }
 {
-    let bytes = Vec::from_slice(alloc, text)?;
+    let Ok(bytes) = Vec::from_slice(alloc, text) else {
+        return Err(AllocError);
+    };
     Offer::read(alloc, bytes)
 }
 
@@ -158,7 +173,9 @@ pub(crate) fn agent_request(
         (λ request. agent_request_of request ≡ agent_request line.now below.now) }
 {
     if journal_lines(line).is_some() {
-        let offer = read_offer(alloc, below)?;
+        let Ok(offer) = read_offer(alloc, below) else {
+            return Err(AllocError);
+        };
         return Ok(AgentRequest::Journal(offer));
     }
     if is_same(line, b"keep") {

@@ -1,7 +1,7 @@
 use Rattle.std.proofs.Common.{sym, ◌∙◌}
 use Rattle.std.specs.Option.{option_map}
 use Rattle.group_node.specs.Packets.{packet_of}
-use Rattle.group_process.proofs.ToldLaws.{learned_first}
+use Rattle.group_process.proofs.AddedLaws.{learned_first}
 use Rattle.group_process.proofs.taking.added_for.Goals as goal
 
 pub returns-then-is_some : goal.returns-then-is_some

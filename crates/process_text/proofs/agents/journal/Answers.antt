@@ -5,10 +5,10 @@ use Rattle.packet_text.proofs.Pieces.{then_ok}
 use Rattle.process_text.proofs.Told.{agent_journals}
 use Rattle.process_text.proofs.agents.journal.Goals as goal
 
-pub returns-in-Ok : goal.returns-in-Ok
-returns-in-Ok c =
+pub returns-in-Ok-Ok : goal.returns-in-Ok-Ok
+returns-in-Ok-Ok c =
     then_ok c.put_journaled.result _ _
-    (λ put. agent_journals (offer_of c.args.offer.now) c.args.agent.now c.journal.new.self c.in_ok-journaled.field-0 c.in-Ok.journaled
+    (λ put. agent_journals (offer_of c.args.offer.now) c.args.agent.now c.journal.new.self c.in-Ok-Ok.field-0 c.in-Ok-Ok.journaled
     (batch_of c.deref.result.now) c.args.text.now.items c.put_journaled.new.text.items
-    c.in_ok-journaled.ensures.does c.in_ok-journaled.ensures.adds c.in-Ok.is (ap batch_of c.deref.ensures) put)
+    c.in-Ok-Ok.ensures.does c.in-Ok-Ok.ensures.adds c.in-Ok-Ok.field-0-is (ap batch_of c.deref.ensures) put)
     c.put_journaled.ensures

@@ -10,5 +10,5 @@ pub returns : goal.returns
 returns c =
     then_ok c.put_kept_text.result _ _
     (λ put. subst (λ t. AppendsAgent (AsksAgent TellJournal) c.args.agent.now c.args.agent.now c.args.text.now.items t) (sym put)
-    (agent_keeps c.args.agent.now c.args.text.now.items c.deref.result.now (c.deref.ensures.value ∙ c.in_ok-kept.ensures)))
+    (agent_keeps c.args.agent.now c.args.text.now.items c.deref.result.now (c.deref.ensures.value ∙ c.in-Ok.ensures)))
     c.put_kept_text.ensures

@@ -11,6 +11,6 @@ returns c =
     let b = batch_of c.args.batch.now in
     then_ok c.put_line.result _ _
     (λ put. answer_put c.args.agent.now.group.name _ (Some (Takes b)) (CarriesBatch b) c.args.text.now.items _ _ _ (codes "journaled seq ") b.seq _
-    c.in_ok-put_added.ensures c.in_ok-put_batch.ensures put (c.name.ensures ∙ ap (λ g. g.name) c.group.ensures)
+    c.in-Ok.ensures c.in-Ok-put_batch.ensures put (c.name.ensures ∙ ap (λ g. g.name) c.group.ensures)
     (c.seq.ensures.value ∙ ap (λ v. (batch_of v).seq) c.view.ensures))
     c.put_line.ensures

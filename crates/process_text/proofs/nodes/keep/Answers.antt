@@ -10,5 +10,5 @@ pub returns : goal.returns
 returns c =
     then_ok c.put_kept_text.result _ _
     (λ put. subst (λ t. AppendsNode (AsksNode TellKept) c.args.node.now c.args.node.now c.args.text.now.items t) (sym put)
-    (node_keeps c.args.node.now c.args.text.now.items c.deref.result.now (c.deref.ensures.value ∙ c.in_ok-kept.ensures)))
+    (node_keeps c.args.node.now c.args.text.now.items c.deref.result.now (c.deref.ensures.value ∙ c.in-Ok.ensures)))
     c.put_kept_text.ensures

@@ -3,10 +3,10 @@ use Rattle.packet_text.proofs.Pieces.{then_ok}
 use Rattle.process_text.proofs.Told.{node_takes}
 use Rattle.process_text.proofs.nodes.take.Goals as goal
 
-pub returns-in-Some : goal.returns-in-Some
-returns-in-Some c =
+pub returns-in-Ok-Some : goal.returns-in-Ok-Some
+returns-in-Ok-Some c =
     then_ok c.put_taken.result _ _
-    (node_takes c.args.node.now c.take.new.self c.args.handed.now.group c.group.result.now c.args.handed.now.packet (packet_of c.packet.result.now) (packet_of c.packet-in-Some.result.now)
-    c.in_ok-taken.field-0 c.in-Some.taken c.args.text.now.items c.put_taken.new.text.items
-    c.group.ensures c.packet.ensures c.packet-in-Some.ensures c.in-Some.is c.in_ok-taken.ensures.does c.in_ok-taken.ensures.adds)
+    (node_takes c.args.node.now c.take.new.self c.args.handed.now.group c.group.result.now c.args.handed.now.packet (packet_of c.packet.result.now) (packet_of c.packet-in-Ok-Some.result.now)
+    c.in-Ok-Some.field-0 c.in-Ok-Some.taken c.args.text.now.items c.put_taken.new.text.items
+    c.group.ensures c.packet.ensures c.packet-in-Ok-Some.ensures c.in-Ok-Some.field-0-is c.in-Ok-Some.ensures.does c.in-Ok-Some.ensures.adds)
     c.put_taken.ensures

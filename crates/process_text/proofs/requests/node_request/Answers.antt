@@ -7,10 +7,10 @@ returns-then-is_none c =
     c.line_request.ensures
     ∙ no_packet c.args.line.now c.args.below.now c.packet_lines.result c.packet_lines.ensures.value (c.is_none.ensures ∙ ap not c.if-is_none.true)
 
-pub returns-in-Some : goal.returns-in-Some
-returns-in-Some c =
-    a_packet c.args.line.now c.args.below.now c.packet_lines.result _ c.packet_lines.ensures.value (c.is_none.ensures ∙ ap not c.if-is_none.false) (sym c.in-Some.is ∙ c.in_ok-packet.ensures.read)
+pub returns-in-Ok-Some : goal.returns-in-Ok-Some
+returns-in-Ok-Some c =
+    a_packet c.args.line.now c.args.below.now c.packet_lines.result _ c.packet_lines.ensures.value (c.is_none.ensures ∙ ap not c.if-is_none.false) (sym c.in-Ok-Some.field-0-is ∙ c.in-Ok-Some.ensures.read)
 
-pub returns-in-None : goal.returns-in-None
-returns-in-None c =
-    a_packet c.args.line.now c.args.below.now c.packet_lines.result _ c.packet_lines.ensures.value (c.is_none.ensures ∙ ap not c.if-is_none.false) (sym c.in-None.is ∙ c.in_ok-packet.ensures.read)
+pub returns-in-Ok-None : goal.returns-in-Ok-None
+returns-in-Ok-None c =
+    a_packet c.args.line.now c.args.below.now c.packet_lines.result _ c.packet_lines.ensures.value (c.is_none.ensures ∙ ap not c.if-is_none.false) (sym c.in-Ok-None.field-0-is ∙ c.in-Ok-None.ensures.read)

@@ -22,16 +22,18 @@ keep-requires c =
     let a = c.args.self.now in
     subst (λ t. journal_refusal a.group a.number a.journal (batch_of t) ≡ Ok tt) c.deref-2.ensures c.in_default.ensures
 
-pub returns-clause-does : goal.returns-clause-does
-returns-clause-does c =
+pub returns-in-Ok : goal.returns-in-Ok
+returns-in-Ok c =
     let a = c.args.self.now in
     let text = arc_value c.in-Good.batch in
     let read = subst (λ t. batch_in t ≡ Ok (batch_of t)) c.deref.ensures c.bytes.ensures.batch in
     let may = subst (λ t. journal_refusal a.group a.number a.journal (batch_of t) ≡ Ok tt) c.deref-2.ensures c.in_default.ensures in
-    let done = c.in_ok-journaled.ensures in
-    rw (c.in-Good.is, done.journal, done.given) (record { does = journaled_told a.group a.number a.journal text (batch_of text) read may; group = refl; number = refl })
+    let done = c.in-Ok.ensures in
+    record {
+      does = rw (c.in-Good.is, done.journal, done.given) (record { does = journaled_told a.group a.number a.journal text (batch_of text) read may; group = refl; number = refl });
+      adds = subst (λ t. AddsJust (kept_of_agent a) (kept_of_agent c.keep.new.self) (Some (Takes (batch_of t)))) (sym done.given) done.adds;
+      unchanged = tt;
+    }
 
-pub returns-clause-adds : goal.returns-clause-adds
-returns-clause-adds c =
-    let done = c.in_ok-journaled.ensures in
-    subst (λ t. AddsJust (kept_of_agent c.args.self.now) (kept_of_agent c.keep.new.self) (Some (Takes (batch_of t)))) (sym done.given) done.adds
+pub returns-in-Err : goal.returns-in-Err
+returns-in-Err c = record { does = tt; adds = tt; unchanged = c.in-Err.ensures.unchanged }

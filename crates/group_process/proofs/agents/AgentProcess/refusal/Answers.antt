@@ -1,6 +1,7 @@
-use Rattle.std.proofs.Common.{ap, ◌∙◌, Some, arith}
+use Rattle.std.proofs.Common.{◌≡◌, ap, subst, sym, ◌∙◌, arith, Ok, Err}
+use Rattle.std.specs.Prelude.{MatchOption, Result}
 use Rattle.metering_model.specs.KeptText.{KeptAmong}
-use Rattle.metering_model.specs.Step.{unless_broken}
+use Rattle.metering_model.specs.declared.Refusal.{Refusal}
 use Rattle.group_events.specs.Batches.{batch_of}
 use Rattle.group_process.specs.Selves.{AgentSelf}
 use Rattle.group_process.proofs.JournalLaws.{no_agent_told, rule_told, wrong_seq_told}
@@ -32,35 +33,13 @@ first_broken-requires-clause-new c =
     let journal = ap (λ (k : KeptAmong). k.kept.holding) c.kept.view_is ∙ ap (λ (s : AgentSelf). s.journal) c.self.view_is in
     rw (journal, ← c.agent.ensures.value, mine, ← c.seq.ensures.value, c.if-seq-wanted.false) c.next_seq-wanted.ensures.absent
 
-pub returns-in-Some-BadTarget : goal.returns-in-Some-BadTarget
-returns-in-Some-BadTarget c =
+pub returns : goal.returns
+returns c =
     let a = c.args.self.now in
     let of = c.agent.ensures.value ∙ ap (λ t. (batch_of t).agent) c.view-view.ensures in
     let at = c.seq.ensures.value ∙ ap (λ t. (batch_of t).seq) c.view-view.ensures in
     let mine = c.if-agent-self.false ∙ ap (λ (s : AgentSelf). s.number) c.self.view_is in
     let sheet = c.deref.ensures ∙ (c.sheet.ensures ∙ ap (λ (s : AgentSelf). s.group.sheet) c.self.view_is) in
     let journal = ap (λ (k : KeptAmong). k.kept.holding) c.kept.view_is ∙ ap (λ (s : AgentSelf). s.journal) c.self.view_is in
-    rule_told a.group a.number a.journal (batch_of c.args.batch.now) _ _ _ of at c.next_seq-wanted.ensures.next mine c.if-seq-wanted.false _ _ _ c.first_broken.result sheet journal (ap batch_of c.view-view.ensures) c.first_broken.ensures
-    ∙ ap unless_broken (c.in-Some-BadTarget.is ∙ ap Some c.in-Some-BadTarget.field-0-is)
-
-pub returns-in-Some-Unpriced : goal.returns-in-Some-Unpriced
-returns-in-Some-Unpriced c =
-    let a = c.args.self.now in
-    let of = c.agent.ensures.value ∙ ap (λ t. (batch_of t).agent) c.view-view.ensures in
-    let at = c.seq.ensures.value ∙ ap (λ t. (batch_of t).seq) c.view-view.ensures in
-    let mine = c.if-agent-self.false ∙ ap (λ (s : AgentSelf). s.number) c.self.view_is in
-    let sheet = c.deref.ensures ∙ (c.sheet.ensures ∙ ap (λ (s : AgentSelf). s.group.sheet) c.self.view_is) in
-    let journal = ap (λ (k : KeptAmong). k.kept.holding) c.kept.view_is ∙ ap (λ (s : AgentSelf). s.journal) c.self.view_is in
-    rule_told a.group a.number a.journal (batch_of c.args.batch.now) _ _ _ of at c.next_seq-wanted.ensures.next mine c.if-seq-wanted.false _ _ _ c.first_broken.result sheet journal (ap batch_of c.view-view.ensures) c.first_broken.ensures
-    ∙ ap unless_broken (c.in-Some-Unpriced.is ∙ ap Some c.in-Some-Unpriced.field-0-is)
-
-pub returns-in-None : goal.returns-in-None
-returns-in-None c =
-    let a = c.args.self.now in
-    let of = c.agent.ensures.value ∙ ap (λ t. (batch_of t).agent) c.view-view.ensures in
-    let at = c.seq.ensures.value ∙ ap (λ t. (batch_of t).seq) c.view-view.ensures in
-    let mine = c.if-agent-self.false ∙ ap (λ (s : AgentSelf). s.number) c.self.view_is in
-    let sheet = c.deref.ensures ∙ (c.sheet.ensures ∙ ap (λ (s : AgentSelf). s.group.sheet) c.self.view_is) in
-    let journal = ap (λ (k : KeptAmong). k.kept.holding) c.kept.view_is ∙ ap (λ (s : AgentSelf). s.journal) c.self.view_is in
-    rule_told a.group a.number a.journal (batch_of c.args.batch.now) _ _ _ of at c.next_seq-wanted.ensures.next mine c.if-seq-wanted.false _ _ _ c.first_broken.result sheet journal (ap batch_of c.view-view.ensures) c.first_broken.ensures
-    ∙ ap unless_broken c.in-None.is
+    let told = rule_told a.group a.number a.journal (batch_of c.args.batch.now) _ _ _ of at c.next_seq-wanted.ensures.next mine c.if-seq-wanted.false _ _ _ c.first_broken.result sheet journal (ap batch_of c.view-view.ensures) c.first_broken.ensures in
+    subst (λ (r : Result (Unit {0}) Refusal). MatchOption c.unless_broken.result (r ≡ Ok tt) (λ why. r ≡ Err why)) (sym told) c.unless_broken.ensures

@@ -1,7 +1,7 @@
 use Rattle.std.proofs.Common.{◌-◌, length, ap, ◌∙◌}
 use Rattle.std.specs.Prelude.{slice_get}
 use Rattle.group_process.specs.Selves.{NodeSelf}
-use Rattle.group_process.proofs.ToldLaws.{learned_told}
+use Rattle.group_process.proofs.AddedLaws.{learned_told}
 use Rattle.group_process.proofs.nodes.NodeProcess.last_learned.Goals as goal
 
 pub returns-in-Some : goal.returns-in-Some

@@ -15,28 +15,28 @@ of-requires-clause-agents c =
     let learned = ap (λ (n : NodeSelf). n.node.kept.learned) c.self.view_is in
     let found = ap (λ (cuts : List Cut). slice_get cuts c.args.of) learned ∙ c.requires.learned in
     let size = learned_size _ _ _ _ c.voters-voters.ensures.within.kept.cuts found in
-    ap length c.in_ok-to.ensures ∙ (size ∙ sym (ap (λ (s : Stored). s.agents) c.store-store.ensures))
+    ap length c.in-Ok.ensures ∙ (size ∙ sym (ap (λ (s : Stored). s.agents) c.store-store.ensures))
 
 pub of-requires-clause-grows : goal.of-requires-clause-grows
 of-requires-clause-grows c =
     let w = c.args.self.now in
-    rw (c.in_ok-to.ensures, c.requires.from) (fit_grows w.group w.node c.args.of _ c.requires.fit c.requires.learned)
+    rw (c.in-Ok.ensures, c.requires.from) (fit_grows w.group w.node c.args.of _ c.requires.fit c.requires.learned)
 
 pub of-requires-clause-whole : goal.of-requires-clause-whole
 of-requires-clause-whole c =
     let holding = ap (λ (s : Stored). s.batches) c.store-store.ensures ∙ ap (λ (n : NodeSelf). n.node.kept.holding) c.self.view_is in
-    rw (c.in_ok-to.ensures, holding) c.requires.whole
+    rw (c.in-Ok.ensures, holding) c.requires.whole
 
 pub of-requires-clause-met : goal.of-requires-clause-met
 of-requires-clause-met c =
     let w = c.args.self.now in
     let holding = ap (λ (s : Stored). s.batches) c.store-store.ensures ∙ ap (λ (n : NodeSelf). n.node.kept.holding) c.self.view_is in
-    let sheet = c.in_ok-sheet.ensures ∙ (c.sheet.ensures ∙ ap (λ (n : NodeSelf). n.group.sheet) c.self.view_is) in
-    rw (sheet, c.in_ok-to.ensures, holding) (fit_meets w.group w.node c.args.of _ c.requires.fit (subst IsHolding holding c.agents-agents.ensures.stored.is_holding) c.requires.whole)
+    let sheet = c.in-Ok-try_clone.ensures ∙ (c.sheet.ensures ∙ ap (λ (n : NodeSelf). n.group.sheet) c.self.view_is) in
+    rw (sheet, c.in-Ok.ensures, holding) (fit_meets w.group w.node c.args.of _ c.requires.fit (subst IsHolding holding c.agents-agents.ensures.stored.is_holding) c.requires.whole)
 
 pub returns : goal.returns
 returns c =
     let holding = ap (λ (s : Stored). s.batches) c.store-store.ensures ∙ ap (λ (n : NodeSelf). n.node.kept.holding) c.self.view_is in
-    let sheet = c.in_ok-sheet.ensures ∙ (c.sheet.ensures ∙ ap (λ (n : NodeSelf). n.group.sheet) c.self.view_is) in
-    let issuer = c.in_ok-issuer.ensures ∙ (c.issuer.ensures ∙ ap (λ (n : NodeSelf). n.group.issuer) c.self.view_is) in
-    IfOk-weaker c.of.result _ _ (λ s e. e ∙ same_parts _ _ _ _ _ _ _ _ _ _ _ c.requires.from c.in_ok-to.ensures holding sheet issuer) c.of.ensures
+    let sheet = c.in-Ok-try_clone.ensures ∙ (c.sheet.ensures ∙ ap (λ (n : NodeSelf). n.group.sheet) c.self.view_is) in
+    let issuer = c.in-Ok-try_clone-2.ensures ∙ (c.issuer.ensures ∙ ap (λ (n : NodeSelf). n.group.issuer) c.self.view_is) in
+    IfOk-weaker c.of.result _ _ (λ s e. e ∙ same_parts _ _ _ _ _ _ _ _ _ _ _ c.requires.from c.in-Ok.ensures holding sheet issuer) c.of.ensures
