@@ -1,12 +1,12 @@
 -- A call that reads ahead by other calls: what it says of itself, and for want of what its last bytes were read.
-use Rattle.std.proofs.Common.{◌≡◌, ℕ, ◌+◌, ◌-◌, ◌<◌, ◌≤◌, List, [], ◌++◌, length, Option, Result, Ok, Err, sym, ap, ◌∙◌, append-nil, arith, subst}
+use Rattle.std.proofs.Common.{◌≡◌, ℕ, ◌+◌, ◌-◌, ◌<◌, ◌≤◌, List, [], ◌++◌, length, IfErr, Option, Result, Ok, Err, sym, ap, ◌∙◌, append-nil, arith, subst}
 use Rattle.std.proofs.KnownBytes.{Consumes-nil}
 use Rattle.std.proofs.lemmas.List.{length-append, nil_from_length}
 use Rattle.metering_model.specs.Limits.{most_transcript_bytes}
 use Rattle.line_source.specs.declared.faults.SourceFault.{SourceFault}
 use Rattle.line_source.specs.declared.faults.SourceFault.TheVariants as fault
-use Rattle.line_source.specs.Calls.{IsOfReading, ReadsWithin}
-use Rattle.line_source.specs.Reading.{IsLastByte, ReadsWhile, Takes}
+use Rattle.line_source.specs.Calls.{ReadsWithin}
+use Rattle.line_source.specs.Reading.{Ahead, IsLastByte, IsStopped, ReadsWhile, StopsShort, Takes}
 
 -- ---- its answer
 
@@ -33,9 +33,9 @@ within_err {A} {B} told {r} {read} {middle} {failed} {failed'} is quiet reads =
     by fault.Read it = record { within = tt; most = it.most; reading = tt; count = it.count }
     by fault.OutOfMemory it = record { within = tt; most = it.most; reading = tt; count = it.count }
 
--- what it passes on is too long where it is
-pub told_long : {B : Type 0} {told : SourceFault} {r : Result B SourceFault} → r ≡ Err told → r ≡ Err fault.TooLong → told ≡ fault.TooLong
-told_long is long = cc
+-- of which something holds
+pub on_fault : {B : Type 0} (Holds : SourceFault → Type 0) {told : SourceFault} {r : Result B SourceFault} → r ≡ Err told → Holds told → IfErr r Holds
+on_fault {B} Holds {told} {r} is it = subst (λ (x : Result B SourceFault). IfErr x Holds) (sym is) it
 
 -- an answer is no fault
 pub no_fault : {A P : Type 0} {answer : A} {told : SourceFault} → ◌≡◌ {A = Result A SourceFault} (Ok answer) (Err told) → P
@@ -79,16 +79,24 @@ module _ {a b : List ℕ} {r s : ℕ} {l m : Option (List ℕ)} (it : Takes a b 
   }
 
   -- or the one byte beyond the limit
-  pub byte_behind : {A : Type 0} {told : SourceFault} {failed failed' : ℕ} {c : List ℕ} {t : ℕ} {n : Option (List ℕ)} {is_short : List ℕ → Type 0}
-      → Takes b c s t m n [] → is_short b → told ≡ fault.TooLong → s ≡ most_transcript_bytes → ReadsWithin {A = A} (Err told) t failed failed' → IsLastByte is_short a c
-  byte_behind {A} {told} {failed} {failed'} {c} {t} {n} {is_short} then short long full reads = record {
+  byte_behind : {A : Type 0} {failed failed' : ℕ} {c : List ℕ} {t : ℕ} {n : Option (List ℕ)} {is_short : List ℕ → Type 0}
+      → Takes b c s t m n [] → is_short b → s ≡ most_transcript_bytes → ReadsWithin {A = A} (Err fault.TooLong) t failed failed' → IsLastByte is_short a c
+  byte_behind {A} {failed} {failed'} {c} {t} {n} {is_short} then short full reads = record {
     before = it.came;
     last = then.came;
     joined = joined then;
     one =
         let counted = then.counted in
-        let more : most_transcript_bytes < t = subst (λ e. IsOfReading e t) long reads.reading in
+        let more : most_transcript_bytes < t = reads.reading in
         let most = reads.most in
         omega (arith, counted, full, more, most);
     short = subst is_short (sym it.joined) short;
   }
+
+-- where a fault stops it, what is ahead does not suffice still
+pub stops_behind : {A : Type 0} {a : List ℕ} {r : ℕ} {l m n : Option (List ℕ)} {failed failed' : ℕ} (is_short : List ℕ → Type 0) (now new : Ahead) (told : SourceFault)
+    → Takes a now.bytes r now.read l m [] → Takes now.bytes new.bytes now.read new.read m n [] → is_short now.bytes
+    → IsStopped now new told → ReadsWithin {A = A} (Err told) new.read failed failed' → StopsShort is_short a new.bytes told
+stops_behind is_short now new fault.TooLong it then short full reads = byte_behind it then short full reads
+stops_behind is_short now new fault.Read it then short same reads = subst (λ (u : Ahead). is_short u.bytes) (sym same) short
+stops_behind is_short now new fault.OutOfMemory it then short same reads = subst (λ (u : Ahead). is_short u.bytes) (sym same) short

@@ -7,7 +7,9 @@ use Rattle.metering_model.specs.Batch.{lacks}
 use Rattle.metering_model.specs.Transcript.{line}
 use Rattle.metering_model.proofs.Splitting.{list_all_both}
 use Rattle.line_source.specs.Lines.{IsLineAt}
-use Rattle.line_source.specs.Reading.{IsLastBlock, IsLastByte, ReadsUpTo, ReadsWhile, Takes, TakesLine, TakesPart, TakesWhile}
+use Rattle.line_source.specs.declared.faults.SourceFault.{SourceFault}
+use Rattle.line_source.specs.declared.faults.SourceFault.TheVariants as fault
+use Rattle.line_source.specs.Reading.{IsLastBlock, IsLastByte, ReadsUpTo, ReadsWhile, StopsShort, Takes, TakesLine, TakesPart, TakesWhile}
 
 -- ---- bytes that came, and those that were taken
 
@@ -94,7 +96,7 @@ while_for weaker it longer =
     record { before = more.before; last = more.last; joined = more.joined; block = more.block; short = weaker more.before more.short }
 
 -- the byte beyond the most, where both hold
-pub byte_on : {a b c : List ℕ} {r s : ℕ} {l m : Option (List ℕ)} {is_short is_shorter : List ℕ → Type 0}
+byte_on : {a b c : List ℕ} {r s : ℕ} {l m : Option (List ℕ)} {is_short is_shorter : List ℕ → Type 0}
     → Takes a b r s l m [] → ((before : List ℕ) → is_short (b ++ before) → is_shorter (b ++ before)) → IsLastByte is_short b c → IsLastByte is_shorter a c
 byte_on {a} {b} {c} {r} {s} {l} {m} {is_short} {is_shorter} it weaker more =
     let held : b ++ more.before ≡ a ++ (it.came ++ more.before) = ap (λ t. t ++ more.before) (sym it.joined) ∙ append_assoc a it.came more.before in
@@ -105,6 +107,14 @@ byte_on {a} {b} {c} {r} {s} {l} {m} {is_short} {is_shorter} it weaker more =
       one = more.one;
       short = subst is_shorter held (weaker more.before more.short);
     }
+
+-- where a fault stops it
+pub stops_on : {a b c : List ℕ} {r s t : ℕ} {l m n : Option (List ℕ)} (is_short is_shorter : List ℕ → Type 0) (told : SourceFault)
+    → Takes a b r s l m [] → Takes b c s t m n [] → ((before : List ℕ) → is_short (b ++ before) → is_shorter (b ++ before))
+    → StopsShort is_short b c told → StopsShort is_shorter a c told
+stops_on is_short is_shorter fault.TooLong it then weaker short = byte_on it weaker short
+stops_on is_short is_shorter fault.Read it then weaker short = subst is_shorter then.joined (weaker then.came (subst is_short (sym then.joined) short))
+stops_on is_short is_shorter fault.OutOfMemory it then weaker short = subst is_shorter then.joined (weaker then.came (subst is_short (sym then.joined) short))
 
 -- ---- a line by its parts
 

@@ -2,12 +2,21 @@
 use Rattle.std.specs.Prelude.{◌≡◌, ℕ, ◌+◌, ◌<◌, ◌≤◌, true, List, ◌++◌, length, Option}
 use Rattle.std.specs.Io.KnownBytes.{Consumes, IsAtEnd}
 use Rattle.metering_model.specs.Batch.{lacks}
+use Rattle.metering_model.specs.Limits.{most_transcript_bytes}
 use Rattle.metering_model.specs.Transcript.{line}
+use Rattle.line_source.specs.declared.faults.SourceFault.{SourceFault}
+use Rattle.line_source.specs.declared.faults.SourceFault.TheVariants as fault
 
 -- bytes that were read and not yet taken, and how many were read since the last mark
 pub record Ahead : Type 0 where
   pub bytes : List ℕ
   pub read : ℕ
+
+-- No more came, or, at `TooLong`, more than may be read, which does only at the limit.
+abbrev pub IsStopped : (now new : Ahead) → SourceFault → Type 0
+IsStopped now new fault.TooLong = now.read ≡ most_transcript_bytes
+IsStopped now new fault.Read = new ≡ now
+IsStopped now new fault.OutOfMemory = new ≡ now
 
 -- More bytes came, and of these and those before them some were taken: the rest is ahead.
 pub record Takes (ahead rest : List ℕ) (read read' : ℕ) (left left' : Option (List ℕ)) (taken : List ℕ) : Type 0 where
@@ -57,6 +66,12 @@ pub record IsLastByte (is_short : List ℕ → Type 0) (ahead ahead' : List ℕ)
   pub joined : ahead' ≡ (ahead ++ before) ++ last
   pub one : length last ≡ 1
   pub short : is_short (ahead ++ before)
+
+-- Where a fault stops it, what is ahead does not suffice; at `TooLong` without the byte beyond the most.
+abbrev pub StopsShort : (is_short : List ℕ → Type 0) (ahead ahead' : List ℕ) → SourceFault → Type 0
+StopsShort is_short ahead ahead' fault.TooLong = IsLastByte is_short ahead ahead'
+StopsShort is_short ahead ahead' fault.Read = is_short ahead'
+StopsShort is_short ahead ahead' fault.OutOfMemory = is_short ahead'
 
 -- Some of what was ahead and came was taken. More was read only while all of it together did not suffice.
 pub record TakesWhile (is_short : List ℕ → Type 0) (ahead rest : List ℕ) (read read' : ℕ) (left left' : Option (List ℕ)) : Type 0 where

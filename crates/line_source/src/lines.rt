@@ -1,6 +1,6 @@
 //! Lines of what a source gives.
 
-ghost use Rattle.std.specs.Prelude.{◌≡◌, ◌+◌, ◌<◌, ◌≤◌, ◌⊎◌, ℕ, List, [], length, drop, true, false, Ok, Err, IfOk, OnErr, MatchOption};
+ghost use Rattle.std.specs.Prelude.{◌≡◌, ◌+◌, ◌<◌, ◌≤◌, ◌⊎◌, ℕ, List, [], length, drop, true, false, Ok, IfErr, IfOk, OnErr, MatchOption};
 ghost use Rattle.std.specs.Io.KnownBytes.{IsAtEnd};
 ghost use Rattle.metering_model.specs.Limits.{most_transcript_bytes};
 ghost use Rattle.metering_model.specs.Batch.{lacks};
@@ -8,7 +8,7 @@ ghost use Rattle.metering_model.specs.BatchReading.{lines_in};
 ghost use Rattle.line_source.specs.Calls.{ReadsWithin};
 ghost use Rattle.line_source.specs.Inner.Wants.{IsLineShort};
 ghost use Rattle.line_source.specs.Lines.{AreBetween, AreFewer, AreInFront, AreShort, IsFound, IsLineAt, IsShareOf};
-ghost use Rattle.line_source.specs.Reading.{IsEnded, IsLastByte, ReadsUpTo, ReadsWhile, Takes, TakesLine, TakesPart, TakesWhile};
+ghost use Rattle.line_source.specs.Reading.{IsEnded, ReadsUpTo, ReadsWhile, StopsShort, Takes, TakesLine, TakesPart, TakesWhile};
 
 use crate::faults::SourceFault;
 use crate::unread::Unread;
@@ -51,8 +51,8 @@ fn line_length<S: Source>(
         (IsLineAt (drop from unread.new.bytes))) }
     ensures block { ReadsUpTo most unread.old.bytes unread.new.bytes }
     ensures last { ReadsWhile (IsLineShort from most) unread.old.bytes unread.new.bytes }
-    ensures limit { result ≡ Err SourceFault.TooLong
-        → IsLastByte (IsLineShort from most) unread.old.bytes unread.new.bytes }
+    ensures stopped { IfErr result (StopsShort (IsLineShort from most)
+        unread.old.bytes unread.new.bytes) }
     ensures reads { ReadsWithin result unread.new.read (S.failed_calls source.old)
         (S.failed_calls source.new) }
 {
@@ -85,8 +85,8 @@ pub fn line_end<S: Source>(
     ensures found { IfOk result (λ found. MatchOption found
         (IsEnded unread.new.bytes (S.remaining source.new)) (IsLineAt unread.new.bytes)) }
     ensures last { ReadsWhile (λ held. lacks 10 held ≡ true) unread.old.bytes unread.new.bytes }
-    ensures limit { result ≡ Err SourceFault.TooLong
-        → IsLastByte (λ held. lacks 10 held ≡ true) unread.old.bytes unread.new.bytes }
+    ensures stopped { IfErr result (StopsShort (λ held. lacks 10 held ≡ true)
+        unread.old.bytes unread.new.bytes) }
     ensures reads { ReadsWithin result unread.new.read (S.failed_calls source.old)
         (S.failed_calls source.new) }
 {
@@ -113,8 +113,8 @@ pub fn lines_end_within<S: Source>(
         unread.new.bytes (S.remaining source.new)) }
     ensures block { ReadsUpTo most unread.old.bytes unread.new.bytes }
     ensures last { ReadsWhile (AreShort from count most) unread.old.bytes unread.new.bytes }
-    ensures limit { result ≡ Err SourceFault.TooLong
-        → IsLastByte (AreShort from count most) unread.old.bytes unread.new.bytes }
+    ensures stopped { IfErr result (StopsShort (AreShort from count most)
+        unread.old.bytes unread.new.bytes) }
     ensures reads { ReadsWithin result unread.new.read (S.failed_calls source.old)
         (S.failed_calls source.new) }
 {
@@ -152,9 +152,9 @@ pub fn lines_end<S: Source>(
         (λ end. AreBetween from end unread.new.bytes count)) }
     ensures last { ReadsWhile (λ held. length (lines_in (drop from held)).lines < count)
         unread.old.bytes unread.new.bytes }
-    ensures limit { result ≡ Err SourceFault.TooLong
-        → IsLastByte (λ held. length (lines_in (drop from held)).lines < count)
-        unread.old.bytes unread.new.bytes }
+    ensures stopped { IfErr result (StopsShort
+        (λ held. length (lines_in (drop from held)).lines < count)
+        unread.old.bytes unread.new.bytes) }
     ensures reads { ReadsWithin result unread.new.read (S.failed_calls source.old)
         (S.failed_calls source.new) }
 {
@@ -180,8 +180,8 @@ pub fn read_ahead<S: Source>(
     ensures ended { result ≡ Ok false → (length unread.new.bytes < wanted)
         × IsAtEnd (S.remaining source.new) }
     ensures last { ReadsWhile (λ held. length held < wanted) unread.old.bytes unread.new.bytes }
-    ensures limit { result ≡ Err SourceFault.TooLong
-        → IsLastByte (λ held. length held < wanted) unread.old.bytes unread.new.bytes }
+    ensures stopped { IfErr result (StopsShort (λ held. length held < wanted)
+        unread.old.bytes unread.new.bytes) }
     ensures reads { ReadsWithin result unread.new.read (S.failed_calls source.old)
         (S.failed_calls source.new) }
 {

@@ -1,6 +1,6 @@
 //! Bytes that were read and not yet taken.
 
-ghost use Rattle.std.specs.Prelude.{◌≡◌, ◌+◌, ◌<◌, ◌≤◌, [], length, take, drop, vec_len, true, false, Ok, Err, IfErr, unwrap_or};
+ghost use Rattle.std.specs.Prelude.{◌≡◌, ◌+◌, ◌<◌, ◌≤◌, [], length, take, drop, vec_len, true, false, Ok, IfErr, unwrap_or};
 ghost use Rattle.std.specs.Io.KnownBytes.{IsAtEnd};
 ghost use Rattle.std.specs.Result.{result_ok};
 ghost use Rattle.metering_model.specs.Limits.{most_transcript_bytes};
@@ -8,7 +8,7 @@ ghost use Rattle.counted_io.specs.Counts.{count_after};
 ghost use Rattle.line_source.specs.Calls.{ReadsWithin};
 ghost use Rattle.line_source.specs.Faults.{tells_of_source};
 ghost use Rattle.line_source.specs.Inner.Blocks.{ReadsInto, StandsBehind};
-ghost use Rattle.line_source.specs.Reading.{Takes};
+ghost use Rattle.line_source.specs.Reading.{IsStopped, Takes};
 
 use crate::faults::SourceFault;
 use counted_io::Source;
@@ -162,7 +162,7 @@ impl Unread {
         ensures more { result ≡ Ok true → length self.old.bytes < length self.new.bytes }
         ensures end { result ≡ Ok false → (self.new ≡ self.old) × IsAtEnd (S.remaining source.new) }
         ensures block { length self.new.bytes ≤ length self.old.bytes + 65_536 }
-        ensures limit { result ≡ Err SourceFault.TooLong → self.old.read ≡ most_transcript_bytes }
+        ensures stopped { IfErr result (IsStopped self.old self.new) }
         ensures reads { ReadsWithin result self.new.read (S.failed_calls source.old)
             (S.failed_calls source.new) }
     {

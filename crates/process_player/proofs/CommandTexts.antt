@@ -9,7 +9,7 @@ use Rattle.metering_model.specs.BatchReading.{Lines, lines_in}
 use Rattle.metering_model.specs.Transcript.{line}
 use Rattle.metering_model.specs.Schedule.{TextLines, lines_text}
 use Rattle.byte_text.proofs.PastLines.{lines_behind}
-use Rattle.line_source.specs.Lines.{AreBetween, AreFewer}
+use Rattle.line_source.specs.Lines.{AreBetween}
 use Rattle.line_source.specs.Reading.{Takes}
 use Rattle.line_source.proofs.LineTexts.{between_on}
 use Rattle.process_text.specs.declared.processes.Process.{Process}
@@ -87,10 +87,9 @@ lines_with l rest whole =
 lines_of_asked : (p : Process) (a : Asked) (more : List ℕ) → IsAsked p a → (lines_in (bytes_of a ++ more)).lines ≡ a.first ∷ (lines_in (a.below ++ more)).lines
 lines_of_asked p a more asked = ap (λ t. (lines_in t).lines) (append_assoc (line a.first) a.below more) ∙ lines_with a.first (a.below ++ more) asked.is_line
 
-pub torn_first : (p : Process) (text : List ℕ) (left : Option (List ℕ)) → AreFewer 0 1 text left → IsTorn p text
-torn_first p text left few a more asked is =
+pub torn_first : (p : Process) (text : List ℕ) → length (lines_in text).lines < 1 → IsTorn p text
+torn_first p text none a more asked is =
     let size = ap length (ap (λ t. (lines_in t).lines) is ∙ lines_of_asked p a more asked) in
-    let none = few.0 in
     omega (arith, size, none)
 
 abbrev head_of : TextLines → List ℕ
@@ -101,9 +100,9 @@ abbrev tail_of : TextLines → TextLines
 tail_of [] = []
 tail_of (l ∷ ls) = ls
 
-pub torn_below : (p : Process) (text : List ℕ) (end lines : ℕ) (left : Option (List ℕ)) → AreBetween 0 end text 1
-    → lines ≡ lines_below p (take (end - 1) text) → AreFewer end lines text left → IsTorn p text
-torn_below p text end lines left one same few a more asked is =
+torn_below : (p : Process) (text : List ℕ) (end lines : ℕ) → AreBetween 0 end text 1
+    → lines ≡ lines_below p (take (end - 1) text) → length (lines_in (drop end text)).lines < lines → IsTorn p text
+torn_below p text end lines one same fewer a more asked is =
     let first = first_between one in
     let here : (lines_in text).lines ≡ first.first ∷ (lines_in (drop end text)).lines =
     ap (λ t. (lines_in t).lines) (sym (take-append-drop end text) ∙ ap (λ t. t ++ drop end text) first.is) ∙ lines_with first.first (drop end text) first.whole in
@@ -115,7 +114,6 @@ torn_below p text end lines left one same few a more asked is =
     ap (λ t. (lines_in (t ++ more)).lines) asked.below ∙ ap (λ (x : Lines). x.lines) (lines_behind asked.lines more asked.whole) in
     let size = ap length (same_rest ∙ below) ∙ length-append asked.lines (lines_in more).lines in
     let counted : length asked.lines ≡ lines = asked.counted ∙ ap (lines_below p) (sym same_line ∙ sym first.taken) ∙ sym same in
-    let fewer = few.0 in
     omega (arith, size, counted, fewer)
 
 -- ---- read in two steps
@@ -138,11 +136,11 @@ asked_for p end lines count text seen after one reads value same counted =
     ap (take (end - 1)) (sym reads.joined) ∙ take-append-le (end - 1) text reads.came (omega (arith, within)) in
     counted ∙ value ∙ ap (λ t. lines_below p (take (end - 1) t)) same ∙ ap (lines_below p) (sym longer)
 
-pub torn_later : (p : Process) (end lines count : ℕ) (text seen after : List ℕ) (left : Option (List ℕ)) {r s : ℕ} {l m : Option (List ℕ)}
+pub torn_later : (p : Process) (end lines count : ℕ) (text seen after : List ℕ) {r s : ℕ} {l m : Option (List ℕ)}
     → AreBetween 0 end text 1 → Takes text after r s l m [] → lines ≡ lines_below p (take (end - 1) seen) → seen ≡ text → count ≡ lines
-    → AreFewer end count after left → IsTorn p after
-torn_later p end lines count text seen after left one reads value same counted few =
-    torn_below p after end count left (between_on one reads) (asked_for p end lines count text seen after one reads value same counted) few
+    → length (lines_in (drop end after)).lines < count → IsTorn p after
+torn_later p end lines count text seen after one reads value same counted few =
+    torn_below p after end count (between_on one reads) (asked_for p end lines count text seen after one reads value same counted) few
 
 pub command_later : (p : Process) (end lines count all : ℕ) (text seen after : List ℕ) {r s : ℕ} {l m : Option (List ℕ)}
     → AreBetween 0 end text 1 → Takes text after r s l m [] → lines ≡ lines_below p (take (end - 1) seen) → seen ≡ text → count ≡ lines

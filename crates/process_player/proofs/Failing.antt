@@ -8,7 +8,7 @@ use Rattle.line_source.specs.declared.faults.SourceFault.{SourceFault}
 use Rattle.line_source.specs.declared.faults.SourceFault.TheVariants as source
 use Rattle.line_source.specs.Calls.{ReadsWithin}
 use Rattle.line_source.specs.Calls as calls
-use Rattle.line_source.specs.Reading.{Takes}
+use Rattle.line_source.specs.Reading.{StopsShort, Takes}
 use Rattle.line_source.specs.Faults.{tells_of_source}
 use Rattle.process_player.specs.declared.faults.ProcessFault.{ProcessFault}
 use Rattle.process_player.specs.declared.faults.ProcessFault.TheVariants.{Read, Section, Log, OtherLog, NoJournal, TooLong, Write, OutOfMemory}
@@ -134,6 +134,18 @@ read_still {r = r} {f = f} {h = h} same it = subst (λ n. Reads r n f h) (sym sa
 
 pub ok_no_write : {A : Type 0} {x : A} → ◌≢◌ {A = Result A ProcessFault} (Ok x) (Err Write)
 ok_no_write h = cc
+
+-- ---- where a read failed
+
+-- what is ahead does not suffice
+pub failed_short : (is_short : List ℕ → Type 0) (a b : List ℕ) (e : SourceFault) → of_source e ≡ Read → StopsShort is_short a b e → is_short b
+failed_short is_short a b source.TooLong is it = absurd (cc)
+failed_short is_short a b source.Read is it = it
+failed_short is_short a b source.OutOfMemory is it = absurd (cc)
+
+-- no memory was wanted
+pub memory_no_read : {P : Type 0} {e : ProcessFault} → e ≡ OutOfMemory → e ≡ Read → P
+memory_no_read memory read = absurd (let both : OutOfMemory ≡ Read = sym memory ∙ read in cc)
 
 -- ---- where more was read
 

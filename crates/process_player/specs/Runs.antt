@@ -9,6 +9,8 @@ use Rattle.metering_model.specs.Transcript.{line}
 use Rattle.process_text.specs.declared.processes.Process.{Process}
 use Rattle.process_text.specs.Answers.{Answers, begun_text}
 use Rattle.process_text.specs.Requests.{lines_below}
+use Rattle.process_player.specs.declared.faults.ProcessFault.{ProcessFault}
+use Rattle.process_player.specs.declared.faults.ProcessFault.TheVariants as fault
 use Rattle.process_player.specs.declared.heads.ProcessKind.{ProcessKind}
 use Rattle.process_player.specs.Starts.{Begins}
 
@@ -66,16 +68,19 @@ pub record Runs (k : ProcessKind) (known known' old new : Option (List ℕ)) (la
   pub is_run : IsRun k bytes last said piece
   pub written : Appends old new said
 
--- The input has begun a process, and just whole answers were written, to what it asks first. The rest was read, or is left.
-pub record RunsWhole (k : ProcessKind) (known known' old new : Option (List ℕ)) : Type 0 where
+-- The input has begun a process, and just whole answers were written, to what it asks first. The rest was read, or is left. Where a
+-- call of the reader failed, the piece holds no whole command: so whenever more is read, all that came whole was answered.
+pub record RunsWhole (k : ProcessKind) (why : ProcessFault) (known known' old new : Option (List ℕ)) : Type 0 where
   pub last : Process
   pub piece : List ℕ
   pub runs : Runs k known known' old new last piece
+  pub answered : why ≡ fault.Read → (a : Asked) (more : List ℕ) → IsAsked last a → piece ≢ bytes_of a ++ more
 
--- the same, whatever was left
+-- the same, whatever stopped it, and whatever was left
 pub record HasAnswered (k : ProcessKind) (known old new : Option (List ℕ)) : Type 0 where
+  pub why : ProcessFault
   pub left : Option (List ℕ)
-  pub whole : RunsWhole k known left old new
+  pub whole : RunsWhole k why known left old new
 
 -- All bytes came, and the piece behind the last command is none: it has no line, or fewer lines than belong to its first.
 pub record RunsToEnd (k : ProcessKind) (known known' old new : Option (List ℕ)) : Type 0 where

@@ -12,7 +12,7 @@ ghost use Rattle.process_player.specs.Faults.{FailsAsTold, IsRefusal, tells_of_w
 ghost use Rattle.process_player.specs.Refusals.{Rejects};
 ghost use Rattle.process_player.specs.Runs.{RunsToEnd, RunsTorn, RunsWhole};
 ghost use Rattle.process_player.specs.Inner.Calls.{IsLong, IsOfReading, IsOfServing, Reads, ReadsAndWrites};
-ghost use Rattle.process_player.specs.Inner.Reading.{Continues, ContinuesWithin, EndsHere, IsCommandAt, IsTorn, Passes, ServesOne, StopsWithin};
+ghost use Rattle.process_player.specs.Inner.Reading.{Continues, ContinuesWhole, ContinuesWithin, EndsHere, IsCommandAt, IsTorn, Passes, ServesOne, StopsBefore, StopsWithin};
 
 use crate::beginning::begin;
 use crate::faults::ProcessFault;
@@ -73,6 +73,8 @@ fn next_command<S: Source>(
         (S.failed_calls source.new) }
     ensures others { IfErr result
         (IsOfReading (IsLong unread.old.bytes (S.remaining source.old))) }
+    ensures failed { IfErr result (λ fault. fault ≡ ProcessFault.Read
+        → IsTorn process.now unread.new.bytes) }
 {
     unread.mark();
     let Some(end) = lines_end(unread, source, 0, 1)? else {
@@ -104,9 +106,9 @@ fn serve_one<S: Source, W: Sink>(
         unread.old.bytes unread.new.bytes (S.remaining source.old) (S.remaining source.new)
         (W.contents writer.old) (W.contents writer.new) }
     ensures stopped { IfErr result (λ fault. fault ≢ ProcessFault.Write
-        → (W.contents writer.new ≡ W.contents writer.old)
-        × Passes unread.old.bytes unread.new.bytes
-        (S.remaining source.old) (S.remaining source.new) []) }
+        → StopsBefore process.old fault
+        unread.old.bytes unread.new.bytes (S.remaining source.old) (S.remaining source.new)
+        (W.contents writer.old) (W.contents writer.new)) }
     ensures torn { result ≡ Err ProcessFault.Write → StopsWithin process.old
         unread.old.bytes (S.remaining source.old) (S.remaining source.new)
         (W.contents writer.old) (W.contents writer.new) }
@@ -148,7 +150,7 @@ fn serve<S: Source, W: Sink>(
         (W.contents writer.old) (W.contents writer.new)
         × IsAtEnd (S.remaining source.new) × IsTorn process.new unread.new.bytes) }
     ensures stopped { IfErr result (λ fault. fault ≢ ProcessFault.Write
-        → (last : Process) × Continues process.old last
+        → ContinuesWhole process.old fault
         unread.old.bytes unread.new.bytes (S.remaining source.old) (S.remaining source.new)
         (W.contents writer.old) (W.contents writer.new)) }
     ensures torn { result ≡ Err ProcessFault.Write → ContinuesWithin process.old unread.old.bytes
@@ -207,7 +209,8 @@ fn drop_process(_process: Process) {}
 ///
 /// With Ok the input has ended, perhaps within a command, which is not done then. After `Section`, `Log`, `OtherLog` and
 /// `NoJournal`, by which nothing is begun, nothing was written; after each other fault whole answers of first commands were, or
-/// nothing, and after `Write` a prefix of one after them.
+/// nothing, and after `Write` a prefix of one after them. No call of the reader is made before all commands that have come whole are
+/// answered.
 pub fn process_text<R: Source, W: Sink>(
     alloc: Global,
     kind: ProcessKind,
@@ -218,10 +221,11 @@ pub fn process_text<R: Source, W: Sink>(
     ensures done { OnOk result (RunsToEnd kind (R.remaining reader.old) (R.remaining reader.new)
         (W.contents writer.old) (W.contents writer.new)) }
 
-    // What is refused begins nothing, and at another fault but `Write` whole answers stand, or nothing was begun.
+    // What is refused begins nothing, and at another fault but `Write` whole answers stand, or nothing was begun; after `Read`
+    // the answers to all commands that had come whole.
     ensures untouched { IfErr result (λ fault. IsRefusal fault → writer.new ≡ writer.old) }
     ensures whole { IfErr result (λ fault. fault ≢ ProcessFault.Write
-        → (writer.new ≡ writer.old) ⊎ RunsWhole kind (R.remaining reader.old)
+        → (writer.new ≡ writer.old) ⊎ RunsWhole kind fault (R.remaining reader.old)
         (R.remaining reader.new) (W.contents writer.old) (W.contents writer.new)) }
 
     // After `Write` a prefix of an answer stands behind whole ones.

@@ -9,6 +9,8 @@ use Rattle.metering_model.specs.Sheet.{Sheet, Issuer}
 use Rattle.input_sections.specs.Sections.{Unread}
 use Rattle.input_sections.specs.Sections as sections
 use Rattle.log_text.specs.LogText.{ReadLog}
+use Rattle.process_player.specs.declared.faults.ProcessFault.{ProcessFault}
+use Rattle.process_player.specs.declared.faults.ProcessFault.TheVariants as fault
 use Rattle.process_player.specs.declared.heads.ProcessKind.{ProcessKind}
 use Rattle.process_player.specs.Starts.{Begins, IsStored, preamble_in}
 use Rattle.process_player.specs.Runs.{Asked, Does, IsAsked, Serves, bytes_of}
@@ -51,6 +53,12 @@ pub record StopsWithin (p : Process) (ahead : List ℕ) (left left' old new : Op
   pub written : AppendsPrefix old new said
   pub at_hand : length rest < 65_536
 
+-- It was not asked, or nothing of its answer was written. Where a read failed, no whole command is ahead.
+pub record StopsBefore (p : Process) (why : ProcessFault) (ahead rest : List ℕ) (left left' old new : Option (List ℕ)) : Type 0 where
+  pub written : new ≡ old
+  pub passes : Passes ahead rest left left' []
+  pub torn : why ≡ fault.Read → IsTorn p rest
+
 -- It was not asked, since the input ends.
 pub record EndsHere (p q : Process) (ahead rest : List ℕ) (left left' old new : Option (List ℕ)) : Type 0 where
   pub process : q ≡ p
@@ -67,6 +75,12 @@ pub record IsCommandAt (p : Process) (text : List ℕ) (end all : ℕ) : Type 0 
   pub at_hand : length (drop all text) < 65_536
   pub asked : IsAsked p (record { first = take (end - 1) text; below = drop end (take all text) })
   pub split : text ≡ bytes_of (record { first = take (end - 1) text; below = drop end (take all text) }) ++ drop all text
+
+-- It went on as long as that, and then it stopped. Where a read failed, no whole command is ahead.
+pub record ContinuesWhole (p : Process) (why : ProcessFault) (ahead rest : List ℕ) (left left' old new : Option (List ℕ)) : Type 0 where
+  pub last : Process
+  pub continues : Continues p last ahead rest left left' old new
+  pub torn : why ≡ fault.Read → IsTorn last rest
 
 -- It went on as long as that, and then a prefix of an answer was written.
 pub record ContinuesWithin (p : Process) (ahead : List ℕ) (left left' old new : Option (List ℕ)) : Type 0 where

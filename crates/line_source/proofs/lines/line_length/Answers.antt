@@ -5,8 +5,8 @@ use Rattle.metering_model.specs.Batch.{lacks}
 use Rattle.metering_model.proofs.Splitting.{list_all_both}
 use Rattle.line_source.specs.Inner.Wants.{IsLineShort}
 use Rattle.line_source.specs.Lines.{IsLineAt}
-use Rattle.line_source.specs.Reading.{ReadsWhile, Takes}
-use Rattle.line_source.proofs.Calling.{block_behind, byte_behind, falls, no_fault, no_less, still_quiet, takes_none, told_long, within_err, within_ok, within_on}
+use Rattle.line_source.specs.Reading.{ReadsWhile, StopsShort, Takes}
+use Rattle.line_source.proofs.Calling.{block_behind, falls, no_less, on_fault, still_quiet, stops_behind, takes_none, within_err, within_ok, within_on}
 use Rattle.line_source.proofs.LineTexts.{line_behind}
 use Rattle.line_source.proofs.Taking.{reads_on}
 use Rattle.line_source.proofs.lines.line_length.Given as given
@@ -113,8 +113,8 @@ returns-in-Some-clause-block g c = c.loop-length.invariant.block
 pub returns-in-Some-clause-last : goal.returns-in-Some-clause-last
 returns-in-Some-clause-last g c = c.loop-length.invariant.last
 
-pub returns-in-Some-clause-limit : goal.returns-in-Some-clause-limit
-returns-in-Some-clause-limit g c = λ is. no_fault is
+pub returns-in-Some-clause-stopped : goal.returns-in-Some-clause-stopped
+returns-in-Some-clause-stopped g c = tt
 
 pub returns-in-Some-clause-reads : goal.returns-in-Some-clause-reads
 returns-in-Some-clause-reads g c = within_ok _ c.loop-length.invariant.short c.loop-length.invariant.quiet
@@ -134,8 +134,8 @@ returns-then-length-most-clause-block g c = c.loop-length.invariant.block
 pub returns-then-length-most-clause-last : goal.returns-then-length-most-clause-last
 returns-then-length-most-clause-last g c = c.loop-length.invariant.last
 
-pub returns-then-length-most-clause-limit : goal.returns-then-length-most-clause-limit
-returns-then-length-most-clause-limit g c = λ is. no_fault is
+pub returns-then-length-most-clause-stopped : goal.returns-then-length-most-clause-stopped
+returns-then-length-most-clause-stopped g c = tt
 
 pub returns-then-length-most-clause-reads : goal.returns-then-length-most-clause-reads
 returns-then-length-most-clause-reads g c = within_ok _ c.loop-length.invariant.short c.loop-length.invariant.quiet
@@ -162,11 +162,13 @@ returns-in_err-is_more-clause-last g c =
     let at = goal.at.returns-in_err-is_more-clause-last g c in
     last g at.After-fill (none_ahead g at.In_default)
 
-pub returns-in_err-is_more-clause-limit : goal.returns-in_err-is_more-clause-limit
-returns-in_err-is_more-clause-limit g c = λ is.
-    let at = goal.at.returns-in_err-is_more-clause-limit g c in
-    let long = told_long (told g at.After-from_residual) is in
-    byte_behind c.loop-length.invariant.takes c.fill.ensures.takes (short g at.After-fill (none_ahead g at.In_default)) long (c.in_err-is_more.ensures.limit (ap Err long)) c.in_err-is_more.ensures.reads
+pub returns-in_err-is_more-clause-stopped : goal.returns-in_err-is_more-clause-stopped
+returns-in_err-is_more-clause-stopped g c =
+    let at = goal.at.returns-in_err-is_more-clause-stopped g c in
+    let short_of = IsLineShort c.args.from c.args.most in
+    on_fault (StopsShort short_of c.args.unread.now.bytes c.fill.new.self.bytes) (told g at.After-from_residual)
+    (stops_behind short_of c.loop-length.unread c.fill.new.self c.in_err-is_more.field-0.0 c.loop-length.invariant.takes c.fill.ensures.takes
+    (short g at.After-fill (none_ahead g at.In_default)) c.in_err-is_more.ensures.stopped c.in_err-is_more.ensures.reads)
 
 pub returns-in_err-is_more-clause-reads : goal.returns-in_err-is_more-clause-reads
 returns-in_err-is_more-clause-reads g c =
@@ -189,8 +191,8 @@ returns-then-not-is_more-clause-last g c =
     let at = goal.at.returns-then-not-is_more-clause-last g c in
     last g at.After-fill (none_ahead g at.In_default)
 
-pub returns-then-not-is_more-clause-limit : goal.returns-then-not-is_more-clause-limit
-returns-then-not-is_more-clause-limit g c = λ is. no_fault is
+pub returns-then-not-is_more-clause-stopped : goal.returns-then-not-is_more-clause-stopped
+returns-then-not-is_more-clause-stopped g c = tt
 
 pub returns-then-not-is_more-clause-reads : goal.returns-then-not-is_more-clause-reads
 returns-then-not-is_more-clause-reads g c = within_on c.loop-length.invariant.quiet c.in_ok-is_more.ensures.reads

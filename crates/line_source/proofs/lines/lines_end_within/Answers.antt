@@ -5,10 +5,10 @@ use Rattle.std.proofs.lemmas.Result.{IfOk-from_err, err_from_is_err_and}
 use Rattle.metering_model.specs.Batch.{lacks}
 use Rattle.line_source.specs.Inner.Wants.{IsLineShort}
 use Rattle.line_source.specs.Lines.{AreBetween, AreShort, IsLineAt}
-use Rattle.line_source.specs.Reading.{ReadsUpTo, ReadsWhile, Takes}
-use Rattle.line_source.proofs.Calling.{no_fault, still_quiet, takes_none, told_long, within_err, within_ok, within_on}
+use Rattle.line_source.specs.Reading.{ReadsUpTo, ReadsWhile, StopsShort, Takes}
+use Rattle.line_source.proofs.Calling.{on_fault, still_quiet, takes_none, within_err, within_ok, within_on}
 use Rattle.line_source.proofs.LineTexts.{between_before, between_on, fewer_between, none_between, one_more_between}
-use Rattle.line_source.proofs.Taking.{byte_on, reads_on, up_to_on, while_for, while_on}
+use Rattle.line_source.proofs.Taking.{reads_on, stops_on, up_to_on, while_for, while_on}
 use Rattle.line_source.proofs.lines.lines_end_within.Given as given
 use Rattle.line_source.proofs.lines.lines_end_within.Goals.{After-from_residual, After-line_length, In-Some, In_default}
 use Rattle.line_source.proofs.lines.lines_end_within.Goals as goal
@@ -90,9 +90,12 @@ returns-in_err-length-clause-reads g c = within_err c.in_err-length.field-0.0 (t
 pub returns-in_err-length-clause-last : goal.returns-in_err-length-clause-last
 returns-in_err-length-clause-last g c = last g (goal.at.returns-in_err-length-clause-last g c).After-line_length
 
-pub returns-in_err-length-clause-limit : goal.returns-in_err-length-clause-limit
-returns-in_err-length-clause-limit g c = λ is.
-    byte_on c.loop-passed.invariant.takes (fewer g (goal.at.returns-in_err-length-clause-limit g c).After-line_length) (c.in_err-length.ensures.limit (ap Err (told_long (told g c) is)))
+pub returns-in_err-length-clause-stopped : goal.returns-in_err-length-clause-stopped
+returns-in_err-length-clause-stopped g c =
+    let short_of = AreShort c.args.from c.args.count c.args.most in
+    on_fault (StopsShort short_of c.args.unread.now.bytes c.line_length.new.unread.bytes) (told g c)
+    (stops_on (IsLineShort c.loop-passed.end c.args.most) short_of c.in_err-length.field-0.0 c.loop-passed.invariant.takes c.line_length.ensures.takes
+    (fewer g (goal.at.returns-in_err-length-clause-stopped g c).After-line_length) c.in_err-length.ensures.stopped)
 
 pub returns-then-ahead-most-clause-last : goal.returns-then-ahead-most-clause-last
 returns-then-ahead-most-clause-last g c = last g (goal.at.returns-then-ahead-most-clause-last g c).After-line_length
@@ -106,8 +109,8 @@ returns-then-ahead-most-clause-takes g c = takes g (goal.at.returns-then-ahead-m
 pub returns-then-ahead-most-clause-block : goal.returns-then-ahead-most-clause-block
 returns-then-ahead-most-clause-block g c = block g (goal.at.returns-then-ahead-most-clause-block g c).After-line_length
 
-pub returns-then-ahead-most-clause-limit : goal.returns-then-ahead-most-clause-limit
-returns-then-ahead-most-clause-limit g c = λ is. no_fault is
+pub returns-then-ahead-most-clause-stopped : goal.returns-then-ahead-most-clause-stopped
+returns-then-ahead-most-clause-stopped g c = tt
 
 pub returns-then-ahead-most-clause-reads : goal.returns-then-ahead-most-clause-reads
 returns-then-ahead-most-clause-reads g c = within_on c.loop-passed.invariant.quiet c.in_ok-length.ensures.reads
@@ -118,8 +121,8 @@ returns-in_default-clause-takes g c = takes g (goal.at.returns-in_default-clause
 pub returns-in_default-clause-block : goal.returns-in_default-clause-block
 returns-in_default-clause-block g c = block g (goal.at.returns-in_default-clause-block g c).After-line_length
 
-pub returns-in_default-clause-limit : goal.returns-in_default-clause-limit
-returns-in_default-clause-limit g c = λ is. no_fault is
+pub returns-in_default-clause-stopped : goal.returns-in_default-clause-stopped
+returns-in_default-clause-stopped g c = tt
 
 pub returns-in_default-clause-reads : goal.returns-in_default-clause-reads
 returns-in_default-clause-reads g c = within_on c.loop-passed.invariant.quiet c.in_ok-length.ensures.reads
@@ -194,8 +197,8 @@ returns-clause-block g c = c.loop-passed.invariant.block
 pub returns-clause-last : goal.returns-clause-last
 returns-clause-last g c = c.loop-passed.invariant.last
 
-pub returns-clause-limit : goal.returns-clause-limit
-returns-clause-limit g c = λ is. no_fault is
+pub returns-clause-stopped : goal.returns-clause-stopped
+returns-clause-stopped g c = tt
 
 pub returns-clause-reads : goal.returns-clause-reads
 returns-clause-reads g c = within_ok _ c.loop-passed.invariant.short c.loop-passed.invariant.quiet

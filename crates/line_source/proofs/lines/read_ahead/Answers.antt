@@ -2,8 +2,8 @@
 use Rattle.std.proofs.Common.{◌≡◌, ◌∙◌, ◌<◌, ◌≤◌, Bool, true, false, Err, Ok, Result, [], length, refl, sym, ap, arith, subst}
 use Rattle.std.proofs.lemmas.Result.{err_from_is_err_and}
 use Rattle.line_source.specs.declared.faults.SourceFault.{SourceFault}
-use Rattle.line_source.specs.Reading.{ReadsWhile, Takes}
-use Rattle.line_source.proofs.Calling.{block_behind, byte_behind, falls, no_fault, still_quiet, takes_none, told_long, within_err, within_ok, within_on}
+use Rattle.line_source.specs.Reading.{ReadsWhile, StopsShort, Takes}
+use Rattle.line_source.proofs.Calling.{block_behind, falls, no_fault, on_fault, still_quiet, stops_behind, takes_none, within_err, within_ok, within_on}
 use Rattle.line_source.proofs.Taking.{reads_on}
 use Rattle.line_source.proofs.lines.read_ahead.Given as given
 use Rattle.line_source.proofs.lines.read_ahead.Goals.{After-fill, After-from_residual}
@@ -54,10 +54,11 @@ returns-in_err-is_more-clause-ended g c = λ is. no_fault (sym is ∙ told g c)
 pub returns-in_err-is_more-clause-last : goal.returns-in_err-is_more-clause-last
 returns-in_err-is_more-clause-last g c = last g (goal.at.returns-in_err-is_more-clause-last g c).After-fill
 
-pub returns-in_err-is_more-clause-limit : goal.returns-in_err-is_more-clause-limit
-returns-in_err-is_more-clause-limit g c = λ is.
-    let long = told_long (told g c) is in
-    byte_behind c.loop-unread.invariant.takes c.fill.ensures.takes (few g (goal.at.returns-in_err-is_more-clause-limit g c).After-fill) long (c.in_err-is_more.ensures.limit (ap Err long)) c.in_err-is_more.ensures.reads
+pub returns-in_err-is_more-clause-stopped : goal.returns-in_err-is_more-clause-stopped
+returns-in_err-is_more-clause-stopped g c =
+    on_fault (StopsShort (λ held. length held < c.args.wanted) c.args.unread.now.bytes c.fill.new.self.bytes) (told g c)
+    (stops_behind (λ held. length held < c.args.wanted) c.loop-unread.unread c.fill.new.self c.in_err-is_more.field-0.0 c.loop-unread.invariant.takes c.fill.ensures.takes
+    (few g (goal.at.returns-in_err-is_more-clause-stopped g c).After-fill) c.in_err-is_more.ensures.stopped c.in_err-is_more.ensures.reads)
 
 pub returns-in_err-is_more-clause-reads : goal.returns-in_err-is_more-clause-reads
 returns-in_err-is_more-clause-reads g c = within_err c.in_err-is_more.field-0.0 (told g c) c.loop-unread.invariant.quiet c.in_err-is_more.ensures.reads
@@ -78,8 +79,8 @@ returns-then-not-is_more-clause-ended g c = λ _.
 pub returns-then-not-is_more-clause-last : goal.returns-then-not-is_more-clause-last
 returns-then-not-is_more-clause-last g c = last g (goal.at.returns-then-not-is_more-clause-last g c).After-fill
 
-pub returns-then-not-is_more-clause-limit : goal.returns-then-not-is_more-clause-limit
-returns-then-not-is_more-clause-limit g c = λ is. no_fault is
+pub returns-then-not-is_more-clause-stopped : goal.returns-then-not-is_more-clause-stopped
+returns-then-not-is_more-clause-stopped g c = tt
 
 pub returns-then-not-is_more-clause-reads : goal.returns-then-not-is_more-clause-reads
 returns-then-not-is_more-clause-reads g c = within_on c.loop-unread.invariant.quiet c.in_ok-is_more.ensures.reads
@@ -113,8 +114,8 @@ returns-clause-ended g c = λ is. not_both is
 pub returns-clause-last : goal.returns-clause-last
 returns-clause-last g c = c.loop-unread.invariant.last
 
-pub returns-clause-limit : goal.returns-clause-limit
-returns-clause-limit g c = λ is. no_fault is
+pub returns-clause-stopped : goal.returns-clause-stopped
+returns-clause-stopped g c = tt
 
 pub returns-clause-reads : goal.returns-clause-reads
 returns-clause-reads g c = within_ok _ c.loop-unread.invariant.short c.loop-unread.invariant.quiet

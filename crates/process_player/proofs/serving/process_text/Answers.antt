@@ -27,7 +27,7 @@ returns-in-Ok-write_begun g c = record {
   whole = on_err c.serve-ended.result
       (λ fault it other.
       let so = it other in
-      inr (record { last = so.0; piece = c.serve-ended.new.unread.bytes; runs = runs_of (begun g c) c.in-Ok-write_begun.ensures.written so.1 }))
+      inr (record { last = so.last; piece = c.serve-ended.new.unread.bytes; runs = runs_of (begun g c) c.in-Ok-write_begun.ensures.written so.continues; answered = so.torn }))
       c.serve-ended.ensures.stopped;
   torn = λ is. inr (torn_later_of (begun g c) c.in-Ok-write_begun.ensures.written (c.serve-ended.ensures.torn is));
   refused = on_err c.serve-ended.result (serving_rejects (begun g c)) c.serve-ended.ensures.others;

@@ -37,7 +37,7 @@ pub returns-in-Err : goal.returns-in-Err
 returns-in-Err g c = record {
   ended = tt;
   stopped = λ not_write. let next = c.in-Err.ensures.stopped not_write in
-      (c.loop.process, goes_by c.loop.invariant.serves next.1 next.0);
+      record { last = c.loop.process; continues = goes_by c.loop.invariant.serves next.passes next.written; torn = next.torn };
   torn = λ is. record {
     last = c.loop.process;
     rest = c.loop.unread.bytes;
@@ -56,7 +56,7 @@ returns-in-Err g c = record {
 pub returns : goal.returns
 returns g c = record {
   ended = tt;
-  stopped = search rules;
+  stopped = λ not_write. record { last = c.loop.process; continues = c.loop.invariant.serves; torn = λ is. absurd (cc) };
   torn = λ is. absurd (never_write refl (λ h. cc) is);
   reads = search rules;
   writes = search rules;

@@ -2,7 +2,7 @@ use Rattle.std.proofs.Common.{rules, refl, ap}
 use Rattle.std.proofs.lemmas.Result.{err_from_is_err_and}
 use Rattle.process_player.proofs.Commands.{serves_it, stops_in_it}
 use Rattle.process_player.proofs.CommandTexts.{some_found}
-use Rattle.process_player.proofs.Failing.{handed, never_write, no_answer, ok_no_write, reading_no_write, same_fault}
+use Rattle.process_player.proofs.Failing.{handed, memory_no_read, never_write, no_answer, ok_no_write, reading_no_write, same_fault}
 use Rattle.process_player.proofs.Stopping.{answer_calls, reading_calls, serving_answer, serving_of}
 use Rattle.process_player.proofs.serving.serve_one.Goals as goal
 
@@ -10,7 +10,11 @@ pub returns-in_err-answer : goal.returns-in_err-answer
 returns-in_err-answer g c = record {
   served = λ is. no_answer (handed (err_from_is_err_and c.from_residual-in_err-answer.result c.from_residual-in_err-answer.ensures.1)) _ is;
   ended = λ is. no_answer (handed (err_from_is_err_and c.from_residual-in_err-answer.result c.from_residual-in_err-answer.ensures.1)) _ is;
-  stopped = same_fault (handed (err_from_is_err_and c.from_residual-in_err-answer.result c.from_residual-in_err-answer.ensures.1)) _ (λ other. (ap g.W.Sink.contents (c.in_err-answer.ensures.others other).1, c.in_ok-end.ensures.passes));
+  stopped = same_fault (handed (err_from_is_err_and c.from_residual-in_err-answer.result c.from_residual-in_err-answer.ensures.1)) _ (λ other. record {
+    written = ap g.W.Sink.contents (c.in_err-answer.ensures.others other).1;
+    passes = c.in_ok-end.ensures.passes;
+    torn = memory_no_read (c.in_err-answer.ensures.others other).0;
+  });
   torn = λ is. let here = some_found _ _ c.in_ok-end.field-0 (c.in-Some.end, c.in-Some.all) c.in_ok-end.ensures.found c.in-Some.is in
       stops_in_it _ _ c.in-Some.end c.in-Some.all c.ahead-ahead.result.now here c.in_ok-end.ensures.passes c.ahead-ahead.ensures
       (c.in_err-answer.ensures.torn (search rules));
@@ -36,7 +40,7 @@ pub returns-in_err-end : goal.returns-in_err-end
 returns-in_err-end g c = record {
   served = λ is. no_answer (handed (err_from_is_err_and c.from_residual.result c.from_residual.ensures.1)) _ is;
   ended = λ is. no_answer (handed (err_from_is_err_and c.from_residual.result c.from_residual.ensures.1)) _ is;
-  stopped = same_fault (handed (err_from_is_err_and c.from_residual.result c.from_residual.ensures.1)) _ (λ other. (refl, c.in_err-end.ensures.passes));
+  stopped = same_fault (handed (err_from_is_err_and c.from_residual.result c.from_residual.ensures.1)) _ (λ other. record { written = refl; passes = c.in_err-end.ensures.passes; torn = c.in_err-end.ensures.failed });
   torn = λ is. absurd (never_write (handed (err_from_is_err_and c.from_residual.result c.from_residual.ensures.1)) (reading_no_write _ c.in_err-end.ensures.others) is);
   calls = reading_calls _ c.in_err-end.field-0.0 _ (handed (err_from_is_err_and c.from_residual.result c.from_residual.ensures.1)) c.in_err-end.ensures.others c.in_err-end.ensures.reads;
   others = same_fault (handed (err_from_is_err_and c.from_residual.result c.from_residual.ensures.1)) _ (serving_of _ c.in_err-end.field-0.0 c.in_err-end.ensures.others);

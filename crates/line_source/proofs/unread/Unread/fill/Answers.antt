@@ -8,8 +8,8 @@ use Rattle.line_source.specs.declared.faults.SourceFault.TheVariants as fault
 use Rattle.line_source.specs.Calls.{ReadsWithin}
 use Rattle.line_source.specs.Faults.{tells_of_source}
 use Rattle.line_source.specs.Inner.Blocks.{StandsBehind}
-use Rattle.line_source.specs.Reading.{Ahead, Takes}
-use Rattle.line_source.proofs.Calling.{came_none, no_fault, takes_none, told_long, within_err, within_ok}
+use Rattle.line_source.specs.Reading.{Ahead, IsStopped, Takes}
+use Rattle.line_source.proofs.Calling.{came_none, no_fault, on_fault, takes_none, within_err, within_ok}
 use Rattle.line_source.proofs.unread.Unread.fill.Given as given
 use Rattle.line_source.proofs.unread.Unread.fill.Goals.{After-from_residual, After-read_behind, After-self, In_default}
 use Rattle.line_source.proofs.unread.Unread.fill.Goals as goal
@@ -89,12 +89,6 @@ le_trans ab bc = omega (arith, ab, bc)
 
 same_answer : {a b : Bool} → ◌≡◌ {A = Result Bool SourceFault} (Ok a) (Ok b) → a ≡ b
 same_answer is = cc
-
-memory_short : {P : Type 0} → ◌≡◌ {A = Result Bool SourceFault} (Err fault.OutOfMemory) (Err fault.TooLong) → P
-memory_short is = absurd cc
-
-not_long : {P : Type 0} {told : SourceFault} → told ≡ fault.Read → told ≡ fault.TooLong → P
-not_long is long = absurd (let both : fault.Read ≡ fault.TooLong = sym is ∙ long in cc)
 
 no_memory : {read failed : ℕ} → read ≤ 4_294_967_296 → ReadsWithin {A = Bool} (Err fault.OutOfMemory) read failed failed
 no_memory short = record { within = tt; most = omega (arith, short); reading = tt; count = refl }
@@ -213,8 +207,8 @@ returns-in_default-clause-end g c = λ is. no_fault (sym is)
 pub returns-in_default-clause-block : goal.returns-in_default-clause-block
 returns-in_default-clause-block g c = same_block (length c.resize.new.self.items) (length c.args.self.now.bytes) (ap length (left_is g c))
 
-pub returns-in_default-clause-limit : goal.returns-in_default-clause-limit
-returns-in_default-clause-limit g c = λ is. memory_short is
+pub returns-in_default-clause-stopped : goal.returns-in_default-clause-stopped
+returns-in_default-clause-stopped g c = unchanged c.args.self.now (left_is g c) (ap (λ u. u.read) c.self.view_is)
 
 pub returns-in_default-clause-reads : goal.returns-in_default-clause-reads
 returns-in_default-clause-reads g c = no_memory (short g (goal.at.returns-in_default-clause-reads g c).After-self)
@@ -247,8 +241,12 @@ returns-in_err-came-clause-block g c =
     let at = goal.at.returns-in_err-came-clause-block g c in
     within_block g at.After-read_behind 0 c.in_err-came.ensures.stands
 
-pub returns-in_err-came-clause-limit : goal.returns-in_err-came-clause-limit
-returns-in_err-came-clause-limit g c = λ is. not_long c.in_err-came.ensures.fault (told_long (told g c) is)
+pub returns-in_err-came-clause-stopped : goal.returns-in_err-came-clause-stopped
+returns-in_err-came-clause-stopped g c =
+    let at = goal.at.returns-in_err-came-clause-stopped g c in
+    let same = ap (λ u. u.read) c.self.view_is in
+    let none = takes g at.After-read_behind 0 c.self.inside.read c.in_err-came.ensures.stands (omega arith) in
+    on_fault (IsStopped c.args.self.now _) (told g c ∙ ap Err c.in_err-came.ensures.fault) (unchanged c.args.self.now (came_none none same) same)
 
 pub returns-in_err-came-clause-reads : goal.returns-in_err-came-clause-reads
 returns-in_err-came-clause-reads g c =
@@ -284,9 +282,9 @@ returns-then-self-gt-MOST_BYTES-clause-more g c = λ is. no_fault (sym is)
 pub returns-then-self-gt-MOST_BYTES-clause-end : goal.returns-then-self-gt-MOST_BYTES-clause-end
 returns-then-self-gt-MOST_BYTES-clause-end g c = λ is. no_fault (sym is)
 
-pub returns-then-self-gt-MOST_BYTES-clause-limit : goal.returns-then-self-gt-MOST_BYTES-clause-limit
-returns-then-self-gt-MOST_BYTES-clause-limit g c = λ _.
-    let at = goal.at.returns-then-self-gt-MOST_BYTES-clause-limit g c in
+pub returns-then-self-gt-MOST_BYTES-clause-stopped : goal.returns-then-self-gt-MOST_BYTES-clause-stopped
+returns-then-self-gt-MOST_BYTES-clause-stopped g c =
+    let at = goal.at.returns-then-self-gt-MOST_BYTES-clause-stopped g c in
     let few = came_asked g at.After-read_behind c.in_ok-came.came c.in_ok-came.ensures.stands in
     sym (ap (λ u. u.read) c.self.view_is) ∙ at_limit c.self.inside.read c.max.result c.min-most.result c.in_ok-came.came (short g at.After-self) c.max.ensures c.min-most.ensures few c.if-self-gt-MOST_BYTES.true
 
@@ -332,8 +330,8 @@ returns-clause-end g c = λ is.
     let more = takes g at.After-read_behind c.in_ok-came.came (c.self.inside.read + c.in_ok-came.came) c.in_ok-came.ensures.stands refl in
     (unchanged c.args.self.now (came_none more (same ∙ ap (λ u. u.read) c.self.view_is)) (same ∙ ap (λ u. u.read) c.self.view_is), c.in_ok-came.ensures.end (ap Ok none))
 
-pub returns-clause-limit : goal.returns-clause-limit
-returns-clause-limit g c = λ is. no_fault is
+pub returns-clause-stopped : goal.returns-clause-stopped
+returns-clause-stopped g c = tt
 
 pub returns-clause-reads : goal.returns-clause-reads
 returns-clause-reads g c = within_ok _ c.if-self-gt-MOST_BYTES.false c.in_ok-came.ensures.count
