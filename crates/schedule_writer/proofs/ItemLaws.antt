@@ -19,6 +19,7 @@ use Rattle.input_sections.specs.Sections.{IsCounted, Unread, begins_with, issuer
 use Rattle.input_sections.proofs.CountedLines.{GoesOn, IsLeftOf, issuer_counted, left_behind, sheet_counted, whole_counted}
 use Rattle.sheet_text.specs.Samples.{sample_issuer}
 use Rattle.schedule_writer.specs.Inputs.{Item, Offers, Closes, Offered, batches_of, close_line, closes_from, head_text, item_at, item_length, item_text, items_in, items_of, items_text, lacks_head, offered_length, through_feed}
+use Rattle.schedule_writer.specs.Inner.Walks.{IsPlace, IsThere}
 
 some_length : (b : Bool) (m n : ℕ) → cond b (Some m) None ≡ Some n → m ≡ n
 some_length true m n is = ap (λ o. unwrap_or o m) is
@@ -196,6 +197,36 @@ begins_there input from b is = by_word (begins_with close_line (drop from input)
       where
         from_is : (a b : Offered) → Offers a ≡ Offers b → a.from ≡ b.from
         from_is a b same = cc
+
+-- a batch is what stands where its item does, and begins there
+take_same : (n : ℕ) (t : List ℕ) → take (length (take n t)) t ≡ take n t
+take_same zero t = refl
+take_same (suc n) [] = refl
+take_same (suc n) (c ∷ cs) = ap (λ ds. c ∷ ds) (take_same n cs)
+
+stands : (input : List ℕ) (from n : ℕ) → from ≤ length input → IsThere input (record { from = from; text = take n (drop from input) })
+stands input from n within =
+    let short = length-take n (drop from input) in
+    let drops = length-drop from input in
+    let long : (from + length (take n (drop from input))) - from ≡ length (take n (drop from input)) = omega arith in
+    record {
+      begins = within;
+      room = omega (arith, short, drops, within);
+      is_text = ap (λ k. take k (drop from input)) long ∙ take_same n (drop from input);
+    }
+
+pub offered_there : (input : List ℕ) (from : ℕ) (b : Offered) → Offers b ≡ item_at input from → from ≤ length input → IsThere input b
+offered_there input from b is within = by_word (begins_with close_line (drop from input)) is
+  where
+    same_offer : (a c : Offered) → Offers a ≡ Offers c → a ≡ c
+    same_offer a c same = cc
+
+    by_word : (t : Bool) → Offers b ≡ cond t Closes (Offers (record { from = from; text = take (offered_length (drop from input)) (drop from input) })) → IsThere input b
+    by_word true so = absurd (cc)
+    by_word false so = subst (IsThere input) (sym (same_offer b _ so)) (stands input from (offered_length (drop from input)) within)
+
+pub place_there : (input : List ℕ) (from : ℕ) (b : Offered) (known : Option ℕ) → Offers b ≡ item_at input from → IsPlace input from known → IsPlace input b.from known
+place_there input from b known is place = subst (λ n. IsPlace input n known) (sym (begins_there input from b (sym is))) place
 
 pub items_placed : (most : ℕ) (input : List ℕ) (from : ℕ) (before behind : List Item) (b : Offered) → items_in most input from ≡ before ++ Offers b ∷ behind
     → b.from ≡ from + length (items_text before)

@@ -16,7 +16,10 @@ use Rattle.metering_model.proofs.FieldLaws.{same_read}
 use Rattle.input_sections.specs.declared.faults.ScheduleFault.{ScheduleFault}
 use Rattle.input_sections.specs.Sections.{Unread, left}
 use Rattle.group_events.specs.Replies.{is_refused}
+use Rattle.schedule_reader.specs.declared.events.Planned.{Planned as LentEvent}
+use Rattle.schedule_reader.specs.Events.{EndsAt, HasWholeLines, lines_of, planned_of}
 use Rattle.schedule_reader.specs.Schedules.{Preamble, event_in, events_in, preamble_in}
+use Rattle.schedule_reader.proofs.PackedLaws.{event_ends}
 use Rattle.schedule_reader.proofs.PreambleLaws.{taken_behind}
 use Rattle.schedule_writer.specs.Schedules.{learned_in}
 use Rattle.schedule_writer.specs.declared.faults.Stop.{Stop}
@@ -123,6 +126,12 @@ module _ (plan : Plan) where
   pub done_none : (seen : Seen) (w : World) (most : ℕ) (u : Unread) → most ≡ 0 → IsDone plan seen seen w (events_in most u)
   unfolding events_in behind_all
   done_none seen w most u none = record { events = []; is_read = ap (λ n. events_in n u) none; done = refl }
+
+-- where the lines of an event that was read stand
+pub lines_there : (text : List ℕ) (here rest : Unread) (e : LentEvent) (end : ℕ) → here.text ≡ text → here.from ≤ length text → end ≡ rest.from → end ≤ length rest.text
+    → rest.text ≡ here.text → HasWholeLines e → event_in here ≡ Ok (planned_of e, rest) → EndsAt text end (lines_of e)
+lines_there text here rest e end same inside place within next whole is =
+    (event_ends text here rest e end place same inside next (subst (λ n. n ≤ length rest.text) place within) whole is).1
 
 -- ---- the whole
 

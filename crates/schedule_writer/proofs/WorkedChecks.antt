@@ -1,5 +1,5 @@
 -- What `check` writes of inputs that are to have a schedule: what is wrong, and then what is odd.
-use Rattle.std.proofs.Common.{◌≡◌, ℕ, ◌+◌, ◌*◌, List, [], ◌∷◌, ◌++◌, length, map, take, drop, None, Result, Ok, Err, pos, refl, sym, ap, ap₂, ◌∙◌, codes}
+use Rattle.std.proofs.Common.{◌≡◌, ℕ, ◌+◌, ◌*◌, List, [], ◌∷◌, ◌++◌, length, map, take, drop, None, Result, Ok, Err, pos, refl, ap, ap₂, ◌∙◌, codes}
 use Rattle.std.specs.Prelude.{⊤}
 use Rattle.std.specs.Str.{is_utf8, chars}
 use Rattle.std.specs.Fmt.{digits}
@@ -29,14 +29,15 @@ use Rattle.sheet_text.proofs.WorkedSteps.{one_line, quoted, simple_key, key_afte
 use Rattle.sheet_text.proofs.WorkedSteps.{word_len, unquoted, along_header, along_dots, at_key, define, key_equals, val, atom, header_key}
 use Rattle.sheet_text.proofs.WorkedSteps.{expression, line, lines, skip_bom, parse_document}
 use Rattle.input_sections.specs.Sections.{section_in, read_as, sheet_section, issuer_section}
-use Rattle.input_sections.specs.RateInput.{rate_input_in}
+use Rattle.input_sections.specs.RateInput.{RateInput, rate_input_in}
 use Rattle.fault_lines.specs.Ahead.{ahead_in, ahead_of, ahead_of_all}
 use Rattle.fault_lines.specs.Fields.{fault_field}
 use Rattle.fault_lines.specs.Told.{from_line, said_of_text, section_on}
 use Rattle.fault_lines.specs.UnknownKeys.{keys_left, told_along, told_of_section, unknown_from, unknown_from_issuer, unknown_in_issuer, unknown_in_sheet, unknown_on, with_rows, with_table}
 use Rattle.schedule_writer.specs.Checks.{if_journaled, journaled_of, said_of_input, told_of_answer, told_of_batches, warned_of_input}
-use Rattle.schedule_writer.specs.Inputs.{Offered, items_in, items_of, offered_length}
-use Rattle.schedule_writer.specs.Refusals.{answer_to, journal_of}
+use Rattle.schedule_writer.specs.Inputs.{Offered, batches_of, items_in, items_of, offered_length}
+use Rattle.schedule_writer.specs.Refusals.{answer_to}
+use Rattle.schedule_writer.proofs.CheckLaws.{said_of_read, warned_of_read}
 
 abbrev written : List (List ℕ) → List ℕ
 written ls = said_of_input (lines_text ls) ++ warned_of_input (lines_text ls)
@@ -96,6 +97,17 @@ module _ (input : List ℕ) where
       ∙ ap₂ (λ (xs ys : List (ℕ × Batch)). xs ++ ys)
       (one_counted p.0 (behind w p.1).0 ∙ ap (λ (x : Batch). if_counted (p.0, x) (behind w p.1).0) (batch_of_is p.0.text p.1 are.0))
       (counted_is (behind w p.1).1 ps are.1)
+
+-- what is written of sections that are read once, too, and of batches that are
+module _ (input : List ℕ) (given : RateInput) (unknown : List ℕ) (ps : List (Offered × Batch)) where
+  abbrev before : World
+  before = world_before given.sheet given.issuer
+
+  written_of : rate_input_in input ≡ Ok given → unknown_on 1 input ≡ unknown → batches_of (items_of input given) ≡ offered ps → AreRead ps
+      → said_of_input input ++ warned_of_input input ≡ told_by input before ps ++ (unknown ++ ahead_of_all [] (counted_by input before ps))
+  written_of sections keys batches reads =
+      ap₂ (λ t u. t ++ u) (said_of_read input given sections ∙ (ap (told_of_batches input before) batches ∙ told_is input before ps reads))
+      (warned_of_read input given sections ∙ ap₂ (λ t js. t ++ ahead_of_all [] js) keys (ap (journaled_of input before) batches ∙ counted_is input before ps reads))
 
 -- ---- the batches that are read: a reading of two hours from a day's beginning on
 
@@ -163,13 +175,17 @@ reads_second_agent = refl
 abbrev below : List (List ℕ) → List (List ℕ)
 below behind = codes "sheet 13" ∷ sheet_0_lines ++ (codes "B1|1|1|1" ∷ reading_1 ∷ behind)
 
+-- what is given with these lines behind the first batch
+abbrev given : List (List ℕ) → RateInput
+given behind = record { sheet = sheet_0; issuer = sample_issuer; batch = lines_text (codes "B1|1|1|1" ∷ reading_1 ∷ behind) }
+
 -- the batch of these lines, behind those lines of an input
 abbrev at : List (List ℕ) → List (List ℕ) → Batch → Offered × Batch
 at above ls x = (record { from = length (lines_text above); text = lines_text ls }, x)
 
 -- the line `close` is one of those above: it is line 17, the head line 18
 behind_a_close : written (below (codes "close" ∷ codes "B1|1|2|1" ∷ more ∷ [])) ≡ lines_text (codes "line 19: ahead 2026-01-12" ∷ [])
-unfolding said_of_input warned_of_input items_of items_in offered_length unknown_on unknown_from unknown_from_issuer told_of_section
+unfolding items_of items_in offered_length unknown_on unknown_from unknown_from_issuer told_of_section
     unknown_in_sheet unknown_in_issuer with_table with_rows keys_left told_along ahead_of_all ahead_of ahead_in said_of_text fault_field section_on
     from_line rate_input_in section_in read_as sheet_section issuer_section is_utf8 chars lib.Utf8.encode price_row_in commitment_in
     region_in next_price next_commitment next_region sheet_of_rows sheet_in sheet_of_text currency_under issuer_in issuer_of_text key_name value_under
@@ -180,11 +196,10 @@ unfolding said_of_input warned_of_input items_of items_in offered_length unknown
 behind_a_close =
     let ps = at (codes "sheet 13" ∷ sheet_0_lines) (codes "B1|1|1|1" ∷ reading_1 ∷ []) (first_read) ∷ at (below (codes "close" ∷ [])) (codes "B1|1|2|1" ∷ more ∷ []) (more_read 1 2) ∷ [] in
     let reads : AreRead ps = (reads_first, (reads_more, tt)) in
-    ap₂ (λ t u. t ++ u) (told_is (lines_text (below (codes "close" ∷ codes "B1|1|2|1" ∷ more ∷ []))) (world_before sheet_0 sample_issuer) ps reads)
-    (ap (λ js. [] ++ ahead_of_all [] js) (counted_is (lines_text (below (codes "close" ∷ codes "B1|1|2|1" ∷ more ∷ []))) (world_before sheet_0 sample_issuer) ps reads)) ∙ refl
+    written_of (lines_text (below (codes "close" ∷ codes "B1|1|2|1" ∷ more ∷ []))) (given (codes "close" ∷ codes "B1|1|2|1" ∷ more ∷ [])) [] ps refl refl refl reads ∙ refl
 
 a_year_behind_a_close : written (below (codes "close" ∷ codes "B1|1|2|1" ∷ a_year ∷ [])) ≡ []
-unfolding said_of_input warned_of_input items_of items_in offered_length unknown_on unknown_from unknown_from_issuer told_of_section
+unfolding items_of items_in offered_length unknown_on unknown_from unknown_from_issuer told_of_section
     unknown_in_sheet unknown_in_issuer with_table with_rows keys_left told_along ahead_of_all ahead_of ahead_in said_of_text fault_field section_on
     from_line rate_input_in section_in read_as sheet_section issuer_section is_utf8 chars lib.Utf8.encode price_row_in commitment_in
     region_in next_price next_commitment next_region sheet_of_rows sheet_in sheet_of_text currency_under issuer_in issuer_of_text key_name value_under
@@ -195,12 +210,11 @@ unfolding said_of_input warned_of_input items_of items_in offered_length unknown
 a_year_behind_a_close =
     let ps = at (codes "sheet 13" ∷ sheet_0_lines) (codes "B1|1|1|1" ∷ reading_1 ∷ []) (first_read) ∷ at (below (codes "close" ∷ [])) (codes "B1|1|2|1" ∷ a_year ∷ []) (year_read 2) ∷ [] in
     let reads : AreRead ps = (reads_first, (reads_year, tt)) in
-    ap₂ (λ t u. t ++ u) (told_is (lines_text (below (codes "close" ∷ codes "B1|1|2|1" ∷ a_year ∷ []))) (world_before sheet_0 sample_issuer) ps reads)
-    (ap (λ js. [] ++ ahead_of_all [] js) (counted_is (lines_text (below (codes "close" ∷ codes "B1|1|2|1" ∷ a_year ∷ []))) (world_before sheet_0 sample_issuer) ps reads)) ∙ refl
+    written_of (lines_text (below (codes "close" ∷ codes "B1|1|2|1" ∷ a_year ∷ []))) (given (codes "close" ∷ codes "B1|1|2|1" ∷ a_year ∷ [])) [] ps refl refl refl reads ∙ refl
 
 -- of a batch that is refused nothing is warned of
 a_refused_reading : written (below (codes "B1|1|9|1" ∷ more ∷ [])) ≡ lines_text (codes "line 17: G2 wanted 2" ∷ [])
-unfolding said_of_input warned_of_input items_of items_in offered_length unknown_on unknown_from unknown_from_issuer told_of_section
+unfolding items_of items_in offered_length unknown_on unknown_from unknown_from_issuer told_of_section
     unknown_in_sheet unknown_in_issuer with_table with_rows keys_left told_along ahead_of_all ahead_of ahead_in said_of_text fault_field section_on
     from_line rate_input_in section_in read_as sheet_section issuer_section is_utf8 chars lib.Utf8.encode price_row_in commitment_in
     region_in next_price next_commitment next_region sheet_of_rows sheet_in sheet_of_text currency_under issuer_in issuer_of_text key_name value_under
@@ -211,12 +225,11 @@ unfolding said_of_input warned_of_input items_of items_in offered_length unknown
 a_refused_reading =
     let ps = at (codes "sheet 13" ∷ sheet_0_lines) (codes "B1|1|1|1" ∷ reading_1 ∷ []) (first_read) ∷ at (below []) (codes "B1|1|9|1" ∷ more ∷ []) (more_read 1 9) ∷ [] in
     let reads : AreRead ps = (reads_first, (reads_ninth, tt)) in
-    ap₂ (λ t u. t ++ u) (told_is (lines_text (below (codes "B1|1|9|1" ∷ more ∷ []))) (world_before sheet_0 sample_issuer) ps reads)
-    (ap (λ js. [] ++ ahead_of_all [] js) (counted_is (lines_text (below (codes "B1|1|9|1" ∷ more ∷ []))) (world_before sheet_0 sample_issuer) ps reads)) ∙ refl
+    written_of (lines_text (below (codes "B1|1|9|1" ∷ more ∷ []))) (given (codes "B1|1|9|1" ∷ more ∷ [])) [] ps refl refl refl reads ∙ refl
 
 -- were its reading one of those above, the last would not be far ahead
 a_refused_batch_does_not_count : written (below (codes "B1|1|9|1" ∷ a_year ∷ codes "B1|1|2|1" ∷ more ∷ [])) ≡ lines_text (codes "line 17: G2 wanted 2" ∷ codes "line 20: ahead 2026-01-12" ∷ [])
-unfolding said_of_input warned_of_input items_of items_in offered_length unknown_on unknown_from unknown_from_issuer told_of_section
+unfolding items_of items_in offered_length unknown_on unknown_from unknown_from_issuer told_of_section
     unknown_in_sheet unknown_in_issuer with_table with_rows keys_left told_along ahead_of_all ahead_of ahead_in said_of_text fault_field section_on
     from_line rate_input_in section_in read_as sheet_section issuer_section is_utf8 chars lib.Utf8.encode price_row_in commitment_in
     region_in next_price next_commitment next_region sheet_of_rows sheet_in sheet_of_text currency_under issuer_in issuer_of_text key_name value_under
@@ -227,12 +240,11 @@ unfolding said_of_input warned_of_input items_of items_in offered_length unknown
 a_refused_batch_does_not_count =
     let ps = at (codes "sheet 13" ∷ sheet_0_lines) (codes "B1|1|1|1" ∷ reading_1 ∷ []) (first_read) ∷ at (below []) (codes "B1|1|9|1" ∷ a_year ∷ []) (year_read 9) ∷ at (below (codes "B1|1|9|1" ∷ a_year ∷ [])) (codes "B1|1|2|1" ∷ more ∷ []) (more_read 1 2) ∷ [] in
     let reads : AreRead ps = (reads_first, (reads_ninth_year, (reads_more, tt))) in
-    ap₂ (λ t u. t ++ u) (told_is (lines_text (below (codes "B1|1|9|1" ∷ a_year ∷ codes "B1|1|2|1" ∷ more ∷ []))) (world_before sheet_0 sample_issuer) ps reads)
-    (ap (λ js. [] ++ ahead_of_all [] js) (counted_is (lines_text (below (codes "B1|1|9|1" ∷ a_year ∷ codes "B1|1|2|1" ∷ more ∷ []))) (world_before sheet_0 sample_issuer) ps reads)) ∙ refl
+    written_of (lines_text (below (codes "B1|1|9|1" ∷ a_year ∷ codes "B1|1|2|1" ∷ more ∷ []))) (given (codes "B1|1|9|1" ∷ a_year ∷ codes "B1|1|2|1" ∷ more ∷ [])) [] ps refl refl refl reads ∙ refl
 
 -- of another agent nothing is asked
 of_another_agent : written (below (codes "B1|2|1|1" ∷ more ∷ [])) ≡ []
-unfolding said_of_input warned_of_input items_of items_in offered_length unknown_on unknown_from unknown_from_issuer told_of_section
+unfolding items_of items_in offered_length unknown_on unknown_from unknown_from_issuer told_of_section
     unknown_in_sheet unknown_in_issuer with_table with_rows keys_left told_along ahead_of_all ahead_of ahead_in said_of_text fault_field section_on
     from_line rate_input_in section_in read_as sheet_section issuer_section is_utf8 chars lib.Utf8.encode price_row_in commitment_in
     region_in next_price next_commitment next_region sheet_of_rows sheet_in sheet_of_text currency_under issuer_in issuer_of_text key_name value_under
@@ -243,8 +255,7 @@ unfolding said_of_input warned_of_input items_of items_in offered_length unknown
 of_another_agent =
     let ps = at (codes "sheet 13" ∷ sheet_0_lines) (codes "B1|1|1|1" ∷ reading_1 ∷ []) (first_read) ∷ at (below []) (codes "B1|2|1|1" ∷ more ∷ []) (more_read 2 1) ∷ [] in
     let reads : AreRead ps = (reads_first, (reads_second_agent, tt)) in
-    ap₂ (λ t u. t ++ u) (told_is (lines_text (below (codes "B1|2|1|1" ∷ more ∷ []))) (world_before sheet_0 sample_issuer) ps reads)
-    (ap (λ js. [] ++ ahead_of_all [] js) (counted_is (lines_text (below (codes "B1|2|1|1" ∷ more ∷ []))) (world_before sheet_0 sample_issuer) ps reads)) ∙ refl
+    written_of (lines_text (below (codes "B1|2|1|1" ∷ more ∷ []))) (given (codes "B1|2|1|1" ∷ more ∷ [])) [] ps refl refl refl reads ∙ refl
 
 -- ---- a key that no reader takes, on line 3, so all that stands behind it is a line further down
 
@@ -252,7 +263,7 @@ abbrev with_key : List (List ℕ) → List (List ℕ)
 with_key behind = codes "sheet 14" ∷ take 1 sheet_0_lines ++ (codes "regions = 1" ∷ drop 1 sheet_0_lines ++ (codes "B1|1|1|1" ∷ reading_1 ∷ behind))
 
 keys_come_first : written (with_key (codes "close" ∷ codes "B1|1|2|1" ∷ more ∷ [])) ≡ lines_text (codes "line 3: unknown regions" ∷ codes "line 20: ahead 2026-01-12" ∷ [])
-unfolding said_of_input warned_of_input items_of items_in offered_length unknown_on unknown_from unknown_from_issuer told_of_section
+unfolding items_of items_in offered_length unknown_on unknown_from unknown_from_issuer told_of_section
     unknown_in_sheet unknown_in_issuer with_table with_rows keys_left told_along ahead_of_all ahead_of ahead_in said_of_text fault_field section_on
     from_line rate_input_in section_in read_as sheet_section issuer_section is_utf8 chars lib.Utf8.encode price_row_in commitment_in
     region_in next_price next_commitment next_region sheet_of_rows sheet_in sheet_of_text currency_under issuer_in issuer_of_text key_name value_under
@@ -263,8 +274,7 @@ unfolding said_of_input warned_of_input items_of items_in offered_length unknown
 keys_come_first =
     let ps = at (codes "sheet 14" ∷ take 1 sheet_0_lines ++ (codes "regions = 1" ∷ drop 1 sheet_0_lines)) (codes "B1|1|1|1" ∷ reading_1 ∷ []) (first_read) ∷ at (with_key (codes "close" ∷ [])) (codes "B1|1|2|1" ∷ more ∷ []) (more_read 1 2) ∷ [] in
     let reads : AreRead ps = (reads_first, (reads_more, tt)) in
-    ap₂ (λ t u. t ++ u) (told_is (lines_text (with_key (codes "close" ∷ codes "B1|1|2|1" ∷ more ∷ []))) (world_before sheet_0 sample_issuer) ps reads)
-    (ap (λ js. lines_text (codes "line 3: unknown regions" ∷ []) ++ ahead_of_all [] js) (counted_is (lines_text (with_key (codes "close" ∷ codes "B1|1|2|1" ∷ more ∷ []))) (world_before sheet_0 sample_issuer) ps reads)) ∙ refl
+    written_of (lines_text (with_key (codes "close" ∷ codes "B1|1|2|1" ∷ more ∷ []))) (given (codes "close" ∷ codes "B1|1|2|1" ∷ more ∷ [])) (lines_text (codes "line 3: unknown regions" ∷ [])) ps refl refl refl reads ∙ refl
 
 -- where the sections are refused, here for a key that stands twice, nothing is warned of
 no_warning_of_a_bad_sheet : written (codes "sheet 15" ∷ take 1 sheet_0_lines ++ (codes "regions = 1" ∷ drop 1 sheet_0_lines ++ (codes "per = 1" ∷ codes "B1|1|1|1" ∷ reading_1 ∷ []))) ≡ lines_text (codes "line 1: L4 S1" ∷ [])

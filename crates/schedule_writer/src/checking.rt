@@ -1,6 +1,7 @@
 //! `focusd check --kind schedule`: what is wrong with an input that is to have a schedule, and what is odd.
 
 ghost use Rattle.std.specs.Prelude.{◌≡◌, ◌++◌, ◌≤◌, List, Some, IfOk, OnOk, [], ◌∷◌, length, map, take};
+ghost use Rattle.std.specs.Arc.{arc_value};
 ghost use Rattle.metering_model.specs.Batch.{Batch};
 ghost use Rattle.metering_model.specs.RatedAlone as model;
 ghost use Rattle.metering_model.specs.Step.{play, step};
@@ -13,7 +14,7 @@ ghost use Rattle.schedule_writer.specs.Inputs.{batches_of, item_at, items_in};
 ghost use Rattle.schedule_writer.specs.Inner.Counted.{with_journaled};
 ghost use Rattle.schedule_writer.specs.Inner.Plans.{offered_of};
 ghost use Rattle.schedule_writer.specs.Inner.SaidLines.{lines_said, said_of_long};
-ghost use Rattle.schedule_writer.specs.Inner.Walks.{IsGiven, IsItemLength, IsPlace};
+ghost use Rattle.schedule_writer.specs.Inner.Walks.{IsGiven, IsItemLength, IsPlace, IsThere};
 
 use crate::inputs::{Item, Offered, item_at};
 use crate::judging::read_offer;
@@ -33,6 +34,7 @@ use std::sync::Arc;
 fn check_offered(
     alloc: Global,
     world: &mut World,
+    text: &Arc<Vec<u8>>,
     input: &[u8],
     above: usize,
     offered: &Offered<'_>,
@@ -40,7 +42,9 @@ fn check_offered(
     latest: &mut LatestDays,
     warned: &mut Vec<u8>,
 ) -> Result<(), AllocError>
-    requires { IsPlace input.now offered.now.from (Some above) }
+    requires text { input.now ≡ (arc_value text.now).items }
+    requires there { IsThere input.now (offered_of offered.now) }
+    requires place { IsPlace input.now offered.now.from (Some above) }
     ensures told { OnOk result (told.new.items ≡ told.old.items
         ++ told_of_answer input.now world.old (offered_of offered.now)
         (answer_to world.old offered.now.text.now)) }
@@ -55,7 +59,7 @@ fn check_offered(
     ensures world { OnOk result
         (world.new ≡ (step world.old (journal_of (offered_of offered.now))).1) }
 {
-    let Ok(offer) = read_offer(alloc, offered.text) else {
+    let Ok(offer) = read_offer(alloc, text, offered) else {
         return Err(AllocError);
     };
     let event = Event::Journal(offer);
@@ -71,6 +75,7 @@ fn check_offered(
 fn check_item(
     alloc: Global,
     world: &mut World,
+    text: &Arc<Vec<u8>>,
     input: &[u8],
     from: usize,
     above: usize,
@@ -78,7 +83,8 @@ fn check_item(
     latest: &mut LatestDays,
     warned: &mut Vec<u8>,
 ) -> Result<usize, AllocError>
-    requires { IsPlace input.now from (Some above) }
+    requires text { input.now ≡ (arc_value text.now).items }
+    requires place { IsPlace input.now from (Some above) }
     ensures length { IfOk result (IsItemLength input.now from) }
     ensures told { OnOk result (told.new.items ≡ told.old.items
         ++ told_of_batches input.now world.old (batches_of (item_at input.now from ∷ []))) }
@@ -95,7 +101,9 @@ fn check_item(
     match item {
         Item::Closes => Ok(length),
         Item::Offers(offered) => {
-            match check_offered(alloc, world, input, above, &offered, told, latest, warned) {
+            match check_offered(
+                alloc, world, text, input, above, &offered, told, latest, warned,
+            ) {
                 Ok(()) => Ok(length),
                 Err(error) => Err(error),
             }
@@ -116,12 +124,14 @@ fn lines_more(input: &[u8], from: usize, to: usize, above: usize) -> usize
 fn check_items(
     alloc: Global,
     world: &mut World,
+    text: &Arc<Vec<u8>>,
     input: &[u8],
     from: usize,
     told: &mut Vec<u8>,
     warned: &mut Vec<u8>,
 ) -> Result<(), AllocError>
-    requires { from ≤ length input.now }
+    requires text { input.now ≡ (arc_value text.now).items }
+    requires from { from ≤ length input.now }
     ensures told { OnOk result (told.new.items ≡ told.old.items
         ++ told_of_batches input.now world.old
         (batches_of (items_in (length input.now) input.now from))) }
@@ -136,9 +146,19 @@ fn check_items(
         if here == input.len() {
             return Ok(());
         }
-        let next = here + check_item(alloc, world, input, here, above, told, &mut latest, warned)?;
-        above = lines_more(input, here, next, above);
-        here = next;
+        let length = check_item(
+            alloc,
+            world,
+            text,
+            input,
+            here,
+            above,
+            told,
+            &mut latest,
+            warned,
+        )?;
+        above = lines_more(input, here, here + length, above);
+        here += length;
     }
     Ok(())
 }
@@ -146,12 +166,14 @@ fn check_items(
 /// Appends what is told of the batches of an input whose sections were read, and which of their readings are far ahead.
 fn check_batches(
     alloc: Global,
+    text: &Arc<Vec<u8>>,
     input: &[u8],
     given: RateInput,
     told: &mut Vec<u8>,
     warned: &mut Vec<u8>,
 ) -> Result<(), AllocError>
-    requires { IsGiven input.now given.sheet given.issuer given.batch_from }
+    requires text { input.now ≡ (arc_value text.now).items }
+    requires given { IsGiven input.now given.sheet given.issuer given.batch_from }
     ensures told { OnOk result (told.new.items ≡ told.old.items ++ said_of_input input.now) }
     ensures ahead { OnOk result (warned.new.items ≡ warned.old.items ++ ahead_of_all []
         (journaled_of input.now (model.world_before given.sheet given.issuer)
@@ -166,7 +188,7 @@ fn check_batches(
     let Ok(mut world) = opening_world(alloc, 1, 0, 64, sheet, issuer) else {
         return Err(AllocError);
     };
-    let checked = check_items(alloc, &mut world, input, batch_from, told, warned);
+    let checked = check_items(alloc, &mut world, text, input, batch_from, told, warned);
     // Dropped by a call for the prover's time alone (docs/DECISIONS.md).
     drop(world);
     checked
@@ -175,10 +197,12 @@ fn check_batches(
 /// Appends what is wrong with an input, and to another text what is odd: first the keys that no reader takes.
 fn put_said(
     alloc: Global,
+    text: &Arc<Vec<u8>>,
     input: &[u8],
     told: &mut Vec<u8>,
     warned: &mut Vec<u8>,
 ) -> Result<(), AllocError>
+    requires { input.now ≡ (arc_value text.now).items }
     ensures said { OnOk result (told.new.items ≡ told.old.items ++ said_of_input input.now) }
     ensures warned { OnOk result
         (warned.new.items ≡ warned.old.items ++ warned_of_input input.now) }
@@ -190,7 +214,7 @@ fn put_said(
                 drop(given);
                 return Err(AllocError);
             };
-            check_batches(alloc, input, given, told, warned)
+            check_batches(alloc, text, input, given, told, warned)
         }
         Err(fault) => put_fault(alloc, told, input, fault),
     }
@@ -216,7 +240,7 @@ impl Check for ToSchedule {
         told: &mut Vec<u8>,
         warnings: &mut Vec<u8>,
     ) -> Result<(), AllocError> {
-        put_said(alloc, input, told, warnings)
+        put_said(alloc, input, input, told, warnings)
     }
 }
 

@@ -6,7 +6,7 @@ ghost use Rattle.metering_model.specs.Limits.{last_period};
 use crate::drafts::Draft;
 use crate::faults::Stop;
 use crate::plans::Plan;
-use byte_text::{Line, line_count};
+use byte_text::line_count;
 use input_sections::{ScheduleCode, Unread, read_section};
 use std::alloc::Global;
 
@@ -34,165 +34,107 @@ fn sheet_end(input: &[u8]) -> Option<usize> {
     }
 }
 
-/// Appends a section of the input, or else what is taken in its place.
-fn put_section(draft: &mut Draft, section: &[u8], else_taken: &[u8]) -> Result<(), Stop> {
+/// Appends the bytes of the input from one on to another, which are a section, or where there are none what is taken in its place.
+fn put_section(draft: &mut Draft, input: &[u8], from: usize, to: usize, else_taken: &[u8]) {
+    let Some(section) = input.get(from..to) else {
+        draft.give_up(Stop::NotClosed);
+        return;
+    };
     match section {
         [] => draft.put(else_taken),
         _ => draft.put(section),
     }
 }
 
-/// Appends the line of the nodes.
-fn put_nodes(draft: &mut Draft, plan: &Plan<'_>) -> Result<(), Stop> {
-    let mut line = Line::new();
-    line.put(b"nodes ");
-    line.put_number(u32::from(plan.voters));
-    if plan.observers > 0 {
-        line.put(b" observers ");
-        line.put_number(u32::from(plan.observers));
-    }
-    line.put(b"\n");
-    draft.put(line.as_slice())
-}
-
-/// Appends the head, and the lines of the nodes and the agents.
-fn put_head(draft: &mut Draft, plan: &Plan<'_>, agents: u8) -> Result<(), Stop> {
-    draft.put(b"SCHEDULE 1\n")?;
-    put_nodes(draft, plan)?;
-    draft.put_line(b"agents ", u128::from(agents), None)
-}
-
-/// Appends both sections of the input, of which the sheet's ends at a byte and the issuer's at another.
-fn put_sections(
-    draft: &mut Draft,
-    input: &[u8],
-    end: usize,
-    batch_from: usize,
-) -> Result<(), Stop> {
-    let Some(sheet) = input.get(..end) else {
-        return Err(Stop::NotClosed);
+/// Appends what stands above the events: the head, the lines of the nodes and the agents, and both sections of the input.
+fn put_above(draft: &mut Draft, plan: &Plan<'_>, agents: u8, input: &[u8], batch_from: usize) {
+    draft.put(b"SCHEDULE 1\n");
+    let observers = if plan.observers > 0 {
+        Some(u32::from(plan.observers))
+    } else {
+        None
     };
-    let Some(issuer) = input.get(end..batch_from) else {
-        return Err(Stop::NotClosed);
-    };
-    put_section(draft, sheet, EMPTY_SHEET)?;
-    put_section(draft, issuer, SAMPLE_ISSUER)
-}
-
-/// Appends what stands above the events.
-fn put_above(
-    draft: &mut Draft,
-    plan: &Plan<'_>,
-    agents: u8,
-    input: &[u8],
-    batch_from: usize,
-) -> Result<(), Stop> {
-    put_head(draft, plan, agents)?;
+    draft.put_line(
+        b"nodes ",
+        u128::from(plan.voters),
+        b" observers ",
+        observers,
+    );
+    draft.put_line(b"agents ", u128::from(agents), b"", None);
     match sheet_end(input) {
-        Some(end) => put_sections(draft, input, end, batch_from),
-        None => Err(Stop::NotClosed),
+        Some(end) => {
+            put_section(draft, input, 0, end, EMPTY_SHEET);
+            put_section(draft, input, end, batch_from, SAMPLE_ISSUER);
+        }
+        None => draft.give_up(Stop::NotClosed),
     }
 }
 
 /// Appends that a batch is journaled, and reaches all nodes.
-fn put_batch(draft: &mut Draft, nodes: u8, text: &[u8]) -> Result<(), Stop> {
-    let packet = draft.packet()?;
-    draft.put_line(b"journal ", line_count(text) as u128, None)?;
-    draft.put(text)?;
-    draft.deliver_to(packet, 0, nodes)
+fn put_batch(draft: &mut Draft, nodes: u8, text: &[u8]) {
+    let packet = draft.packet();
+    draft.put_line(b"journal ", line_count(text) as u128, b"", None);
+    draft.put(text);
+    draft.deliver_to(packet, 0, nodes);
 }
 
 /// Appends that each of the first nodes takes a packet and answers it by one that reaches node 0.
-fn put_round(draft: &mut Draft, packet: u32, many: u8) -> Result<(), Stop> {
-    draft.deliver_to(packet, 0, many)?;
+fn put_round(draft: &mut Draft, packet: u32, many: u8) {
+    draft.deliver_to(packet, 0, many);
     for _ in 0..many {
-        let answer = draft.packet()?;
-        draft.deliver(answer, 0)?;
+        let answer = draft.packet();
+        draft.deliver(answer, 0);
     }
-    Ok(())
-}
-
-/// Appends that node 0 asks a majority, and is answered.
-fn put_asked(draft: &mut Draft, many: u8) -> Result<(), Stop> {
-    let prepare = draft.packet()?;
-    draft.put_line(b"start ", 0, None)?;
-    put_round(draft, prepare, many)
-}
-
-/// Appends that a majority takes what node 0 proposes, and that it tells all others what was decided.
-fn put_decided(draft: &mut Draft, many: u8, nodes: u8) -> Result<(), Stop> {
-    let accept = draft.packet()?;
-    put_round(draft, accept, many)?;
-    // Who has learned a cut sends it to whoever asks for that period.
-    draft.deliver(accept, 0)?;
-    let decided = draft.packet()?;
-    draft.deliver_to(decided, 1, nodes)
 }
 
 /// Appends one ballot: node 0 asks a majority, proposes, and tells all others what was decided.
-fn put_ballot(draft: &mut Draft, voters: u8, nodes: u8) -> Result<(), Stop> {
+fn put_ballot(draft: &mut Draft, voters: u8, nodes: u8) {
     let many = voters / 2 + 1;
-    put_asked(draft, many)?;
-    put_decided(draft, many, nodes)
+    let prepare = draft.packet();
+    draft.put_line(b"start ", 0, b"", None);
+    put_round(draft, prepare, many);
+    let accept = draft.packet();
+    put_round(draft, accept, many);
+    // Who has learned a cut sends it to whoever asks for that period.
+    draft.deliver(accept, 0);
+    let decided = draft.packet();
+    draft.deliver_to(decided, 1, nodes);
 }
 
 /// Appends that a period is closed, and that each node shows its file.
-fn put_closed(draft: &mut Draft, voters: u8, nodes: u8, period: u16) -> Result<(), Stop> {
-    put_ballot(draft, voters, nodes)?;
+fn put_closed(draft: &mut Draft, voters: u8, nodes: u8, period: u16) {
+    put_ballot(draft, voters, nodes);
     for node in 0..nodes {
-        draft.put_line(b"export ", u128::from(node), Some(u32::from(period)))?;
+        draft.put_line(b"export ", u128::from(node), b" ", Some(u32::from(period)));
     }
-    Ok(())
 }
 
 /// Appends that the batches from one on to another are journaled.
-fn put_those(draft: &mut Draft, plan: &Plan<'_>, from: usize, to: usize) -> Result<(), Stop> {
+fn put_those(draft: &mut Draft, plan: &Plan<'_>, from: usize, to: usize) {
     let Some(batches) = plan.batches.get(from..to) else {
-        return Err(Stop::NotClosed);
+        draft.give_up(Stop::NotClosed);
+        return;
     };
     for offered in batches {
-        put_batch(draft, plan.nodes, offered.text)?;
+        if draft.has_stopped() {
+            return;
+        }
+        put_batch(draft, plan.nodes, offered.text);
     }
-    Ok(())
-}
-
-/// Appends that a period is closed behind the batches that stand above it, of which so many were journaled. It answers how many
-/// are.
-fn put_period(
-    draft: &mut Draft,
-    plan: &Plan<'_>,
-    journaled: usize,
-    period: u16,
-) -> Result<usize, Stop> {
-    let due = plan.due_before(period);
-    put_those(draft, plan, journaled, due)?;
-    put_closed(draft, plan.voters, plan.nodes, period)?;
-    Ok(due)
 }
 
 /// Appends all that happens: before each period is closed the batches above it are journaled, and those that are left at the end.
-fn put_events(draft: &mut Draft, plan: &Plan<'_>) -> Result<(), Stop>
+fn put_events(draft: &mut Draft, plan: &Plan<'_>)
     requires { plan.now.last ≤ last_period }
 {
     let mut journaled = 0;
     for period in 0..plan.last + 1 {
-        journaled = put_period(draft, plan, journaled, period)?;
+        let due = plan.due_before(period);
+        put_those(draft, plan, journaled, due);
+        put_closed(draft, plan.voters, plan.nodes, period);
+        journaled = due;
     }
-    put_those(draft, plan, journaled, plan.batches.len())
-}
-
-/// Appends all of a schedule.
-fn put_all(
-    draft: &mut Draft,
-    plan: &Plan<'_>,
-    agents: u8,
-    input: &[u8],
-    batch_from: usize,
-) -> Result<(), Stop>
-    requires { plan.now.last ≤ last_period }
-{
-    put_above(draft, plan, agents, input, batch_from)?;
-    put_events(draft, plan)
+    put_those(draft, plan, journaled, plan.batches.len());
 }
 
 /// The text of a schedule.
@@ -206,8 +148,7 @@ pub(crate) fn schedule_for(
     requires { plan.now.last ≤ last_period }
 {
     let mut draft = Draft::new(alloc);
-    match put_all(&mut draft, plan, agents, input, batch_from) {
-        Ok(()) => Ok(draft.text),
-        Err(stop) => Err(stop),
-    }
+    put_above(&mut draft, plan, agents, input, batch_from);
+    put_events(&mut draft, plan);
+    draft.finish()
 }

@@ -2,7 +2,7 @@
 
 ghost use Rattle.std.specs.Prelude.{◌≡◌, ◌<◌, ◌≤◌, length};
 ghost use Rattle.schedule_writer.specs.Inputs.{head_text, item_at, lacks_head, offered_length};
-ghost use Rattle.schedule_writer.specs.Inner.Plans.{BeginsAt, item_of};
+ghost use Rattle.schedule_writer.specs.Inner.Plans.{item_of};
 ghost use Rattle.schedule_writer.specs.Inner.Walks.{IsItemLength};
 
 use batch_view::{BatchCode, BatchView};
@@ -68,7 +68,6 @@ fn offered_length(text: &[u8]) -> usize
 pub(crate) fn item_at<'a>(input: &'a [u8], from: usize) -> (Item<'a>, usize)
     requires { from ≤ length input.now }
     ensures item { item_of result.0 ≡ item_at input.now from }
-    ensures from { BeginsAt result.0 from }
     ensures length { IsItemLength input.now from result.1 }
 {
     let left = &input[from..];

@@ -17,7 +17,7 @@ ghost use Rattle.schedule_writer.specs.Inputs.{batches_of, item_at, items_in};
 ghost use Rattle.schedule_writer.specs.Refusals.{IsJournaled, answer_to, answers_to, journal_of};
 ghost use Rattle.schedule_writer.specs.Inner.Judged.{IsAskedBy, IsAskedToo, IsAskedWithin, IsJudged, IsLaterStart, IsRefusedAmong, IsRefusedHere, IsRefusedNow, IsRefusedOr};
 ghost use Rattle.schedule_writer.specs.Inner.Plans.{offered_of};
-ghost use Rattle.schedule_writer.specs.Inner.Walks.{IsFoundOf, IsFoundToo, IsItemLength};
+ghost use Rattle.schedule_writer.specs.Inner.Walks.{IsFoundOf, IsFoundToo, IsItemLength, IsThere};
 
 use crate::faults::WriteFault;
 use crate::inputs::{Item, Offered, item_at};
@@ -49,12 +49,16 @@ pub(crate) struct Items<'a> {
     pub(crate) asked: Asked,
 }
 
-/// What is offered of a text, which is copied once.
-pub(crate) fn read_offer(alloc: Global, text: &[u8]) -> Result<Offer, AllocError>
-    ensures { IfOk result (IsOfferOf text.now) }
+/// What is offered as a batch of an input whose text is shared: its bytes stay where they are.
+pub(crate) fn read_offer(
+    alloc: Global,
+    text: &Arc<Vec<u8>>,
+    offered: &Offered<'_>,
+) -> Result<Offer, AllocError>
+    requires { IsThere (arc_value text.now).items (offered_of offered.now) }
+    ensures { IfOk result (IsOfferOf offered.now.text.now) }
 {
-    let bytes = Vec::from_slice(alloc, text)?;
-    Offer::read(alloc, bytes)
+    Offer::read_within(alloc, text, offered.from, offered.from + offered.text.len())
 }
 
 /// Whether each reading of the batch starts before the end of the period.
@@ -164,11 +168,13 @@ fn judge(
     alloc: Global,
     world: &mut World,
     sheet: &Sheet,
+    text: &Arc<Vec<u8>>,
     input: &[u8],
     offered: &Offered<'_>,
     asked: Asked,
 ) -> Result<Asked, WriteFault>
-    requires from { offered.now.from ≤ length input.now }
+    requires text { input.now ≡ (arc_value text.now).items }
+    requires there { IsThere input.now (offered_of offered.now) }
     requires within { IsAskedWithin asked.agents asked.last }
     ensures journaled { OnOk result (IsJournaled (answer_to world.old offered.now.text.now)) }
     ensures world { OnOk result
@@ -178,7 +184,7 @@ fn judge(
     ensures refused { IfErr result
         (IsRefusedOr (IsRefusedNow input.now world.old (offered_of offered.now))) }
 {
-    let Ok(offer) = read_offer(alloc, offered.text) else {
+    let Ok(offer) = read_offer(alloc, text, offered) else {
         return Err(WriteFault::OutOfMemory);
     };
     let more = asked_too(sheet, asked, &offer);
@@ -230,10 +236,12 @@ fn take_item<'a>(
     alloc: Global,
     world: &mut World,
     sheet: &Sheet,
+    text: &Arc<Vec<u8>>,
     input: &'a [u8],
     from: usize,
     items: &mut Items<'a>,
 ) -> Result<usize, WriteFault>
+    requires text { input.now ≡ (arc_value text.now).items }
     requires from { from ≤ length input.now }
     requires within { IsAskedWithin items.old.asked.agents items.old.asked.last }
     ensures length { IfOk result (IsItemLength input.now from) }
@@ -253,7 +261,7 @@ fn take_item<'a>(
             Err(_) => Err(WriteFault::OutOfMemory),
         },
         Item::Offers(offered) => {
-            match judge(alloc, world, sheet, input, &offered, items.asked) {
+            match judge(alloc, world, sheet, text, input, &offered, items.asked) {
                 Ok(asked) => match put_batch(items, offered, asked) {
                     Ok(()) => Ok(length),
                     Err(fault) => Err(fault),
@@ -268,12 +276,14 @@ fn take_item<'a>(
 /// what its batches ask of one, or which is refused first: what stands behind that is not looked at.
 fn take_items<'a>(
     alloc: Global,
+    text: &Arc<Vec<u8>>,
     world: &mut World,
     sheet: &Sheet,
     input: &'a [u8],
     from: usize,
     items: &mut Items<'a>,
 ) -> Result<(), WriteFault>
+    requires text { input.now ≡ (arc_value text.now).items }
     requires from { from ≤ length input.now }
     requires none { (items.old.batches.items ≡ []) × (items.old.closes.items ≡ []) }
     requires within { IsAskedWithin items.old.asked.agents items.old.asked.last }
@@ -294,7 +304,7 @@ fn take_items<'a>(
         if here == input.len() {
             return Ok(());
         }
-        here += take_item(alloc, world, sheet, input, here, items)?;
+        here += take_item(alloc, world, sheet, text, input, here, items)?;
     }
     Ok(())
 }
@@ -303,12 +313,14 @@ fn take_items<'a>(
 /// and what they ask of a group, or which is refused first.
 fn items_by<'a>(
     alloc: Global,
+    text: &Arc<Vec<u8>>,
     world: &mut World,
     sheet: &Sheet,
     input: &'a [u8],
     from: usize,
 ) -> Result<Items<'a>, WriteFault>
-    requires { from ≤ length input.now }
+    requires text { input.now ≡ (arc_value text.now).items }
+    requires from { from ≤ length input.now }
     ensures found { IfOk result (IsFoundOf (items_in (length input.now) input.now from)) }
     ensures within { IfOk result (λ r. IsAskedWithin r.asked.agents r.asked.last) }
     ensures judged { (issuer : model.Issuer) → world.old ≡ world_before sheet.now issuer
@@ -323,7 +335,7 @@ fn items_by<'a>(
         closes: Vec::new(alloc),
         asked: Asked { agents: 1, last: 0 },
     };
-    match take_items(alloc, world, sheet, input, from, &mut items) {
+    match take_items(alloc, text, world, sheet, input, from, &mut items) {
         Ok(()) => Ok(items),
         Err(fault) => Err(fault),
     }
@@ -335,10 +347,12 @@ pub(crate) fn read_items<'a>(
     alloc: Global,
     sheet: &Arc<Sheet>,
     issuer: &Arc<Issuer>,
+    text: &Arc<Vec<u8>>,
     input: &'a [u8],
     from: usize,
 ) -> Result<Items<'a>, WriteFault>
-    requires { from ≤ length input.now }
+    requires from { from ≤ length input.now }
+    requires text { input.now ≡ (arc_value text.now).items }
     ensures found { IfOk result (IsFoundOf (items_in (length input.now) input.now from)) }
     ensures taken { IfOk result (λ r. All IsJournaled
         (answers_to (arc_value sheet.now) (arc_value issuer.now)
@@ -352,7 +366,7 @@ pub(crate) fn read_items<'a>(
 {
     match world_before(alloc, sheet, issuer) {
         Ok(mut world) => {
-            let items = items_by(alloc, &mut world, sheet, input, from);
+            let items = items_by(alloc, text, &mut world, sheet, input, from);
             // Dropped by a call for the prover's time alone (docs/DECISIONS.md).
             drop(world);
             items

@@ -152,18 +152,20 @@ fn schedule_with(
 fn schedule_by(
     alloc: Global,
     request: Request,
+    text: &Arc<Vec<u8>>,
     input: &[u8],
     batch_from: usize,
     sheet: &Arc<Sheet>,
     issuer: &Arc<Issuer>,
 ) -> Result<Arc<Vec<u8>>, WriteFault>
     requires request { IsRequest request }
+    requires text { input.now ≡ (arc_value text.now).items }
     requires given { IsGiven input.now (arc_value sheet.now) (arc_value issuer.now) batch_from }
     ensures schedule { IfOk result
-        (λ text. IsScheduleOf request (Some input.now) input.now (arc_value text).items) }
+        (λ made. IsScheduleOf request (Some input.now) input.now (arc_value made).items) }
     ensures fault { IfErr result (IsFaultOf input.now) }
 {
-    match read_items(alloc, sheet, issuer, input, batch_from) {
+    match read_items(alloc, sheet, issuer, text, input, batch_from) {
         Ok(items) => schedule_with(
             alloc,
             request,
@@ -194,13 +196,15 @@ fn shared<T: Drop>(alloc: Global, value: T) -> Result<Arc<T>, WriteFault>
 fn schedule_of(
     alloc: Global,
     request: Request,
+    text: &Arc<Vec<u8>>,
     input: &[u8],
     given: RateInput,
 ) -> Result<Arc<Vec<u8>>, WriteFault>
     requires request { IsRequest request }
+    requires text { input.now ≡ (arc_value text.now).items }
     requires given { IsGiven input.now given.sheet given.issuer given.batch_from }
     ensures schedule { IfOk result
-        (λ text. IsScheduleOf request (Some input.now) input.now (arc_value text).items) }
+        (λ made. IsScheduleOf request (Some input.now) input.now (arc_value made).items) }
     ensures fault { IfErr result (IsFaultOf input.now) }
 {
     let RateInput {
@@ -217,25 +221,44 @@ fn schedule_of(
         }
     };
     match shared(alloc, issuer) {
-        Ok(issuer) => schedule_by(alloc, request, input, batch_from, &sheet, &issuer),
+        Ok(issuer) => schedule_by(alloc, request, text, input, batch_from, &sheet, &issuer),
         Err(fault) => Err(fault),
     }
 }
 
-/// The schedule for an input.
-fn schedule_for_input(
+/// The schedule for an input whose text is shared.
+fn schedule_for_text(
     alloc: Global,
     request: Request,
+    text: &Arc<Vec<u8>>,
     input: &[u8],
 ) -> Result<Arc<Vec<u8>>, WriteFault>
     requires request { IsRequest request }
+    requires text { input.now ≡ (arc_value text.now).items }
     ensures schedule { IfOk result
-        (λ text. IsScheduleOf request (Some input.now) input.now (arc_value text).items) }
+        (λ made. IsScheduleOf request (Some input.now) input.now (arc_value made).items) }
     ensures fault { IfErr result (IsFaultOf input.now) }
 {
     match rate_input(alloc, input) {
-        Ok(given) => schedule_of(alloc, request, input, given),
+        Ok(given) => schedule_of(alloc, request, text, input, given),
         Err(fault) => Err(WriteFault::from(fault)),
+    }
+}
+
+/// The schedule for an input. It is shared, so that no batch of it is copied.
+fn schedule_for_input(
+    alloc: Global,
+    request: Request,
+    input: Vec<u8>,
+) -> Result<Arc<Vec<u8>>, WriteFault>
+    requires { IsRequest request }
+    ensures schedule { IfOk result
+        (λ made. IsScheduleOf request (Some input.items) input.items (arc_value made).items) }
+    ensures fault { IfErr result (IsFaultOf input.items) }
+{
+    match Arc::new(alloc, input) {
+        Ok(text) => schedule_for_text(alloc, request, &text, &text),
+        Err(_) => Err(WriteFault::OutOfMemory),
     }
 }
 
@@ -313,6 +336,6 @@ pub fn schedule_text<R: Source, W: Sink>(
         (W.failed_calls writer.old) (W.failed_calls writer.new) }
 {
     let input = input_of(alloc, reader)?;
-    let text = schedule_for_input(alloc, request, &input)?;
+    let text = schedule_for_input(alloc, request, input)?;
     write_text(&text, writer)
 }

@@ -1,5 +1,5 @@
 -- What a schedule is to journal and to close, and what it has done so far.
-use Rattle.std.specs.Prelude.{◌≡◌, ◌≤◌, ℕ, ◌+◌, ◌==◌, ◌&&◌, Bool, true, false, not, nat_le, nat_lt, if◌then◌else◌, ⊤, List, [], ◌∷◌, length, map, Option, Some, None, Result, Ok}
+use Rattle.std.specs.Prelude.{◌≡◌, ◌≤◌, ℕ, ◌+◌, ◌==◌, ◌&&◌, Bool, true, false, not, nat_le, nat_lt, if◌then◌else◌, List, [], ◌∷◌, length, map, Option, Some, None, Result, Ok}
 use Rattle.std.specs.List.{slice_index_or}
 use Rattle.std.specs.Option.{option_and_then, option_map_or}
 use Rattle.batch_view.specs.Batches.{batch_of}
@@ -28,11 +28,6 @@ offered_of b = record { from = b.from; text = b.text.now }
 abbrev pub item_of : LentItem → Item
 item_of (lent.Offers b) = Offers (offered_of b)
 item_of lent.Closes = Closes
-
--- a batch begins at that byte of the input
-abbrev pub BeginsAt : LentItem → ℕ → Type 0
-BeginsAt (lent.Offers b) from = b.from ≡ from
-BeginsAt lent.Closes from = ⊤
 
 -- how many nodes show the file of each period, the last period, the month of the first, the batches, and how many stand above each
 -- line that closes a period

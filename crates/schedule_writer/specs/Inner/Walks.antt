@@ -1,10 +1,11 @@
 -- Where a walk over the items of an input stands, and what it has found with one item more.
 use Rattle.std.specs.Prelude.{◌≡◌, ◌+◌, ◌≤◌, ℕ, List, [], ◌∷◌, ◌++◌, length, map, take, drop, Option, IfSome, Ok}
+use Rattle.std.specs.List.{slice_range}
 use Rattle.metering_model.specs.Sheet.{Sheet, Issuer}
 use Rattle.metering_model.specs.Transcript.{line_count}
 use Rattle.input_sections.specs.RateInput.{rate_input_in}
 use Rattle.schedule_writer.specs.declared.judging.Items.{Items}
-use Rattle.schedule_writer.specs.Inputs.{Item, batches_of, closes_from, closes_of, item_length}
+use Rattle.schedule_writer.specs.Inputs.{Item, Offered, batches_of, closes_from, closes_of, item_length}
 use Rattle.schedule_writer.specs.Inner.Judged.{IsAskedWithin}
 use Rattle.schedule_writer.specs.Inner.Plans.{offered_of}
 
@@ -17,6 +18,12 @@ pub record IsGiven (input : List ℕ) (sheet : Sheet) (issuer : Issuer) (from : 
 pub record IsPlace (input : List ℕ) (from : ℕ) (known : Option ℕ) : Type 0 where
   pub within : from ≤ length input
   pub above : IfSome known (λ lines. lines ≡ line_count (take from input))
+
+-- The batch is what stands at its byte of the input.
+pub record IsThere (input : List ℕ) (b : Offered) : Type 0 where
+  pub begins : b.from ≤ length input
+  pub room : b.from + length b.text ≤ length input
+  pub is_text : slice_range input b.from (b.from + length b.text) ≡ b.text
 
 -- The item that begins at that byte has so many bytes, and the input has them all.
 pub record IsItemLength (input : List ℕ) (from n : ℕ) : Type 0 where

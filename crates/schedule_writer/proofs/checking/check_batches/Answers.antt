@@ -8,7 +8,7 @@ use Rattle.schedule_writer.proofs.checking.check_batches.Goals as goal
 
 pub returns-clause-told : goal.returns-clause-told
 returns-clause-told c =
-    let same = said_of_given c.args.input.now c.args.given.batch_from c.args.given.sheet c.args.given.issuer c.in-Ok.world c.requires.within c.requires.is_read c.in-Ok.ensures in
+    let same = said_of_given c.args.input.now c.args.given.batch_from c.args.given.sheet c.args.given.issuer c.in-Ok.world c.requires.given.within c.requires.given.is_read c.in-Ok.ensures in
     on_ok c.check_items-checked.result (λ told. told ∙ ap (λ t. c.args.told.now.items ++ t) same) c.check_items-checked.ensures.told
 
 pub returns-clause-ahead : goal.returns-clause-ahead

@@ -7,7 +7,16 @@ use Rattle.schedule_writer.specs.Inner.Counted.{with_journaled}
 use Rattle.schedule_writer.specs.Inner.Plans.{item_of, offered_of}
 use Rattle.schedule_writer.proofs.CheckLaws.{told_none, told_one, world_none, world_one}
 use Rattle.schedule_writer.proofs.CountedLaws.{ahead_of_none, counted_one, no_item_counted}
+use Rattle.schedule_writer.proofs.ItemLaws.{offered_there, place_there}
 use Rattle.schedule_writer.proofs.checking.check_item.Goals as goal
+
+pub check_offered-requires-clause-there : goal.check_offered-requires-clause-there
+check_offered-requires-clause-there c =
+    offered_there c.args.input.now c.args.from (offered_of c.in-Offers.offered) (sym (ap item_of c.in-Offers.is) ∙ c.item_at-length.ensures.item) c.requires.place.within
+
+pub check_offered-requires-clause-place : goal.check_offered-requires-clause-place
+check_offered-requires-clause-place c =
+    place_there c.args.input.now c.args.from (offered_of c.in-Offers.offered) _ (sym (ap item_of c.in-Offers.is) ∙ c.item_at-length.ensures.item) c.requires.place
 
 pub returns-in-Closes-clause-told : goal.returns-in-Closes-clause-told
 returns-in-Closes-clause-told c =

@@ -16,22 +16,22 @@ loop-preserved c =
     let drops = length-drop c.loop.here input in
     let some : 0 < length (drop c.loop.here input) = omega (arith, c.loop.invariant.place.within, c.if-here-input.false, drops) in
     let item = item_at input c.loop.here in
-    let rest = items_in k input (c.loop.here + c.in_ok-next.field-0) in
+    let rest = items_in k input (c.loop.here + c.in_ok-length.length) in
     let next : items_in (length input - c.loop.counter) input c.loop.here ≡ item ∷ rest
     = ap (λ n. items_in n input c.loop.here) more
-    ∙ (item_next k input c.loop.here some ∙ ap (λ n. item ∷ items_in k input (c.loop.here + n)) (sym c.in_ok-next.ensures.length.is_length)) in
+    ∙ (item_next k input c.loop.here some ∙ ap (λ n. item ∷ items_in k input (c.loop.here + n)) (sym c.in_ok-length.ensures.length.is_length)) in
     let ahead = c.loop.invariant.ahead in
     record {
-      place = record { within = c.in_ok-next.ensures.length.within; above = c.lines_more-above.ensures };
+      place = record { within = c.in_ok-length.ensures.length.within; above = c.lines_more-above.ensures };
       told = told_more input _ c.loop.told.items c.check_item.new.told.items c.loop.world c.check_item.new.world item rest
-          (ap (λ is. c.loop.told.items ++ told_of_batches input c.loop.world (batches_of is)) (sym next) ∙ c.loop.invariant.told) c.in_ok-next.ensures.told
-          c.in_ok-next.ensures.world;
+          (ap (λ is. c.loop.told.items ++ told_of_batches input c.loop.world (batches_of is)) (sym next) ∙ c.loop.invariant.told) c.in_ok-length.ensures.told
+          c.in_ok-length.ensures.world;
       ahead = (
         _,
-        c.in_ok-next.ensures.latest ahead.0 ahead.1,
+        c.in_ok-length.ensures.latest ahead.0 ahead.1,
         ahead_more input _ c.loop.warned.items c.check_item.new.warned.items ahead.0 c.loop.world c.check_item.new.world item rest
             (ap (λ is. c.loop.warned.items ++ ahead_of_all ahead.0 (journaled_of input c.loop.world (batches_of is))) (sym next) ∙ ahead.2)
-            (c.in_ok-next.ensures.ahead ahead.0 ahead.1) c.in_ok-next.ensures.world,
+            (c.in_ok-length.ensures.ahead ahead.0 ahead.1) c.in_ok-length.ensures.world,
       );
     }
 

@@ -1,7 +1,12 @@
-use Rattle.std.proofs.Common.{map}
-use Rattle.schedule_writer.specs.Inner.Plans.{offered_of}
+use Rattle.std.proofs.Common.{map, sym, ap, ◌∙◌}
+use Rattle.schedule_writer.specs.Inner.Plans.{item_of, offered_of}
+use Rattle.schedule_writer.proofs.ItemLaws.{offered_there}
 use Rattle.schedule_writer.proofs.JudgedLaws.{judged_put}
 use Rattle.schedule_writer.proofs.judging.take_item.Goals as goal
+
+pub judge-requires-clause-there : goal.judge-requires-clause-there
+judge-requires-clause-there c =
+    offered_there c.args.input.now c.args.from (offered_of c.in-Offers.offered) (sym (ap item_of c.in-Offers.is) ∙ c.item_at-length.ensures.item) c.requires.from
 
 pub returns-in-Ok-put_batch-clause-judged : goal.returns-in-Ok-put_batch-clause-judged
 returns-in-Ok-put_batch-clause-judged c = λ issuer so.
