@@ -1,6 +1,7 @@
 pub mod PartLaws
 pub mod RequestLaws
 pub mod WordLaws
+pub mod GrammarLaws
 pub mod FailedCalls
 pub mod PlayRuns
 pub mod CheckRuns

@@ -4,7 +4,7 @@ use Rattle.std.proofs.Common.{Bool, ◌≡◌, ◌≢◌, ◌⊎◌, ◌==◌, �
 use Rattle.std.specs.Str.{bytes_eq}
 use Rattle.std.proofs.lemmas.Slice.Eq.{bytes_eq-Decides}
 use Rattle.std.specs.Str.Parse.{ParsesBool, ParsesUnsigned, false_text, true_text, ExplainsUnsignedError, HasUnsignedDigitsIfOk}
-use Rattle.clap.specs.Words.{ReadsOne, Row, Text, first_of, first_value, found_of, is_simple, kind_of, one_text, rows_of, subcommand_of, subcommand_rows_of}
+use Rattle.clap.specs.Words.{App, ReadsOne, Row, Text, first_of, first_value, found_of, is_simple, kind_of, one_text, rows_of, subcommand_of, subcommand_rows_of}
 use Rattle.clap.specs.Matches.{subcommand_name_of}
 use Rattle.clap.specs.Kinds.{Kinds, HasKind, IsAmong}
 use Rattle.clap.specs.Faults.{fault_of, is_simple_and_free}
@@ -14,7 +14,7 @@ use Rattle.clap.specs.declared.parser.matches.Found.{Found}
 use Rattle.clap.specs.declared.error.Error.{Error}
 use Rattle.clap.specs.declared.error.kind.ErrorKind.TheVariants.{DisplayHelp, DisplayVersion, OutOfMemory}
 use Rattle.clap.specs.declared.error.kind.ErrorKind.{ErrorKind}
-use Rattle.clap.proofs.WalkLemmas.{first_value-rows, one_text-rows}
+use Rattle.clap.proofs.WalkLemmas.{both, first_value-rows, one_text-rows}
 use Rattle.clap.proofs.OnLiterals.{clap_on_literals}
 use Rattle.std.specs.Box.{box_value}
 use Rattle.std.specs.Borrow.{Bor}
@@ -31,13 +31,9 @@ use Rattle.sheet_changes.specs.declared.changes.Asked.{Asked}
 use Rattle.threads_player.specs.declared.sizes.Size.{Size}
 use Rattle.command_line.specs.CommandLine.{grammar_of_focusd, takes_input, Asks, AsksByName, AsksForHelp, AsksForVersion, GivesAsked, GivesDay, GivesNumber, GivesPeriod, GivesRequest, GivesFlag, GivesKind, GivesSize, GivesThrough, IsNamed, kind_text}
 
-pub grammar_is_simple : is_simple grammar_of_focusd ≡ true
-unfolding clap_on_literals
-grammar_is_simple = refl
-
-pub grammar_is_free : is_simple_and_free grammar_of_focusd ≡ true
-unfolding clap_on_literals
-grammar_is_free = refl
+-- a grammar whose options have no rule on one another is simple
+pub free_is_simple : (a : App) → is_simple_and_free a ≡ true → is_simple a ≡ true
+free_is_simple a free = (both (is_simple a) _ free).0
 
 -- what has no fault fails out of memory alone
 pub only_memory : (kinds : Kinds) (e : Error) → kinds ≡ [] → HasKind kinds e → kind_of e ≡ OutOfMemory

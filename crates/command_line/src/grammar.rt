@@ -1,16 +1,35 @@
 //! The grammar of the command line, with the texts of its help.
 
-ghost use Rattle.std.specs.Prelude.{◌≡◌, IfOk, false};
-ghost use Rattle.clap.specs.Words.{App, app_of, new_app, rule_of, with_rule, with_subcommand};
+ghost use Rattle.std.specs.Prelude.{◌≡◌, ◌∷◌, IfOk, List, false, map, string_bytes};
+ghost use Rattle.clap.specs.Words.{Text, app_of, new_app, rule_of, with_rule};
 ghost use Rattle.clap.specs.declared.builder.command.Command.TheViews.{out-Command};
-ghost use Rattle.command_line.specs.CommandLine.{bare_grammar, check_grammar, flag_option, grammar_of_focusd, number_option, period_grammar, required, threads_grammar, schedule_grammar, sheets_grammar, text_option};
-ghost use Rattle.command_line.specs.Inner.Grammars.{with_first, with_third, with_second};
+ghost use Rattle.command_line.specs.CommandLine.{bare_grammar, check_grammar, flag_option, number_option, period_grammar, required, threads_grammar, schedule_grammar, sheets_grammar, text_option};
+ghost use Rattle.command_line.specs.Inner.Grammars.{StandsIn, with_one};
 
 use clap::{Arg, ArgAction};
 use std::alloc::{AllocError, Global};
 
-const FOCUSD: &str =
-    "Turns usage records into FOCUS 1.0 cost rows. Input comes on standard input alone";
+// What `--help` shows. `clap` makes the same of all commands, which are not all there.
+const HELP: &str =
+    "Turns usage records into FOCUS 1.0 cost rows. Input comes on standard input alone
+
+Usage: focusd <COMMAND>
+
+Commands:
+  rate      Writes the file of a period of one batch, from an input of at most 16 MiB
+  play      Plays a schedule of at most 16 MiB, and writes its transcript
+  check     Writes what is refused of an input of at most 16 MiB, and warnings, by lines
+  file      Copies the file of a period out of a transcript of at most 4 GiB
+  schedule  Writes a schedule that closes the months of batches, from an input of at most 16 MiB
+  sheets    Writes what a new price sheet changes of an old one, from an input of at most 16 MiB
+  threads   Runs a group in threads, without an input, and writes a report
+  node      Runs a node of a group: reads what begins it, then commands, and answers each
+  agent     Runs an agent of a group: reads what begins it, then commands, and answers each
+
+Options:
+  -h, --help     Print help
+  -V, --version  Print version
+";
 
 const RATE: &str = "Writes the file of a period of one batch, from an input of at most 16 MiB";
 
@@ -245,7 +264,7 @@ fn bare_grammar<'a>(alloc: Global) -> Result<clap::Command<'a>, AllocError>
     };
     Ok(
         focusd
-            .about(FOCUSD)
+            .override_help(HELP)
             .version("0.3.0")
             .no_binary_name(true)
             .disable_help_subcommand(true)
@@ -253,81 +272,47 @@ fn bare_grammar<'a>(alloc: Global) -> Result<clap::Command<'a>, AllocError>
     )
 }
 
-// The grammar with a command more, if there was memory for that
-fn with<'a>(
-    grammar: clap::Command<'a>,
-    command: Result<clap::Command<'a>, AllocError>,
-) -> Result<clap::Command<'a>, AllocError>
-    requires local { IfOk command (λ c. (out-Command c).has_globals ≡ false) }
-    ensures app { (a : App) → IfOk command.entry (λ c. app_of c ≡ a)
-        → IfOk result (λ g. app_of g ≡ with_subcommand (app_of grammar.entry) a.top) }
+// The command of this name, or `rate`, where none has it: any one serves to refuse what names none
+fn named<'a>(alloc: Global, name: &str) -> Result<clap::Command<'a>, AllocError>
+    ensures app { IfOk result
+        (λ c. (rest : List Text) → StandsIn (with_one (app_of c)) (name.now ∷ rest)) }
+    ensures local { IfOk result (λ c. (out-Command c).has_globals ≡ false) }
 {
-    match command {
-        Ok(command) => grammar.subcommand(command),
-        Err(error) => Err(error),
+    match name {
+        "play" => Ok(plain_grammar(alloc, "play", PLAY)),
+        "check" => check_grammar(alloc),
+        "file" => period_grammar(alloc, "file", FILE),
+        "schedule" => schedule_grammar(alloc),
+        "sheets" => sheets_grammar(alloc),
+        "threads" => threads_grammar(alloc),
+        "node" => Ok(explained(alloc, "node", NODE, NODE_INPUT)),
+        "agent" => Ok(explained(alloc, "agent", AGENT, AGENT_INPUT)),
+        _ => period_grammar(alloc, "rate", RATE),
     }
 }
 
-// With `rate`, `play` and `check`
-fn with_first<'a>(
-    grammar: clap::Command<'a>,
-    alloc: Global,
-) -> Result<clap::Command<'a>, AllocError>
-    ensures app { IfOk result (λ c. app_of c ≡ with_first (app_of grammar.entry)) }
+// The command that these words need
+fn needed<'a>(alloc: Global, words: &[String]) -> Result<clap::Command<'a>, AllocError>
+    ensures app { IfOk result
+        (λ c. StandsIn (with_one (app_of c)) (map string_bytes words.now)) }
+    ensures local { IfOk result (λ c. (out-Command c).has_globals ≡ false) }
 {
-    let Ok(rating) = with(grammar, period_grammar(alloc, "rate", RATE)) else {
-        return Err(AllocError);
-    };
-    let Ok(playing) = rating.subcommand(plain_grammar(alloc, "play", PLAY)) else {
-        return Err(AllocError);
-    };
-    with(playing, check_grammar(alloc))
+    match words.first() {
+        Some(word) => named(alloc, word.as_str()),
+        None => period_grammar(alloc, "rate", RATE),
+    }
 }
 
-// With `file`, `schedule` and `sheets`
-fn with_second<'a>(
-    grammar: clap::Command<'a>,
-    alloc: Global,
-) -> Result<clap::Command<'a>, AllocError>
-    ensures app { IfOk result (λ c. app_of c ≡ with_second (app_of grammar.entry)) }
+/// As much of the grammar as these words need: of the commands only that which the first word names,
+/// since no other can be met.
+pub(crate) fn grammar<'a>(alloc: Global, words: &[String]) -> Result<clap::Command<'a>, AllocError>
+    ensures app { IfOk result (λ c. StandsIn (app_of c) (map string_bytes words.now)) }
 {
-    let Ok(filing) = with(grammar, period_grammar(alloc, "file", FILE)) else {
+    let Ok(command) = needed(alloc, words) else {
         return Err(AllocError);
     };
-    let Ok(scheduling) = with(filing, schedule_grammar(alloc)) else {
+    let Ok(focusd) = bare_grammar(alloc) else {
         return Err(AllocError);
     };
-    with(scheduling, sheets_grammar(alloc))
-}
-
-// With `threads`, `node` and `agent`
-fn with_third<'a>(
-    grammar: clap::Command<'a>,
-    alloc: Global,
-) -> Result<clap::Command<'a>, AllocError>
-    ensures app { IfOk result (λ c. app_of c ≡ with_third (app_of grammar.entry)) }
-{
-    let Ok(threading) = with(grammar, threads_grammar(alloc)) else {
-        return Err(AllocError);
-    };
-    let Ok(nodes) = threading.subcommand(explained(alloc, "node", NODE, NODE_INPUT)) else {
-        return Err(AllocError);
-    };
-    nodes.subcommand(explained(alloc, "agent", AGENT, AGENT_INPUT))
-}
-
-/// The words of all commands, without the program's name.
-pub(crate) fn grammar<'a>(alloc: Global) -> Result<clap::Command<'a>, AllocError>
-    ensures app { IfOk result (λ c. app_of c ≡ grammar_of_focusd) }
-{
-    let Ok(bare) = bare_grammar(alloc) else {
-        return Err(AllocError);
-    };
-    let Ok(first) = with_first(bare, alloc) else {
-        return Err(AllocError);
-    };
-    let Ok(second) = with_second(first, alloc) else {
-        return Err(AllocError);
-    };
-    with_third(second, alloc)
+    focusd.subcommand(command)
 }

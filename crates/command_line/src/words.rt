@@ -230,7 +230,7 @@ pub fn command(alloc: Global, words: &[String]) -> Result<Command, LineFault>
     ensures not_asked { result ≡ Err LineFault.Line
         → (command : Command) → ¬ Asks (map string_bytes words.now) command }
 {
-    let Ok(grammar) = grammar(alloc) else {
+    let Ok(grammar) = grammar(alloc, words) else {
         return Err(LineFault::OutOfMemory);
     };
     let matches = match grammar.try_get_matches_from(words) {
@@ -282,7 +282,7 @@ pub fn help(alloc: Global, words: &[String]) -> Result<String, LineFault>
     ensures asked { IfOk result (λ _. AsksForHelp (map string_bytes words.now)) }
     ensures not_asked { result ≡ Err LineFault.Line → ¬ AsksForHelp (map string_bytes words.now) }
 {
-    let Ok(grammar) = grammar(alloc) else {
+    let Ok(grammar) = grammar(alloc, words) else {
         return Err(LineFault::OutOfMemory);
     };
     match grammar.try_get_matches_from(words) {

@@ -1,18 +1,15 @@
--- The grammar with three commands more each, in the order in which they stand there.
-use Rattle.std.specs.Prelude.{codes}
-use Rattle.clap.specs.Words.{App, new_app, with_subcommand}
-use Rattle.command_line.specs.CommandLine.{check_grammar, period_grammar, process_name, schedule_grammar, sheets_grammar, threads_grammar}
-use Rattle.process_player.specs.declared.heads.ProcessKind.TheVariants as process
+-- Grammars that have less than the whole one, and come to the same at some words.
+use Rattle.std.specs.Prelude.{◌≡◌, List, [], true}
+use Rattle.clap.specs.Words.{App, Text, subcommand_of, with_subcommand}
+use Rattle.clap.specs.Faults.{fault_of, is_simple_and_free}
+use Rattle.command_line.specs.CommandLine.{bare_grammar, grammar_of_focusd}
 
-abbrev pub with_first : App → App
-with_first a =
-    with_subcommand (with_subcommand (with_subcommand a (period_grammar (codes "rate")).top) (new_app (codes "play")).top) check_grammar.top
+-- with one subcommand alone
+abbrev pub with_one : App → App
+with_one a = with_subcommand bare_grammar a.top
 
-abbrev pub with_second : App → App
-with_second a =
-    with_subcommand (with_subcommand (with_subcommand a (period_grammar (codes "file")).top) schedule_grammar.top) sheets_grammar.top
-
-abbrev pub with_third : App → App
-with_third a =
-    with_subcommand (with_subcommand (with_subcommand a threads_grammar.top) (new_app (process_name process.Node)).top)
-    (new_app (process_name process.Agent)).top
+-- The grammar stands in for the whole one at these words: it refuses them for the same, and where it takes them, meets the same subcommand.
+pub record StandsIn (a : App) (words : List Text) : Type 0 where
+  pub free : is_simple_and_free a ≡ true
+  pub fault : fault_of a words ≡ fault_of grammar_of_focusd words
+  pub met : fault_of grammar_of_focusd words ≡ [] → subcommand_of a words ≡ subcommand_of grammar_of_focusd words
