@@ -7,8 +7,8 @@ ghost use Rattle.fault_lines.specs.UnknownKeys.{first_word, from_first, has_key,
 ghost use Rattle.fault_lines.specs.Inner.KeyKinds.{is_of_kind};
 
 use crate::batches::{put_end, put_place};
+use crate::text_kinds::begins_with;
 use byte_text::{first_line, is_same, line_count};
-use input_sections::behind_word;
 use std::alloc::{AllocError, Global};
 use std::marker::Model;
 
@@ -88,7 +88,7 @@ fn first_word(line: &[u8]) -> &[u8]
 fn opens_table(line: &[u8]) -> bool
     ensures { result ≡ opens_table line.now }
 {
-    behind_word(behind_those(ByteKind::Blanks, line), b"[").is_some()
+    begins_with(behind_those(ByteKind::Blanks, line), b"[")
 }
 
 /// The table in which the first word of a line is a key, and the one that is open below the line.
