@@ -47,9 +47,9 @@ none_left g told all keys i past none before = sym (append-nil told) ∙ ap (λ 
 
 -- ---- whether one of those that are left passes a test
 
-module _ {X : Type 0} (test : X → Bool) (xs : List X) (i : ℕ) (x : X) (low : i < length xs) (item : x ≡ get_or xs i x) (before : list_any test (drop i xs) ≡ list_any test xs) where
+module _ {X : Type 0} (test : X → Bool) (xs : List X) (i : ℕ) (d x : X) (low : i < length xs) (item : x ≡ get_or xs i d) (before : list_any test (drop i xs) ≡ list_any test xs) where
   first_of : list_any test (drop i xs) ≡ (test x || list_any test (drop (i + 1) xs))
-  first_of = at_drop_more (list_any test) xs i x low ∙ ap (λ (y : X). test y || list_any test (drop (i + 1) xs)) (sym item)
+  first_of = at_drop_more (list_any test) xs i d low ∙ ap (λ (y : X). test y || list_any test (drop (i + 1) xs)) (sym item)
 
   pub one_passes : test x ≡ true → true ≡ list_any test xs
   one_passes passes = ap (λ b. b || list_any test (drop (i + 1) xs)) (sym passes) ∙ sym first_of ∙ before

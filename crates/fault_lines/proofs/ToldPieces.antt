@@ -1,5 +1,6 @@
 -- What is told is put together piece by piece.
-use Rattle.std.proofs.Common.{◌≡◌, List, ℕ, ◌++◌, Result, Ok, Err, OnOk, ap, ◌∙◌, append_assoc}
+use Rattle.std.proofs.Common.{◌≡◌, cond, List, ℕ, ◌++◌, Result, Ok, Err, OnOk, ap, ◌∙◌, append_assoc}
+use Rattle.std.specs.Result.{is_ok}
 use Rattle.std.proofs.lemmas.Result.{on_ok_weaker}
 
 -- a place, two pieces and an end
@@ -22,6 +23,11 @@ put_behind (Ok x) old one two place word name end p r =
     let all : (old ++ place) ++ (word ++ (name ++ end)) ≡ old ++ ((place ++ (word ++ name)) ++ end) = simp append_assoc in
     r ∙ ap (λ t. t ++ (word ++ (name ++ end))) p ∙ all
 put_behind (Err e) old one two place word name end p r = tt
+
+-- two pieces, of which a call of a Vec appends the second
+pub put_two : {A E : Type 0} (r : Result A E) (old one two first second : List ℕ) → one ≡ old ++ first → two ≡ cond (is_ok r) (one ++ second) one → OnOk r (two ≡ old ++ (first ++ second))
+put_two (Ok x) old one two first second f s = s ∙ ap (λ t. t ++ second) f ∙ append_assoc old first second
+put_two (Err e) old one two first second f s = tt
 
 -- three pieces
 pub put_three : {A E : Type 0} (r : Result A E) (old one two three word name end : List ℕ) → one ≡ old ++ word → two ≡ one ++ name → OnOk r (three ≡ two ++ end) → OnOk r (three ≡ old ++ (word ++ (name ++ end)))

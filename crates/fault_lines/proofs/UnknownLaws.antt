@@ -1,5 +1,5 @@
 -- What is told of unknown keys, case by case.
-use Rattle.std.proofs.Common.{◌≡◌, ℕ, ◌+◌, ◌≤◌, Bool, true, false, not, cond, List, [], ◌∷◌, ◌++◌, length, take, filter, Option, refl, sym, ap, ◌∙◌, arith, append_assoc, append-nil}
+use Rattle.std.proofs.Common.{◌≡◌, ℕ, ◌+◌, ◌≤◌, Bool, true, false, not, cond, List, [], ◌∷◌, ◌++◌, length, take, filter, Option, None, refl, sym, ap, ◌∙◌, arith, append_assoc, append-nil}
 use Rattle.std.specs.List.{flat_map}
 use Rattle.std.specs.Str.{IsUtf8, is_utf8}
 use Rattle.std.proofs.lemmas.Str.{IsUtf8-from_is_utf8, is_utf8-from_IsUtf8}
@@ -34,12 +34,12 @@ module _ (unknown : Members → List UnknownKey) (n : ℕ) (text : List ℕ) whe
   unfolding told_of_section
   of_utf8 o utf8 is = ap (λ b. cond b (told_of_document unknown n text (parse_document text)) []) (is_utf8-from_IsUtf8 text utf8) ∙ ap (told_of_document unknown n text) is
 
-  pub of_other : ¬ IsUtf8 text → told_of_section unknown n text ≡ []
+  pub of_none : (IsUtf8 text → parse_document text ≡ None) → told_of_section unknown n text ≡ []
   unfolding told_of_section
-  of_other other = by_test (is_utf8 text) refl
+  of_none none = by_test (is_utf8 text) refl
     where
       by_test : (b : Bool) → is_utf8 text ≡ b → cond b (told_of_document unknown n text (parse_document text)) [] ≡ []
-      by_test true e = absurd (other (IsUtf8-from_is_utf8 text e))
+      by_test true e = ap (told_of_document unknown n text) (none (IsUtf8-from_is_utf8 text e))
       by_test false e = refl
 
 -- ---- one line after another

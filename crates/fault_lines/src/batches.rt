@@ -56,8 +56,7 @@ pub(crate) fn put_place(told: &mut Vec<u8>, line: u128) -> Result<(), AllocError
 pub(crate) fn put_end(told: &mut Vec<u8>) -> Result<(), AllocError>
     ensures { OnOk result (told.new.items ≡ told.old.items ++ 10 ∷ []) }
 {
-    told.push(b'\n')?;
-    Ok(())
+    told.extend_from_slice(b"\n")
 }
 
 /// Appends that something is refused at a line of the input.
@@ -218,6 +217,8 @@ pub fn put_refused_text(
         ≡ told.old.items ++ told_of_text lines sheet.now text.now bad refusal) }
 {
     let within = line_within(bad, refusal);
-    put_place(told, lines as u128 + u128::from(within))?;
+    let Ok(()) = put_place(told, lines as u128 + u128::from(within)) else {
+        return Err(AllocError);
+    };
     put_refused_words(told, sheet, text, bad, refusal)
 }

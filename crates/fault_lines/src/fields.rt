@@ -1,7 +1,6 @@
 //! Which field of a record's line is told of a fault.
 
 ghost use Rattle.std.specs.Prelude.{true, ◌≡◌, ◌<◌, ◌∷◌, Some, None, Err, length, MatchOption};
-ghost use Rattle.std.specs.Option.{option_and_then};
 ghost use Rattle.metering_model.specs.Batch.{is_text};
 ghost use Rattle.metering_model.specs.BatchReading.{batch_in, fields_in, kind_in, record_in};
 ghost use Rattle.metering_model.specs.declared.Version.{Version};
@@ -238,25 +237,16 @@ fn is_of_field(code: BatchCode) -> bool
     }
 }
 
-/// The field of the line of a batch's fault that breaks its rule first.
-fn field_at(text: &[u8], fault: BatchFault) -> Option<RecordField>
-    requires batch { batch_in text.now ≡ Err fault }
-    requires of { is_of_field fault.code ≡ true }
-    ensures { result ≡ option_and_then fault_field (line_at text.now fault.line) }
-{
-    match line_at(text, fault.line) {
-        Some(line) => fault_field(fault.code, line),
-        None => None,
-    }
-}
-
 /// The field for which a text is no batch, where its first fault is of a field.
 pub(crate) fn field_of(text: &[u8], fault: BatchFault) -> Option<RecordField>
     requires { batch_in text.now ≡ Err fault }
     ensures { result ≡ field_of text.now fault }
 {
     if is_of_field(fault.code) {
-        field_at(text, fault)
+        match line_at(text, fault.line) {
+            Some(line) => fault_field(fault.code, line),
+            None => None,
+        }
     } else {
         None
     }

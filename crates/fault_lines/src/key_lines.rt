@@ -3,12 +3,12 @@
 ghost use Rattle.std.specs.Prelude.{◌≡◌, [], not, ◌+◌, ◌++◌, IfOk, OnOk, map, filter};
 ghost use Rattle.std.specs.List.{flat_map, position};
 ghost use Rattle.metering_model.specs.BatchReading.{lines_in};
-ghost use Rattle.fault_lines.specs.UnknownKeys.{first_word, from_first, has_key, is_blank, is_key, is_of_key, keys_left, opens_table, shown, stands_before_key, table_below, table_of, told_along, told_of_keys, told_unknown};
+ghost use Rattle.fault_lines.specs.UnknownKeys.{first_word, from_first, has_key, is_key, keys_left, opens_table, shown, table_below, table_of, told_along, told_of_keys, told_unknown};
 ghost use Rattle.fault_lines.specs.Inner.KeyKinds.{is_of_kind};
 
 use crate::batches::{put_end, put_place};
+use crate::text_kinds::begins_with;
 use byte_text::{first_line, is_same, line_count};
-use input_sections::behind_word;
 use std::alloc::{AllocError, Global};
 use std::marker::Model;
 
@@ -34,36 +34,14 @@ pub(crate) fn is_key(table: &[u8], name: &[u8], key: &UnknownKey<'_>) -> bool
     is_same(table, key.table) && is_same(name, key.name)
 }
 
-/// Whether a byte is a blank.
-fn is_blank(byte: u8) -> bool
-    ensures { result ≡ is_blank byte }
-{
-    byte == b' ' || byte == b'\t'
-}
-
-/// Whether a byte may stand before a key: a blank, `[`, or a quotation mark.
-fn stands_before_key(byte: u8) -> bool
-    ensures { result ≡ stands_before_key byte }
-{
-    is_blank(byte) || byte == b'[' || byte == b'"' || byte == b'\''
-}
-
-/// Whether a byte is a letter, a digit, `-` or `_`.
-fn is_of_key(byte: u8) -> bool
-    ensures { result ≡ is_of_key byte }
-{
-    (byte >= b'a' && byte <= b'z')
-        || (byte >= b'A' && byte <= b'Z')
-        || (byte >= b'0' && byte <= b'9')
-        || byte == b'-'
-        || byte == b'_'
-}
-
 /// Which bytes are looked for in a line.
 #[derive(Clone, Copy)]
 enum ByteKind {
+    /// Blanks alone.
     Blanks,
+    /// Those that may stand before a key: blanks, `[`, and quotation marks.
     BeforeKey,
+    /// Letters, digits, `-` and `_`.
     OfKey,
 }
 
@@ -72,9 +50,9 @@ fn is_of_kind(kind: ByteKind, byte: u8) -> bool
     ensures { result ≡ is_of_kind kind byte }
 {
     match kind {
-        ByteKind::Blanks => is_blank(byte),
-        ByteKind::BeforeKey => stands_before_key(byte),
-        ByteKind::OfKey => is_of_key(byte),
+        ByteKind::Blanks => matches!(byte, b' ' | b'\t'),
+        ByteKind::BeforeKey => matches!(byte, b' ' | b'\t' | b'[' | b'"' | b'\''),
+        ByteKind::OfKey => matches!(byte, b'a'..=b'z' | b'A'..=b'Z' | b'0'..=b'9' | b'-' | b'_'),
     }
 }
 
@@ -110,7 +88,7 @@ fn first_word(line: &[u8]) -> &[u8]
 fn opens_table(line: &[u8]) -> bool
     ensures { result ≡ opens_table line.now }
 {
-    behind_word(behind_those(ByteKind::Blanks, line), b"[").is_some()
+    begins_with(behind_those(ByteKind::Blanks, line), b"[")
 }
 
 /// The table in which the first word of a line is a key, and the one that is open below the line.

@@ -1,8 +1,9 @@
 //! What a text is that is none of its kind.
 
 ghost use Rattle.std.specs.Prelude.{◌≡◌};
+ghost use Rattle.input_sections.specs.Sections.{begins_with};
 ghost use Rattle.fault_lines.specs.Fields.{line_at};
-ghost use Rattle.fault_lines.specs.TextKinds.{batch_words, ends_with_return, is_byte_order_mark, is_of_head, is_utf16, kind_words, opening_words, return_words};
+ghost use Rattle.fault_lines.specs.TextKinds.{batch_words, ends_with_return, is_of_head, is_utf16, kind_words, opening_words, return_words};
 
 use crate::fields::line_at;
 use input_sections::behind_word;
@@ -28,18 +29,21 @@ fn return_words(text: &[u8], number: u32) -> &'static [u8]
     }
 }
 
-/// Whether a text begins with the byte order mark of UTF-8.
-fn is_byte_order_mark(text: &[u8]) -> bool
-    ensures { result ≡ is_byte_order_mark text.now }
+/// The byte order mark of UTF-8.
+const BYTE_ORDER_MARK: &[u8] = b"\xEF\xBB\xBF";
+
+/// Whether a text begins with a word.
+pub(crate) fn begins_with(text: &[u8], word: &[u8]) -> bool
+    ensures { result ≡ begins_with word.now text.now }
 {
-    behind_word(text, b"\xEF\xBB\xBF").is_some()
+    behind_word(text, word).is_some()
 }
 
 /// Whether a text begins with a byte order mark of UTF-16.
 fn is_utf16(text: &[u8]) -> bool
     ensures { result ≡ is_utf16 text.now }
 {
-    behind_word(text, b"\xFF\xFE").is_some() || behind_word(text, b"\xFE\xFF").is_some()
+    begins_with(text, b"\xFF\xFE") || begins_with(text, b"\xFE\xFF")
 }
 
 /// What a text is whose first line is none of its kind, or is not looked at, behind a space, or nothing.
@@ -48,7 +52,7 @@ pub(crate) fn kind_words(text: &[u8]) -> &'static [u8]
 {
     if text.is_empty() {
         b" empty"
-    } else if is_byte_order_mark(text) {
+    } else if begins_with(text, BYTE_ORDER_MARK) {
         b" byte order mark"
     } else if is_utf16(text) {
         b" UTF-16"

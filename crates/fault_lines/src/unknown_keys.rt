@@ -1,8 +1,7 @@
 //! Keys of a sheet or of an issuer that no reader takes.
 
-ghost use Rattle.std.specs.Prelude.{◌≡◌, ◌≢◌, [], ◌++◌, Some, None, IfOk, MatchOption, OnOk, map};
+ghost use Rattle.std.specs.Prelude.{◌≡◌, [], ◌++◌, OnOk, map};
 ghost use Rattle.std.specs.List.{list_any};
-ghost use Rattle.toml.specs.Parse.{parse_document};
 ghost use Rattle.toml.specs.View.{table_view};
 ghost use Rattle.metering_model.specs.BatchReading.{lines_in};
 ghost use Rattle.sheet_text.specs.Keys.{rows_under};
@@ -145,17 +144,7 @@ fn add_rows<'a>(
     Ok(())
 }
 
-/// Nothing is added where there are no rows; an allocation failure is handed on.
-fn without_rows(fault: KeyFault) -> Result<(), AllocError>
-    ensures { OnOk result (fault ≢ KeyFault.OutOfMemory) }
-{
-    match fault {
-        KeyFault::OutOfMemory => Err(AllocError),
-        KeyFault::Missing(_) | KeyFault::BadValue(_) => Ok(()),
-    }
-}
-
-/// Adds those of the keys of the rows under a key.
+/// Adds those of the keys of the rows under a key: none where there are no rows.
 #[tactic(auto, unfolding(crate::specs::UnknownKeys::with_rows))]
 fn add_rows_under<'a>(
     alloc: Global,
@@ -169,7 +158,8 @@ fn add_rows_under<'a>(
 {
     match rows_under(alloc, members, key) {
         Ok(rows) => add_rows(taken, key.name().as_bytes(), found, &rows),
-        Err(fault) => without_rows(fault),
+        Err(KeyFault::OutOfMemory) => Err(AllocError),
+        Err(_) => Ok(()),
     }
 }
 
@@ -212,23 +202,6 @@ fn add_of<'a>(
     }
 }
 
-/// The table that a text is, where it is one.
-fn document(alloc: Global, text: &str) -> Result<Option<Table>, AllocError>
-    ensures { IfOk result (λ found. MatchOption found (parse_document text.now ≡ None)
-        (λ table. parse_document text.now ≡ Some (table_view table))) }
-{
-    match toml::table_from_str(alloc, text) {
-        Ok(table) => Ok(Some(table)),
-        Err(error) => {
-            if error.is_memory() {
-                Err(AllocError)
-            } else {
-                Ok(None)
-            }
-        }
-    }
-}
-
 /// Appends the unknown keys of the table of a section that opens on a line.
 fn put_of_table(
     alloc: Global,
@@ -261,13 +234,15 @@ fn put_of(
     ensures { OnOk result (told.new.items
         ≡ told.old.items ++ told_of_section (unknown_of owner) opening section.now) }
 {
-    let Ok(text) = str::from_utf8(section) else {
-        return Ok(());
-    };
-    match document(alloc, text) {
-        Ok(Some(table)) => put_of_table(alloc, told, owner, opening, section, &table),
-        Ok(None) => Ok(()),
-        Err(error) => Err(error),
+    match toml::table_from_slice(alloc, section) {
+        Ok(table) => put_of_table(alloc, told, owner, opening, section, &table),
+        Err(error) => {
+            if error.is_memory() {
+                Err(AllocError)
+            } else {
+                Ok(())
+            }
+        }
     }
 }
 

@@ -7,7 +7,7 @@ ghost use Rattle.input_check.specs.Inputs.{Checks, IsSaidAs, IsSaidOf};
 ghost use Rattle.input_check.specs.Warnings.{warned_of_input_as};
 
 use crate::events::check_schedule;
-use crate::kinds::{InputKind, kind_of};
+use crate::kinds::{InputKind, kind_by};
 use crate::ratings::check_rating;
 use counted_io::{Sink, Source};
 use fault_lines::{Check, check_input};
@@ -34,23 +34,24 @@ fn put_faults(
     }
 }
 
-/// What an input of a kind is checked as.
+/// What an input is checked as: as the kind that is given, or else as its first line says.
 #[derive(Clone, Copy)]
-struct OfKind {
-    kind: InputKind,
+struct Kinded {
+    kind: Option<InputKind>,
 }
 
-impl Check for OfKind {
-    ghost use Rattle.input_check.specs.Inner.LongInputs.{long_said_as};
-    ghost use Rattle.input_check.specs.Inner.SaidLines.{lines_said_as};
+impl Check for Kinded {
+    ghost use Rattle.input_check.specs.Inner.Kinds.{said_by, warned_by};
+    ghost use Rattle.input_check.specs.Inner.LongInputs.{long_said_by};
+    ghost use Rattle.input_check.specs.Inner.SaidLines.{lines_said_by};
 
-    ghost said_of = { λ c. said_of_input_as c.kind };
+    ghost said_of = { λ c. said_by c.kind };
 
-    ghost warned_of = { λ c. warned_of_input_as c.kind };
+    ghost warned_of = { λ c. warned_by c.kind };
 
-    ghost lines = { λ c. lines_said_as c.kind };
+    ghost lines = { λ c. lines_said_by c.kind };
 
-    ghost long = { λ c. long_said_as c.kind };
+    ghost long = { λ c. long_said_by c.kind };
 
     fn put(
         &self,
@@ -59,36 +60,7 @@ impl Check for OfKind {
         told: &mut Vec<u8>,
         warnings: &mut Vec<u8>,
     ) -> Result<(), AllocError> {
-        put_faults(alloc, self.kind, input, told, warnings)
-    }
-}
-
-/// What an input is checked as whose first line says its kind.
-#[derive(Clone, Copy)]
-struct OfFirstLine;
-
-impl Check for OfFirstLine {
-    ghost use Rattle.input_check.specs.Inputs.{said_of_input, warned_of_input};
-    ghost use Rattle.input_check.specs.Inner.LongInputs.{long_said};
-    ghost use Rattle.input_check.specs.Inner.SaidLines.{lines_said};
-
-    ghost said_of = { λ _. said_of_input };
-
-    ghost warned_of = { λ _. warned_of_input };
-
-    ghost lines = { λ _. lines_said };
-
-    ghost long = { λ _. long_said };
-
-    #[tactic(auto, unfolding(crate::specs::Inputs::said_of_input, crate::specs::Inputs::warned_of_input))]
-    fn put(
-        &self,
-        alloc: Global,
-        input: &Arc<Vec<u8>>,
-        told: &mut Vec<u8>,
-        warnings: &mut Vec<u8>,
-    ) -> Result<(), AllocError> {
-        put_faults(alloc, kind_of(input), input, told, warnings)
+        put_faults(alloc, kind_by(self.kind, input), input, told, warnings)
     }
 }
 
@@ -109,11 +81,12 @@ pub fn check_text_as<R: Source, W: Sink>(
         (R.failed_calls reader.old) (R.failed_calls reader.new)
         (W.failed_calls writer.old) (W.failed_calls writer.new) }
 {
-    check_input(alloc, &OfKind { kind }, reader, writer)
+    check_input(alloc, &Kinded { kind: Some(kind) }, reader, writer)
 }
 
 /// The same of the kind that the first line says: a text that begins with `SCHEDULE` is taken for a schedule, any other for what
 /// is to be rated.
+#[tactic(auto, unfolding(crate::specs::Inputs::said_of_input, crate::specs::Inputs::warned_of_input))]
 pub fn check_text<R: Source, W: Sink>(
     alloc: Global,
     reader: &mut R,
@@ -125,5 +98,5 @@ pub fn check_text<R: Source, W: Sink>(
         (R.failed_calls reader.old) (R.failed_calls reader.new)
         (W.failed_calls writer.old) (W.failed_calls writer.new) }
 {
-    check_input(alloc, &OfFirstLine, reader, writer)
+    check_input(alloc, &Kinded { kind: None }, reader, writer)
 }

@@ -1,6 +1,6 @@
 -- Of an input that is too long that alone is said, and of nothing it is warned. The proofs stand here and not among the others,
 -- since an `impl` of this crate hands them on.
-use Rattle.std.proofs.Common.{◌≡◌, ℕ, ◌<◌, false, List, [], ◌∷◌, ◌++◌, length, take, ◌-◌, Result, Ok, Err, codes, ap, arith}
+use Rattle.std.proofs.Common.{◌≡◌, ℕ, ◌<◌, false, List, [], ◌∷◌, ◌++◌, length, take, ◌-◌, Option, Result, Ok, Err, codes, ap, arith}
 use Rattle.std.specs.Prelude.{nat_le}
 use Rattle.std.specs.Fmt.{digits}
 use Rattle.std.proofs.lemmas.Bool.Decides.{nat_tests}
@@ -17,7 +17,7 @@ use Rattle.fault_lines.specs.Checked.{SaysTooLong}
 use Rattle.fault_lines.specs.Told.{said_of_fault}
 use Rattle.fault_lines.specs.UnknownKeys.{unknown_on}
 use Rattle.input_check.specs.Checks.{said_below, said_of_batch, said_of_input_as, said_of_rating, said_of_schedule}
-use Rattle.input_check.specs.Inputs.{kind_in, said_of_input, warned_of_input}
+use Rattle.input_check.specs.Inner.Kinds.{kind_by, said_by, warned_by}
 use Rattle.input_check.specs.Warnings.{journaled_in_rating, journaled_in_schedule, warned_of_input_as, warned_of_rating, warned_of_schedule}
 use Rattle.input_check.specs.declared.kinds.InputKind.{InputKind}
 use Rattle.input_check.specs.declared.kinds.InputKind.TheVariants as kind
@@ -62,9 +62,8 @@ module _ (text : List ℕ) (long : most_input_bytes < length text) where
   warned_of_long kind.Rate =
       ap (λ r. elim r [ Ok given ↦ unknown_on 1 text ++ ahead_of_all [] (journaled_in_rating text given) | Err fault ↦ [] ]) long_rating
 
-pub long_said_as : (k : InputKind) → SaysTooLong (said_of_input_as k) (warned_of_input_as k)
+long_said_as : (k : InputKind) → SaysTooLong (said_of_input_as k) (warned_of_input_as k)
 long_said_as k text long = (said_of_long text long k, warned_of_long text long k)
 
-pub long_said : SaysTooLong said_of_input warned_of_input
-unfolding said_of_input warned_of_input
-long_said text long = long_said_as (kind_in text) text long
+pub long_said_by : (given : Option InputKind) → SaysTooLong (said_by given) (warned_by given)
+long_said_by given text long = long_said_as (kind_by given text) text long

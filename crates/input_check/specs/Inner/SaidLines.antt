@@ -1,6 +1,6 @@
 -- Whatever is said of an input has a line feed at least. The proofs stand here and not among the others, since an `impl` of this
 -- crate hands them on.
-use Rattle.std.proofs.Common.{◌≡◌, ◌⊎◌, ℕ, zero, suc, ◌+◌, ◌-◌, ◌≤◌, ◌==◌, Bool, true, false, cond, List, [], ◌∷◌, ◌++◌, length, take, Result, Ok, Err, codes, refl, sym, subst, inl, inr, arith}
+use Rattle.std.proofs.Common.{◌≡◌, ◌⊎◌, ℕ, zero, suc, ◌+◌, ◌-◌, ◌≤◌, ◌==◌, Bool, true, false, cond, List, [], ◌∷◌, ◌++◌, length, take, Option, Result, Ok, Err, codes, refl, sym, subst, inl, inr, arith}
 use Rattle.std.proofs.lemmas.List.Sums.{sum_by-append}
 use Rattle.metering_model.specs.Batch.{Batch, is_empty}
 use Rattle.metering_model.specs.Schedule.{Planned, PlansDelivery, PlansExport, PlansJournal, PlansKeep, PlansRestart, PlansRevival, PlansStart, event_of, lines_text}
@@ -20,7 +20,7 @@ use Rattle.input_check.specs.declared.kinds.InputKind.{InputKind}
 use Rattle.fault_lines.specs.Checked.{SaysLines}
 use Rattle.input_check.specs.Checks.{line_of_kept, said_behind, said_below, said_of_batch, said_of_events, said_of_input_as, said_of_journaled, said_of_rating, said_of_refused, said_of_reply, said_of_schedule}
 use Rattle.fault_lines.specs.Told.{bad_index, line_within, more_words, reason, said_of_fault, told_at, words_of}
-use Rattle.input_check.specs.Inputs.{kind_in, said_of_input}
+use Rattle.input_check.specs.Inner.Kinds.{kind_by, said_by}
 use Rattle.input_check.specs.declared.kinds.InputKind.TheVariants as kind
 
 abbrev IsNoneOrLines : List ℕ → Type 0
@@ -121,9 +121,8 @@ none_of : (t : List ℕ) → IsNoneOrLines t → line_count t ≡ 0 → t ≡ []
 none_of t (inl none) no_line = none
 none_of t (inr some) no_line = absurd (omega (arith, some, no_line))
 
-pub lines_said_as : (k : InputKind) → SaysLines (said_of_input_as k)
+lines_said_as : (k : InputKind) → SaysLines (said_of_input_as k)
 lines_said_as k text no_line = none_of (said_of_input_as k text) (of_input k text) no_line
 
-pub lines_said : SaysLines said_of_input
-unfolding said_of_input
-lines_said text no_line = lines_said_as (kind_in text) text no_line
+pub lines_said_by : (given : Option InputKind) → SaysLines (said_by given)
+lines_said_by given text no_line = lines_said_as (kind_by given text) text no_line

@@ -1,6 +1,7 @@
-use Rattle.std.proofs.Common.{◌≡◌, ◌+◌, map, drop, sym, ap, ◌∙◌, subst, arith}
+use Rattle.std.proofs.Common.{◌≡◌, ◌+◌, List, ℤ, map, drop, sym, ap, ◌∙◌, subst, arith}
 use Rattle.batch_view.specs.Asked.{asked_in, asked_left, record_asked}
 use Rattle.batch_view.specs.Batches.{RecordsLeft, batch_of}
+use Rattle.fault_lines.specs.Ahead.{latest}
 use Rattle.fault_lines.proofs.AheadWalks.{IsWalked, next_asked, none_asked, walk_begins, walk_goes_on, walk_latest, walk_told}
 use Rattle.fault_lines.proofs.ahead.put_batch.Goals as goal
 
@@ -44,22 +45,18 @@ loop-asked-preserved c =
           (c.in-Ok.ensures.told next.r w.seen next.there next.asked w.is_latest) (c.in-Ok.ensures.latest next.r w.seen next.asked w.is_latest);
     }
 
-pub returns-clause-told : goal.returns-clause-told
-returns-clause-told c = λ days is.
+pub returns : goal.returns
+returns c =
     let l = c.loop-asked.invariant in
     let rs = (batch_of c.args.batch.now).records in
     let same : asked_left c.loop-asked.asked-iterator ≡ map asked_in (drop c.loop-asked.index rs) =
     ap (λ b. map asked_in (drop c.loop-asked.asked-iterator.index (batch_of b).records)) l.bytes ∙ ap (λ n. map asked_in (drop n rs)) l.index in
     let none = none_asked rs c.loop-asked.index (sym same ∙ c.in-None.ensures.steps.first.0) in
-    walk_told c.args.lines days c.args.told.now.items c.loop-asked.told.items c.loop-asked.told.items rs c.loop-asked.index c.loop-asked.latest c.loop-asked.latest
-    (subst (λ left. IsWalked c.args.lines days c.args.told.now.items c.loop-asked.told.items rs left c.loop-asked.index c.loop-asked.latest) none (l.walked days is))
-
-pub returns-clause-latest : goal.returns-clause-latest
-returns-clause-latest c = λ days is.
-    let l = c.loop-asked.invariant in
-    let rs = (batch_of c.args.batch.now).records in
-    let same : asked_left c.loop-asked.asked-iterator ≡ map asked_in (drop c.loop-asked.index rs) =
-    ap (λ b. map asked_in (drop c.loop-asked.asked-iterator.index (batch_of b).records)) l.bytes ∙ ap (λ n. map asked_in (drop n rs)) l.index in
-    let none = none_asked rs c.loop-asked.index (sym same ∙ c.in-None.ensures.steps.first.0) in
-    walk_latest c.args.lines days c.args.told.now.items c.loop-asked.told.items c.loop-asked.told.items rs c.loop-asked.index c.loop-asked.latest c.loop-asked.latest
-    (subst (λ left. IsWalked c.args.lines days c.args.told.now.items c.loop-asked.told.items rs left c.loop-asked.index c.loop-asked.latest) none (l.walked days is))
+    let walked = λ (days : List ℤ) (is : c.args.above ≡ latest days).
+    subst (λ left. IsWalked c.args.lines days c.args.told.now.items c.loop-asked.told.items rs left c.loop-asked.index c.loop-asked.latest) none (l.walked days is) in
+    record {
+      told = λ days is.
+          walk_told c.args.lines days c.args.told.now.items c.loop-asked.told.items c.loop-asked.told.items rs c.loop-asked.index c.loop-asked.latest c.loop-asked.latest (walked days is);
+      latest = λ days is.
+          walk_latest c.args.lines days c.args.told.now.items c.loop-asked.told.items c.loop-asked.told.items rs c.loop-asked.index c.loop-asked.latest c.loop-asked.latest (walked days is);
+    }

@@ -12,37 +12,19 @@ not_both is = absurd (cc)
 wrong : {P : Type 0} → ◌≡◌ {A = PlayFault} OutOfMemory Write → P
 wrong is = absurd (cc)
 
-pub returns-in-Ok-clause-said : goal.returns-in-Ok-clause-said
-returns-in-Ok-clause-said g c =
+pub returns-in-Ok : goal.returns-in-Ok
+returns-in-Ok g c =
     let said = g.C.Check.said_of c.args.check.now c.args.input.items ++ g.C.Check.warned_of c.args.check.now c.args.input.items in
     let text : c.deref.result.now ≡ said = c.deref.ensures.value ∙ c.in-Ok.ensures.said in
-    IfOk-weaker c.write_said.result _ _
-    (λ answer is. (subst (λ (t : List ℕ). Appends (g.W.Sink.contents c.args.writer.now) (g.W.Sink.contents c.write_said.new.writer) t) {y = said} text is.0, is.1 ∙ c.in-Ok.ensures.count)) c.write_said.ensures.said
+    record {
+      said = IfOk-weaker c.write_said.result _ _
+          (λ answer is. (subst (λ (t : List ℕ). Appends (g.W.Sink.contents c.args.writer.now) (g.W.Sink.contents c.write_said.new.writer) t) {y = said} text is.0, is.1 ∙ c.in-Ok.ensures.count)) c.write_said.ensures.said;
+      prefix = λ is.
+          subst (λ (t : List ℕ). AppendsPrefix (g.W.Sink.contents c.args.writer.now) (g.W.Sink.contents c.write_said.new.writer) t) {y = said} text (c.write_said.ensures.prefix is);
+      fault = IfErr-weaker c.write_said.result _ _ (λ fault is. inl is) c.write_said.ensures.fault;
+      memory = λ is. wrong (IfErr-at_err _ is c.write_said.ensures.fault);
+      writes = c.write_said.ensures.writes;
+    }
 
-pub returns-in-Ok-clause-prefix : goal.returns-in-Ok-clause-prefix
-returns-in-Ok-clause-prefix g c = λ is.
-    subst (λ (t : List ℕ). AppendsPrefix (g.W.Sink.contents c.args.writer.now) (g.W.Sink.contents c.write_said.new.writer) t) (c.deref.ensures.value ∙ c.in-Ok.ensures.said) (c.write_said.ensures.prefix is)
-
-pub returns-in-Ok-clause-fault : goal.returns-in-Ok-clause-fault
-returns-in-Ok-clause-fault g c = IfErr-weaker c.write_said.result _ _ (λ fault is. inl is) c.write_said.ensures.fault
-
-pub returns-in-Ok-clause-memory : goal.returns-in-Ok-clause-memory
-returns-in-Ok-clause-memory g c = λ is. wrong (IfErr-at_err _ is c.write_said.ensures.fault)
-
-pub returns-in-Ok-clause-writes : goal.returns-in-Ok-clause-writes
-returns-in-Ok-clause-writes g c = c.write_said.ensures.writes
-
-pub returns-clause-said : goal.returns-clause-said
-returns-clause-said g c = tt
-
-pub returns-clause-prefix : goal.returns-clause-prefix
-returns-clause-prefix g c = λ is. not_both is
-
-pub returns-clause-fault : goal.returns-clause-fault
-returns-clause-fault g c = inr refl
-
-pub returns-clause-memory : goal.returns-clause-memory
-returns-clause-memory g c = λ is. refl
-
-pub returns-clause-writes : goal.returns-clause-writes
-returns-clause-writes g c = refl
+pub returns : goal.returns
+returns g c = record { said = tt; prefix = λ is. not_both is; fault = inr refl; memory = λ is. refl; writes = refl }

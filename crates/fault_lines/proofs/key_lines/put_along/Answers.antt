@@ -29,24 +29,19 @@ loop-index-preserved c =
       few,
     )
 
-pub returns-clause-told : goal.returns-clause-told
-returns-clause-told c =
+pub returns : goal.returns
+returns c =
     let l = c.loop-index in
     let none = is_none (lines_in l.rest.now).lines (omega (arith, l.invariant.2, c.loop-index-test.false, c.line_count-index-end.ensures)) in
-    along_ends _ _ [] l.table.now [] (c.args.opening + 1 + l.index) 0 l.keys.items [] _ l.invariant.0 none
+    record {
+      told = along_ends _ _ [] l.table.now [] (c.args.opening + 1 + l.index) 0 l.keys.items [] _ l.invariant.0 none;
+      left = left_ends [] [] [] l.table.now [] 0 0 l.keys.items [] _ _ l.invariant.1 none;
+    }
 
-pub returns-clause-left : goal.returns-clause-left
-returns-clause-left c =
+pub returns-in_default : goal.returns-in_default
+returns-in_default c =
     let l = c.loop-index in
-    let none = is_none (lines_in l.rest.now).lines (omega (arith, l.invariant.2, c.loop-index-test.false, c.line_count-index-end.ensures)) in
-    left_ends [] [] [] l.table.now [] 0 0 l.keys.items [] _ _ l.invariant.1 none
-
-pub returns-in_default-clause-told : goal.returns-in_default-clause-told
-returns-in_default-clause-told c =
-    let l = c.loop-index in
-    along_ends _ _ [] l.table.now [] (c.args.opening + 1 + l.index) 0 l.keys.items [] _ l.invariant.0 c.in_default.ensures
-
-pub returns-in_default-clause-left : goal.returns-in_default-clause-left
-returns-in_default-clause-left c =
-    let l = c.loop-index in
-    left_ends [] [] [] l.table.now [] 0 0 l.keys.items [] _ _ l.invariant.1 c.in_default.ensures
+    record {
+      told = along_ends _ _ [] l.table.now [] (c.args.opening + 1 + l.index) 0 l.keys.items [] _ l.invariant.0 c.in_default.ensures;
+      left = left_ends [] [] [] l.table.now [] 0 0 l.keys.items [] _ _ l.invariant.1 c.in_default.ensures;
+    }

@@ -8,55 +8,31 @@ use Rattle.input_check.proofs.CountedBatches.{warned_all, warned_at_end, warned_
 use Rattle.input_check.proofs.SaidLaws.{said_all, said_at_end, said_more, said_whole}
 use Rattle.input_check.proofs.events.check_events.Goals as goal
 
-pub returns-then-is_empty-clause-said : goal.returns-then-is_empty-clause-said
-returns-then-is_empty-clause-said c =
-    let k = c.args.most - (c.loop.counter + 1) in
-    let more : c.args.most - c.loop.counter ≡ suc k = omega (arith, c.loop-test.true) in
-    let same = ap length c.left.ensures in
-    let none : length (left c.loop.here) ≤ 0 = grind (arith, nat_tests, same, c.is_empty.ensures, c.if-is_empty.true) in
-    said_all c.loop.told.items k c.loop.world c.loop.here _ _ more none c.loop.invariant.0
-
-pub returns-then-is_empty-clause-ahead : goal.returns-then-is_empty-clause-ahead
-returns-then-is_empty-clause-ahead c =
+pub returns-then-is_empty : goal.returns-then-is_empty
+returns-then-is_empty c =
     let k = c.args.most - (c.loop.counter + 1) in
     let more : c.args.most - c.loop.counter ≡ suc k = omega (arith, c.loop-test.true) in
     let same = ap length c.left.ensures in
     let none : length (left c.loop.here) ≤ 0 = grind (arith, nat_tests, same, c.is_empty.ensures, c.if-is_empty.true) in
     let ahead = c.loop.invariant.2 in
-    warned_all c.loop.warned.items ahead.0 c.loop.world c.loop.here k _ _ more none ahead.2
+    record {
+      said = said_all c.loop.told.items k c.loop.world c.loop.here _ _ more none c.loop.invariant.0;
+      ahead = warned_all c.loop.warned.items ahead.0 c.loop.world c.loop.here k _ _ more none ahead.2;
+      fault = found_none _ _ k c.loop.here _ more none c.loop.invariant.1;
+    }
 
-pub returns-then-is_empty-clause-fault : goal.returns-then-is_empty-clause-fault
-returns-then-is_empty-clause-fault c =
-    let k = c.args.most - (c.loop.counter + 1) in
-    let more : c.args.most - c.loop.counter ≡ suc k = omega (arith, c.loop-test.true) in
-    let same = ap length c.left.ensures in
-    let none : length (left c.loop.here) ≤ 0 = grind (arith, nat_tests, same, c.is_empty.ensures, c.if-is_empty.true) in
-    found_none _ _ k c.loop.here _ more none c.loop.invariant.1
-
-pub returns-in-Err-clause-said : goal.returns-in-Err-clause-said
-returns-in-Err-clause-said c =
-    let k = c.args.most - (c.loop.counter + 1) in
-    let more : c.args.most - c.loop.counter ≡ suc k = omega (arith, c.loop-test.true) in
-    let same = ap length c.left.ensures in
-    let some : 0 < length (left c.loop.here) = grind (arith, nat_tests, same, c.is_empty.ensures, c.if-is_empty.false) in
-    said_whole c.loop.told.items k c.loop.world c.loop.here _ _ _ more some c.in-Err.ensures.event c.loop.invariant.0
-
-pub returns-in-Err-clause-ahead : goal.returns-in-Err-clause-ahead
-returns-in-Err-clause-ahead c =
+pub returns-in-Err : goal.returns-in-Err
+returns-in-Err c =
     let k = c.args.most - (c.loop.counter + 1) in
     let more : c.args.most - c.loop.counter ≡ suc k = omega (arith, c.loop-test.true) in
     let same = ap length c.left.ensures in
     let some : 0 < length (left c.loop.here) = grind (arith, nat_tests, same, c.is_empty.ensures, c.if-is_empty.false) in
     let ahead = c.loop.invariant.2 in
-    warned_whole c.loop.warned.items ahead.0 c.loop.world c.loop.here k _ _ _ more some c.in-Err.ensures.event ahead.2
-
-pub returns-in-Err-clause-fault : goal.returns-in-Err-clause-fault
-returns-in-Err-clause-fault c =
-    let k = c.args.most - (c.loop.counter + 1) in
-    let more : c.args.most - c.loop.counter ≡ suc k = omega (arith, c.loop-test.true) in
-    let same = ap length c.left.ensures in
-    let some : 0 < length (left c.loop.here) = grind (arith, nat_tests, same, c.is_empty.ensures, c.if-is_empty.false) in
-    found_here _ _ k c.loop.here _ c.in-Err.fault more some c.in-Err.ensures.event c.loop.invariant.1
+    record {
+      said = said_whole c.loop.told.items k c.loop.world c.loop.here _ _ _ more some c.in-Err.ensures.event c.loop.invariant.0;
+      ahead = warned_whole c.loop.warned.items ahead.0 c.loop.world c.loop.here k _ _ _ more some c.in-Err.ensures.event ahead.2;
+      fault = found_here _ _ k c.loop.here _ c.in-Err.fault more some c.in-Err.ensures.event c.loop.invariant.1;
+    }
 
 -- What is journaled stands before what is left.
 pub journal_from-from-requires : goal.journal_from-from-requires
@@ -96,18 +72,12 @@ loop-preserved c =
       (text, subst (λ t. c.in-Ok.parts.1.from ≤ length t) text there),
     )
 
-pub returns-clause-said : goal.returns-clause-said
-returns-clause-said c =
-    let none : c.args.most - c.loop.counter ≡ 0 = omega (arith, c.loop-test.false) in
-    said_at_end c.loop.told.items c.loop.world c.loop.here _ _ none c.loop.invariant.0
-
-pub returns-clause-ahead : goal.returns-clause-ahead
-returns-clause-ahead c =
+pub returns : goal.returns
+returns c =
     let none : c.args.most - c.loop.counter ≡ 0 = omega (arith, c.loop-test.false) in
     let ahead = c.loop.invariant.2 in
-    warned_at_end c.loop.warned.items ahead.0 c.loop.world c.loop.here _ _ none ahead.2
-
-pub returns-clause-fault : goal.returns-clause-fault
-returns-clause-fault c =
-    let none : c.args.most - c.loop.counter ≡ 0 = omega (arith, c.loop-test.false) in
-    found_at_end _ _ c.loop.here _ none c.loop.invariant.1
+    record {
+      said = said_at_end c.loop.told.items c.loop.world c.loop.here _ _ none c.loop.invariant.0;
+      ahead = warned_at_end c.loop.warned.items ahead.0 c.loop.world c.loop.here _ _ none ahead.2;
+      fault = found_at_end _ _ c.loop.here _ none c.loop.invariant.1;
+    }

@@ -15,11 +15,9 @@ put_reply-requires-clause-bad c = λ why told ls plans rule.
       | else-breaks_rule w ↦ absurd (let yes = c.breaks_rule.ensures ∙ (ap breaks_rule told ∙ rule) in let no = w.if-breaks_rule.false in cc)
     ]
 
-pub returns-clause-said : goal.returns-clause-said
-returns-clause-said c = in_any_case c.put_ahead_of.result c.in_ok-put_reply.ensures
-
-pub returns-clause-ahead : goal.returns-clause-ahead
-returns-clause-ahead c = c.put_ahead_of.ensures.said
-
-pub returns-clause-latest : goal.returns-clause-latest
-returns-clause-latest c = c.put_ahead_of.ensures.kept
+pub returns : goal.returns
+returns c = record {
+  said = in_any_case c.put_ahead_of.result c.in_ok-put_reply.ensures;
+  ahead = c.put_ahead_of.ensures.said;
+  latest = c.put_ahead_of.ensures.kept;
+}

@@ -3,15 +3,16 @@ use Rattle.std.proofs.lemmas.Result.{on_ok_weaker}
 use Rattle.sheet_changes.proofs.CheckLaws.{fault_told, none_told, taken_says}
 use Rattle.sheet_changes.proofs.checks.put_checked.Goals as goal
 
-pub returns-in-Ok-clause-said : goal.returns-in-Ok-clause-said
-returns-in-Ok-clause-said c =
+pub returns-in-Ok : goal.returns-in-Ok
+returns-in-Ok c =
     let told = c.args.told.now.items in
     let same = sym (append-nil told) ∙ ap (λ t. told ++ t) (sym (taken_says c.args.text.now c.in-Ok.ensures.taken)) in
-    on_ok_weaker c.put_warnings.result (λ _. same) c.put_warnings.ensures
+    record { said = on_ok_weaker c.put_warnings.result (λ _. same) c.put_warnings.ensures; warned = c.put_warnings.ensures }
 
-pub returns-in-Err-clause-said : goal.returns-in-Err-clause-said
-returns-in-Err-clause-said c =
-    fault_told c.args.text.now c.args.told.now.items _ c.in-Err.ensures.refused c.put_fault.result _ c.put_fault.ensures.memory c.put_fault.ensures.said
-
-pub returns-in-Err-clause-warned : goal.returns-in-Err-clause-warned
-returns-in-Err-clause-warned c = none_told c.args.text.now c.args.warned.now.items _ c.in-Err.ensures.refused c.put_fault.result c.put_fault.ensures.memory
+pub returns-in-Err : goal.returns-in-Err
+returns-in-Err c =
+    let refused = c.in-Err.ensures.refused in
+    record {
+      said = fault_told c.args.text.now c.args.told.now.items _ refused c.put_fault.result _ c.put_fault.ensures.memory c.put_fault.ensures.said;
+      warned = none_told c.args.text.now c.args.warned.now.items _ refused c.put_fault.result c.put_fault.ensures.memory;
+    }

@@ -2,8 +2,5 @@ use Rattle.sheet_changes.proofs.CommitmentLaws.{goes_on_from_none}
 use Rattle.sheet_changes.proofs.LikenessLaws.{goes_on_by}
 use Rattle.sheet_changes.proofs.laws.likeness.Goals as goal
 
-pub returns-clause-days : goal.returns-clause-days
-returns-clause-days c = goes_on_by
-
-pub returns-clause-commitment : goal.returns-clause-commitment
-returns-clause-commitment c = goes_on_from_none
+pub returns : goal.returns
+returns c = record { days = goes_on_by; commitment = goes_on_from_none }

@@ -2,8 +2,5 @@ use Rattle.sheet_changes.proofs.ListedLaws.{goes_on_unlisted}
 use Rattle.sheet_changes.proofs.OneListing.{one_listing}
 use Rattle.sheet_changes.proofs.laws.listed.Goals as goal
 
-pub returns-clause-days : goal.returns-clause-days
-returns-clause-days c = λ old new day old_ok new_ok. goes_on_unlisted old new old_ok new_ok day
-
-pub returns-clause-only : goal.returns-clause-only
-returns-clause-only c = one_listing
+pub returns : goal.returns
+returns c = record { days = λ old new day old_ok new_ok. goes_on_unlisted old new old_ok new_ok day; only = one_listing }
