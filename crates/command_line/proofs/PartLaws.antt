@@ -11,10 +11,10 @@ use Rattle.counted_io.proofs.Prefixes.{prefix_behind, prefix_within}
 use Rattle.command_line.specs.Endings.{Tells, ending_line}
 use Rattle.command_line.specs.Inner.Parts.{first_part, last_part}
 use Rattle.command_line.specs.declared.statuses.Fault.{Fault}
-use Rattle.command_line.specs.declared.statuses.Fault.TheVariants.{Line, Play, Faults, File, Threads, Process, Unlike, Batch, TooLong, NotClosed}
+use Rattle.command_line.specs.declared.statuses.Fault.TheVariants.{Line, Play, Faults, File, Threads, Process, Unlike, Refused, TooLong, NotClosed}
 
 parts_join : (fault : Fault) → first_part fault ++ last_part fault ≡ ending_line fault
-parts_join (Batch told) = sym (append_assoc (codes "focusd: ") told.items (codes "\n"))
+parts_join (Refused told) = sym (append_assoc (codes "focusd: ") told.items (codes "\n"))
 parts_join (Line fault) = append-nil (ending_line (Line fault))
 parts_join (Play fault) = append-nil (ending_line (Play fault))
 parts_join (Faults count) = append-nil (ending_line (Faults count))

@@ -26,7 +26,7 @@ use Rattle.command_line.specs.declared.words.LineFault.TheVariants as on_line
 use Rattle.command_line.specs.declared.commands.Command.{Command}
 use Rattle.command_line.specs.declared.commands.Command.TheVariants.{Rate, Play as PlaySchedule, Check, File as CutFile, Threads as RunThreads, Help as ShowHelp, Version as ShowVersion, Sheets as CompareSheets, Schedule as WriteSchedule, Process as RunProcess}
 use Rattle.command_line.specs.declared.statuses.Fault.{Fault}
-use Rattle.command_line.specs.declared.statuses.Fault.TheVariants.{Line, Play, Faults, File, Threads, Process, Unlike, Batch, TooLong, NotClosed}
+use Rattle.command_line.specs.declared.statuses.Fault.TheVariants.{Line, Play, Faults, File, Threads, Process, Unlike, Refused, TooLong, NotClosed}
 use Rattle.command_line.specs.Endings.{Tells, ending_line, status_of}
 use Rattle.command_line.specs.Runs.{AsksFor, Ends, IsDone, IsDoneInPart, IsUnwritten, Says, most_read, words_behind_name}
 use Rattle.command_line.specs.Inner.Outcomes.{IsEnding, IsKept, IsSound, Leaves}
@@ -65,7 +65,7 @@ tells_memory Told (Process process.TooLong) four told = absurd (cc)
 tells_memory Told (Process process.Write) four told = absurd (cc)
 tells_memory Told (Process process.OutOfMemory) four told = told
 tells_memory Told Unlike four told = absurd (omega (arith, four))
-tells_memory Told (Batch words) four told = absurd (omega (arith, four))
+tells_memory Told (Refused words) four told = absurd (omega (arith, four))
 tells_memory Told TooLong four told = absurd (omega (arith, four))
 tells_memory Told NotClosed four told = absurd (omega (arith, four))
 
@@ -146,7 +146,7 @@ in_range (Process process.TooLong) = (omega arith, omega arith)
 in_range (Process process.Write) = (omega arith, omega arith)
 in_range (Process process.OutOfMemory) = (omega arith, omega arith)
 in_range Unlike = (omega arith, omega arith)
-in_range (Batch told) = (omega arith, omega arith)
+in_range (Refused told) = (omega arith, omega arith)
 in_range TooLong = (omega arith, omega arith)
 in_range NotClosed = (omega arith, omega arith)
 

@@ -17,7 +17,7 @@ use Rattle.process_player.specs.declared.LogCode.{LogCode}
 use Rattle.process_player.specs.declared.LogCode.TheVariants as log
 use Rattle.answer_words.specs.Words.{section_text}
 use Rattle.command_line.specs.declared.statuses.Fault.{Fault}
-use Rattle.command_line.specs.declared.statuses.Fault.TheVariants.{Line, Play, Faults, File, Threads, Process, Unlike, Batch, TooLong, NotClosed}
+use Rattle.command_line.specs.declared.statuses.Fault.TheVariants.{Line, Play, Faults, File, Threads, Process, Unlike, Refused, TooLong, NotClosed}
 
 abbrev pub status_of_process : ProcessFault → ℕ
 status_of_process process.Read = 3
@@ -54,7 +54,7 @@ status_of (Threads threads.Write) = 3
 status_of (Threads threads.Refused) = 1
 status_of (Process fault) = status_of_process fault
 status_of Unlike = 1
-status_of (Batch told) = 1
+status_of (Refused told) = 1
 status_of TooLong = 1
 status_of NotClosed = 1
 
@@ -99,7 +99,7 @@ message_of (Threads threads.Write) = codes "write failed"
 message_of (Threads threads.Refused) = codes "refused"
 message_of (Process fault) = process_message fault
 message_of Unlike = codes "unlike"
-message_of (Batch told) = told.items
+message_of (Refused told) = told.items
 message_of TooLong = codes "too long"
 message_of NotClosed = codes "not closed"
 

@@ -26,13 +26,12 @@ use Rattle.input_check.specs.declared.kinds.InputKind.TheVariants as checked_as
 use Rattle.period_file.specs.Files.{AppendsLess, AppendsPart, AppendsPrefixOf, IsFileOf as IsFirstFileOf, file_in}
 use Rattle.period_file.specs.declared.faults.FileFault.{FileFault}
 use Rattle.period_file.specs.declared.faults.FileFault.TheVariants as file
-use Rattle.input_sections.specs.RateInput.{rate_input_in}
 use Rattle.metering_model.specs.Sheet.{Sheet}
 use Rattle.metering_model.specs.Limits.{most_input_bytes, most_transcript_bytes}
 use Rattle.sheet_changes.specs.Changes.{IsSaidOf as AreSheetsOf, StaysBefore, two_sheets_in}
 use Rattle.sheet_changes.specs.Checks.{IsCheckOf}
 use Rattle.schedule_writer.specs.Checks.{IsSaidOf as IsSaidOfBatches}
-use Rattle.schedule_writer.specs.Refusals.{IsRefusedAt, IsTaken}
+use Rattle.schedule_writer.specs.Refusals.{IsRefused, IsTaken}
 use Rattle.schedule_writer.specs.Schedules.{IsScheduleOf}
 use Rattle.threads_player.specs.Runs.{Run}
 use Rattle.threads_player.specs.declared.faults.ThreadsFault.TheVariants as threads
@@ -117,10 +116,8 @@ Refuses (Threads size) known fault =
 Refuses (Sheets asked) known fault =
     (told : ScheduleFault) × (fault ≡ of_fault.Play (play.Schedule told)) × IfSome known (λ input. two_sheets_in input ≡ Err told)
 Refuses (Schedule request) known fault =
-    ((told : ScheduleFault) × (fault ≡ of_fault.Play (play.Schedule told))
-    × IfSome known (λ input. rate_input_in input ≡ Err told))
-    ⊎ (((told : Vec ℕ Global) × (fault ≡ of_fault.Batch told) × IfSome known (λ input. IsRefusedAt input told.items))
-    ⊎ (((fault ≡ of_fault.TooLong) ⊎ (fault ≡ of_fault.NotClosed)) × IfSome known IsTaken))
+    ((told : Vec ℕ Global) × (fault ≡ of_fault.Refused told) × IfSome known (λ input. IsRefused input told.items))
+    ⊎ (((fault ≡ of_fault.TooLong) ⊎ (fault ≡ of_fault.NotClosed)) × IfSome known IsTaken)
 Refuses (Process kind) known fault =
     (told : ProcessFault) × (fault ≡ of_fault.Process told) × IfSome known (λ input. Rejects kind input told)
 Refuses Help known fault = ⊥

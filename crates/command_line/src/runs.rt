@@ -220,8 +220,7 @@ fn fault_of_schedule(fault: WriteFault) -> Fault
 {
     match fault {
         WriteFault::Read => Fault::Play(PlayFault::Read),
-        WriteFault::Section(fault) => Fault::Play(PlayFault::Schedule(fault)),
-        WriteFault::Refused(told) => Fault::Batch(told),
+        WriteFault::Refused(told) => Fault::Refused(told),
         WriteFault::TooLong => Fault::TooLong,
         WriteFault::NotClosed => Fault::NotClosed,
         WriteFault::Write => Fault::Play(PlayFault::Write),

@@ -20,8 +20,8 @@ use threads_player::ThreadsFault;
 pub enum Fault {
     /// The command line.
     Line(LineFault),
-    /// `rate` or `play`, the sections of `sheets` or `schedule`; of any but `file`, `threads`, `node` and
-    /// `agent` also a device, or out of memory: an allocation failed.
+    /// `rate` or `play`, the sections of `sheets`; of any but `file`, `threads`, `node` and `agent` also a
+    /// device, or out of memory: an allocation failed.
     Play(PlayFault),
     /// `check` wrote so many lines of what is wrong.
     Faults(u64),
@@ -33,8 +33,9 @@ pub enum Fault {
     Process(ProcessFault),
     /// `sheets` wrote all, and not all stays that is to stay.
     Unlike,
-    /// `schedule`: the journals refuse a batch; in the words of `check`, without a line feed.
-    Batch(Vec<u8>),
+    /// `schedule`: a section is refused, or the journals refuse a batch; in the words of `check`, without
+    /// a line feed.
+    Refused(Vec<u8>),
     /// `schedule`: it would be longer than a schedule may be.
     TooLong,
     /// `schedule`: what was to be written does not close the months.
@@ -58,7 +59,7 @@ fn status(fault: &Fault) -> u8
             | ProcessFault::TooLong,
         )
         | Fault::Unlike
-        | Fault::Batch(_)
+        | Fault::Refused(_)
         | Fault::TooLong
         | Fault::NotClosed => 1,
         Fault::Line(LineFault::Line) => 2,
@@ -119,8 +120,8 @@ fn put_process(line: &mut Line, fault: ProcessFault)
     }
 }
 
-// Appends what is told of the fault, but nothing of a refused batch, for which a line may be too short:
-// at most "refused " and the 44 bytes of a refusal.
+// Appends what is told of the fault, but nothing in the words of `check`, for which a line may be too
+// short: at most "refused " and the 44 bytes of a refusal.
 fn put_message(line: &mut Line, fault: &Fault)
     requires room { length line.old + 52 ≤ 64 }
     ensures put { line.new ≡ line.old ++ first_words fault.now }
@@ -161,32 +162,32 @@ fn put_message(line: &mut Line, fault: &Fault)
         Fault::Threads(ThreadsFault::Refused) => line.put(b"refused"),
         Fault::Process(fault) => put_process(line, *fault),
         Fault::Unlike => line.put(b"unlike"),
-        Fault::Batch(_) => {}
+        Fault::Refused(_) => {}
         Fault::TooLong => line.put(b"too long"),
         Fault::NotClosed => line.put(b"not closed"),
     }
 }
 
-// The line of the fault, but of a refused batch what stands before its words
+// The line of the fault, but of one in the words of `check` what stands before these
 fn line_of(fault: &Fault) -> Line
     ensures { result ≡ first_part fault.now }
 {
     let mut line = Line::new();
     line.put(b"focusd: ");
     put_message(&mut line, fault);
-    if matches!(fault, Fault::Batch(_)) {
+    if matches!(fault, Fault::Refused(_)) {
         return line;
     }
     line.put(b"\n");
     line
 }
 
-// What stands behind it: nothing, but of a refused batch its words
+// What stands behind it: nothing, or those words
 fn words_of(fault: &Fault) -> &[u8]
     ensures { result.now ≡ told_part fault.now }
 {
     match fault {
-        Fault::Batch(told) => told,
+        Fault::Refused(told) => told,
         _ => b"",
     }
 }
@@ -196,7 +197,7 @@ fn end_of(fault: &Fault) -> &'static [u8]
     ensures { result.now ≡ end_part fault.now }
 {
     match fault {
-        Fault::Batch(_) => b"\n",
+        Fault::Refused(_) => b"\n",
         _ => b"",
     }
 }
@@ -221,9 +222,9 @@ fn tell<W: Sink>(fault: &Fault, writer: &mut W) -> Result<(), Failed>
     write_both(words_of(fault), end_of(fault), writer)
 }
 
-/// Writes the line of the fault in one write, or in three where a batch is refused, and gives the status
-/// to end with: 1 for refused input, a mismatch or sheets that are unlike, 2 for the command line, 3 for
-/// a failed read or write, 4 when out of memory: an allocation failed.
+/// Writes the line of the fault in one write, or in three where it has the words of `check`, and gives
+/// the status to end with: 1 for refused input, a mismatch or sheets that are unlike, 2 for the command
+/// line, 3 for a failed read or write, 4 when out of memory: an allocation failed.
 ///
 /// The status is the same where the writer fails. It takes no memory.
 pub fn ending<W: Sink>(fault: &Fault, writer: &mut W) -> u8

@@ -165,7 +165,6 @@ pub refused_or : (P Q : List ℕ → Type 0) → ((told : List ℕ) → P told �
 refused_or P Q from (written.Refused told) is = from told.items is
 refused_or P Q from written.OutOfMemory is = is
 refused_or P Q from written.Read is = is
-refused_or P Q from (written.Section told) is = is
 refused_or P Q from written.TooLong is = is
 refused_or P Q from written.NotClosed is = is
 refused_or P Q from written.Write is = is

@@ -1,22 +1,22 @@
 -- What is said of an input is what it is refused for.
-use Rattle.std.proofs.Common.{◌≡◌, ℕ, All, List, [], ◌∷◌, ◌++◌, map, codes, Result, Ok, Err, refl, sym, ap, ap₂, subst, ◌∙◌, ⊎_elim}
+use Rattle.std.proofs.Common.{◌≡◌, ℕ, All, List, [], ◌∷◌, ◌++◌, map, Result, Ok, Err, refl, sym, ap, ap₂, subst, ◌∙◌, inl, inr, ⊎_elim}
+use Rattle.std.proofs.lemmas.List.{append-nil}
 use Rattle.std.proofs.lemmas.List.Elements.{All-cons, All-head, All-nil, All-tail}
 use Rattle.metering_model.specs.RatedAlone.{world_before}
 use Rattle.metering_model.specs.Step.{play, step}
-use Rattle.metering_model.specs.Transcript.{line, with_number}
+use Rattle.metering_model.specs.Transcript.{line}
 use Rattle.metering_model.specs.World.{World, Refused}
 use Rattle.metering_model.specs.declared.Refusal.{Refusal}
 use Rattle.input_sections.specs.declared.faults.ScheduleFault.{ScheduleFault}
 use Rattle.input_sections.specs.declared.faults.ScheduleFault.TheVariants as section
 use Rattle.input_sections.specs.RateInput.{RateInput, rate_input_in}
-use Rattle.answer_words.specs.Words.{section_code_text}
-use Rattle.fault_lines.specs.Told.{reason}
 use Rattle.schedule_writer.specs.Checks.{said_of_input, told_of_answer, told_of_batches}
 use Rattle.schedule_writer.specs.Inputs.{Offered, batches_of, items_of}
-use Rattle.schedule_writer.specs.Refusals.{IsJournaled, IsRefusedAt, IsTaken, answer_to, journal_of, world_behind}
-use Rattle.schedule_writer.specs.Inner.SaidLines.{is_line, said_of_refused}
+use Rattle.schedule_writer.specs.Refusals.{IsJournaled, IsRefused, IsTaken, answer_to, journal_of, world_behind}
+use Rattle.schedule_writer.specs.Inner.SaidLines.{is_line, said_of_refused, section_line}
 use Rattle.schedule_writer.proofs.AnswerLaws.{is_answer}
 use Rattle.schedule_writer.proofs.CheckLaws.{said_of_read, told_behind}
+use Rattle.schedule_writer.proofs.KnownLaws.{no_line}
 use Rattle.input_sections.proofs.NeverWants.{NeverWants, a_rating}
 
 -- ---- batches that are journaled in turn
@@ -29,10 +29,6 @@ none_told input w (b ∷ bs) all =
     let first : IsJournaled (answer_to w b.text) = All-head IsJournaled (answer_to w b.text) (play next (map journal_of bs)).0 all in
     ap₂ (λ t u. t ++ u) (ap (told_of_answer input w b) first.1)
     (none_told input next bs (All-tail IsJournaled (answer_to w b.text) (play next (map journal_of bs)).0 all))
-
-no_line : (t : List ℕ) → line t ≡ [] → ⊥
-no_line [] is = cc
-no_line (c ∷ cs) is = cc
 
 both_none : (a b : List ℕ) → a ++ b ≡ [] → (a ≡ []) × (b ≡ [])
 both_none [] b is = (refl, is)
@@ -54,8 +50,9 @@ all_taken input w (b ∷ bs) none =
 
 -- ---- the input
 
-pub said_first : (input told : List ℕ) → IsRefusedAt input told → (rest : List ℕ) × (said_of_input input ≡ line told ++ rest)
-said_first input told is =
+pub said_first : (input told : List ℕ) → IsRefused input told → (rest : List ℕ) × (said_of_input input ≡ line told ++ rest)
+said_first input told (inl is) = ([], said_of_refused input is.fault is.refused ∙ (sym is.is_told ∙ sym (append-nil (line told))))
+said_first input told (inr is) =
     let given = is.given in
     let w = world_before given.sheet given.issuer in
     let here = world_behind given.sheet given.issuer is.before in
@@ -82,5 +79,5 @@ taken_of_none input none = by_input (rate_input_in input) refl
           taken = all_taken input (world_before given.sheet given.issuer) (batches_of (items_of input given)) (sym (said_of_read input given is) ∙ none);
         }
     by_input (Err (section.Refused code n)) is =
-        absurd (no_line (with_number (codes "line ") n ++ codes ": " ++ (section_code_text code ++ reason input code n)) (sym (said_of_refused input (section.Refused code n) is) ∙ none))
+        let told = section_line input code n in absurd (no_line told.0 (sym told.1 ∙ (sym (said_of_refused input (section.Refused code n) is) ∙ none)))
     by_input (Err section.OutOfMemory) is = absurd (subst NeverWants is (a_rating input))

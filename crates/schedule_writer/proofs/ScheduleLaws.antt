@@ -1,12 +1,16 @@
 -- A text that stood the test is a schedule for the input.
-use Rattle.std.proofs.Common.{◌≡◌, ◌≤◌, ℕ, ◌+◌, ◌-◌, max, All, List, length, take, drop, map, Option, Some, None, Ok, refl, sym, ap, subst, ◌∙◌, arith}
+use Rattle.std.proofs.Common.{◌≡◌, ◌≢◌, ◌≤◌, ℕ, ◌+◌, ◌-◌, max, All, List, length, take, drop, map, Option, Some, None, Ok, Err, inl, inr, refl, sym, ap, subst, ◌∙◌, arith}
 use Rattle.std.specs.Option.{unwrap_or}
 use Rattle.std.proofs.Math.Seq.{take-length}
 use Rattle.std.proofs.lemmas.List.{length-drop, length-map}
 use Rattle.std.proofs.lemmas.List.Elements.{All-weaker}
 use Rattle.metering_model.specs.Sheet.{Sheet, Issuer}
 use Rattle.metering_model.specs.World.{opening}
+use Rattle.metering_model.specs.Transcript.{line}
 use Rattle.input_sections.specs.RateInput.{RateInput, rate_input_in}
+use Rattle.input_sections.specs.declared.faults.ScheduleFault.{ScheduleFault}
+use Rattle.input_sections.specs.declared.faults.ScheduleFault.TheVariants as section
+use Rattle.fault_lines.specs.Told.{said_of_fault}
 use Rattle.schedule_player.specs.Transcripts.{replies_to}
 use Rattle.schedule_reader.specs.Schedules.{ReadSchedule}
 use Rattle.schedule_writer.specs.declared.asked.Request.{Request}
@@ -14,12 +18,13 @@ use Rattle.schedule_writer.specs.declared.plans.Plan.{Plan as LentPlan}
 use Rattle.schedule_writer.specs.Inputs.{IsAskedFor, IsLastStart, Item, Offered, agents_of, batches_of, closes_of, due_before, due_in, items_in, items_of, least_last}
 use Rattle.schedule_writer.specs.declared.faults.WriteFault.{WriteFault}
 use Rattle.schedule_writer.specs.declared.faults.WriteFault.TheVariants as written
-use Rattle.schedule_writer.specs.Refusals.{IsJournaled, IsRefusedAt, IsTaken, answers_to}
+use Rattle.schedule_writer.specs.Refusals.{IsJournaled, IsRefused, IsRefusedAt, IsTaken, answers_to}
 use Rattle.schedule_writer.specs.Schedules.{ClosesEach, IsExported, IsScheduleOf, journals_of}
 use Rattle.schedule_writer.specs.Inner.Certified.{IsCertified}
 use Rattle.schedule_writer.specs.Inner.Judged.{IsAskedBy, IsFaultOf, IsReadInput, IsRefusedAmong, IsRefusedOr, IsUncertain}
 use Rattle.schedule_writer.specs.Inner.Plans.{Plan, all_seen, behind_all, due_for, nothing_seen, offered_of, plan_of}
 use Rattle.schedule_writer.proofs.Certificates.{IsGood, IsShown, all_exports, all_good, ballots, closed, due, exports, good_is, journals, learned, needed}
+use Rattle.schedule_writer.proofs.KnownLaws.{no_line}
 
 -- ---- what is read from a byte on is what stands behind the sections
 
@@ -131,21 +136,28 @@ refused_at input given bs told is_given same is =
       is_told = is.refused.is_told;
     }
 
+fault_of : (input : List ℕ) (so : List ℕ → Type 0) → ((told : List ℕ) → so told → IsRefused input told) → (fault : WriteFault) → IsRefusedOr so fault → IsFaultOf input fault
+fault_of input so from (written.Refused told) is = from told.items is
+fault_of input so from written.OutOfMemory is = is
+fault_of input so from written.Read is = is
+fault_of input so from written.TooLong is = absurd is
+fault_of input so from written.NotClosed is = absurd is
+fault_of input so from written.Write is = is
+
+-- of want of memory no line is told
+pub section_fault : (input : List ℕ) (why : ScheduleFault) (fault : WriteFault) → (why ≢ section.OutOfMemory → rate_input_in input ≡ Err why)
+    → IsRefusedOr (λ told. line told ≡ said_of_fault input why) fault → IsFaultOf input fault
+section_fault input why fault is told =
+    fault_of input (λ words. line words ≡ said_of_fault input why)
+    (λ words so. inl (record { fault = why; refused = is (λ want. no_line words (so ∙ ap (said_of_fault input) want)); is_told = so })) fault told
+
 pub refused_fault : (input : List ℕ) (given : RateInput) (sheet : Sheet) (issuer : Issuer) (bs : List Offered) (fault : WriteFault) → rate_input_in input ≡ Ok given
     → given.sheet ≡ sheet → given.issuer ≡ issuer → bs ≡ batches_of (items_of input given) → IsRefusedOr (IsRefusedAmong input sheet issuer bs) fault → IsFaultOf input fault
-refused_fault input given sheet issuer bs fault is_given by_sheet by_issuer same is = by_fault fault is
-  where
-    by_fault : (fault : WriteFault) → IsRefusedOr (IsRefusedAmong input sheet issuer bs) fault → IsFaultOf input fault
-    by_fault (written.Refused told) so =
-        refused_at input given bs told.items is_given same
-        (subst (λ (s : Sheet). IsRefusedAmong input s given.issuer bs told.items) (sym by_sheet)
-        (subst (λ (i : Issuer). IsRefusedAmong input sheet i bs told.items) (sym by_issuer) so))
-    by_fault written.OutOfMemory so = so
-    by_fault written.Read so = so
-    by_fault (written.Section told) so = absurd so
-    by_fault written.TooLong so = absurd so
-    by_fault written.NotClosed so = absurd so
-    by_fault written.Write so = so
+refused_fault input given sheet issuer bs fault is_given by_sheet by_issuer same is =
+    fault_of input (IsRefusedAmong input sheet issuer bs)
+    (λ told so. inr (refused_at input given bs told is_given same
+    (subst (λ (s : Sheet). IsRefusedAmong input s given.issuer bs told) (sym by_sheet)
+    (subst (λ (i : Issuer). IsRefusedAmong input sheet i bs told) (sym by_issuer) so)))) fault is
 
 pub is_taken : (input : List ℕ) (given : RateInput) (sheet : Sheet) (issuer : Issuer) (bs : List Offered) → rate_input_in input ≡ Ok given → given.sheet ≡ sheet → given.issuer ≡ issuer
     → bs ≡ batches_of (items_of input given) → All IsJournaled (answers_to sheet issuer bs) → IsTaken input
@@ -163,6 +175,5 @@ uncertain input taken written.TooLong is = taken
 uncertain input taken written.NotClosed is = taken
 uncertain input taken written.OutOfMemory is = is
 uncertain input taken (written.Refused told) is = absurd is
-uncertain input taken (written.Section told) is = absurd is
 uncertain input taken written.Read is = is
 uncertain input taken written.Write is = is

@@ -1,23 +1,14 @@
 -- What the faults of the calls below come to, which answers tell of a failed call, and what a fault says of the input.
-use Rattle.std.specs.Prelude.{◌≡◌, ◌≢◌, ◌⊎◌, ℕ, List, Bool, true, false, Option, Result, Ok, Err, IfSome, Vec}
+use Rattle.std.specs.Prelude.{◌≡◌, ◌⊎◌, ℕ, List, Bool, true, false, Option, Result, Ok, Err, IfSome, Vec}
 use Rattle.std.specs.declared.alloc.Global.{Global}
-use Rattle.input_sections.specs.RateInput.{rate_input_in}
-use Rattle.input_sections.specs.declared.faults.ScheduleFault.{ScheduleFault}
-use Rattle.input_sections.specs.declared.faults.ScheduleFault.TheVariants as sections
 use Rattle.schedule_writer.specs.declared.faults.WriteFault.{WriteFault}
-use Rattle.schedule_writer.specs.Refusals.{IsRefusedAt, IsTaken}
-use Rattle.schedule_writer.specs.declared.faults.WriteFault.TheVariants.{Read, Section, Refused, TooLong, NotClosed, Write, OutOfMemory}
-
--- a refused section is told as it is
-abbrev pub of_sections : ScheduleFault → WriteFault
-of_sections (sections.Refused code line) = Section (sections.Refused code line)
-of_sections sections.OutOfMemory = OutOfMemory
+use Rattle.schedule_writer.specs.Refusals.{IsRefused, IsTaken}
+use Rattle.schedule_writer.specs.declared.faults.WriteFault.TheVariants.{Read, Refused, TooLong, NotClosed, Write, OutOfMemory}
 
 -- the answer tells of a failed call of the reader
 abbrev pub tells_of_reader : {A : Type 0} → Result A WriteFault → Bool
 tells_of_reader (Ok x) = false
 tells_of_reader (Err Read) = true
-tells_of_reader (Err (Section fault)) = false
 tells_of_reader (Err (Refused told)) = false
 tells_of_reader (Err TooLong) = false
 tells_of_reader (Err NotClosed) = false
@@ -28,17 +19,14 @@ tells_of_reader (Err OutOfMemory) = false
 abbrev pub tells_of_writer : {A : Type 0} → Result A WriteFault → Bool
 tells_of_writer (Ok x) = false
 tells_of_writer (Err Read) = false
-tells_of_writer (Err (Section fault)) = false
 tells_of_writer (Err (Refused told)) = false
 tells_of_writer (Err TooLong) = false
 tells_of_writer (Err NotClosed) = false
 tells_of_writer (Err Write) = true
 tells_of_writer (Err OutOfMemory) = false
 
--- A refused section is the input's first fault, and want of memory is told as such. Of the first batch that is not journaled is
--- told what `check` tells. `TooLong` and `NotClosed` stand for no section and no batch that is refused.
+-- Of a refused section, and else of the first batch that is not journaled, is told what `check` tells. `TooLong` and `NotClosed` stand
+-- for no section and no batch that is refused.
 pub record TellsFaults {A : Type 0} (answer : Result A WriteFault) (known : Option (List ℕ)) : Type 0 where
-  pub section : (fault : ScheduleFault) → answer ≡ Err (Section fault) → IfSome known (λ input. rate_input_in input ≡ Err fault)
-  pub plain_memory : answer ≢ Err (Section sections.OutOfMemory)
-  pub refused : (told : Vec ℕ Global) → answer ≡ Err (Refused told) → IfSome known (λ input. IsRefusedAt input told.items)
+  pub refused : (told : Vec ℕ Global) → answer ≡ Err (Refused told) → IfSome known (λ input. IsRefused input told.items)
   pub taken : (answer ≡ Err TooLong) ⊎ (answer ≡ Err NotClosed) → IfSome known IsTaken

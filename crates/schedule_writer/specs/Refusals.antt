@@ -1,5 +1,5 @@
--- Why, and at which line, an input is refused for one of its batches.
-use Rattle.std.specs.Prelude.{◌≡◌, ℕ, List, ◌∷◌, ◌++◌, All, map, take, Ok}
+-- Why, and at which line, an input is refused: for its sections, or for one of its batches.
+use Rattle.std.specs.Prelude.{◌≡◌, ◌⊎◌, ℕ, List, ◌∷◌, ◌++◌, All, map, take, Ok, Err}
 use Rattle.metering_model.specs.RatedAlone.{world_before}
 use Rattle.metering_model.specs.Sheet.{Sheet, Issuer}
 use Rattle.metering_model.specs.Step.{play, step}
@@ -8,7 +8,8 @@ use Rattle.metering_model.specs.World.{World, Event, Journal, Reply, Journaled, 
 use Rattle.metering_model.specs.declared.Refusal.{Refusal}
 use Rattle.metering_model.specs.declared.Refusal.TheVariants.{WorldFull}
 use Rattle.input_sections.specs.RateInput.{RateInput, rate_input_in}
-use Rattle.fault_lines.specs.Told.{bad_index, told_at, told_of_text, words_of}
+use Rattle.input_sections.specs.declared.faults.ScheduleFault.{ScheduleFault}
+use Rattle.fault_lines.specs.Told.{bad_index, said_of_fault, told_at, told_of_text, words_of}
 use Rattle.schedule_writer.specs.Inputs.{Offered, batches_of, items_of, line_of}
 
 -- ---- a group of one node and 64 agents, in which batches are journaled in turn
@@ -38,6 +39,12 @@ abbrev pub told_of_offered : List ℕ → World → Offered → Refusal → List
 told_of_offered input w b WorldFull = told_at (line_of input b) (words_of WorldFull)
 told_of_offered input w b why = told_of_text (line_count (take b.from input)) w.sheet b.text (bad_index w.sheet w.journals b.text) why
 
+-- The input is refused for its sections, or is too long, and this is told of its first fault there.
+pub record IsRefusedBySections (input told : List ℕ) : Type 0 where
+  pub fault : ScheduleFault
+  pub refused : rate_input_in input ≡ Err fault
+  pub is_told : line told ≡ said_of_fault input fault
+
 -- The input is refused for the first of its batches that is not journaled behind those above it, and this is told of it.
 pub record IsRefusedAt (input told : List ℕ) : Type 0 where
   pub given : RateInput
@@ -50,6 +57,10 @@ pub record IsRefusedAt (input told : List ℕ) : Type 0 where
   pub why : Refusal
   pub refused : answer_to (world_behind given.sheet given.issuer before) batch.text ≡ Refused why
   pub is_told : line told ≡ told_of_offered input (world_behind given.sheet given.issuer before) batch why
+
+-- The input is refused for the one or for the other, and this is told of it.
+abbrev pub IsRefused : (input told : List ℕ) → Type 0
+IsRefused input told = IsRefusedBySections input told ⊎ IsRefusedAt input told
 
 -- The input is not refused so: its sections are read, and each of its batches is journaled behind those above it.
 pub record IsTaken (input : List ℕ) : Type 0 where

@@ -1,6 +1,5 @@
 //! Why no schedule was written, or not all of one.
 
-use input_sections::ScheduleFault;
 use thiserror::Error;
 
 /// Why no schedule was written, or not all of one.
@@ -9,10 +8,8 @@ pub enum WriteFault {
     /// A call of the reader failed.
     #[error("read failed")]
     Read,
-    /// A section of the input is refused, or the input is too long.
-    #[error("refused {0}")]
-    Section(ScheduleFault),
-    /// The journals refuse a batch: in the words of `check`, with the line of the input, and without a line feed.
+    /// A section of the input is refused, or the input is too long, or the journals refuse a batch: in the words of `check`, with the
+    /// line of the input, and without a line feed.
     #[error("refused")]
     Refused(Vec<u8>),
     /// The schedule would have more bytes, packets or periods than a schedule may have. A clause says that the journals take
@@ -28,23 +25,6 @@ pub enum WriteFault {
     /// Out of memory: an allocation failed.
     #[error("out of memory")]
     OutOfMemory,
-}
-
-/// A refused section is told as it is, and want of memory as such.
-impl From<ScheduleFault> for WriteFault {
-    ghost use Rattle.std.specs.Prelude.{◌≡◌};
-    ghost use Rattle.schedule_writer.specs.Faults.{of_sections};
-
-    ghost from_gives = { λ fault told. told ≡ of_sections fault };
-
-    fn from(fault: ScheduleFault) -> WriteFault {
-        match fault {
-            ScheduleFault::Refused { code, line } => {
-                WriteFault::Section(ScheduleFault::Refused { code, line })
-            }
-            ScheduleFault::OutOfMemory => WriteFault::OutOfMemory,
-        }
-    }
 }
 
 /// Why a step stopped that reads nothing and writes nothing.

@@ -110,7 +110,7 @@ fn asked_too(sheet: &Sheet, asked: Asked, offer: &Offer) -> Asked
 }
 
 /// A line without its line feed, as why a schedule is refused.
-fn refused(told: Vec<u8>) -> WriteFault
+pub(crate) fn refused(told: Vec<u8>) -> WriteFault
     ensures { (text : List ℕ) → told.items ≡ line text
         → IsRefusedOr (λ words. words ≡ text) result }
 {

@@ -13,7 +13,7 @@ ghost use Rattle.fault_lines.specs.Told.{said_of_fault};
 ghost use Rattle.fault_lines.specs.UnknownKeys.{unknown_on};
 ghost use Rattle.schedule_writer.specs.Checks.{CountsWhatIsJournaled, journaled_of, said_of_input, warned_of_input};
 ghost use Rattle.schedule_writer.specs.Inputs.{Item, Offered, Offers, batches_of, head_text, items_of, items_text, offered_length};
-ghost use Rattle.schedule_writer.specs.Refusals.{IsRefusedAt, IsTaken};
+ghost use Rattle.schedule_writer.specs.Refusals.{IsRefused, IsTaken};
 
 /// The items of an input are what stands after its sections, cut in order: no byte is left out, and none belongs to two of them. Each
 /// batch begins where those above it end. A first line that is no head of a batch stands by itself, however long it is.
@@ -33,7 +33,7 @@ pub fn items_are_the_input_cut_in_order()
 pub fn what_is_said_is_what_is_refused()
     ensures section { (input : List ℕ) (fault : ScheduleFault) → rate_input_in input ≡ Err fault
         → said_of_input input ≡ said_of_fault input fault }
-    ensures first { (input told : List ℕ) → IsRefusedAt input told
+    ensures first { (input told : List ℕ) → IsRefused input told
         → (rest : List ℕ) × (said_of_input input ≡ line told ++ rest) }
     ensures none { (input : List ℕ) → IsTaken input → said_of_input input ≡ [] }
     ensures only { (input : List ℕ) → said_of_input input ≡ [] → IsTaken input }

@@ -8,12 +8,14 @@ ghost use Rattle.counted_io.specs.Reading.{ConsumesAtMost};
 ghost use Rattle.counted_io.specs.Streams.{UsesStreams};
 ghost use Rattle.counted_io.specs.Writing.{AppendsPrefix};
 ghost use Rattle.metering_model.specs.Limits.{last_period, most_agents, most_input_bytes, most_nodes};
+ghost use Rattle.metering_model.specs.Transcript.{line};
+ghost use Rattle.fault_lines.specs.Told.{said_of_fault};
 ghost use Rattle.schedule_writer.specs.Faults.{TellsFaults, tells_of_reader, tells_of_writer};
 ghost use Rattle.schedule_writer.specs.Inputs.{above_last, least_last};
 ghost use Rattle.schedule_writer.specs.Requests.{IsRequest};
 ghost use Rattle.schedule_writer.specs.Schedules.{IsScheduleOf};
 ghost use Rattle.schedule_writer.specs.Inner.Certified.{IsCertified};
-ghost use Rattle.schedule_writer.specs.Inner.Judged.{IsAskedBy, IsAskedWithin, IsFaultOf, IsReadInput, IsUncertain, IsUnread};
+ghost use Rattle.schedule_writer.specs.Inner.Judged.{IsAskedBy, IsAskedWithin, IsFaultOf, IsReadInput, IsRefusedOr, IsUncertain, IsUnread};
 ghost use Rattle.schedule_writer.specs.Inner.Plans.{offered_of, plan_of};
 ghost use Rattle.schedule_writer.specs.Inner.Walks.{IsGiven};
 
@@ -22,10 +24,11 @@ use crate::certifying::certify;
 use crate::drafting::schedule_for;
 use crate::faults::{Stop, WriteFault};
 use crate::inputs::Offered;
-use crate::judging::{Asked, read_items};
+use crate::judging::{Asked, read_items, refused};
 use crate::plans::Plan;
 use counted_io::{Sink, Source, write_all};
-use input_sections::{RateInput, rate_input};
+use fault_lines::put_fault;
+use input_sections::{RateInput, ScheduleFault, rate_input};
 use price_sheet::{Issuer, Sheet};
 use schedule_player::{PlayFault, read_input};
 use std::alloc::Global;
@@ -226,6 +229,17 @@ fn schedule_of(
     }
 }
 
+/// Why a text is refused that has this fault by its sections.
+fn refused_for(alloc: Global, text: &[u8], fault: ScheduleFault) -> WriteFault
+    ensures { IsRefusedOr (λ told. line told ≡ said_of_fault text.now fault) result }
+{
+    let mut told = Vec::new(alloc);
+    match put_fault(alloc, &mut told, text, fault) {
+        Ok(()) => refused(told),
+        Err(_) => WriteFault::OutOfMemory,
+    }
+}
+
 /// The schedule for an input whose text is shared.
 fn schedule_for_text(
     alloc: Global,
@@ -241,7 +255,7 @@ fn schedule_for_text(
 {
     match rate_input(alloc, input) {
         Ok(given) => schedule_of(alloc, request, text, input, given),
-        Err(fault) => Err(WriteFault::from(fault)),
+        Err(fault) => Err(refused_for(alloc, input, fault)),
     }
 }
 
@@ -262,7 +276,7 @@ fn schedule_for_input(
     }
 }
 
-/// All of the input.
+/// All of the input. Of one that is too long the same is told, whatever it is.
 fn input_of<R: Source>(alloc: Global, reader: &mut R) -> Result<Vec<u8>, WriteFault>
     ensures whole { IfOk result
         (λ bytes. IfSome (R.remaining reader.old) (λ input. bytes.items ≡ input)) }
@@ -276,7 +290,7 @@ fn input_of<R: Source>(alloc: Global, reader: &mut R) -> Result<Vec<u8>, WriteFa
     match read_input(alloc, reader) {
         Ok(input) => Ok(input),
         Err(PlayFault::Read) => Err(WriteFault::Read),
-        Err(PlayFault::Schedule(fault)) => Err(WriteFault::Section(fault)),
+        Err(PlayFault::Schedule(fault)) => Err(refused_for(alloc, b"", fault)),
         Err(_) => Err(WriteFault::OutOfMemory),
     }
 }
@@ -302,8 +316,8 @@ fn write_text<W: Sink>(text: &[u8], writer: &mut W) -> Result<(), WriteFault>
 /// journaled, and each period closed after the batches that stand above its line `close`, or after all.
 ///
 /// At most 16,777,217 bytes are read. After `Write` a prefix of the schedule was written, and after any other fault nothing.
-/// `Refused` has the line of the whole input on which the first batch that is not journaled is refused, and why, in the words of
-/// `check`. `TooLong` is meant for a schedule that would have more bytes, packets or periods than one may have, and `NotClosed` for
+/// `Refused` has the line of the whole input on which its sections are refused, or else the first batch that is not journaled, and
+/// why, in the words of `check`. `TooLong` is meant for a schedule that would have more bytes, packets or periods than one may have, and `NotClosed` for
 /// one that did not stand the test. A clause says that the journals take all batches then, and none says when either is reported.
 pub fn schedule_text<R: Source, W: Sink>(
     alloc: Global,
@@ -323,8 +337,8 @@ pub fn schedule_text<R: Source, W: Sink>(
         × IsScheduleOf request (R.remaining reader.old) input text
         × AppendsPrefix (W.contents writer.old) (W.contents writer.new) text }
 
-    // A refused section is the input's first fault; of the first batch that is not journaled `check`'s words are told; and
-    // `TooLong` and `NotClosed` hide neither.
+    // Of a refused section, or of the first batch that is not journaled, `check`'s words are told; and `TooLong` and `NotClosed`
+    // hide neither.
     ensures faults { TellsFaults result (R.remaining reader.old) }
     ensures untouched { IfErr result (λ fault. fault ≢ WriteFault.Write → writer.new ≡ writer.old) }
 

@@ -5,12 +5,11 @@ use Rattle.schedule_writer.specs.declared.faults.WriteFault.TheVariants as writt
 use Rattle.sheet_changes.specs.declared.faults.SheetsFault.{SheetsFault}
 use Rattle.sheet_changes.specs.declared.faults.SheetsFault.TheVariants as compared
 use Rattle.command_line.specs.declared.statuses.Fault.{Fault}
-use Rattle.command_line.specs.declared.statuses.Fault.TheVariants.{Play, Unlike, Batch, TooLong, NotClosed}
+use Rattle.command_line.specs.declared.statuses.Fault.TheVariants.{Play, Unlike, Refused, TooLong, NotClosed}
 
 abbrev pub fault_of_schedule : WriteFault → Fault
 fault_of_schedule written.Read = Play play.Read
-fault_of_schedule (written.Section fault) = Play (play.Schedule fault)
-fault_of_schedule (written.Refused told) = Batch told
+fault_of_schedule (written.Refused told) = Refused told
 fault_of_schedule written.TooLong = TooLong
 fault_of_schedule written.NotClosed = NotClosed
 fault_of_schedule written.Write = Play play.Write

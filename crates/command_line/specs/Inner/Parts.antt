@@ -1,11 +1,11 @@
--- The parts of a fault's line: what is told of a refused batch stands in a part of its own, and the line feed behind it.
+-- The parts of a fault's line: what is told in the words of `check` stands in a part of its own, and the line feed behind it.
 use Rattle.std.specs.Prelude.{ℕ, List, [], ◌++◌, codes}
 use Rattle.command_line.specs.Endings.{ending_line, message_of}
 use Rattle.command_line.specs.declared.statuses.Fault.{Fault}
-use Rattle.command_line.specs.declared.statuses.Fault.TheVariants.{Line, Play, Faults, File, Threads, Process, Unlike, Batch, TooLong, NotClosed}
+use Rattle.command_line.specs.declared.statuses.Fault.TheVariants.{Line, Play, Faults, File, Threads, Process, Unlike, Refused, TooLong, NotClosed}
 
 abbrev pub first_words : Fault → List ℕ
-first_words (Batch told) = []
+first_words (Refused told) = []
 first_words (Line fault) = message_of (Line fault)
 first_words (Play fault) = message_of (Play fault)
 first_words (Faults count) = message_of (Faults count)
@@ -17,7 +17,7 @@ first_words TooLong = message_of TooLong
 first_words NotClosed = message_of NotClosed
 
 abbrev pub first_part : Fault → List ℕ
-first_part (Batch told) = codes "focusd: "
+first_part (Refused told) = codes "focusd: "
 first_part (Line fault) = ending_line (Line fault)
 first_part (Play fault) = ending_line (Play fault)
 first_part (Faults count) = ending_line (Faults count)
@@ -29,11 +29,11 @@ first_part TooLong = ending_line TooLong
 first_part NotClosed = ending_line NotClosed
 
 abbrev pub told_part : Fault → List ℕ
-told_part (Batch told) = told.items
+told_part (Refused told) = told.items
 told_part _ = []
 
 abbrev pub end_part : Fault → List ℕ
-end_part (Batch told) = codes "\n"
+end_part (Refused told) = codes "\n"
 end_part _ = []
 
 abbrev pub last_part : Fault → List ℕ

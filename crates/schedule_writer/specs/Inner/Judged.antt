@@ -1,20 +1,18 @@
 -- What is found of batches that are journaled in turn.
-use Rattle.std.specs.Prelude.{◌≡◌, ◌<◌, ◌≤◌, ◌⊎◌, ℕ, false, true, max, List, ◌∷◌, ◌++◌, All, length, Option, IfSome, Ok, Err, ⊤}
+use Rattle.std.specs.Prelude.{◌≡◌, ◌<◌, ◌≤◌, ◌⊎◌, ℕ, false, true, max, List, ◌∷◌, ◌++◌, All, Option, IfSome, Ok, ⊤}
 use Rattle.metering_model.specs.Batch.{Batch}
 use Rattle.metering_model.specs.Front.{is_due}
-use Rattle.metering_model.specs.Limits.{last_period, most_agents, most_input_bytes}
+use Rattle.metering_model.specs.Limits.{last_period, most_agents}
 use Rattle.metering_model.specs.Sheet.{Sheet, Issuer}
 use Rattle.metering_model.specs.Transcript.{line}
 use Rattle.metering_model.specs.World.{World, Refused}
 use Rattle.metering_model.specs.declared.Refusal.{Refusal}
-use Rattle.input_sections.specs.declared.faults.ScheduleCode.TheVariants as code
-use Rattle.input_sections.specs.declared.faults.ScheduleFault.TheVariants as section
 use Rattle.input_sections.specs.RateInput.{RateInput, rate_input_in}
 use Rattle.schedule_writer.specs.declared.judging.Asked.{Asked}
 use Rattle.schedule_writer.specs.declared.faults.WriteFault.{WriteFault}
 use Rattle.schedule_writer.specs.declared.faults.WriteFault.TheVariants as fault
 use Rattle.schedule_writer.specs.Inputs.{IsLastStart, Offered, Offers, agents_of, batches_of, closes_of, item_at, items_of}
-use Rattle.schedule_writer.specs.Refusals.{IsJournaled, IsRefusedAt, IsTaken, answer_to, answers_to, told_of_offered, world_behind}
+use Rattle.schedule_writer.specs.Refusals.{IsJournaled, IsRefused, IsRefusedBySections, IsTaken, answer_to, answers_to, told_of_offered, world_behind}
 
 -- The last period in which a reading of the batch starts, or this one, where that is later.
 pub record IsLaterStart (base : ℕ) (b : Batch) (before last : ℕ) : Type 0 where
@@ -66,16 +64,16 @@ pub record IsRefusedAmong (input : List ℕ) (sheet : Sheet) (issuer : Issuer) (
   pub taken : All IsJournaled (answers_to sheet issuer before)
   pub refused : IsRefusedNow input (world_behind sheet issuer before) batch told
 
--- the fault is that a batch is refused, of which that is so what is told, or want of memory
+-- the fault is a refusal, of which that is so what is told, or want of memory
 abbrev pub IsRefusedOr : (List ℕ → Type 0) → WriteFault → Type 0
 IsRefusedOr so (fault.Refused told) = so told.items
 IsRefusedOr so fault.OutOfMemory = ⊤
 IsRefusedOr so other = ⊥
 
--- The fault is one of reading an input whose bytes are these, where they are known: no section of it is refused, but that it is too long.
+-- The fault is one of reading an input whose bytes are these, where they are known: it is too long, and refused for that, or was not read.
 abbrev pub IsUnread : Option (List ℕ) → WriteFault → Type 0
 IsUnread known fault.Read = ⊤
-IsUnread known (fault.Section told) = (told ≡ section.Refused code.TooLong 1) × IfSome known (λ input. most_input_bytes < length input)
+IsUnread known (fault.Refused told) = IfSome known (λ input. IsRefusedBySections input told.items)
 IsUnread known fault.OutOfMemory = ⊤
 IsUnread known other = ⊥
 
@@ -88,9 +86,7 @@ IsUncertain other = ⊥
 
 -- what each fault says of an input that was read
 abbrev pub IsFaultOf : List ℕ → WriteFault → Type 0
-IsFaultOf input (fault.Section section.OutOfMemory) = ⊥
-IsFaultOf input (fault.Section told) = rate_input_in input ≡ Err told
-IsFaultOf input (fault.Refused told) = IsRefusedAt input told.items
+IsFaultOf input (fault.Refused told) = IsRefused input told.items
 IsFaultOf input fault.TooLong = IsTaken input
 IsFaultOf input fault.NotClosed = IsTaken input
 IsFaultOf input fault.OutOfMemory = ⊤

@@ -13,6 +13,7 @@ use Rattle.metering_model.specs.Transcript.{line, line_count, with_number}
 use Rattle.metering_model.specs.World.{World, Reply, Journaled, Delivered, Started, Restarted, Exported, KeptText, Refused}
 use Rattle.metering_model.specs.declared.Refusal.{Refusal}
 use Rattle.metering_model.specs.declared.Refusal.TheVariants as refusal
+use Rattle.input_sections.specs.declared.faults.ScheduleCode.{ScheduleCode}
 use Rattle.input_sections.specs.declared.faults.ScheduleCode.TheVariants.{TooLong}
 use Rattle.input_sections.specs.declared.faults.ScheduleFault.{ScheduleFault}
 use Rattle.input_sections.specs.declared.faults.ScheduleFault.TheVariants as section
@@ -91,9 +92,13 @@ of_batches input w (b ∷ bs) =
     both (told_of_answer input w b (answer_to w b.text)) (told_of_batches input (step w (journal_of b)).1 bs) (of_answer input w b (answer_to w b.text))
     (of_batches input (step w (journal_of b)).1 bs)
 
+-- what is told of a section is one too
+pub section_line : (input : List ℕ) (code : ScheduleCode) (n : ℕ) → (told : List ℕ) × (said_of_fault input (section.Refused code n) ≡ line told)
+section_line input code n = (with_number (codes "line ") n ++ codes ": " ++ (section_code_text code ++ reason input code n), refl)
+
 of_fault : (input : List ℕ) (fault : ScheduleFault) → IsNoneOrLines (said_of_fault input fault)
 unfolding IsNoneOrLines
-of_fault input (section.Refused code n) = none_or_line (said_of_fault input (section.Refused code n)) (with_number (codes "line ") n ++ codes ": " ++ (section_code_text code ++ reason input code n)) refl
+of_fault input (section.Refused code n) = let told = section_line input code n in none_or_line (said_of_fault input (section.Refused code n)) told.0 told.1
 of_fault input section.OutOfMemory = inl refl
 
 pub lines_said : (input : List ℕ) → line_count (said_of_input input) ≡ 0 → said_of_input input ≡ []

@@ -3,13 +3,13 @@ use Rattle.std.proofs.lemmas.Bool.{false≢true}
 use Rattle.std.specs.declared.alloc.Global.{Global}
 use Rattle.command_line.specs.Inner.Parts.{first_part, first_words}
 use Rattle.command_line.specs.declared.statuses.Fault.{Fault}
-use Rattle.command_line.specs.declared.statuses.Fault.TheVariants.{Line, Play, Faults, File, Threads, Process, Unlike, Batch, TooLong, NotClosed}
+use Rattle.command_line.specs.declared.statuses.Fault.TheVariants.{Line, Play, Faults, File, Threads, Process, Unlike, Refused, TooLong, NotClosed}
 use Rattle.command_line.proofs.statuses.line_of.Goals as goal
-use Rattle.command_line.proofs.statuses.line_of.Goals.{in-Batch, in_default}
+use Rattle.command_line.proofs.statuses.line_of.Goals.{in-Refused, in_default}
 
--- but of a refused batch the first part is the whole line
-whole : (fault : Fault) → ((told : Vec ℕ Global) → fault ≡ Batch told → ⊥) → (codes "focusd: " ++ first_words fault) ++ 10 ∷ [] ≡ first_part fault
-whole (Batch told) other = absurd (other told refl)
+-- but of a fault in the words of `check` the first part is the whole line
+whole : (fault : Fault) → ((told : Vec ℕ Global) → fault ≡ Refused told → ⊥) → (codes "focusd: " ++ first_words fault) ++ 10 ∷ [] ≡ first_part fault
+whole (Refused told) other = absurd (other told refl)
 whole (Line fault) other = refl
 whole (Play fault) other = refl
 whole (Faults count) other = refl
@@ -24,4 +24,4 @@ pub returns : goal.returns
 returns c =
     let first : c.put.new.self ≡ codes "focusd: " = c.put.ensures ∙ ap (λ t. t ++ codes "focusd: ") c.new-line.ensures in
     let put = c.put-2.ensures ∙ ap (λ t. t ++ 10 ∷ []) (c.put_message.ensures.put ∙ ap (λ t. t ++ first_words c.args.fault.now) first) in
-    elim c.match-matches.branch [ in-Batch w ↦ absurd (false≢true (sym c.if-matches.false ∙ w.matches-is)) | in_default w ↦ put ∙ whole c.args.fault.now w.in_default.not-Batch ]
+    elim c.match-matches.branch [ in-Refused w ↦ absurd (false≢true (sym c.if-matches.false ∙ w.matches-is)) | in_default w ↦ put ∙ whole c.args.fault.now w.in_default.not-Refused ]
