@@ -1,5 +1,5 @@
 use Rattle.std.proofs.Common.{◌∙◌, sym, subst, map, string_bytes, refl}
-use Rattle.clap.specs.Words.{found_of, rows_of}
+use Rattle.clap.specs.Words.{app_of, found_of, rows_of}
 use Rattle.clap.specs.Kinds.{HasKind}
 use Rattle.command_line.proofs.WordLaws.{asked_is_named, asks_for_nothing, free_is_simple, met, named_is_asked, request_asks}
 use Rattle.command_line.proofs.words.command.Goals as goal
@@ -20,7 +20,7 @@ returns-in-Err-clause-not_asked c is command asked =
 pub returns-in-Some-named-clause-asked : goal.returns-in-Some-named-clause-asked
 returns-in-Some-named-clause-asked c =
     let grammar = c.in-Ok.ensures.app in
-    let matches = c.in-Ok-try_get_matches_from.ensures.matches (free_is_simple _ grammar.free) in
+    let matches = c.in-Ok-try_get_matches_from.ensures.matches (free_is_simple (app_of c.in-Ok.grammar) grammar.free) in
     let taken = sym grammar.fault ∙ c.in-Ok-try_get_matches_from.ensures.kinds grammar.free in
     let rows = rows_of (found_of c.in-Some.options.now) in
     let inside = met c.in-Ok-try_get_matches_from.matches c.in-Some.name.now rows (sym c.in-Some.ensures.name) (sym c.in-Some.ensures.rows) in
@@ -29,7 +29,7 @@ returns-in-Some-named-clause-asked c =
 pub returns-clause-not_asked : goal.returns-clause-not_asked
 returns-clause-not_asked c is command asked =
     let grammar = c.in-Ok.ensures.app in
-    let matches = c.in-Ok-try_get_matches_from.ensures.matches (free_is_simple _ grammar.free) in
+    let matches = c.in-Ok-try_get_matches_from.ensures.matches (free_is_simple (app_of c.in-Ok.grammar) grammar.free) in
     let taken = sym grammar.fault ∙ c.in-Ok-try_get_matches_from.ensures.kinds grammar.free in
     let rows = rows_of (found_of c.in-Some.options.now) in
     let inside = met c.in-Ok-try_get_matches_from.matches c.in-Some.name.now rows (sym c.in-Some.ensures.name) (sym c.in-Some.ensures.rows) in
