@@ -1,11 +1,11 @@
 -- What a parse that succeeds, or fails, says of what the words ask for.
 use Rattle.std.specs.Bool.{⊤}
-use Rattle.std.proofs.Common.{Bool, ◌≡◌, ◌≢◌, ◌⊎◌, ◌==◌, ◌∙◌, sym, ap, subst, Result, Ok, Err, IfOk, ℕ, ℤ, ◌+◌, ◌*◌, ◌<◌, ◌^◌, List, [], ◌∷◌, codes, slice_index, Option, Some, None, IfSome, is_none as is_nothing, option_map, true, false, refl, inl, inr, arith}
+use Rattle.std.proofs.Common.{Bool, ◌≡◌, ◌≢◌, ◌⊎◌, ◌==◌, ◌∙◌, sym, ap, subst, Result, Ok, Err, IfOk, ℕ, ℤ, ◌+◌, ◌*◌, ◌<◌, ◌^◌, List, [], ◌∷◌, codes, slice_index, Option, Some, None, IfSome, is_none as is_nothing, is_some, option_map, true, false, refl, inl, inr, arith}
 use Rattle.std.specs.Str.{bytes_eq}
 use Rattle.std.proofs.lemmas.Slice.Eq.{bytes_eq-Decides}
 use Rattle.std.specs.Str.Parse.{ParsesBool, ParsesUnsigned, false_text, true_text, ExplainsUnsignedError, HasUnsignedDigitsIfOk}
 use Rattle.clap.specs.Words.{App, ReadsOne, Row, Text, first_of, first_value, found_of, is_simple, kind_of, one_text, rows_of, subcommand_of, subcommand_rows_of}
-use Rattle.clap.specs.Matches.{subcommand_name_of}
+use Rattle.clap.specs.Matches.{has_subcommand, subcommand_name_of}
 use Rattle.clap.specs.Kinds.{Kinds, HasKind, IsAmong}
 use Rattle.clap.specs.Faults.{fault_of, is_simple_and_free}
 use Rattle.clap.specs.declared.parser.matches.ArgMatches.{ArgMatches}
@@ -140,6 +140,16 @@ pub met : (m : ArgMatches) (name : Text) (rs : List Row) → subcommand_name_of 
     → subcommand_rows_of m ≡ Some (name, rs)
 met m name rs named has_rows =
     both_parts (out-ArgMatches m).subcommand (λ b. (out-SubCommand (box_value b)).name.now) (λ b. rows_of (found_of (out-SubCommand (box_value b)).matches)) name rs named has_rows
+
+no_rows : {A : Type 0} (o : Option A) (name_of : A → Text) (rows : A → List Row) → is_some o ≡ false → entered_of o name_of rows ≡ None
+no_rows None name_of rows none = refl
+no_rows (Some a) name_of rows none = absurd (cc)
+
+-- and where none is, there are no rows
+pub none_met : {X : Type 0} (m : ArgMatches) (r : Option X) → is_some r ≡ has_subcommand m → r ≡ None → subcommand_rows_of m ≡ None
+none_met {X} m r some none =
+    no_rows (out-ArgMatches m).subcommand (λ b. (out-SubCommand (box_value b)).name.now) (λ b. rows_of (found_of (out-SubCommand (box_value b)).matches))
+    (sym some ∙ ap (λ (o : Option X). is_some o) none)
 
 named_of : {A : Type 0} (o : Option A) (name_of : A → Text) (rows : A → List Row) (name : Text) (rs : List Row)
     → entered_of o name_of rows ≡ Some (name, rs) → option_map name_of o ≡ Some name
