@@ -68,6 +68,7 @@ class Log:
         return whole
 
     def renew(self, text):
+        self.look(os.path.getsize(self.path))
         replace(self.path, text)
         self.size = len(text)
 
