@@ -65,7 +65,7 @@ pub fn rate_text<R: Source, W: Sink>(
     ensures section { (fault : ScheduleFault) → result ≡ Err (PlayFault.Schedule fault)
         → (fault ≢ ScheduleFault.OutOfMemory) × IfSome (R.remaining reader.old)
         (λ input. rated_file period input ≡ Err (PlayFault.Schedule fault)) }
-    ensures untouched { IfErr result (λ fault. fault ≢ PlayFault.Write → writer.new ≡ writer.old) }
+    ensures kept { IfErr result (λ fault. fault ≢ PlayFault.Write → writer.new ≡ writer.old) }
 
     // With Ok nothing is left to read. `Read` and `Write` come of one failed call each, and no other call fails.
     ensures streams { UsesStreams (most_input_bytes + 1) (IsOk result)

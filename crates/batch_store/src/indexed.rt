@@ -4,6 +4,7 @@ ghost use Rattle.std.specs.Prelude.{◌+◌, ◌∷◌, MatchOption, ◌≡◌, 
 ghost use Rattle.std.specs.Option.{option_copied, option_map, is_some};
 ghost use Rattle.std.specs.Arc.{arc_value};
 ghost use Rattle.metering_model.specs.Holding.{put};
+ghost use Rattle.metering_model.specs.Limits.{last_sequence};
 ghost use Rattle.batch_view.specs.Batches.{batch_of};
 ghost use Rattle.batch_store.specs.Inner.Amenders.{IsLastAmender, NoneAmends};
 ghost use Rattle.batch_store.specs.Inner.Shelves.{AreOf, at_seq, from_seq, up_to_seq};
@@ -64,7 +65,7 @@ impl IndexedShelf {
     pub(crate) fn first_absent(&self) -> u32
         ensures absent { at_seq self.now result ≡ None }
         ensures below { (seq : ℕ) → 1 ≤ seq → seq < result → is_some (at_seq self.now seq) ≡ true }
-        ensures range { (1 ≤ result) × (result ≤ 1_000_001) }
+        ensures range { (1 ≤ result) × (result ≤ last_sequence + 1) }
     {
         self.shelf.first_absent()
     }

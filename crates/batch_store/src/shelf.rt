@@ -103,7 +103,7 @@ impl Shelf {
     pub(crate) fn first_absent(&self) -> u32
         ensures absent { at_seq self.now result ≡ None }
         ensures below { (seq : ℕ) → 1 ≤ seq → seq < result → is_some (at_seq self.now seq) ≡ true }
-        ensures range { (1 ≤ result) × (result ≤ 1_000_001) }
+        ensures range { (1 ≤ result) × (result ≤ last_sequence + 1) }
     {
         let next = self.whole.len() as u32 + 1;
         for seq in next..LAST_SEQUENCE + 1 {
@@ -152,7 +152,7 @@ impl Shelf {
         requires of_agent { AreOf (batch_of (arc_value batch)).agent self.old }
         requires absent { at_seq self.old seq ≡ None }
         ensures ok { OnOk result (self.new ≡ put self.old (batch_of (arc_value batch))) }
-        ensures err { OnErr result (self.new ≡ self.old) }
+        ensures kept { OnErr result (self.new ≡ self.old) }
     {
         if seq as usize == self.whole.len() + 1 {
             self.whole.push(batch)?;

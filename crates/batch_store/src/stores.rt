@@ -1,10 +1,10 @@
 //! A store: which batches it has, and what is added to it and shared of it.
 
-ghost use Rattle.std.specs.Prelude.{◌≡◌, ℕ, true, ◌≤◌, ◌<◌, ◌↔◌, length, IfOk, IfErr, [], None, Some, IsTrue, MatchOption};
+ghost use Rattle.std.specs.Prelude.{◌≡◌, ℕ, ◌+◌, true, ◌≤◌, ◌<◌, ◌↔◌, length, IfOk, IfErr, [], None, Some, IsTrue, MatchOption};
 ghost use Rattle.std.specs.Option.{option_copied, option_map, is_some};
 ghost use Rattle.std.specs.Arc.{arc_value};
 ghost use Rattle.metering_model.specs.Holding.{held, put, up_to};
-ghost use Rattle.metering_model.specs.Limits.{most_agents};
+ghost use Rattle.metering_model.specs.Limits.{last_sequence, most_agents};
 ghost use Rattle.batch_view.specs.Batches.{batch_of};
 ghost use Rattle.batch_store.specs.Stores.{IsStored};
 ghost use Rattle.batch_store.specs.Inner.Amenders.{IsLastAmender, NoneAmends};
@@ -116,7 +116,7 @@ impl Store {
         ensures absent { held self.now.batches agent result ≡ None }
         ensures below { (seq : ℕ) → 1 ≤ seq → seq < result
             → is_some (held self.now.batches agent seq) ≡ true }
-        ensures range { (1 ≤ result) × (result ≤ 1_000_001) }
+        ensures range { (1 ≤ result) × (result ≤ last_sequence + 1) }
     {
         self.shelves[usize::from(agent) - 1].first_absent()
     }

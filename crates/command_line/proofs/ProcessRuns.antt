@@ -64,14 +64,14 @@ process_left : {W : Type 0} (sink : SinkOf W) (kind : ProcessKind) (fault : Proc
     → (IsRefusal fault → writer' ≡ writer)
     → (fault ≢ process.Write → (writer' ≡ writer) ⊎ HasAnswered kind known (sink.contents writer) (sink.contents writer'))
     → status_of (Process fault) ≡ 1 → IsLeftBy sink (RunProcess kind) (Process fault) known writer writer'
-process_left sink kind process.Read known writer writer' untouched whole one = absurd (cc)
-process_left sink kind (process.Section told) known writer writer' untouched whole one = untouched tt
-process_left sink kind (process.Log code line) known writer writer' untouched whole one = untouched tt
-process_left sink kind process.OtherLog known writer writer' untouched whole one = untouched tt
-process_left sink kind process.NoJournal known writer writer' untouched whole one = untouched tt
-process_left sink kind process.TooLong known writer writer' untouched whole one = whole (λ is. absurd (cc))
-process_left sink kind process.Write known writer writer' untouched whole one = absurd (cc)
-process_left sink kind process.OutOfMemory known writer writer' untouched whole one = absurd (cc)
+process_left sink kind process.Read known writer writer' still whole one = absurd (cc)
+process_left sink kind (process.Section told) known writer writer' still whole one = still tt
+process_left sink kind (process.Log code line) known writer writer' still whole one = still tt
+process_left sink kind process.OtherLog known writer writer' still whole one = still tt
+process_left sink kind process.NoJournal known writer writer' still whole one = still tt
+process_left sink kind process.TooLong known writer writer' still whole one = whole (λ is. absurd (cc))
+process_left sink kind process.Write known writer writer' still whole one = absurd (cc)
+process_left sink kind process.OutOfMemory known writer writer' still whole one = absurd (cc)
 
 pub process_comes_to : {W : Type 0} (sink : SinkOf W) (kind : ProcessKind) (fault : ProcessFault) (known : Option (List ℕ)) (reads reads' : ℕ) (writer writer' : W)
     → reads' ≡ count_after (process_read (not_served fault)) reads
@@ -81,11 +81,11 @@ pub process_comes_to : {W : Type 0} (sink : SinkOf W) (kind : ProcessKind) (faul
     → (fault ≡ process.Write → IsDoneInPart (RunProcess kind) known (sink.contents writer) (sink.contents writer'))
     → IfSome known (λ input. Rejects kind input fault)
     → ComesTo sink (RunProcess kind) (Process fault) known reads reads' writer writer'
-process_comes_to sink kind fault known reads reads' writer writer' read wrote untouched whole torn refused =
+process_comes_to sink kind fault known reads reads' writer writer' read wrote still whole torn refused =
     let kept : fault ≢ process.Write → IsKept sink (RunProcess kind) known writer writer' = λ other. kept_by (whole other) in
     record {
       understood = process_no_line fault;
-      refused = λ one. inl ((fault, refl, refused), process_left sink kind fault known writer writer' untouched whole one);
+      refused = λ one. inl ((fault, refl, refused), process_left sink kind fault known writer writer' still whole one);
       device = process_device (IsKept sink (RunProcess kind) known writer writer') (IsDoneInPart (RunProcess kind) known (sink.contents writer) (sink.contents writer')) fault _ _ _ _ read wrote kept torn;
       calm = process_calm fault _ _ _ _ read wrote;
       unwritten = λ not_3 not_4. inl (kept (no_failed_write fault not_3));

@@ -255,7 +255,7 @@ ends source sink telling args command (Ok x) status reader reader' writer writer
       silent = λ is. ending.1;
       refused = λ is. absurd (omega (arith, zero, is));
       not_asked = λ is. absurd (omega (arith, zero, is));
-      untouched = λ is. absurd (omega (arith, zero, is));
+      kept = λ is. absurd (omega (arith, zero, is));
       device = λ is. absurd (omega (arith, zero, is));
       calm = λ is. leaves.calm;
       memory = λ is. absurd (omega (arith, zero, is));
@@ -285,7 +285,7 @@ ends source sink telling args command (Err fault) status reader reader' writer w
       silent = λ is. absurd (never_zero fault status same is);
       refused = λ is. let one = sym same ∙ is in (command, fault, asked, one, leaves.refused one, ending.1);
       not_asked = λ is. absurd (leaves.understood (sym same ∙ is));
-      untouched = λ is. absurd (leaves.understood (sym same ∙ is));
+      kept = λ is. absurd (leaves.understood (sym same ∙ is));
       device = λ is. (
         command,
         asked,
@@ -335,7 +335,7 @@ ends_at_words C source sink telling args on_line.Line status reader writer error
   silent = λ is. absurd (omega (arith, same, is));
   refused = λ is. absurd (omega (arith, same, is));
   not_asked = λ is. (unasked refl, told);
-  untouched = λ is. refl;
+  kept = λ is. refl;
   device = λ is. absurd (omega (arith, same, is));
   calm = λ other. (refl, refl);
   memory = λ is. absurd (omega (arith, same, is));
@@ -353,7 +353,7 @@ ends_at_words C source sink telling args on_line.OutOfMemory status reader write
   silent = λ is. absurd (omega (arith, same, is));
   refused = λ is. absurd (omega (arith, same, is));
   not_asked = λ is. absurd (omega (arith, same, is));
-  untouched = λ is. refl;
+  kept = λ is. refl;
   device = λ is. absurd (omega (arith, same, is));
   calm = λ other. (refl, refl);
   memory = λ is. told;

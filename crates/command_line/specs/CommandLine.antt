@@ -11,7 +11,7 @@ use Rattle.metering_model.specs.Limits.{last_node, last_period, most_nodes}
 use Rattle.schedule_writer.specs.declared.asked.Request.{Request}
 use Rattle.schedule_writer.specs.Requests.{IsRequest}
 use Rattle.threads_player.specs.declared.sizes.Size.{Size}
-use Rattle.threads_player.specs.Groups.{IsSize}
+use Rattle.threads_player.specs.Groups.{IsSize, most_run_agents, most_run_batches, most_run_nodes, most_run_periods}
 use Rattle.sheet_changes.specs.declared.changes.Asked.{Asked}
 use Rattle.process_player.specs.declared.heads.ProcessKind.{ProcessKind}
 use Rattle.process_player.specs.declared.heads.ProcessKind.TheVariants as process
@@ -47,8 +47,8 @@ period_grammar name = with_rule (new_app name) (required (number_option (codes "
 abbrev pub threads_grammar : App
 threads_grammar =
     with_rule (with_rule (with_rule (with_rule (new_app (codes "threads"))
-    (required (number_option (codes "nodes") 1 9))) (required (number_option (codes "agents") 1 9)))
-    (required (number_option (codes "batches") 1 99))) (required (number_option (codes "periods") 1 12))
+    (required (number_option (codes "nodes") 1 most_run_nodes))) (required (number_option (codes "agents") 1 most_run_agents)))
+    (required (number_option (codes "batches") 1 most_run_batches))) (required (number_option (codes "periods") 1 most_run_periods))
 
 abbrev pub check_grammar : App
 check_grammar = with_rule (new_app (codes "check")) (text_option (codes "kind"))

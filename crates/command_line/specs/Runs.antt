@@ -229,7 +229,7 @@ pub record Ends {R W E A B : Type 0} (source : SourceOf R) (sink : SinkOf W) (te
   -- 2: nothing was asked for.
   pub not_asked : status ≡ 2 → ((command : Command) → ¬ AsksFor args command)
       × Tells telling (of_fault.Line on_line.Line) errors errors'
-  pub untouched : status ≡ 2 → reader' ≡ reader
+  pub kept : status ≡ 2 → reader' ≡ reader
   -- 3: one call failed, and no other; where it was the writer's, just a prefix of what is asked for was written.
   pub device : status ≡ 3 → (command : Command) × AsksFor args command
       × ((ReaderFailed source sink reader reader' writer writer' × IsUnwritten sink args (source.remaining reader) writer writer'

@@ -313,7 +313,7 @@ fn outcome<R: Source, W: Sink>(
     ensures alone { IfOk result
         (λ outcome. (size : Size) → wanted.now.command ≢ Command.Threads size) }
     ensures threads { IfErr result (λ size. wanted.now.command ≡ Command.Threads size) }
-    ensures untouched { IsErr result → (reader.new ≡ reader.old) × (writer.new ≡ writer.old) }
+    ensures kept { IsErr result → (reader.new ≡ reader.old) × (writer.new ≡ writer.old) }
     ensures read { IfSome (most_read wanted.now.command)
         (λ most. ConsumesAtMost most (R.remaining reader.old) (R.remaining reader.new)) }
     ensures unread { takes_input wanted.now.command ≡ false → reader.new ≡ reader.old }
@@ -358,7 +358,7 @@ pub fn run_alone<R: Source, W: Sink, E: Sink>(
 
     // Threads are asked for, and all that was lent is as it was.
     ensures threads { IfErr result (λ size. AsksFor args (Command.Threads size)) }
-    ensures untouched { IsErr result
+    ensures kept { IsErr result
         → (reader.new ≡ reader.old) × (writer.new ≡ writer.old) × (errors.new ≡ errors.old) }
 
     // Where they are asked for, only out of memory comes before: an allocation failed.

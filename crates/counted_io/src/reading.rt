@@ -98,7 +98,7 @@ fn read_block<S: Source>(
     ensures before { take filled bytes.new.items ≡ take filled bytes.old.items }
     ensures came { IfOk result
         (CameBehind filled bytes.new (S.remaining source.old) (S.remaining source.new)) }
-    ensures err { OnErr result (Keeps (S.remaining source.old) (S.remaining source.new)) }
+    ensures kept { OnErr result (Keeps (S.remaining source.old) (S.remaining source.new)) }
     ensures count { S.failed_calls source.new
         ≡ count_after (is_device_fault result) (S.failed_calls source.old) }
 {

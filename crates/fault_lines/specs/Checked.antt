@@ -32,7 +32,7 @@ pub record Checks {W : Type 0} (IsSaidOf : (known : Option (List ℕ)) (input sa
   pub ahead : answer ≡ Ok 0 → (input warned : List ℕ) × IsSaidOf left input [] warned × Appends old new warned
   -- After `Write` a prefix of it was, and never all of it.
   pub prefix : answer ≡ Err Write → (input said warned : List ℕ) × IsSaidOf left input said warned × AppendsPrefix old new (said ++ warned)
-  pub untouched : IfErr answer (λ fault. fault ≢ Write → writer' ≡ writer)
+  pub kept : IfErr answer (λ fault. fault ≢ Write → writer' ≡ writer)
   -- Neither `Schedule` nor `Refused` is ever answered.
   pub refuses : RefusesNothing answer
   -- Where nothing is wrong, nothing is left to read. `Read` and `Write` come of one failed call each, and no other call fails.

@@ -53,7 +53,7 @@ impl Delta {
     pub fn write_to(&self, text: &mut String) -> Result<(), AllocError>
         ensures ok { OnOk result
             (string_bytes text.new ≡ string_bytes text.old ++ spelling 6 self.now) }
-        ensures err { OnErr result (string_bytes text.new ≡ string_bytes text.old) }
+        ensures kept { OnErr result (string_bytes text.new ≡ string_bytes text.old) }
         ensures full { OnErr result
             (string_capacity text.old < string_len text.old + length (spelling 6 self.now)) }
         ensures capacity { string_capacity text.old ≤ string_capacity text.new }

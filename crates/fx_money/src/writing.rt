@@ -162,7 +162,7 @@ pub(crate) fn append(
     requires below { decimals < 10 ^ places }
     ensures ok { OnOk result (string_bytes text.new ≡ string_bytes text.old
         ++ text_of_parts minus whole decimals places) }
-    ensures err { OnErr result (string_bytes text.new ≡ string_bytes text.old) }
+    ensures kept { OnErr result (string_bytes text.new ≡ string_bytes text.old) }
     ensures full { OnErr result (string_capacity text.old < string_len text.old
         + length (text_of_parts minus whole decimals places)) }
     ensures capacity { string_capacity text.old ≤ string_capacity text.new }
@@ -184,7 +184,7 @@ pub(crate) fn append_millionths(
 ) -> Result<(), AllocError>
     ensures ok { OnOk result (string_bytes text.new ≡ string_bytes text.old
         ++ text_of_parts minus (magnitude / 10 ^ 6) (magnitude % 10 ^ 6) 6) }
-    ensures err { OnErr result (string_bytes text.new ≡ string_bytes text.old) }
+    ensures kept { OnErr result (string_bytes text.new ≡ string_bytes text.old) }
     ensures full { OnErr result (string_capacity text.old < string_len text.old
         + length (text_of_parts minus (magnitude / 10 ^ 6) (magnitude % 10 ^ 6) 6)) }
     ensures capacity { string_capacity text.old ≤ string_capacity text.new }

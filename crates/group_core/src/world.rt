@@ -98,7 +98,7 @@ impl World {
     pub fn step(&mut self, alloc: Global, event: &Event) -> Result<Reply, AllocError>
         ensures ok { IfOk result
             (λ reply. (reply_of reply, self.new) ≡ step self.old (event_of event.now)) }
-        ensures err { OnErr result (self.new ≡ self.old) }
+        ensures kept { OnErr result (self.new ≡ self.old) }
         ensures unchanged { IfOk result
             (λ reply. IsUnchangedAt (reply_of reply) self.old self.new) }
         ensures others { (node : ℕ) (n : Node) (offer : KeptOffer)

@@ -17,7 +17,7 @@ pub record IsBallot (voters ballot : ℕ) : Type 0 where
   pub round_in : (1 ≤ round) × (round ≤ most_rounds)
   pub votes : node < voters
   pub is : ballot ≡ ballot_of round node voters
-  pub low : ballot < 10_001 * voters
+  pub low : ballot < (most_rounds + 1) * voters
 
 -- A sequence for each agent, up to which the journals have every batch.
 pub record IsJournaledCut (agents : ℕ) (journals : Holding) (cut : Cut) : Type 0 where

@@ -62,7 +62,7 @@ impl Node {
         ensures does { OnOk result
             ((base i : ℕ) → Does base i
             (CarriesBatch (batch_of (arc_value batch.now))) self.old self.new None None) }
-        ensures unchanged { OnErr result (self.new ≡ self.old) }
+        ensures kept { OnErr result (self.new ≡ self.old) }
     {
         let batch = Arc::try_clone(batch)?;
         let kept = &mut self.kept;
@@ -108,7 +108,7 @@ impl Node {
         ensures does { IfOk result
             (λ handled. Does base i (packet_of packet.now) self.old self.new
             (option_map packet_of handled.sends) handled.learns) }
-        ensures unchanged { OnErr result (self.new ≡ self.old) }
+        ensures kept { OnErr result (self.new ≡ self.old) }
     {
         match packet {
             Packet::Batch(batch) => {

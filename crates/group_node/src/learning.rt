@@ -22,7 +22,7 @@ impl Node {
         ensures does { IfOk result
             (λ learns. (base i : ℕ) → Does base i
             (Decided period (arc_value cut.now)) self.old self.new None learns) }
-        ensures unchanged { OnErr result (self.new ≡ self.old) }
+        ensures kept { OnErr result (self.new ≡ self.old) }
     {
         if period.number() != self.current_period() {
             return Ok(None);
@@ -50,7 +50,7 @@ impl Node {
         ensures does { IfOk result
             (λ learns. (base i : ℕ) → Does base i
             (Accepted from period ballot (arc_value cut.now)) self.old self.new None learns) }
-        ensures unchanged { OnErr result (self.new ≡ self.old) }
+        ensures kept { OnErr result (self.new ≡ self.old) }
     {
         if period.number() != self.current_period() {
             return Ok(None);

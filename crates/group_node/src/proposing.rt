@@ -147,7 +147,7 @@ impl Node {
         ensures does { IfOk result
             (λ sends. Does base i (Promise from period ballot vote.now) self.old self.new
             (option_map packet_of sends) None) }
-        ensures unchanged { OnErr result (self.new ≡ self.old) }
+        ensures kept { OnErr result (self.new ≡ self.old) }
     {
         if !self.votes(i) || !self.awaits(period, ballot) {
             return Ok(None);

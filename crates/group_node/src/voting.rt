@@ -54,7 +54,7 @@ impl Node {
         ensures does { IfOk result
             (λ sends. (base : ℕ) → Does base i (Prepare period ballot) self.old self.new
             (option_map packet_of sends) None) }
-        ensures unchanged { OnErr result (self.new ≡ self.old) }
+        ensures kept { OnErr result (self.new ≡ self.old) }
     {
         if !self.votes(i) || !self.promises(period, ballot) {
             return self.decided(period);
@@ -84,7 +84,7 @@ impl Node {
             (λ sends. (base : ℕ) → Does base i
             (Accept period ballot (arc_value cut.now)) self.old self.new
             (option_map packet_of sends) None) }
-        ensures unchanged { OnErr result (self.new ≡ self.old) }
+        ensures kept { OnErr result (self.new ≡ self.old) }
     {
         if !self.votes(i) || !self.accepts(period, ballot) {
             return self.decided(period);

@@ -202,7 +202,7 @@ impl AgentProcess {
             (λ journaled. arc_value journaled.batch ≡ arc_value batch.now) }
         ensures adds { IfOk result (λ _. AddsJust (kept_of_agent self.old)
             (kept_of_agent self.new) (Some (Takes (batch_of (arc_value batch.now))))) }
-        ensures unchanged { OnErr result (self.new ≡ self.old) }
+        ensures kept { OnErr result (self.new ≡ self.old) }
     {
         // For the proof alone: its clause says that the bytes are a batch.
         let _ = batch.bytes();
@@ -230,7 +230,7 @@ impl AgentProcess {
         ensures adds { IfOk result (λ answer. IfOk answer (λ journaled.
             AddsJust (kept_of_agent self.old) (kept_of_agent self.new)
             (Some (Takes (batch_of (arc_value journaled.batch)))))) }
-        ensures unchanged { OnErr result (self.new ≡ self.old) }
+        ensures kept { OnErr result (self.new ≡ self.old) }
     {
         let batch = match offer {
             Offer::Good(batch) => batch,

@@ -28,7 +28,7 @@ impl NodeProcess {
         ensures does { Does BeginBallot self.old self.new (begun_answer result) }
         ensures adds { IfOk result (λ begun. AddsJust (kept_of_node self.old)
             (kept_of_node self.new) (increment_after begun.added (kept_of_node self.new))) }
-        ensures unchanged { OnErr result (self.new ≡ self.old) }
+        ensures kept { OnErr result (self.new ≡ self.old) }
     {
         let period = match self.node.period_to_begin(self.number) {
             Ok(period) => period,

@@ -155,7 +155,7 @@ impl NodeProcess {
         ensures told { IfOk result (λ taken.
             increment_after taken.added (kept_of_node self.new) ≡ None
             → taken.added ≡ Added.Nothing) }
-        ensures unchanged { OnErr result (self.new ≡ self.old) }
+        ensures kept { OnErr result (self.new ≡ self.old) }
     {
         // For the proof alone: their clauses say what group, node, packet and vote keep by their types.
         self.group.sizes();
@@ -191,7 +191,7 @@ impl NodeProcess {
             (increment_after t.added (kept_of_node self.new)))) }
         ensures told { IfOk result (λ taken. IfSome taken (λ t.
             increment_after t.added (kept_of_node self.new) ≡ None → t.added ≡ Added.Nothing)) }
-        ensures unchanged { OnErr result (self.new ≡ self.old) }
+        ensures kept { OnErr result (self.new ≡ self.old) }
     {
         if !self.group().has_sent(name, packet) {
             return Ok(None);

@@ -85,7 +85,7 @@ impl GroupState {
         requires reached { IsReached self.old }
         ensures ok { IfOk result
             (λ reply. (reply_of reply, self.new) ≡ step self.old (Deliver packet node)) }
-        ensures err { OnErr result (self.new ≡ self.old) }
+        ensures kept { OnErr result (self.new ≡ self.old) }
     {
         if let Some(refusal) = self.delivery_refusal(packet, node) {
             return Ok(Reply::Refused(refusal));

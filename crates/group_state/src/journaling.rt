@@ -173,7 +173,7 @@ impl GroupState {
         requires { MayJournal self.old (batch_of (arc_value batch.now)) }
         ensures ok { IfOk result (λ reply. on_batch self.old (batch_of (arc_value batch.now))
             ≡ Ok (reply_of reply, self.new)) }
-        ensures err { OnErr result (self.new ≡ self.old) }
+        ensures kept { OnErr result (self.new ≡ self.old) }
     {
         let packet = self.packets.len() as u32;
         keep_batch(&mut self.journals, &mut self.packets, batch)?;
@@ -186,7 +186,7 @@ impl GroupState {
         requires reached { IsReached self.old }
         ensures ok { IfOk result
             (λ reply. (reply_of reply, self.new) ≡ step self.old (Journal (offer_of offer.now))) }
-        ensures err { OnErr result (self.new ≡ self.old) }
+        ensures kept { OnErr result (self.new ≡ self.old) }
     {
         let batch = match offer {
             Offer::Good(batch) => batch,

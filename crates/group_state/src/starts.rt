@@ -59,7 +59,7 @@ impl GroupState {
     pub fn start(&mut self, node: u8) -> Result<Reply, AllocError>
         ensures ok { IfOk result
             (λ reply. (reply_of reply, self.new) ≡ step self.old (Start node)) }
-        ensures err { OnErr result (self.new ≡ self.old) }
+        ensures kept { OnErr result (self.new ≡ self.old) }
     {
         let period = match self.period_to_begin(node) {
             Ok(period) => period,

@@ -17,7 +17,7 @@ impl GroupState {
         requires reached { IsReached self.old }
         ensures ok { IfOk result
             (λ reply. (reply_of reply, self.new) ≡ step self.old (event_of event.now)) }
-        ensures err { OnErr result (self.new ≡ self.old) }
+        ensures kept { OnErr result (self.new ≡ self.old) }
     {
         match event {
             Event::Journal(offer) => self.journal(offer),

@@ -153,7 +153,7 @@ impl Book {
               index = length self.old.history;
               reply = (step self.old.world (event_of event)).0;
             }) }
-        ensures err { OnErr result (self.new ≡ self.old) }
+        ensures kept { OnErr result (self.new ≡ self.old) }
     {
         self.history.reserve(1)?;
         let reply = self.world.step(alloc, &event)?;

@@ -58,7 +58,7 @@ impl Tally {
             ≡ (if has_majority self.old.nodes
             (accepting_at self.old.nodes vote.ballot self.new.accepting) then Some vote.cut else
             None)) }
-        ensures unchanged { OnErr result (self.new ≡ self.old) }
+        ensures kept { OnErr result (self.new ≡ self.old) }
     {
         let ballot = vote.ballot.number();
         let is_chosen = match self.sets.get_mut(&ballot) {
@@ -81,7 +81,7 @@ impl Tally {
             (with_node from (nobody self.old.nodes))) }
         ensures chosen { IfOk result (λ is_chosen. is_chosen
             ≡ has_majority self.old.nodes (with_node from (nobody self.old.nodes))) }
-        ensures unchanged { OnErr result (self.new ≡ self.old) }
+        ensures kept { OnErr result (self.new ≡ self.old) }
     {
         let accepting = NodeSet::nobody(self.nodes).with(from);
         let is_chosen = accepting.has_majority();

@@ -223,7 +223,7 @@ pub fn process_text<R: Source, W: Sink>(
 
     // What is refused begins nothing, and at another fault but `Write` whole answers stand, or nothing was begun; after `Read`
     // the answers to all commands that had come whole.
-    ensures untouched { IfErr result (λ fault. IsRefusal fault → writer.new ≡ writer.old) }
+    ensures kept { IfErr result (λ fault. IsRefusal fault → writer.new ≡ writer.old) }
     ensures whole { IfErr result (λ fault. fault ≢ ProcessFault.Write
         → (writer.new ≡ writer.old) ⊎ RunsWhole kind fault (R.remaining reader.old)
         (R.remaining reader.new) (W.contents writer.old) (W.contents writer.new)) }

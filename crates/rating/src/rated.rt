@@ -1,6 +1,7 @@
 //! What a charge comes to.
 
 ghost use Rattle.std.specs.Prelude.{◌≡◌, ◌<◌, pos};
+ghost use Rattle.metering_model.specs.Limits.{one_in_millionths};
 ghost use Rattle.metering_model.specs.Rating as model;
 
 use crate::rounding::difference;
@@ -76,7 +77,7 @@ pub(crate) fn cost_at(price: Price, quantity: Delta) -> Cost
 
 // An amount is charged as a quantity at a price of one unit of the currency.
 fn one() -> Price
-    ensures { result ≡ 1_000_000 }
+    ensures { result ≡ one_in_millionths }
 {
     Price::new(1_000_000).unwrap()
 }

@@ -1,6 +1,7 @@
 //! Quantities, rounded half to even.
 
-ghost use Rattle.std.specs.Prelude.{◌≡◌, ◌<◌, ◌≤◌, ◌^◌, ◌≤ℤ◌, ◌-ℤ◌, pos};
+ghost use Rattle.std.specs.Prelude.{◌≡◌, ◌<◌, ◌≤◌, ◌≤ℤ◌, ◌-ℤ◌, pos};
+ghost use Rattle.metering_model.specs.NumberText.{value_limit};
 ghost use Rattle.metering_model.specs.Rating as model;
 
 use fx_money::{Delta, Value};
@@ -8,7 +9,7 @@ use fx_money::{Delta, Value};
 // How many times `per` goes into the magnitude, rounded half to even
 fn rounded(per: u32, magnitude: u64) -> u64
     requires some { 0 < per }
-    requires small { magnitude < 10 ^ 18 }
+    requires small { magnitude < value_limit }
     ensures rounded { result ≡ model.rounded_magnitude per magnitude }
     ensures within { result ≤ magnitude }
 {

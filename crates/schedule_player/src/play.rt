@@ -138,7 +138,7 @@ fn play_input<W: Sink>(
     ensures section { (fault : ScheduleFault) → result ≡ Err (PlayFault.Schedule fault)
         → (fault ≢ ScheduleFault.OutOfMemory) × (schedule_in input.now ≡ Err fault) }
     ensures want { result ≡ Err PlayFault.OutOfMemory → IsOk (group_in input.now) }
-    ensures untouched { (fault : ScheduleFault) → result ≡ Err (PlayFault.Schedule fault)
+    ensures kept { (fault : ScheduleFault) → result ≡ Err (PlayFault.Schedule fault)
         → writer.new ≡ writer.old }
     ensures no_read { result ≢ Err PlayFault.Read }
     ensures no_refusal { (refusal : Refusal) → result ≢ Err (PlayFault.Refused refusal) }
@@ -176,7 +176,7 @@ fn play_read<W: Sink>(alloc: Global, input: Vec<u8>, writer: &mut W) -> Result<(
         (W.failed_calls writer.old) (W.failed_calls writer.new) }
     ensures section { (fault : ScheduleFault) → result ≡ Err (PlayFault.Schedule fault)
         → (fault ≢ ScheduleFault.OutOfMemory) × (schedule_in input.items ≡ Err fault) }
-    ensures untouched { IfErr result
+    ensures kept { IfErr result
         (λ fault. fault ≢ PlayFault.Write → fault ≢ PlayFault.OutOfMemory
         → writer.new ≡ writer.old) }
     ensures no_read { result ≢ Err PlayFault.Read }
@@ -212,7 +212,7 @@ pub fn play_text<R: Source, W: Sink>(
 
     // A section is refused as the input's first fault, and never for want of memory. `Refused` is never answered.
     ensures faults { TellsFaults result (R.remaining reader.old) }
-    ensures untouched { IfErr result
+    ensures kept { IfErr result
         (λ fault. fault ≢ PlayFault.Write → fault ≢ PlayFault.OutOfMemory
         → writer.new ≡ writer.old) }
 

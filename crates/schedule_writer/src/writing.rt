@@ -340,7 +340,7 @@ pub fn schedule_text<R: Source, W: Sink>(
     // Of a refused section, or of the first batch that is not journaled, `check`'s words are told; and `TooLong` and `NotClosed`
     // hide neither.
     ensures faults { TellsFaults result (R.remaining reader.old) }
-    ensures untouched { IfErr result (λ fault. fault ≢ WriteFault.Write → writer.new ≡ writer.old) }
+    ensures kept { IfErr result (λ fault. fault ≢ WriteFault.Write → writer.new ≡ writer.old) }
 
     // With Ok nothing is left to read. `Read` and `Write` come of one failed call each, and no other call fails.
     ensures streams { UsesStreams (most_input_bytes + 1) (IsOk result)

@@ -198,7 +198,7 @@ fn write_changes<W: Sink>(
     ensures prefix { result ≡ Err PlayFault.Write → (text : List ℕ)
         × SaysAll asked.all old.now new.now text
         × AppendsPrefix (W.contents writer.old) (W.contents writer.new) text }
-    ensures untouched { IfErr result (λ fault. fault ≢ PlayFault.Write → writer.new ≡ writer.old) }
+    ensures kept { IfErr result (λ fault. fault ≢ PlayFault.Write → writer.new ≡ writer.old) }
     ensures others { (result ≢ Err PlayFault.Read)
         × ((fault : ScheduleFault) → result ≢ Err (PlayFault.Schedule fault))
         × ((refusal : Refusal) → result ≢ Err (PlayFault.Refused refusal)) }
@@ -229,7 +229,7 @@ fn write_both<W: Sink>(
     ensures prefix { result ≡ Err PlayFault.Write → (text : List ℕ)
         × SaysAll asked.all both.0 both.1 text
         × AppendsPrefix (W.contents writer.old) (W.contents writer.new) text }
-    ensures untouched { IfErr result (λ fault. fault ≢ PlayFault.Write → writer.new ≡ writer.old) }
+    ensures kept { IfErr result (λ fault. fault ≢ PlayFault.Write → writer.new ≡ writer.old) }
     ensures others { (result ≢ Err PlayFault.Read)
         × ((fault : ScheduleFault) → result ≢ Err (PlayFault.Schedule fault))
         × ((refusal : Refusal) → result ≢ Err (PlayFault.Refused refusal)) }
@@ -257,7 +257,7 @@ fn compare_input<W: Sink>(
         × AppendsPrefix (W.contents writer.old) (W.contents writer.new) text }
     ensures section { (fault : ScheduleFault) → result ≡ Err (PlayFault.Schedule fault)
         → (fault ≢ ScheduleFault.OutOfMemory) × (two_sheets_in input.now ≡ Err fault) }
-    ensures untouched { IfErr result (λ fault. fault ≢ PlayFault.Write → writer.new ≡ writer.old) }
+    ensures kept { IfErr result (λ fault. fault ≢ PlayFault.Write → writer.new ≡ writer.old) }
     ensures others { (result ≢ Err PlayFault.Read)
         × ((refusal : Refusal) → result ≢ Err (PlayFault.Refused refusal)) }
     ensures writes { W.failed_calls writer.new
@@ -303,7 +303,7 @@ pub fn sheets_text<R: Source, W: Sink>(
 
     // A section is refused as the input's first fault, and never for want of memory. `Refused` is never answered.
     ensures faults { TellsFaults result (R.remaining reader.old) }
-    ensures untouched { IfErr result (λ fault. fault ≢ SheetsFault.Unlike
+    ensures kept { IfErr result (λ fault. fault ≢ SheetsFault.Unlike
         → fault ≢ SheetsFault.Input PlayFault.Write → writer.new ≡ writer.old) }
 
     // With Ok and with `Unlike` nothing is left to read. `Read` and `Write` come of one failed call each, and no other call

@@ -5,15 +5,28 @@ use Rattle.metering_model.specs.Dates.{day_text, stamp_text, time_text}
 use Rattle.metering_model.specs.Transcript.{line, with_number}
 use Rattle.threads_player.specs.declared.sizes.Size.{Size}
 
+-- how many nodes, agents and batches of each may be asked for, and how many of the months of 2025
+abbrev pub most_run_nodes : ℕ
+most_run_nodes = 9
+
+abbrev pub most_run_agents : ℕ
+most_run_agents = 9
+
+abbrev pub most_run_batches : ℕ
+most_run_batches = 99
+
+abbrev pub most_run_periods : ℕ
+most_run_periods = 12
+
 pub record IsSize (size : Size) : Type 0 where
   pub nodes_from : 1 ≤ size.nodes
-  pub nodes_to : size.nodes ≤ 9
+  pub nodes_to : size.nodes ≤ most_run_nodes
   pub agents_from : 1 ≤ size.agents
-  pub agents_to : size.agents ≤ 9
+  pub agents_to : size.agents ≤ most_run_agents
   pub batches_from : 1 ≤ size.batches
-  pub batches_to : size.batches ≤ 99
+  pub batches_to : size.batches ≤ most_run_batches
   pub periods_from : 1 ≤ size.periods
-  pub periods_to : size.periods ≤ 12
+  pub periods_to : size.periods ≤ most_run_periods
 
 -- the month of 2025, counted from 1, in which an agent's batch of that sequence falls due: as many for each period, as far
 -- as they go

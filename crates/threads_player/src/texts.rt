@@ -41,7 +41,7 @@ fn write_report<W: Sink>(alloc: Global, run: &Run, writer: &mut W) -> Result<(),
     ensures prefix { result ≡ Err ThreadsFault.Write →
         AppendsPrefix (W.contents writer.old) (W.contents writer.new) (report_text run.now) }
     ensures unrefused { result ≢ Err ThreadsFault.Refused }
-    ensures untouched { IfErr result
+    ensures kept { IfErr result
         (λ fault. fault ≢ ThreadsFault.Write → writer.new ≡ writer.old) }
     ensures writes { W.failed_calls writer.new
         ≡ count_after (tells_of_writer result) (W.failed_calls writer.old) }
@@ -73,7 +73,7 @@ pub fn threads_text<R: Threads + Wait + Sync, W: Sink>(
     ensures prefix { result ≡ Err ThreadsFault.Write → (run : ModelRun) × IsRunOf size run
         × AppendsPrefix (W.contents writer.old) (W.contents writer.new) (report_text run) }
     ensures refused { result ≡ Err ThreadsFault.Refused → IsSheetRefused }
-    ensures untouched { IfErr result
+    ensures kept { IfErr result
         (λ fault. fault ≢ ThreadsFault.Write → writer.new ≡ writer.old) }
 
     // `Write` comes of one failed call, and no other call fails.

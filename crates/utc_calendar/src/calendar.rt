@@ -3,6 +3,7 @@
 ghost use Rattle.std.specs.Prelude.{◌≡◌, ℕ, ◌<◌, ◌<ℤ◌, ◌≤ℤ◌, List, ℤ, pos};
 ghost use Rattle.jiff_core.specs.Calendar.{days_from_civil, IsCivilDate};
 ghost use Rattle.metering_model.specs.Dates.{IsStampText, day_of, month_start};
+ghost use Rattle.metering_model.specs.Limits.{last_year};
 ghost use Rattle.utc_calendar.specs.Years.{first_day, last_day, IsDayNumber};
 
 /// A later month begins later.
@@ -14,7 +15,7 @@ pub fn later_months_begin_later()
 /// and of the last.
 pub fn dates_have_day_numbers()
     ensures first { days_from_civil (pos 1) 1 1 ≡ first_day }
-    ensures last { days_from_civil (pos 9999) 12 31 ≡ last_day }
+    ensures last { days_from_civil (pos last_year) 12 31 ≡ last_day }
     ensures between { (year : ℤ) (month day : ℕ) → IsCivilDate year month day → pos 1 ≤ℤ year
         → IsDayNumber (days_from_civil year month day) }
 {}

@@ -4,6 +4,7 @@ use Rattle.std.specs.List.{list_all}
 use Rattle.std.specs.Io.KnownBytes.{Appends, Consumes, IsAtEnd}
 use Rattle.counted_io.specs.Writing.{AppendsPrefix}
 use Rattle.metering_model.specs.Batch.{lacks}
+use Rattle.metering_model.specs.Limits.{most_transcript_bytes}
 use Rattle.metering_model.specs.Transcript.{line}
 use Rattle.metering_model.specs.Schedule.{TextLines, lines_text}
 use Rattle.line_source.specs.Reading.{Takes, TakesLine}
@@ -11,7 +12,7 @@ use Rattle.transcript_laws.specs.FirstFiles.{NoFile, first_file, first_of_lines,
 
 -- what is told of a line: the number, or where that is great another that is too great
 abbrev pub IsTold : Option ℕ → Option ℕ → Type 0
-IsTold (Some count) told = (number : ℕ) × (told ≡ Some number) × (count ≡ min 4_294_967_297 number)
+IsTold (Some count) told = (number : ℕ) × (told ≡ Some number) × (count ≡ min (most_transcript_bytes + 1) number)
 IsTold None told = told ≡ None
 
 -- A line was taken, and that is told of it behind these words.

@@ -20,5 +20,5 @@ returns-in-Ok-clause-outcome g c =
 pub returns-in-Err-clause-outcome : goal.returns-in-Err-clause-outcome
 returns-in-Err-clause-outcome g c =
     let told = c.in-Err.ensures in
-    check_comes_to g.W.Sink c.args.kind c.in-Err.fault (g.R.Source.remaining c.args.reader.now) _ _ _ _ told.streams.reads told.streams.writes told.untouched
+    check_comes_to g.W.Sink c.args.kind c.in-Err.fault (g.R.Source.remaining c.args.reader.now) _ _ _ _ told.streams.reads told.streams.writes told.kept
     (λ bad is. told.refuses.no_section bad (ap Err is)) (λ refusal is. told.refuses.no_refusal refusal (ap Err is)) (λ is. told.prefix (ap Err is))

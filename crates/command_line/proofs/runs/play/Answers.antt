@@ -26,7 +26,7 @@ returns-in-Err-clause-outcome g c =
     let known = g.R.Source.remaining c.args.reader.now in
     let fault = c.in-Err.fault in
     let told = c.in-Err.ensures in
-    comes_to g.W.Sink PlaySchedule fault known _ _ _ _ told.streams.reads told.streams.writes told.untouched
+    comes_to g.W.Sink PlaySchedule fault known _ _ _ _ told.streams.reads told.streams.writes told.kept
     (λ one. refuses known fault one (λ refusal is. told.faults.unrefused refusal (ap Err is)) (λ bad is. told.faults.section bad (ap Err is)))
     (λ one same. same)
     (λ is. told.faults.plain_memory (ap Err is))

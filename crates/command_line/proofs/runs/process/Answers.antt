@@ -9,6 +9,6 @@ returns-in-Err g c =
     let told = c.in-Err.ensures in
     record {
       outcome =
-          process_comes_to g.W.Sink c.args.kind c.in-Err.fault known _ _ _ _ told.calls.reads told.calls.writes told.untouched
+          process_comes_to g.W.Sink c.args.kind c.in-Err.fault known _ _ _ _ told.calls.reads told.calls.writes told.kept
           (λ other. has_answered _ c.args.kind known _ _ _ (told.whole other)) (λ is. (_, told.torn (ap Err is))) told.refused;
     }

@@ -30,9 +30,9 @@ returns-in-Err-clause-outcome g c =
     let fault = c.in-Err.fault in
     let told = c.in-Err.ensures in
     comes_to g.W.Sink (Rate c.args.period) fault known _ _ _ _ told.streams.reads told.streams.writes
-    (λ no_write no_memory. told.untouched no_write)
+    (λ no_write no_memory. told.kept no_write)
     (λ one. (fault, refl, refuses _ known fault one (λ refusal is. told.refused refusal (ap Err is)) (λ bad is. (told.section bad (ap Err is)).1)))
     (λ one same. same)
     (λ is. (told.section _ (ap Err is)).0 refl)
-    (λ is. inl (told.untouched (λ write. absurd (cc))))
+    (λ is. inl (told.kept (λ write. absurd (cc))))
     (λ is. told.prefix (ap Err is))

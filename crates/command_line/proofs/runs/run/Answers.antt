@@ -6,7 +6,7 @@ use Rattle.command_line.proofs.runs.run.Goals as goal
 pub returns-in-Err : goal.returns-in-Err
 returns-in-Err g c =
     let before = c.in-Err.ensures in
-    let same = before.untouched refl in
+    let same = before.kept refl in
     let known = g.R.Source.remaining c.run_alone.new.reader in
     let reads = g.R.Source.failed_calls c.run_alone.new.reader in
     record {

@@ -32,5 +32,5 @@ prepend-requires-clause-room c =
 pub returns-clause-ok : goal.returns-clause-ok
 returns-clause-ok c = search rules
 
-pub returns-clause-err : goal.returns-clause-err
-returns-clause-err c = search rules
+pub returns-clause-kept : goal.returns-clause-kept
+returns-clause-kept c = search rules

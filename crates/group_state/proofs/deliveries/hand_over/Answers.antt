@@ -72,4 +72,4 @@ pub returns-in_err-handled-clause-packets_kept : goal.returns-in_err-handled-cla
 returns-in_err-handled-clause-packets_kept c = on_any_err _ c.reserve.ensures.items
 
 pub returns-in_err-handled-clause-node_kept : goal.returns-in_err-handled-clause-node_kept
-returns-in_err-handled-clause-node_kept c = on_any_err _ c.in_err-handled.ensures.unchanged
+returns-in_err-handled-clause-node_kept c = on_any_err _ c.in_err-handled.ensures.kept

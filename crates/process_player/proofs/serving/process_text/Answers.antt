@@ -23,7 +23,7 @@ serve-ended-requires-clause-at_hand g c = c.in-Ok.ensures.begun.at_hand
 pub returns-in-Ok-write_begun : goal.returns-in-Ok-write_begun
 returns-in-Ok-write_begun g c = record {
   done = on_ok c.serve-ended.result (ends_of (begun g c) c.in-Ok-write_begun.ensures.written) c.serve-ended.ensures.ended;
-  untouched = search rules;
+  kept = search rules;
   whole = on_err c.serve-ended.result
       (λ fault it other.
       let so = it other in
@@ -37,7 +37,7 @@ returns-in-Ok-write_begun g c = record {
 pub returns-in-Err : goal.returns-in-Err
 returns-in-Err g c = record {
   done = tt;
-  untouched = λ it. refl;
+  kept = λ it. refl;
   whole = λ other. inl refl;
   torn = λ is. absurd (c.in-Err.ensures.no_write (ap Err (one_fault is)));
   refused = known_input _ _ _ _ c.new-unread.ensures.bytes c.in-Err.ensures.refused;
@@ -49,7 +49,7 @@ returns-in-Err g c = record {
 pub returns : goal.returns
 returns g c = record {
   done = tt;
-  untouched = λ it. (c.in-Err-write_begun.ensures.others (refusal_no_write it)).1;
+  kept = λ it. (c.in-Err-write_begun.ensures.others (refusal_no_write it)).1;
   whole = λ other. inl (c.in-Err-write_begun.ensures.others other).1;
   torn = search rules;
   refused = answer_rejects c.args.kind _ c.in-Err-write_begun.fault (g.R.Source.remaining c.args.reader.now) c.in-Err-write_begun.ensures.others;

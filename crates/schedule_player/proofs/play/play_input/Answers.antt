@@ -36,5 +36,5 @@ returns-in-Ok-clause-want g c = λ is. group_of c.args.input.now _ c.in-Ok.ensur
 pub returns-in-Err-clause-want : goal.returns-in-Err-clause-want
 returns-in-Err-clause-want g c = λ is. c.in-Err.ensures.want (want_of _ _ c.from.ensures (cc))
 
-pub returns-in-Err-clause-untouched : goal.returns-in-Err-clause-untouched
-returns-in-Err-clause-untouched g c = λ fault is. refl
+pub returns-in-Err-clause-kept : goal.returns-in-Err-clause-kept
+returns-in-Err-clause-kept g c = λ fault is. refl

@@ -13,9 +13,9 @@ returns-in-Ok-clause-section g c = λ fault is.
     let x = c.play_input.ensures.section fault is in
     (x.0, ap schedule_in (sym (c.deref-in-Ok.ensures.value ∙ ap (λ v. v.items) (c.deref.ensures ∙ c.in-Ok.ensures.ok))) ∙ x.1)
 
-pub returns-in-Ok-clause-untouched : goal.returns-in-Ok-clause-untouched
-returns-in-Ok-clause-untouched g c =
-    left_still c.play_input.result _ _ c.play_input.ensures.untouched c.play_input.ensures.no_read c.play_input.ensures.no_refusal
+pub returns-in-Ok-clause-kept : goal.returns-in-Ok-clause-kept
+returns-in-Ok-clause-kept g c =
+    left_still c.play_input.result _ _ c.play_input.ensures.kept c.play_input.ensures.no_read c.play_input.ensures.no_refusal
 
 pub returns-in-Ok-clause-no_read : goal.returns-in-Ok-clause-no_read
 returns-in-Ok-clause-no_read g c = c.play_input.ensures.no_read
@@ -31,8 +31,8 @@ returns-in-Err-clause-section g c = λ fault is.
     let x = c.unplayed.ensures.section fault (same_fault _ _ is) in
     (x.0, ap schedule_in (sym (c.deref-in-Err.ensures.value ∙ ap (λ v. v.items) c.in-Err.ensures.value_returned)) ∙ x.1)
 
-pub returns-in-Err-clause-untouched : goal.returns-in-Err-clause-untouched
-returns-in-Err-clause-untouched g c = λ a b. refl
+pub returns-in-Err-clause-kept : goal.returns-in-Err-clause-kept
+returns-in-Err-clause-kept g c = λ a b. refl
 
 pub returns-in-Err-clause-no_read : goal.returns-in-Err-clause-no_read
 returns-in-Err-clause-no_read g c = λ is. c.unplayed.ensures.others.0 (same_fault _ _ is)

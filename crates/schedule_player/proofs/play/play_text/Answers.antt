@@ -25,8 +25,8 @@ returns-clause-faults g c = record {
   unrefused = c.play_read.ensures.no_refusal;
 }
 
-pub returns-clause-untouched : goal.returns-clause-untouched
-returns-clause-untouched g c = c.play_read.ensures.untouched
+pub returns-clause-kept : goal.returns-clause-kept
+returns-clause-kept g c = c.play_read.ensures.kept
 
 pub returns-clause-streams : goal.returns-clause-streams
 returns-clause-streams g c = record {
@@ -58,8 +58,8 @@ returns-in_err-input-clause-faults g c =
       unrefused = unrefused c.from_residual.result _ e ends;
     }
 
-pub returns-in_err-input-clause-untouched : goal.returns-in_err-input-clause-untouched
-returns-in_err-input-clause-untouched g c = still c.from_residual.result _ (told_err _ _ c.from_residual.ensures.1) c.in_err-input.ensures.no_other _
+pub returns-in_err-input-clause-kept : goal.returns-in_err-input-clause-kept
+returns-in_err-input-clause-kept g c = still c.from_residual.result _ (told_err _ _ c.from_residual.ensures.1) c.in_err-input.ensures.no_other _
 
 pub returns-in_err-input-clause-streams : goal.returns-in_err-input-clause-streams
 returns-in_err-input-clause-streams g c =

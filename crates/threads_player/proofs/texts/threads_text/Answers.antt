@@ -10,8 +10,8 @@ returns-clause-prefix g c = λ is. (_, c.in_ok-run.ensures.run, c.write_report.e
 pub returns-clause-refused : goal.returns-clause-refused
 returns-clause-refused g c = λ is. absurd (c.write_report.ensures.unrefused is)
 
-pub returns-clause-untouched : goal.returns-clause-untouched
-returns-clause-untouched g c = c.write_report.ensures.untouched
+pub returns-clause-kept : goal.returns-clause-kept
+returns-clause-kept g c = c.write_report.ensures.kept
 
 pub returns-clause-writes : goal.returns-clause-writes
 returns-clause-writes g c = c.write_report.ensures.writes

@@ -11,7 +11,7 @@ use Rattle.group_core.proofs.Unchanged.{if_other, unchanged}
 use Rattle.group_core.proofs.world.World.step.Goals as goal
 
 pub invariant_of-self : goal.invariant_of-self
-invariant_of-self c = reached_after_call reply_of c.step.result c.self.inside.state c.step.new.self (event_of c.args.event.now) c.self.invariant c.step.ensures.ok c.step.ensures.err
+invariant_of-self c = reached_after_call reply_of c.step.result c.self.inside.state c.step.new.self (event_of c.args.event.now) c.self.invariant c.step.ensures.ok c.step.ensures.kept
 
 pub returns-clause-unchanged : goal.returns-clause-unchanged
 returns-clause-unchanged c =
@@ -24,9 +24,9 @@ returns-clause-others c = λ node n offer is found other.
     (λ found other. if_other reply_of c.self.inside.state c.step.new.self (event_of c.args.event.now) node n offer is found other c.step.result c.step.ensures.ok) found other
 
 pub returns-clause-exports : goal.returns-clause-exports
-returns-clause-exports c = exports_of_call reply_of c.step.result c.self.inside.state c.step.new.self (event_of c.args.event.now) c.self.invariant c.step.ensures.ok c.step.ensures.err
+returns-clause-exports c = exports_of_call reply_of c.step.result c.self.inside.state c.step.new.self (event_of c.args.event.now) c.self.invariant c.step.ensures.ok c.step.ensures.kept
 
 pub returns-clause-later : goal.returns-clause-later
 returns-clause-later c =
     subst (λ (w : World). IsLater w c.step.new.self) c.self.view_is
-    (later_after_call reply_of c.step.result c.self.inside.state c.step.new.self (event_of c.args.event.now) c.self.invariant c.step.ensures.ok c.step.ensures.err)
+    (later_after_call reply_of c.step.result c.self.inside.state c.step.new.self (event_of c.args.event.now) c.self.invariant c.step.ensures.ok c.step.ensures.kept)

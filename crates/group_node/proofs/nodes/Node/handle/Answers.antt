@@ -47,17 +47,17 @@ pub returns-in-Decided-clause-does : goal.returns-in-Decided-clause-does
 returns-in-Decided-clause-does c =
     rw c.in-Decided.is (if_learns c.if_learned-in-Decided.result c.args.base c.args.i _ _ _ c.on_decided.result c.if_learned-in-Decided.ensures (IfOk-weaker c.on_decided.result _ _ (λ l h. h c.args.base c.args.i) c.on_decided.ensures.does))
 
-pub returns-in-Prepare-clause-unchanged : goal.returns-in-Prepare-clause-unchanged
-returns-in-Prepare-clause-unchanged c = left _ (λ s. record { sends = s; learns = None }) c.on_prepare.result c.if_sent.result c.if_sent.ensures c.on_prepare.ensures.unchanged
+pub returns-in-Prepare-clause-kept : goal.returns-in-Prepare-clause-kept
+returns-in-Prepare-clause-kept c = left _ (λ s. record { sends = s; learns = None }) c.on_prepare.result c.if_sent.result c.if_sent.ensures c.on_prepare.ensures.kept
 
-pub returns-in-Promise-clause-unchanged : goal.returns-in-Promise-clause-unchanged
-returns-in-Promise-clause-unchanged c = left _ (λ s. record { sends = s; learns = None }) c.on_promise.result c.if_sent-in-Promise.result c.if_sent-in-Promise.ensures c.on_promise.ensures.unchanged
+pub returns-in-Promise-clause-kept : goal.returns-in-Promise-clause-kept
+returns-in-Promise-clause-kept c = left _ (λ s. record { sends = s; learns = None }) c.on_promise.result c.if_sent-in-Promise.result c.if_sent-in-Promise.ensures c.on_promise.ensures.kept
 
-pub returns-in-Accept-clause-unchanged : goal.returns-in-Accept-clause-unchanged
-returns-in-Accept-clause-unchanged c = left _ (λ s. record { sends = s; learns = None }) c.on_accept.result c.if_sent-in-Accept.result c.if_sent-in-Accept.ensures c.on_accept.ensures.unchanged
+pub returns-in-Accept-clause-kept : goal.returns-in-Accept-clause-kept
+returns-in-Accept-clause-kept c = left _ (λ s. record { sends = s; learns = None }) c.on_accept.result c.if_sent-in-Accept.result c.if_sent-in-Accept.ensures c.on_accept.ensures.kept
 
-pub returns-in-Accepted-clause-unchanged : goal.returns-in-Accepted-clause-unchanged
-returns-in-Accepted-clause-unchanged c = left _ (λ l. record { sends = None; learns = l }) c.on_accepted.result c.if_learned.result c.if_learned.ensures c.on_accepted.ensures.unchanged
+pub returns-in-Accepted-clause-kept : goal.returns-in-Accepted-clause-kept
+returns-in-Accepted-clause-kept c = left _ (λ l. record { sends = None; learns = l }) c.on_accepted.result c.if_learned.result c.if_learned.ensures c.on_accepted.ensures.kept
 
-pub returns-in-Decided-clause-unchanged : goal.returns-in-Decided-clause-unchanged
-returns-in-Decided-clause-unchanged c = left _ (λ l. record { sends = None; learns = l }) c.on_decided.result c.if_learned-in-Decided.result c.if_learned-in-Decided.ensures c.on_decided.ensures.unchanged
+pub returns-in-Decided-clause-kept : goal.returns-in-Decided-clause-kept
+returns-in-Decided-clause-kept c = left _ (λ l. record { sends = None; learns = l }) c.on_decided.result c.if_learned-in-Decided.result c.if_learned-in-Decided.ensures c.on_decided.ensures.kept

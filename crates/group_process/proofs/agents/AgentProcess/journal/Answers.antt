@@ -32,8 +32,8 @@ returns-in-Ok c =
     record {
       does = rw (c.in-Good.is, done.journal, done.given) (record { does = journaled_told a.group a.number a.journal text (batch_of text) read may; group = refl; number = refl });
       adds = subst (λ t. AddsJust (kept_of_agent a) (kept_of_agent c.keep.new.self) (Some (Takes (batch_of t)))) (sym done.given) done.adds;
-      unchanged = tt;
+      kept = tt;
     }
 
 pub returns-in-Err : goal.returns-in-Err
-returns-in-Err c = record { does = tt; adds = tt; unchanged = c.in-Err.ensures.unchanged }
+returns-in-Err c = record { does = tt; adds = tt; kept = c.in-Err.ensures.kept }

@@ -14,16 +14,16 @@ use Rattle.group_process.proofs.JournalLaws.{adds_batch, is_journal_with, journa
 use Rattle.group_process.proofs.agents.AgentProcess.keep.Goals as goal
 
 pub returns-in_default : goal.returns-in_default
-returns-in_default c = record { journal = tt; given = tt; adds = tt; unchanged = refl }
+returns-in_default c = record { journal = tt; given = tt; adds = tt; kept = refl }
 
 pub returns-in_default-try_clone : goal.returns-in_default-try_clone
-returns-in_default-try_clone c = record { journal = tt; given = tt; adds = tt; unchanged = refl }
+returns-in_default-try_clone c = record { journal = tt; given = tt; adds = tt; kept = refl }
 
 pub returns-in_default-put : goal.returns-in_default-put
 returns-in_default-put c =
     let with : Holding → AgentSelf = λ h. record { group = c.self.inside.group; number = c.self.inside.number; journal = h } in
     let stays = ap (λ (s : Stored). s.batches) c.in_default-put.ensures.kept ∙ ap (λ (k : KeptAmong). k.kept.holding) c.kept.view_is in
-    record { journal = tt; given = tt; adds = tt; unchanged = ap with stays ∙ c.self.view_is }
+    record { journal = tt; given = tt; adds = tt; kept = ap with stays ∙ c.self.view_is }
 
 pub invariant_of-self-2 : goal.invariant_of-self-2
 invariant_of-self-2 c =
@@ -56,5 +56,5 @@ returns c =
           (subst (λ (a : AgentSelf). is_journal_of a.number a.journal ≡ true) c.self.view_is c.self.invariant.2)
           (subst (λ (a : AgentSelf). a.number ≤ a.group.agents) c.self.view_is c.self.invariant.3.number.1)
           c.requires same;
-      unchanged = tt;
+      kept = tt;
     }

@@ -14,7 +14,7 @@ returns-then-not-has_sent c =
       };
       adds = tt;
       told = tt;
-      unchanged = tt;
+      kept = tt;
     }
 
 pub take_own-requires : goal.take_own-requires
@@ -33,8 +33,8 @@ returns-in-Ok c =
       };
       adds = done.adds;
       told = done.told;
-      unchanged = tt;
+      kept = tt;
     }
 
 pub returns-in-Err : goal.returns-in-Err
-returns-in-Err c = record { does = tt; adds = tt; told = tt; unchanged = c.in-Err.ensures.unchanged }
+returns-in-Err c = record { does = tt; adds = tt; told = tt; kept = c.in-Err.ensures.kept }

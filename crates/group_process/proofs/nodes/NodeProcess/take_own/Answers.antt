@@ -35,7 +35,7 @@ returns-in_default c =
       handles = tt;
       adds = tt;
       told = tt;
-      unchanged = ap with c.in_default.ensures.unchanged ∙ c.self.view_is;
+      kept = ap with c.in_default.ensures.kept ∙ c.self.view_is;
     }
 
 pub returns : goal.returns
@@ -64,5 +64,5 @@ returns c =
       handles = sym (ap (λ (s : NodeSelf). handled (bare_world s.group) s.number s.node p) c.self.view_is) ∙ there;
       adds = subst (λ (s : NodeSelf). AddsJust (kept_of_node s) after (increment_after c.added_for-added.result after)) c.self.view_is named.0;
       told = named.1;
-      unchanged = tt;
+      kept = tt;
     }

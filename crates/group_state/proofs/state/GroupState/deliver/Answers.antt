@@ -53,8 +53,8 @@ delivery_refusal-requires c = c.requires.reached
 pub returns-in-Some-clause-ok : goal.returns-in-Some-clause-ok
 returns-in-Some-clause-ok c = sym (ap (or_refused c.args.self.now) c.in-Some.ensures)
 
-pub returns-in-Some-clause-err : goal.returns-in-Some-clause-err
-returns-in-Some-clause-err c = tt
+pub returns-in-Some-clause-kept : goal.returns-in-Some-clause-kept
+returns-in-Some-clause-kept c = tt
 
 pub index_mut-requires : goal.index_mut-requires
 index_mut-requires c =
@@ -74,8 +74,8 @@ invariant_of-self c =
 pub returns-in_err-reply-clause-ok : goal.returns-in_err-reply-clause-ok
 returns-in_err-reply-clause-ok c = IfOk-from_err _ _ c.from_residual.ensures.0
 
-pub returns-in_err-reply-clause-err : goal.returns-in_err-reply-clause-err
-returns-in_err-reply-clause-err c =
+pub returns-in_err-reply-clause-kept : goal.returns-in_err-reply-clause-kept
+returns-in_err-reply-clause-kept c =
     let sent = ap (map packet_of) c.in_err-reply.ensures.packets_kept in
     let standing = ap nodes_in (put_back _ c.from.result _ c.hand_over.new.node c.in_err-reply.ensures.node_kept c.index_mut.ensures.value) in
     on_any_err _ (kept_world _ c.args.self.now _ _ _ _ c.self.view_is refl refl sent standing)
@@ -86,5 +86,5 @@ invariant_of-self-2 c =
     let does = c.in_ok-reply.ensures.ok.does in
     members_with _ _ c.from.result c.self.inside.nodes.items c.index_mut.result.now c.hand_over.new.node c.self.invariant (rw c.from.ensures low) c.index_mut.ensures.value does.voters does.agents
 
-pub returns-clause-err : goal.returns-clause-err
-returns-clause-err c = tt
+pub returns-clause-kept : goal.returns-clause-kept
+returns-clause-kept c = tt

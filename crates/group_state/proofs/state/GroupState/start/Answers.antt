@@ -45,8 +45,8 @@ returns-clause-ok c =
 pub returns-in-Err-clause-ok : goal.returns-in-Err-clause-ok
 returns-in-Err-clause-ok c = sym (ap (or_refused c.args.self.now) c.in-Err.ensures)
 
-pub returns-in-Err-clause-err : goal.returns-in-Err-clause-err
-returns-in-Err-clause-err c = tt
+pub returns-in-Err-clause-kept : goal.returns-in-Err-clause-kept
+returns-in-Err-clause-kept c = tt
 
 pub index_mut-requires : goal.index_mut-requires
 index_mut-requires c =
@@ -71,8 +71,8 @@ invariant_of-self c =
 pub returns-in_err-reply-clause-ok : goal.returns-in_err-reply-clause-ok
 returns-in_err-reply-clause-ok c = IfOk-from_err _ _ c.from_residual.ensures.0
 
-pub returns-in_err-reply-clause-err : goal.returns-in_err-reply-clause-err
-returns-in_err-reply-clause-err c =
+pub returns-in_err-reply-clause-kept : goal.returns-in_err-reply-clause-kept
+returns-in_err-reply-clause-kept c =
     let sent = ap (map packet_of) c.in_err-reply.ensures.packets_kept in
     let standing = ap nodes_in (put_back _ c.from.result _ c.begin.new.node c.in_err-reply.ensures.node_kept c.index_mut.ensures.value) in
     on_any_err _ (kept_world _ c.args.self.now _ _ _ _ c.self.view_is refl refl sent standing)
@@ -83,5 +83,5 @@ invariant_of-self-2 c =
     let same = c.in_ok-reply.ensures.ok.node in
     members_with _ _ c.from.result c.self.inside.nodes.items c.index_mut.result.now c.begin.new.node c.self.invariant (rw c.from.ensures low) c.index_mut.ensures.value (ap (λ (n : NodeAmong). n.voters) same) (ap (λ (n : NodeAmong). n.agents) same)
 
-pub returns-clause-err : goal.returns-clause-err
-returns-clause-err c = tt
+pub returns-clause-kept : goal.returns-clause-kept
+returns-clause-kept c = tt

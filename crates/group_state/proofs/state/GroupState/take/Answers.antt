@@ -28,8 +28,8 @@ invariant_of-self c = subst (λ a. AreMembers c.self.inside.voters a c.self.insi
 pub returns-in_err-keep_batch-clause-ok : goal.returns-in_err-keep_batch-clause-ok
 returns-in_err-keep_batch-clause-ok c = IfOk-from_err _ _ c.from_residual.ensures.0
 
-pub returns-in_err-keep_batch-clause-err : goal.returns-in_err-keep_batch-clause-err
-returns-in_err-keep_batch-clause-err c =
+pub returns-in_err-keep_batch-clause-kept : goal.returns-in_err-keep_batch-clause-kept
+returns-in_err-keep_batch-clause-kept c =
     let stores = c.in_err-keep_batch.ensures.journals_kept in
     let sent = ap (map packet_of) c.in_err-keep_batch.ensures.packets_kept in
     on_any_err _ (kept_world _ c.args.self.now _ _ _ _ c.self.view_is (ap (λ (s : Stored). s.agents) stores) (ap (λ (s : Stored). s.batches) stores) sent refl)
@@ -45,5 +45,5 @@ returns-clause-ok c =
     let count : c.len-packet.result ≡ length (map packet_of c.self.inside.packets.items) = omega (arith, size, has, c.len-packet.ensures) in
     taken _ c.args.self.now _ c.len-packet.result _ _ _ c.self.view_is c.requires count (ap (λ (s : Stored). s.agents) stores) (ap (λ (s : Stored). s.batches) stores) c.in_ok-keep_batch.ensures.packets
 
-pub returns-clause-err : goal.returns-clause-err
-returns-clause-err c = tt
+pub returns-clause-kept : goal.returns-clause-kept
+returns-clause-kept c = tt

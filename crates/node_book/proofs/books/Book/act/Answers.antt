@@ -16,8 +16,8 @@ use Rattle.node_book.proofs.books.Book.act.Goals as goal
 pub invariant_of-self : goal.invariant_of-self
 invariant_of-self c = rw c.in_err-reserve.ensures.items c.self.invariant
 
-pub returns-in_err-reserve-clause-err : goal.returns-in_err-reserve-clause-err
-returns-in_err-reserve-clause-err c = rw c.in_err-reserve.ensures.items (on_err c.from_residual.result _ c.self.view_is)
+pub returns-in_err-reserve-clause-kept : goal.returns-in_err-reserve-clause-kept
+returns-in_err-reserve-clause-kept c = rw c.in_err-reserve.ensures.items (on_err c.from_residual.result _ c.self.view_is)
 
 pub returns-in_err-reserve-clause-history : goal.returns-in_err-reserve-clause-history
 returns-in_err-reserve-clause-history c = if_not_ok c.from_residual.result _ c.from_residual.ensures.0
@@ -35,10 +35,10 @@ pub returns-in_err-reserve-clause-group : goal.returns-in_err-reserve-clause-gro
 returns-in_err-reserve-clause-group c = ap opened c.self.view_is
 
 pub invariant_of-self-in_err-reply : goal.invariant_of-self-in_err-reply
-invariant_of-self-in_err-reply c = rw (c.in_ok-reserve.ensures.items, c.in_err-reply.ensures.err) c.self.invariant
+invariant_of-self-in_err-reply c = rw (c.in_ok-reserve.ensures.items, c.in_err-reply.ensures.kept) c.self.invariant
 
-pub returns-in_err-reply-clause-err : goal.returns-in_err-reply-clause-err
-returns-in_err-reply-clause-err c = rw (c.in_ok-reserve.ensures.items, c.in_err-reply.ensures.err) (on_err c.from_residual-in_err-reply.result _ c.self.view_is)
+pub returns-in_err-reply-clause-kept : goal.returns-in_err-reply-clause-kept
+returns-in_err-reply-clause-kept c = rw (c.in_ok-reserve.ensures.items, c.in_err-reply.ensures.kept) (on_err c.from_residual-in_err-reply.result _ c.self.view_is)
 
 pub returns-in_err-reply-clause-history : goal.returns-in_err-reply-clause-history
 returns-in_err-reply-clause-history c = if_not_ok c.from_residual-in_err-reply.result _ c.from_residual-in_err-reply.ensures.0
@@ -60,8 +60,8 @@ invariant_of-self-in_err-told c =
     let kept = by_growth (reply_of c.in_ok-reply.reply) _ c.in_err-told.ensures.want c.in_ok-reply.ensures.unchanged.exported c.in_ok-reply.ensures.unchanged.kept in
     rw (c.in_ok-reserve.ensures.items, kept) c.self.invariant
 
-pub returns-in_err-told-clause-err : goal.returns-in_err-told-clause-err
-returns-in_err-told-clause-err c =
+pub returns-in_err-told-clause-kept : goal.returns-in_err-told-clause-kept
+returns-in_err-told-clause-kept c =
     let kept = by_growth (reply_of c.in_ok-reply.reply) _ c.in_err-told.ensures.want c.in_ok-reply.ensures.unchanged.exported c.in_ok-reply.ensures.unchanged.kept in
     rw (c.in_ok-reserve.ensures.items, kept) (on_err c.from_residual-in_err-told.result _ c.self.view_is)
 
