@@ -32,6 +32,7 @@ def has_log(room, name):
         os.makedirs(f"{room}/{name}", exist_ok=True)
         replace(lost, b"")
     if os.path.exists(lost):
+        sync(os.path.dirname(lost))  # an operator may have made it
         print(f"{name} has lost its log: it is left away", flush=True)
     return not os.path.exists(lost)
 

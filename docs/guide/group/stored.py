@@ -58,7 +58,7 @@ class Log:
         if not whole:
             raise Stopped(f"{os.path.basename(self.room)} has a log without a line")
         if whole != text:
-            self.renew(whole)
+            self.cut_to(whole)
         return whole
 
     def settled(self):
@@ -78,7 +78,13 @@ class Log:
         lines = self.text().splitlines(True)
         if lines[line - 1].startswith(b"kept ") or any(STEP.match(it) for it in lines[line:]):
             raise Stopped(f"{os.path.basename(self.room)} has lost lines of its log that were stored")
-        self.renew(b"".join(lines[: line - 1]))
+        self.cut_to(b"".join(lines[: line - 1]))
+
+    def cut_to(self, text):
+        """Has what is left of it, and says how much went."""
+        torn = os.path.getsize(self.path) - len(text)
+        self.renew(text)
+        print(f"{os.path.basename(self.room)}: a torn end of {torn} bytes is cut off its log", flush=True)
 
     def look(self, size):
         """It is as long as it was left, once this host has read it."""

@@ -1,9 +1,11 @@
 """What an operator types: words and files that may be wrong, which stops no group."""
 import os
+import re
 import subprocess
 import sys
 
-from stored import replace, sync
+from process import counted
+from stored import read, replace, sync
 
 
 class Asked(Exception):
@@ -51,6 +53,17 @@ def as_batch(text):
     if not 1 <= text.count(b"\n") <= 1_001 or not text.endswith(b"\n"):
         raise Asked("that is no batch")
     return text
+
+
+def journaled(agent, path, sent):
+    """Has an agent journal the batch of a file. What it answers, and, where one stands in its place, whether that is the same: `sent` tells
+    which packet was sent last."""
+    text = operators(read, path)
+    line = agent.ask(counted(b"journal", as_batch(text)))[0]
+    seq = re.match(rb"B\d\|\d+\|(\d+)\|", text)
+    if line.startswith("refused G2") and seq and agent.ask(b"again %s\n" % seq[1])[0] == "sent":
+        line += ": the same is journaled" if sent().partition(b"\n")[2] == text else ": another is journaled"
+    return line
 
 
 def exported(node, period, path):
