@@ -120,7 +120,7 @@ def is_right(name, text, record):
 
 def batch_in(text):
     """The agent, the sequence and the records of a batch. Of format B2 a reading has its region for a tenth field."""
-    *lines, _ = text.decode("latin-1").split("\n")
+    *lines, rest = text.decode("latin-1").split("\n")
     head = re.fullmatch(rf"B([12])\|{WHOLE}\|{WHOLE}\|{WHOLE}", lines[0]) if lines else None
     if len(text) > 65_536 or not head:
         raise Refused("G1 V8 line 1" if len(text) > 65_536 else "G1 V1 line 1")
@@ -135,7 +135,7 @@ def batch_in(text):
             name, code = form.split()
             if not is_right(name, field, record):
                 raise Refused(f"G1 {code} line {place + 2}")
-    if len(lines) != count + 1:
+    if len(lines) != count + 1 or rest:
         raise Refused(f"G1 V2 line {min(len(lines), count + 1) + 1}")
     return agent, seq, records
 
